@@ -1,0 +1,38 @@
+-- What expressions are in an environment: a value, or a kind.
+--     value_of x e      the value, or `None` where it is missing;   required x e      where missing, UnknownVariable
+use Rattle.std.specs.Prelude.{ℤ, Bool, true, false, cond, List, [], ◌∷◌, Option, Some, None, Result, Ok, Err}
+use Rattle.std.specs.Option.{option_and_then, ok_or}
+use Rattle.liquid_core.specs.declared.error.ErrorKind.{ErrorKind}
+use Rattle.liquid_core.specs.declared.error.ErrorKind.TheVariants.{UnknownVariable, UnexpectedValue}
+use Rattle.liquid_core.specs.Data.{Datum, scalar}
+use Rattle.liquid_core.specs.Whole.{whole}
+use Rattle.liquid_core.specs.Find.{find}
+use Rattle.liquid_core.specs.Expression.{Expression, literal, variable, Steps, no_steps, step}
+use Rattle.liquid_core.specs.Environment.{Environment, lookup}
+use Rattle.liquid_core.specs.Fallible.{◌>>=◌}
+
+unfoldable mutual
+  pub value_of : Expression → Environment → Option Datum
+  value_of (literal d) e = Some d
+  value_of (variable name steps) e = option_and_then (λ path. option_and_then (λ found. find found path) (lookup e name)) (path_of steps e)
+
+  -- the values of the steps, each of them a scalar
+  pub path_of : Steps → Environment → Option (List Datum)
+  path_of no_steps e = Some []
+  path_of (step x more) e = option_and_then (λ d. cond (scalar d) (option_and_then (λ ds. Some (d ∷ ds)) (path_of more e)) None) (value_of x e)
+
+abbrev pub required : Expression → Environment → Result Datum ErrorKind
+required x e = ok_or (value_of x e) UnknownVariable
+
+unfoldable pub all_required : List Expression → Environment → Result (List Datum) ErrorKind
+all_required [] e = Ok []
+all_required (x ∷ xs) e = do
+  d ← required x e
+  ds ← all_required xs e
+  Ok (d ∷ ds)
+
+-- the whole number of an expression's value
+unfoldable pub needed_whole : Expression → Environment → Result ℤ ErrorKind
+needed_whole x e = do
+  d ← required x e
+  ok_or (whole d) UnexpectedValue

@@ -1,0 +1,28 @@
+//! Values of templates.
+#![tactic(auto)]
+
+mod compare;
+mod cow;
+mod digest;
+mod error;
+mod expression;
+mod filter;
+mod find;
+mod interrupt;
+mod object;
+mod order;
+mod scopes;
+mod state;
+mod text;
+mod value;
+mod whole;
+
+pub use cow::ValueCow;
+pub use error::{Error, ErrorKind, Result};
+pub use expression::{Expression, Variable};
+pub use filter::Filter;
+pub use interrupt::Interrupt;
+pub use object::{look_up, store};
+pub use scopes::look_up_scoped;
+pub use state::State;
+pub use value::{Object, Value, copy_items};

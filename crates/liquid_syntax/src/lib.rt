@@ -1,0 +1,6 @@
+//! From source to template.
+#![tactic(auto)]
+
+mod condition;
+
+pub use condition::ComparisonOperator;
