@@ -15,7 +15,7 @@ pub fn data_from_json(alloc: Global, text: &str) -> Result<Object>
     ensures { Answers (λ m. pairs_view m.entries) result (data_of text.now) }
 {
     match serde_json::Value::from_str(alloc, text) {
-        Ok(value) => object_of(alloc, &value),
+        Ok(value) => object_of(alloc, value),
         Err(refused) => if refused.is_memory() {
             Err(Error {
                 kind: ErrorKind::Memory,
@@ -27,8 +27,8 @@ pub fn data_from_json(alloc: Global, text: &str) -> Result<Object>
     }
 }
 
-fn object_of(alloc: Global, value: &serde_json::Value) -> Result<Object>
-    ensures { Answers (λ m. pairs_view m.entries) result (object_of (json_view value.now)) }
+fn object_of(alloc: Global, value: serde_json::Value) -> Result<Object>
+    ensures { Answers (λ m. pairs_view m.entries) result (object_of (json_view value)) }
 {
     match value {
         serde_json::Value::Object(members) => pairs_of(alloc, members),
@@ -37,12 +37,12 @@ fn object_of(alloc: Global, value: &serde_json::Value) -> Result<Object>
 }
 
 #[cycle(value_of)]
-fn value_of(alloc: Global, value: &serde_json::Value) -> Result<Value>
-    ensures { Answers view result (datum_of (json_view value.now)) }
+fn value_of(alloc: Global, value: serde_json::Value) -> Result<Value>
+    ensures { Answers view result (datum_of (json_view value)) }
 {
     match value {
         serde_json::Value::Null => Ok(Value::Nil),
-        serde_json::Value::Bool(b) => Ok(Value::Bool(*b)),
+        serde_json::Value::Bool(b) => Ok(Value::Bool(b)),
         serde_json::Value::Number(number) => match number.as_i64() {
             Some(n) => Ok(Value::Integer(n)),
             None => Err(Error::new(
@@ -51,15 +51,15 @@ fn value_of(alloc: Global, value: &serde_json::Value) -> Result<Value>
                 "a number is not whole, or past 64 bits",
             )),
         },
-        serde_json::Value::String(text) => Ok(Value::Text(String::from_str(alloc, text.as_str())?)),
+        serde_json::Value::String(text) => Ok(Value::Text(text)),
         serde_json::Value::Array(items) => Ok(Value::Array(items_of(alloc, items)?)),
         serde_json::Value::Object(members) => Ok(Value::Object(pairs_of(alloc, members)?)),
     }
 }
 
 #[cycle(value_of)]
-fn items_of(alloc: Global, items: &Vec<serde_json::Value>) -> Result<Vec<Value>>
-    ensures { Answers (λ v. items_view v.items) result (items_of (json_items items.now.items)) }
+fn items_of(alloc: Global, items: Vec<serde_json::Value>) -> Result<Vec<Value>>
+    ensures { Answers (λ v. items_view v.items) result (items_of (json_items items.items)) }
 {
     let mut values = Vec::with_capacity(alloc, items.len())?;
     for item in items {
@@ -70,13 +70,12 @@ fn items_of(alloc: Global, items: &Vec<serde_json::Value>) -> Result<Vec<Value>>
 
 #[cycle(value_of)]
 #[tactic(auto, using(crate::proofs::Members::pairs_after_insert, crate::proofs::Members::pairs_from_sorted))]
-fn pairs_of(alloc: Global, members: &Map<String, serde_json::Value>) -> Result<Object>
-    ensures { Answers (λ m. pairs_view m.entries) result (pairs_of (json_members members.now.entries)) }
+fn pairs_of(alloc: Global, members: Map<String, serde_json::Value>) -> Result<Object>
+    ensures { Answers (λ m. pairs_view m.entries) result (pairs_of (json_members members.entries)) }
 {
     let mut pairs: Object = BTreeMap::new(alloc);
-    for (key, member) in members.iter() {
-        let name = String::from_str(alloc, key.as_str())?;
-        drop(pairs.insert(name, value_of(alloc, member)?)?);
+    for (key, member) in members {
+        drop(pairs.insert(key, value_of(alloc, member)?)?);
     }
     Ok(pairs)
 }
