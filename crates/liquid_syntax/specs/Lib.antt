@@ -1,3 +1,4 @@
 pub mod Evaluation
+pub mod Groups
 pub mod Names
 pub mod Tree

@@ -1,0 +1,4 @@
+pub mod Isolation
+pub mod Meaning
+pub mod Runs
+pub mod Within
