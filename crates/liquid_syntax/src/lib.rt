@@ -1,6 +1,6 @@
 //! From source to template.
 #![tactic(auto)]
 
-mod condition;
+mod comparison;
 
-pub use condition::ComparisonOperator;
+pub use comparison::ComparisonOperator;
