@@ -1,3 +1,4 @@
+pub mod ConditionView
 pub mod Evaluation
 pub mod Groups
 pub mod Names
