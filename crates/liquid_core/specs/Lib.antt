@@ -14,7 +14,6 @@ pub mod Lists
 pub mod Maps
 pub mod Order
 pub mod OrderLaws
-pub mod Scopes
 pub mod States
 pub mod Texts
 pub mod Told
