@@ -1,3 +1,10 @@
+pub mod ChainView
 pub mod Evaluation
+pub mod Flats
+pub mod Forest
+pub mod Laid
 pub mod Names
+pub mod Nested
+pub mod Round
+pub mod Templates
 pub mod Tree

@@ -1,0 +1,4 @@
+pub mod Dressed
+pub mod Inserted
+pub mod Places
+pub mod Whole
