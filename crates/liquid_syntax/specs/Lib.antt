@@ -5,6 +5,9 @@ pub mod Forest
 pub mod Laid
 pub mod Names
 pub mod Nested
+pub mod Nesting
+pub mod NestingLaw
+pub mod OpenBlocks
 pub mod Round
 pub mod Templates
 pub mod Tree
