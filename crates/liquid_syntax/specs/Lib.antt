@@ -1,4 +1,14 @@
+pub mod ChainView
 pub mod Evaluation
 pub mod Groups
+pub mod Flats
+pub mod Forest
+pub mod Laid
 pub mod Names
+pub mod Nested
+pub mod Nesting
+pub mod NestingLaw
+pub mod OpenBlocks
+pub mod Round
+pub mod Templates
 pub mod Tree

@@ -1,6 +1,18 @@
 //! From source to template.
 #![tactic(auto)]
 
+mod block;
+mod chain;
 mod condition;
+mod laws;
+mod node;
+mod partials;
+mod template;
 
+pub use block::{Block, Place};
+pub use chain::{ChainFilter, FilterChain};
 pub use condition::ComparisonOperator;
+pub use laws::nesting_laws;
+pub use node::Node;
+pub use partials::Partials;
+pub use template::Template;

@@ -1,0 +1,5 @@
+pub mod Dressed
+pub mod Inserted
+pub mod NestingLaws
+pub mod Places
+pub mod Whole
