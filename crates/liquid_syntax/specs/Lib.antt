@@ -1,8 +1,8 @@
 pub mod ChainView
 pub mod Evaluation
-pub mod Groups
 pub mod Flats
 pub mod Forest
+pub mod Groups
 pub mod Laid
 pub mod Names
 pub mod Nested
