@@ -1,5 +1,6 @@
 pub mod Apart
 pub mod Changes
+pub mod Computed
 pub mod Law
 pub mod Maps
 pub mod Nodes

@@ -4,3 +4,8 @@ pub mod Loops
 pub mod Meaning
 pub mod Runs
 pub mod Within
+pub mod Worked
+pub mod WorkedLoops
+pub mod WorkedNames
+pub mod WorkedPartials
+pub mod WorkedStores

@@ -2,5 +2,7 @@
 #![tactic(auto)]
 
 mod laws;
+mod worked;
 
 pub use laws::isolation_laws;
+pub use worked::{worked_names, worked_runs};

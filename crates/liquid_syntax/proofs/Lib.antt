@@ -1,1 +1,6 @@
 pub mod Contains
+pub mod Dressed
+pub mod Inserted
+pub mod NestingLaws
+pub mod Places
+pub mod Whole

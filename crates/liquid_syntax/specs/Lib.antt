@@ -1,5 +1,15 @@
 pub mod ConditionView
+pub mod ChainView
 pub mod Evaluation
+pub mod Flats
+pub mod Forest
 pub mod Groups
+pub mod Laid
 pub mod Names
+pub mod Nested
+pub mod Nesting
+pub mod NestingLaw
+pub mod OpenBlocks
+pub mod Round
+pub mod Templates
 pub mod Tree
