@@ -1,5 +1,5 @@
-pub mod ConditionView
 pub mod ChainView
+pub mod ConditionView
 pub mod Evaluation
 pub mod Flats
 pub mod Forest
