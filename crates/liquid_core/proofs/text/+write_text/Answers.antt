@@ -17,7 +17,7 @@ write_items-loop-item-preserved g t c plain =
     let at : x ≡ get_or xs i x = search rules in
     let next : drop i xs ≡ x ∷ drop (i + 1) xs = drop_more xs i x (omega arith) ∙ ap (λ z. z ∷ drop (i + 1) xs) (sym at) in
     let before = c.loop-item.invariant plain in
-    let one = c.in_ok-write_text.ensures before.1.plain refl in (
+    let one = c.in_ok-write_text.ensures before.1.plain (search rules) in (
       before.0 ++ text_of (view x),
       has_written_append _ _ _ _ _ _ before.1 one,
       append_assoc before.0 (text_of (view x)) (items_text (items_view (drop (i + 1) xs))) ∙ ap (λ l. before.0 ++ items_text (items_view l)) (sym next) ∙ before.2,
@@ -32,8 +32,8 @@ write_pairs-loop-key-preserved g t c plain =
     let k = c.in-Some.key.now in
     let v = c.in-Some.value.now in
     let iter : c.loop-key.key-iterator ≡ (k, v) ∷ c.next.new.self = grind (arith, common_steps) in
-    let one = c.in_ok-write_str.ensures.writes before.1.plain refl in
-    let two = c.in_ok-write_text.ensures one.plain refl in
+    let one = c.in_ok-write_str.ensures.writes before.1.plain (search rules) in
+    let two = c.in_ok-write_text.ensures one.plain (search rules) in
     let name = c.as_str.result.now in
     let rest = pairs_text (pairs_view c.next.new.self) in
     let named : name ≡ string_bytes k = search rules in (
