@@ -1,3 +1,15 @@
+pub mod Bytes
 pub mod Evaluation
+pub mod ItemReading
+pub mod Items
 pub mod Names
+pub mod Openers
+pub mod PieceView
+pub mod Pieces
+pub mod Readers
+pub mod SourceReading
 pub mod Tree
+pub mod ValueReading
+pub mod Values
+pub mod Verbatim
+pub mod Words

@@ -2,5 +2,20 @@
 #![tactic(auto)]
 
 mod condition;
+mod cut;
+mod fault;
+mod item;
+mod mark;
+mod number;
+mod piece;
+mod scan;
+mod symbol;
+mod value;
 
 pub use condition::ComparisonOperator;
+pub use fault::{Fault, FaultKind, ParseError};
+pub use item::{Delimiter, Item, item_laws};
+pub use mark::Mark;
+pub use piece::{Body, Markup, Piece};
+pub use symbol::Symbol;
+pub use value::value_laws;
