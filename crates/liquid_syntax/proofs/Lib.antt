@@ -4,3 +4,10 @@ pub mod Inserted
 pub mod NestingLaws
 pub mod Places
 pub mod Whole
+pub mod Cuts
+pub mod Expressions
+pub mod ItemLaws
+pub mod ItemTurns
+pub mod StepTurns
+pub mod ValueLaws
+pub mod WordLaws
