@@ -2,4 +2,5 @@ pub mod Dressed
 pub mod Inserted
 pub mod NestingLaws
 pub mod Places
+pub mod Sizes
 pub mod Whole

@@ -4,6 +4,7 @@
 mod block;
 mod chain;
 mod condition;
+mod language;
 mod laws;
 mod node;
 mod partials;
@@ -12,6 +13,7 @@ mod template;
 pub use block::{Block, Place};
 pub use chain::{ChainFilter, FilterChain};
 pub use condition::ComparisonOperator;
+pub use language::{BlockKind, Language, Registry, TagKind};
 pub use laws::nesting_laws;
 pub use node::Node;
 pub use partials::Partials;
