@@ -3,6 +3,7 @@ pub mod Dressed
 pub mod Inserted
 pub mod NestingLaws
 pub mod Places
+pub mod Sizes
 pub mod Whole
 pub mod Cuts
 pub mod Expressions

@@ -1,10 +1,12 @@
 pub mod ChainView
 pub mod ConditionView
+pub mod Entries
 pub mod Evaluation
 pub mod Flats
 pub mod Forest
 pub mod Groups
 pub mod Laid
+pub mod Languages
 pub mod Names
 pub mod Nested
 pub mod Nesting
