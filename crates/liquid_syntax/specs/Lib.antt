@@ -1,3 +1,4 @@
+pub mod Bytes
 pub mod ChainView
 pub mod ConditionView
 pub mod Entries
@@ -5,6 +6,8 @@ pub mod Evaluation
 pub mod Flats
 pub mod Forest
 pub mod Groups
+pub mod ItemReading
+pub mod Items
 pub mod Laid
 pub mod Languages
 pub mod Names
@@ -12,18 +15,13 @@ pub mod Nested
 pub mod Nesting
 pub mod NestingLaw
 pub mod OpenBlocks
-pub mod Round
-pub mod Templates
-pub mod Bytes
-pub mod Evaluation
-pub mod ItemReading
-pub mod Items
-pub mod Names
 pub mod Openers
 pub mod PieceView
 pub mod Pieces
 pub mod Readers
+pub mod Round
 pub mod SourceReading
+pub mod Templates
 pub mod Tree
 pub mod ValueReading
 pub mod Values
