@@ -12,3 +12,5 @@ pub mod StepTurns
 pub mod ValueLaws
 pub mod Whole
 pub mod WordLaws
+pub mod PlainWords
+pub mod ChainCalls

@@ -1,5 +1,8 @@
 pub mod Bytes
+pub mod Called
+pub mod ChainReading
 pub mod ChainView
+pub mod Chains
 pub mod ConditionView
 pub mod Entries
 pub mod Evaluation
@@ -22,6 +25,8 @@ pub mod Readers
 pub mod Round
 pub mod SourceReading
 pub mod Templates
+pub mod TokenReading
+pub mod Tokens
 pub mod Tree
 pub mod ValueReading
 pub mod Values

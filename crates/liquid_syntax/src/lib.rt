@@ -15,9 +15,11 @@ mod node;
 mod number;
 mod partials;
 mod piece;
+mod read_chain;
 mod scan;
 mod symbol;
 mod template;
+mod tokens;
 mod value;
 
 pub use block::{Block, Place};
@@ -34,4 +36,5 @@ pub use partials::Partials;
 pub use piece::{Body, Markup, Piece};
 pub use symbol::Symbol;
 pub use template::Template;
+pub use tokens::{is_over, next_value, next_word, skip};
 pub use value::value_laws;
