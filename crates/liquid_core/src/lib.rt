@@ -9,6 +9,7 @@ mod expression;
 mod filter;
 mod find;
 mod interrupt;
+pub mod laws;
 mod object;
 mod order;
 mod state;

@@ -24,6 +24,7 @@ use Rattle.liquid_core.specs.Texts.{◌else◌}
 use Rattle.liquid_core.specs.Environment.{local_of}
 use Rattle.liquid_core.specs.Maps.{merged}
 use Rattle.liquid_core.specs.Laws.{array_of, EqualityIsAnEquivalence, EqualValuesHashAlike, OrderIsTotal, KindsAreRanked, ScalarsAreOrdered, FirstUnequalPlaceDecides, CompareAgreesWithEquality, CompareWithoutAnswer, CompareByFirstUnequalPlace, ListTextIsItemTexts, NumberTextIsRead, FindGoesOn, ScalarsAloneFind, ItemsByIndex, TextsIndexToo, ItemsByName, OwnKeysWin, PutIsFound, InnermostScopeDecides, FirstLayerDecides}
+use Rattle.liquid_core.proofs.Compares.{number_text_is_read}
 use Rattle.liquid_core.proofs.Maps.{value_at_put, value_at_put_other}
 
 -- ---- equality and the total order
@@ -167,6 +168,9 @@ compare_by_first_unequal_place = (longer_compares, place_compares)
 pub list_text_is_item_texts : ListTextIsItemTexts
 list_text_is_item_texts [] = refl
 list_text_is_item_texts (d ∷ ds) = ap (λ t. text_of d ++ t) (list_text_is_item_texts ds)
+
+pub number_text_is_whole : NumberTextIsRead
+number_text_is_whole z f = sym (number_text_is_read z f)
 
 pub find_goes_on : FindGoesOn
 find_goes_on = (λ d. refl, on)
