@@ -14,7 +14,7 @@ use Rattle.std.proofs.lemmas.List.{length_push}
 use Rattle.std.proofs.lemmas.Bool.Decides.{nat_tests}
 use Rattle.liquid_core.specs.Data.{Datum, nil, truth, number, text, array, object, Items, no_items, item, Pairs, no_pairs, pair, text_of, scalar}
 use Rattle.liquid_core.specs.View.{items_of}
-use Rattle.liquid_core.specs.Order.{rank, order, order_within, same, items_order}
+use Rattle.liquid_core.specs.Order.{rank, order, order_within, same, items_order, pairs_order}
 use Rattle.liquid_core.specs.OrderLaws.{order_total, order_same, same_Decides}
 use Rattle.liquid_core.specs.Digest.{same_digest, items_len}
 use Rattle.liquid_core.specs.Compare.{compare, items_compare, pairs_compare, by_key}
@@ -23,7 +23,7 @@ use Rattle.liquid_core.specs.Find.{find, step, item_at, item_step, counted}
 use Rattle.liquid_core.specs.Texts.{◌else◌}
 use Rattle.liquid_core.specs.Environment.{local_of}
 use Rattle.liquid_core.specs.Maps.{merged}
-use Rattle.liquid_core.specs.Laws.{array_of, EqualityIsAnEquivalence, EqualValuesHashAlike, OrderIsTotal, KindsAreRanked, ScalarsAreOrdered, FirstUnequalPlaceDecides, CompareAgreesWithEquality, CompareWithoutAnswer, CompareByFirstUnequalPlace, ListTextIsItemTexts, NumberTextIsRead, FindGoesOn, ScalarsAloneFind, ItemsByIndex, TextsIndexToo, ItemsByName, OwnKeysWin, PutIsFound, InnermostScopeDecides, FirstLayerDecides}
+use Rattle.liquid_core.specs.Laws.{array_of, EqualityIsAnEquivalence, EqualValuesHashAlike, OrderIsTotal, KindsAreRanked, ScalarsAreOrdered, FirstUnequalPlaceDecides, MapsGoPairByPair, ComparePairByPair, CompareAgreesWithEquality, CompareWithoutAnswer, CompareByFirstUnequalPlace, ListTextIsItemTexts, NumberTextIsRead, FindGoesOn, ScalarsAloneFind, ItemsByIndex, TextsIndexToo, ItemsByName, OwnKeysWin, PutIsFound, InnermostScopeDecides, FirstLayerDecides}
 use Rattle.liquid_core.proofs.Compares.{number_text_is_read}
 use Rattle.liquid_core.proofs.Maps.{value_at_put, value_at_put_other}
 
@@ -67,6 +67,18 @@ place_decides (s ∷ start) d e ds es h =
 
 pub first_unequal_place_decides : FirstUnequalPlaceDecides
 first_unequal_place_decides = (longer_is_more, place_decides)
+
+unequal_first : (o then_on : Ordering) → (o ≡ Equal → ⊥) → ordering_then o then_on ≡ o
+unequal_first Less then_on h = refl
+unequal_first Equal then_on h = absurd (h refl)
+unequal_first Greater then_on h = refl
+
+pub maps_go_pair_by_pair : MapsGoPairByPair
+maps_go_pair_by_pair = (
+  λ k l d e ms ns h. unequal_first (slice_cmp nat_cmp k l) (ordering_then (order d e) (pairs_order ms ns)) h,
+  λ k d e ms ns h. ap (λ o. ordering_then o (ordering_then (order d e) (pairs_order ms ns))) (tied_itself nat_list_cmp_total k) ∙ decided (order d e) (pairs_order ms ns) h,
+  λ k d ms ns. ap (λ o. ordering_then o (ordering_then (order d d) (pairs_order ms ns))) (tied_itself nat_list_cmp_total k) ∙ ap (λ o. ordering_then o (pairs_order ms ns)) (tied_itself order_total d),
+)
 
 -- ---- the order of conditions
 
@@ -162,6 +174,18 @@ place_compares (s ∷ start) d e ds es h = rw (same_itself s) (place_compares st
 
 pub compare_by_first_unequal_place : CompareByFirstUnequalPlace
 compare_by_first_unequal_place = (longer_compares, place_compares)
+
+by_unequal_key : (o : Ordering) (rest : Option Ordering) → (o ≡ Equal → ⊥) → by_key o rest ≡ Some o
+by_unequal_key Less rest h = refl
+by_unequal_key Equal rest h = absurd (h refl)
+by_unequal_key Greater rest h = refl
+
+pub compare_pair_by_pair : ComparePairByPair
+compare_pair_by_pair = (
+  λ k l d e ms ns h. by_unequal_key (slice_cmp nat_cmp k l) (cond (same d e) (pairs_compare ms ns) (compare d e)) h,
+  λ k d e ms ns h. ap (λ o. by_key o (cond (same d e) (pairs_compare ms ns) (compare d e))) (tied_itself nat_list_cmp_total k) ∙ ap (λ b. cond b (pairs_compare ms ns) (compare d e)) h,
+  λ k d ms ns. ap (λ o. by_key o (cond (same d d) (pairs_compare ms ns) (compare d d))) (tied_itself nat_list_cmp_total k) ∙ ap (λ b. cond b (pairs_compare ms ns) (compare d d)) (same_itself d),
+)
 
 -- ---- texts and paths
 

@@ -60,6 +60,13 @@ FirstUnequalPlaceDecides =
     ((ds : List Datum) (e : Datum) (es : List Datum) → order (array_of ds) (array_of (ds ++ e ∷ es)) ≡ Less)
     × ((start : List Datum) (d e : Datum) (ds es : List Datum) → same d e ≡ false → order (array_of (start ++ d ∷ ds)) (array_of (start ++ e ∷ es)) ≡ order d e)
 
+-- of two maps the first pairs decide by their keys, then by their values; where these are equal the others do
+abbrev pub MapsGoPairByPair : Type 0
+MapsGoPairByPair =
+    ((k l : Text) (d e : Datum) (ms ns : Pairs) → (slice_cmp nat_cmp k l ≡ Equal → ⊥) → order (object (pair k d ms)) (object (pair l e ns)) ≡ slice_cmp nat_cmp k l)
+    × ((k : Text) (d e : Datum) (ms ns : Pairs) → same d e ≡ false → order (object (pair k d ms)) (object (pair k e ns)) ≡ order d e)
+    × ((k : Text) (d : Datum) (ms ns : Pairs) → order (object (pair k d ms)) (object (pair k d ns)) ≡ order (object ms) (object ns))
+
 -- ---- the order of conditions
 
 -- where it answers, it answers `Equal` exactly at equal values
@@ -75,6 +82,13 @@ abbrev pub CompareByFirstUnequalPlace : Type 0
 CompareByFirstUnequalPlace =
     ((ds : List Datum) (e : Datum) (es : List Datum) → compare (array_of ds) (array_of (ds ++ e ∷ es)) ≡ Some Less)
     × ((start : List Datum) (d e : Datum) (ds es : List Datum) → same d e ≡ false → compare (array_of (start ++ d ∷ ds)) (array_of (start ++ e ∷ es)) ≡ compare d e)
+
+-- the same of maps, where unequal values are compared
+abbrev pub ComparePairByPair : Type 0
+ComparePairByPair =
+    ((k l : Text) (d e : Datum) (ms ns : Pairs) → (slice_cmp nat_cmp k l ≡ Equal → ⊥) → compare (object (pair k d ms)) (object (pair l e ns)) ≡ Some (slice_cmp nat_cmp k l))
+    × ((k : Text) (d e : Datum) (ms ns : Pairs) → same d e ≡ false → compare (object (pair k d ms)) (object (pair k e ns)) ≡ compare d e)
+    × ((k : Text) (d : Datum) (ms ns : Pairs) → compare (object (pair k d ms)) (object (pair k d ns)) ≡ compare (object ms) (object ns))
 
 -- ---- texts and whole numbers
 

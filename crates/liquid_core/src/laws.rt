@@ -1,5 +1,5 @@
 //! Laws of values, of finding along a path and of look-up: each function's contract is the law.
-ghost use Rattle.liquid_core.specs.Laws.{EqualityIsAnEquivalence, EqualValuesHashAlike, OrderIsTotal, KindsAreRanked, ScalarsAreOrdered, FirstUnequalPlaceDecides, CompareAgreesWithEquality, CompareWithoutAnswer, CompareByFirstUnequalPlace, ListTextIsItemTexts, NumberTextIsRead, FindGoesOn, ScalarsAloneFind, ItemsByIndex, TextsIndexToo, ItemsByName, OwnKeysWin, PutIsFound, InnermostScopeDecides, FirstLayerDecides};
+ghost use Rattle.liquid_core.specs.Laws.{EqualityIsAnEquivalence, EqualValuesHashAlike, OrderIsTotal, KindsAreRanked, ScalarsAreOrdered, FirstUnequalPlaceDecides, MapsGoPairByPair, ComparePairByPair, CompareAgreesWithEquality, CompareWithoutAnswer, CompareByFirstUnequalPlace, ListTextIsItemTexts, NumberTextIsRead, FindGoesOn, ScalarsAloneFind, ItemsByIndex, TextsIndexToo, ItemsByName, OwnKeysWin, PutIsFound, InnermostScopeDecides, FirstLayerDecides};
 
 /// Equality of values is an equivalence.
 pub fn equality_is_an_equivalence()
@@ -31,6 +31,11 @@ pub fn first_unequal_place_decides()
     ensures { FirstUnequalPlaceDecides }
 {}
 
+/// Maps are ordered pair by pair, key first.
+pub fn maps_go_pair_by_pair()
+    ensures { MapsGoPairByPair }
+{}
+
 /// Where `compare` answers, it answers `Equal` exactly at equal values.
 pub fn compare_agrees_with_equality()
     ensures { CompareAgreesWithEquality }
@@ -44,6 +49,11 @@ pub fn compare_without_answer()
 /// Of two lists the first unequal place decides `compare` too.
 pub fn compare_by_first_unequal_place()
     ensures { CompareByFirstUnequalPlace }
+{}
+
+/// `compare` takes maps pair by pair, key first.
+pub fn compare_pair_by_pair()
+    ensures { ComparePairByPair }
 {}
 
 /// The text of a list is its items' texts, joined by nothing.
