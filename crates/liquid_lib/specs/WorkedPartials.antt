@@ -4,7 +4,7 @@ use Rattle.std.specs.Prelude.{◌≡◌, pos, List, [], ◌∷◌, Some, None, c
 use Rattle.liquid_core.specs.Data.{number, array, no_items}
 use Rattle.liquid_core.specs.declared.error.ErrorKind.TheVariants.{UnknownVariable, UnknownPartial, PartialName, TooDeep}
 use Rattle.liquid_syntax.specs.declared.condition.ComparisonOperator.TheVariants.{Equals}
-use Rattle.liquid_syntax.specs.Tree.{Node, plain, assign, increment, break_loop, include, jekyll_include, render}
+use Rattle.liquid_syntax.specs.Tree.{Node, plain, assign, increment, break_loop, include, jekyll_include, render, continue_loop}
 use Rattle.liquid_lib.specs.Worked.{name, property, quoted, integer, alone, show, tree, if_compared, from_to, with_data, ran, page, page_with, Writes, WritesThen, counter_after}
 
 -- {% render 's' %} and {% include 's' %}
@@ -63,6 +63,13 @@ pub record WorkedPartials : Type 0 where
   pub break_ends_the_items : Writes (page_with "r" breaks_at_two (render (quoted "r") (Some (from_to 1 3, codes "v")) [] ∷ plain (codes "|") ∷ [])) "1false,2false|"
   -- {% render 'w' for (1..2) as v, v: 9 %}, where `parentloop` is nil
   pub item_over_pairs : Writes (page_with "w" shows_parent (render (quoted "w") (Some (from_to 1 2, codes "v")) ((codes "v", integer 9) ∷ []) ∷ [])) "12"
+  -- {% render 'f' for (1..1) as v, forloop: 9 %} where f is {{ forloop.index }}, and {% render 'g' for (7..7) as forloop %} where g is {{ forloop }}
+  pub forloop_over_pairs : Writes (page_with "f" (show (property "forloop" "index") ∷ []) (render (quoted "f") (Some (from_to 1 1, codes "v")) ((codes "forloop", integer 9) ∷ []) ∷ [])) "1"
+  pub item_over_forloop : Writes (page_with "g" (show (name "forloop") ∷ []) (render (quoted "g") (Some (from_to 7 7, codes "forloop")) [] ∷ [])) "7"
+  -- {% render 'c' for (1..2) as v %} where c is {{ v }}{% continue %}x
+  pub continue_goes_on : Writes (page_with "c" (show (name "v") ∷ continue_loop ∷ plain (codes "x") ∷ []) (render (quoted "c") (Some (from_to 1 2, codes "v")) [] ∷ [])) "12"
+  -- {% include 'v' v: 1, w: v %}
+  pub pairs_see_the_caller : WritesThen (page_with "v" (show (name "v") ∷ []) (include (quoted "v") ((codes "v", integer 1) ∷ (codes "w", name "v") ∷ []) ∷ [])) "" UnknownVariable
   -- {% render 'v' with 5 as v, v: 6 %}
   pub later_pair_wins : Writes (page_with "v" (show (name "v") ∷ []) (render (quoted "v") None ((codes "v", integer 5) ∷ (codes "v", integer 6) ∷ []) ∷ [])) "6"
   -- {% render 'b' %}z and {% include 'b' %}z
