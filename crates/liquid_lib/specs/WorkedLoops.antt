@@ -1,4 +1,5 @@
 -- Worked runs of chains, conditions and loops.
+use Prim.Native.String.{String}
 use Rattle.std.specs.Prelude.{◌≡◌, pos, negsuc, true, false, cond, List, [], ◌∷◌, Some, None, Ok, codes}
 use Rattle.liquid_core.specs.Data.{Datum, nil, truth, number, object, pair, no_pairs, array, item, no_items, is_default_datum}
 use Rattle.liquid_core.specs.declared.error.ErrorKind.TheVariants.{UnknownVariable, UnexpectedValue, ZeroColumns}
@@ -6,7 +7,7 @@ use Rattle.liquid_core.specs.declared.interrupt.Interrupt.TheVariants.{Break}
 use Rattle.liquid_core.specs.Expression.{literal, variable, no_steps, step}
 use Rattle.liquid_filters.specs.declared.kind.FilterKind.{FilterKind}
 use Rattle.liquid_syntax.specs.declared.condition.ComparisonOperator.TheVariants.{Equals, LessThan, LessThanEquals, Contains}
-use Rattle.liquid_syntax.specs.Tree.{bare, compared, each_of, Window, plain, output, assign, break_loop, continue_loop, if_true, unless, case_of, for_each, tablerow, no_whens, when, no_nodes, counted}
+use Rattle.liquid_syntax.specs.Tree.{Node, bare, compared, each_of, Window, plain, output, assign, break_loop, continue_loop, if_true, unless, case_of, for_each, tablerow, no_whens, when, no_nodes, counted}
 use Rattle.liquid_syntax.specs.Evaluation.{FilterAnswers}
 use Rattle.liquid_lib.specs.Effects.{interrupted_by}
 use Rattle.liquid_lib.specs.Runs.{Nothing, Outcome}
@@ -29,6 +30,11 @@ two_names z = ran [] 32 (with_data ((codes "a", number (pos 1)) ∷ (codes "b", 
 -- {% for i in (1..3) window %}[{{ i }}]{% endfor %}
 abbrev pub in_window : Window → Outcome Nothing
 in_window window = page (for_each (codes "i") (from_to 1 3) window (tree (plain (codes "[") ∷ show (name "i") ∷ plain (codes "]") ∷ [])) (tree (plain (codes "e") ∷ [])) ∷ [])
+
+-- {{ s.t }} and a space, for each t
+abbrev pub show_all : String → List String → List Node
+show_all s [] = []
+show_all s (t ∷ ts) = show (property s t) ∷ plain (codes " ") ∷ show_all s ts
 
 pub record WorkedLoops : Type 0 where
   -- {{ nope | default: 'd' }}{{ nope }}
@@ -74,6 +80,11 @@ pub record WorkedLoops : Type 0 where
   -- {% for i in (1..2) %}{% for j in (1..2) %}{{ forloop.parentloop.index }}{{ forloop.index }},{% endfor %}{% endfor %}
   pub parent : Writes (page (for_in "i" (from_to 1 2) (for_in "j" (from_to 1 2)
       (show (variable (codes "forloop") (step (quoted "parentloop") (step (quoted "index") no_steps))) ∷ show (property "forloop" "index") ∷ plain (codes ",") ∷ []) ∷ []) ∷ [])) "11,12,21,22,"
+  -- each property of `forloop`, and each that `tablerow` has besides
+  pub properties_of_forloop : Writes (page (for_in "i" (from_to 1 2) (show_all "forloop" ("length" ∷ "index0" ∷ "index" ∷ "rindex0" ∷ "rindex" ∷ "first" ∷ "last" ∷ [])) ∷ [])) "2 0 1 1 2 true false 2 1 2 0 1 false true "
+  pub properties_of_tablerow : Writes (page (tablerow (codes "i") (from_to 1 3) all_items (Some (integer 2))
+      (tree (show_all "tablerow" ("length" ∷ "index0" ∷ "index" ∷ "rindex0" ∷ "rindex" ∷ "first" ∷ "last" ∷ "col0" ∷ "col" ∷ "col_first" ∷ "col_last" ∷ []))) ∷ []))
+      "<tr class=\"row1\"><td class=\"col1\">3 0 1 2 3 true false 0 1 true false </td><td class=\"col2\">3 1 2 1 2 false false 1 2 false true </td></tr><tr class=\"row2\"><td class=\"col1\">3 2 3 0 1 false true 0 1 true true </td></tr>"
   -- {% for i in (1..2) %}{% for forloop in (8..8) %}{{ forloop }}{% endfor %}{{ forloop.rindex }}{% endfor %}
   pub variable_over_forloop : Writes (page (for_in "i" (from_to 1 2) (for_in "forloop" (from_to 8 8) (show (name "forloop") ∷ []) ∷ show (property "forloop" "rindex") ∷ []) ∷ [])) "8281"
   -- {% for i in (1..2) %}{% continue %}x{% endfor %}y

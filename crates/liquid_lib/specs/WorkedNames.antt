@@ -54,6 +54,8 @@ pub record WorkedNames : Type 0 where
   -- {% increment n %} and {% decrement n %}
   pub of_increment : NamesAre [] (increment (codes "n") ∷ []) (codes "n" ∷ [])
   pub of_decrement : NamesAre [] (decrement (codes "n") ∷ []) (codes "n" ∷ [])
+  -- {% cycle a, b %}
+  pub of_cycle : NamesAre [] (cycle (group_of None (name "a" ∷ name "b" ∷ [])) (name "a" ∷ name "b" ∷ []) ∷ []) (codes "a" ∷ codes "b" ∷ [])
   -- {% if a == b and c or d %}{{ e }}{% else %}{{ f }}{% endif %}, and the same of `unless`
   pub of_if : NamesAre [] (if_true two_conjunctions (tree (show (name "e") ∷ [])) (tree (show (name "f") ∷ [])) ∷ []) (codes "a" ∷ codes "b" ∷ codes "c" ∷ codes "d" ∷ codes "e" ∷ codes "f" ∷ [])
   pub of_unless : NamesAre [] (unless two_conjunctions (tree (show (name "e") ∷ [])) (tree (show (name "f") ∷ [])) ∷ []) (codes "a" ∷ codes "b" ∷ codes "c" ∷ codes "d" ∷ codes "e" ∷ codes "f" ∷ [])

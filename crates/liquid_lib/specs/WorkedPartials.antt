@@ -50,9 +50,10 @@ pub record WorkedPartials : Type 0 where
   pub no_data_in_render : WritesThen (ran ((codes "v", tree (show (name "v") ∷ [])) ∷ []) 32 (with_data ((codes "v", number (pos 1)) ∷ [])) (rendered "v" ∷ [])) "" UnknownVariable
   -- {% include 's' %} where s is s{% include 's' %}, at depth 3
   pub depth : WritesThen (ran ((codes "s", tree (plain (codes "s") ∷ included "s" ∷ [])) ∷ []) 3 (with_data []) (included "s" ∷ [])) "sss" TooDeep
-  -- at depth 0: {% render 'p' %} and {% render 'none' %}
+  -- at depth 0: {% render 'p' %}, {% render 'none' %} and {% include 'none' %}
   pub no_depth : WritesThen (ran ((codes "p", tree []) ∷ []) 0 (with_data []) (rendered "p" ∷ [])) "" TooDeep
   pub looked_up_first : WritesThen (ran ((codes "p", tree []) ∷ []) 0 (with_data []) (rendered "none" ∷ [])) "" UnknownPartial
+  pub included_first : WritesThen (ran ((codes "p", tree []) ∷ []) 0 (with_data []) (included "none" ∷ [])) "" UnknownPartial
   -- {% render 'p' %} and {% include 'p' %} where p.liquid is hi
   pub render_tries_liquid : Writes (page_with "p.liquid" (plain (codes "hi") ∷ []) (rendered "p" ∷ [])) "hi"
   pub include_does_not : WritesThen (page_with "p.liquid" (plain (codes "hi") ∷ []) (included "p" ∷ [])) "" UnknownPartial
