@@ -5,6 +5,7 @@ pub mod Further
 pub mod Law
 pub mod Maps
 pub mod Nodes
+pub mod RunKinds
 pub mod Runs
 pub mod Stays
 pub mod Steps
