@@ -27,3 +27,29 @@ pub struct Variable {
     pub name: String,
     pub indexes: Vec<Expression>,
 }
+
+impl Expression {
+    /// The value, where there is one. (A stand-in.)
+    pub fn try_evaluate<'a>(
+        &'a self,
+        _alloc: Global,
+        _state: &'a State,
+    ) -> Result<Option<ValueCow<'a>>>
+        ensures { Gives (option_map cow_view) result (value_of (expression_view self.now) (environment_of _state.now)) }
+    {
+        Err(Error {
+            kind: ErrorKind::Memory,
+            message: None,
+        })
+    }
+
+    /// The value. (A stand-in.)
+    pub fn evaluate<'a>(&'a self, _alloc: Global, _state: &'a State) -> Result<ValueCow<'a>>
+        ensures { Answers cow_view result (required (expression_view self.now) (environment_of _state.now)) }
+    {
+        Err(Error {
+            kind: ErrorKind::Memory,
+            message: None,
+        })
+    }
+}
