@@ -19,3 +19,4 @@ pub mod Texts
 pub mod Told
 pub mod View
 pub mod Whole
+pub mod Written

@@ -1,0 +1,9 @@
+pub mod Apart
+pub mod Changes
+pub mod Law
+pub mod Maps
+pub mod Nodes
+pub mod Runs
+pub mod Steps
+pub mod Values
+pub mod Within

@@ -1,0 +1,6 @@
+//! Runs of templates.
+#![tactic(auto)]
+
+mod laws;
+
+pub use laws::isolation_laws;
