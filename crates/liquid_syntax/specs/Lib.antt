@@ -1,6 +1,12 @@
 pub mod Calls
 pub mod ChainView
 pub mod Evaluation
+pub mod Flats
+pub mod Forest
 pub mod Groups
+pub mod Laid
 pub mod Names
+pub mod Nested
+pub mod Round
+pub mod Templates
 pub mod Tree
