@@ -1,9 +1,14 @@
+pub mod Added
 pub mod Apart
 pub mod Changes
+pub mod Joined
 pub mod Law
 pub mod Maps
 pub mod Nodes
+pub mod Pieces
 pub mod Runs
+pub mod Sinks
 pub mod Steps
+pub mod ValueTexts
 pub mod Values
 pub mod Within

@@ -1,6 +1,11 @@
+pub mod Added
+pub mod CountedParts
 pub mod Effects
+pub mod Failures
 pub mod Isolation
 pub mod Loops
 pub mod Meaning
+pub mod Performs
 pub mod Runs
+pub mod Sinks
 pub mod Within

@@ -1,6 +1,11 @@
 //! Runs of templates.
 #![tactic(auto)]
 
+mod counted;
 mod laws;
+mod output;
+mod push_value;
+mod write_all;
 
+pub use counted::{Counted, CountedWrite};
 pub use laws::isolation_laws;
