@@ -9,11 +9,11 @@ pub mod ExpressionView
 pub mod Expressions
 pub mod Fallible
 pub mod Find
+pub mod Found
 pub mod Lists
 pub mod Maps
 pub mod Order
 pub mod OrderLaws
-pub mod Scopes
 pub mod States
 pub mod Texts
 pub mod Told

@@ -1,6 +1,7 @@
 pub mod Added
 pub mod Apart
 pub mod Changes
+pub mod Computed
 pub mod Joined
 pub mod Law
 pub mod Maps

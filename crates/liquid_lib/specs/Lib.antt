@@ -9,3 +9,8 @@ pub mod Performs
 pub mod Runs
 pub mod Sinks
 pub mod Within
+pub mod Worked
+pub mod WorkedLoops
+pub mod WorkedNames
+pub mod WorkedPartials
+pub mod WorkedStores

@@ -1,5 +1,6 @@
 pub mod Calls
 pub mod ChainView
+pub mod ConditionView
 pub mod Evaluation
 pub mod Flats
 pub mod Forest
@@ -7,6 +8,9 @@ pub mod Groups
 pub mod Laid
 pub mod Names
 pub mod Nested
+pub mod Nesting
+pub mod NestingLaw
+pub mod OpenBlocks
 pub mod Round
 pub mod Templates
 pub mod Tree
