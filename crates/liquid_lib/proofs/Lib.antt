@@ -2,11 +2,15 @@ pub mod Added
 pub mod Apart
 pub mod Changes
 pub mod Computed
+pub mod Going
+pub mod Interrupts
 pub mod Joined
+pub mod Kept
 pub mod Law
 pub mod Maps
 pub mod Nodes
 pub mod Pieces
+pub mod Rules
 pub mod Runs
 pub mod Sinks
 pub mod Steps

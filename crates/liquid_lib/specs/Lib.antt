@@ -1,8 +1,10 @@
 pub mod Added
 pub mod CountedParts
 pub mod Effects
+pub mod Engine
 pub mod Failures
 pub mod Isolation
+pub mod Kept
 pub mod Loops
 pub mod Meaning
 pub mod Performs

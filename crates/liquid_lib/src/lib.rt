@@ -2,11 +2,12 @@
 #![tactic(auto)]
 
 mod counted;
+mod engine;
 mod laws;
 mod output;
 mod push_value;
-mod write_all;
 mod worked;
+mod write_all;
 
 pub use counted::{Counted, CountedWrite};
 pub use laws::isolation_laws;
