@@ -75,7 +75,7 @@ memory_met view e m s g h is = inr (record { cause = inl is; adds = AddsPart-non
 pub memory_at : {V A : Type 0} {view : V → A} {o : Outcome A} {s : Sink} {h : Environment} (e : Error) → e.kind ≡ Memory → MeetsAt view (Err e) o s s h
 memory_at e is = inr (record { cause = inl is; adds = AddsPart-none _ _ })
 
-memory_of : (k : ErrorKind) → is_memory k ≡ true → k ≡ Memory
+pub memory_of : (k : ErrorKind) → is_memory k ≡ true → k ≡ Memory
 memory_of Memory h = refl
 memory_of _ h = cc
 
@@ -203,3 +203,8 @@ module _ (setting : Setting) (deeper : Nodes → Run Nothing) where
 
   pub list_end : (value : Unit {0}) (p : Place) → Performs (Ok value) (nodes_meaning setting deeper no_nodes) p p
   list_end value p = by_rule (nodes_meaning-none setting deeper) (done_met value p)
+
+-- the same of a value that stands for a text
+pub text_met : {V : Type 0} (view : V → Text) (value : V) (m : Run Text) (p q : Place) → Meets (λ (t : Text). t) (Ok (view value)) m p q → Meets view (Ok value) m p q
+text_met view value m p q (inl x) = inl (record { end = x.end; within = refl; adds = x.adds; none_failed = x.none_failed; same = x.same })
+text_met view value m p q (inr x) = absurd x.cause

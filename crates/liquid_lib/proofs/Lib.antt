@@ -2,6 +2,7 @@ pub mod Added
 pub mod Apart
 pub mod Changes
 pub mod Computed
+pub mod Further
 pub mod Going
 pub mod Interrupts
 pub mod Joined
@@ -10,10 +11,14 @@ pub mod Law
 pub mod Maps
 pub mod Nodes
 pub mod Pieces
+pub mod Renderings
 pub mod Rules
 pub mod Runs
 pub mod Sinks
+pub mod Stays
 pub mod Steps
 pub mod ValueTexts
 pub mod Values
+pub mod Whole
 pub mod Within
+pub mod Written

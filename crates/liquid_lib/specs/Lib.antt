@@ -5,10 +5,13 @@ pub mod Engine
 pub mod Failures
 pub mod Isolation
 pub mod Kept
+pub mod Laws
 pub mod Loops
 pub mod Meaning
 pub mod Performs
+pub mod Rendered
 pub mod Runs
+pub mod RuntimeView
 pub mod Sinks
 pub mod Within
 pub mod Worked

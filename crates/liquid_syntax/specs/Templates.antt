@@ -1,11 +1,10 @@
 -- The tree of a template, and the trees of partials.
 --     tree_of t      the tree of a template;   partials_of p      of each partial, by name
 --     node_count_of t      how many nodes a template has, in all depths
-use Rattle.std.specs.Prelude.{ℕ, List, [], ◌∷◌, map, max, length, string_bytes, String}
+use Rattle.std.specs.Prelude.{ℕ, List, [], ◌∷◌, max, length, String}
 use Rattle.std.specs.declared.alloc.Global.{Global}
-use Rattle.std.specs.Cmp.Lexicographic.{slice_cmp}
-use Rattle.std.specs.Ordering.{match_ordering, nat_cmp}
 use Rattle.liquid_core.specs.Texts.{Text}
+use Rattle.liquid_syntax.specs.Entries.{seen}
 use Rattle.liquid_syntax.specs.Tree as tree
 use Rattle.liquid_syntax.specs.Forest.{Forest, size}
 use Rattle.liquid_syntax.specs.Laid as laid
@@ -28,16 +27,8 @@ node_count_of t = size (forest_of t)
 
 -- ---- partials
 
-abbrev pub partial_of : String Global × Template → Text × tree.Nodes
-partial_of p = (string_bytes p.0, tree_of p.1)
-
 abbrev pub partials_of : Partials → List (Text × tree.Nodes)
-partials_of p = map partial_of p.templates.entries
-
--- the partials with a tree at a name, in the order of the names; the one of that name before is gone
-abbrev pub with_partial : Text → tree.Nodes → List (Text × tree.Nodes) → List (Text × tree.Nodes)
-with_partial name t [] = (name, t) ∷ []
-with_partial name t (p ∷ ps) = match_ordering (slice_cmp nat_cmp name p.0) ((name, t) ∷ p ∷ ps) ((p.0, t) ∷ ps) (p ∷ with_partial name t ps)
+partials_of p = seen tree_of p.templates.entries
 
 -- the greatest number of nodes of a partial
 abbrev pub most_nodes : List (String Global × Template) → ℕ

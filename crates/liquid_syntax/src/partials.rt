@@ -2,7 +2,8 @@
 ghost use Rattle.std.specs.Prelude.{◌≡◌, [], option_map, length, ◌≤◌, IfSome, OnErr, string_bytes};
 ghost use Rattle.liquid_core.specs.Answer.{Gives};
 ghost use Rattle.liquid_core.specs.Maps.{listed, insert};
-ghost use Rattle.liquid_syntax.specs.Templates.{most_of, list_of, tree_of, partials_of, with_partial};
+ghost use Rattle.liquid_syntax.specs.Entries.{put};
+ghost use Rattle.liquid_syntax.specs.Templates.{most_of, list_of, tree_of, partials_of};
 
 use crate::template::Template;
 use liquid_core::Result;
@@ -27,7 +28,7 @@ impl Partials {
 
     /// Puts a template at a name; the one of that name before is dropped. Where there is no memory nothing changes.
     pub fn insert(&mut self, name: String, template: Template) -> Result<()>
-        ensures inserted { Gives (λ _. partials_of self.new) result (with_partial (string_bytes name) (tree_of template) (partials_of self.old)) }
+        ensures inserted { Gives (λ _. partials_of self.new) result (put (string_bytes name) (tree_of template) (partials_of self.old)) }
         ensures looked_up { Gives (λ _. listed (partials_of self.new)) result (insert (listed (partials_of self.old)) (string_bytes name) (tree_of template)) }
         ensures unchanged { OnErr result (partials_of self.new ≡ partials_of self.old) }
     {
