@@ -1,7 +1,7 @@
 pub mod Bytes
 pub mod Called
-pub mod ChainReading
 pub mod Calls
+pub mod ChainReading
 pub mod ChainView
 pub mod Chains
 pub mod ConditionView
