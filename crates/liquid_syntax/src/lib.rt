@@ -3,6 +3,7 @@
 
 mod block;
 mod chain;
+mod chain_items;
 mod comparison;
 mod condition;
 mod cut;
@@ -16,7 +17,6 @@ mod node;
 mod number;
 mod partials;
 mod piece;
-mod read_chain;
 mod scan;
 mod symbol;
 mod template;
@@ -25,6 +25,7 @@ mod value;
 
 pub use block::{Block, Place};
 pub use chain::{ChainFilter, FilterChain};
+pub use chain_items::{chain_laws, expected, read_chain};
 pub use comparison::ComparisonOperator;
 pub use condition::{Atom, Condition};
 pub use fault::{Fault, FaultKind, ParseError};

@@ -4,7 +4,7 @@ use Rattle.liquid_syntax.specs.Tokens.{tokens_view}
 use Rattle.liquid_syntax.specs.Chains.{Filters}
 use Rattle.liquid_syntax.specs.ChainReading.{arguments_of}
 use Rattle.liquid_syntax.proofs.ChainCalls.{behind}
-use Rattle.liquid_syntax.proofs.read_chain.read_arguments.Given as goal
+use Rattle.liquid_syntax.proofs.chain_items.read_arguments.Given as goal
 
 abbrev pub invariant-arguments : goal.invariant-arguments
 invariant-arguments l = record {

@@ -9,7 +9,7 @@ use Rattle.liquid_syntax.specs.ChainView.{chain_filter_view}
 use Rattle.liquid_syntax.specs.Languages.{kinds_of}
 use Rattle.liquid_syntax.specs.ChainReading.{filters_of, accepted_call}
 use Rattle.liquid_syntax.proofs.ChainCalls.{left_over, none_left, filters_behind, filters_nothing, no_filter, no_bar, no_name, one_filter, call_refused, acceptance_refused, faulted}
-use Rattle.liquid_syntax.proofs.read_chain.read_filters.Goals as goal
+use Rattle.liquid_syntax.proofs.chain_items.read_filters.Goals as goal
 
 pub filters-init : goal.filters-init
 filters-init c =

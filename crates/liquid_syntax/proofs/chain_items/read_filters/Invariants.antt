@@ -4,7 +4,7 @@ use Rattle.liquid_syntax.specs.ChainView.{chain_filter_view}
 use Rattle.liquid_syntax.specs.Languages.{kinds_of}
 use Rattle.liquid_syntax.specs.ChainReading.{filters_of}
 use Rattle.liquid_syntax.proofs.ChainCalls.{filters_behind}
-use Rattle.liquid_syntax.proofs.read_chain.read_filters.Given as goal
+use Rattle.liquid_syntax.proofs.chain_items.read_filters.Given as goal
 
 -- what is left gives, behind what was read, what the whole gives
 abbrev pub invariant-filters : goal.invariant-filters

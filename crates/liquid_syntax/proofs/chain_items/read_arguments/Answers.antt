@@ -5,7 +5,7 @@ use Rattle.liquid_core.specs.ExpressionView.{expression_view}
 use Rattle.liquid_syntax.specs.Tokens.{tokens_view}
 use Rattle.liquid_syntax.specs.ChainReading.{called_of, arguments_of, filters_of}
 use Rattle.liquid_syntax.proofs.ChainCalls.{behind, behind_nothing, not_colon, colon, one_argument_more, last_argument, no_value, faulted}
-use Rattle.liquid_syntax.proofs.read_chain.read_arguments.Goals as goal
+use Rattle.liquid_syntax.proofs.chain_items.read_arguments.Goals as goal
 
 pub arguments-init : goal.arguments-init
 arguments-init c = record {
