@@ -4,3 +4,7 @@
 mod kind;
 
 pub use kind::FilterKind;
+pub use liquid_list_filters::stdlib;
+
+#[cfg(test)]
+mod tests;

@@ -3,7 +3,7 @@ use Rattle.std.specs.Prelude.{◌≡◌, ℕ, zero, suc, List, [], ◌∷◌, le
 use Rattle.std.specs.Option.{option_and_then, option_map}
 use Rattle.liquid_syntax.specs.ValueReading.{◌>>=◌, Reads, run_len, past_white, past_byte, word_at, text_at}
 use Rattle.liquid_syntax.specs.ItemReading.{closer_at, items_at}
-use Rattle.liquid_syntax.specs.Pieces.{Piece, text, output, tag, raw, comment, stripped, IsSource}
+use Rattle.liquid_syntax.specs.Pieces.{Piece, text, output, tag, raw, comment, stripped}
 use Rattle.liquid_syntax.specs.declared.item.Delimiter.{Delimiter}
 use Rattle.liquid_syntax.specs.declared.item.Delimiter.TheVariants.{Output, Tag}
 use Rattle.liquid_syntax.specs.declared.piece.Body.{Body}
@@ -165,13 +165,3 @@ Wanted wants _ = Unit {0}
 
 abbrev pub TakesWanted : {S : Type 0} → (S → List ℕ → Option Body) → (S → Piece → Option S) → Type 0
 TakesWanted {S} wants step = (s next : S) (p : Piece) → step s p ≡ Some next → Wanted (wants s) p
-
--- ---- laws, for a machine that may go by all pieces so far: what is read stands in the grammar, and what stands in the grammar is read
-
-abbrev pub SourceTakes : Type 0
-SourceTakes = (wants : List Piece → List ℕ → Option Body) (step : List Piece → Piece → Option (List Piece)) (s next : List Piece) (bs : List ℕ) → source_at wants step (length bs) false s bs ≡ Some next
-    → (ps : List Piece) × IsSource false ps bs × (all_steps step ps s ≡ Some next)
-
-abbrev pub SourceAgain : Type 0
-SourceAgain = (wants : List Piece → List ℕ → Option Body) (step : List Piece → Piece → Option (List Piece)) (s next : List Piece) (bs : List ℕ) (ps : List Piece) → TakesWanted wants step
-    → IsSource false ps bs → all_steps step ps s ≡ Some next → source_at wants step (length bs) false s bs ≡ Some next

@@ -1,21 +1,41 @@
 //! From source to template.
 #![tactic(auto)]
 
+mod block;
+mod chain;
+mod comparison;
 mod condition;
 mod cut;
 mod fault;
+mod filter_call;
 mod item;
+mod language;
+mod laws;
 mod mark;
+mod node;
 mod number;
+mod partials;
 mod piece;
+mod read_chain;
 mod scan;
 mod symbol;
+mod template;
+mod tokens;
 mod value;
 
-pub use condition::ComparisonOperator;
+pub use block::{Block, Place};
+pub use chain::{ChainFilter, FilterChain};
+pub use comparison::ComparisonOperator;
+pub use condition::{Atom, Condition};
 pub use fault::{Fault, FaultKind, ParseError};
-pub use item::{Delimiter, Item, item_laws};
-pub use mark::{Mark, verbatim_laws};
-pub use piece::{Body, Markup, Piece, bare_name, read_body, read_markup, source_laws};
+pub use filter_call::{FilterCall, apply_filters};
+pub use item::{Delimiter, Item};
+pub use language::{BlockKind, Language, Registry, TagKind};
+pub use laws::{item_laws, nesting_laws, source_laws, value_laws, verbatim_laws};
+pub use mark::Mark;
+pub use node::Node;
+pub use partials::Partials;
+pub use piece::{Body, Markup, Piece, bare_name, read_body, read_markup};
 pub use symbol::Symbol;
-pub use value::value_laws;
+pub use template::Template;
+pub use tokens::{is_over, next_value, next_word, skip};

@@ -1,9 +1,7 @@
 //! Marks, and the bodies of `raw` and `comment`, which run up to one.
-ghost use Rattle.std.specs.Prelude.{◌≡◌, length, drop, List, ℕ, Bool, Some, codes};
+ghost use Rattle.std.specs.Prelude.{◌≡◌, length, drop};
 ghost use Rattle.std.specs.Option.{option_map};
-ghost use Rattle.liquid_syntax.specs.SourceReading as reading;
 ghost use Rattle.liquid_syntax.specs.SourceReading.{mark_at, dashed, goes_on, in_body, in_comment, raw_at, comment_at};
-ghost use Rattle.liquid_syntax.specs.Verbatim.{IsRaw, IsComment};
 ghost use Rattle.liquid_syntax.specs.ValueReading.{past_byte, run_len};
 ghost use Rattle.liquid_syntax.specs.PieceView.{mark_view};
 
@@ -115,10 +113,3 @@ pub fn read_comment(text: &str) -> Option<(bool, &str)>
         }
     }
 }
-
-pub fn verbatim_laws()
-    ensures raw_takes { (bs rest t : List ℕ) (m : reading.Mark) → raw_at bs ≡ Some (t, m, rest) → IsRaw t m.before m.after bs rest }
-    ensures raw_again { (bs rest t : List ℕ) (before after : Bool) → IsRaw t before after bs rest → raw_at bs ≡ Some (t, record { name = codes "endraw"; before = before; after = after }, rest) }
-    ensures comment_takes { (bs rest : List ℕ) (after : Bool) → comment_at (length bs) 0 bs ≡ Some (after, rest) → IsComment 0 after bs rest }
-    ensures comment_again { (bs rest : List ℕ) (after : Bool) → IsComment 0 after bs rest → comment_at (length bs) 0 bs ≡ Some (after, rest) }
-{}

@@ -1,7 +1,7 @@
 //! Pieces: texts and, between them, outputs and tags.
 ghost use Rattle.std.specs.Prelude.{◌≡◌};
 ghost use Rattle.std.specs.Option.{option_map};
-ghost use Rattle.liquid_syntax.specs.SourceReading.{opener_at, markup_at, bare_name, tag_name, body_at, SourceTakes, SourceAgain};
+ghost use Rattle.liquid_syntax.specs.SourceReading.{opener_at, markup_at, bare_name, tag_name, body_at};
 ghost use Rattle.liquid_syntax.specs.Readers.{Parses};
 ghost use Rattle.liquid_syntax.specs.PieceView.{piece_view, markup_view};
 
@@ -182,8 +182,3 @@ pub fn read_body<'s>(
         }
     }
 }
-
-pub fn source_laws()
-    ensures takes { SourceTakes }
-    ensures again { SourceAgain }
-{}
