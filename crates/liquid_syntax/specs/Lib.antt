@@ -23,6 +23,7 @@ pub mod Openers
 pub mod PieceView
 pub mod Pieces
 pub mod Readers
+pub mod ReadingLaws
 pub mod Round
 pub mod SourceReading
 pub mod Templates
