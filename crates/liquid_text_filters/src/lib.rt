@@ -1,0 +1,5 @@
+//! Filters over texts.
+#![tactic(auto)]
+
+pub mod stdlib;
+mod text;

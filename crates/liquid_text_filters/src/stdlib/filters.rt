@@ -1,0 +1,2 @@
+//! Filters by what they work on.
+pub mod string;

@@ -1,0 +1,2 @@
+//! Filters over texts.
+pub mod operate;
