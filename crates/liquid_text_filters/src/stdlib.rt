@@ -1,4 +1,8 @@
 //! The standard set of filters.
 mod filters;
 
-pub use filters::string::operate::Append;
+pub use filters::default::Default;
+pub use filters::size::Size;
+pub use filters::string::case::{Capitalize, Downcase, Upcase};
+pub use filters::string::operate::{Append, Prepend};
+pub use filters::string::strip::{Lstrip, Rstrip, Strip, StripNewlines};

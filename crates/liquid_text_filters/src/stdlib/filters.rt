@@ -1,2 +1,4 @@
 //! Filters by what they work on.
+pub mod default;
+pub mod size;
 pub mod string;

@@ -1,2 +1,4 @@
 //! Filters over texts.
+pub mod case;
 pub mod operate;
+pub mod strip;
