@@ -1,9 +1,9 @@
 -- The filter `size`.
-use Rattle.std.specs.Prelude.{ℕ, List, length, Result, Ok}
+use Rattle.std.specs.Prelude.{ℕ, List, length, Ok}
 use Rattle.liquid_core.specs.Data.{Datum, nil, truth, number, text, array, object, text_of}
 use Rattle.liquid_core.specs.Digest.{items_len, pairs_len}
 use Rattle.liquid_core.specs.Find.{counted}
-use Rattle.liquid_core.specs.declared.error.ErrorKind.{ErrorKind}
+use Rattle.liquid_list_filters.specs.Arguments.{Answer}
 
 -- the bytes of a scalar's text, the items of a list, the pairs of a map, and 0 for nil
 abbrev pub size_of : Datum → ℕ
@@ -14,5 +14,5 @@ size_of (text s) = length s
 size_of (array ds) = items_len ds
 size_of (object ms) = pairs_len ms
 
-abbrev pub size_answer : Datum → List Datum → Result Datum ErrorKind
-size_answer d arguments = Ok (counted (size_of d))
+abbrev pub size_answer : Datum → List Datum → Answer
+size_answer d args = Ok (counted (size_of d))

@@ -3,8 +3,8 @@ ghost use Rattle.std.specs.Prelude.{◌++◌, nat_eq, string_bytes};
 ghost use Rattle.liquid_core.specs.Answer.{Gives};
 ghost use Rattle.liquid_text_filters.specs.Operate.{append_answer, prepend_answer};
 
-use crate::text::text_of;
 use liquid_core::{Filter, Result, Value};
+use liquid_list_filters::text_of;
 use std::alloc::Global;
 
 /// `append`: the input's text, then the argument's.

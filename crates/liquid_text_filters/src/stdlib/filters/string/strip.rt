@@ -4,8 +4,8 @@ ghost use Rattle.std.specs.Char.{encode_utf8};
 ghost use Rattle.liquid_core.specs.Answer.{Gives};
 ghost use Rattle.liquid_text_filters.specs.Strip.{is_newline, lstrip_answer, rstrip_answer, strip_answer, strip_newlines_answer, without_newlines};
 
-use crate::text::text_of;
 use liquid_core::{Filter, Result, Value};
+use liquid_list_filters::text_of;
 use std::alloc::Global;
 
 /// `strip`: the input's text without the white space at both ends.

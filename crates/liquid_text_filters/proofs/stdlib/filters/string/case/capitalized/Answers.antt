@@ -1,4 +1,4 @@
-use Rattle.std.proofs.Common.{◌∙◌, ◌++◌, sym, ap, string_bytes}
+use Rattle.std.proofs.Common.{◌∙◌, ◌++◌, sym, ap}
 use Rattle.std.specs.Char.{encode_utf8}
 use Rattle.liquid_text_filters.proofs.Characters.{capitalized_past}
 use Rattle.liquid_text_filters.proofs.stdlib.filters.string.case.capitalized.Goals as goal
