@@ -1,6 +1,10 @@
+pub mod Arguments
 pub mod Case
 pub mod Default
+pub mod Occurrences
 pub mod Operate
+pub mod Pieces
 pub mod Size
+pub mod Split
 pub mod Strip
 pub mod Text

@@ -1,4 +1,5 @@
 //! Filters over texts.
 #![tactic(auto)]
 
+mod argument;
 pub mod stdlib;

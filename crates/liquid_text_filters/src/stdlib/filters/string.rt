@@ -1,4 +1,5 @@
 //! Filters over texts.
 pub mod case;
 pub mod operate;
+pub mod split;
 pub mod strip;
