@@ -1,6 +1,7 @@
 -- Texts as their characters.
-use Rattle.std.proofs.Common.{◌≡◌, ℕ, Bool, true, false, not, if◌then◌else◌, List, [], ◌∷◌, ◌++◌, ap, refl, sym, ◌∙◌, append_assoc, append-nil, length, arith}
-use Rattle.std.proofs.lemmas.Str.{chars_past_char, IsUtf8-past_char, chars-nil, encodes-chars}
+use Rattle.std.proofs.Common.{◌≡◌, ℕ, zero, suc, ◌+◌, ◌-◌, ◌<◌, take, drop, Bool, true, false, not, if◌then◌else◌, List, [], ◌∷◌, ◌++◌, ap, refl, sym, ◌∙◌, append_assoc, append-nil, length, arith}
+use Rattle.std.proofs.lemmas.List.{take-append-drop}
+use Rattle.std.proofs.lemmas.Str.{encodes-append, chars_past_char, IsUtf8-past_char, chars-nil, encodes-chars}
 use Rattle.std.specs.Char.{encode_utf8, to_ascii_uppercase}
 use Rattle.std.specs.Str.{chars, encode_utf8_all, IsUtf8}
 use Rattle.liquid_text_filters.specs.Case.{capitalized, upper_first}
@@ -38,3 +39,28 @@ without_newlines_turn s rest out next all c e g h = (
 pub without_newlines_end : (s out all : List ℕ) → length s ≡ 0 → all ≡ out ++ without_newlines s → out ≡ all
 without_newlines_end [] out all z h = sym (append-nil out) ∙ ap (λ cs. out ++ encode_utf8_all (filter (λ d. not (is_newline d)) cs)) (sym chars-nil) ∙ sym h
 without_newlines_end (b ∷ s) out all z h = absurd (omega arith)
+
+-- ---- the characters after the first ones
+less : (n i : ℕ) → i < n → n - i ≡ suc (n - (i + 1))
+less n i h = omega arith
+
+pub skipped_turn : (s rest all : List ℕ) (c count i : ℕ) → i < count → s ≡ encode_utf8 c ++ rest → IsUtf8 s × (all ≡ drop (count - i) (chars s)) → IsUtf8 rest × (all ≡ drop (count - (i + 1)) (chars rest))
+skipped_turn s rest all c count i l e h = (
+  IsUtf8-past_char s rest c h.0 e,
+  h.1 ∙ ap (λ n. drop n (chars s)) (less count i l) ∙ ap (drop (suc (count - (i + 1)))) (chars_past_char s rest c h.0 e),
+)
+
+no_characters : (n : ℕ) → drop n (chars []) ≡ []
+no_characters zero = chars-nil
+no_characters (suc n) = ap (drop (suc n)) chars-nil
+
+pub skipped_end : (s all : List ℕ) (n : ℕ) → length s ≡ 0 → IsUtf8 s × (all ≡ drop n (chars s)) → [] ≡ encode_utf8_all all
+skipped_end [] all n z h = ap encode_utf8_all (sym (no_characters n) ∙ sym h.1)
+skipped_end (b ∷ s) all n z h = absurd (omega arith)
+
+pub skipped_done : (s all : List ℕ) (n : ℕ) → n ≡ 0 → IsUtf8 s × (all ≡ drop n (chars s)) → s ≡ encode_utf8_all all
+skipped_done s all n z h = sym (encodes-chars s h.0) ∙ ap encode_utf8_all (sym (h.1 ∙ ap (λ k. drop k (chars s)) z))
+
+-- a text is its first characters and those after them
+pub characters_cut : (s : List ℕ) (n : ℕ) → IsUtf8 s → s ≡ encode_utf8_all (take n (chars s)) ++ encode_utf8_all (drop n (chars s))
+characters_cut s n u = sym (encodes-chars s u) ∙ ap encode_utf8_all (sym (take-append-drop n (chars s))) ∙ encodes-append (take n (chars s)) (drop n (chars s))

@@ -4,3 +4,4 @@ pub mod Pieces
 pub mod Replaced
 pub mod Splits
 pub mod Views
+pub mod Words

@@ -1,12 +1,12 @@
 -- The pieces stand in their relation, and no others do.
-use Rattle.std.proofs.Common.{◌≡◌, ◌≢◌, ℕ, zero, suc, ◌+◌, ◌-◌, ◌<◌, ◌≤◌, Bool, true, false, List, [], ◌∷◌, ◌++◌, length, take, drop, map, ap, subst, refl, sym, ◌∙◌, arith, append_assoc, append-nil, if◌then◌else◌}
+use Rattle.std.proofs.Common.{◌≡◌, ℕ, zero, suc, ◌-◌, ◌<◌, Bool, true, false, List, [], ◌∷◌, ◌++◌, length, take, drop, map, ap, subst, refl, sym, ◌∙◌, arith, if◌then◌else◌}
 use Rattle.std.proofs.lemmas.Str.{chars-encodes, encodes-chars, scalars-chars}
 use Rattle.std.specs.Char.{encode_utf8}
 use Rattle.std.specs.Str.{chars, encode_utf8_all, IsUtf8}
 use Rattle.std.specs.Str.Pattern.{LacksTextAt}
 use Rattle.liquid_core.specs.Answer.{IsTheOne}
 use Rattle.liquid_list_filters.specs.Joined.{joined, joined_rest}
-use Rattle.liquid_text_filters.specs.Occurrences.{AreCharacters, ArePieces, Lacks, LacksBefore, Splits}
+use Rattle.liquid_text_filters.specs.Occurrences.{AreCharacters, ArePieces, Lacks, Splits}
 use Rattle.liquid_text_filters.specs.Pieces.{begins, push, pieces, single_characters, split_by}
 use Rattle.liquid_text_filters.proofs.Pieces.{begins_is, begins_own, drop_pred, joined-pieces, pieces_found, pieces_none}
 

@@ -1,5 +1,5 @@
 -- What std's `replace` and `replacen` make is what the filters make.
-use Rattle.std.proofs.Common.{◌≡◌, ◌≢◌, ℕ, zero, suc, ◌+◌, ◌-◌, ◌<◌, ◌≤◌, ◌⊎◌, inl, inr, Bool, true, false, List, [], ◌∷◌, ◌++◌, length, take, drop, map, Bor, Option, Some, None, ap, subst, refl, sym, ◌∙◌, arith, append_assoc, append-nil, if◌then◌else◌}
+use Rattle.std.proofs.Common.{◌≡◌, ℕ, zero, suc, ◌<◌, inl, inr, true, List, [], ◌∷◌, ◌++◌, length, take, drop, map, Bor, Option, ap, subst, refl, sym, ◌∙◌, arith, append-nil, if◌then◌else◌}
 use Rattle.std.proofs.lemmas.Str.{chars-nil, chars_past_char, IsUtf8-past_char}
 use Rattle.std.specs.Char.{encode_utf8}
 use Rattle.std.specs.Str.{chars, IsUtf8}
@@ -8,7 +8,7 @@ use Rattle.std.specs.Str.Replace.{ContinuesAfterMatch, ReplacesMatches, Replaces
 use Rattle.liquid_list_filters.specs.Joined.{joined, joined_rest}
 use Rattle.liquid_text_filters.specs.Occurrences.{Lacks}
 use Rattle.liquid_text_filters.specs.Operate.{replaced, replaced_first}
-use Rattle.liquid_text_filters.specs.Pieces.{begins, push, pieces, split_by, single_characters}
+use Rattle.liquid_text_filters.specs.Pieces.{begins, pieces}
 use Rattle.liquid_text_filters.proofs.Occurrences.{back}
 use Rattle.liquid_text_filters.proofs.Pieces.{begins_own, begins_not, joined_rest-pieces, pieces_found, pieces_none}
 

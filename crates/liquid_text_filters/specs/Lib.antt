@@ -4,7 +4,10 @@ pub mod Default
 pub mod Occurrences
 pub mod Operate
 pub mod Pieces
+pub mod Places
 pub mod Size
+pub mod Slice
 pub mod Split
 pub mod Strip
 pub mod Text
+pub mod Truncate

@@ -2,4 +2,5 @@
 #![tactic(auto)]
 
 mod argument;
+mod part;
 pub mod stdlib;

@@ -1,4 +1,4 @@
-use Rattle.std.proofs.Common.{◌≡◌, ◌<◌, List, length, subst, sym, arith}
+use Rattle.std.proofs.Common.{◌<◌, List, length, subst, sym, arith}
 use Rattle.std.proofs.lemmas.Bool.Decides.{nat_tests}
 use Rattle.std.specs.Cow.{cow_str_bytes}
 use Rattle.liquid_core.specs.Answer.{Gives}

@@ -1,4 +1,4 @@
-use Rattle.std.proofs.Common.{◌≡◌, ℤ, ◌<◌, List, length, subst, sym, arith}
+use Rattle.std.proofs.Common.{ℤ, ◌<◌, List, length, subst, sym, arith}
 use Rattle.std.proofs.lemmas.Bool.Decides.{nat_tests}
 use Rattle.liquid_core.specs.Answer.{Answers}
 use Rattle.liquid_core.specs.Data.{Datum}

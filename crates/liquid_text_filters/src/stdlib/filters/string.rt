@@ -3,3 +3,4 @@ pub mod case;
 pub mod operate;
 pub mod split;
 pub mod strip;
+pub mod truncate;

@@ -4,6 +4,7 @@ ghost use Rattle.liquid_core.specs.Answer.{Gives};
 ghost use Rattle.liquid_text_filters.specs.Operate.{append_answer, prepend_answer, remove_answer, remove_first_answer, replace_answer, replace_first_answer, replaced, replaced_first};
 
 use crate::argument::text_or;
+use crate::part::joined;
 use liquid_core::{Filter, Result, Value};
 use liquid_list_filters::text_of;
 use std::alloc::Global;
@@ -149,14 +150,4 @@ fn replaced_first(alloc: Global, text: &str, search: &str, replacement: &str) ->
     ensures { Gives (λ s. string_bytes s) result (replaced_first search.now replacement.now text.now) }
 {
     Ok(text.replacen(alloc, search, replacement, 1)?)
-}
-
-/// The first text, then the last.
-fn joined(alloc: Global, first: &str, last: &str) -> Result<String>
-    ensures { Gives (λ s. string_bytes s) result (first.now ++ last.now) }
-{
-    let mut both = String::with_capacity(alloc, first.len().saturating_add(last.len()))?;
-    both.push_str(first)?;
-    both.push_str(last)?;
-    Ok(both)
 }
