@@ -1,3 +1,11 @@
 pub mod Arguments
 pub mod Ends
 pub mod Joined
+pub mod Keeping
+pub mod Keyed
+pub mod Laws
+pub mod Places
+pub mod Rows
+pub mod Sequences
+pub mod Sorting
+pub mod Sorts
