@@ -1,5 +1,6 @@
 pub mod Characters
 pub mod Occurrences
+pub mod Ones
 pub mod Pieces
 pub mod Replaced
 pub mod Splits

@@ -1,8 +1,10 @@
 pub mod Arguments
 pub mod Case
 pub mod Default
+pub mod Laws
 pub mod Occurrences
 pub mod Operate
+pub mod Parts
 pub mod Pieces
 pub mod Places
 pub mod Size
