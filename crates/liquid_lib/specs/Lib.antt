@@ -19,3 +19,4 @@ pub mod WorkedLoops
 pub mod WorkedNames
 pub mod WorkedPartials
 pub mod WorkedStores
+pub mod Standard
