@@ -1,6 +1,37 @@
 //! From source to template.
 #![tactic(auto)]
 
+mod block;
+mod chain;
+mod comparison;
 mod condition;
+mod cut;
+mod fault;
+mod item;
+mod language;
+mod laws;
+mod mark;
+mod node;
+mod number;
+mod partials;
+mod piece;
+mod scan;
+mod symbol;
+mod template;
+mod value;
 
-pub use condition::ComparisonOperator;
+pub use block::{Block, Place};
+pub use chain::{ChainFilter, FilterChain};
+pub use comparison::ComparisonOperator;
+pub use condition::{Atom, Condition};
+pub use fault::{Fault, FaultKind, ParseError};
+pub use item::{Delimiter, Item, item_laws};
+pub use language::{BlockKind, Language, Registry, TagKind};
+pub use laws::nesting_laws;
+pub use mark::Mark;
+pub use node::Node;
+pub use partials::Partials;
+pub use piece::{Body, Markup, Piece};
+pub use symbol::Symbol;
+pub use template::Template;
+pub use value::value_laws;
