@@ -2,6 +2,7 @@ pub mod Apart
 pub mod Changes
 pub mod Computed
 pub mod Further
+pub mod Items
 pub mod Law
 pub mod Maps
 pub mod Nodes

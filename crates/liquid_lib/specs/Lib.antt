@@ -1,6 +1,7 @@
 pub mod Effects
 pub mod Isolation
 pub mod Laws
+pub mod LoopLaws
 pub mod Loops
 pub mod Meaning
 pub mod Runs
