@@ -7,6 +7,7 @@ pub mod Going
 pub mod Interrupts
 pub mod Joined
 pub mod Kept
+pub mod Items
 pub mod Law
 pub mod Maps
 pub mod Nodes

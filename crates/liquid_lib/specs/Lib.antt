@@ -6,6 +6,7 @@ pub mod Failures
 pub mod Isolation
 pub mod Kept
 pub mod Laws
+pub mod LoopLaws
 pub mod Loops
 pub mod Meaning
 pub mod Performs

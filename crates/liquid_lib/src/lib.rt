@@ -15,7 +15,7 @@ mod worked;
 mod write_all;
 
 pub use counted::{Counted, CountedWrite};
-pub use laws::{isolation_laws, run_laws};
+pub use laws::{isolation_laws, loop_laws, run_laws};
 pub use render::Renderable;
 pub use runtime::{Runtime, RuntimeBuilder};
 pub use standard::{STANDARD_FILTERS, language};
