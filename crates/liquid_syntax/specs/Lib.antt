@@ -1,4 +1,6 @@
+pub mod Building
 pub mod ChainView
+pub mod Controls
 pub mod Entries
 pub mod Evaluation
 pub mod Flats
@@ -11,6 +13,7 @@ pub mod Nested
 pub mod Nesting
 pub mod NestingLaw
 pub mod OpenBlocks
+pub mod Readers
 pub mod Round
 pub mod Templates
 pub mod Tree
