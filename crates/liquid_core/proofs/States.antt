@@ -3,7 +3,10 @@ use Rattle.std.proofs.Common.{◌≡◌, ℕ, List, [], ◌∷◌, ◌++◌, rev
 use mathlib.Core.Path.{fun_ext}
 use Rattle.std.proofs.Common.{Option, None, IsSome, length, ◌<◌, arith, true≢false, String, Global, string_bytes, option_map}
 use Rattle.std.specs.Prelude.{option_to_list}
-use Rattle.std.specs.BTreeMap.{BTreeMap, get_by_text}
+use Rattle.std.specs.BTreeMap.{BTreeMap, get_by_text, UpdatesBy}
+use Rattle.std.specs.String.{string_cmp}
+use Rattle.std.proofs.lemmas.Map.Text.{btree_map_updates_text}
+use Rattle.liquid_core.specs.declared.interrupt.Interrupt.{Interrupt}
 use Rattle.std.proofs.lemmas.List.{map-append}
 use Rattle.liquid_core.specs.declared.value.Value.{Value}
 use Rattle.liquid_core.specs.declared.state.State.{State}
@@ -16,7 +19,7 @@ use Rattle.std.specs.Map.{lookup as entry_of}
 use Rattle.std.specs.BTreeMap.{is_at}
 use Rattle.std.specs.Cmp.Lexicographic.{slice_cmp}
 use Rattle.std.specs.Ordering.{nat_cmp}
-use Rattle.liquid_core.specs.States.{held, layers_of, environment_of, new_layers, with_scope_popped, scopes_behind}
+use Rattle.liquid_core.specs.States.{held, layers_of, environment_of, new_layers, with_scope_popped, scopes_behind, with_interrupt, with_changed, with_cycle}
 use Rattle.std.proofs.lemmas.List.{reverse-append}
 use Rattle.std.proofs.lemmas.Slice.Eq.{bytes_eq-Decides}
 use Rattle.liquid_core.specs.Texts.{Text}
@@ -103,4 +106,38 @@ all_empty s a b c d e f = λ i. record {
   counters = map_of (pairs_view (c i));
   globals = held s.«data»;
   registers = record { interrupt = d i; cycles = (λ group. entry_of (is_at (λ k. slice_cmp nat_cmp group (string_bytes k))) (e i)); changed = option_map string_bytes (f i) };
+}
+
+-- ---- registers, which callers read and set as fields
+
+pub interrupt_of : (s : State) → (layers_of s).registers.interrupt ≡ s.interrupt
+unfolding layers_of
+interrupt_of s = refl
+
+pub interrupt_set : (s : State) (i : Option Interrupt) → layers_of (record s { interrupt = i }) ≡ with_interrupt i (layers_of s)
+unfolding layers_of
+interrupt_set s i = refl
+
+pub changed_of : (s : State) → (layers_of s).registers.changed ≡ option_map string_bytes s.changed
+unfolding layers_of
+changed_of s = refl
+
+pub changed_set : (s : State) (shown : Option (String Global)) → layers_of (record s { changed = shown }) ≡ with_changed (option_map string_bytes shown) (layers_of s)
+unfolding layers_of
+changed_set s shown = refl
+
+pub cycle_of : (s : State) (group : Text) → (layers_of s).registers.cycles group ≡ get_by_text s.cycles group
+unfolding layers_of
+cycle_of s group = refl
+
+-- m is s's map of cycles after `insert`, of which the premise is the clause `updates`
+pub cycle_set : (s : State) (m : BTreeMap (String Global) ℕ) (group : Text) (index : ℕ) → UpdatesBy string_cmp (λ k. slice_cmp nat_cmp group (string_bytes k)) s.cycles m (Some index)
+    → layers_of (record s { cycles = m }) ≡ with_cycle group index (layers_of s)
+unfolding layers_of insert
+cycle_set s m group index h = λ i. record {
+  scopes = reverse (map held s.scopes.items);
+  assigned = held s.assigned;
+  counters = held s.counters;
+  globals = held s.«data»;
+  registers = record { interrupt = s.interrupt; cycles = fun_ext (λ q. btree_map_updates_text group s.cycles m (Some index) h q) i; changed = option_map string_bytes s.changed };
 }

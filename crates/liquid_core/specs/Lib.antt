@@ -4,6 +4,7 @@ pub mod Cow
 pub mod Data
 pub mod Digest
 pub mod Environment
+pub mod Errors
 pub mod Expression
 pub mod ExpressionView
 pub mod Expressions

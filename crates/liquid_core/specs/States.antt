@@ -69,3 +69,9 @@ with_counter name d l = record l { counters = insert l.counters name d }
 
 abbrev pub with_interrupt : Option Interrupt → Layers → Layers
 with_interrupt i l = record l { registers = record (l.registers) { interrupt = i } }
+
+abbrev pub with_changed : Option Text → Layers → Layers
+with_changed shown l = record l { registers = record (l.registers) { changed = shown } }
+
+abbrev pub with_cycle : Text → ℕ → Layers → Layers
+with_cycle group index l = record l { registers = record (l.registers) { cycles = insert l.registers.cycles group index } }

@@ -54,10 +54,10 @@ impl Expression {
     {
         match expression_value(self, state) {
             Some(value) => Ok(value),
-            None => Err(Error::new(
+            None => Err(Error::formatted(
                 alloc,
                 ErrorKind::UnknownVariable,
-                "the variable has no value",
+                format_args!("`{self}` has no value"),
             )),
         }
     }
@@ -88,10 +88,10 @@ impl Variable {
     {
         match variable_value(self, state) {
             Some(value) => Ok(value),
-            None => Err(Error::new(
+            None => Err(Error::formatted(
                 alloc,
                 ErrorKind::UnknownVariable,
-                "the variable has no value",
+                format_args!("`{self}` has no value"),
             )),
         }
     }

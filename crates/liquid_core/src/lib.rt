@@ -15,6 +15,7 @@ mod state;
 mod text;
 mod value;
 mod whole;
+mod written;
 
 pub use cow::ValueCow;
 pub use error::{Error, ErrorKind, Result};

@@ -8,10 +8,11 @@ use Rattle.liquid_core.specs.Data.{Datum}
 use Rattle.liquid_core.specs.Order.{same}
 use Rattle.liquid_core.specs.Environment.{Names, Environment, cut, cut_map}
 use Rattle.liquid_lib.specs.Runs.{Run}
-use Rattle.liquid_lib.specs.Isolation.{HoldsOutside, is_new, changed_pairs, IsAsCut, Headline}
+use Rattle.liquid_lib.specs.Meaning.{meaning}
+use Rattle.liquid_lib.specs.Isolation.{HoldsOutside, is_new, changed_pairs, changes, names_of_run, IsAsCut, Headline, AgreeingRuns}
 use Rattle.liquid_lib.proofs.Maps.{AgreeAt, agree_cut}
 use Rattle.liquid_lib.proofs.Runs.{Isolated}
-use Rattle.liquid_lib.proofs.Law.{run_isolated, agree_on_cut}
+use Rattle.liquid_lib.proofs.Law.{run_isolated, agree_on_cut, agree_on, same_cuts}
 
 pub same_itself : (d : Datum) → same d d ≡ true
 same_itself d = (same_Decides d d).1 refl
@@ -55,3 +56,15 @@ module _ (N : Names) where
 
 pub headline : Headline
 headline setting depth nodes e = as_cut _ _ (run_isolated setting depth nodes) e
+
+pub agreeing_runs : AgreeingRuns
+agreeing_runs setting depth nodes e f h =
+    let N = names_of_run setting nodes in
+    let m = meaning setting depth nodes in
+    let r = run_isolated setting depth nodes e f (agree_on N e f h) in
+    record {
+      text = r.text;
+      end = r.end;
+      changes = (headline setting depth nodes e).changes ∙ (λ i. changes (h i) (m (h i)).environment) ∙ sym (headline setting depth nodes f).changes;
+      environments = same_cuts N _ _ r.agree;
+    }

@@ -32,6 +32,7 @@ worked_stores = record {
   least = ((refl, refl), refl);
   assigned_first = (refl, refl);
   data_last = (refl, refl);
+  first_layer_decides = (refl, refl);
   cycle_bounds = ((refl, refl), refl);
   cycle_of_none = ((refl, refl), refl);
   cycle_by_values = ((refl, refl), refl);

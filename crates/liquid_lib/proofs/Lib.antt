@@ -1,10 +1,12 @@
 pub mod Apart
 pub mod Changes
 pub mod Computed
+pub mod Further
 pub mod Law
 pub mod Maps
 pub mod Nodes
 pub mod Runs
+pub mod Stays
 pub mod Steps
 pub mod Values
 pub mod Within

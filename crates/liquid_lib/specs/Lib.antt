@@ -1,5 +1,6 @@
 pub mod Effects
 pub mod Isolation
+pub mod Laws
 pub mod Loops
 pub mod Meaning
 pub mod Runs

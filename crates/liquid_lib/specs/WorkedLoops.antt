@@ -5,7 +5,7 @@ use Rattle.liquid_core.specs.declared.error.ErrorKind.TheVariants.{UnknownVariab
 use Rattle.liquid_core.specs.declared.interrupt.Interrupt.TheVariants.{Break}
 use Rattle.liquid_core.specs.Expression.{literal, variable, no_steps, step}
 use Rattle.liquid_filters.specs.declared.kind.FilterKind.{FilterKind}
-use Rattle.liquid_syntax.specs.declared.condition.ComparisonOperator.TheVariants.{Equals}
+use Rattle.liquid_syntax.specs.declared.comparison.ComparisonOperator.TheVariants.{Equals}
 use Rattle.liquid_syntax.specs.Tree.{bare, compared, each_of, Window, plain, output, assign, break_loop, continue_loop, if_true, unless, case_of, for_each, tablerow, no_whens, when, no_nodes}
 use Rattle.liquid_syntax.specs.Evaluation.{FilterAnswers}
 use Rattle.liquid_lib.specs.Effects.{interrupted_by}

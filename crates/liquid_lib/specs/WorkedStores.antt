@@ -7,7 +7,7 @@ use Rattle.liquid_core.specs.declared.interrupt.Interrupt.TheVariants.{Break}
 use Rattle.liquid_core.specs.Expression.{Expression, variable, no_steps, step}
 use Rattle.liquid_core.specs.Maps.{empty, listed}
 use Rattle.liquid_core.specs.Environment.{Environment, new_environment}
-use Rattle.liquid_syntax.specs.declared.condition.ComparisonOperator.TheVariants.{GreaterThan}
+use Rattle.liquid_syntax.specs.declared.comparison.ComparisonOperator.TheVariants.{GreaterThan}
 use Rattle.liquid_syntax.specs.Tree.{Node, plain, assign, increment, decrement, break_loop, cycle, capture, ifchanged}
 use Rattle.liquid_syntax.specs.Groups.{group_of}
 use Rattle.liquid_lib.specs.Runs.{Nothing, Outcome}
@@ -51,6 +51,9 @@ pub record WorkedStores : Type 0 where
   -- {% increment n %}{{ n }} where 5 is assigned to n, and where n is 5 in the data: these agree by look-up, and not layer by layer
   pub assigned_first : Writes (from (with_assigned ((codes "n", number (pos 5)) ∷ [])) (increment (codes "n") ∷ show (name "n") ∷ [])) "05"
   pub data_last : Writes (from (with_data ((codes "n", number (pos 5)) ∷ [])) (increment (codes "n") ∷ show (name "n") ∷ [])) "01"
+  -- {% assign a = 1 %}x{{ a.b }} where a is {"b": 2} in the data: the first layer that holds the name decides
+  pub first_layer_decides : WritesThen (from (with_data ((codes "a", object (pair (codes "b") (number (pos 2)) no_pairs)) ∷ []))
+      (assign (codes "a") (alone (integer 1)) ∷ plain (codes "x") ∷ show (property "a" "b") ∷ [])) "x" UnknownVariable
   -- {% cycle c: 1, 2 %}\n{% cycle c: 1 %}\n
   pub cycle_bounds :
       let o = page (cycle_named (name "c") (integer 1 ∷ integer 2 ∷ []) ∷ plain (codes "\n") ∷ cycle_named (name "c") (integer 1 ∷ []) ∷ plain (codes "\n") ∷ []) in

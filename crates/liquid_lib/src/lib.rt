@@ -4,5 +4,5 @@
 mod laws;
 mod worked;
 
-pub use laws::isolation_laws;
+pub use laws::{isolation_laws, run_laws};
 pub use worked::{worked_names, worked_runs};

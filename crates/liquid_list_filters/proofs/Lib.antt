@@ -1,1 +1,4 @@
 pub mod Ends
+pub mod Keys
+pub mod Rows
+pub mod Sorts

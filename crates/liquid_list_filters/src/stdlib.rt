@@ -3,3 +3,6 @@ mod filters;
 
 pub use filters::array::ends::{First, Last};
 pub use filters::array::join::Join;
+pub use filters::array::keep::{Compact, Map, Uniq, Where};
+pub use filters::array::rows::{Concat, Reverse};
+pub use filters::array::sort::{Sort, SortNatural};

@@ -1,13 +1,13 @@
 -- What chains, conditions and loop sources are in an environment: a value, or a kind.
 --     chain_value      a chain's value;   truth_of      a condition's
 --     source_items, window_items      the items of a loop's source; those of them that are asked for
-use Rattle.std.specs.Prelude.{ℕ, zero, suc, ◌-◌, min, ℤ, pos, negsuc, ◌+ℤ◌, ◌-ℤ◌, nat_abs, int_le, nat_le, Bool, true, false, cond, not, ◌&&◌, ◌||◌, List, [], ◌∷◌, length, reverse, get_or, Option, Some, None, Result, Ok, Err, is_some}
+use Rattle.std.specs.Prelude.{ℕ, zero, suc, ◌-◌, min, ℤ, pos, negsuc, ◌+ℤ◌, ◌-ℤ◌, nat_abs, int_le, nat_le, nat_eq, Bool, true, false, cond, not, ◌&&◌, ◌||◌, List, [], ◌∷◌, length, reverse, get_or, Option, Some, None, Result, Ok, Err, is_some}
 use Rattle.std.specs.declared.cmp.Ordering.{Ordering}
-use Rattle.std.specs.Ordering.{is_lt, is_gt, is_le, is_ge, nat_cmp, eq_by_cmp}
+use Rattle.std.specs.Ordering.{is_lt, is_gt, is_le, is_ge}
 use Rattle.std.specs.List.{starts_with, list_any}
 use Rattle.std.specs.Option.{ok_or}
 use Rattle.liquid_core.specs.Texts.{Text}
-use Rattle.liquid_core.specs.Data.{Datum, nil, number, array, object, text_of, truthy, scalar}
+use Rattle.liquid_core.specs.Data.{Datum, Pairs, nil, number, array, object, text_of, truthy, scalar}
 use Rattle.liquid_core.specs.Lists.{list_of, pair_lists}
 use Rattle.liquid_core.specs.Order.{same}
 use Rattle.liquid_core.specs.Compare.{compare}
@@ -20,8 +20,8 @@ use Rattle.liquid_core.specs.Expression.{Expression}
 use Rattle.liquid_core.specs.Environment.{Environment}
 use Rattle.liquid_core.specs.Expressions.{value_of, required, all_required, needed_whole}
 use Rattle.liquid_filters.specs.declared.kind.FilterKind.{FilterKind}
-use Rattle.liquid_syntax.specs.declared.condition.ComparisonOperator.{ComparisonOperator}
-use Rattle.liquid_syntax.specs.declared.condition.ComparisonOperator.TheVariants.{Equals, NotEquals, LessThan, GreaterThan, LessThanEquals, GreaterThanEquals, Contains}
+use Rattle.liquid_syntax.specs.declared.comparison.ComparisonOperator.{ComparisonOperator}
+use Rattle.liquid_syntax.specs.declared.comparison.ComparisonOperator.TheVariants.{Equals, NotEquals, LessThan, GreaterThan, LessThanEquals, GreaterThanEquals, Contains}
 use Rattle.liquid_syntax.specs.Tree.{FilterCall, Chain, Atom, bare, compared, Condition, Source, each_of, counted, Window, Bindings}
 
 -- ---- chains
@@ -59,14 +59,18 @@ passes test (Some o) = test o
 
 -- whether t has s in it
 abbrev pub occurs_in : Text → Text → Bool
-occurs_in s [] = starts_with (eq_by_cmp nat_cmp) [] s
-occurs_in s (c ∷ t) = starts_with (eq_by_cmp nat_cmp) (c ∷ t) s || occurs_in s t
+occurs_in s [] = starts_with nat_eq [] s
+occurs_in s (c ∷ t) = starts_with nat_eq (c ∷ t) s || occurs_in s t
+
+-- whether the text of a scalar is a key
+abbrev pub has_key : Pairs → Datum → Bool
+has_key ps d = scalar d && is_some (value_at (text_of d) ps)
 
 -- nil on the left is refused; a list has an equal item; a map has a scalar's text as a key; a scalar's text has the text of d in it
 abbrev pub contains : Datum → Datum → Result Bool ErrorKind
 contains nil d = Err UnexpectedValue
-contains (array ds) d = Ok (list_any (same d) (list_of ds))
-contains (object ps) d = Ok (scalar d && is_some (value_at (text_of d) ps))
+contains (array ds) d = Ok (list_any (λ item. same item d) (list_of ds))
+contains (object ps) d = Ok (has_key ps d)
 contains c d = Ok (occurs_in (text_of d) (text_of c))
 
 unfoldable pub comparison_truth : ComparisonOperator → Datum → Datum → Result Bool ErrorKind

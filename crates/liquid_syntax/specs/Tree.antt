@@ -3,7 +3,7 @@ use Rattle.std.specs.Prelude.{Bool, List, Option}
 use Rattle.liquid_core.specs.Texts.{Text}
 use Rattle.liquid_core.specs.Expression.{Expression}
 use Rattle.liquid_filters.specs.declared.kind.FilterKind.{FilterKind}
-use Rattle.liquid_syntax.specs.declared.condition.ComparisonOperator.{ComparisonOperator}
+use Rattle.liquid_syntax.specs.declared.comparison.ComparisonOperator.{ComparisonOperator}
 
 -- one filter of a chain, as it is registered, with its arguments
 pub record FilterCall : Type 0 where
