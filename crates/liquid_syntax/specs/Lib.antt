@@ -1,9 +1,9 @@
 pub mod Building
-pub mod ChainView
-pub mod Controls
 pub mod Bytes
+pub mod ChainLaw
 pub mod ChainView
 pub mod ConditionView
+pub mod Controls
 pub mod Entries
 pub mod Evaluation
 pub mod Flats
@@ -11,6 +11,8 @@ pub mod Forest
 pub mod Groups
 pub mod ItemReading
 pub mod Items
+pub mod Judges
+pub mod Judging
 pub mod Laid
 pub mod Languages
 pub mod Names

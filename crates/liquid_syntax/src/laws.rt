@@ -1,8 +1,14 @@
 //! Laws of the definitions that contracts speak of.
+ghost use Rattle.liquid_syntax.specs.ChainLaw.{ReadsChains};
 ghost use Rattle.liquid_syntax.specs.NestingLaw.{ReadsTheGrammar, AtMostOneTree};
 
 /// Reading with a stack of open blocks gives a list of pieces the tree of the written grammar, and there is at most one.
 pub fn nesting_laws()
     ensures reads { ReadsTheGrammar }
     ensures unique { AtMostOneTree }
+{}
+
+/// A chain of filters is read exactly where the written grammar says that the items are it.
+pub fn chain_law()
+    ensures { ReadsChains }
 {}
