@@ -9,9 +9,12 @@ mod expression;
 mod filter;
 mod find;
 mod interrupt;
+pub mod laws;
 mod object;
 mod order;
 mod state;
+#[cfg(test)]
+mod tests;
 mod text;
 mod value;
 mod whole;

@@ -1,8 +1,20 @@
 //! Runs of templates.
 #![tactic(auto)]
 
+mod counted;
+mod engine;
 mod laws;
+mod output;
+mod push_value;
+mod render;
+mod runtime;
+#[cfg(test)]
+mod tests;
 mod worked;
+mod write_all;
 
+pub use counted::{Counted, CountedWrite};
 pub use laws::{isolation_laws, run_laws};
+pub use render::Renderable;
+pub use runtime::{Runtime, RuntimeBuilder};
 pub use worked::{worked_names, worked_runs};

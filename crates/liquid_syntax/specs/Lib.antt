@@ -1,7 +1,11 @@
 pub mod Building
 pub mod Bytes
 pub mod ChainLaw
+pub mod Called
+pub mod ChainReading
+pub mod Calls
 pub mod ChainView
+pub mod Chains
 pub mod ConditionView
 pub mod Controls
 pub mod Entries
@@ -27,6 +31,8 @@ pub mod Readers
 pub mod Round
 pub mod SourceReading
 pub mod Templates
+pub mod TokenReading
+pub mod Tokens
 pub mod Tree
 pub mod ValueReading
 pub mod Values
