@@ -10,10 +10,10 @@ pub mod Kept
 pub mod Law
 pub mod Maps
 pub mod Nodes
-pub mod RunKinds
 pub mod Pieces
 pub mod Renderings
 pub mod Rules
+pub mod RunKinds
 pub mod Runs
 pub mod Sinks
 pub mod Stays

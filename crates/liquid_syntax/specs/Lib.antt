@@ -2,8 +2,8 @@ pub mod Building
 pub mod Bytes
 pub mod ChainLaw
 pub mod Called
-pub mod ChainReading
 pub mod Calls
+pub mod ChainReading
 pub mod ChainView
 pub mod Chains
 pub mod ConditionView
@@ -28,6 +28,7 @@ pub mod Openers
 pub mod PieceView
 pub mod Pieces
 pub mod Readers
+pub mod ReadingLaws
 pub mod Round
 pub mod SourceReading
 pub mod Templates
