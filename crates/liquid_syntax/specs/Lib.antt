@@ -1,10 +1,13 @@
+pub mod Building
 pub mod Bytes
+pub mod ChainLaw
 pub mod Called
 pub mod Calls
 pub mod ChainReading
 pub mod ChainView
 pub mod Chains
 pub mod ConditionView
+pub mod Controls
 pub mod Entries
 pub mod Evaluation
 pub mod Flats
@@ -12,6 +15,8 @@ pub mod Forest
 pub mod Groups
 pub mod ItemReading
 pub mod Items
+pub mod Judges
+pub mod Judging
 pub mod Laid
 pub mod Languages
 pub mod Names

@@ -2,6 +2,7 @@
 #![tactic(auto)]
 
 mod block;
+mod build;
 mod chain;
 mod chain_items;
 mod comparison;
@@ -10,6 +11,7 @@ mod cut;
 mod fault;
 mod filter_call;
 mod item;
+mod judge;
 mod language;
 mod laws;
 mod mark;
@@ -32,7 +34,7 @@ pub use fault::{Fault, FaultKind, ParseError};
 pub use filter_call::{FilterCall, apply_filters};
 pub use item::{Delimiter, Item};
 pub use language::{BlockKind, Language, Registry, TagKind};
-pub use laws::{item_laws, nesting_laws, source_laws, value_laws, verbatim_laws};
+pub use laws::{chain_law, item_laws, nesting_laws, source_laws, value_laws, verbatim_laws};
 pub use mark::Mark;
 pub use node::Node;
 pub use partials::Partials;
