@@ -5,9 +5,9 @@ pub mod Computed
 pub mod Further
 pub mod Going
 pub mod Interrupts
+pub mod Items
 pub mod Joined
 pub mod Kept
-pub mod Items
 pub mod Law
 pub mod Maps
 pub mod Nodes

@@ -14,10 +14,10 @@ pub mod Rendered
 pub mod Runs
 pub mod RuntimeView
 pub mod Sinks
+pub mod Standard
 pub mod Within
 pub mod Worked
 pub mod WorkedLoops
 pub mod WorkedNames
 pub mod WorkedPartials
 pub mod WorkedStores
-pub mod Standard

@@ -1,8 +1,8 @@
 pub mod Building
 pub mod Bytes
-pub mod ChainLaw
 pub mod Called
 pub mod Calls
+pub mod ChainLaw
 pub mod ChainReading
 pub mod ChainView
 pub mod Chains
