@@ -1,15 +1,14 @@
 //! Chains, read from the items of a piece.
-ghost use Rattle.std.specs.Prelude.{◌≡◌, ◌≤◌, List, Some, length, map};
+ghost use Rattle.std.specs.Prelude.{◌≡◌, ◌≤◌, length, map};
 ghost use Rattle.liquid_core.specs.ExpressionView.{expression_view};
 ghost use Rattle.liquid_core.specs.Maps.{listed};
 ghost use Rattle.liquid_syntax.specs.Called.{Calls};
 ghost use Rattle.liquid_syntax.specs.ChainReading.{accepted_call, filters_of, chain_of};
-ghost use Rattle.liquid_syntax.specs.Chains.{Filters, IsChain};
+ghost use Rattle.liquid_syntax.specs.Chains.{Filters};
 ghost use Rattle.liquid_syntax.specs.ChainView.{chain_view, chain_filter_view};
 ghost use Rattle.liquid_syntax.specs.Languages.{kinds_of};
 ghost use Rattle.liquid_syntax.specs.Readers.{Parses, IsFault};
-ghost use Rattle.liquid_syntax.specs.Tokens.{Token, tokens_view};
-ghost use Rattle.liquid_syntax.specs.Tree.{Chain};
+ghost use Rattle.liquid_syntax.specs.Tokens.{tokens_view};
 
 use crate::chain::{ChainFilter, FilterChain};
 use crate::fault::{Fault, FaultKind, ParseError};
@@ -119,9 +118,3 @@ pub fn expected(at: &str, wanted: &'static str) -> ParseError
 {
     ParseError::Fault(Fault::new(FaultKind::Expected, at, wanted))
 }
-
-/// A chain is read from the tokens just where the grammar of chains has one, and it is that one.
-pub fn chain_laws()
-    ensures takes { (known : Filters) (chain : Chain) (ts : List Token) → chain_of known ts ≡ Some chain → IsChain known chain ts }
-    ensures again { (known : Filters) (chain : Chain) (ts : List Token) → IsChain known chain ts → chain_of known ts ≡ Some chain }
-{}

@@ -27,7 +27,6 @@ mod value;
 
 pub use block::{Block, Place};
 pub use chain::{ChainFilter, FilterChain};
-pub use chain_items::{chain_laws, expected, read_chain};
 pub use comparison::ComparisonOperator;
 pub use condition::{Atom, Condition};
 pub use fault::{Fault, FaultKind, ParseError};
@@ -41,4 +40,3 @@ pub use partials::Partials;
 pub use piece::{Body, Markup, Piece, bare_name, read_body, read_markup};
 pub use symbol::Symbol;
 pub use template::Template;
-pub use tokens::{is_over, next_value, next_word, skip};
