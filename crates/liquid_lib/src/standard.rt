@@ -1,12 +1,11 @@
 //! The language of the standard library.
-ghost use Rattle.std.specs.Prelude.{◌≡◌, [], codes};
+ghost use Rattle.std.specs.Prelude.{◌≡◌, IfOk, IfErr};
 ghost use Rattle.liquid_core.specs.Answer.{Gives};
-ghost use Rattle.liquid_core.specs.Maps.{listed, empty, insert};
-ghost use Rattle.liquid_lib.specs.Standard.{with_filters};
+ghost use Rattle.liquid_core.specs.Maps.{listed};
+ghost use Rattle.liquid_lib.specs.Standard.{IsStandard, with_filters};
 ghost use Rattle.liquid_syntax.specs.Languages.{kinds_of};
-ghost use Rattle.liquid_syntax.specs.declared.language.TagKind.TheVariants.{Assign};
 
-use liquid_core::Result;
+use liquid_core::{ErrorKind, Result};
 use liquid_filters::FilterKind;
 use liquid_list_filters::stdlib::{First, Join, Last};
 use liquid_syntax::{Language, Registry, TagKind};
@@ -24,9 +23,8 @@ pub const STANDARD_FILTERS: [FilterKind; 3] = [
 /// The language of the standard library, as far as its tags, blocks and filters exist: each under the name that Liquid
 /// gives it. `Memory` where a growth was refused.
 pub fn language(alloc: Global) -> Result<Language>
-    ensures tags { Gives (λ l. listed (kinds_of l.tags)) result (insert (listed []) (codes "assign") Assign) }
-    ensures blocks { Gives (λ l. kinds_of l.blocks) result [] }
-    ensures filters { Gives (λ l. listed (kinds_of l.filters)) result (with_filters (listed []) STANDARD_FILTERS) }
+    ensures standard { IfOk result IsStandard }
+    ensures memory { IfErr result (λ e. e.kind ≡ ErrorKind.Memory) }
 {
     let mut language = Language::new(alloc);
     let assign = AssignTag::new();
