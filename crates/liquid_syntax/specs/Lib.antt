@@ -1,8 +1,8 @@
 pub mod Building
 pub mod Bytes
-pub mod ChainLaw
 pub mod Called
 pub mod Calls
+pub mod ChainLaw
 pub mod ChainReading
 pub mod ChainView
 pub mod Chains
@@ -25,6 +25,7 @@ pub mod Nesting
 pub mod NestingLaw
 pub mod OpenBlocks
 pub mod Openers
+pub mod Parsing
 pub mod PieceView
 pub mod Pieces
 pub mod Readers
