@@ -5,6 +5,7 @@ pub mod Computed
 pub mod Further
 pub mod Going
 pub mod Interrupts
+pub mod Items
 pub mod Joined
 pub mod Kept
 pub mod Law

@@ -17,7 +17,7 @@ use liquid_syntax::{FilterChain, Node, Partials};
 use std::alloc::Global;
 
 /// Writes a text.
-fn run_text<W: CountedWrite>(
+pub(crate) fn run_text<W: CountedWrite>(
     alloc: Global,
     partials: &Partials,
     depth: u32,
@@ -33,7 +33,7 @@ fn run_text<W: CountedWrite>(
 }
 
 /// Writes the text of a chain's value.
-fn run_output<W: CountedWrite>(
+pub(crate) fn run_output<W: CountedWrite>(
     alloc: Global,
     partials: &Partials,
     depth: u32,
@@ -50,7 +50,7 @@ fn run_output<W: CountedWrite>(
 }
 
 /// Sets an assigned variable to a chain's value.
-fn run_assign<W: CountedWrite>(
+pub(crate) fn run_assign<W: CountedWrite>(
     alloc: Global,
     partials: &Partials,
     depth: u32,
@@ -78,7 +78,7 @@ fn next_after(nodes: &[Node], at: usize, to: usize) -> usize
 }
 
 /// Runs the nodes of a range in order, up to the first fault or interrupt. The first node runs whatever the interrupt was.
-pub fn run_range<W: CountedWrite>(
+pub(crate) fn run_range<W: CountedWrite>(
     alloc: Global,
     partials: &Partials,
     depth: u32,

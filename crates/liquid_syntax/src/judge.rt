@@ -13,7 +13,7 @@ use crate::item::Item;
 use crate::language::{Language, TagKind};
 use crate::node::Node;
 use crate::piece::Piece;
-use crate::read_chain::{expected, read_chain};
+use crate::chain_items::{expected, read_chain};
 use crate::symbol::Symbol;
 use crate::tokens::{next_word, skip};
 use std::alloc::Global;
