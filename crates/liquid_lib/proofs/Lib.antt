@@ -1,4 +1,5 @@
 pub mod Apart
+pub mod Cells
 pub mod Changes
 pub mod Computed
 pub mod Further
