@@ -39,9 +39,18 @@ impl ComparisonOperator {
             ComparisonOperator::Equals => Ok(*left == *right),
             ComparisonOperator::NotEquals => Ok(*left != *right),
             ComparisonOperator::LessThan => Ok(matches!(left.compare(right), Some(Ordering::Less))),
-            ComparisonOperator::GreaterThan => Ok(matches!(left.compare(right), Some(Ordering::Greater))),
-            ComparisonOperator::LessThanEquals => Ok(matches!(left.compare(right), Some(Ordering::Less | Ordering::Equal))),
-            ComparisonOperator::GreaterThanEquals => Ok(matches!(left.compare(right), Some(Ordering::Greater | Ordering::Equal))),
+            ComparisonOperator::GreaterThan => Ok(matches!(
+                left.compare(right),
+                Some(Ordering::Greater)
+            )),
+            ComparisonOperator::LessThanEquals => Ok(matches!(
+                left.compare(right),
+                Some(Ordering::Less | Ordering::Equal)
+            )),
+            ComparisonOperator::GreaterThanEquals => Ok(matches!(
+                left.compare(right),
+                Some(Ordering::Greater | Ordering::Equal)
+            )),
             ComparisonOperator::Contains => contains(alloc, left, right),
         }
     }
@@ -61,7 +70,11 @@ fn contains(alloc: Global, left: &Value, right: &Value) -> Result<bool>
         Value::Array(items) => Ok(items.contains(right)),
         Value::Object(pairs) => Ok(has_key(alloc, pairs, right)?),
         Value::Text(text) => Ok(has_text(alloc, text.as_str(), right)?),
-        Value::Bool(_) | Value::Integer(_) => Ok(has_text(alloc, left.text(alloc)?.as_str(), right)?),
+        Value::Bool(_) | Value::Integer(_) => Ok(has_text(
+            alloc,
+            left.text(alloc)?.as_str(),
+            right,
+        )?),
     }
 }
 
