@@ -16,6 +16,8 @@ mod node;
 mod number;
 mod partials;
 mod piece;
+#[cfg(test)]
+mod piece_tests;
 mod read_chain;
 mod scan;
 mod symbol;
