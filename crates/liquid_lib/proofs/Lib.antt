@@ -1,5 +1,6 @@
 pub mod Added
 pub mod Apart
+pub mod Cells
 pub mod Changes
 pub mod Computed
 pub mod Further

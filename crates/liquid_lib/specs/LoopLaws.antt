@@ -1,7 +1,8 @@
 -- Laws of a loop's items.
-use Rattle.std.specs.Prelude.{◌≡◌, ℕ, ◌+◌, ◌<◌, ℤ, pos, ◌+ℤ◌, ◌≤ℤ◌, ◌<ℤ◌, true, false, List, [], length, reverse, get_or, slice_get, Option, Some}
+use Rattle.std.specs.Prelude.{◌≡◌, ℕ, ◌+◌, ◌%◌, ◌==◌, ◌<◌, ℤ, pos, ◌+ℤ◌, ◌≤ℤ◌, ◌<ℤ◌, true, false, List, [], length, reverse, get_or, slice_get, Option, Some}
 use Rattle.liquid_core.specs.Data.{Datum, nil, number}
 use Rattle.liquid_syntax.specs.Evaluation.{count_to, numbers_from, skipped, wanted, window_items}
+use Rattle.liquid_lib.specs.Loops.{is_last_column}
 
 -- o of the items are left out and m are asked for: item k of the m is source item o + k, or nil where there is none; `reversed` turns these m round
 pub record WindowOf (ds : List Datum) (limit offset : Option ℤ) (o m : ℕ) : Type 0 where
@@ -21,3 +22,12 @@ pub record NumbersBetween (a b : ℤ) (ds : List Datum) : Type 0 where
 
 abbrev pub RangeLaw : Type 0
 RangeLaw = (a b : ℤ) → NumbersBetween a b (numbers_from a (count_to a b))
+
+-- the rows of a `tablerow` of m items: the first cell begins a row, a row ends just where the next cell begins one, and the last cell ends its row
+pub record RowsFit (m columns : ℕ) : Type 0 where
+  pub first : 0 % columns ≡ 0
+  pub next : (k : ℕ) → k + 1 < m → is_last_column k m columns ≡ ((k + 1) % columns == 0)
+  pub last : (k : ℕ) → k + 1 ≡ m → is_last_column k m columns ≡ true
+
+abbrev pub RowLaw : Type 0
+RowLaw = (m columns : ℕ) → 0 < columns → RowsFit m columns

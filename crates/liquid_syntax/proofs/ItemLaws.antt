@@ -4,7 +4,7 @@ use Rattle.std.specs.Option.{option_and_then, option_map, option_or}
 use Rattle.liquid_core.specs.Expression.{Expression}
 use Rattle.liquid_syntax.specs.Words.{Blank}
 use Rattle.liquid_syntax.specs.Values.{IsValue}
-use Rattle.liquid_syntax.specs.ValueReading.{past_white, past_byte, value_at}
+use Rattle.liquid_syntax.specs.ValueReading.{past_white, past_byte, value_at, word_at, literal_at, quoted_at, number_at}
 use Rattle.liquid_syntax.specs.Items.{Item, value, range, symbol, spelling_of, IsSymbol, IsRange, is_range, mark, dash, IsItem, is_symbol, is_interval, is_value, IsCloser, NoCloser, AreItems, closed, item}
 use Rattle.liquid_syntax.specs.ItemReading.{two_at, closer_by, closer_at, two_bytes, one_byte, long_symbol_at, short_symbol_at, symbol_at, range_at, before, range_or_value, item_by, item_at, ReadItems, items_by, items_at}
 use Rattle.liquid_syntax.specs.declared.symbol.Symbol.{Symbol}
@@ -242,6 +242,12 @@ item_takes bs x h = item_takes_by bs (symbol_at bs) x refl h
 parenthesis_no_symbol : (inside : List ℕ) → symbol_at (40 ∷ inside) ≡ None
 unfolding long_symbol_at short_symbol_at
 parenthesis_no_symbol inside = refl
+
+-- at the end no item stands
+pub nothing_read : (bs : List ℕ) → length bs ≡ 0 → item_at bs ≡ None
+unfolding item_at long_symbol_at short_symbol_at value_at word_at literal_at quoted_at number_at
+nothing_read [] e = refl
+nothing_read (b ∷ bs) e = absurd (omega (arith, e))
 
 pub item_again : {i : Item} {bs rest : List ℕ} → IsItem i bs rest → item_at bs ≡ Some (i, rest)
 unfolding item_at

@@ -151,6 +151,7 @@ module _ (l : Filters) where
 
   mutual
     unfolding filters_of Called More Arguments
+
     filters_takes : (is : List Token) (fs : List FilterCall) → filters_of l is ≡ Some fs → AreFilters l fs is
     filters_takes [] fs h = subst (λ fs. AreFilters l fs []) (from_some h) none
     filters_takes (i ∷ is) fs h = filters_by i is fs (is_symbol Bar i) refl h (call_takes is)

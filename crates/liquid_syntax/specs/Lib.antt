@@ -25,6 +25,7 @@ pub mod Nesting
 pub mod NestingLaw
 pub mod OpenBlocks
 pub mod Openers
+pub mod Parsing
 pub mod PieceView
 pub mod Pieces
 pub mod Readers

@@ -100,6 +100,14 @@ pub fn closer(text: &str, kind: Delimiter) -> Option<(bool, &str)>
     }
 }
 
+/// The fault of a source that ends where an item or the closer is wanted.
+fn unclosed(kind: Delimiter) -> Fault {
+    match kind {
+        Delimiter::Output => Fault::new(FaultKind::Unclosed, "", "an item or `}}`"),
+        Delimiter::Tag => Fault::new(FaultKind::Unclosed, "", "an item or `%}`"),
+    }
+}
+
 /// The items up to the first closer that stands in an item's place, whether it has a dash, and what follows it.
 pub fn read_items<'s>(
     alloc: Global,
@@ -114,6 +122,9 @@ pub fn read_items<'s>(
         let from = past_white(rest);
         if let Some((dash, after)) = closer(from, kind) {
             return Ok((items, dash, after));
+        }
+        if from.is_empty() {
+            return Err(ParseError::Fault(unclosed(kind)));
         }
         let (item, after) = read_item(alloc, from)?;
         items.push_back(item)?;

@@ -21,7 +21,13 @@ use std::collections::VecDeque;
 
 /// The label of a piece that stands at a place. `at` is the source from the piece on.
 #[tactic(auto, using(crate::proofs::Seen::seen_tokens))]
-pub fn judge(alloc: Global, language: &Language, place: Place, piece: Piece<'_>, at: &str) -> Result<Label, ParseError>
+pub fn judge(
+    alloc: Global,
+    language: &Language,
+    place: Place,
+    piece: Piece<'_>,
+    at: &str,
+) -> Result<Label, ParseError>
     ensures { Judges (reads language.now place (piece_view piece.entry)) result }
 {
     match piece {
@@ -37,7 +43,14 @@ pub fn judge(alloc: Global, language: &Language, place: Place, piece: Piece<'_>,
     }
 }
 
-fn read_tag(alloc: Global, language: &Language, place: Place, name: &str, items: VecDeque<Item<'_>>, at: &str) -> Result<Label, ParseError>
+fn read_tag(
+    alloc: Global,
+    language: &Language,
+    place: Place,
+    name: &str,
+    items: VecDeque<Item<'_>>,
+    at: &str,
+) -> Result<Label, ParseError>
     ensures { Judges (tag_label language.now place name.now (tokens_view items.entry.items)) result }
 {
     match place {
@@ -75,7 +88,13 @@ fn read_end(items: VecDeque<Item<'_>>, at: &str) -> Result<Label, ParseError>
 }
 
 /// A tag of a registered name.
-fn read_registered(alloc: Global, language: &Language, name: &str, items: VecDeque<Item<'_>>, at: &str) -> Result<Label, ParseError>
+fn read_registered(
+    alloc: Global,
+    language: &Language,
+    name: &str,
+    items: VecDeque<Item<'_>>,
+    at: &str,
+) -> Result<Label, ParseError>
     ensures { Judges (registered language.now name.now (tokens_view items.entry.items)) result }
 {
     match language.tags.get(name) {
@@ -91,7 +110,12 @@ fn unknown_tag(at: &str) -> ParseError
 }
 
 /// `name = chain`
-fn read_assign(alloc: Global, language: &Language, items: VecDeque<Item<'_>>, at: &str) -> Result<Label, ParseError>
+fn read_assign(
+    alloc: Global,
+    language: &Language,
+    items: VecDeque<Item<'_>>,
+    at: &str,
+) -> Result<Label, ParseError>
     ensures { Judges (leaf_or (assign_of language.now (tokens_view items.entry.items))) result }
 {
     let mut items = items;
@@ -101,8 +125,5 @@ fn read_assign(alloc: Global, language: &Language, items: VecDeque<Item<'_>>, at
     if !skip(&mut items, Symbol::Assign) {
         return Err(expected(at, "`=` behind the name"));
     }
-    Ok(Label::Leaf(Node::Assign(
-        name,
-        read_chain(alloc, &language.filters, items, at)?,
-    )))
+    Ok(Label::Leaf(Node::Assign(name, read_chain(alloc, &language.filters, items, at)?)))
 }

@@ -17,8 +17,15 @@ mod laws;
 mod mark;
 mod node;
 mod number;
+mod parser;
 mod partials;
 mod piece;
+<<<<<<< HEAD
+=======
+#[cfg(test)]
+mod piece_tests;
+mod read_chain;
+>>>>>>> lexing
 mod scan;
 mod symbol;
 mod template;
@@ -36,6 +43,7 @@ pub use language::{BlockKind, Language, Registry, TagKind};
 pub use laws::{chain_law, item_laws, nesting_laws, source_laws, value_laws, verbatim_laws};
 pub use mark::Mark;
 pub use node::Node;
+pub use parser::parse;
 pub use partials::Partials;
 pub use piece::{Body, Markup, Piece, bare_name, read_body, read_markup};
 pub use symbol::Symbol;

@@ -1,12 +1,14 @@
 use Rattle.std.proofs.Common.{rules, ◌≡◌, length, ℕ, ◌+◌, ◌-◌, ◌<◌, ◌≤◌, List, [], ◌∷◌, ◌++◌, Some, None, map, sym, ap, ◌∙◌, arith, refl}
 use Rattle.std.proofs.lemmas.Result.{err_from_is_err_and}
+use Rattle.std.proofs.lemmas.Bool.{eqb-true}
 use Rattle.std.proofs.lemmas.List.{map-append}
+use Rattle.liquid_syntax.specs.declared.fault.ParseError.TheVariants as errors
 use Rattle.liquid_syntax.specs.ValueReading.{past_white}
 use Rattle.liquid_syntax.specs.ItemReading.{item_at, items_at, closer_at}
 use Rattle.liquid_syntax.specs.Readers.{Fails}
 use Rattle.liquid_syntax.specs.PieceView.{item_view, items_view}
 use Rattle.liquid_syntax.proofs.ItemTurns.{behind, behind_nothing, one_more, no_more, item_refused}
-use Rattle.liquid_syntax.proofs.ItemLaws.{turn_shorter}
+use Rattle.liquid_syntax.proofs.ItemLaws.{turn_shorter, nothing_read}
 use Rattle.liquid_syntax.proofs.item.read_items.Goals as goal
 
 pub items-init : goal.items-init
@@ -47,3 +49,11 @@ items-preserved c =
           ∙ ap (λ is. behind is (items_at k (n - 1) c.in_ok-item.after.now)) (sym (ap items_view pushed ∙ map-append _ _ _)),
       search rules,
     )
+
+pub returns-then-is_empty : goal.returns-then-is_empty
+returns-then-is_empty c =
+    let l = c.items in
+    let at = sym c.past_white-from.ensures in
+    let over : length c.past_white-from.result.now ≡ 0 = eqb-true _ 0 (sym c.if-is_empty.ensures) in
+    item_refused c.args.kind (errors.Fault c.unclosed.result) l.invariant.0 (items_view l.items.items) l.rest.now _
+    (ap (closer_at c.args.kind) at ∙ sym c.in_default.ensures) (rw at (nothing_read c.past_white-from.result.now over)) l.invariant.2
