@@ -20,12 +20,8 @@ mod number;
 mod parser;
 mod partials;
 mod piece;
-<<<<<<< HEAD
-=======
 #[cfg(test)]
 mod piece_tests;
-mod read_chain;
->>>>>>> lexing
 mod scan;
 mod symbol;
 mod template;
