@@ -6,7 +6,7 @@ use Rattle.liquid_filters.specs.declared.kind.FilterKind.{FilterKind}
 use Rattle.liquid_syntax.specs.Languages.{kinds_of}
 use Rattle.liquid_syntax.specs.declared.language.Language.{Language}
 use Rattle.liquid_syntax.specs.declared.language.TagKind.TheVariants.{Assign}
-use Rattle.liquid_lib.specs.declared.TheConstants.{STANDARD_FILTERS}
+use Rattle.liquid_lib.specs.declared.standard.TheConstants.{STANDARD_FILTERS}
 
 -- each filter at its own name, the later of one name winning
 abbrev pub with_filters : Map FilterKind → List FilterKind → Map FilterKind

@@ -10,7 +10,7 @@ use Rattle.liquid_core.specs.declared.error.ErrorKind.{ErrorKind}
 use Rattle.liquid_filters.specs.Kinds.{kind_answer}
 use Rattle.liquid_syntax.specs.Tree.{Nodes}
 use Rattle.liquid_syntax.specs.Parsing.{IsOnlyTree, HasNoTree, IsOfSource}
-use Rattle.liquid_syntax.specs.Templates.{with_partial}
+use Rattle.liquid_syntax.specs.Entries.{put}
 use Rattle.liquid_syntax.specs.declared.language.Language.{Language}
 use Rattle.liquid_lib.specs.Runs.{Nothing, Outcome}
 use Rattle.liquid_lib.specs.Meaning.{meaning}
@@ -35,7 +35,7 @@ Trees = List (Text × Nodes)
 -- the trees of these partials, put in order among those that are there; the later of one name wins
 abbrev pub ArePartials : Language → Sources → Trees → Trees → Type 0
 ArePartials l [] before all = all ≡ before
-ArePartials l (p ∷ ps) before all = (t : Nodes) × IsOnlyTree l t p.1 × ArePartials l ps (with_partial p.0 t before) all
+ArePartials l (p ∷ ps) before all = (t : Nodes) × IsOnlyTree l t p.1 × ArePartials l ps (put p.0 t before) all
 
 -- the first of these partials that has no tree
 abbrev pub HasBadPartial : Language → Sources → Type 0
