@@ -11,6 +11,7 @@ pub mod Expressions
 pub mod Fallible
 pub mod Find
 pub mod Found
+pub mod Laws
 pub mod Lists
 pub mod Maps
 pub mod Order

@@ -185,7 +185,7 @@ impl Error {
         ensures { Told kind result.kind }
     {
         match message.to_string(alloc) {
-            Ok(text) => Error::with_message(kind, text),
+            Ok(written) => Error::with_message(kind, written),
             Err(refused) => Error::from(refused),
         }
     }

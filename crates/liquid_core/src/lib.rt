@@ -1,4 +1,4 @@
-//! Values of templates.
+//! Values, expressions and the state of templates: what all other layers stand on.
 #![tactic(auto)]
 
 mod compare;
@@ -9,9 +9,12 @@ mod expression;
 mod filter;
 mod find;
 mod interrupt;
+pub mod laws;
 mod object;
 mod order;
 mod state;
+#[cfg(test)]
+mod tests;
 mod text;
 mod value;
 mod whole;

@@ -5,6 +5,7 @@ pub mod Computed
 pub mod Further
 pub mod Going
 pub mod Interrupts
+pub mod Items
 pub mod Joined
 pub mod Kept
 pub mod Law
@@ -13,6 +14,7 @@ pub mod Nodes
 pub mod Pieces
 pub mod Renderings
 pub mod Rules
+pub mod RunKinds
 pub mod Runs
 pub mod Sinks
 pub mod Stays

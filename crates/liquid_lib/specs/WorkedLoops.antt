@@ -1,12 +1,13 @@
 -- Worked runs of chains, conditions and loops.
+use Prim.Native.String.{String}
 use Rattle.std.specs.Prelude.{◌≡◌, pos, negsuc, true, false, cond, List, [], ◌∷◌, Some, None, Ok, codes}
 use Rattle.liquid_core.specs.Data.{Datum, nil, truth, number, object, pair, no_pairs, array, item, no_items, is_default_datum}
 use Rattle.liquid_core.specs.declared.error.ErrorKind.TheVariants.{UnknownVariable, UnexpectedValue, ZeroColumns}
 use Rattle.liquid_core.specs.declared.interrupt.Interrupt.TheVariants.{Break}
 use Rattle.liquid_core.specs.Expression.{literal, variable, no_steps, step}
 use Rattle.liquid_filters.specs.declared.kind.FilterKind.{FilterKind}
-use Rattle.liquid_syntax.specs.declared.comparison.ComparisonOperator.TheVariants.{Equals}
-use Rattle.liquid_syntax.specs.Tree.{bare, compared, each_of, Window, plain, output, assign, break_loop, continue_loop, if_true, unless, case_of, for_each, tablerow, no_whens, when, no_nodes}
+use Rattle.liquid_syntax.specs.declared.comparison.ComparisonOperator.TheVariants.{Equals, LessThan, LessThanEquals, Contains}
+use Rattle.liquid_syntax.specs.Tree.{Node, bare, compared, each_of, Window, plain, output, assign, break_loop, continue_loop, if_true, unless, case_of, for_each, tablerow, no_whens, when, no_nodes, counted}
 use Rattle.liquid_syntax.specs.Evaluation.{FilterAnswers}
 use Rattle.liquid_lib.specs.Effects.{interrupted_by}
 use Rattle.liquid_lib.specs.Runs.{Nothing, Outcome}
@@ -30,6 +31,11 @@ two_names z = ran [] 32 (with_data ((codes "a", number (pos 1)) ∷ (codes "b", 
 abbrev pub in_window : Window → Outcome Nothing
 in_window window = page (for_each (codes "i") (from_to 1 3) window (tree (plain (codes "[") ∷ show (name "i") ∷ plain (codes "]") ∷ [])) (tree (plain (codes "e") ∷ [])) ∷ [])
 
+-- {{ s.t }} and a space, for each t
+abbrev pub show_all : String → List String → List Node
+show_all s [] = []
+show_all s (t ∷ ts) = show (property s t) ∷ plain (codes " ") ∷ show_all s ts
+
 pub record WorkedLoops : Type 0 where
   -- {{ nope | default: 'd' }}{{ nope }}
   pub missing_entry : (default : FilterKind) →
@@ -40,6 +46,15 @@ pub record WorkedLoops : Type 0 where
   pub left_decides : Writes (page (if_true ((bare (literal (truth true)) ∷ []) ∷ (compared (name "nope") Equals (integer 1) ∷ bare (literal (truth false)) ∷ []) ∷ []) (tree (plain (codes "y") ∷ [])) no_nodes ∷ [])) "y"
   -- {% unless x %}a{% else %}b{% endunless %}
   pub missing_is_false : Writes (page (unless ((bare (name "x") ∷ []) ∷ []) (tree (plain (codes "a") ∷ [])) (tree (plain (codes "b") ∷ [])) ∷ [])) "a"
+  -- {% if 1 < 'a' %}y{% elsif nil <= nil %}z{% else %}n{% endif %}
+  pub unlike_have_no_order : Writes (page (if_true ((compared (integer 1) LessThan (quoted "a") ∷ []) ∷ []) (tree (plain (codes "y") ∷ []))
+      (tree (if_true ((compared (literal nil) LessThanEquals (literal nil) ∷ []) ∷ []) (tree (plain (codes "z") ∷ [])) (tree (plain (codes "n") ∷ [])) ∷ [])) ∷ [])) "n"
+  -- {% if m contains 'k' and 123 contains 2 %}y{% endif %} where m is {"k": null}
+  pub of_a_map_and_a_text : Writes (ran [] 32 (with_data ((codes "m", object (pair (codes "k") nil no_pairs)) ∷ []))
+      (if_true ((compared (name "m") Contains (quoted "k") ∷ compared (integer 123) Contains (integer 2) ∷ []) ∷ []) (tree (plain (codes "y") ∷ [])) no_nodes ∷ [])) "y"
+  -- {% if nil contains 'a' %}y{% endif %} and {% if a == nil %}y{% endif %}
+  pub nil_contains : WritesThen (page (if_compared (literal nil) Contains (quoted "a") (plain (codes "y") ∷ []) ∷ [])) "" UnexpectedValue
+  pub missing_side : WritesThen (page (if_compared (name "a") Equals (literal nil) (plain (codes "y") ∷ []) ∷ [])) "" UnknownVariable
   -- {% case x %}{% when 1, 2 or 3 %}low{% else %}high{% endcase %} where x is 3
   pub case_by_equality : Writes (ran [] 32 (with_data ((codes "x", number (pos 3)) ∷ []))
       (case_of (name "x") (when (integer 1 ∷ integer 2 ∷ integer 3 ∷ []) (tree (plain (codes "low") ∷ [])) no_whens) (tree (plain (codes "high") ∷ [])) ∷ [])) "low"
@@ -58,9 +73,18 @@ pub record WorkedLoops : Type 0 where
   -- {% for i in 'a' %}{% endfor %} and {% for i in nope %}{% endfor %}
   pub no_list : WritesThen (page (for_in "i" (each_of (quoted "a")) [] ∷ [])) "" UnexpectedValue
   pub no_value : WritesThen (page (for_in "i" (each_of (name "nope")) [] ∷ [])) "" UnknownVariable
+  -- {% for i in ('x'..nope) %}{% endfor %}, {% for i in 'a' limit:nope %}{% endfor %} and {% for i in (1..2) limit:'a' %}{% endfor %}
+  pub ends_in_turn : WritesThen (page (for_in "i" (counted (quoted "x") (name "nope")) [] ∷ [])) "" UnexpectedValue
+  pub source_first : WritesThen (page (for_each (codes "i") (each_of (quoted "a")) (record { limit = Some (name "nope"); offset = None; reversed = false }) no_nodes no_nodes ∷ [])) "" UnexpectedValue
+  pub no_whole_number : WritesThen (page (for_each (codes "i") (from_to 1 2) (record { limit = Some (quoted "a"); offset = None; reversed = false }) no_nodes no_nodes ∷ [])) "" UnexpectedValue
   -- {% for i in (1..2) %}{% for j in (1..2) %}{{ forloop.parentloop.index }}{{ forloop.index }},{% endfor %}{% endfor %}
   pub parent : Writes (page (for_in "i" (from_to 1 2) (for_in "j" (from_to 1 2)
       (show (variable (codes "forloop") (step (quoted "parentloop") (step (quoted "index") no_steps))) ∷ show (property "forloop" "index") ∷ plain (codes ",") ∷ []) ∷ []) ∷ [])) "11,12,21,22,"
+  -- each property of `forloop`, and each that `tablerow` has besides
+  pub properties_of_forloop : Writes (page (for_in "i" (from_to 1 2) (show_all "forloop" ("length" ∷ "index0" ∷ "index" ∷ "rindex0" ∷ "rindex" ∷ "first" ∷ "last" ∷ [])) ∷ [])) "2 0 1 1 2 true false 2 1 2 0 1 false true "
+  pub properties_of_tablerow : Writes (page (tablerow (codes "i") (from_to 1 3) all_items (Some (integer 2))
+      (tree (show_all "tablerow" ("length" ∷ "index0" ∷ "index" ∷ "rindex0" ∷ "rindex" ∷ "first" ∷ "last" ∷ "col0" ∷ "col" ∷ "col_first" ∷ "col_last" ∷ []))) ∷ []))
+      "<tr class=\"row1\"><td class=\"col1\">3 0 1 2 3 true false 0 1 true false </td><td class=\"col2\">3 1 2 1 2 false false 1 2 false true </td></tr><tr class=\"row2\"><td class=\"col1\">3 2 3 0 1 false true 0 1 true true </td></tr>"
   -- {% for i in (1..2) %}{% for forloop in (8..8) %}{{ forloop }}{% endfor %}{{ forloop.rindex }}{% endfor %}
   pub variable_over_forloop : Writes (page (for_in "i" (from_to 1 2) (for_in "forloop" (from_to 8 8) (show (name "forloop") ∷ []) ∷ show (property "forloop" "rindex") ∷ []) ∷ [])) "8281"
   -- {% for i in (1..2) %}{% continue %}x{% endfor %}y

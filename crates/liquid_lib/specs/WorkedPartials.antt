@@ -4,7 +4,7 @@ use Rattle.std.specs.Prelude.{◌≡◌, pos, List, [], ◌∷◌, Some, None, c
 use Rattle.liquid_core.specs.Data.{number, array, no_items}
 use Rattle.liquid_core.specs.declared.error.ErrorKind.TheVariants.{UnknownVariable, UnknownPartial, PartialName, TooDeep}
 use Rattle.liquid_syntax.specs.declared.comparison.ComparisonOperator.TheVariants.{Equals}
-use Rattle.liquid_syntax.specs.Tree.{Node, plain, assign, increment, break_loop, include, jekyll_include, render}
+use Rattle.liquid_syntax.specs.Tree.{Node, plain, assign, increment, break_loop, include, jekyll_include, render, continue_loop}
 use Rattle.liquid_lib.specs.Worked.{name, property, quoted, integer, alone, show, tree, if_compared, from_to, with_data, ran, page, page_with, Writes, WritesThen, counter_after}
 
 -- {% render 's' %} and {% include 's' %}
@@ -50,9 +50,10 @@ pub record WorkedPartials : Type 0 where
   pub no_data_in_render : WritesThen (ran ((codes "v", tree (show (name "v") ∷ [])) ∷ []) 32 (with_data ((codes "v", number (pos 1)) ∷ [])) (rendered "v" ∷ [])) "" UnknownVariable
   -- {% include 's' %} where s is s{% include 's' %}, at depth 3
   pub depth : WritesThen (ran ((codes "s", tree (plain (codes "s") ∷ included "s" ∷ [])) ∷ []) 3 (with_data []) (included "s" ∷ [])) "sss" TooDeep
-  -- at depth 0: {% render 'p' %} and {% render 'none' %}
+  -- at depth 0: {% render 'p' %}, {% render 'none' %} and {% include 'none' %}
   pub no_depth : WritesThen (ran ((codes "p", tree []) ∷ []) 0 (with_data []) (rendered "p" ∷ [])) "" TooDeep
   pub looked_up_first : WritesThen (ran ((codes "p", tree []) ∷ []) 0 (with_data []) (rendered "none" ∷ [])) "" UnknownPartial
+  pub included_first : WritesThen (ran ((codes "p", tree []) ∷ []) 0 (with_data []) (included "none" ∷ [])) "" UnknownPartial
   -- {% render 'p' %} and {% include 'p' %} where p.liquid is hi
   pub render_tries_liquid : Writes (page_with "p.liquid" (plain (codes "hi") ∷ []) (rendered "p" ∷ [])) "hi"
   pub include_does_not : WritesThen (page_with "p.liquid" (plain (codes "hi") ∷ []) (included "p" ∷ [])) "" UnknownPartial
@@ -63,6 +64,13 @@ pub record WorkedPartials : Type 0 where
   pub break_ends_the_items : Writes (page_with "r" breaks_at_two (render (quoted "r") (Some (from_to 1 3, codes "v")) [] ∷ plain (codes "|") ∷ [])) "1false,2false|"
   -- {% render 'w' for (1..2) as v, v: 9 %}, where `parentloop` is nil
   pub item_over_pairs : Writes (page_with "w" shows_parent (render (quoted "w") (Some (from_to 1 2, codes "v")) ((codes "v", integer 9) ∷ []) ∷ [])) "12"
+  -- {% render 'f' for (1..1) as v, forloop: 9 %} where f is {{ forloop.index }}, and {% render 'g' for (7..7) as forloop %} where g is {{ forloop }}
+  pub forloop_over_pairs : Writes (page_with "f" (show (property "forloop" "index") ∷ []) (render (quoted "f") (Some (from_to 1 1, codes "v")) ((codes "forloop", integer 9) ∷ []) ∷ [])) "1"
+  pub item_over_forloop : Writes (page_with "g" (show (name "forloop") ∷ []) (render (quoted "g") (Some (from_to 7 7, codes "forloop")) [] ∷ [])) "7"
+  -- {% render 'c' for (1..2) as v %} where c is {{ v }}{% continue %}x
+  pub continue_goes_on : Writes (page_with "c" (show (name "v") ∷ continue_loop ∷ plain (codes "x") ∷ []) (render (quoted "c") (Some (from_to 1 2, codes "v")) [] ∷ [])) "12"
+  -- {% include 'v' v: 1, w: v %}
+  pub pairs_see_the_caller : WritesThen (page_with "v" (show (name "v") ∷ []) (include (quoted "v") ((codes "v", integer 1) ∷ (codes "w", name "v") ∷ []) ∷ [])) "" UnknownVariable
   -- {% render 'v' with 5 as v, v: 6 %}
   pub later_pair_wins : Writes (page_with "v" (show (name "v") ∷ []) (render (quoted "v") None ((codes "v", integer 5) ∷ (codes "v", integer 6) ∷ []) ∷ [])) "6"
   -- {% render 'b' %}z and {% include 'b' %}z

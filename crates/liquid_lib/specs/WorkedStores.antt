@@ -92,3 +92,11 @@ pub record WorkedStores : Type 0 where
   pub nested_changes :
       let o = page (for_in "i" (from_to 1 2) (ifchanged (tree (plain (codes "a") ∷ ifchanged (tree (plain (codes "b") ∷ [])) ∷ [])) ∷ []) ∷ []) in
       Writes o "abab" × (o.environment.registers.changed ≡ Some (codes "ab"))
+  -- {% cycle 'c': nope, 1 %}
+  pub stored_before_evaluated :
+      let o = page (cycle_named (quoted "c") (name "nope" ∷ integer 1 ∷ []) ∷ []) in
+      WritesThen o "" UnknownVariable × (group_after o "c" ≡ Some 1)
+  -- {% ifchanged %}a{% endifchanged %}{% ifchanged %}b{{ nope }}{% endifchanged %}
+  pub faulted_change :
+      let o = page (ifchanged (tree (plain (codes "a") ∷ [])) ∷ ifchanged (tree (plain (codes "b") ∷ show (name "nope") ∷ [])) ∷ []) in
+      WritesThen o "a" UnknownVariable × (o.environment.registers.changed ≡ Some (codes "a"))

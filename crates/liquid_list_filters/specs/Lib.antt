@@ -3,6 +3,9 @@ pub mod Ends
 pub mod Joined
 pub mod Keeping
 pub mod Keyed
+pub mod Laws
+pub mod Places
 pub mod Rows
 pub mod Sequences
 pub mod Sorting
+pub mod Sorts

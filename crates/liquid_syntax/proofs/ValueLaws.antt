@@ -166,7 +166,7 @@ no_word s bs rest h =
     let e : is_letter (get_or bs 0 0) ≡ false = ap (λ (l : List ℕ). is_letter (get_or l 0 0)) h.joined ∙ no_letter h.quote h.double_or_single in rw e
 
 -- what begins with no letter is no word; with no quote, no quoted text
-not_true : (b : Bool) → (b ≡ true → ⊥) → b ≡ false
+pub not_true : (b : Bool) → (b ≡ true → ⊥) → b ≡ false
 not_true true h = absurd (h refl)
 not_true false h = refl
 

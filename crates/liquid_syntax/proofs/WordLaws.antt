@@ -48,6 +48,14 @@ module _ (t : ℕ → List ℕ → Bool) where
   run_len_is [] (b ∷ bs) h = rw h
   run_len_is (b ∷ w) rest h = rw h.0 (ap suc (run_len_is w rest h.1))
 
+stops_by : (t : ℕ → List ℕ → Bool) (b : ℕ) (bs : List ℕ) (c : Bool) → t b bs ≡ c → passes t (drop (run_len t bs) bs) ≡ false → passes t (drop (cond c (suc (run_len t bs)) 0) (b ∷ bs)) ≡ false
+stops_by t b bs true e h = h
+stops_by t b bs false e h = e
+
+pub run_stops : (t : ℕ → List ℕ → Bool) (bs : List ℕ) → passes t (drop (run_len t bs) bs) ≡ false
+run_stops t [] = refl
+run_stops t (b ∷ bs) = stops_by t b bs (t b bs) refl (run_stops t bs)
+
 -- ---- words and blanks
 
 pub blank_takes : (bs : List ℕ) → Blank bs (past_white bs)

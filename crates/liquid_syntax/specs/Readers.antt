@@ -35,3 +35,8 @@ kind_of faults.TooNested = kinds.TooNested
 abbrev pub TellsOf : ParseError → ErrorKind → Type 0
 TellsOf errors.Memory told = told ≡ Memory
 TellsOf (errors.Fault f) told = (told ≡ kind_of f.kind) ⊎ (told ≡ Memory)
+
+-- a fault of the source, and no want of memory
+abbrev pub IsFault : ParseError → Type 0
+IsFault errors.Memory = ⊥
+IsFault (errors.Fault f) = Unit {0}

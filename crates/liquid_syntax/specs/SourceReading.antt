@@ -48,7 +48,17 @@ raw_at bs = option_map (λ m. (take (run_len in_raw bs) bs, m.0, m.1)) (mark_at 
 
 -- none of the three marks that count in a comment begins at b, before bs
 unfoldable pub in_comment : ℕ → List ℕ → Bool
-in_comment b bs = not (is_named (codes "comment") (mark_at (b ∷ bs))) && not (is_named (codes "raw") (mark_at (b ∷ bs))) && not (is_named (codes "endcomment") (mark_at (b ∷ bs)))
+in_comment b bs = not (is_named (codes "comment") (mark_at (b ∷ bs))) && (not (is_named (codes "raw") (mark_at (b ∷ bs))) && not (is_named (codes "endcomment") (mark_at (b ∷ bs))))
+
+-- no mark that counts in the body stands at the front
+abbrev pub goes_on : Body → List ℕ → Bool
+goes_on Raw bs = not (is_named (codes "endraw") (mark_at bs))
+goes_on Comment bs = not (is_named (codes "comment") (mark_at bs)) && (not (is_named (codes "raw") (mark_at bs)) && not (is_named (codes "endcomment") (mark_at bs)))
+
+-- the body goes on over b, before bs
+abbrev pub in_body : Body → ℕ → List ℕ → Bool
+in_body Raw b bs = in_raw b bs
+in_body Comment b bs = in_comment b bs
 
 -- in a comment, with a number of open inner ones: whether its last closer has a dash, and what follows it
 abbrev pub Skips : Type 0
@@ -102,10 +112,13 @@ body_at None m bs = Some (m, bs)
 body_at (Some Raw) m bs = option_map (λ r. (record { before = m.before; piece = raw (tag_name m.piece) (stripped m.after r.0 r.1.before); after = r.1.after }, r.2)) (raw_at bs)
 body_at (Some Comment) m bs = option_map (λ r. (record { before = m.before; piece = comment (tag_name m.piece); after = r.0 }, r.1)) (comment_at (length bs) 0 bs)
 
--- only a tag without items has a body
+-- the name of a tag without items: no other piece has a body
+abbrev pub bare_name : Piece → Option (List ℕ)
+bare_name (tag w []) = Some w
+bare_name _ = None
+
 abbrev pub wanted_body : (List ℕ → Option Body) → Piece → Option Body
-wanted_body wants (tag w []) = wants w
-wanted_body wants _ = None
+wanted_body wants p = option_and_then wants (bare_name p)
 
 -- ---- a source, read by a machine that takes one piece after another and changes its state
 

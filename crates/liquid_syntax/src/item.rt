@@ -1,12 +1,10 @@
 //! Items, and what stands between an opener and a closer.
-ghost use Rattle.std.specs.Prelude.{◌≡◌, ◌≤◌, length, List, ℕ, Bool, Some};
+ghost use Rattle.std.specs.Prelude.{◌≡◌, ◌≤◌, length};
 ghost use Rattle.std.specs.Option.{option_map};
-ghost use Rattle.liquid_syntax.specs.Items as items;
-ghost use Rattle.liquid_syntax.specs.Items.{mark, IsItem, AreItems};
+ghost use Rattle.liquid_syntax.specs.Items.{mark};
 ghost use Rattle.liquid_syntax.specs.ItemReading.{range_at, item_at, two_at, closer_at, items_at};
 ghost use Rattle.liquid_syntax.specs.Readers.{Parses};
 ghost use Rattle.liquid_syntax.specs.PieceView.{item_view, items_view};
-ghost use Rattle.liquid_syntax.specs.declared.item.Delimiter as delimiters;
 
 use crate::cut::{before, past_byte, past_white};
 use crate::fault::{Fault, FaultKind, ParseError};
@@ -122,8 +120,3 @@ pub fn read_items<'s>(
         rest = after;
     }
 }
-
-pub fn item_laws()
-    ensures takes { (k : delimiters.Delimiter) (is : List items.Item) (d : Bool) (bs rest : List ℕ) → items_at k (length bs) bs ≡ Some (is, d, rest) → AreItems k is d bs rest }
-    ensures again { (k : delimiters.Delimiter) (is : List items.Item) (d : Bool) (bs rest : List ℕ) → AreItems k is d bs rest → items_at k (length bs) bs ≡ Some (is, d, rest) }
-{}

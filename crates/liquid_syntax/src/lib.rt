@@ -2,13 +2,16 @@
 #![tactic(auto)]
 
 mod block;
+mod build;
 mod chain;
+mod chain_items;
 mod comparison;
 mod condition;
 mod cut;
 mod fault;
 mod filter_call;
 mod item;
+mod judge;
 mod language;
 mod laws;
 mod mark;
@@ -19,6 +22,7 @@ mod piece;
 mod scan;
 mod symbol;
 mod template;
+mod tokens;
 mod value;
 
 pub use block::{Block, Place};
@@ -27,13 +31,12 @@ pub use comparison::ComparisonOperator;
 pub use condition::{Atom, Condition};
 pub use fault::{Fault, FaultKind, ParseError};
 pub use filter_call::{FilterCall, apply_filters};
-pub use item::{Delimiter, Item, item_laws};
+pub use item::{Delimiter, Item};
 pub use language::{BlockKind, Language, Registry, TagKind};
-pub use laws::nesting_laws;
+pub use laws::{chain_law, item_laws, nesting_laws, source_laws, value_laws, verbatim_laws};
 pub use mark::Mark;
 pub use node::Node;
 pub use partials::Partials;
-pub use piece::{Body, Markup, Piece};
+pub use piece::{Body, Markup, Piece, bare_name, read_body, read_markup};
 pub use symbol::Symbol;
 pub use template::Template;
-pub use value::value_laws;

@@ -1,9 +1,8 @@
 //! Values: literals, and variables with their steps.
-ghost use Rattle.std.specs.Prelude.{◌≡◌, length, List, ℕ, Some};
+ghost use Rattle.std.specs.Prelude.{◌≡◌, length};
 ghost use Rattle.liquid_core.specs.View.{view};
-ghost use Rattle.liquid_core.specs.Expression as tree;
 ghost use Rattle.liquid_core.specs.ExpressionView.{expression_view, steps_view};
-ghost use Rattle.liquid_syntax.specs.Values.{word_kind, IsValue};
+ghost use Rattle.liquid_syntax.specs.Values.{word_kind};
 ghost use Rattle.liquid_syntax.specs.ValueReading.{literal_at, named_by, inner_of, value_at, step_at, steps_at};
 ghost use Rattle.liquid_syntax.specs.Readers.{Parses};
 ghost use Rattle.liquid_syntax.specs.PieceView.{word_kind_view, read_view};
@@ -201,8 +200,3 @@ pub fn missing(text: &str, wanted: &'static str) -> Fault {
         Fault::new(FaultKind::BadItem, text, wanted)
     }
 }
-
-pub fn value_laws()
-    ensures takes { (depth : ℕ) (bs rest : List ℕ) (x : tree.Expression) → value_at depth bs ≡ Some (x, rest) → IsValue depth x bs rest }
-    ensures again { (depth : ℕ) (bs rest : List ℕ) (x : tree.Expression) → IsValue depth x bs rest → value_at depth bs ≡ Some (x, rest) }
-{}
