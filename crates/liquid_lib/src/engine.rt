@@ -25,7 +25,9 @@ pub(crate) fn run_text<W: CountedWrite>(
     out: &mut Output<'_, W>,
     state: &mut State,
 ) -> Result<()>
-    ensures performs { Performs result (node_meant (setting_of partials.now) depth (tree.plain text.now)) (place_of W.contents W.failure_count out.old state.old) (place_of W.contents W.failure_count out.new state.new) }
+    ensures performs { Performs result (node_meant (setting_of partials.now) depth (tree.plain text.now))
+        (place_of W.contents W.failure_count out.old state.old)
+        (place_of W.contents W.failure_count out.new state.new) }
     ensures same_writer { out.new.writer.ghost_name ≡ out.old.writer.ghost_name }
     ensures kept { Keeps (node_names (tree.plain text.now)) (setting_of partials.now) state.old state.new }
 {
@@ -41,7 +43,9 @@ pub(crate) fn run_output<W: CountedWrite>(
     out: &mut Output<'_, W>,
     state: &mut State,
 ) -> Result<()>
-    ensures performs { Performs result (node_meant (setting_of partials.now) depth (tree.output (chain_view chain.now))) (place_of W.contents W.failure_count out.old state.old) (place_of W.contents W.failure_count out.new state.new) }
+    ensures performs { Performs result (node_meant (setting_of partials.now) depth (tree.output (chain_view chain.now)))
+        (place_of W.contents W.failure_count out.old state.old)
+        (place_of W.contents W.failure_count out.new state.new) }
     ensures same_writer { out.new.writer.ghost_name ≡ out.old.writer.ghost_name }
     ensures kept { Keeps (node_names (tree.output (chain_view chain.now))) (setting_of partials.now) state.old state.new }
 {
@@ -59,7 +63,9 @@ pub(crate) fn run_assign<W: CountedWrite>(
     out: &mut Output<'_, W>,
     state: &mut State,
 ) -> Result<()>
-    ensures performs { Performs result (node_meant (setting_of partials.now) depth (tree.assign name.now (chain_view chain.now))) (place_of W.contents W.failure_count out.old state.old) (place_of W.contents W.failure_count out.new state.new) }
+    ensures performs { Performs result (node_meant (setting_of partials.now) depth (tree.assign name.now (chain_view chain.now)))
+        (place_of W.contents W.failure_count out.old state.old)
+        (place_of W.contents W.failure_count out.new state.new) }
     ensures same_writer { out.new.writer.ghost_name ≡ out.old.writer.ghost_name }
     ensures kept { Keeps (node_names (tree.assign name.now (chain_view chain.now))) (setting_of partials.now) state.old state.new }
 {
@@ -89,7 +95,10 @@ pub(crate) fn run_range<W: CountedWrite>(
     state: &mut State,
 ) -> Result<()>
     requires { IsRange nodes.now from to }
-    ensures performs { (f : Forest Maker) → StandsAt nodes.now from f to → Performs result (nodes_meant (setting_of partials.now) depth (nodes_of f)) (place_of W.contents W.failure_count out.old state.old) (place_of W.contents W.failure_count out.new state.new) }
+    ensures performs { (f : Forest Maker) → StandsAt nodes.now from f to →
+        Performs result (nodes_meant (setting_of partials.now) depth (nodes_of f))
+        (place_of W.contents W.failure_count out.old state.old)
+        (place_of W.contents W.failure_count out.new state.new) }
     ensures same_writer { out.new.writer.ghost_name ≡ out.old.writer.ghost_name }
     ensures kept { (f : Forest Maker) → StandsAt nodes.now from f to → Keeps (nodes_names (nodes_of f)) (setting_of partials.now) state.old state.new }
 {
@@ -116,7 +125,10 @@ fn run_node<W: CountedWrite>(
     state: &mut State,
 ) -> Result<()>
     requires { IsNode nodes.now at to }
-    ensures performs { (n : tree.Node) (next : ℕ) → NodeAt nodes.now at n next → Performs result (node_meant (setting_of partials.now) depth n) (place_of W.contents W.failure_count out.old state.old) (place_of W.contents W.failure_count out.new state.new) }
+    ensures performs { (n : tree.Node) (next : ℕ) → NodeAt nodes.now at n next →
+        Performs result (node_meant (setting_of partials.now) depth n)
+        (place_of W.contents W.failure_count out.old state.old)
+        (place_of W.contents W.failure_count out.new state.new) }
     ensures same_writer { out.new.writer.ghost_name ≡ out.old.writer.ghost_name }
     ensures kept { (n : tree.Node) (next : ℕ) → NodeAt nodes.now at n next → Keeps (node_names n) (setting_of partials.now) state.old state.new }
 {
