@@ -8,12 +8,12 @@ ghost use Rattle.liquid_syntax.specs.Tokens.{tokens_view};
 
 use crate::block::{Block, Place, end_tag};
 use crate::build::Label;
+use crate::chain_items::{expected, read_chain};
 use crate::fault::{Fault, FaultKind, ParseError};
 use crate::item::Item;
 use crate::language::{Language, TagKind};
 use crate::node::Node;
 use crate::piece::Piece;
-use crate::chain_items::{expected, read_chain};
 use crate::symbol::Symbol;
 use crate::tokens::{next_word, skip};
 use std::alloc::Global;

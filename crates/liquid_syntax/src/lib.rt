@@ -18,6 +18,8 @@ mod mark;
 mod node;
 mod number;
 mod parser;
+#[cfg(test)]
+mod parser_tests;
 mod partials;
 mod piece;
 #[cfg(test)]
