@@ -3,6 +3,7 @@ pub mod Occurrences
 pub mod Ones
 pub mod Pieces
 pub mod Replaced
+pub mod Spellings
 pub mod Splits
 pub mod Views
 pub mod Words
