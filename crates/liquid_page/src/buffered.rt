@@ -35,8 +35,8 @@ impl<W: Write> Buffered<W> {
         })
     }
 
-    /// Hands on what is held back, once.
-    fn write_out(&mut self) -> io::Result<()>
+    /// Hands on what is held back, once. After a failure it hands on nothing and fails again.
+    pub fn hand_on(&mut self) -> io::Result<()>
         ensures bytes { Keeps (behind W.contents self.old) (behind W.contents self.new) }
         ensures empty { OnOk result (vec_len self.new.held ≡ 0) }
     {
@@ -68,7 +68,7 @@ impl<W: Write> Write for Buffered<W> {
 
     fn write(&mut self, bytes: &[u8]) -> io::Result<usize> {
         if bytes.len() > ROOM.saturating_sub(self.held.len()) {
-            self.write_out()?;
+            self.hand_on()?;
         }
         if self.failed {
             return Err(io::Error::from(io::ErrorKind::BrokenPipe));
@@ -81,7 +81,7 @@ impl<W: Write> Write for Buffered<W> {
     }
 
     fn flush(&mut self) -> io::Result<()> {
-        self.write_out()?;
+        self.hand_on()?;
         self.writer.flush()
     }
 }
