@@ -8,8 +8,12 @@ use Rattle.liquid_filters.specs.Kinds.{kind_counts}
 use Rattle.liquid_filters.specs.declared.kind.FilterKind.{FilterKind}
 use Rattle.liquid_syntax.specs.ChainReading.{accepted_call, call_with, filters_of, call_of, called_of, arguments_of, further_of, chain_of}
 use Rattle.liquid_syntax.specs.Chains.{Filters, further_arguments, arguments, AreFilters, none, filter, IsChain}
-use Rattle.liquid_syntax.specs.Tokens.{Token, value, range, symbol, word, word_of, is_symbol}
-use Rattle.liquid_syntax.specs.Tree.{FilterCall, Chain}
+use Rattle.liquid_syntax.specs.Tokens.{Token, value, range, symbol, word, word_of, word_first, past, is_symbol}
+use Rattle.liquid_syntax.specs.ChainLaw.{IsAssign}
+use Rattle.liquid_syntax.specs.Judging.{assign_of}
+use Rattle.liquid_syntax.specs.Languages.{kinds_of}
+use Rattle.liquid_syntax.specs.Tree.{FilterCall, Chain, Node, assign}
+use Rattle.liquid_syntax.specs.declared.language.Language.{Language}
 use Rattle.liquid_syntax.specs.declared.symbol.Symbol.{Symbol}
 use Rattle.liquid_syntax.specs.declared.symbol.Symbol.TheVariants.{Equals, NotEquals, LessOrGreater, LessThanEquals, GreaterThanEquals, LessThan, GreaterThan, Assign, Colon, Comma, Bar}
 
@@ -193,3 +197,50 @@ module _ (l : Filters) where
   chain_takes c (value v ∷ is) h =
       let (fs, read, same) = map_some (filters_of l is) _ c h in
       subst (λ (c : Chain). IsChain l c (value v ∷ is)) same (is, refl, filters_takes is fs read)
+
+-- ---- `assign`
+
+assign_is : (i : Token) → is_symbol Assign i ≡ true → i ≡ symbol Assign
+assign_is (value v) h = absurd cc
+assign_is (range v w) h = absurd cc
+assign_is (symbol Equals) h = absurd cc
+assign_is (symbol NotEquals) h = absurd cc
+assign_is (symbol LessOrGreater) h = absurd cc
+assign_is (symbol LessThanEquals) h = absurd cc
+assign_is (symbol GreaterThanEquals) h = absurd cc
+assign_is (symbol LessThan) h = absurd cc
+assign_is (symbol GreaterThan) h = absurd cc
+assign_is (symbol Assign) h = refl
+assign_is (symbol Colon) h = absurd cc
+assign_is (symbol Comma) h = absurd cc
+assign_is (symbol Bar) h = absurd cc
+
+first_word : (is : List Token) (w : Text) (rest : List Token) → word_first is ≡ Some (w, rest) → is ≡ word w ∷ rest
+first_word [] w rest h = absurd cc
+first_word (value (literal d) ∷ is) w rest h = absurd cc
+first_word (value (variable u no_steps) ∷ is) w rest h = let e : (u, is) ≡ (w, rest) = from_some h in ap (λ (x : Text × List Token). word x.0 ∷ x.1) e
+first_word (value (variable u (step v vs)) ∷ is) w rest h = absurd cc
+first_word (range v u ∷ is) w rest h = absurd cc
+first_word (symbol s ∷ is) w rest h = absurd cc
+
+past_assign : (is : List Token) (rest : List Token) → past Assign is ≡ Some rest → is ≡ symbol Assign ∷ rest
+past_assign [] rest h = absurd cc
+past_assign (i ∷ is) rest h =
+    let (e, same) = guard_some (is_symbol Assign i) is rest h in
+    ap (λ (i : Token). i ∷ is) (assign_is i e) ∙ ap (λ (is : List Token). symbol Assign ∷ is) same
+
+module _ (l : Language) where
+  pub assign_takes : (w : Text) (c : Chain) (is : List Token) → assign_of l is ≡ Some (assign w c) → IsAssign (kinds_of l.filters) w c is
+  assign_takes w c is h =
+      let (x, named, more) = bind_some (word_first is) _ (assign w c) h in
+      let (rest, behind, made) = bind_some (past Assign x.1) _ (assign w c) more in
+      let (d, read, same) = map_some (chain_of (kinds_of l.filters) rest) (assign x.0) (assign w c) made in
+      let named_so : x.0 ≡ w = cc in
+      let chain_so : d ≡ c = cc in (
+        rest,
+        first_word is x.0 x.1 named ∙ ap (λ (is : List Token). word x.0 ∷ is) (past_assign x.1 rest behind) ∙ ap (λ (w : Text). word w ∷ symbol Assign ∷ rest) named_so,
+        chain_takes (kinds_of l.filters) c rest (read ∙ ap Some chain_so),
+      )
+
+  pub assign_again : (w : Text) (c : Chain) (is : List Token) → IsAssign (kinds_of l.filters) w c is → assign_of l is ≡ Some (assign w c)
+  assign_again w c is (rest, spelled, chained) = ap (assign_of l) spelled ∙ ap (option_map (assign w)) (chain_again (kinds_of l.filters) c rest chained)

@@ -1,5 +1,5 @@
 //! Laws of the definitions that contracts speak of.
-ghost use Rattle.liquid_syntax.specs.ChainLaw.{ReadsChains};
+ghost use Rattle.liquid_syntax.specs.ChainLaw.{ReadsChains, ReadsAssigns};
 ghost use Rattle.liquid_syntax.specs.NestingLaw.{ReadsTheGrammar, AtMostOneTree};
 ghost use Rattle.liquid_syntax.specs.ReadingLaws.{ReadValueStands, StandingValueIsRead, ReadItemsStand, StandingItemsAreRead, ReadRawStands, StandingRawIsRead, ReadCommentStands, StandingCommentIsRead, ReadSourceStands, StandingSourceIsRead};
 
@@ -35,7 +35,8 @@ pub fn nesting_laws()
     ensures unique { AtMostOneTree }
 {}
 
-/// A chain of filters is read exactly where the written grammar says that the items are it.
-pub fn chain_law()
-    ensures { ReadsChains }
+/// A chain of filters and an `assign` are read exactly where the written grammar says that the items are it.
+pub fn chain_laws()
+    ensures chains { ReadsChains }
+    ensures assigns { ReadsAssigns }
 {}
