@@ -1,6 +1,6 @@
 -- A run of a range on its way: what is left of the range does from here what the whole did from the start.
-use Rattle.std.proofs.Common.{◌≡◌, ℕ, suc, ◌+◌, ◌-◌, ◌<◌, ◌≤◌, List, [], ◌∷◌, length, get_or, map, Option, Some, None, Result, Ok, Err, refl, sym, ap, ◌∙◌, subst, arith}
-use Rattle.std.specs.Prelude.{slice_get, ◌++◌}
+use Rattle.std.proofs.Common.{◌≡◌, ℕ, ◌+◌, ◌<◌, ◌≤◌, List, [], ◌∷◌, length, get_or, Some, None, Result, Ok, Err, refl, sym, ap, ◌∙◌, subst, arith}
+use Rattle.std.specs.Prelude.{slice_get}
 use Rattle.std.proofs.lemmas.List.{length-map}
 use Rattle.std.proofs.lemmas.Option.{slice_get_read, slice_get-map, slice_get_within}
 use Rattle.std.specs.Option.{option_map}
@@ -9,16 +9,15 @@ use Rattle.liquid_core.specs.Environment.{Names}
 use Rattle.liquid_core.specs.declared.error.Error.{Error}
 use Rattle.liquid_core.specs.declared.interrupt.Interrupt.{Interrupt}
 use Rattle.liquid_core.specs.declared.state.State.{State}
-use Rattle.liquid_core.specs.States.{layers_of}
 use Rattle.liquid_syntax.specs.Tree as tree
 use Rattle.liquid_syntax.specs.Names.{node_names, nodes_names}
-use Rattle.liquid_syntax.specs.Forest.{Forest, Bodies, empty, node, no_bodies, body}
-use Rattle.liquid_syntax.specs.Laid.{Flat, Stands, StandBodies, last_end}
+use Rattle.liquid_syntax.specs.Forest.{Forest, Bodies, empty, node}
+use Rattle.liquid_syntax.specs.Laid.{Flat, StandBodies, last_end}
 use Rattle.liquid_syntax.specs.Flats.{Maker, leaf, with_one, with_two, flat_of, flats, nodes_of, bodies_of, StandsAt, IsRange, NodeAt, IsNode}
 use Rattle.liquid_syntax.specs.declared.node.Node.{Node}
 use Rattle.liquid_syntax.proofs.Places.{Stands-le, StandBodies-le, one_body, two_bodies, nothing_left}
 use Rattle.liquid_lib.specs.Within.{Within}
-use Rattle.liquid_lib.specs.Kept.{LayersKept, Keeps}
+use Rattle.liquid_lib.specs.Kept.{Keeps}
 use Rattle.liquid_lib.specs.Performs.{Place, Performs}
 use Rattle.liquid_lib.specs.Engine.{node_meant, nodes_meant}
 use Rattle.liquid_lib.specs.Meaning.{Setting, deeper_meaning}

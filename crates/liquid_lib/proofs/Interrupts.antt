@@ -1,5 +1,5 @@
 -- The interrupt of a state.
-use Rattle.std.proofs.Common.{◌≡◌, Bool, true, false, Option, Some, None, is_some, refl}
+use Rattle.std.proofs.Common.{◌≡◌, true, false, Option, Some, None, is_some, refl}
 use Rattle.liquid_core.specs.States.{environment_of, layers_of}
 use Rattle.liquid_core.specs.declared.interrupt.Interrupt.{Interrupt}
 use Rattle.liquid_core.specs.declared.state.State.{State}

@@ -1,5 +1,5 @@
 -- How what steps have done is put together.
-use Rattle.std.proofs.Common.{◌≡◌, ℕ, List, [], ◌++◌, Bool, true, false, Option, Some, None, Result, Ok, Err, ◌⊎◌, inl, inr, refl, sym, ap, subst, ◌∙◌, append_assoc, append-nil}
+use Rattle.std.proofs.Common.{◌≡◌, [], Bool, true, false, Some, None, Result, Ok, Err, inl, inr, refl, sym, ap, subst, ◌∙◌}
 use Rattle.std.specs.Prelude.{MatchBool, ⊤}
 use Rattle.liquid_core.specs.Texts.{Text}
 use Rattle.liquid_core.specs.Data.{Datum}
@@ -9,16 +9,16 @@ use Rattle.liquid_core.specs.declared.error.ErrorKind.{ErrorKind}
 use Rattle.liquid_core.specs.declared.error.ErrorKind.TheVariants.{Memory}
 use Rattle.liquid_core.specs.declared.interrupt.Interrupt.{Interrupt}
 use Rattle.liquid_core.specs.Told.{is_memory, is_refusal}
-use Rattle.liquid_core.specs.Answer.{Answers, Gives, Faulted}
+use Rattle.liquid_core.specs.Answer.{Answers, Gives}
 use Rattle.liquid_core.specs.Environment.{Environment}
 use Rattle.liquid_core.specs.States.{Layers, merged_layers}
 use Rattle.liquid_syntax.specs.Tree.{Node, Nodes, no_nodes, node}
-use Rattle.liquid_lib.specs.Sinks.{Sink, Adds, AddsPart}
+use Rattle.liquid_lib.specs.Sinks.{Sink, AddsPart}
 use Rattle.liquid_lib.specs.Runs.{Nothing, Outcome, Run, done, read, evaluate, change, write, after_text, go_on, ◌>>=◌, with_scope, buffered, ended_with}
 use Rattle.liquid_lib.specs.Effects.{if_none, unless_interrupted}
 use Rattle.liquid_lib.specs.Meaning.{Setting, node_meaning, nodes_meaning}
-use Rattle.liquid_lib.specs.Performs.{Place, Exact, Cut, MeetsAt, Meets, Performs, Writes, IsCut, unit}
-use Rattle.liquid_lib.proofs.Steps.{bind_ok, bind_fault, ended_by, nodes_meaning-node, nodes_meaning-none}
+use Rattle.liquid_lib.specs.Performs.{Place, Exact, MeetsAt, Meets, Performs, Writes, IsCut, unit}
+use Rattle.liquid_lib.proofs.Steps.{bind_ok, bind_fault, nodes_meaning-node, nodes_meaning-none}
 use Rattle.liquid_lib.proofs.Sinks.{Adds-nil, Adds-trans, AddsPart-after, AddsPart-longer, AddsPart-none, Around, around-adds, around-text, part-of_none}
 
 -- the same run, as a rule has it

@@ -1,25 +1,24 @@
 -- Renderings in a runtime.
-use Rattle.std.proofs.Common.{◌≡◌, ℕ, List, [], Option, Some, None, Result, BTreeMap, String, Global, sym, ap, ◌∙◌, subst}
+use Rattle.std.proofs.Common.{◌≡◌, List, [], Some, None, Result, BTreeMap, String, Global, sym, ap, ◌∙◌, subst}
 use Rattle.std.specs.Borrow.{Bor}
 use Rattle.liquid_core.specs.Texts.{Text}
-use Rattle.liquid_core.specs.Environment.{Environment, cut}
+use Rattle.liquid_core.specs.Environment.{Environment}
 use Rattle.liquid_core.specs.States.{Layers, held, map_of}
 use Rattle.liquid_core.specs.Maps.{empty}
 use Rattle.liquid_core.specs.View.{pairs_view}
 use Rattle.liquid_core.specs.declared.value.Value.{Value}
-use Rattle.liquid_core.specs.Answer.{Answers}
 use Rattle.liquid_core.specs.declared.error.Error.{Error}
 use Rattle.liquid_filters.specs.Kinds.{kind_answer}
 use Rattle.liquid_syntax.specs.Tree.{Nodes}
 use Rattle.liquid_syntax.specs.Templates.{partials_of}
 use Rattle.liquid_syntax.specs.declared.partials.Partials.{Partials}
 use Rattle.liquid_lib.specs.Engine.{setting_of}
-use Rattle.liquid_lib.specs.Isolation.{IsAsCut, names_of_run}
+use Rattle.liquid_lib.specs.Isolation.{names_of_run}
 use Rattle.liquid_lib.specs.Kept.{LayersKept}
 use Rattle.liquid_lib.specs.Meaning.{Setting, meaning}
 use Rattle.liquid_lib.specs.Performs.{Place, Meets, Performs}
 use Rattle.liquid_lib.specs.Rendered.{run_in, names_in}
-use Rattle.liquid_lib.specs.Runs.{Run, Outcome, Nothing, buffered, ended_with}
+use Rattle.liquid_lib.specs.Runs.{Run, Nothing, buffered, ended_with}
 use Rattle.liquid_lib.specs.RuntimeView.{trees_of, setting_in, depth_in}
 use Rattle.liquid_lib.specs.declared.runtime.Runtime.{Runtime}
 

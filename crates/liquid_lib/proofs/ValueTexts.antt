@@ -1,5 +1,5 @@
 -- The text of a value, kind by kind.
-use Rattle.std.proofs.Common.{◌≡◌, ℤ, Bool, true, false, codes, Vec, BTreeMap, String, Global, string_bytes, ap, sym, ◌∙◌, rules}
+use Rattle.std.proofs.Common.{◌≡◌, ℤ, Bool, Vec, BTreeMap, String, Global, string_bytes, ap, sym, ◌∙◌, rules}
 use Rattle.liquid_core.specs.Data.{truth, number, text_of, items_text, pairs_text}
 use Rattle.liquid_core.specs.View.{view, items_view, pairs_view}
 use Rattle.liquid_core.specs.declared.value.Value.{Value, Bool as Truth, Integer, Text, Array, Object, the_lemmas}

@@ -1,10 +1,10 @@
 -- What a run with no buffer open says of the caller's writer.
 use Rattle.std.proofs.lemmas.Bool.{true≢false}
-use Rattle.std.proofs.Common.{arith, ◌<◌, OnOk, IfErr, IsErrAnd, ◌≡◌, ℕ, List, [], ◌++◌, Bool, true, false, Option, Some, None, IsSome, is_some, Result, Ok, Err, ◌⊎◌, inl, inr, refl, sym, ap, subst, ◌∙◌, append-nil, String, Global, string_bytes, option_map}
+use Rattle.std.proofs.Common.{arith, ◌<◌, OnOk, IfErr, IsErrAnd, ◌≡◌, ℕ, [], Bool, true, false, Option, Some, None, IsSome, is_some, Result, Ok, Err, ◌⊎◌, inl, inr, refl, sym, ap, subst, ◌∙◌, append-nil, String, Global, string_bytes, option_map}
 use Rattle.std.specs.Io.KnownBytes.{Appends}
 use Rattle.liquid_core.specs.Texts.{Text}
 use Rattle.liquid_core.specs.Told.{is_memory, is_refusal}
-use Rattle.liquid_core.specs.Environment.{Names, Environment, cut}
+use Rattle.liquid_core.specs.Environment.{Names, Environment}
 use Rattle.liquid_core.specs.declared.error.Error.{Error}
 use Rattle.liquid_core.specs.declared.error.ErrorKind.{ErrorKind}
 use Rattle.liquid_core.specs.declared.error.ErrorKind.TheVariants.{Memory, Write}
@@ -15,8 +15,8 @@ use Rattle.liquid_lib.proofs.Joined.{memory_of}
 use Rattle.liquid_lib.specs.Sinks.{Sink, Adds, AddsPart}
 use Rattle.liquid_lib.specs.Runs.{Nothing, Outcome, Run}
 use Rattle.liquid_lib.specs.Isolation.{IsAsCut, changes}
-use Rattle.liquid_lib.specs.Performs.{Place, Exact, Cut, IsCut, MeetsAt, Meets, Performs, is_refused, unit, writer_sink}
-use Rattle.liquid_lib.specs.Rendered.{ExactForCut, PerformsForCut, nowhere}
+use Rattle.liquid_lib.specs.Performs.{Place, Exact, IsCut, MeetsAt, Meets, Performs, is_refused, writer_sink}
+use Rattle.liquid_lib.specs.Rendered.{PerformsForCut, nowhere}
 
 begun : {V A : Type 0} (view : V → A) (r : Result V Error) (o : Outcome A) (s t : Sink) (g : Environment) → MeetsAt view r o s t g → AddsPart s t o.text
 begun view r o s t g (inl p) = record { front = o.text; rest = []; whole = append-nil o.text; adds = p.adds }

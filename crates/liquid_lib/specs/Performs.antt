@@ -2,7 +2,7 @@
 --     Meets view r m before after      the step is the run m, unless the answer is `Memory` or `Write`: then a beginning of m's text was added
 --     Performs r m before after      the same of a step that gives no value
 --     Writes r t old new      the step writes t and does nothing else
-use Rattle.std.specs.Prelude.{◌≡◌, ℕ, List, [], Bool, true, false, Result, Ok, Err, ◌⊎◌, Option, None}
+use Rattle.std.specs.Prelude.{◌≡◌, ℕ, List, Bool, false, Result, Ok, Err, ◌⊎◌, Option, None}
 use Rattle.liquid_core.specs.Texts.{Text}
 use Rattle.liquid_core.specs.declared.error.Error.{Error}
 use Rattle.liquid_core.specs.declared.error.ErrorKind.{ErrorKind}

@@ -1,5 +1,5 @@
 -- What stands behind an output, and what is added to it.
-use Rattle.std.specs.Prelude.{◌≡◌, ℕ, List, [], ◌++◌, Bool, Option, Some, None, IsSome, is_some}
+use Rattle.std.specs.Prelude.{◌≡◌, ℕ, List, ◌++◌, Option, Some, None, IsSome, is_some}
 use Rattle.std.specs.String.{string_bytes}
 use Rattle.std.specs.Option.{option_map}
 use Rattle.std.specs.Io.KnownBytes.{Appends}

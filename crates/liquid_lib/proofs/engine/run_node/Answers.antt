@@ -1,4 +1,4 @@
-use Rattle.std.proofs.Common.{◌≡◌, refl, subst, string_bytes, rules}
+use Rattle.std.proofs.Common.{refl, subst, string_bytes}
 use Rattle.liquid_syntax.specs.ChainView.{chain_view}
 use Rattle.liquid_syntax.specs.Names.{node_names}
 use Rattle.liquid_syntax.specs.Tree as tree

@@ -1,4 +1,4 @@
-use Rattle.std.proofs.Common.{arith, ◌≡◌, ◌-◌, ◌<◌, ◌≤◌, sym, ◌∙◌, rules}
+use Rattle.std.proofs.Common.{arith, ◌-◌, ◌<◌, ◌∙◌, rules}
 use Rattle.std.proofs.lemmas.Result.{err_from_is_err_and}
 use Rattle.liquid_lib.specs.Engine.{setting_of}
 use Rattle.liquid_lib.specs.Performs.{place_of}

@@ -1,4 +1,4 @@
-use Rattle.std.proofs.Common.{◌≡◌, Ok, Err, string_bytes, ◌+◌, ◌++◌, ◌∷◌, List, [], drop, ap, sym, subst, ◌∙◌, rules}
+use Rattle.std.proofs.Common.{◌≡◌, Ok, Err, string_bytes, ◌+◌, ◌++◌, ◌∷◌, [], drop, ap, sym, subst, ◌∙◌, rules}
 use Rattle.std.specs.Fmt.{signed_decimal}
 use mir.Val.{to_z, of_z}
 use mir.Syntax.{w64}
@@ -8,7 +8,7 @@ use Rattle.liquid_core.specs.Data.{number, text_of, items_text, pairs_text}
 use Rattle.liquid_core.specs.View.{view, items_view, pairs_view}
 use Rattle.liquid_lib.specs.Performs.{Writes}
 use Rattle.liquid_lib.specs.Sinks.{sink_of}
-use Rattle.liquid_lib.proofs.Pieces.{GoesOn, writes_as, writes_then, goes_on, goes_wrong, goes_to_end, next_pair}
+use Rattle.liquid_lib.proofs.Pieces.{GoesOn, writes_as, goes_on, goes_wrong, goes_to_end, next_pair}
 use Rattle.liquid_lib.proofs.ValueTexts.{truth_text, number_text, text_text, array_text, object_text}
 use Rattle.liquid_lib.proofs.push_value.+push_value.Goals as goal
 

@@ -1,8 +1,5 @@
-use Rattle.std.proofs.Common.{◌≡◌, ℕ, List, [], ◌++◌, take, drop, rules, arith, sym, ap, subst, ◌∙◌, append-nil, drop_of_length-le}
-use Rattle.std.specs.Io.KnownBytes.{Appends}
+use Rattle.std.proofs.Common.{◌++◌, take, ◌∙◌}
 use Rattle.std.proofs.KnownBytes.{Appends-trans}
-use Rattle.std.proofs.lemmas.Grind.{common_steps}
-use Rattle.liquid_lib.specs.Added.{AppendsPart}
 use Rattle.liquid_lib.proofs.Added.{moves_front, taken_counts_none}
 use Rattle.liquid_lib.proofs.write_all.write_all.Goals as goal
 

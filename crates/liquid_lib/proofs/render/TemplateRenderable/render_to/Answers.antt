@@ -1,13 +1,10 @@
-use Rattle.std.proofs.Common.{◌≡◌, refl, ap, ◌∙◌, subst}
-use Rattle.liquid_core.specs.States.{environment_of, layers_of}
 use Rattle.liquid_syntax.specs.Templates.{tree_of}
 use Rattle.liquid_lib.specs.Engine.{setting_of}
-use Rattle.liquid_lib.specs.Performs.{unit}
-use Rattle.liquid_lib.specs.Rendered.{run_in, names_in, at_writer}
+use Rattle.liquid_lib.specs.Rendered.{run_in, names_in}
 use Rattle.liquid_lib.specs.RuntimeView.{setting_in, depth_in, environment_in}
 use Rattle.liquid_lib.proofs.Changes.{headline}
-use Rattle.liquid_lib.proofs.Renderings.{lent_setting, no_setting, rendered, kept_names}
-use Rattle.liquid_lib.proofs.Written.{exact, writer_begun, writer_write, writer_failed, for_cut}
+use Rattle.liquid_lib.proofs.Renderings.{lent_setting, no_setting, rendered}
+use Rattle.liquid_lib.proofs.Written.{for_cut}
 use Rattle.liquid_lib.proofs.render.TemplateRenderable.render_to.Goals as goal
 
 pub returns-in-Some-clause-meaning : goal.returns-in-Some-clause-meaning
