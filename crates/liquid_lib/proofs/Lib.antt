@@ -1,10 +1,12 @@
 pub mod Added
 pub mod Apart
+pub mod Cells
 pub mod Changes
 pub mod Computed
 pub mod Further
 pub mod Going
 pub mod Interrupts
+pub mod Items
 pub mod Joined
 pub mod Kept
 pub mod Law

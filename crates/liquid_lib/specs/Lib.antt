@@ -6,6 +6,7 @@ pub mod Failures
 pub mod Isolation
 pub mod Kept
 pub mod Laws
+pub mod LoopLaws
 pub mod Loops
 pub mod Meaning
 pub mod Performs
@@ -13,6 +14,7 @@ pub mod Rendered
 pub mod Runs
 pub mod RuntimeView
 pub mod Sinks
+pub mod Standard
 pub mod Within
 pub mod Worked
 pub mod WorkedLoops

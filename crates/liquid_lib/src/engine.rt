@@ -17,7 +17,7 @@ use liquid_syntax::{FilterChain, Node, Partials};
 use std::alloc::Global;
 
 /// Writes a text.
-fn run_text<W: CountedWrite>(
+pub(crate) fn run_text<W: CountedWrite>(
     alloc: Global,
     partials: &Partials,
     depth: u32,
@@ -25,7 +25,9 @@ fn run_text<W: CountedWrite>(
     out: &mut Output<'_, W>,
     state: &mut State,
 ) -> Result<()>
-    ensures performs { Performs result (node_meant (setting_of partials.now) depth (tree.plain text.now)) (place_of W.contents W.failure_count out.old state.old) (place_of W.contents W.failure_count out.new state.new) }
+    ensures performs { Performs result (node_meant (setting_of partials.now) depth (tree.plain text.now))
+        (place_of W.contents W.failure_count out.old state.old)
+        (place_of W.contents W.failure_count out.new state.new) }
     ensures same_writer { out.new.writer.ghost_name ≡ out.old.writer.ghost_name }
     ensures kept { Keeps (node_names (tree.plain text.now)) (setting_of partials.now) state.old state.new }
 {
@@ -33,7 +35,7 @@ fn run_text<W: CountedWrite>(
 }
 
 /// Writes the text of a chain's value.
-fn run_output<W: CountedWrite>(
+pub(crate) fn run_output<W: CountedWrite>(
     alloc: Global,
     partials: &Partials,
     depth: u32,
@@ -41,7 +43,9 @@ fn run_output<W: CountedWrite>(
     out: &mut Output<'_, W>,
     state: &mut State,
 ) -> Result<()>
-    ensures performs { Performs result (node_meant (setting_of partials.now) depth (tree.output (chain_view chain.now))) (place_of W.contents W.failure_count out.old state.old) (place_of W.contents W.failure_count out.new state.new) }
+    ensures performs { Performs result (node_meant (setting_of partials.now) depth (tree.output (chain_view chain.now)))
+        (place_of W.contents W.failure_count out.old state.old)
+        (place_of W.contents W.failure_count out.new state.new) }
     ensures same_writer { out.new.writer.ghost_name ≡ out.old.writer.ghost_name }
     ensures kept { Keeps (node_names (tree.output (chain_view chain.now))) (setting_of partials.now) state.old state.new }
 {
@@ -50,7 +54,7 @@ fn run_output<W: CountedWrite>(
 }
 
 /// Sets an assigned variable to a chain's value.
-fn run_assign<W: CountedWrite>(
+pub(crate) fn run_assign<W: CountedWrite>(
     alloc: Global,
     partials: &Partials,
     depth: u32,
@@ -59,7 +63,9 @@ fn run_assign<W: CountedWrite>(
     out: &mut Output<'_, W>,
     state: &mut State,
 ) -> Result<()>
-    ensures performs { Performs result (node_meant (setting_of partials.now) depth (tree.assign name.now (chain_view chain.now))) (place_of W.contents W.failure_count out.old state.old) (place_of W.contents W.failure_count out.new state.new) }
+    ensures performs { Performs result (node_meant (setting_of partials.now) depth (tree.assign name.now (chain_view chain.now)))
+        (place_of W.contents W.failure_count out.old state.old)
+        (place_of W.contents W.failure_count out.new state.new) }
     ensures same_writer { out.new.writer.ghost_name ≡ out.old.writer.ghost_name }
     ensures kept { Keeps (node_names (tree.assign name.now (chain_view chain.now))) (setting_of partials.now) state.old state.new }
 {
@@ -78,7 +84,7 @@ fn next_after(nodes: &[Node], at: usize, to: usize) -> usize
 }
 
 /// Runs the nodes of a range in order, up to the first fault or interrupt. The first node runs whatever the interrupt was.
-pub fn run_range<W: CountedWrite>(
+pub(crate) fn run_range<W: CountedWrite>(
     alloc: Global,
     partials: &Partials,
     depth: u32,
@@ -89,7 +95,10 @@ pub fn run_range<W: CountedWrite>(
     state: &mut State,
 ) -> Result<()>
     requires { IsRange nodes.now from to }
-    ensures performs { (f : Forest Maker) → StandsAt nodes.now from f to → Performs result (nodes_meant (setting_of partials.now) depth (nodes_of f)) (place_of W.contents W.failure_count out.old state.old) (place_of W.contents W.failure_count out.new state.new) }
+    ensures performs { (f : Forest Maker) → StandsAt nodes.now from f to →
+        Performs result (nodes_meant (setting_of partials.now) depth (nodes_of f))
+        (place_of W.contents W.failure_count out.old state.old)
+        (place_of W.contents W.failure_count out.new state.new) }
     ensures same_writer { out.new.writer.ghost_name ≡ out.old.writer.ghost_name }
     ensures kept { (f : Forest Maker) → StandsAt nodes.now from f to → Keeps (nodes_names (nodes_of f)) (setting_of partials.now) state.old state.new }
 {
@@ -116,7 +125,10 @@ fn run_node<W: CountedWrite>(
     state: &mut State,
 ) -> Result<()>
     requires { IsNode nodes.now at to }
-    ensures performs { (n : tree.Node) (next : ℕ) → NodeAt nodes.now at n next → Performs result (node_meant (setting_of partials.now) depth n) (place_of W.contents W.failure_count out.old state.old) (place_of W.contents W.failure_count out.new state.new) }
+    ensures performs { (n : tree.Node) (next : ℕ) → NodeAt nodes.now at n next →
+        Performs result (node_meant (setting_of partials.now) depth n)
+        (place_of W.contents W.failure_count out.old state.old)
+        (place_of W.contents W.failure_count out.new state.new) }
     ensures same_writer { out.new.writer.ghost_name ≡ out.old.writer.ghost_name }
     ensures kept { (n : tree.Node) (next : ℕ) → NodeAt nodes.now at n next → Keeps (node_names n) (setting_of partials.now) state.old state.new }
 {

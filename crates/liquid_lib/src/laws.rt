@@ -1,6 +1,7 @@
 //! Laws of what templates mean: each function's contract is the law, and its body does nothing.
 
 ghost use Rattle.liquid_lib.specs.Isolation.{Isolation, AgreeingRuns, OthersKept, RenderLeavesAll, RenderSeesItsValues, Headline};
+ghost use Rattle.liquid_lib.specs.LoopLaws.{RangeLaw, RowLaw, WindowLaw};
 ghost use Rattle.liquid_lib.specs.Laws.{AssignedInLoop, AssignedStay, ForloopCountsItems, KindsOfRuns, TextIsItself};
 
 /// The laws of isolation: a run depends on the names that its template or a partial mentions, and leaves all others alone.
@@ -21,4 +22,11 @@ pub fn run_laws()
     ensures in_loop { AssignedInLoop }
     ensures forloop { ForloopCountsItems }
     ensures kinds { KindsOfRuns }
+{}
+
+/// Laws of a loop's items: which of them a window asks for, what a range counts, and where the rows of a table end.
+pub fn loop_laws()
+    ensures window { WindowLaw }
+    ensures range { RangeLaw }
+    ensures rows { RowLaw }
 {}

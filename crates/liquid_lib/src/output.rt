@@ -22,7 +22,9 @@ pub struct Output<'w, W> {
 impl<'w, W: CountedWrite> Output<'w, W> {
     /// Adds a text: `Memory` where the buffer can't grow, `Write` where the writer fails. Then a beginning of it was added.
     pub fn push_text(&mut self, alloc: Global, text: &str) -> Result<()>
-        ensures writes { Writes result text.now (sink_of W.contents W.failure_count self.old) (sink_of W.contents W.failure_count self.new) }
+        ensures writes { Writes result text.now
+            (sink_of W.contents W.failure_count self.old)
+            (sink_of W.contents W.failure_count self.new) }
         ensures same_writer { self.new.writer.ghost_name ≡ self.old.writer.ghost_name }
     {
         match &mut self.buffer {

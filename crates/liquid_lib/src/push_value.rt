@@ -19,7 +19,9 @@ pub fn push_value<W: CountedWrite>(
     value: &Value,
     out: &mut Output<'_, W>,
 ) -> Result<()>
-    ensures writes { Writes result (text_of (view value.now)) (sink_of W.contents W.failure_count out.old) (sink_of W.contents W.failure_count out.new) }
+    ensures writes { Writes result (text_of (view value.now))
+        (sink_of W.contents W.failure_count out.old)
+        (sink_of W.contents W.failure_count out.new) }
     ensures same_writer { out.new.writer.ghost_name ≡ out.old.writer.ghost_name }
 {
     match value {
@@ -40,7 +42,9 @@ fn truth_text(truth: bool) -> &'static str
 
 /// Writes the digits of a number.
 pub fn push_number<W: CountedWrite>(alloc: Global, n: i64, out: &mut Output<'_, W>) -> Result<()>
-    ensures writes { Writes result (text_of (number n)) (sink_of W.contents W.failure_count out.old) (sink_of W.contents W.failure_count out.new) }
+    ensures writes { Writes result (text_of (number n))
+        (sink_of W.contents W.failure_count out.old)
+        (sink_of W.contents W.failure_count out.new) }
     ensures same_writer { out.new.writer.ghost_name ≡ out.old.writer.ghost_name }
 {
     let mut digits = Buffer::new();
@@ -53,7 +57,9 @@ fn push_items<W: CountedWrite>(
     items: &Vec<Value>,
     out: &mut Output<'_, W>,
 ) -> Result<()>
-    ensures writes { Writes result (items_text (items_view items.now.items)) (sink_of W.contents W.failure_count out.old) (sink_of W.contents W.failure_count out.new) }
+    ensures writes { Writes result (items_text (items_view items.now.items))
+        (sink_of W.contents W.failure_count out.old)
+        (sink_of W.contents W.failure_count out.new) }
     ensures same_writer { out.new.writer.ghost_name ≡ out.old.writer.ghost_name }
 {
     for item in items {
@@ -64,7 +70,9 @@ fn push_items<W: CountedWrite>(
 
 #[cycle(push_value)]
 fn push_pairs<W: CountedWrite>(alloc: Global, pairs: &Object, out: &mut Output<'_, W>) -> Result<()>
-    ensures writes { Writes result (pairs_text (pairs_view pairs.now.entries)) (sink_of W.contents W.failure_count out.old) (sink_of W.contents W.failure_count out.new) }
+    ensures writes { Writes result (pairs_text (pairs_view pairs.now.entries))
+        (sink_of W.contents W.failure_count out.old)
+        (sink_of W.contents W.failure_count out.new) }
     ensures same_writer { out.new.writer.ghost_name ≡ out.old.writer.ghost_name }
 {
     for (key, value) in pairs.iter() {

@@ -42,31 +42,45 @@ pub trait Renderable {
         runtime: &mut Runtime<'_>,
     ) -> Result<()>
         // text, end and environment are those of the meaning
-        ensures meaning { Performs result (run_in runtime.old (nodes self.now)) (at_writer W.contents W.failure_count writer.old (environment_in runtime.old)) (at_writer W.contents W.failure_count writer.new (environment_in runtime.new)) }
+        ensures meaning { Performs result (run_in runtime.old (nodes self.now))
+            (at_writer W.contents W.failure_count writer.old (environment_in runtime.old))
+            (at_writer W.contents W.failure_count writer.new (environment_in runtime.new)) }
         // text, end and changes are those for what the runtime holds under the mentioned names, layer by layer
-        ensures isolated { PerformsForCut (names_in runtime.old (nodes self.now)) result (run_in runtime.old (nodes self.now)) (at_writer W.contents W.failure_count writer.old (environment_in runtime.old)) (at_writer W.contents W.failure_count writer.new (environment_in runtime.new)) }
+        ensures isolated { PerformsForCut (names_in runtime.old (nodes self.now)) result
+            (run_in runtime.old (nodes self.now))
+            (at_writer W.contents W.failure_count writer.old (environment_in runtime.old))
+            (at_writer W.contents W.failure_count writer.new (environment_in runtime.new)) }
 
         // where the answer is neither `Memory` nor `Write`
-        ensures whole { is_refused result ≡ false → Appends (W.contents writer.old) (W.contents writer.new) (outcome_in runtime.old (nodes self.now)).text }
+        ensures whole { is_refused result ≡ false →
+            Appends (W.contents writer.old) (W.contents writer.new) (outcome_in runtime.old (nodes self.now)).text }
         ensures end { is_refused result ≡ false → answer_of unit result ≡ (outcome_in runtime.old (nodes self.now)).end }
-        ensures environment { is_refused result ≡ false → environment_in runtime.new ≡ (outcome_in runtime.old (nodes self.now)).environment }
+        ensures environment { is_refused result ≡ false →
+            environment_in runtime.new ≡ (outcome_in runtime.old (nodes self.now)).environment }
 
         // after every answer
-        ensures begun { AppendsPart (W.contents writer.old) (W.contents writer.new) (outcome_in runtime.old (nodes self.now)).text }
+        ensures begun { AppendsPart (W.contents writer.old) (W.contents writer.new)
+            (outcome_in runtime.old (nodes self.now)).text }
         ensures kept { LayersKept (names_in runtime.old (nodes self.now)) (layers_in runtime.old) (layers_in runtime.new) }
         ensures same { SettingKept runtime.old runtime.new }
-        ensures write { IfErr result (λ e. e.kind ≡ ErrorKind.Write → SomeFailed (W.failure_count writer.old) (W.failure_count writer.new)) }
-        ensures failed { W.failure_count writer.old < W.failure_count writer.new → IsErrAnd result (λ e. (e.kind ≡ ErrorKind.Memory) ⊎ (e.kind ≡ ErrorKind.Write)) };
+        ensures write { IfErr result (λ e. e.kind ≡ ErrorKind.Write →
+            SomeFailed (W.failure_count writer.old) (W.failure_count writer.new)) }
+        ensures failed { W.failure_count writer.old < W.failure_count writer.new →
+            IsErrAnd result (λ e. (e.kind ≡ ErrorKind.Memory) ⊎ (e.kind ≡ ErrorKind.Write)) };
 
     /// The text, or the first fault; `Memory` where a growth was refused. Else as `render_to`.
     fn render(&self, alloc: Global, runtime: &mut Runtime<'_>) -> Result<String>
-        ensures text { Answers (λ t. string_bytes t) result (ended_with (outcome_in runtime.old (nodes self.now)).text (outcome_in runtime.old (nodes self.now)).end) }
-        ensures environment { is_refused result ≡ false → environment_in runtime.new ≡ (outcome_in runtime.old (nodes self.now)).environment }
+        ensures text { Answers (λ t. string_bytes t) result
+            (ended_with (outcome_in runtime.old (nodes self.now)).text (outcome_in runtime.old (nodes self.now)).end) }
+        ensures environment { is_refused result ≡ false →
+            environment_in runtime.new ≡ (outcome_in runtime.old (nodes self.now)).environment }
 
         // what the runtime holds under the mentioned names decides, layer by layer
-        ensures isolated { let N = names_in runtime.old (nodes self.now) in let o = run_in runtime.old (nodes self.now) (cut N (environment_in runtime.old)) in
+        ensures isolated { let N = names_in runtime.old (nodes self.now) in
+            let o = run_in runtime.old (nodes self.now) (cut N (environment_in runtime.old)) in
             Answers (λ t. string_bytes t) result (ended_with o.text o.end) }
-        ensures changed { let N = names_in runtime.old (nodes self.now) in let e = environment_in runtime.old in
+        ensures changed { let N = names_in runtime.old (nodes self.now) in
+            let e = environment_in runtime.old in
             is_refused result ≡ false → changes e (environment_in runtime.new) ≡ changes (cut N e) (run_in runtime.old (nodes self.now) (cut N e)).environment }
 
         // after every answer
@@ -132,7 +146,9 @@ fn write_template<W: CountedWrite>(
     writer: &mut W,
     state: &mut State,
 ) -> Result<()>
-    ensures performs { Performs result (meaning (setting_of partials.now) depth (tree_of template.now)) (at_writer W.contents W.failure_count writer.old (environment_of state.old)) (at_writer W.contents W.failure_count writer.new (environment_of state.new)) }
+    ensures performs { Performs result (meaning (setting_of partials.now) depth (tree_of template.now))
+        (at_writer W.contents W.failure_count writer.old (environment_of state.old))
+        (at_writer W.contents W.failure_count writer.new (environment_of state.new)) }
     ensures kept { LayersKept (names_of_run (setting_of partials.now) (tree_of template.now)) (layers_of state.old) (layers_of state.new) }
 {
     let mut out = Output {
@@ -168,7 +184,9 @@ fn template_text(
     depth: u32,
     state: &mut State,
 ) -> Result<String>
-    ensures performs { Meets (λ t. string_bytes t) result (buffered (meaning (setting_of partials.now) depth (tree_of template.now))) (nowhere (environment_of state.old)) (nowhere (environment_of state.new)) }
+    ensures performs { Meets (λ t. string_bytes t) result (buffered (meaning (setting_of partials.now) depth (tree_of template.now)))
+        (nowhere (environment_of state.old))
+        (nowhere (environment_of state.new)) }
     ensures kept { LayersKept (names_of_run (setting_of partials.now) (tree_of template.now)) (layers_of state.old) (layers_of state.new) }
 {
     let mut writer = NoWriter;

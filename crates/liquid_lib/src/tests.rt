@@ -104,18 +104,25 @@ fn hello(alloc: Global) -> Result<Value> {
     Ok(Value::Array(items))
 }
 
+/// Writes the text of a value, with no buffer open.
+fn write_value<W: CountedWrite>(alloc: Global, value: &Value, writer: &mut W) -> Result<()> {
+    let mut out = Output {
+        writer,
+        buffer: None,
+    };
+    let answer = push_value(alloc, value, &mut out);
+    drop(out);
+    answer
+}
+
 #[test]
-fn one_byte(rt: HostRuntime) -> core::result::Result<(), Fail> {
+fn one_byte(rt: HostRuntime) -> std::result::Result<(), Fail> {
     let alloc = rt.alloc();
     let value = hello(alloc)?;
     let mut writer = Counted::new(OneByte {
         bytes: Vec::new(alloc),
     });
-    let mut out = Output {
-        writer: &mut writer,
-        buffer: None,
-    };
-    let answer = push_value(alloc, &value, &mut out);
+    let answer = write_value(alloc, &value, &mut writer);
     assert_eq!(rt; kind_of(&answer), None);
     assert_eq!(rt; writer.failures(), 0);
     assert_eq!(rt;
@@ -126,7 +133,7 @@ fn one_byte(rt: HostRuntime) -> core::result::Result<(), Fail> {
 }
 
 #[test]
-fn room(rt: HostRuntime) -> core::result::Result<(), Fail> {
+fn room_for_some(rt: HostRuntime) -> std::result::Result<(), Fail> {
     let alloc = rt.alloc();
     let value = hello(alloc)?;
     for (left, written) in [(0, ""), (3, "Hel"), (8, "Hello tr"), (12, "Hello true-7")] {
@@ -134,11 +141,7 @@ fn room(rt: HostRuntime) -> core::result::Result<(), Fail> {
             bytes: Vec::new(alloc),
             left,
         });
-        let mut out = Output {
-            writer: &mut writer,
-            buffer: None,
-        };
-        let answer = push_value(alloc, &value, &mut out);
+        let answer = write_value(alloc, &value, &mut writer);
         assert_eq!(rt; kind_of(&answer), Some(ErrorKind::Write));
         assert_eq!(rt; writer.failures(), 1);
         assert_eq!(rt; writer.into_inner().bytes.as_slice(), written.as_bytes());
@@ -147,7 +150,7 @@ fn room(rt: HostRuntime) -> core::result::Result<(), Fail> {
 }
 
 #[test]
-fn each_write_fails(rt: HostRuntime) -> core::result::Result<(), Fail> {
+fn each_write_fails(rt: HostRuntime) -> std::result::Result<(), Fail> {
     let alloc = rt.alloc();
     let value = hello(alloc)?;
     let whole = b"Hello true-7afalse".as_slice();
@@ -156,11 +159,7 @@ fn each_write_fails(rt: HostRuntime) -> core::result::Result<(), Fail> {
             bytes: Vec::new(alloc),
             writes_left,
         });
-        let mut out = Output {
-            writer: &mut writer,
-            buffer: None,
-        };
-        let answer = push_value(alloc, &value, &mut out);
+        let answer = write_value(alloc, &value, &mut writer);
         let failures = writer.failures();
         let bytes = writer.into_inner().bytes;
         if writes_left < 5 {
@@ -189,7 +188,7 @@ fn variable(alloc: Global, name: &str) -> Result<FilterChain> {
 
 // `{% assign b = a %}b={{ b }}{{ c }}` over `{"a": 1}`
 #[test]
-fn three_nodes(rt: HostRuntime) -> core::result::Result<(), Fail> {
+fn three_nodes(rt: HostRuntime) -> std::result::Result<(), Fail> {
     let alloc = rt.alloc();
     let mut state = State::new(alloc, pair(alloc, "a", Value::Integer(1))?);
     let partials = Partials::new(alloc);
@@ -226,6 +225,7 @@ fn three_nodes(rt: HostRuntime) -> core::result::Result<(), Fail> {
         &mut out,
         &mut state,
     );
+    drop(out);
     assert_eq!(rt; kind_of(&missing), Some(ErrorKind::UnknownVariable));
     assert_eq!(rt; writer.into_inner().bytes.as_slice(), b"b=1".as_slice());
     Ok(())
@@ -239,7 +239,7 @@ fn is_integer(value: Option<&Value>, wanted: i64) -> bool {
 }
 
 #[test]
-fn runtime_calls(rt: HostRuntime) -> core::result::Result<(), Fail> {
+fn runtime_calls(rt: HostRuntime) -> std::result::Result<(), Fail> {
     let alloc = rt.alloc();
     let partials = Partials::new(alloc);
     let mut runtime = RuntimeBuilder::new(alloc)

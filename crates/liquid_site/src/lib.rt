@@ -2,5 +2,7 @@
 #![tactic(auto)]
 
 mod json;
+mod page;
 
 pub use json::data_from_json;
+pub use page::run;

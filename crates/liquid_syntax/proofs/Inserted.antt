@@ -1,5 +1,5 @@
 -- Entries by name, in the code's map and as a list.
-use Rattle.std.proofs.Common.{◌≡◌, ℕ, List, [], ◌∷◌, map, max, length, Ordering, Less, Equal, Greater, Bool, true, false, Option, Some, None, option_map, IfSome, Bor, BTreeMap, String, Global, string_bytes, string_cmp, bytes_eq, is_eq, cond, nat_cmp, ◌≤◌, refl, sym, ap, ◌∙◌, subst, arith}
+use Rattle.std.proofs.Common.{◌≡◌, List, [], ◌∷◌, Ordering, Less, Equal, Greater, Bool, true, false, Option, Some, None, option_map, Bor, String, Global, string_bytes, string_cmp, bytes_eq, is_eq, cond, nat_cmp, refl, sym, ap, ◌∙◌}
 use mathlib.Core.Path.{fun_ext}
 use Rattle.std.specs.BTreeMap.{insert_entry, is_at}
 use Rattle.std.specs.Cmp.Lexicographic.{slice_cmp}

@@ -10,7 +10,7 @@ use Rattle.liquid_syntax.specs.Flats.{flats, flat_of, ends_of_nodes, nodes_of, S
 use Rattle.liquid_syntax.specs.Templates.{list_of, forest_of, tree_of, node_count_of}
 use Rattle.liquid_syntax.proofs.Dressed.{nested_laid}
 
-ends_seen : (ns : List Node) → ends_of_nodes ns ≡ ends_in (flats ns)
+pub ends_seen : (ns : List Node) → ends_of_nodes ns ≡ ends_in (flats ns)
 ends_seen [] = refl
 ends_seen (n ∷ ns) = ap (λ l. (flat_of n).ends ∷ l) (ends_seen ns)
 

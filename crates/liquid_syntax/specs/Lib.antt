@@ -1,10 +1,13 @@
+pub mod Building
 pub mod Bytes
 pub mod Called
 pub mod Calls
+pub mod ChainLaw
 pub mod ChainReading
 pub mod ChainView
 pub mod Chains
 pub mod ConditionView
+pub mod Controls
 pub mod Entries
 pub mod Evaluation
 pub mod Flats
@@ -12,6 +15,8 @@ pub mod Forest
 pub mod Groups
 pub mod ItemReading
 pub mod Items
+pub mod Judges
+pub mod Judging
 pub mod Laid
 pub mod Languages
 pub mod Names
@@ -20,6 +25,7 @@ pub mod Nesting
 pub mod NestingLaw
 pub mod OpenBlocks
 pub mod Openers
+pub mod Parsing
 pub mod PieceView
 pub mod Pieces
 pub mod Readers

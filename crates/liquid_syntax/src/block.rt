@@ -1,4 +1,6 @@
 //! Blocks that are open while a source is read.
+ghost use Rattle.std.specs.Prelude.{◌≡◌};
+ghost use Rattle.liquid_syntax.specs.Controls.{end_word};
 
 /// A block with bodies of its own.
 #[derive(Clone, Copy, Debug, PartialEq, Eq)]
@@ -21,4 +23,19 @@ pub enum Place {
     InBody(Block),
     /// In the last body that the block can have, which its end alone ends.
     InLast(Block),
+}
+
+/// The tag that ends the block.
+pub fn end_tag(block: Block) -> &'static str
+    ensures { result.now ≡ end_word block }
+{
+    match block {
+        Block::If => "endif",
+        Block::Unless => "endunless",
+        Block::Case => "endcase",
+        Block::For => "endfor",
+        Block::TableRow => "endtablerow",
+        Block::Capture => "endcapture",
+        Block::IfChanged => "endifchanged",
+    }
 }

@@ -160,11 +160,25 @@ fn place(source: &str, left: usize) -> (usize, usize) {
     (line, column)
 }
 
-/// What stands at the place with so many bytes left, up to the next white space.
+/// What stands at the place with so many bytes left: an output or a tag as a whole, else up to the next white space.
 fn found(source: &str, left: usize) -> &str {
     let at = source.len().saturating_sub(left);
-    match source.get(at..) {
-        Some(rest) => rest.split_whitespace().next().unwrap_or(""),
-        None => "",
+    let Some(rest) = source.get(at..) else {
+        return "";
+    };
+    if rest.starts_with("{{") {
+        return up_to(rest, "}}");
+    }
+    if rest.starts_with("{%") {
+        return up_to(rest, "%}");
+    }
+    rest.split_whitespace().next().unwrap_or("")
+}
+
+/// The text with its first closer, or all of it where it has none.
+fn up_to<'s>(text: &'s str, closer: &str) -> &'s str {
+    match text.find(closer) {
+        Some(at) => text.get(..at.saturating_add(closer.len())).unwrap_or(text),
+        None => text,
     }
 }

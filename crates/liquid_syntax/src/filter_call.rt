@@ -29,7 +29,8 @@ pub fn apply_filters<F: Filter>(
     state: &State,
 ) -> Result<Value>
     requires { All (λ c. IsTrue (F.counts c.filter (length c.args.now))) calls.now }
-    ensures { Answers view result (applied (map (λ c. call_of (F.answer c.filter) c.args.now) calls.now) (view entry) (environment_of state.now)) }
+    ensures { Answers view result
+        (applied (map (λ c. call_of (F.answer c.filter) c.args.now) calls.now) (view entry) (environment_of state.now)) }
 {
     apply_to(alloc, ValueCow::Owned(entry), calls, state)?.into_owned(alloc)
 }
@@ -42,7 +43,8 @@ pub fn apply_to<'v, F: Filter>(
     state: &State,
 ) -> Result<ValueCow<'v>>
     requires { All (λ c. IsTrue (F.counts c.filter (length c.args.now))) calls.now }
-    ensures { Answers cow_view result (applied (map (λ c. call_of (F.answer c.filter) c.args.now) calls.now) (cow_view entry.entry) (environment_of state.now)) }
+    ensures { Answers cow_view result
+        (applied (map (λ c. call_of (F.answer c.filter) c.args.now) calls.now) (cow_view entry.entry) (environment_of state.now)) }
 {
     let mut value = entry;
     for call in calls {

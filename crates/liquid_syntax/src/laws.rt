@@ -1,4 +1,5 @@
 //! Laws of the definitions that contracts speak of.
+ghost use Rattle.liquid_syntax.specs.ChainLaw.{ReadsChains};
 ghost use Rattle.liquid_syntax.specs.NestingLaw.{ReadsTheGrammar, AtMostOneTree};
 ghost use Rattle.liquid_syntax.specs.ReadingLaws.{ReadValueStands, StandingValueIsRead, ReadItemsStand, StandingItemsAreRead, ReadRawStands, StandingRawIsRead, ReadCommentStands, StandingCommentIsRead, ReadSourceStands, StandingSourceIsRead};
 
@@ -32,4 +33,9 @@ pub fn source_laws()
 pub fn nesting_laws()
     ensures reads { ReadsTheGrammar }
     ensures unique { AtMostOneTree }
+{}
+
+/// A chain of filters is read exactly where the written grammar says that the items are it.
+pub fn chain_law()
+    ensures { ReadsChains }
 {}

@@ -2,23 +2,28 @@
 #![tactic(auto)]
 
 mod block;
+mod build;
 mod chain;
+mod chain_items;
 mod comparison;
 mod condition;
 mod cut;
 mod fault;
 mod filter_call;
 mod item;
+mod judge;
 mod language;
 mod laws;
 mod mark;
 mod node;
 mod number;
+mod parser;
+#[cfg(test)]
+mod parser_tests;
 mod partials;
 mod piece;
 #[cfg(test)]
 mod piece_tests;
-mod read_chain;
 mod scan;
 mod symbol;
 mod template;
@@ -33,11 +38,11 @@ pub use fault::{Fault, FaultKind, ParseError};
 pub use filter_call::{FilterCall, apply_filters};
 pub use item::{Delimiter, Item};
 pub use language::{BlockKind, Language, Registry, TagKind};
-pub use laws::{item_laws, nesting_laws, source_laws, value_laws, verbatim_laws};
+pub use laws::{chain_law, item_laws, nesting_laws, source_laws, value_laws, verbatim_laws};
 pub use mark::Mark;
 pub use node::Node;
+pub use parser::parse;
 pub use partials::Partials;
 pub use piece::{Body, Markup, Piece, bare_name, read_body, read_markup};
 pub use symbol::Symbol;
 pub use template::Template;
-pub use tokens::{is_over, next_value, next_word, skip};

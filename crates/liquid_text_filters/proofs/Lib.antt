@@ -1,0 +1,9 @@
+pub mod Characters
+pub mod Occurrences
+pub mod Ones
+pub mod Pieces
+pub mod Replaced
+pub mod Spellings
+pub mod Splits
+pub mod Views
+pub mod Words

@@ -1,0 +1,16 @@
+pub mod Arguments
+pub mod Case
+pub mod Default
+pub mod Laws
+pub mod Occurrences
+pub mod Operate
+pub mod Parts
+pub mod Pieces
+pub mod Places
+pub mod Size
+pub mod Slice
+pub mod Spelling
+pub mod Split
+pub mod Strip
+pub mod Text
+pub mod Truncate
