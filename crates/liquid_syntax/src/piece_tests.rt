@@ -286,6 +286,24 @@ fn cut_sources(rt: HostRuntime) -> Result<(), Fail> {
     Ok(())
 }
 
+/// A source that ends at each of its bytes: where it is refused, and by which kind.
+#[test]
+fn fronts(rt: HostRuntime) -> Result<(), Fail> {
+    let source = "a{% if x %}{{ b }}{% endif %}";
+    for end in 0..=source.len() {
+        let want = match end {
+            3..=9 | 13..=16 | 20..=27 => "Unclosed",
+            10 | 17 | 28 => "BadItem",
+            _ => "'a",
+        };
+        if let Some(front) = source.get(..end) {
+            let answer = shown(rt.alloc(), front)?;
+            assert!(rt; end == 0 || answer.as_str().starts_with(want), "{end}");
+        }
+    }
+    Ok(())
+}
+
 #[test]
 fn messages(rt: HostRuntime) -> Result<(), Fail> {
     let rows = [
