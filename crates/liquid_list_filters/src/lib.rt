@@ -1,0 +1,4 @@
+//! Filters over lists and numbers.
+#![tactic(auto)]
+
+pub mod stdlib;

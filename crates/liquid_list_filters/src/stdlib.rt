@@ -1,0 +1,5 @@
+//! The standard filters over lists and numbers.
+
+mod math;
+
+

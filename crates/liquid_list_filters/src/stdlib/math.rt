@@ -1,0 +1,11 @@
+//! Filters over numbers.
+
+
+
+mod decimal;
+
+
+
+
+
+
