@@ -1,2 +1,5 @@
 pub mod Decimals
+pub mod Divisions
+pub mod Faults
+pub mod Operations
 pub mod Roundings

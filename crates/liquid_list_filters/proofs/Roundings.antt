@@ -13,11 +13,11 @@ use Rattle.std.proofs.lemmas.Str.Parse.{IsNumeralModel, numerals_by_value, tells
 use Rattle.std.proofs.Common.{ℤ, pos, neg_ℤ, Some, None, Ok, Err, Option, Result, if◌then◌else◌}
 use mir.Val.{bool_byte}
 use Rattle.std.specs.Prelude.{IsTrue, nat_lt}
-use Rattle.liquid_list_filters.specs.Decimals.{is_numeral}
+use Rattle.liquid_list_filters.specs.Decimals.{is_numeral, if_fits}
 use Rattle.liquid_core.specs.Whole.{fits}
-use Rattle.liquid_list_filters.specs.Rounding.{signed, if_fits, nearest, away, towards, magnitude, size, goes_away, IsMagnitude}
-use Rattle.liquid_list_filters.specs.declared.stdlib.math.decimal.Rounding.{Rounding}
-use Rattle.liquid_list_filters.specs.declared.stdlib.math.decimal.Rounding.TheVariants.{Nearest, Up, Down}
+use Rattle.liquid_list_filters.specs.Rounding.{signed, nearest, away, towards, magnitude, size, goes_away, IsMagnitude}
+use Rattle.liquid_list_filters.specs.declared.stdlib.filters.math.decimal.Rounding.{Rounding}
+use Rattle.liquid_list_filters.specs.declared.stdlib.filters.math.decimal.Rounding.TheVariants.{Nearest, Up, Down}
 
 -- ---- one answer
 floor_is : (n s m : ℕ) → 0 < s → m * s ≤ n → n < (m + 1) * s → m ≡ n / s
@@ -135,9 +135,10 @@ half (c ∷ fs) h t e =
     let r = digit_range c h.0 in
     let v = head_value c fs in
     let p = pow-suc 10 (length fs) in
-    let b = digits_value-lt 10 fs h.1 in
-    (λ x. let k : 5 ≤ digit_value c = grind (arith, nat_tests) in let m = mul-le 5 (10 ^ length fs) (digit_value c) (10 ^ length fs) k (omega arith) in omega arith,
-     λ x. let k : digit_value c ≤ 4 = grind (arith, nat_tests) in let m = mul-le (digit_value c) (10 ^ length fs) 4 (10 ^ length fs) k (omega arith) in omega arith)
+    let b = digits_value-lt 10 fs h.1 in (
+      λ x. let k : 5 ≤ digit_value c = grind (arith, nat_tests) in let m = mul-le 5 (10 ^ length fs) (digit_value c) (10 ^ length fs) k (omega arith) in omega arith,
+      λ x. let k : digit_value c ≤ 4 = grind (arith, nat_tests) in let m = mul-le (digit_value c) (10 ^ length fs) 4 (10 ^ length fs) k (omega arith) in omega arith,
+    )
 
 near_at : (w f s : ℕ) (t : Bool) → f < s → (t ≡ true → s ≤ 2 * f) × (t ≡ false → 2 * f < s) → nearest (w * s + f) s ≡ w + cond t 1 0
 near_at w f s true l h = nearest_one w f s l (h.0 refl)

@@ -1,9 +1,14 @@
 -- Decimal texts: an optional sign, digits, and optionally a point and more digits.
-use Rattle.std.specs.Prelude.{◌≡◌, ℕ, Bool, true, ◌&&◌, ◌==◌, false, nat_lt, List, length, if◌then◌else◌}
+use Rattle.std.specs.Prelude.{◌≡◌, ℕ, ℤ, Option, Some, None, Bool, true, ◌&&◌, ◌==◌, false, nat_lt, List, length, if◌then◌else◌}
 use Rattle.std.specs.List.{position_or_len, before_first, after_first}
 use Rattle.std.specs.Str.{all_ascii_digits}
 use Rattle.std.specs.Str.Parse.{without_leading_sign, starts_with_minus}
 use Rattle.liquid_core.specs.Data.{Datum, text}
+use Rattle.liquid_core.specs.Whole.{fits}
+
+-- a number of 64 bits
+abbrev pub if_fits : ℤ → Option ℤ
+if_fits z = if fits z then Some z else None
 
 -- one digit or more
 abbrev pub is_numeral : List ℕ → Bool

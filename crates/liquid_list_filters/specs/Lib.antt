@@ -1,2 +1,6 @@
+pub mod Arguments
 pub mod Decimals
+pub mod Division
+pub mod NumberLaws
+pub mod Numbers
 pub mod Rounding

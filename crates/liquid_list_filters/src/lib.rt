@@ -1,4 +1,9 @@
-//! Filters over lists and numbers.
+//! Filters over lists and numbers, and the readers of their arguments.
 #![tactic(auto)]
 
+mod argument;
+mod fault;
 pub mod stdlib;
+
+pub use argument::{lower_case, text_argument, text_of, whole_argument};
+pub use fault::{invalid_argument, invalid_input};

@@ -1,5 +1,7 @@
-//! The standard filters over lists and numbers.
+//! The standard set of filters.
+mod filters;
+pub mod laws;
 
-mod math;
-
-
+pub use filters::math::arithmetic::{DividedBy, Minus, Modulo, Plus, Times};
+pub use filters::math::bounds::{Abs, AtLeast, AtMost};
+pub use filters::math::rounding::{Ceil, Floor, Round};

@@ -5,8 +5,8 @@ ghost use Rattle.std.specs.List.{list_all, list_any};
 ghost use Rattle.std.specs.Str.{all_ascii_digits};
 ghost use Rattle.std.specs.Str.Parse.{without_leading_sign, digits_value};
 ghost use Rattle.liquid_core.specs.Whole.{fits};
-ghost use Rattle.liquid_list_filters.specs.Decimals.{is_decimal, is_numeral, IsReadFrom};
-ghost use Rattle.liquid_list_filters.specs.Rounding.{goes_away, signed, size, if_fits};
+ghost use Rattle.liquid_list_filters.specs.Decimals.{is_decimal, is_numeral, if_fits, IsReadFrom};
+ghost use Rattle.liquid_list_filters.specs.Rounding.{goes_away, signed, size};
 
 /// How a decimal text is brought to a whole number.
 #[derive(Clone, Copy)]
