@@ -6,6 +6,7 @@ use liquid_core::{Filter, Value};
 use std::alloc::Global;
 use std::process::Abort;
 
+#[derive(Drop)]
 struct Rows<'r, R> {
     rt: &'r R,
     alloc: Global,
