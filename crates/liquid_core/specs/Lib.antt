@@ -9,6 +9,7 @@ pub mod ExpressionView
 pub mod Expressions
 pub mod Fallible
 pub mod Find
+pub mod Found
 pub mod Lists
 pub mod Maps
 pub mod Order

@@ -4,3 +4,4 @@
 mod kind;
 
 pub use kind::FilterKind;
+pub use liquid_list_filters::stdlib;

@@ -1,5 +1,6 @@
 pub mod Decimals
 pub mod Divisions
+pub mod Ends
 pub mod Faults
 pub mod Operations
 pub mod Roundings

@@ -2,6 +2,8 @@
 mod filters;
 pub mod laws;
 
+pub use filters::array::ends::{First, Last};
+pub use filters::array::join::Join;
 pub use filters::math::arithmetic::{DividedBy, Minus, Modulo, Plus, Times};
 pub use filters::math::bounds::{Abs, AtLeast, AtMost};
 pub use filters::math::rounding::{Ceil, Floor, Round};

@@ -1,0 +1,10 @@
+use Rattle.std.proofs.Common.{map, string_bytes, ◌≡◌, ◌++◌, drop}
+use Rattle.liquid_core.specs.Data.{text_of}
+use Rattle.liquid_core.specs.Lists.{list_of}
+use Rattle.liquid_core.specs.View.{items_view}
+use Rattle.liquid_list_filters.specs.Joined.{joined, joined_rest}
+use Rattle.liquid_list_filters.proofs.stdlib.filters.array.join.joined.Given as goal
+
+abbrev pub invariant-loop-item : goal.invariant-loop-item
+invariant-loop-item l =
+    joined l.separator (map text_of (list_of (items_view l.items))) ≡ string_bytes l.out ++ joined_rest l.separator (map text_of (list_of (items_view (drop l.item-index l.rest))))

@@ -1,0 +1,25 @@
+-- Texts in a row with a separator between them, and the filter `join`.
+use Rattle.std.specs.Prelude.{List, [], ◌∷◌, ◌++◌, map, codes, Ok, Err}
+use Rattle.liquid_core.specs.Data.{Datum, text, array, text_of}
+use Rattle.liquid_core.specs.Lists.{list_of}
+use Rattle.liquid_core.specs.Texts.{Text}
+use Rattle.liquid_core.specs.declared.error.ErrorKind.TheVariants.{InvalidInput}
+use Rattle.liquid_list_filters.specs.Arguments.{Answer, text_or}
+
+-- each text with the separator before it
+abbrev pub joined_rest : Text → List Text → Text
+joined_rest separator [] = []
+joined_rest separator (t ∷ ts) = separator ++ (t ++ joined_rest separator ts)
+
+-- the texts with the separator between them
+abbrev pub joined : Text → List Text → Text
+joined separator [] = []
+joined separator (t ∷ ts) = t ++ joined_rest separator ts
+
+abbrev pub join_by : Text → Datum → Answer
+join_by separator (array ds) = Ok (text (joined separator (map text_of (list_of ds))))
+join_by separator _ = Err InvalidInput
+
+-- by a space where no separator is given
+abbrev pub join_answer : Datum → List Datum → Answer
+join_answer d args = join_by (text_or (codes " ") args) d

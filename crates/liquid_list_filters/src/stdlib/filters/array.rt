@@ -1,0 +1,3 @@
+//! Filters over lists.
+pub mod ends;
+pub mod join;

@@ -1,0 +1,61 @@
+//! The filter that joins a list into a text.
+ghost use Rattle.std.specs.Prelude.{map, nat_le, string_bytes};
+ghost use Rattle.liquid_core.specs.Answer.{Answers, Gives};
+ghost use Rattle.liquid_core.specs.Data.{text_of};
+ghost use Rattle.liquid_core.specs.Lists.{list_of};
+ghost use Rattle.liquid_core.specs.View.{view, items_view};
+ghost use Rattle.liquid_list_filters.specs.Joined.{join_answer, join_by, joined};
+
+use crate::argument::text_of;
+use crate::fault::invalid_input;
+use liquid_core::{Filter, Result, Value};
+use std::alloc::Global;
+use std::fmt::Write;
+
+/// `join`: the texts of a list's items with a separator between them, a space where none is given.
+#[derive(Clone, Copy, Drop)]
+pub struct Join;
+
+impl Filter for Join {
+    ghost counts = { λ _ n. nat_le n 1 };
+
+    ghost answer = { λ _. join_answer };
+
+    fn accepts(&self, count: usize) -> bool {
+        count <= 1
+    }
+
+    /// `InvalidInput` where the input is no list.
+    fn evaluate(&self, alloc: Global, input: &Value, args: &[Value]) -> Result<Value> {
+        match args.first() {
+            None => joined_list(alloc, input, " "),
+            Some(separator) => joined_list(alloc, input, text_of(alloc, separator)?.as_str()),
+        }
+    }
+}
+
+fn joined_list(alloc: Global, input: &Value, separator: &str) -> Result<Value>
+    ensures { Answers view result (join_by separator.now (view input.now)) }
+{
+    match input {
+        Value::Array(items) => Ok(Value::Text(joined(alloc, items, separator)?)),
+        _ => Err(invalid_input(alloc, "a list", input)),
+    }
+}
+
+fn joined(alloc: Global, items: &[Value], separator: &str) -> Result<String>
+    ensures { Gives (λ s. string_bytes s) result (joined separator.now (map text_of (list_of (items_view items.now)))) }
+{
+    let mut out = String::new(alloc);
+    match items.split_first() {
+        None => Ok(out),
+        Some((first, rest)) => {
+            out.push_str(text_of(alloc, first)?.as_str())?;
+            for item in rest {
+                out.push_str(separator)?;
+                out.push_str(text_of(alloc, item)?.as_str())?;
+            }
+            Ok(out)
+        }
+    }
+}
