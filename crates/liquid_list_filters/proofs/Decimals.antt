@@ -2,9 +2,9 @@
 use Rattle.std.specs.Char.{is_ascii_digit}
 use Rattle.std.specs.List.{list_all}
 use Rattle.std.specs.Str.{all_ascii_digits}
-use Rattle.std.proofs.Common.{◌≡◌, ◌≢◌, ℕ, ◌<◌, List, [], ◌∷◌, ◌++◌, length, drop, get_or, cond, eqb, Bool, true, false, refl, sym, ap, ◌∙◌, arith, Bor, Some, None, ◌&&◌}
+use Rattle.std.proofs.Common.{◌≡◌, ◌≢◌, ℕ, ◌<◌, List, [], ◌∷◌, drop, get_or, eqb, Bool, true, false, refl, ap, arith, ◌&&◌}
 use Rattle.std.proofs.lemmas.Bool.Decides.{nat_tests}
-use Rattle.std.specs.Str.Parse.{without_leading_sign, without_leading_plus, starts_with_minus}
+use Rattle.std.specs.Str.Parse.{without_leading_sign}
 
 first_is : (c : ℕ) (s rest : List ℕ) → s ≡ c ∷ rest → (eqb (get_or s 0 0) c ≡ true) × (rest ≡ drop 1 s)
 first_is c s rest h = rw h (grind (arith, nat_tests), refl)

@@ -1,5 +1,5 @@
 -- A fault that was told is the wanted one.
-use Rattle.std.proofs.Common.{◌≡◌, Bool, true, false, MatchBool, Result, Err, refl, sym, ap, ◌∙◌}
+use Rattle.std.proofs.Common.{◌≡◌, Bool, true, false, MatchBool, Result, Err, sym, ap, ◌∙◌}
 use Rattle.std.specs.Bool.{⊤}
 use Rattle.liquid_core.specs.Answer.{Faulted}
 use Rattle.liquid_core.specs.Told.{Told, is_memory, is_refusal}

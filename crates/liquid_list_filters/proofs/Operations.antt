@@ -1,5 +1,5 @@
 -- Each filter over numbers answers what its relation says, and that alone.
-use Rattle.std.proofs.Common.{◌≡◌, ◌≢◌, zero, suc, ℤ, pos, negsuc, ◌+ℤ◌, ◌-ℤ◌, ◌*ℤ◌, ◌≤ℤ◌, neg_ℤ, refl, sym, ap, ◌∙◌, inl, inr, ⊎_elim, arith, ◌⊎◌, Bool, true, false, cond, if◌then◌else◌, ◌&&◌, Option, Some, None, Result, Ok, Err, ◌↔◌, MatchBool, MatchOption}
+use Rattle.std.proofs.Common.{◌≡◌, ◌≢◌, ℤ, pos, negsuc, ◌+ℤ◌, ◌-ℤ◌, ◌*ℤ◌, ◌≤ℤ◌, neg_ℤ, refl, sym, ap, ◌∙◌, inl, inr, ⊎_elim, arith, ◌⊎◌, Bool, true, false, cond, if◌then◌else◌, ◌&&◌, Option, Some, None, Ok, Err, MatchBool, MatchOption}
 use Rattle.std.specs.Int.{int_max, int_min}
 use Rattle.std.specs.Int.RustNames.{int_lt, int_div, int_rem, unsigned_abs}
 use Rattle.std.specs.Ordering.{int_eq}
@@ -10,9 +10,9 @@ use Rattle.liquid_core.specs.Data.{Datum, number, scalar}
 use Rattle.liquid_core.specs.Fallible.{◌>>=◌}
 use Rattle.liquid_core.specs.Whole.{whole, fits}
 use Rattle.liquid_core.specs.declared.error.ErrorKind.{ErrorKind}
-use Rattle.liquid_core.specs.declared.error.ErrorKind.TheVariants.{InvalidInput, InvalidArgument, DivideByZero, NumberRange, Float}
+use Rattle.liquid_core.specs.declared.error.ErrorKind.TheVariants.{InvalidInput, InvalidArgument, DivideByZero, Float}
 use Rattle.liquid_list_filters.specs.Arguments.{Answer}
-use Rattle.liquid_list_filters.specs.Decimals.{if_fits, is_decimal_text}
+use Rattle.liquid_list_filters.specs.Decimals.{is_decimal_text}
 use Rattle.liquid_list_filters.specs.Numbers.{operands_of, both_or, or_range, in_range, unlike, plus, minus, times, divided_by, modulo, at_least, at_most, absolute, abs}
 use Rattle.liquid_list_filters.specs.NumberLaws.{StepsOf, Steps, IsSum, IsDifference, IsProduct, IsQuotient, IsRemainder, IsGreater, IsLesser, AbsoluteOf}
 use Rattle.liquid_list_filters.proofs.Divisions.{division_is, division_meets}

@@ -1,5 +1,5 @@
 -- Rounding by products, and by a look at the digits after the point.
-use Rattle.std.proofs.Common.{◌≡◌, ℕ, zero, suc, ◌+◌, ◌-◌, ◌*◌, ◌^◌, ◌/◌, ◌%◌, ◌<◌, ◌≤◌, List, [], ◌∷◌, ◌++◌, length, get_or, cond, eqb, leb, not, ◌||◌, Bool, true, false, refl, sym, ap, ◌∙◌, arith, ◌&&◌}
+use Rattle.std.proofs.Common.{◌≡◌, ℕ, zero, suc, ◌+◌, ◌-◌, ◌*◌, ◌^◌, ◌/◌, ◌<◌, ◌≤◌, List, [], ◌∷◌, ◌++◌, length, get_or, cond, eqb, leb, not, ◌||◌, Bool, true, false, refl, sym, ap, ◌∙◌, arith, ◌&&◌}
 use Rattle.std.proofs.lemmas.Bool.Decides.{nat_tests}
 use Rattle.std.proofs.lemmas.Nat.{div-mul-add, div-add-mod', mod_below, mul-le}
 use Rattle.std.proofs.Math.Nat.{one-le-pow, pow-suc, pow-succ'}
@@ -10,47 +10,31 @@ use Rattle.std.specs.Str.Parse.{AllDigits, digits_value, digits_value_after, IsN
 use Rattle.std.proofs.lemmas.Int.Digits.{digits_value-lt}
 use Rattle.std.proofs.lemmas.Str.{digit_value_digit}
 use Rattle.std.proofs.lemmas.Str.Parse.{IsNumeralModel, numerals_by_value, tells_all_ascii_digits, digit_from_value, parse_digits}
-use Rattle.std.proofs.Common.{ℤ, pos, neg_ℤ, Some, None, Ok, Err, Option, Result, if◌then◌else◌}
+use Rattle.std.proofs.Common.{ℤ, Some, None, Err, Option, if◌then◌else◌}
 use mir.Val.{bool_byte}
 use Rattle.std.specs.Prelude.{IsTrue, nat_lt}
 use Rattle.liquid_list_filters.specs.Decimals.{is_numeral, if_fits}
 use Rattle.liquid_core.specs.Whole.{fits}
-use Rattle.liquid_list_filters.specs.Rounding.{signed, nearest, away, towards, magnitude, size, goes_away, IsMagnitude}
+use Rattle.liquid_list_filters.specs.Rounding.{signed, nearest, away, towards, magnitude, size, goes_away}
 use Rattle.liquid_list_filters.specs.declared.stdlib.filters.math.decimal.Rounding.{Rounding}
 use Rattle.liquid_list_filters.specs.declared.stdlib.filters.math.decimal.Rounding.TheVariants.{Nearest, Up, Down}
 
 -- ---- one answer
-floor_is : (n s m : ℕ) → 0 < s → m * s ≤ n → n < (m + 1) * s → m ≡ n / s
+pub floor_is : (n s m : ℕ) → 0 < s → m * s ≤ n → n < (m + 1) * s → m ≡ n / s
 floor_is n s m p h k =
     let e : n ≡ m * s + (n - m * s) = omega arith in
     sym (ap (λ x. x / s) e ∙ div-mul-add m s (n - m * s) (omega arith))
 
-floor_meets : (n s : ℕ) → 0 < s → ((n / s) * s ≤ n) × (n < (n / s + 1) * s)
+pub floor_meets : (n s : ℕ) → 0 < s → ((n / s) * s ≤ n) × (n < (n / s + 1) * s)
 floor_meets n s p =
     let e = div-add-mod' n s in let b = mod_below n s p in
     (omega arith, omega arith)
 
-ceiling_is : (n s m : ℕ) → 0 < s → n ≤ m * s → m * s < n + s → m ≡ (n + (s - 1)) / s
+pub ceiling_is : (n s m : ℕ) → 0 < s → n ≤ m * s → m * s < n + s → m ≡ (n + (s - 1)) / s
 ceiling_is n s m p h k = floor_is (n + (s - 1)) s m p (omega arith) (omega arith)
 
-ceiling_meets : (n s : ℕ) → 0 < s → (n ≤ away n s * s) × (away n s * s < n + s)
+pub ceiling_meets : (n s : ℕ) → 0 < s → (n ≤ away n s * s) × (away n s * s < n + s)
 ceiling_meets n s p = let f = floor_meets (n + (s - 1)) s p in (omega (arith, f.1), omega (arith, f.0))
-
-pub rounding_is : (how : Rounding) (negative : Bool) (n s m : ℕ) → 0 < s → IsMagnitude how negative n s m → m ≡ magnitude how negative n s
-unfolding magnitude
-rounding_is Nearest negative n s m p h = floor_is (2 * n + s) (2 * s) m (omega arith) h.0 h.1
-rounding_is Up true n s m p h = floor_is n s m p h.0 h.1
-rounding_is Up false n s m p h = ceiling_is n s m p h.0 h.1
-rounding_is Down true n s m p h = ceiling_is n s m p h.0 h.1
-rounding_is Down false n s m p h = floor_is n s m p h.0 h.1
-
-pub rounding_meets : (how : Rounding) (negative : Bool) (n s : ℕ) → 0 < s → IsMagnitude how negative n s (magnitude how negative n s)
-unfolding magnitude
-rounding_meets Nearest negative n s p = floor_meets (2 * n + s) (2 * s) (omega arith)
-rounding_meets Up true n s p = floor_meets n s p
-rounding_meets Up false n s p = ceiling_meets n s p
-rounding_meets Down true n s p = ceiling_meets n s p
-rounding_meets Down false n s p = floor_meets n s p
 
 -- ---- of w wholes and f parts of s
 nearest_none : (w f s : ℕ) → 2 * f < s → nearest (w * s + f) s ≡ w
@@ -96,7 +80,7 @@ value_parts ws fs = value_append 0 ws fs ∙ value_after (digits_value 10 ws) fs
 pub own : IsNumeralModel (λ ds. all_ascii_digits ds ≡ true) (digits_value 10)
 own = numerals_by_value _ tells_all_ascii_digits
 
-pow_pos10 : (k : ℕ) → 0 < 10 ^ k
+pub pow_pos10 : (k : ℕ) → 0 < 10 ^ k
 pow_pos10 k = one-le-pow k 10 (omega arith)
 
 -- any digit but 0

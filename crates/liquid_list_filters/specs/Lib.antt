@@ -6,3 +6,4 @@ pub mod Joined
 pub mod NumberLaws
 pub mod Numbers
 pub mod Rounding
+pub mod RoundingLaws

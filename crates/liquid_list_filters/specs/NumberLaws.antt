@@ -1,5 +1,5 @@
 -- What the filters over numbers answer, in the words of arithmetic; each relation holds of one answer alone.
-use Rattle.std.specs.Prelude.{◌≡◌, ◌≢◌, ◌⊎◌, ℕ, ℤ, pos, neg_ℤ, ◌+ℤ◌, ◌*ℤ◌, ◌≤ℤ◌, Bool, true, false, ◌&&◌, MatchBool, MatchOption, Ok, Err, Option, Some, None}
+use Rattle.std.specs.Prelude.{◌≡◌, ◌≢◌, ◌⊎◌, ℤ, pos, neg_ℤ, ◌+ℤ◌, ◌*ℤ◌, ◌≤ℤ◌, Bool, true, false, ◌&&◌, MatchBool, MatchOption, Ok, Err, Option, Some, None}
 use Rattle.std.specs.Ordering.{int_eq}
 use Rattle.liquid_core.specs.Answer.{IsTheOne}
 use Rattle.liquid_core.specs.Data.{Datum, number, scalar}

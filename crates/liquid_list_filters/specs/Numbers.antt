@@ -1,10 +1,10 @@
 -- What the filters over numbers answer, and in what order they refuse.
-use Rattle.std.specs.Prelude.{◌≡◌, ℕ, ℤ, pos, ◌+ℤ◌, ◌-ℤ◌, ◌*ℤ◌, Bool, true, false, ◌&&◌, ◌||◌, not, List, [], ◌∷◌, Result, Ok, Err, Option, Some, None, IsOk, int_div, int_rem, if◌then◌else◌, is_some, unsigned_abs}
+use Rattle.std.specs.Prelude.{ℤ, pos, ◌+ℤ◌, ◌-ℤ◌, ◌*ℤ◌, Bool, true, false, ◌&&◌, ◌||◌, not, List, [], ◌∷◌, Result, Ok, Err, Option, Some, None, IsOk, int_div, int_rem, if◌then◌else◌, is_some, unsigned_abs}
 use Rattle.std.specs.Int.{int_max, int_min}
 use Rattle.std.specs.Ordering.{int_eq}
 use Rattle.liquid_core.specs.Data.{Datum, number, scalar}
 use Rattle.liquid_core.specs.Fallible.{◌>>=◌}
-use Rattle.liquid_core.specs.Whole.{whole, fits}
+use Rattle.liquid_core.specs.Whole.{whole}
 use Rattle.liquid_core.specs.declared.error.ErrorKind.{ErrorKind}
 use Rattle.liquid_core.specs.declared.error.ErrorKind.TheVariants.{InvalidInput, InvalidArgument, DivideByZero, NumberRange, Float}
 use Rattle.liquid_list_filters.specs.Arguments.{Answer}

@@ -1,5 +1,5 @@
 -- A decimal text is a whole number over a power of ten, with a sign; brought to a whole number.
-use Rattle.std.specs.Prelude.{◌≡◌, ℕ, ℤ, pos, neg_ℤ, ◌+◌, ◌-◌, ◌*◌, ◌^◌, ◌/◌, ◌<◌, ◌≤◌, Bool, true, false, ◌==◌, not, nat_le, int_le, int_lt, List, [], ◌∷◌, ◌++◌, length, Option, Some, None, Ok, Err, if◌then◌else◌, slice_index}
+use Rattle.std.specs.Prelude.{ℕ, ℤ, pos, neg_ℤ, ◌+◌, ◌-◌, ◌*◌, ◌^◌, ◌/◌, Bool, true, false, ◌==◌, not, nat_le, int_le, int_lt, List, [], ◌∷◌, ◌++◌, length, Option, Some, None, Ok, Err, if◌then◌else◌, slice_index}
 use Rattle.std.specs.List.{list_any}
 use Rattle.std.specs.Str.Parse.{digits_value, starts_with_minus}
 use Rattle.liquid_core.specs.Data.{Datum, number, text}
@@ -75,11 +75,3 @@ abbrev pub goes_away : Rounding → Bool → List ℕ → Bool
 goes_away Nearest negative fs = nat_le 53 (slice_index fs 0)
 goes_away Up negative fs = if negative then false else list_any (λ b. not (b == 48)) fs
 goes_away Down negative fs = if negative then list_any (λ b. not (b == 48)) fs else false
-
--- m is that size, told by products of whole numbers
-abbrev pub IsMagnitude : Rounding → Bool → ℕ → ℕ → ℕ → Type 0
-IsMagnitude Nearest negative n s m = (m * (2 * s) ≤ 2 * n + s) × (2 * n + s < (m + 1) * (2 * s))
-IsMagnitude Up true n s m = (m * s ≤ n) × (n < (m + 1) * s)
-IsMagnitude Up false n s m = (n ≤ m * s) × (m * s < n + s)
-IsMagnitude Down true n s m = (n ≤ m * s) × (m * s < n + s)
-IsMagnitude Down false n s m = (m * s ≤ n) × (n < (m + 1) * s)

@@ -1,5 +1,6 @@
 //! Laws of the filters over numbers. Each function does nothing: its contract is the law.
 ghost use Rattle.liquid_list_filters.specs.NumberLaws.{DivisionIsOne, PlusIsOne, MinusIsOne, TimesIsOne, DividedByIsOne, ModuloIsOne, AtLeastIsOne, AtMostIsOne, AbsIsOne, QuotientAndRemainder};
+ghost use Rattle.liquid_list_filters.specs.RoundingLaws.{RoundedIsOne};
 
 /// `plus`: the sum, by the steps of two operands.
 pub fn plus_is_one()
@@ -49,4 +50,9 @@ pub fn quotient_and_remainder()
 /// A number has one quotient and one remainder.
 pub fn division_is_one()
     ensures { DivisionIsOne }
+{}
+
+/// `round`, `ceil` and `floor`: the whole number whose product with a power of ten is the one that the digits are brought to.
+pub fn rounded_is_one()
+    ensures { RoundedIsOne }
 {}

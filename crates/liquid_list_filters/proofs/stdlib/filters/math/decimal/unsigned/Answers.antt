@@ -1,4 +1,4 @@
-use Rattle.std.proofs.Common.{rules, Some, None, arith}
+use Rattle.std.proofs.Common.{None, arith}
 use Rattle.std.proofs.lemmas.Str.Pattern.{strip_prefix_char}
 use Rattle.liquid_list_filters.proofs.Decimals.{cut_none}
 use Rattle.liquid_list_filters.proofs.stdlib.filters.math.decimal.unsigned.Goals as goal

@@ -1,4 +1,3 @@
-use Rattle.std.proofs.Common.{◌+◌}
 use Rattle.std.proofs.Common.{rules, ap, ◌∙◌}
 use mir.Val.{bool_byte}
 use Rattle.liquid_list_filters.proofs.Roundings.{rounded_is, rounded_none}
