@@ -5,3 +5,6 @@ pub mod Faults
 pub mod Operations
 pub mod RoundingRelation
 pub mod Roundings
+pub mod Keys
+pub mod Rows
+pub mod Sorts

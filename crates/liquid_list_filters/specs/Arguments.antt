@@ -15,6 +15,11 @@ abbrev pub text_or : Text → List Datum → Text
 text_or missing [] = missing
 text_or missing (d ∷ ds) = text_of d
 
+-- an argument of any kind, where one is given
+abbrev pub first_of : List Datum → Option Datum
+first_of [] = None
+first_of (d ∷ ds) = Some d
+
 abbrev pub number_or_fault : Option ℤ → Result ℤ ErrorKind
 number_or_fault (Some z) = Ok z
 number_or_fault None = Err InvalidArgument

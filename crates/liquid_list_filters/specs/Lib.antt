@@ -7,3 +7,8 @@ pub mod NumberLaws
 pub mod Numbers
 pub mod Rounding
 pub mod RoundingLaws
+pub mod Keeping
+pub mod Keyed
+pub mod Rows
+pub mod Sequences
+pub mod Sorting

@@ -3,6 +3,7 @@
 
 mod argument;
 mod fault;
+pub mod laws;
 pub mod stdlib;
 
 pub use argument::{lower_case, text_argument, text_of, whole_argument};

@@ -2,7 +2,6 @@
 pub mod arithmetic;
 pub mod bounds;
 mod decimal;
-pub mod laws;
 mod operands;
 pub mod rounding;
 #[cfg(test)]

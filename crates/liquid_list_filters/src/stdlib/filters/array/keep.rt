@@ -1,0 +1,251 @@
+//! The filters that keep some of a list's items.
+ghost use Rattle.std.specs.Prelude.{◌≡◌, IsTrue, ◌||◌, ◌&&◌, nat_eq, nat_le, map, option_map};
+ghost use Rattle.liquid_core.specs.Answer.{Answers, Gives};
+ghost use Rattle.liquid_core.specs.Lists.{list_of};
+ghost use Rattle.liquid_core.specs.View.{view, items_view};
+ghost use Rattle.liquid_list_filters.specs.Keeping.{compact, compact_of, compact_by, compact_answer, is_given, is_wanted, where_of, where_by, where_answer, map_of, map_answer, has_same, uniq, uniq_answer};
+ghost use Rattle.liquid_list_filters.specs.Sequences.{of_list};
+
+use super::sequence::{all_maps, property};
+use crate::argument::text_of;
+use crate::fault::invalid_input;
+use liquid_core::{Filter, Result, Value};
+use std::alloc::Global;
+use std::slice;
+
+/// `compact`: the items of a list that aren't nil; with a property, the maps that have it and not nil.
+#[derive(Clone, Copy, Drop)]
+pub struct Compact;
+
+impl Filter for Compact {
+    ghost counts = { λ _ n. nat_le n 1 };
+
+    ghost answer = { λ _. compact_answer };
+
+    fn accepts(&self, count: usize) -> bool {
+        count <= 1
+    }
+
+    /// `InvalidInput` where the input is no list, or with a property has an item that is no map.
+    fn evaluate(&self, alloc: Global, input: &Value, args: &[Value]) -> Result<Value> {
+        match args.first() {
+            None => compacted(alloc, input),
+            Some(name) => compacted_by(alloc, input, text_of(alloc, name)?.as_str()),
+        }
+    }
+}
+
+fn compacted(alloc: Global, input: &Value) -> Result<Value>
+    ensures { Answers view result (of_list compact (view input.now)) }
+{
+    match input {
+        Value::Array(items) => Ok(Value::Array(without_nils(alloc, items)?)),
+        _ => Err(invalid_input(alloc, "a list", input)),
+    }
+}
+
+fn without_nils(alloc: Global, items: &[Value]) -> Result<Vec<Value>>
+    ensures { Gives (λ v. map view v.items) result (compact (list_of (items_view items.now))) }
+{
+    let mut kept = Vec::new(alloc);
+    for item in items {
+        if !matches!(item, Value::Nil) {
+            kept.push(item.copy(alloc)?)?;
+        }
+    }
+    Ok(kept)
+}
+
+fn compacted_by(alloc: Global, input: &Value, name: &str) -> Result<Value>
+    ensures { Answers view result (compact_by name.now (view input.now)) }
+{
+    match input {
+        Value::Array(items) => {
+            if all_maps(items) {
+                Ok(Value::Array(compact_of(alloc, items, name)?))
+            } else {
+                Err(invalid_input(alloc, "a list of maps", input))
+            }
+        }
+        _ => Err(invalid_input(alloc, "a list of maps", input)),
+    }
+}
+
+fn compact_of(alloc: Global, items: &[Value], name: &str) -> Result<Vec<Value>>
+    ensures { Gives (λ v. map view v.items) result (compact_of name.now (list_of (items_view items.now))) }
+{
+    let mut kept = Vec::new(alloc);
+    for item in items {
+        if is_given(property(item, name)) {
+            kept.push(item.copy(alloc)?)?;
+        }
+    }
+    Ok(kept)
+}
+
+fn is_given(found: Option<&Value>) -> bool
+    ensures { result ≡ is_given (option_map (λ v. view v.now) found.entry) }
+{
+    match found {
+        Some(value) => !matches!(value, Value::Nil),
+        None => false,
+    }
+}
+
+/// `where`: the maps of a list whose property is there and truthy, or equals the target where one is given.
+///
+/// A list with an item that is no map gives nil, and a map counts as a list of itself.
+#[derive(Clone, Copy, Drop)]
+pub struct Where;
+
+impl Filter for Where {
+    ghost counts = { λ _ n. nat_eq n 1 || nat_eq n 2 };
+
+    ghost answer = { λ _. where_answer };
+
+    fn accepts(&self, count: usize) -> bool {
+        count == 1 || count == 2
+    }
+
+    /// `InvalidInput` where the input is neither a list nor a map.
+    fn evaluate(&self, alloc: Global, input: &Value, args: &[Value]) -> Result<Value> {
+        let name = text_of(alloc, &args[0])?;
+        where_by(alloc, input, name.as_str(), args.get(1))
+    }
+}
+
+fn where_by(alloc: Global, input: &Value, name: &str, target: Option<&Value>) -> Result<Value>
+    ensures { Answers view result (where_by name.now (option_map (λ v. view v.now) target.entry) (view input.now)) }
+{
+    match input {
+        Value::Array(items) => {
+            if all_maps(items) {
+                Ok(Value::Array(where_of(alloc, items, name, target)?))
+            } else {
+                Ok(Value::Nil)
+            }
+        }
+        Value::Object(_) => Ok(Value::Array(where_of(
+            alloc,
+            slice::from_ref(input),
+            name,
+            target,
+        )?)),
+        _ => Err(invalid_input(alloc, "a list or a map", input)),
+    }
+}
+
+fn where_of(
+    alloc: Global,
+    items: &[Value],
+    name: &str,
+    target: Option<&Value>,
+) -> Result<Vec<Value>>
+    ensures { Gives (λ v. map view v.items) result (where_of name.now (option_map (λ v. view v.now) target.entry) (list_of (items_view items.now))) }
+{
+    let mut kept = Vec::new(alloc);
+    for item in items {
+        if is_wanted(property(item, name), target) {
+            kept.push(item.copy(alloc)?)?;
+        }
+    }
+    Ok(kept)
+}
+
+fn is_wanted(found: Option<&Value>, target: Option<&Value>) -> bool
+    ensures { result ≡ is_wanted (option_map (λ v. view v.now) target.entry) (option_map (λ v. view v.now) found.entry) }
+{
+    match (target, found) {
+        (None, Some(value)) => value.is_truthy(),
+        (Some(wanted), Some(value)) => value == wanted,
+        _ => false,
+    }
+}
+
+/// `map`: the property's values of those maps of a list that have it; other items are skipped.
+#[derive(Clone, Copy, Drop)]
+pub struct Map;
+
+impl Filter for Map {
+    ghost counts = { λ _ n. nat_eq n 1 };
+
+    ghost answer = { λ _. map_answer };
+
+    fn accepts(&self, count: usize) -> bool {
+        count == 1
+    }
+
+    /// `InvalidInput` where the input is no list.
+    fn evaluate(&self, alloc: Global, input: &Value, args: &[Value]) -> Result<Value> {
+        let name = text_of(alloc, &args[0])?;
+        mapped(alloc, input, name.as_str())
+    }
+}
+
+fn mapped(alloc: Global, input: &Value, name: &str) -> Result<Value>
+    ensures { Answers view result (of_list (map_of name.now) (view input.now)) }
+{
+    match input {
+        Value::Array(items) => Ok(Value::Array(map_of(alloc, items, name)?)),
+        _ => Err(invalid_input(alloc, "a list", input)),
+    }
+}
+
+fn map_of(alloc: Global, items: &[Value], name: &str) -> Result<Vec<Value>>
+    ensures { Gives (λ v. map view v.items) result (map_of name.now (list_of (items_view items.now))) }
+{
+    let mut values = Vec::new(alloc);
+    for item in items {
+        if let Some(value) = property(item, name) {
+            values.push(value.copy(alloc)?)?;
+        }
+    }
+    Ok(values)
+}
+
+/// `uniq`: the items of a list that equal no kept one before.
+///
+/// Each item is compared with each kept one, so the work grows with the square of the kept items.
+#[derive(Clone, Copy, Drop)]
+pub struct Uniq;
+
+impl Filter for Uniq {
+    ghost counts = { λ _ n. nat_eq n 0 };
+
+    ghost answer = { λ _. uniq_answer };
+
+    fn accepts(&self, count: usize) -> bool {
+        count == 0
+    }
+
+    /// `InvalidInput` where the input is no list.
+    fn evaluate(&self, alloc: Global, input: &Value, _args: &[Value]) -> Result<Value> {
+        match input {
+            Value::Array(items) => Ok(Value::Array(unique(alloc, items)?)),
+            _ => Err(invalid_input(alloc, "a list", input)),
+        }
+    }
+}
+
+fn unique(alloc: Global, items: &[Value]) -> Result<Vec<Value>>
+    ensures { Gives (λ v. map view v.items) result (uniq (list_of (items_view items.now))) }
+{
+    let mut kept = Vec::new(alloc);
+    for item in items {
+        if !has_same(&kept, item) {
+            kept.push(item.copy(alloc)?)?;
+        }
+    }
+    Ok(kept)
+}
+
+fn has_same(items: &[Value], wanted: &Value) -> bool
+    ensures { result ≡ has_same (view wanted.now) (map view items.now) }
+{
+    for item in items {
+        if item == wanted {
+            return true;
+        }
+    }
+    false
+}

@@ -1,0 +1,90 @@
+//! The filters that put lists into another row.
+ghost use Rattle.std.specs.Prelude.{◌++◌, nat_eq, map, reverse};
+ghost use Rattle.liquid_core.specs.Answer.{Answers, Gives};
+ghost use Rattle.liquid_core.specs.Lists.{list_of};
+ghost use Rattle.liquid_core.specs.View.{view, items_view};
+ghost use Rattle.liquid_list_filters.specs.Rows.{concat_by, concat_answer, reverse_answer};
+
+use crate::fault::{invalid_argument, invalid_input};
+use liquid_core::{Filter, Result, Value};
+use std::alloc::Global;
+
+/// `reverse`: a list, the last item first.
+#[derive(Clone, Copy, Drop)]
+pub struct Reverse;
+
+impl Filter for Reverse {
+    ghost counts = { λ _ n. nat_eq n 0 };
+
+    ghost answer = { λ _. reverse_answer };
+
+    fn accepts(&self, count: usize) -> bool {
+        count == 0
+    }
+
+    /// `InvalidInput` where the input is no list.
+    fn evaluate(&self, alloc: Global, input: &Value, _args: &[Value]) -> Result<Value> {
+        match input {
+            Value::Array(items) => Ok(Value::Array(reversed(alloc, items)?)),
+            _ => Err(invalid_input(alloc, "a list", input)),
+        }
+    }
+}
+
+fn reversed(alloc: Global, items: &[Value]) -> Result<Vec<Value>>
+    ensures { Gives (λ v. map view v.items) result (reverse (list_of (items_view items.now))) }
+{
+    let mut copies = copied(alloc, items)?;
+    copies.reverse();
+    Ok(copies)
+}
+
+fn copied(alloc: Global, items: &[Value]) -> Result<Vec<Value>>
+    ensures { Gives (λ v. map view v.items) result (list_of (items_view items.now)) }
+{
+    let mut copies = Vec::with_capacity(alloc, items.len())?;
+    push_copies(&mut copies, items, alloc)?;
+    Ok(copies)
+}
+
+/// `concat`: a list followed by the argument's list.
+#[derive(Clone, Copy, Drop)]
+pub struct Concat;
+
+impl Filter for Concat {
+    ghost counts = { λ _ n. nat_eq n 1 };
+
+    ghost answer = { λ _. concat_answer };
+
+    fn accepts(&self, count: usize) -> bool {
+        count == 1
+    }
+
+    /// `InvalidInput` where the input is no list, then `InvalidArgument` where the argument is none.
+    fn evaluate(&self, alloc: Global, input: &Value, args: &[Value]) -> Result<Value> {
+        match (input, &args[0]) {
+            (Value::Array(items), Value::Array(more)) => {
+                Ok(Value::Array(concatenated(alloc, items, more)?))
+            }
+            (Value::Array(_), other) => Err(invalid_argument(alloc, "a list", other)),
+            (_, _) => Err(invalid_input(alloc, "a list", input)),
+        }
+    }
+}
+
+fn concatenated(alloc: Global, items: &[Value], more: &[Value]) -> Result<Vec<Value>>
+    ensures { Gives (λ v. map view v.items) result (list_of (items_view items.now) ++ list_of (items_view more.now)) }
+{
+    let mut copies = copied(alloc, items)?;
+    push_copies(&mut copies, more, alloc)?;
+    Ok(copies)
+}
+
+fn push_copies(copies: &mut Vec<Value>, items: &[Value], alloc: Global) -> Result<()>
+    ensures { Gives (λ _. map view copies.new.items) result (map view copies.old.items ++ list_of (items_view items.now)) }
+{
+    for item in items {
+        copies.push(item.copy(alloc)?)?;
+    }
+    Ok(())
+}

@@ -1,0 +1,208 @@
+//! The filters that sort.
+ghost use Rattle.std.specs.Prelude.{◌≡◌, nat_le, map, option_map};
+ghost use Rattle.liquid_core.specs.Answer.{Answers, Gives};
+ghost use Rattle.liquid_core.specs.Cow.{cow_view};
+ghost use Rattle.liquid_core.specs.Lists.{list_of};
+ghost use Rattle.liquid_core.specs.View.{view, items_view};
+ghost use Rattle.liquid_list_filters.specs.Keyed.{key_view, keyed_view, keyed_below};
+ghost use Rattle.liquid_list_filters.specs.Sorting.{given, key_order, key_of, natural_key_of, sort_by, sorted, sort_answer, sort_natural_answer, sort_named};
+
+use super::sequence::{all_maps, property, sequence};
+use crate::argument::text_of;
+use crate::fault::invalid_input;
+use liquid_core::{Filter, Result, Value, ValueCow};
+use std::alloc::Global;
+use std::cmp::Ordering;
+
+/// `sort`: the input's sequence in the total order of values, nils last; items alike keep their order.
+///
+/// With a property the items are sorted by the property's values, a missing one being nil.
+#[derive(Clone, Copy, Drop)]
+pub struct Sort;
+
+impl Filter for Sort {
+    ghost counts = { λ _ n. nat_le n 1 };
+
+    ghost answer = { λ _. sort_answer };
+
+    fn accepts(&self, count: usize) -> bool {
+        count <= 1
+    }
+
+    /// `InvalidInput` where with a property an item is no map.
+    fn evaluate(&self, alloc: Global, input: &Value, args: &[Value]) -> Result<Value> {
+        match args.first() {
+            None => Ok(Value::Array(sorted(alloc, sequence(input), None)?)),
+            Some(name) => sorted_maps(alloc, input, text_of(alloc, name)?.as_str()),
+        }
+    }
+}
+
+fn sorted_maps(alloc: Global, input: &Value, name: &str) -> Result<Value>
+    ensures { Answers view result (sort_named key_of name.now (view input.now)) }
+{
+    let items = sequence(input);
+    if all_maps(items) {
+        Ok(Value::Array(sorted(alloc, items, Some(name))?))
+    } else {
+        Err(invalid_input(alloc, "a list of maps", input))
+    }
+}
+
+fn sorted(alloc: Global, items: &[Value], property: Option<&str>) -> Result<Vec<Value>>
+    ensures { Gives (λ v. map view v.items) result (sort_by (key_of (option_map (λ s. s.now) property.entry)) (list_of (items_view items.now))) }
+{
+    items_by_key(alloc, with_keys(alloc, items, property)?)
+}
+
+/// `sort_natural`: like `sort`, by texts in lower case, in the order of their bytes.
+#[derive(Clone, Copy, Drop)]
+pub struct SortNatural;
+
+impl Filter for SortNatural {
+    ghost counts = { λ _ n. nat_le n 1 };
+
+    ghost answer = { λ _. sort_natural_answer };
+
+    fn accepts(&self, count: usize) -> bool {
+        count <= 1
+    }
+
+    /// `InvalidInput` where with a property an item is no map.
+    fn evaluate(&self, alloc: Global, input: &Value, args: &[Value]) -> Result<Value> {
+        match args.first() {
+            None => Ok(Value::Array(naturally_sorted(alloc, sequence(input), None)?)),
+            Some(name) => naturally_sorted_maps(alloc, input, text_of(alloc, name)?.as_str()),
+        }
+    }
+}
+
+fn naturally_sorted_maps(alloc: Global, input: &Value, name: &str) -> Result<Value>
+    ensures { Answers view result (sort_named natural_key_of name.now (view input.now)) }
+{
+    let items = sequence(input);
+    if all_maps(items) {
+        Ok(Value::Array(naturally_sorted(alloc, items, Some(name))?))
+    } else {
+        Err(invalid_input(alloc, "a list of maps", input))
+    }
+}
+
+fn naturally_sorted(alloc: Global, items: &[Value], property: Option<&str>) -> Result<Vec<Value>>
+    ensures { Gives (λ v. map view v.items) result (sort_by (natural_key_of (option_map (λ s. s.now) property.entry)) (list_of (items_view items.now))) }
+{
+    items_by_key(alloc, with_natural_keys(alloc, items, property)?)
+}
+
+/// An item with what it is sorted by: a value, or none for nil.
+#[derive(Drop)]
+pub(crate) struct Keyed<'a> {
+    pub(crate) key: Option<ValueCow<'a>>,
+    pub(crate) item: &'a Value,
+}
+
+fn with_keys<'a>(
+    alloc: Global,
+    items: &'a [Value],
+    property: Option<&str>,
+) -> Result<Vec<Keyed<'a>>>
+    ensures { Gives (λ v. map keyed_view v.items) result (map (λ d. (key_of (option_map (λ s. s.now) property.entry) d, d)) (list_of (items_view items.now))) }
+{
+    let mut keyed = Vec::with_capacity(alloc, items.len())?;
+    for item in items {
+        let key = match key_of(item, property) {
+            Some(value) => Some(ValueCow::Borrowed(value)),
+            None => None,
+        };
+        keyed.push(Keyed { key, item })?;
+    }
+    Ok(keyed)
+}
+
+fn with_natural_keys<'a>(
+    alloc: Global,
+    items: &'a [Value],
+    property: Option<&str>,
+) -> Result<Vec<Keyed<'a>>>
+    ensures { Gives (λ v. map keyed_view v.items) result (map (λ d. (natural_key_of (option_map (λ s. s.now) property.entry) d, d)) (list_of (items_view items.now))) }
+{
+    let mut keyed = Vec::with_capacity(alloc, items.len())?;
+    for item in items {
+        let key = natural_key_of(alloc, item, property)?;
+        keyed.push(Keyed { key, item })?;
+    }
+    Ok(keyed)
+}
+
+fn natural_key_of<'a>(
+    alloc: Global,
+    item: &Value,
+    property: Option<&str>,
+) -> Result<Option<ValueCow<'a>>>
+    ensures { Gives (λ k. option_map cow_view k) result (natural_key_of (option_map (λ s. s.now) property.entry) (view item.now)) }
+{
+    match key_of(item, property) {
+        Some(value) => {
+            let mut text = value.text(alloc)?;
+            text.make_ascii_lowercase();
+            Ok(Some(ValueCow::Owned(Value::Text(text))))
+        }
+        None => Ok(None),
+    }
+}
+
+fn key_of<'a>(item: &'a Value, name: Option<&str>) -> Option<&'a Value>
+    ensures { option_map (λ v. view v.now) result ≡ key_of (option_map (λ s. s.now) name.entry) (view item.now) }
+{
+    match name {
+        None => given(item),
+        Some(name) => match property(item, name) {
+            Some(value) => given(value),
+            None => None,
+        },
+    }
+}
+
+fn given(value: &Value) -> Option<&Value>
+    ensures { option_map (λ v. view v.now) result ≡ given (view value.now) }
+{
+    match value {
+        Value::Nil => None,
+        _ => Some(value),
+    }
+}
+
+fn items_by_key(alloc: Global, mut keyed: Vec<Keyed<'_>>) -> Result<Vec<Value>>
+    ensures { Gives (λ v. map view v.items) result (map (λ k. view k.item.now) (sorted keyed_below keyed.entry.items)) }
+{
+    sort_keyed(&mut keyed)?;
+    items_of(alloc, &keyed)
+}
+
+fn sort_keyed(items: &mut Vec<Keyed<'_>>) -> Result<()>
+    ensures { Gives (λ _. items.new.items) result (sorted keyed_below items.old.items) }
+{
+    items.sort_by(|a, b| ordered(a, b))?;
+    Ok(())
+}
+
+fn ordered(a: &Keyed<'_>, b: &Keyed<'_>) -> Ordering
+    ensures { result ≡ key_order (key_view a.now) (key_view b.now) }
+{
+    match (&a.key, &b.key) {
+        (Some(x), Some(y)) => x.as_value().cmp(y.as_value()),
+        (Some(_), None) => Ordering::Less,
+        (None, Some(_)) => Ordering::Greater,
+        (None, None) => Ordering::Equal,
+    }
+}
+
+fn items_of(alloc: Global, keyed: &[Keyed<'_>]) -> Result<Vec<Value>>
+    ensures { Gives (λ v. map view v.items) result (map (λ k. view k.item.now) keyed.now) }
+{
+    let mut items = Vec::with_capacity(alloc, keyed.len())?;
+    for entry in keyed {
+        items.push(entry.item.copy(alloc)?)?;
+    }
+    Ok(items)
+}
