@@ -1,0 +1,13 @@
+pub mod Arguments
+pub mod Case
+pub mod Default
+pub mod Occurrences
+pub mod Operate
+pub mod Pieces
+pub mod Places
+pub mod Size
+pub mod Slice
+pub mod Split
+pub mod Strip
+pub mod Text
+pub mod Truncate

@@ -1,0 +1,6 @@
+//! Filters over texts.
+#![tactic(auto)]
+
+mod argument;
+mod part;
+pub mod stdlib;
