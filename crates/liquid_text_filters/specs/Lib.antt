@@ -1,6 +1,8 @@
 pub mod Arguments
 pub mod Case
 pub mod Default
+pub mod Escapes
+pub mod LineBreaks
 pub mod Occurrences
 pub mod Operate
 pub mod Pieces
@@ -9,5 +11,8 @@ pub mod Size
 pub mod Slice
 pub mod Split
 pub mod Strip
+pub mod TagLaws
+pub mod Tags
 pub mod Text
 pub mod Truncate
+pub mod Urls
