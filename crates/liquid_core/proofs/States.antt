@@ -3,7 +3,10 @@ use Rattle.std.proofs.Common.{◌≡◌, ℕ, List, [], ◌∷◌, ◌++◌, rev
 use mathlib.Core.Path.{fun_ext}
 use Rattle.std.proofs.Common.{Option, None, IsSome, length, ◌<◌, arith, true≢false, String, Global, string_bytes, option_map}
 use Rattle.std.specs.Prelude.{option_to_list}
-use Rattle.std.specs.BTreeMap.{BTreeMap, get_by_text}
+use Rattle.std.specs.BTreeMap.{BTreeMap, get_by_text, UpdatesBy}
+use Rattle.std.specs.String.{string_cmp}
+use Rattle.std.proofs.lemmas.Map.Text.{btree_map_updates_text}
+use Rattle.liquid_core.specs.declared.interrupt.Interrupt.{Interrupt}
 use Rattle.std.proofs.lemmas.List.{map-append}
 use Rattle.liquid_core.specs.declared.value.Value.{Value}
 use Rattle.liquid_core.specs.declared.state.State.{State}
@@ -12,10 +15,11 @@ use Rattle.liquid_core.specs.Data.{no_pairs}
 use Rattle.liquid_core.specs.View.{pairs_view}
 use Rattle.liquid_core.specs.Maps.{merged, empty}
 use Rattle.liquid_core.specs.Environment.{local_of, lookup}
-use Rattle.liquid_core.specs.Scopes.{or_else}
-use Rattle.liquid_core.specs.Scopes.{merged as merged_scopes}
-use Rattle.liquid_core.specs.States.{held, layers_of, environment_of, with_scope_popped, scopes_behind}
-use Rattle.liquid_core.proofs.Scoped.{last_found, value_at_merged}
+use Rattle.std.specs.Map.{lookup as entry_of}
+use Rattle.std.specs.BTreeMap.{is_at}
+use Rattle.std.specs.Cmp.Lexicographic.{slice_cmp}
+use Rattle.std.specs.Ordering.{nat_cmp}
+use Rattle.liquid_core.specs.States.{held, layers_of, environment_of, new_layers, with_scope_popped, scopes_behind, with_interrupt, with_changed, with_cycle}
 use Rattle.std.proofs.lemmas.List.{reverse-append}
 use Rattle.std.proofs.lemmas.Slice.Eq.{bytes_eq-Decides}
 use Rattle.liquid_core.specs.Texts.{Text}
@@ -58,44 +62,82 @@ popped s t o e v a b c d f g = λ i. record {
 
 -- ---- looking up
 
-none_else : {X : Type 0} (o : Option X) → (o else None) ≡ o
-none_else None = refl
-none_else (Some x) = refl
+abbrev Scope : Type 0
+Scope = BTreeMap (String Global) Value
 
-else_assoc : {X : Type 0} (o p q : Option X) → ((o else p) else q) ≡ (o else (p else q))
-else_assoc None p q = refl
-else_assoc (Some x) p q = refl
+-- of the scopes that are left, the last one is looked at first
+at_last : (q : Text) (before all : List Scope) (s : Scope) → all ≡ before ++ s ∷ [] → local_of (reverse (map held all)) q ≡ (held s q else local_of (reverse (map held before)) q)
+unfolding merged
+at_last q before all s e = ap (λ l. local_of (reverse (map held l)) q) e ∙ ap (λ l. local_of l q) (reverse_push held before s)
 
-local_of_append : (xs : List (Map Datum)) (m : Map Datum) (q : Text) → local_of (xs ++ m ∷ []) q ≡ (local_of xs q else m q)
-unfolding merged empty
-local_of_append [] m q = none_else (m q)
-local_of_append (x ∷ xs) m q = ap (λ o. x q else o) (local_of_append xs m q) ∙ sym (else_assoc (x q) (local_of xs q) (m q))
+pub found_in_last : (q : Text) (before all : List Scope) (s : Scope) (d : Option Datum) → all ≡ before ++ s ∷ [] → d ≡ value_at q (pairs_view s.entries) → IsSome d → d ≡ local_of (reverse (map held all)) q
+unfolding map_of
+found_in_last q before all s (Some d) e h k = ap (λ o. o else local_of (reverse (map held before)) q) h ∙ sym (at_last q before all s e)
+found_in_last q before all s None e h k = cc
 
-or_else_is : (o p : Option Datum) → or_else o p ≡ (o else p)
-or_else_is None p = refl
-or_else_is (Some x) p = refl
+pub missing_in_last : (q : Text) (before all : List Scope) (s : Scope) → all ≡ before ++ s ∷ [] → None ≡ value_at q (pairs_view s.entries) → local_of (reverse (map held before)) q ≡ local_of (reverse (map held all)) q
+unfolding map_of
+missing_in_last q before all s e h = ap (λ o. o else local_of (reverse (map held before)) q) h ∙ sym (at_last q before all s e)
 
-last_is_local : (q : Text) (d : Option Datum) (ss : List Pairs) → last_found q d ss ≡ (local_of (reverse (map map_of ss)) q else d)
-unfolding map_of empty
-last_is_local q d [] = refl
-last_is_local q d (s ∷ ss) =
-    last_is_local q (or_else (value_at q s) d) ss
-    ∙ ap (λ o. local_of (reverse (map map_of ss)) q else o) (or_else_is (value_at q s) d)
-    ∙ sym (else_assoc (local_of (reverse (map map_of ss)) q) (value_at q s) d)
-    ∙ sym (ap (λ o. o else d) (ap (λ l. local_of l q) (reverse-append (map_of s ∷ []) (map map_of ss)) ∙ local_of_append (reverse (map map_of ss)) (map_of s) q))
+pub missing_in_none : (q : Text) (left : List Scope) → left ≡ [] → None ≡ local_of (reverse (map held left)) q
+unfolding empty
+missing_in_none q left e = sym (ap (λ l. local_of (reverse (map held l)) q) e)
 
-pub local_is_merged : (q : Text) (ss : List Pairs) → value_at q (merged_scopes no_pairs ss) ≡ local_of (reverse (map map_of ss)) q
-local_is_merged q ss = value_at_merged q no_pairs ss ∙ last_is_local q None ss ∙ none_else _
-
-map_map : {X Y Z : Type 0} (g : Y → Z) (f : X → Y) (xs : List X) → map g (map f xs) ≡ map (λ x. g (f x)) xs
-map_map g f [] = refl
-map_map g f (x ∷ xs) = ap (λ l. g (f x) ∷ l) (map_map g f xs)
-
-pub in_scopes : (q : Text) (s : State) → value_at q (merged_scopes no_pairs (map (λ o. pairs_view o.entries) s.scopes.items)) ≡ (environment_of s).local q
+pub scopes_of : (s : State) → (layers_of s).scopes ≡ reverse (map held s.scopes.items)
 unfolding layers_of
-in_scopes q s = local_is_merged q (map (λ o. pairs_view o.entries) s.scopes.items) ∙ ap (λ l. local_of (reverse l) q) (map_map map_of (λ o. pairs_view o.entries) s.scopes.items)
+scopes_of s = refl
 
 pub looked_up : (s : State) (q : Text) → lookup (environment_of s) q
-    ≡ (((value_at q (merged_scopes no_pairs (map (λ o. pairs_view o.entries) s.scopes.items)) else value_at q (pairs_view s.assigned.entries)) else value_at q (pairs_view s.counters.entries)) else value_at q (pairs_view s.«data».entries))
+    ≡ ((((environment_of s).local q else value_at q (pairs_view s.assigned.entries)) else value_at q (pairs_view s.counters.entries)) else value_at q (pairs_view s.«data».entries))
 unfolding layers_of map_of
-looked_up s q = ap (λ o. ((o else value_at q (pairs_view s.assigned.entries)) else value_at q (pairs_view s.counters.entries)) else value_at q (pairs_view s.«data».entries)) (sym (in_scopes q s))
+looked_up s q = refl
+
+pub counter_of : (s : State) (q : Text) → (layers_of s).counters q ≡ value_at q (pairs_view s.counters.entries)
+unfolding layers_of map_of
+counter_of s q = refl
+
+-- ---- a new state
+
+pub all_empty : (s : State) → s.scopes.items ≡ [] → s.assigned.entries ≡ [] → s.counters.entries ≡ [] → s.interrupt ≡ None → s.cycles.entries ≡ [] → s.changed ≡ None → layers_of s ≡ new_layers (held s.«data»)
+unfolding layers_of map_of empty
+all_empty s a b c d e f = λ i. record {
+  scopes = reverse (map held (a i));
+  assigned = map_of (pairs_view (b i));
+  counters = map_of (pairs_view (c i));
+  globals = held s.«data»;
+  registers = record { interrupt = d i; cycles = (λ group. entry_of (is_at (λ k. slice_cmp nat_cmp group (string_bytes k))) (e i)); changed = option_map string_bytes (f i) };
+}
+
+-- ---- registers, which callers read and set as fields
+
+pub interrupt_of : (s : State) → (layers_of s).registers.interrupt ≡ s.interrupt
+unfolding layers_of
+interrupt_of s = refl
+
+pub interrupt_set : (s : State) (i : Option Interrupt) → layers_of (record s { interrupt = i }) ≡ with_interrupt i (layers_of s)
+unfolding layers_of
+interrupt_set s i = refl
+
+pub changed_of : (s : State) → (layers_of s).registers.changed ≡ option_map string_bytes s.changed
+unfolding layers_of
+changed_of s = refl
+
+pub changed_set : (s : State) (shown : Option (String Global)) → layers_of (record s { changed = shown }) ≡ with_changed (option_map string_bytes shown) (layers_of s)
+unfolding layers_of
+changed_set s shown = refl
+
+pub cycle_of : (s : State) (group : Text) → (layers_of s).registers.cycles group ≡ get_by_text s.cycles group
+unfolding layers_of
+cycle_of s group = refl
+
+-- m is s's map of cycles after `insert`, of which the premise is the clause `updates`
+pub cycle_set : (s : State) (m : BTreeMap (String Global) ℕ) (group : Text) (index : ℕ) → UpdatesBy string_cmp (λ k. slice_cmp nat_cmp group (string_bytes k)) s.cycles m (Some index)
+    → layers_of (record s { cycles = m }) ≡ with_cycle group index (layers_of s)
+unfolding layers_of insert
+cycle_set s m group index h = λ i. record {
+  scopes = reverse (map held s.scopes.items);
+  assigned = held s.assigned;
+  counters = held s.counters;
+  globals = held s.«data»;
+  registers = record { interrupt = s.interrupt; cycles = fun_ext (λ q. btree_map_updates_text group s.cycles m (Some index) h q) i; changed = option_map string_bytes s.changed };
+}

@@ -4,12 +4,17 @@ use Rattle.std.specs.Prelude.{ℤ, Bool, true, false, cond, List, [], ◌∷◌,
 use Rattle.std.specs.Option.{option_and_then, ok_or}
 use Rattle.liquid_core.specs.declared.error.ErrorKind.{ErrorKind}
 use Rattle.liquid_core.specs.declared.error.ErrorKind.TheVariants.{UnknownVariable, UnexpectedValue}
-use Rattle.liquid_core.specs.Data.{Datum, scalar}
+use Rattle.liquid_core.specs.Data.{Datum, scalar, text_of}
 use Rattle.liquid_core.specs.Whole.{whole}
 use Rattle.liquid_core.specs.Find.{find}
 use Rattle.liquid_core.specs.Expression.{Expression, literal, variable, Steps, no_steps, step}
 use Rattle.liquid_core.specs.Environment.{Environment, lookup}
 use Rattle.liquid_core.specs.Fallible.{◌>>=◌}
+
+-- the value of a path: the text of its first step is a name, and the others lead on from that name's value
+abbrev pub value_along : Environment → List Datum → Option Datum
+value_along e [] = None
+value_along e (name ∷ path) = option_and_then (λ d. find d path) (lookup e (text_of name))
 
 unfoldable mutual
   pub value_of : Expression → Environment → Option Datum

@@ -7,7 +7,7 @@ use Rattle.liquid_core.specs.Data.{Datum, Pairs}
 use Rattle.liquid_core.specs.Find.{value_at}
 use Rattle.liquid_core.specs.View.{pairs_view}
 use Rattle.liquid_core.specs.Maps.{Map, empty, insert, merged}
-use Rattle.liquid_core.specs.Environment.{Environment, Registers, local_of}
+use Rattle.liquid_core.specs.Environment.{Environment, Registers, new_registers, local_of}
 use Rattle.liquid_core.specs.declared.state.State.{State}
 use Rattle.liquid_core.specs.declared.interrupt.Interrupt.{Interrupt}
 use Rattle.std.specs.declared.alloc.Global.{Global}
@@ -45,6 +45,10 @@ merged_layers l = record { local = local_of l.scopes; assigned = l.assigned; cou
 abbrev pub environment_of : State → Environment
 environment_of s = merged_layers (layers_of s)
 
+-- a new state over this data
+abbrev pub new_layers : Map Datum → Layers
+new_layers globals = record { scopes = []; assigned = empty; counters = empty; globals = globals; registers = new_registers }
+
 -- ---- changes
 
 abbrev pub with_scope_pushed : Map Datum → Layers → Layers
@@ -60,5 +64,14 @@ with_scope_popped l = record l { scopes = scopes_behind l.scopes }
 abbrev pub with_assigned : Text → Datum → Layers → Layers
 with_assigned name d l = record l { assigned = insert l.assigned name d }
 
+abbrev pub with_counter : Text → Datum → Layers → Layers
+with_counter name d l = record l { counters = insert l.counters name d }
+
 abbrev pub with_interrupt : Option Interrupt → Layers → Layers
 with_interrupt i l = record l { registers = record (l.registers) { interrupt = i } }
+
+abbrev pub with_changed : Option Text → Layers → Layers
+with_changed shown l = record l { registers = record (l.registers) { changed = shown } }
+
+abbrev pub with_cycle : Text → ℕ → Layers → Layers
+with_cycle group index l = record l { registers = record (l.registers) { cycles = insert l.registers.cycles group index } }

@@ -1,9 +1,11 @@
 //! Faults: what kind one is, and a message for who reads it.
-ghost use Rattle.std.specs.Prelude.{◌≡◌};
+ghost use Rattle.std.specs.Prelude.{◌≡◌, Some};
+ghost use Rattle.liquid_core.specs.Errors.{HasMessageUnlessMemory, error_text};
 ghost use Rattle.liquid_core.specs.Told.{Told, number_of, name_of};
 ghost use Rattle.liquid_core.specs.declared.error.ErrorKind.TheVariants.{Memory};
 
 use std::alloc::{AllocError, AllocFailed, Global};
+use std::fmt;
 
 /// What a call answers that can meet a fault.
 pub type Result<T> = std::result::Result<T, Error>;
@@ -155,22 +157,63 @@ pub struct Error {
 }
 
 impl Error {
-    /// A fault of this kind, or `Memory` where there is no room for its message.
+    /// A fault of this kind with this message, or `Memory` where there is no room for the message.
     pub fn new(alloc: Global, kind: ErrorKind, message: &str) -> Error
-        ensures { Told kind result.kind }
+        ensures told { Told kind result.kind }
+        ensures message { HasMessageUnlessMemory message.now result }
     {
         match String::from_str(alloc, message) {
-            Ok(text) => Error {
-                kind,
-                message: Some(text),
-            },
-            Err(_) => Error {
-                kind: ErrorKind::Memory,
-                message: None,
-            },
+            Ok(text) => Error::with_message(kind, text),
+            Err(refused) => Error::from(refused),
+        }
+    }
+
+    /// A fault of this kind with this message.
+    pub fn with_message(kind: ErrorKind, message: String) -> Error
+        ensures kind { result.kind ≡ kind }
+        ensures message { result.message ≡ Some message }
+    {
+        Error {
+            kind,
+            message: Some(message),
+        }
+    }
+
+    /// A fault of this kind with a message that is written out, as a `format_args!` is, or `Memory` where
+    /// there is no room for the message.
+    pub fn formatted<M: fmt::Display + Drop>(alloc: Global, kind: ErrorKind, message: M) -> Error
+        ensures { Told kind result.kind }
+    {
+        match message.to_string(alloc) {
+            Ok(text) => Error::with_message(kind, text),
+            Err(refused) => Error::from(refused),
         }
     }
 }
+
+/// The name of the kind.
+impl fmt::Display for ErrorKind {
+    ghost output = { λ kind. Some (name_of kind) };
+
+    fn fmt<W: fmt::Write>(&self, f: &mut fmt::Formatter<W>) -> fmt::Result {
+        f.write_str(self.name())
+    }
+}
+
+/// `KIND: MESSAGE`, or the kind alone where there is no message.
+impl fmt::Display for Error {
+    ghost output = { λ e. Some (error_text e) };
+
+    fn fmt<W: fmt::Write>(&self, f: &mut fmt::Formatter<W>) -> fmt::Result {
+        let kind = self.kind;
+        match &self.message {
+            Some(message) => write!(f, "{kind}: {message}"),
+            None => write!(f, "{kind}"),
+        }
+    }
+}
+
+impl std::error::Error for Error {}
 
 impl From<AllocError> for Error {
     ghost from_gives = { λ _ e. e.kind ≡ Memory };

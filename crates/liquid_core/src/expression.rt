@@ -1,13 +1,14 @@
 //! Expressions: literals, and variables with their steps.
-ghost use Rattle.std.specs.Prelude.{◌≡◌, option_map};
+ghost use Rattle.std.specs.Prelude.{◌≡◌, option_map, map};
 ghost use Rattle.liquid_core.specs.Answer.{Answers, Gives};
 ghost use Rattle.liquid_core.specs.Cow.{cow_view};
 ghost use Rattle.liquid_core.specs.Expressions.{value_of, required};
-ghost use Rattle.liquid_core.specs.ExpressionView.{expression_view};
+ghost use Rattle.liquid_core.specs.ExpressionView.{expression_view, variable_view, steps_view};
 ghost use Rattle.liquid_core.specs.States.{environment_of};
 
 use crate::cow::ValueCow;
 use crate::error::{Error, ErrorKind, Result};
+use crate::find::Found;
 use crate::state::State;
 use crate::value::Value;
 use std::alloc::Global;
@@ -16,14 +17,143 @@ use std::alloc::Global;
 #[cycle(expression)]
 #[derive(Drop)]
 pub enum Expression {
+    /// A value that stands in the template itself.
     Literal(Value),
+    /// A name, with steps that lead on from its value.
     Variable(Variable),
 }
 
-/// A first name, and the steps that lead on from its value.
+/// A first name, and the steps that lead on from its value, as `a["b"][0]`.
 #[cycle(expression)]
 #[derive(Drop)]
 pub struct Variable {
+    /// The first name.
     pub name: String,
+    /// The steps, each by its own value.
     pub indexes: Vec<Expression>,
+}
+
+impl Expression {
+    /// The value of the expression, where it has one. A variable has none where its name has none, where a
+    /// step's value is missing or no scalar, and where the steps lead to nothing.
+    ///
+    /// The value is lent by the state or the expression, and a length is owned. It refuses for `Memory` alone.
+    pub fn try_evaluate<'a>(
+        &'a self,
+        _alloc: Global,
+        state: &'a State,
+    ) -> Result<Option<ValueCow<'a>>>
+        ensures { Gives (λ r. option_map cow_view r) result (value_of (expression_view self.now) (environment_of state.now)) }
+    {
+        Ok(expression_value(self, state))
+    }
+
+    /// The same, or `UnknownVariable` where the expression has no value.
+    pub fn evaluate<'a>(&'a self, alloc: Global, state: &'a State) -> Result<ValueCow<'a>>
+        ensures { Answers cow_view result (required (expression_view self.now) (environment_of state.now)) }
+    {
+        match expression_value(self, state) {
+            Some(value) => Ok(value),
+            None => Err(Error::formatted(
+                alloc,
+                ErrorKind::UnknownVariable,
+                format_args!("`{self}` has no value"),
+            )),
+        }
+    }
+
+    /// An equal expression that owns its parts.
+    pub fn copy(&self, alloc: Global) -> Result<Expression>
+        ensures { Gives expression_view result (expression_view self.now) }
+    {
+        copied(alloc, self)
+    }
+}
+
+impl Variable {
+    /// The value of the variable, where it has one.
+    pub fn try_evaluate<'a>(
+        &'a self,
+        _alloc: Global,
+        state: &'a State,
+    ) -> Result<Option<ValueCow<'a>>>
+        ensures { Gives (λ r. option_map cow_view r) result (value_of (variable_view self.now) (environment_of state.now)) }
+    {
+        Ok(variable_value(self, state))
+    }
+
+    /// The same, or `UnknownVariable` where the variable has no value.
+    pub fn evaluate<'a>(&'a self, alloc: Global, state: &'a State) -> Result<ValueCow<'a>>
+        ensures { Answers cow_view result (required (variable_view self.now) (environment_of state.now)) }
+    {
+        match variable_value(self, state) {
+            Some(value) => Ok(value),
+            None => Err(Error::formatted(
+                alloc,
+                ErrorKind::UnknownVariable,
+                format_args!("`{self}` has no value"),
+            )),
+        }
+    }
+
+    /// An equal variable that owns its parts.
+    pub fn copy(&self, alloc: Global) -> Result<Variable>
+        ensures { Gives variable_view result (variable_view self.now) }
+    {
+        copied_variable(alloc, self)
+    }
+}
+
+#[cycle(value)]
+fn expression_value<'a>(expression: &'a Expression, state: &'a State) -> Option<ValueCow<'a>>
+    ensures { option_map cow_view result ≡ value_of (expression_view expression.now) (environment_of state.now) }
+{
+    match expression {
+        Expression::Literal(value) => Some(ValueCow::Borrowed(value)),
+        Expression::Variable(variable) => variable_value(variable, state),
+    }
+}
+
+#[cycle(value)]
+fn variable_value<'a>(variable: &'a Variable, state: &'a State) -> Option<ValueCow<'a>>
+    ensures { option_map cow_view result ≡ value_of (variable_view variable.now) (environment_of state.now) }
+{
+    let mut found = Found::Held(state.look_up(variable.name.as_str())?);
+    for index in &variable.indexes {
+        let part = expression_value(index, state)?;
+        found = found.stepped(part.as_value())?;
+    }
+    Some(found.into_value())
+}
+
+#[cycle(copied)]
+fn copied(alloc: Global, expression: &Expression) -> Result<Expression>
+    ensures { Gives expression_view result (expression_view expression.now) }
+{
+    match expression {
+        Expression::Literal(value) => Ok(Expression::Literal(value.copy(alloc)?)),
+        Expression::Variable(variable) => {
+            Ok(Expression::Variable(copied_variable(alloc, variable)?))
+        }
+    }
+}
+
+#[cycle(copied)]
+fn copied_variable(alloc: Global, variable: &Variable) -> Result<Variable>
+    ensures { Gives variable_view result (variable_view variable.now) }
+{
+    let name = String::from_str(alloc, variable.name.as_str())?;
+    let indexes = copied_indexes(alloc, &variable.indexes)?;
+    Ok(Variable { name, indexes })
+}
+
+#[cycle(copied)]
+fn copied_indexes(alloc: Global, indexes: &Vec<Expression>) -> Result<Vec<Expression>>
+    ensures { Gives (λ v. map expression_view v.items) result (map expression_view indexes.now.items) }
+{
+    let mut copies = Vec::with_capacity(alloc, indexes.len())?;
+    for index in indexes {
+        copies.push(copied(alloc, index)?)?;
+    }
+    Ok(copies)
 }

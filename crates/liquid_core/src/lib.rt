@@ -9,13 +9,16 @@ mod expression;
 mod filter;
 mod find;
 mod interrupt;
+pub mod laws;
 mod object;
 mod order;
-mod scopes;
 mod state;
+#[cfg(test)]
+mod tests;
 mod text;
 mod value;
 mod whole;
+mod written;
 
 pub use cow::ValueCow;
 pub use error::{Error, ErrorKind, Result};
@@ -23,6 +26,5 @@ pub use expression::{Expression, Variable};
 pub use filter::Filter;
 pub use interrupt::Interrupt;
 pub use object::{look_up, store};
-pub use scopes::look_up_scoped;
 pub use state::State;
 pub use value::{Object, Value, copy_items};

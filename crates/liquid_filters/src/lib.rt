@@ -5,3 +5,6 @@ mod kind;
 
 pub use kind::FilterKind;
 pub use liquid_list_filters::stdlib;
+
+#[cfg(test)]
+mod tests;

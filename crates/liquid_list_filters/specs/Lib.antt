@@ -9,6 +9,9 @@ pub mod Rounding
 pub mod RoundingLaws
 pub mod Keeping
 pub mod Keyed
+pub mod Laws
+pub mod Places
 pub mod Rows
 pub mod Sequences
 pub mod Sorting
+pub mod Sorts

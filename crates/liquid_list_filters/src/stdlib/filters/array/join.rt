@@ -50,10 +50,10 @@ fn joined(alloc: Global, items: &[Value], separator: &str) -> Result<String>
     match items.split_first() {
         None => Ok(out),
         Some((first, rest)) => {
-            out.push_str(text_of(alloc, first)?.as_str())?;
+            first.append_text(&mut out)?;
             for item in rest {
                 out.push_str(separator)?;
-                out.push_str(text_of(alloc, item)?.as_str())?;
+                item.append_text(&mut out)?;
             }
             Ok(out)
         }

@@ -1,0 +1,91 @@
+use super::{list, object, text};
+use crate::Value;
+use std::alloc::Global;
+use std::test::Fail;
+
+/// The steps between dots: `#7` is the number 7, `?` is true, and all else is a text.
+fn path(alloc: Global, written: &str) -> crate::Result<Vec<Value>> {
+    let mut steps = Vec::new(alloc);
+    for part in written.split('.') {
+        let step = match part.strip_prefix("#") {
+            Some(digits) => match digits.parse::<i64>() {
+                Ok(n) => Value::Integer(n),
+                Err(_) => Value::Nil,
+            },
+            None if part == "?" => Value::Bool(true),
+            None => text(alloc, part)?,
+        };
+        steps.push(step)?;
+    }
+    Ok(steps)
+}
+
+fn sample(alloc: Global) -> crate::Result<Value> {
+    let numbers = [Value::Integer(10), Value::Integer(20), Value::Integer(30)];
+    let keyed = [
+        ("size", Value::Integer(7)),
+        ("true", Value::Integer(1)),
+        ("3", text(alloc, "three")?),
+    ];
+    let pairs = [
+        ("list", list(alloc, numbers)?),
+        ("map", Value::Object(object(alloc, keyed)?)),
+        ("text", text(alloc, "h\u{e9}llo")?),
+        ("number", Value::Integer(-12)),
+        ("truth", Value::Bool(false)),
+        ("nil", Value::Nil),
+    ];
+    Ok(Value::Object(object(alloc, pairs)?))
+}
+
+#[test]
+fn along_a_path(rt: HostRuntime) -> Result<(), Fail> {
+    let alloc = rt.alloc();
+    let value = sample(alloc)?;
+    for (written, wanted) in [
+        ("list.#0", Some("10")),
+        ("list.#-1", Some("30")),
+        ("list.#-3", Some("10")),
+        ("list.#-4", None),
+        ("list.#3", None),
+        ("list.1", Some("20")),
+        ("list.-1", Some("30")),
+        ("list.first", Some("10")),
+        ("list.last", Some("30")),
+        ("list.size", Some("3")),
+        ("list.size.size", Some("1")),
+        ("list.?", None),
+        ("map.size", Some("7")),
+        ("map.?", Some("1")),
+        ("map.#3", Some("three")),
+        ("map.first", None),
+        ("size", Some("6")),
+        ("text.size", Some("6")),
+        ("text.first", None),
+        ("number.size", Some("3")),
+        ("truth.size", Some("5")),
+        ("nil.size", None),
+        ("nope", None),
+    ] {
+        let steps = path(alloc, written)?;
+        match value.find(alloc, steps.as_slice())? {
+            Some(found) => {
+                let shown = found.as_value().text(alloc)?;
+                assert_eq!(rt; Some(shown.as_str()), wanted, "at {written}");
+            }
+            None => assert_eq!(rt; None, wanted, "at {written}"),
+        }
+    }
+    Ok(())
+}
+
+#[test]
+fn the_empty_path_and_steps_that_are_no_scalars(rt: HostRuntime) -> Result<(), Fail> {
+    let alloc = rt.alloc();
+    let value = sample(alloc)?;
+    let found = value.find(alloc, &[])?.ok_or("the value itself")?;
+    assert!(rt; found.into_owned(alloc)? == value);
+    assert!(rt; value.find(alloc, &[Value::Nil])?.is_none());
+    assert!(rt; value.find(alloc, &[list(alloc, [])?])?.is_none());
+    Ok(())
+}

@@ -1,0 +1,126 @@
+use super::{list, object, text};
+use crate::{Error, ErrorKind, Value};
+use std::cmp::Ordering;
+use std::hash::{DefaultHasher, Hash, Hasher};
+use std::test::Fail;
+
+fn hash_of(value: &Value) -> u64 {
+    let mut state = DefaultHasher::new();
+    value.hash(&mut state);
+    state.finish()
+}
+
+#[test]
+fn texts(rt: HostRuntime) -> Result<(), Fail> {
+    let alloc = rt.alloc();
+    let items = list(alloc, [Value::Integer(-7), text(alloc, "x")?, Value::Nil])?;
+    let value = Value::Object(object(alloc, [("b", items), ("a", Value::Bool(true))])?);
+    assert_eq!(rt; value.text(alloc)?.as_str(), "atrueb-7x");
+    let mut appended = String::from_str(alloc, "a ")?;
+    Value::Integer(i64::MIN).append_text(&mut appended)?;
+    assert_eq!(rt; appended.as_str(), "a -9223372036854775808");
+    let copy = value.copy(alloc)?;
+    assert!(rt; copy == value && hash_of(&copy) == hash_of(&value));
+    assert!(rt; value.is_truthy() && !value.is_default() && !value.is_scalar());
+    assert!(rt; !Value::Nil.is_truthy() && Value::Nil.is_default());
+    Ok(())
+}
+
+#[test]
+fn whole_numbers(rt: HostRuntime) -> Result<(), Fail> {
+    for (written, wanted) in [
+        ("-12", Some(-12)),
+        ("+12", Some(12)),
+        ("007", Some(7)),
+        ("-9223372036854775808", Some(i64::MIN)),
+        ("9223372036854775807", Some(i64::MAX)),
+        ("9223372036854775808", None),
+        ("-9223372036854775809", None),
+        ("", None),
+        ("-", None),
+        ("1.0", None),
+        (" 1", None),
+    ] {
+        assert_eq!(rt;
+            text(rt.alloc(), written)?.to_integer(),
+            wanted,
+            "of {written}"
+        );
+    }
+    assert_eq!(rt; Value::Bool(true).to_integer(), None);
+    Ok(())
+}
+
+#[test]
+fn kinds_and_values_in_order(rt: HostRuntime) -> Result<(), Fail> {
+    let alloc = rt.alloc();
+    let ascending = [
+        Value::Nil,
+        Value::Bool(false),
+        Value::Bool(true),
+        Value::Integer(-2),
+        Value::Integer(10),
+        text(alloc, "10")?,
+        text(alloc, "9")?,
+        text(alloc, "a")?,
+        list(alloc, [])?,
+        list(alloc, [Value::Nil])?,
+        list(alloc, [Value::Nil, Value::Integer(1)])?,
+        list(alloc, [text(alloc, "a")?])?,
+        Value::Object(object(alloc, [])?),
+        Value::Object(object(alloc, [("a", Value::Integer(2))])?),
+        Value::Object(object(alloc, [("b", Value::Integer(1))])?),
+    ];
+    for (i, lesser) in ascending.iter().enumerate() {
+        for (j, greater) in ascending.iter().enumerate() {
+            assert!(rt;
+                lesser.cmp(greater) == i.cmp(&j),
+                "{lesser} at {i} and {greater} at {j}"
+            );
+        }
+    }
+    Ok(())
+}
+
+#[test]
+fn order_of_conditions(rt: HostRuntime) -> Result<(), Fail> {
+    let alloc = rt.alloc();
+    let one = Value::Integer(1);
+    assert_eq!(rt; one.compare(&Value::Integer(2)), Some(Ordering::Less));
+    assert_eq!(rt; one.compare(&text(alloc, "1")?), None);
+    assert_eq!(rt; Value::Nil.compare(&Value::Nil), None);
+    let nil = list(alloc, [Value::Nil])?;
+    assert_eq!(rt; nil.compare(&nil), Some(Ordering::Equal));
+    let low = list(alloc, [Value::Nil, Value::Integer(1)])?;
+    let high = list(alloc, [Value::Nil, Value::Integer(2)])?;
+    let other = list(alloc, [Value::Nil, text(alloc, "2")?])?;
+    assert_eq!(rt; high.compare(&low), Some(Ordering::Greater));
+    assert_eq!(rt; high.compare(&other), None);
+    Ok(())
+}
+
+#[test]
+fn faults(rt: HostRuntime) -> Result<(), Fail> {
+    let alloc = rt.alloc();
+    let fault = Error::new(alloc, ErrorKind::DivideByZero, "7 divided by 0");
+    assert_eq!(rt;
+        fault.to_string(alloc)?.as_str(),
+        "DivideByZero: 7 divided by 0"
+    );
+    let fault = Error::formatted(
+        alloc,
+        ErrorKind::Float,
+        format_args!("{} is decimal", "1.5"),
+    );
+    assert_eq!(rt; fault.to_string(alloc)?.as_str(), "Float: 1.5 is decimal");
+    for (kind, number, name) in [
+        (ErrorKind::UnknownVariable, 1, "UnknownVariable"),
+        (ErrorKind::Memory, 17, "Memory"),
+        (ErrorKind::Unclosed, 21, "Unclosed"),
+        (ErrorKind::TooNested, 31, "TooNested"),
+    ] {
+        assert_eq!(rt; kind.number(), number);
+        assert_eq!(rt; kind.name(), name);
+    }
+    Ok(())
+}

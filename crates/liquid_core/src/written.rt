@@ -1,0 +1,86 @@
+//! The written form of an expression: how it stands in a template's source.
+ghost use Rattle.std.specs.Prelude.{◌≡◌, ◌++◌, Some, string_bytes};
+ghost use Rattle.std.specs.Fmt.{WritesOnOk};
+ghost use Rattle.liquid_core.specs.Answer.{Gives};
+ghost use Rattle.liquid_core.specs.ExpressionView.{expression_view, variable_view, steps_view};
+ghost use Rattle.liquid_core.specs.View.{view};
+ghost use Rattle.liquid_core.specs.Written.{written_form, written_literal, written_steps};
+
+use crate::error::Result;
+use crate::expression::{Expression, Variable};
+use crate::text::write_text;
+use crate::value::Value;
+use std::fmt;
+use std::fmt::{Formatter, Write};
+
+/// The written form: a literal text in double quotes, a decimal number, `nil`, `true`, `false`, or a variable
+/// as `a["b"][0]`.
+impl fmt::Display for Expression {
+    ghost output = { λ x. Some (written_form (expression_view x)) };
+
+    fn fmt<W: Write>(&self, f: &mut Formatter<W>) -> fmt::Result {
+        write_expression(self, f)
+    }
+}
+
+/// The written form: the name, then each step in brackets by its own written form.
+impl fmt::Display for Variable {
+    ghost output = { λ x. Some (written_form (variable_view x)) };
+
+    fn fmt<W: Write>(&self, f: &mut Formatter<W>) -> fmt::Result {
+        write_variable(self, f)
+    }
+}
+
+impl Expression {
+    /// Appends the written form to `out`. Where there is no memory, a beginning of it may stand there.
+    pub fn append_written_form(&self, out: &mut String) -> Result<()>
+        ensures { Gives (λ _. string_bytes out.new) result (string_bytes out.old ++ written_form (expression_view self.now)) }
+    {
+        Ok(write!(out, "{self}")?)
+    }
+}
+
+#[cycle(write_expression)]
+fn write_expression<W: Write>(expression: &Expression, f: &mut Formatter<W>) -> fmt::Result
+    ensures { WritesOnOk W.write_str_gives f.old result (written_form (expression_view expression.now)) f.new }
+{
+    match expression {
+        Expression::Literal(value) => write_literal(value, f),
+        Expression::Variable(variable) => write_variable(variable, f),
+    }
+}
+
+#[cycle(write_expression)]
+fn write_variable<W: Write>(variable: &Variable, f: &mut Formatter<W>) -> fmt::Result
+    ensures { WritesOnOk W.write_str_gives f.old result (written_form (variable_view variable.now)) f.new }
+{
+    f.write_str(variable.name.as_str())?;
+    write_steps(&variable.indexes, f)
+}
+
+#[cycle(write_expression)]
+fn write_steps<W: Write>(indexes: &Vec<Expression>, f: &mut Formatter<W>) -> fmt::Result
+    ensures { WritesOnOk W.write_str_gives f.old result (written_steps (steps_view indexes.now.items)) f.new }
+{
+    for index in indexes {
+        f.write_str("[")?;
+        write_expression(index, f)?;
+        f.write_str("]")?;
+    }
+    Ok(())
+}
+
+fn write_literal<W: Write>(value: &Value, f: &mut Formatter<W>) -> fmt::Result
+    ensures { WritesOnOk W.write_str_gives f.old result (written_literal (view value.now)) f.new }
+{
+    match value {
+        Value::Nil => f.write_str("nil"),
+        Value::Text(text) => {
+            f.write_str("\"")?;
+            f.write_str(text.as_str())?;
+            f.write_str("\"")
+        }
+        _ => write_text(value, f),
+    }
+}

@@ -1,0 +1,95 @@
+//! Filters at values from outside.
+//!
+//! Values are written in words: `nil`, `true`, `12`, `[ 1 2 ]` for a list and `{ key 1 }` for a map.
+//! A quote begins a text that would be read otherwise: `'1`, `'` for the empty one; any other word is a text.
+//! In a text `~` stands for a space.
+
+mod lists;
+
+use crate::FilterKind;
+use liquid_core::{Filter, Object, Result, Value};
+use std::alloc::Global;
+use std::collections::BTreeMap;
+use std::process::Abort;
+
+fn text(alloc: Global, word: &str) -> Result<Value> {
+    Ok(Value::Text(word.replace(alloc, "~", " ")?))
+}
+
+/// The value that a word stands for.
+fn word_value(alloc: Global, word: &str) -> Result<Value> {
+    if let Some(quoted) = word.strip_prefix("'") {
+        return text(alloc, quoted);
+    }
+    Ok(match word {
+        "nil" => Value::Nil,
+        "true" => Value::Bool(true),
+        "false" => Value::Bool(false),
+        _ => match word.parse::<i64>() {
+            Ok(number) => Value::Integer(number),
+            Err(_) => text(alloc, word)?,
+        },
+    })
+}
+
+/// A map of keys and values in turn.
+fn map_of(alloc: Global, items: Vec<Value>) -> Result<Value> {
+    let mut pairs: Object = BTreeMap::new(alloc);
+    let mut key = None;
+    for item in items {
+        match key.take() {
+            None => key = Some(item.text(alloc)?),
+            Some(name) => drop(pairs.insert(name, item)?),
+        }
+    }
+    Ok(Value::Object(pairs))
+}
+
+/// The values that the words stand for.
+fn values(alloc: Global, words: &str) -> Result<Vec<Value>> {
+    let mut open: Vec<Vec<Value>> = Vec::new(alloc);
+    let mut current = Vec::new(alloc);
+    for word in words.split(' ') {
+        match word {
+            "" => {}
+            "[" | "{" => {
+                open.push(current)?;
+                current = Vec::new(alloc);
+            }
+            "]" | "}" => {
+                let closed = if word == "]" {
+                    Value::Array(current)
+                } else {
+                    map_of(alloc, current)?
+                };
+                current = open.pop().unwrap_or(Vec::new(alloc));
+                current.push(closed)?;
+            }
+            _ => current.push(word_value(alloc, word)?)?,
+        }
+    }
+    Ok(current)
+}
+
+/// The one value that the words stand for, or nil.
+fn value(alloc: Global, words: &str) -> Result<Value> {
+    Ok(values(alloc, words)?.pop().unwrap_or(Value::Nil))
+}
+
+/// Asserts of rows of an input, arguments and what is wanted that the filter answers that value, or a fault of that name.
+fn answers<const N: usize>(
+    rt: &impl Abort,
+    alloc: Global,
+    filter: FilterKind,
+    rows: [(&str, &str, &str); N],
+) -> Result<()> {
+    for (input, args, wanted) in rows {
+        let args = values(alloc, args)?;
+        assert!(rt; filter.accepts(args.len()), "the count");
+        match filter.evaluate(alloc, &value(alloc, input)?, &args) {
+            Ok(answer) => assert!(rt; answer == value(alloc, wanted)?, "{} of {input}", filter.name()),
+            Err(fault) => assert_eq!(rt; fault.kind.name(), wanted, "{} of {input}", filter.name()),
+        }
+    }
+    Ok(())
+}

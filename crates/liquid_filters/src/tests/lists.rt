@@ -1,0 +1,173 @@
+use super::answers;
+use crate::{FilterKind, stdlib};
+use std::test::Fail;
+
+#[test]
+fn join(rt: HostRuntime) -> Result<(), Fail> {
+    let rows = [
+        ("[ 1 2 a b nil ]", "-", "1-2-a-b-"),
+        ("[ a nil b ]", "", "a~~b"),
+        ("[ 1 2 ]", "nil", "'12"),
+        ("[ 1 2 ]", "0", "'102"),
+        ("[ [ 1 2 ] { a 3 } ]", "+", "12+a3"),
+        ("[ ]", "-", "'"),
+        ("nil", "", "InvalidInput"),
+        ("x", "", "InvalidInput"),
+        ("{ a 1 }", "", "InvalidInput"),
+    ];
+    Ok(answers(&rt, rt.alloc(), stdlib::Join.into(), rows)?)
+}
+
+#[test]
+fn sort(rt: HostRuntime) -> Result<(), Fail> {
+    let rows = [
+        ("[ b 2 nil a 1 ]", "", "[ 1 2 a b nil ]"),
+        ("[ [ 1 a ] [ 1 2 ] [ 1 ] ]", "", "[ [ 1 ] [ 1 2 ] [ 1 a ] ]"),
+        ("[ [ 1 ] [ nil ] ]", "", "[ [ nil ] [ 1 ] ]"),
+        ("[ 10 9 true '9 ]", "", "[ true 9 10 '9 ]"),
+        ("nil", "", "[ ]"),
+        ("7", "", "[ 7 ]"),
+        ("{ a 1 }", "", "[ { a 1 } ]"),
+    ];
+    Ok(answers(&rt, rt.alloc(), stdlib::Sort.into(), rows)?)
+}
+
+#[test]
+fn sort_by_a_property(rt: HostRuntime) -> Result<(), Fail> {
+    let rows = [
+        (
+            "[ { a 2 n x } { a 1 } { n y } { a 2 n b } { a nil } ]",
+            "a",
+            "[ { a 1 } { a 2 n x } { a 2 n b } { n y } { a nil } ]",
+        ),
+        ("[ { ' 2 } { ' 1 } ]", "nil", "[ { ' 1 } { ' 2 } ]"),
+        ("[ { 1 b } { 1 a } ]", "1", "[ { 1 a } { 1 b } ]"),
+        ("{ a 1 }", "a", "[ { a 1 } ]"),
+        ("nil", "a", "[ ]"),
+        ("[ { a 1 } 1 ]", "a", "InvalidInput"),
+        ("x", "a", "InvalidInput"),
+    ];
+    Ok(answers(&rt, rt.alloc(), stdlib::Sort.into(), rows)?)
+}
+
+#[test]
+fn sort_natural(rt: HostRuntime) -> Result<(), Fail> {
+    let rows = [
+        ("[ b A a B ]", "", "[ A a b B ]"),
+        ("[ nil b A 1 ]", "", "[ 1 A b nil ]"),
+        ("[ 10 9 ]", "", "[ 10 9 ]"),
+        ("nil", "", "[ ]"),
+        ("x", "", "[ x ]"),
+        ("{ a 1 }", "", "[ { a 1 } ]"),
+        ("[ { a c } { a B } { } { a A } ]", "a", "[ { a A } { a B } { a c } { } ]"),
+        ("[ 1 ]", "a", "InvalidInput"),
+    ];
+    Ok(answers(&rt, rt.alloc(), stdlib::SortNatural.into(), rows)?)
+}
+
+#[test]
+fn where_by_a_property(rt: HostRuntime) -> Result<(), Fail> {
+    let rows = [
+        ("[ { a 1 } { a false } { b 2 } ]", "a", "[ { a 1 } ]"),
+        ("[ { a '1 } { a 1 } ]", "a 1", "[ { a 1 } ]"),
+        ("[ { a 1 } { a nil } { b 2 } ]", "a nil", "[ { a nil } ]"),
+        ("[ 1 { a 1 } ]", "a", "nil"),
+        ("{ a 1 }", "a", "[ { a 1 } ]"),
+        ("{ a 1 }", "a 2", "[ ]"),
+        ("[ ]", "a", "[ ]"),
+        ("nil", "a", "InvalidInput"),
+        ("x", "a", "InvalidInput"),
+    ];
+    Ok(answers(&rt, rt.alloc(), stdlib::Where.into(), rows)?)
+}
+
+#[test]
+fn uniq(rt: HostRuntime) -> Result<(), Fail> {
+    let rows = [
+        ("[ 1 '1 1 [ 1 ] [ 1 ] ]", "", "[ 1 '1 [ 1 ] ]"),
+        ("[ ]", "", "[ ]"),
+        ("nil", "", "InvalidInput"),
+        ("x", "", "InvalidInput"),
+        ("{ a 1 }", "", "InvalidInput"),
+    ];
+    Ok(answers(&rt, rt.alloc(), stdlib::Uniq.into(), rows)?)
+}
+
+#[test]
+fn reverse(rt: HostRuntime) -> Result<(), Fail> {
+    let rows = [
+        ("[ 1 2 [ 3 4 ] ]", "", "[ [ 3 4 ] 2 1 ]"),
+        ("nil", "", "InvalidInput"),
+        ("xy", "", "InvalidInput"),
+        ("{ a 1 }", "", "InvalidInput"),
+    ];
+    Ok(answers(&rt, rt.alloc(), stdlib::Reverse.into(), rows)?)
+}
+
+#[test]
+fn map(rt: HostRuntime) -> Result<(), Fail> {
+    let rows = [
+        ("[ { a 1 } 5 { b 2 } { a nil } ]", "a", "[ 1 nil ]"),
+        ("[ { a 1 } ]", "nil", "[ ]"),
+        ("nil", "a", "InvalidInput"),
+        ("x", "a", "InvalidInput"),
+        ("{ a 1 }", "a", "InvalidInput"),
+    ];
+    Ok(answers(&rt, rt.alloc(), stdlib::Map.into(), rows)?)
+}
+
+#[test]
+fn compact(rt: HostRuntime) -> Result<(), Fail> {
+    let rows = [
+        ("[ nil 1 false nil ]", "", "[ 1 false ]"),
+        ("[ { a nil } { a 1 } { } ]", "a", "[ { a 1 } ]"),
+        ("[ { a 1 } nil ]", "a", "InvalidInput"),
+        ("nil", "", "InvalidInput"),
+        ("x", "a", "InvalidInput"),
+        ("{ a 1 }", "", "InvalidInput"),
+    ];
+    Ok(answers(&rt, rt.alloc(), stdlib::Compact.into(), rows)?)
+}
+
+#[test]
+fn concat(rt: HostRuntime) -> Result<(), Fail> {
+    let rows = [
+        ("[ 1 2 ]", "[ 2 nil ]", "[ 1 2 2 nil ]"),
+        ("[ ]", "1", "InvalidArgument"),
+        ("1", "[ ]", "InvalidInput"),
+        ("1", "1", "InvalidInput"),
+        ("nil", "[ ]", "InvalidInput"),
+        ("{ a 1 }", "[ ]", "InvalidInput"),
+    ];
+    Ok(answers(&rt, rt.alloc(), stdlib::Concat.into(), rows)?)
+}
+
+#[test]
+fn first(rt: HostRuntime) -> Result<(), Fail> {
+    let rows = [
+        ("[ 1 2 ]", "", "1"),
+        ("[ ]", "", "nil"),
+        ("\u{e9}a", "", "\u{e9}"),
+        ("'", "", "'"),
+        ("-12", "", "-"),
+        ("true", "", "t"),
+        ("nil", "", "InvalidInput"),
+        ("{ a 1 }", "", "InvalidInput"),
+    ];
+    Ok(answers(&rt, rt.alloc(), stdlib::First.into(), rows)?)
+}
+
+#[test]
+fn last(rt: HostRuntime) -> Result<(), Fail> {
+    let rows = [
+        ("[ 1 2 ]", "", "2"),
+        ("[ ]", "", "nil"),
+        ("a\u{1f1f7}", "", "\u{1f1f7}"),
+        ("'", "", "'"),
+        ("-12", "", "'2"),
+        ("false", "", "e"),
+        ("nil", "", "InvalidInput"),
+        ("{ a 1 }", "", "InvalidInput"),
+    ];
+    Ok(answers(&rt, rt.alloc(), stdlib::Last.into(), rows)?)
+}
