@@ -4,6 +4,7 @@ pub mod Escapes
 pub mod Faults
 pub mod LineBreaks
 pub mod Occurrences
+pub mod Ones
 pub mod Pieces
 pub mod Replaced
 pub mod Splits

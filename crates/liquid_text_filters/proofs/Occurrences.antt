@@ -1,5 +1,6 @@
 -- The pieces stand in their relation, and no others do.
 use Rattle.std.proofs.Common.{◌≡◌, ℕ, zero, suc, ◌-◌, ◌<◌, Bool, true, false, List, [], ◌∷◌, ◌++◌, length, take, drop, map, ap, subst, refl, sym, ◌∙◌, arith, if◌then◌else◌}
+use Rattle.std.proofs.Math.Seq.{drop-append_seam, take-append_seam}
 use Rattle.std.proofs.lemmas.Str.{chars-encodes, encodes-chars, scalars-chars}
 use Rattle.std.specs.Char.{encode_utf8}
 use Rattle.std.specs.Str.{chars, encode_utf8_all, IsUtf8}
@@ -15,11 +16,11 @@ lacks_nil [] l i m r e = absurd (omega arith)
 lacks_nil (x ∷ p) l zero m r e = cc
 lacks_nil (x ∷ p) l (suc i) m r e = absurd (omega arith)
 
-lacks_cons : (p s : List ℕ) (b i : ℕ) → LacksTextAt p (b ∷ s) 0 → ((k : ℕ) → k < i → LacksTextAt p s k) → (k : ℕ) → k < suc i → LacksTextAt p (b ∷ s) k
+pub lacks_cons : (p s : List ℕ) (b i : ℕ) → LacksTextAt p (b ∷ s) 0 → ((k : ℕ) → k < i → LacksTextAt p s k) → (k : ℕ) → k < suc i → LacksTextAt p (b ∷ s) k
 lacks_cons p s b i z h zero m = z
 lacks_cons p s b i z h (suc k) m = h k (omega arith)
 
-lacks_start : (p s : List ℕ) → begins p s ≡ false → LacksTextAt p s 0
+pub lacks_start : (p s : List ℕ) → begins p s ≡ false → LacksTextAt p s 0
 lacks_start p s e r h = let t = ap (begins p) h ∙ begins_own p r in let u : ⊥ = cc in u
 
 empty_piece : (p s rest : List ℕ) (ps : List (List ℕ)) → s ≡ p ++ rest → ArePieces p ps rest → ArePieces p ([] ∷ ps) s
@@ -42,20 +43,12 @@ are_pieces p (suc k) [] l = (refl, lacks_nil p l)
 are_pieces p (suc k) (b ∷ s) l = are_pieces p k s l
 are_pieces p zero (b ∷ s) l = are_either p b s (begins p (b ∷ s)) l refl (are_pieces p (length p - 1) s l) (are_pieces p zero s l)
 
-pub front : (x r : List ℕ) → take (length x) (x ++ r) ≡ x
-front [] r = refl
-front (c ∷ x) r = ap (λ t. c ∷ t) (front x r)
-
-pub back : (x r : List ℕ) → drop (length x) (x ++ r) ≡ r
-back [] r = refl
-back (c ∷ x) r = back x r
-
 unique : (p : List ℕ) (ps : List (List ℕ)) (s : List ℕ) → 0 < length p → ArePieces p ps s → ps ≡ pieces p 0 s
 unique p [] s l h = absurd h
 unique p (x ∷ []) s l h = ap (λ t. t ∷ []) h.0 ∙ sym (pieces_none p s l h.1)
 unique p (x ∷ (y ∷ ys)) s l h =
-    let f = pieces_found p s (length x) h.0 l h.2 (ap (drop (length x)) h.1 ∙ back x (p ++ h.0)) in
-    ap (λ t. x ∷ t) (unique p (y ∷ ys) h.0 l h.3) ∙ ap (λ t. t ∷ pieces p 0 h.0) (sym (ap (take (length x)) h.1 ∙ front x (p ++ h.0))) ∙ sym f
+    let f = pieces_found p s (length x) h.0 l h.2 (ap (drop (length x)) h.1 ∙ drop-append_seam x (p ++ h.0)) in
+    ap (λ t. x ∷ t) (unique p (y ∷ ys) h.0 l h.3) ∙ ap (λ t. t ∷ pieces p 0 h.0) (sym (ap (take (length x)) h.1 ∙ take-append_seam x (p ++ h.0))) ∙ sym f
 
 pub pieces_one : (p s : List ℕ) → 0 < length p → IsTheOne (λ ps. ArePieces p ps s) (pieces p 0 s)
 pieces_one p s l = λ ps. (unique p ps s l, λ e. subst (λ x. ArePieces p x s) (sym e) (are_pieces p 0 s l))

@@ -1,5 +1,6 @@
 -- What std's `replace` and `replacen` make is what the filters make.
 use Rattle.std.proofs.Common.{◌≡◌, ℕ, zero, suc, ◌<◌, inl, inr, true, List, [], ◌∷◌, ◌++◌, length, take, drop, map, Bor, Option, ap, subst, refl, sym, ◌∙◌, arith, append-nil, if◌then◌else◌}
+use Rattle.std.proofs.Math.Seq.{drop-append_seam}
 use Rattle.std.proofs.lemmas.Str.{chars-nil, chars_past_char, IsUtf8-past_char}
 use Rattle.std.specs.Char.{encode_utf8}
 use Rattle.std.specs.Str.{chars, IsUtf8}
@@ -9,7 +10,6 @@ use Rattle.liquid_list_filters.specs.Joined.{joined, joined_rest}
 use Rattle.liquid_text_filters.specs.Occurrences.{Lacks}
 use Rattle.liquid_text_filters.specs.Operate.{replaced, replaced_first}
 use Rattle.liquid_text_filters.specs.Pieces.{begins, pieces}
-use Rattle.liquid_text_filters.proofs.Occurrences.{back}
 use Rattle.liquid_text_filters.proofs.Pieces.{begins_own, begins_not, joined_rest-pieces, pieces_found, pieces_none}
 
 -- a search text, as the code holds it
@@ -92,7 +92,7 @@ module _ (r : List ℕ) where
   replaced_is n q s out u h = replaced_at n q q.now s out refl u h
 
   -- ---- the first occurrence alone
-  here_nil : (p : List ℕ) → begins p [] ≡ true → r ≡ r ++ drop (length p) []
+  pub here_nil : (p : List ℕ) → begins p [] ≡ true → r ≡ r ++ drop (length p) []
   here_nil [] e = sym (append-nil r)
   here_nil (x ∷ p) e = cc
 
@@ -101,7 +101,7 @@ module _ (r : List ℕ) where
   first_here p (b ∷ s) e = rw e refl
 
   pub first_found : (p s : List ℕ) (i : ℕ) (rest : List ℕ) → ((k : ℕ) → k < i → LacksTextAt p s k) → drop i s ≡ p ++ rest → replaced_first p r s ≡ take i s ++ (r ++ rest)
-  first_found p s zero rest h e = first_here p s (ap (begins p) e ∙ begins_own p rest) ∙ ap (λ t. r ++ drop (length p) t) e ∙ ap (λ t. r ++ t) (back p rest)
+  first_found p s zero rest h e = first_here p s (ap (begins p) e ∙ begins_own p rest) ∙ ap (λ t. r ++ drop (length p) t) e ∙ ap (λ t. r ++ t) (drop-append_seam p rest)
   first_found [] [] (suc i) rest h e = absurd (h 0 (omega arith) [] refl)
   first_found (x ∷ p) [] (suc i) rest h e = cc
   first_found p (b ∷ s) (suc i) rest h e =

@@ -1,7 +1,7 @@
 -- The words of a text: its pieces between single spaces.
 use Rattle.std.proofs.Common.{◌≡◌, ℕ, zero, suc, ◌+◌, ◌-◌, ◌<◌, ◌≤◌, ltb, Bool, true, false, List, [], ◌∷◌, ◌++◌, length, take, drop, get_or, Some, None, ap, refl, subst, sym, ◌∙◌, arith, append_assoc, length-append, length-drop, take_all, if◌then◌else◌, codes}
 use Rattle.std.proofs.lemmas.Bool.Decides.{nat_tests}
-use Rattle.std.proofs.Math.Seq.{get_or-append_seam}
+use Rattle.std.proofs.Math.Seq.{get_or-append_seam, take-append_seam}
 use Rattle.std.proofs.lemmas.List.{take-append-drop}
 use Rattle.std.proofs.lemmas.List.Folds.{concat-append}
 use Rattle.std.specs.List.{concat}
@@ -13,7 +13,6 @@ use Rattle.std.specs.Str.Pattern.{FindsText, SplitsAroundMatch}
 use Rattle.liquid_list_filters.specs.Joined.{joined, joined_rest}
 use Rattle.liquid_text_filters.specs.Pieces.{begins, push, pieces}
 use Rattle.liquid_text_filters.specs.Truncate.{first_clusters, first_words, words_of}
-use Rattle.liquid_text_filters.proofs.Occurrences.{front}
 use Rattle.liquid_text_filters.proofs.Pieces.{joined-pieces, pieces_found, pieces_none}
 
 abbrev pub Space : List ℕ
@@ -112,7 +111,7 @@ words_boundary s rest end (suc i) u w =
 words_taken : (s rest : List ℕ) (end i : ℕ) → PastWords s rest end i → take end s ≡ first_words i s
 words_taken s rest end zero w = ap (λ n. take n s) w.2
 words_taken s rest end (suc i) w =
-    ap (λ n. take n s) w.2 ∙ ap (take (length (first_words (suc i) s))) (words_cut s rest i w.1 w.0) ∙ front (first_words (suc i) s) (Space ++ rest)
+    ap (λ n. take n s) w.2 ∙ ap (take (length (first_words (suc i) s))) (words_cut s rest i w.1 w.0) ∙ take-append_seam (first_words (suc i) s) (Space ++ rest)
 
 pub words_end : (s rest kept : List ℕ) (end i n : ℕ) → i ≡ n → kept ≡ take end s → PastWords s rest end i
     → Some kept ≡ (if ltb n (length (words_of s)) then Some (first_words n s) else None)

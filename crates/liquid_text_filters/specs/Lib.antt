@@ -3,8 +3,10 @@ pub mod Case
 pub mod Default
 pub mod Escapes
 pub mod LineBreaks
+pub mod Laws
 pub mod Occurrences
 pub mod Operate
+pub mod Parts
 pub mod Pieces
 pub mod Places
 pub mod Size

@@ -2,5 +2,6 @@
 #![tactic(auto)]
 
 mod argument;
+pub mod laws;
 mod part;
 pub mod stdlib;
