@@ -1,0 +1,99 @@
+-- What each filter's answer is, told without the filter: the relation that holds of it and of nothing else. The text of a value is always UTF-8.
+use Rattle.std.specs.Prelude.{◌≡◌, ℕ, zero, suc, ◌-◌, ◌<◌, ◌≤◌, ◌⊎◌, true, ℤ, pos, negsuc, List, [], ◌∷◌, ◌++◌, length, drop, codes, Result, Ok, Err}
+use Rattle.std.specs.List.{concat}
+use Rattle.std.specs.Str.{chars, encode_utf8_all, IsUtf8}
+use Rattle.unicode_segmentation.specs.Grapheme.{graphemes}
+use Rattle.liquid_core.specs.Answer.{IsTheOne}
+use Rattle.liquid_core.specs.Data.{Datum, text, array, text_of}
+use Rattle.liquid_core.specs.Fallible.{◌>>=◌}
+use Rattle.liquid_core.specs.Lists.{list_of}
+use Rattle.liquid_core.specs.Texts.{Text}
+use Rattle.liquid_core.specs.View.{items_of}
+use Rattle.liquid_core.specs.declared.error.ErrorKind.{ErrorKind}
+use Rattle.liquid_core.specs.declared.error.ErrorKind.TheVariants.{InvalidArgument}
+use Rattle.liquid_list_filters.specs.Arguments.{Answer, text_or}
+use Rattle.liquid_list_filters.specs.Joined.{join_answer, joined}
+use Rattle.liquid_text_filters.specs.Arguments.{whole_or}
+use Rattle.liquid_text_filters.specs.Occurrences.{ArePieces, Replaces, ReplacesFirst, Splits}
+use Rattle.liquid_text_filters.specs.Operate.{remove_answer, remove_first_answer, replace_answer, replace_first_answer}
+use Rattle.liquid_text_filters.specs.Parts.{AreFirst, IsPart}
+use Rattle.liquid_text_filters.specs.Slice.{slice_answer}
+use Rattle.liquid_text_filters.specs.Split.{split_answer, texts}
+use Rattle.liquid_text_filters.specs.Truncate.{truncate_answer, truncatewords_answer}
+
+-- the answer is f of something of which R holds
+abbrev pub Makes : {X : Type 0} → (X → Answer) → (X → Type 0) → Answer → Type 0
+Makes {X} f R a = (x : X) × (a ≡ f x) × R x
+
+-- the answer is a text of which R holds
+abbrev pub Texts : (Text → Type 0) → Answer → Type 0
+Texts = Makes (λ t. Ok (text t))
+
+-- where a number was read R holds of it and the answer, else the fault is the answer
+abbrev pub Reads : Result ℤ ErrorKind → (ℤ → Answer → Type 0) → Answer → Type 0
+Reads (Ok z) R a = R z a
+Reads (Err kind) R a = a ≡ Err kind
+
+-- ---- pieces
+-- the empty text has no pieces
+abbrev pub Divides : Text → Text → List Text → Type 0
+Divides p [] ps = ps ≡ []
+Divides p (b ∷ s) ps = Splits p (b ∷ s) ps
+
+abbrev pub SplitIsOne : Type 0
+SplitIsOne = (d : Datum) (args : List Datum) → IsUtf8 (text_of d) → IsTheOne (Makes (λ ps. Ok (texts ps)) (Divides (text_or [] args) (text_of d))) (split_answer d args)
+
+-- joining the pieces by what parted them gives the text back, for all texts, also where they are parted by the empty text
+abbrev pub JoinGivesBack : Type 0
+JoinGivesBack = (s p : Text) → IsUtf8 s → split_answer (text s) (text p ∷ []) >>= (λ pieces. join_answer pieces (text p ∷ [])) ≡ Ok (text s)
+
+abbrev pub ReplaceIsOne : Type 0
+ReplaceIsOne = (d : Datum) (args : List Datum) → IsUtf8 (text_of d) → IsTheOne (Texts (Replaces (text_or [] args) (text_or [] (drop 1 args)) (text_of d))) (replace_answer d args)
+
+abbrev pub RemoveIsOne : Type 0
+RemoveIsOne = (d : Datum) (args : List Datum) → IsUtf8 (text_of d) → IsTheOne (Texts (Replaces (text_or [] args) [] (text_of d))) (remove_answer d args)
+
+abbrev pub ReplaceFirstIsOne : Type 0
+ReplaceFirstIsOne = (d : Datum) (args : List Datum) → IsTheOne (Texts (ReplacesFirst (text_or [] args) (text_or [] (drop 1 args)) (text_of d))) (replace_first_answer d args)
+
+abbrev pub RemoveFirstIsOne : Type 0
+RemoveFirstIsOne = (d : Datum) (args : List Datum) → IsTheOne (Texts (ReplacesFirst (text_or [] args) [] (text_of d))) (remove_first_answer d args)
+
+-- ---- places
+-- of a list a part of its items, of anything else a part of its text's characters, of as many places as there are bytes
+abbrev pub TakesPart : ℤ → ℕ → Datum → Answer → Type 0
+TakesPart offset count (array ds) = Makes (λ out. Ok (array (items_of out))) (IsPart (length (list_of ds)) offset count (list_of ds))
+TakesPart offset count d = Makes (λ cs. Ok (text (encode_utf8_all cs))) (IsPart (length (text_of d)) offset count (chars (text_of d)))
+
+abbrev pub Slices : Datum → ℤ → ℤ → Answer → Type 0
+Slices d offset (pos zero) a = a ≡ Err InvalidArgument
+Slices d offset (pos (suc n)) a = TakesPart offset (suc n) d a
+Slices d offset (negsuc n) a = a ≡ Err InvalidArgument
+
+abbrev pub SliceIsOne : Type 0
+SliceIsOne = (d : Datum) (args : List Datum) → IsTheOne (Reads (whole_or (pos 0) args) (λ offset. Reads (whole_or (pos 1) (drop 1 args)) (Slices d offset))) (slice_answer d args)
+
+-- ---- beginnings
+-- the first grapheme clusters of s, so many, and then the end
+abbrev pub KeepsClusters : ℕ → Text → Text → Text → Type 0
+KeepsClusters n end s t = (kept : List Text) × AreFirst n (graphemes true s) kept × (t ≡ concat kept ++ end)
+
+abbrev pub Truncates : Datum → Text → ℤ → Answer → Type 0
+Truncates d end (pos n) a = ((n < length (text_of d)) × Texts (KeepsClusters (n - length end) end (text_of d)) a) ⊎ ((length (text_of d) ≤ n) × (a ≡ Ok d))
+Truncates d end (negsuc n) a = a ≡ Ok d
+
+abbrev pub TruncateIsOne : Type 0
+TruncateIsOne = (d : Datum) (args : List Datum) → IsTheOne (Reads (whole_or (pos 50) args) (Truncates d (text_or (codes "...") (drop 1 args)))) (truncate_answer d args)
+
+-- the first words of ws, so many, with a space between each and the next, and then the end
+abbrev pub KeepsWords : ℕ → Text → List Text → Text → Type 0
+KeepsWords n end ws t = (kept : List Text) × AreFirst n ws kept × (t ≡ joined (codes " ") kept ++ end)
+
+-- the words are the pieces parted by single spaces
+abbrev pub TruncatesWords : Datum → Text → ℤ → Answer → Type 0
+TruncatesWords d end (pos n) a = (ws : List Text) × ArePieces (codes " ") ws (text_of d)
+    × (((n < length ws) × Texts (KeepsWords n end ws) a) ⊎ ((length ws ≤ n) × (a ≡ Ok d)))
+TruncatesWords d end (negsuc n) a = a ≡ Ok d
+
+abbrev pub TruncateWordsIsOne : Type 0
+TruncateWordsIsOne = (d : Datum) (args : List Datum) → IsTheOne (Reads (whole_or (pos 50) args) (TruncatesWords d (text_or (codes "...") (drop 1 args)))) (truncatewords_answer d args)

@@ -1,0 +1,7 @@
+//! Filters over texts.
+#![tactic(auto)]
+
+mod argument;
+pub mod laws;
+mod part;
+pub mod stdlib;

@@ -1,0 +1,80 @@
+//! Filters that change the case of letters, `A` to `Z` and `a` to `z` alone.
+ghost use Rattle.std.specs.Prelude.{nat_eq, string_bytes};
+ghost use Rattle.liquid_core.specs.Answer.{Gives};
+ghost use Rattle.liquid_text_filters.specs.Case.{capitalize_answer, capitalized, downcase_answer, upcase_answer};
+
+use liquid_core::{Filter, Result, Value};
+use liquid_list_filters::text_of;
+use std::alloc::Global;
+
+/// `downcase`: the input's text with `A` to `Z` as `a` to `z`.
+#[derive(Clone, Copy, Drop)]
+pub struct Downcase;
+
+impl Filter for Downcase {
+    ghost counts = { λ _ n. nat_eq n 0 };
+
+    ghost answer = { λ _. downcase_answer };
+
+    fn accepts(&self, count: usize) -> bool {
+        count == 0
+    }
+
+    fn evaluate(&self, alloc: Global, input: &Value, _args: &[Value]) -> Result<Value> {
+        let text = text_of(alloc, input)?;
+        Ok(Value::Text(text.as_str().to_ascii_lowercase(alloc)?))
+    }
+}
+
+/// `upcase`: the input's text with `a` to `z` as `A` to `Z`.
+#[derive(Clone, Copy, Drop)]
+pub struct Upcase;
+
+impl Filter for Upcase {
+    ghost counts = { λ _ n. nat_eq n 0 };
+
+    ghost answer = { λ _. upcase_answer };
+
+    fn accepts(&self, count: usize) -> bool {
+        count == 0
+    }
+
+    fn evaluate(&self, alloc: Global, input: &Value, _args: &[Value]) -> Result<Value> {
+        let text = text_of(alloc, input)?;
+        Ok(Value::Text(text.as_str().to_ascii_uppercase(alloc)?))
+    }
+}
+
+/// `capitalize`: the input's text with its first character in upper case, where that is `a` to `z`.
+#[derive(Clone, Copy, Drop)]
+pub struct Capitalize;
+
+impl Filter for Capitalize {
+    ghost counts = { λ _ n. nat_eq n 0 };
+
+    ghost answer = { λ _. capitalize_answer };
+
+    fn accepts(&self, count: usize) -> bool {
+        count == 0
+    }
+
+    fn evaluate(&self, alloc: Global, input: &Value, _args: &[Value]) -> Result<Value> {
+        let text = text_of(alloc, input)?;
+        Ok(Value::Text(capitalized(alloc, text.as_str())?))
+    }
+}
+
+fn capitalized(alloc: Global, text: &str) -> Result<String>
+    ensures { Gives (λ s. string_bytes s) result (capitalized text.now) }
+{
+    let mut rest = text.chars();
+    let mut out = String::new(alloc);
+    match rest.next() {
+        Some(first) => {
+            out.push(first.to_ascii_uppercase())?;
+            out.push_str(rest.as_str())?;
+            Ok(out)
+        }
+        None => Ok(out),
+    }
+}

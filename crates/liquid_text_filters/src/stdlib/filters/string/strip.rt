@@ -1,0 +1,106 @@
+//! Filters that cut white space, which is Unicode's White_Space, and newlines.
+ghost use Rattle.std.specs.Prelude.{[], ◌++◌, if◌then◌else◌, nat_eq, string_bytes};
+ghost use Rattle.std.specs.Char.{encode_utf8};
+ghost use Rattle.liquid_core.specs.Answer.{Gives};
+ghost use Rattle.liquid_text_filters.specs.Strip.{is_newline, lstrip_answer, rstrip_answer, strip_answer, strip_newlines_answer, without_newlines};
+
+use liquid_core::{Filter, Result, Value};
+use liquid_list_filters::text_of;
+use std::alloc::Global;
+
+/// `strip`: the input's text without the white space at both ends.
+#[derive(Clone, Copy, Drop)]
+pub struct Strip;
+
+impl Filter for Strip {
+    ghost counts = { λ _ n. nat_eq n 0 };
+
+    ghost answer = { λ _. strip_answer };
+
+    fn accepts(&self, count: usize) -> bool {
+        count == 0
+    }
+
+    fn evaluate(&self, alloc: Global, input: &Value, _args: &[Value]) -> Result<Value> {
+        let text = text_of(alloc, input)?;
+        Ok(Value::Text(String::from_str(alloc, text.as_str().trim())?))
+    }
+}
+
+/// `lstrip`: the input's text without the white space at its start.
+#[derive(Clone, Copy, Drop)]
+pub struct Lstrip;
+
+impl Filter for Lstrip {
+    ghost counts = { λ _ n. nat_eq n 0 };
+
+    ghost answer = { λ _. lstrip_answer };
+
+    fn accepts(&self, count: usize) -> bool {
+        count == 0
+    }
+
+    fn evaluate(&self, alloc: Global, input: &Value, _args: &[Value]) -> Result<Value> {
+        let text = text_of(alloc, input)?;
+        Ok(Value::Text(String::from_str(alloc, text.as_str().trim_start())?))
+    }
+}
+
+/// `rstrip`: the input's text without the white space at its end.
+#[derive(Clone, Copy, Drop)]
+pub struct Rstrip;
+
+impl Filter for Rstrip {
+    ghost counts = { λ _ n. nat_eq n 0 };
+
+    ghost answer = { λ _. rstrip_answer };
+
+    fn accepts(&self, count: usize) -> bool {
+        count == 0
+    }
+
+    fn evaluate(&self, alloc: Global, input: &Value, _args: &[Value]) -> Result<Value> {
+        let text = text_of(alloc, input)?;
+        Ok(Value::Text(String::from_str(alloc, text.as_str().trim_end())?))
+    }
+}
+
+/// `strip_newlines`: the input's text without its LFs and CRs.
+#[derive(Clone, Copy, Drop)]
+pub struct StripNewlines;
+
+impl Filter for StripNewlines {
+    ghost counts = { λ _ n. nat_eq n 0 };
+
+    ghost answer = { λ _. strip_newlines_answer };
+
+    fn accepts(&self, count: usize) -> bool {
+        count == 0
+    }
+
+    fn evaluate(&self, alloc: Global, input: &Value, _args: &[Value]) -> Result<Value> {
+        let text = text_of(alloc, input)?;
+        Ok(Value::Text(without_newlines(alloc, text.as_str())?))
+    }
+}
+
+fn without_newlines(alloc: Global, text: &str) -> Result<String>
+    ensures { Gives (λ s. string_bytes s) result (without_newlines text.now) }
+{
+    let mut out = String::with_capacity(alloc, text.len())?;
+    let mut rest = text.chars();
+    while let Some(letter) = rest.next() {
+        push_kept(&mut out, letter)?;
+    }
+    Ok(out)
+}
+
+/// Appends a character, unless it is a newline.
+fn push_kept(out: &mut String, letter: char) -> Result<()>
+    ensures { Gives (λ _. string_bytes out.new) result (string_bytes out.old ++ (if is_newline letter then [] else encode_utf8 letter)) }
+{
+    if letter == '\n' || letter == '\r' {
+        return Ok(());
+    }
+    Ok(out.push(letter)?)
+}

@@ -1,0 +1,97 @@
+//! Filters that shorten texts.
+ghost use Rattle.std.specs.Prelude.{◌≡◌, Some, None, if◌then◌else◌, length, nat_le, nat_lt, option_map};
+ghost use Rattle.liquid_text_filters.specs.Truncate.{first_clusters, first_words, truncate_answer, truncatewords_answer, words_of};
+
+use crate::argument::{text_or, whole_or};
+use crate::part::{before, joined};
+use liquid_core::{Filter, Result, Value};
+use liquid_list_filters::text_of;
+use std::alloc::Global;
+use unicode_segmentation::UnicodeSegmentation;
+
+/// `truncate`: where the first argument, or 50, is below the bytes of the input's text, the first grapheme clusters,
+/// as many as that number less the bytes of the second argument's text, or of `...`, and then that text; else the
+/// input. A number below 0 is huge.
+#[derive(Clone, Copy, Drop)]
+pub struct Truncate;
+
+impl Filter for Truncate {
+    ghost counts = { λ _ n. nat_le n 2 };
+
+    ghost answer = { λ _. truncate_answer };
+
+    fn accepts(&self, count: usize) -> bool {
+        count <= 2
+    }
+
+    /// `InvalidArgument` where the first argument has no whole number.
+    fn evaluate(&self, alloc: Global, input: &Value, args: &[Value]) -> Result<Value> {
+        let length = whole_or(alloc, args, 0, 50)?;
+        let end = text_or(alloc, args, 1, "...")?;
+        let text = text_of(alloc, input)?;
+        if length < 0 || text.len() <= length as usize {
+            return input.copy(alloc);
+        }
+        let kept = first_clusters(text.as_str(), (length as usize).saturating_sub(end.len()));
+        Ok(Value::Text(joined(alloc, kept, end.as_str())?))
+    }
+}
+
+/// `truncatewords`: where the first argument, or 50, is below the count of the pieces of the input's text that single
+/// spaces part, the first ones and then the second argument's text, or `...`; else the input. A number below 0 is
+/// huge.
+#[derive(Clone, Copy, Drop)]
+pub struct TruncateWords;
+
+impl Filter for TruncateWords {
+    ghost counts = { λ _ n. nat_le n 2 };
+
+    ghost answer = { λ _. truncatewords_answer };
+
+    fn accepts(&self, count: usize) -> bool {
+        count <= 2
+    }
+
+    /// `InvalidArgument` where the first argument has no whole number.
+    fn evaluate(&self, alloc: Global, input: &Value, args: &[Value]) -> Result<Value> {
+        let count = whole_or(alloc, args, 0, 50)?;
+        let end = text_or(alloc, args, 1, "...")?;
+        if count < 0 {
+            return input.copy(alloc);
+        }
+        let text = text_of(alloc, input)?;
+        match first_words(text.as_str(), count as usize) {
+            Some(kept) => Ok(Value::Text(joined(alloc, kept, end.as_str())?)),
+            None => input.copy(alloc),
+        }
+    }
+}
+
+/// The first grapheme clusters of a text, as many as there are.
+fn first_clusters(text: &str, count: usize) -> &str
+    ensures { result.now ≡ first_clusters count text.now }
+{
+    let mut rest = text.graphemes(true);
+    for _i in 0..count {
+        let Some(_cluster) = rest.next() else {
+            return text;
+        };
+    }
+    before(text, rest.as_str())
+}
+
+/// The first words of a text that has more.
+fn first_words(text: &str, count: usize) -> Option<&str>
+    ensures { option_map (λ t. t.now) result ≡ (if nat_lt count (length (words_of text.now)) then Some (first_words count text.now) else None) }
+{
+    let mut end = 0;
+    let mut rest = text;
+    for _i in 0..count {
+        let Some((_word, after)) = rest.split_once(" ") else {
+            return None;
+        };
+        end = text.len() - after.len() - 1;
+        rest = after;
+    }
+    Some(&text[..end])
+}

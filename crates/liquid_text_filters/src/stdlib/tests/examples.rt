@@ -1,0 +1,243 @@
+//! Filters at texts.
+use super::Rows;
+use crate::stdlib::{
+    Append, Capitalize, Default, Downcase, Lstrip, Prepend, Remove, RemoveFirst, Replace,
+    ReplaceFirst, Rstrip, Size, Slice, Split, Strip, StripNewlines, Truncate, TruncateWords,
+    Upcase,
+};
+use liquid_core::{ErrorKind, Value};
+
+#[test]
+fn sizes_and_defaults(rt: HostRuntime) {
+    let rows = Rows {
+        rt: &rt,
+        alloc: rt.alloc(),
+    };
+    for (text, size) in [("", 0), ("é!", 3), ("this has 22 characters", 22)] {
+        rows.gives(&Size, &rows.text(text), &[], &Value::Integer(size));
+    }
+    rows.gives(&Size, &Value::Bool(false), &[], &Value::Integer(5));
+    rows.gives(&Size, &Value::Integer(i64::MIN), &[], &Value::Integer(20));
+    rows.texts(&Default, &[rows.text("d")], &[("", "d"), ("a", "a")]);
+    let one = Value::Integer(1);
+    rows.gives(&Default, &Value::Bool(false), &[Value::Integer(1)], &one);
+    rows.gives(&Default, &rows.list(&[]), &[Value::Integer(1)], &one);
+    rows.gives(
+        &Default,
+        &rows.list(&[""]),
+        &[Value::Integer(1)],
+        &rows.list(&[""]),
+    );
+}
+
+#[test]
+fn cases_and_strips(rt: HostRuntime) {
+    let rows = Rows {
+        rt: &rt,
+        alloc: rt.alloc(),
+    };
+    rows.texts(
+        &Downcase,
+        &[],
+        &[("Hello 2020", "hello 2020"), ("ÉA", "Éa")],
+    );
+    rows.texts(&Upcase, &[], &[("abc", "ABC"), ("éa", "éA")]);
+    rows.texts(
+        &Capitalize,
+        &[],
+        &[("", ""), ("aBC dE", "ABC dE"), ("éa", "éa")],
+    );
+    rows.texts(
+        &Strip,
+        &[],
+        &[(" \n \r\t\u{a0}a b\u{85} ", "a b"), (" \u{3000}", "")],
+    );
+    rows.texts(
+        &Lstrip,
+        &[],
+        &[(" \n \r\u{2003}a b ", "a b "), ("\u{200b}a", "\u{200b}a")],
+    );
+    rows.texts(&Rstrip, &[], &[(" a b \u{2028}\t", " a b")]);
+    rows.texts(
+        &StripNewlines,
+        &[],
+        &[("a\nb\r\nc", "abc"), ("\n", ""), ("\u{85}\t", "\u{85}\t")],
+    );
+}
+
+#[test]
+fn joined_and_replaced(rt: HostRuntime) {
+    let rows = Rows {
+        rt: &rt,
+        alloc: rt.alloc(),
+    };
+    rows.texts(&Append, &[rows.text("f")], &[("sam", "samf"), ("", "f")]);
+    rows.texts(&Prepend, &[rows.text("f")], &[("barbar", "fbarbar")]);
+    rows.texts(&Append, &[Value::Integer(-1)], &[("a", "a-1")]);
+    rows.texts(
+        &Replace,
+        &[rows.text("bar"), rows.text("foo")],
+        &[("barbar", "foofoo"), ("", "")],
+    );
+    rows.texts(
+        &Replace,
+        &[rows.text(""), rows.text("-")],
+        &[("ab", "-a-b-"), ("é", "-é-"), ("", "-")],
+    );
+    rows.texts(
+        &Replace,
+        &[rows.text("aa"), rows.text("b")],
+        &[("aaa", "ba")],
+    );
+    rows.texts(&Replace, &[rows.text("bar")], &[("barbar", "")]);
+    rows.texts(
+        &ReplaceFirst,
+        &[rows.text("xo"), rows.text("foo")],
+        &[("barxoxo", "barfooxo"), ("ox", "ox")],
+    );
+    rows.texts(
+        &ReplaceFirst,
+        &[rows.text(""), rows.text("-")],
+        &[("ab", "-ab"), ("", "-")],
+    );
+    rows.texts(&Remove, &[rows.text("a")], &[("barbar", "brbr")]);
+    rows.texts(&RemoveFirst, &[rows.text("a")], &[("barbar", "brbar")]);
+    rows.texts(&Remove, &[rows.text("")], &[("ab", "ab")]);
+}
+
+#[test]
+fn split(rt: HostRuntime) {
+    let rows = Rows {
+        rt: &rt,
+        alloc: rt.alloc(),
+    };
+    for (text, separator, pieces) in [
+        ("a, b, c", ", ", &["a", "b", "c"] as &[&str]),
+        ("a~b", "~~", &["a~b"]),
+        ("~~~", "~~", &["", "~"]),
+        ("ab", "", &["", "a", "b", ""]),
+        ("é", "", &["", "é", ""]),
+        ("", "a", &[]),
+        ("", "", &[]),
+    ] {
+        rows.gives(
+            &Split,
+            &rows.text(text),
+            &[rows.text(separator)],
+            &rows.list(pieces),
+        );
+    }
+}
+
+#[test]
+fn slices(rt: HostRuntime) {
+    let rows = Rows {
+        rt: &rt,
+        alloc: rt.alloc(),
+    };
+    let quote = "I often quote myself.  It adds spice to my conversation.";
+    for (text, offset, length, part) in [
+        (quote, -10, 3, "ver"),
+        ("abc", -5, 1, ""),
+        ("abc", 1, i64::MAX, "bc"),
+        ("abc", i64::MIN, i64::MAX, ""),
+        ("abc", i64::MAX, 1, ""),
+        ("é!", 1, 1, "!"),
+        ("é!", 2, 5, ""),
+        ("é!", -3, 1, "é"),
+        ("", 0, 1, ""),
+    ] {
+        let args = [Value::Integer(offset), Value::Integer(length)];
+        rows.texts(&Slice, &args, &[(text, part)]);
+    }
+    rows.texts(&Slice, &[rows.text("1")], &[("abc", "b")]);
+    for arg in [rows.text("a"), Value::Nil, Value::Bool(true)] {
+        rows.refuses(&Slice, &Value::Nil, &[arg], ErrorKind::InvalidArgument);
+    }
+    for length in [0, -1, i64::MIN] {
+        let args = [Value::Integer(0), Value::Integer(length)];
+        rows.refuses(&Slice, &rows.text("abc"), &args, ErrorKind::InvalidArgument);
+    }
+}
+
+#[test]
+fn truncated(rt: HostRuntime) {
+    let rows = Rows {
+        rt: &rt,
+        alloc: rt.alloc(),
+    };
+    for (length, text, shortened) in [
+        (20, "Here is a RUST: 🇷🇺🇸🇹.", "Here is a RUST: 🇷🇺..."),
+        (2, "abcdef", "..."),
+        (2, "ab", "ab"),
+        (-1, "ab", "ab"),
+        (i64::MIN, "ab", "ab"),
+        (i64::MAX, "ab", "ab"),
+        (1, "é", "..."),
+        (4, "ééé", "é..."),
+    ] {
+        rows.texts(&Truncate, &[Value::Integer(length)], &[(text, shortened)]);
+    }
+    rows.texts(
+        &Truncate,
+        &[Value::Integer(25), rows.text(", and so on")],
+        &[("Ground control to Major Tom.", "Ground control, and so on")],
+    );
+    rows.texts(
+        &Truncate,
+        &[],
+        &[(
+            "0123456789 0123456789 0123456789 0123456789 0123456789",
+            "0123456789 0123456789 0123456789 0123456789 012...",
+        )],
+    );
+    rows.gives(
+        &Truncate,
+        &Value::Integer(10000000),
+        &[Value::Integer(5)],
+        &rows.text("10..."),
+    );
+    rows.refuses(
+        &Truncate,
+        &Value::Nil,
+        &[rows.text("x")],
+        ErrorKind::InvalidArgument,
+    );
+}
+
+#[test]
+fn words(rt: HostRuntime) {
+    let rows = Rows {
+        rt: &rt,
+        alloc: rt.alloc(),
+    };
+    for (count, text, shortened) in [
+        (2, "one two three", "one two..."),
+        (3, "one two three", "one two three"),
+        (1, "a  b", "a..."),
+        (2, "a  b", "a ..."),
+        (0, "", "..."),
+        (0, "a", "..."),
+        (1, "", ""),
+        (-1, "a b", "a b"),
+        (i64::MAX, "a b", "a b"),
+    ] {
+        rows.texts(
+            &TruncateWords,
+            &[Value::Integer(count)],
+            &[(text, shortened)],
+        );
+    }
+    rows.texts(
+        &TruncateWords,
+        &[Value::Integer(2), Value::Integer(1)],
+        &[("one two three", "one two1")],
+    );
+    rows.texts(&TruncateWords, &[], &[("a b", "a b")]);
+    rows.refuses(
+        &TruncateWords,
+        &Value::Nil,
+        &[Value::Nil],
+        ErrorKind::InvalidArgument,
+    );
+}
