@@ -1,5 +1,11 @@
+pub mod Decimals
+pub mod Divisions
 pub mod EachLaw
 pub mod Ends
+pub mod Faults
+pub mod Operations
+pub mod RoundingRelation
+pub mod Roundings
 pub mod Keys
 pub mod Ones
 pub mod Reversals

@@ -1,6 +1,12 @@
 pub mod Arguments
+pub mod Decimals
+pub mod Division
 pub mod Ends
 pub mod Joined
+pub mod NumberLaws
+pub mod Numbers
+pub mod Rounding
+pub mod RoundingLaws
 pub mod Keeping
 pub mod Keyed
 pub mod Laws

@@ -1,9 +1,15 @@
+pub mod Bytes
 pub mod Characters
+pub mod Escapes
+pub mod Faults
+pub mod LineBreaks
 pub mod Occurrences
 pub mod Ones
 pub mod Pieces
 pub mod Replaced
 pub mod Spellings
 pub mod Splits
+pub mod Tags
+pub mod Urls
 pub mod Views
 pub mod Words

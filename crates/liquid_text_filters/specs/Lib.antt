@@ -1,6 +1,8 @@
 pub mod Arguments
 pub mod Case
 pub mod Default
+pub mod Escapes
+pub mod LineBreaks
 pub mod Laws
 pub mod Occurrences
 pub mod Operate
@@ -12,5 +14,8 @@ pub mod Slice
 pub mod Spelling
 pub mod Split
 pub mod Strip
+pub mod TagLaws
+pub mod Tags
 pub mod Text
 pub mod Truncate
+pub mod Urls
