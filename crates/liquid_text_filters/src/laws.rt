@@ -4,6 +4,9 @@
 //! filters' answers are told in such words from the beginning: two texts joined, each letter mapped, a size.
 ghost use Rattle.liquid_text_filters.specs.Laws.{JoinGivesBack, RemoveFirstIsOne, RemoveIsOne, ReplaceFirstIsOne, ReplaceIsOne, SliceIsOne, SplitIsOne, TruncateIsOne, TruncateWordsIsOne};
 
+pub mod html;
+pub mod url;
+
 /// `split`: the pieces between the occurrences, from left to right and without overlap.
 pub fn split_is_one()
     ensures { SplitIsOne }
