@@ -17,7 +17,7 @@ no_escape c h =
 high_byte : (b : ℕ) → 128 ≤ b → escaped_byte b ≡ b ∷ []
 high_byte b h = ap (λ e. escape_or e (b ∷ [])) (no_escape b h)
 
-letter_of : (c : ℕ) → flat_map escaped_byte (encode c) ≡ escaped_letter c
+pub letter_of : (c : ℕ) → flat_map escaped_byte (encode c) ≡ escaped_letter c
 letter_of c = ascii_or_high c
     (λ l. ascii_letter escaped_byte c l ∙ ap (escape_or (escape_of c)) (sym (encode_ascii c l)))
     (λ l. high_letter escaped_byte high_byte c l ∙ ap (λ e. escape_or e (encode c)) (sym (no_escape c l)))

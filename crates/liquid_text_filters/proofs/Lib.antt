@@ -2,14 +2,17 @@ pub mod Bytes
 pub mod Characters
 pub mod Escapes
 pub mod Faults
+pub mod HtmlLaws
 pub mod LineBreaks
 pub mod Occurrences
 pub mod Ones
+pub mod Pairs
 pub mod Pieces
 pub mod Replaced
 pub mod Spellings
 pub mod Splits
 pub mod Tags
+pub mod UrlLaws
 pub mod Urls
 pub mod Views
 pub mod Words

@@ -13,7 +13,7 @@ high_byte b h = let e : b == 10 ≡ false = grind (arith, nat_tests) in rw e ref
 high_broken : (c : ℕ) → 128 ≤ c → broken_letter c ≡ encode c
 high_broken c h = let e : c == 10 ≡ false = grind (arith, nat_tests) in rw e refl
 
-letter_of : (c : ℕ) → flat_map broken_byte (encode c) ≡ broken_letter c
+pub letter_of : (c : ℕ) → flat_map broken_byte (encode c) ≡ broken_letter c
 letter_of c = ascii_or_high c
     (λ l. ascii_letter broken_byte c l ∙ ap (λ t. if c == 10 then codes "<br />" ++ (10 ∷ []) else t) (sym (encode_ascii c l)))
     (λ l. high_letter broken_byte high_byte c l ∙ sym (high_broken c l))

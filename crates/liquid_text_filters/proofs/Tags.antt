@@ -9,7 +9,7 @@ use Rattle.std.proofs.Math.Seq.{drop-cons}
 use Rattle.std.specs.Prelude.{IsTrue}
 use Rattle.std.specs.List.{list_any}
 use Rattle.liquid_text_filters.specs.Tags.{SplitsAtFirst, stands_for, begins_mark, has_mark, kept, without_pairs, without_tags, first_mark, is_opener}
-use Rattle.liquid_text_filters.specs.TagLaws.{has_close, NoTag}
+use Rattle.liquid_text_filters.specs.HtmlLaws.{has_close, HasNoTag}
 
 and_parts : (a b : Bool) → (a && b) ≡ true → (a ≡ true) × (b ≡ true)
 and_parts true b h = (refl, h)
@@ -74,11 +74,11 @@ kept_inner o e (suc k) (c ∷ s) i n h =
     ∙ ap (λ t. c ∷ t) (kept_inner o e k s i n.1 h)
 
 -- ---- before the first opener all is kept
-some_suc : (o : Option ℕ) (i : ℕ) → option_map (λ k. k + 1) o ≡ Some i → (j : ℕ) × (o ≡ Some j) × (i ≡ j + 1)
+pub some_suc : (o : Option ℕ) (i : ℕ) → option_map (λ k. k + 1) o ≡ Some i → (j : ℕ) × (o ≡ Some j) × (i ≡ j + 1)
 some_suc None i h = let u : ⊥ = cc in absurd u
 some_suc (Some j) i h = (j, refl, (cc))
 
-none_suc : (o : Option ℕ) → option_map (λ k. k + 1) o ≡ None → o ≡ None
+pub none_suc : (o : Option ℕ) → option_map (λ k. k + 1) o ≡ None → o ≡ None
 none_suc None h = refl
 none_suc (Some j) h = let u : ⊥ = cc in absurd u
 
@@ -154,7 +154,7 @@ no_close e [] h = refl
 no_close e (c ∷ s) h = no_close_either e s c (begins_mark e (c ∷ s)) h (no_close e s)
 
 -- ---- an opener at the start
-opener_long : (o : List ℕ) → is_opener o ≡ true → 0 < length o
+pub opener_long : (o : List ℕ) → is_opener o ≡ true → 0 < length o
 opener_long [] h = cc
 opener_long (x ∷ p) h = omega arith
 
@@ -173,11 +173,11 @@ kept_open (x ∷ p) e (c ∷ s) i f h =
     ∙ ap (λ t. if t then kept (x ∷ p) e true (length (x ∷ p) - 1) s else c ∷ kept (x ∷ p) e false 0 s) (and_false (begins_mark (x ∷ p) (c ∷ s)) false refl)
     ∙ ap (λ t. c ∷ t) (kept_inner (x ∷ p) e (length p) s i (inner p s (and_parts (eqb x 60) _ i).1 (and_parts (stands_for x c) (begins_mark p s) f).1) h)
 
-drop_past : (k : ℕ) → drop {A = ℕ} k [] ≡ []
+pub drop_past : (k : ℕ) → drop {A = ℕ} k [] ≡ []
 drop_past zero = refl
 drop_past (suc k) = refl
 
-drop_drop : (i k : ℕ) (s : List ℕ) → drop (i + k) s ≡ drop k (drop i s)
+pub drop_drop : (i k : ℕ) (s : List ℕ) → drop (i + k) s ≡ drop k (drop i s)
 drop_drop zero k s = let e : zero + k ≡ k = omega arith in ap (λ n. drop n s) e
 drop_drop (suc i) k [] = drop_past (suc i + k) ∙ sym (drop_past k)
 drop_drop (suc i) k (c ∷ s) = let e : suc i + k ≡ suc (i + k) = omega arith in ap (λ n. drop n (c ∷ s)) e ∙ drop_drop i k s
@@ -267,26 +267,26 @@ and_no : (a b c : Bool) → (a && b) ≡ false → (b ≡ false → c ≡ false)
 and_no true b c h f = f h
 and_no false b c h f = refl
 
-no_tag_either : (b : ℕ) (s : List ℕ) (t : Bool) → (eqb b 60 && has_close s) ≡ t → NoTag (untagged true s) → NoTag (untagged false s)
-    → NoTag (if t then untagged true s else b ∷ untagged false s)
+no_tag_either : (b : ℕ) (s : List ℕ) (t : Bool) → (eqb b 60 && has_close s) ≡ t → HasNoTag (untagged true s) → HasNoTag (untagged false s)
+    → HasNoTag (if t then untagged true s else b ∷ untagged false s)
 no_tag_either b s true e x y = x
 no_tag_either b s false e x y = (and_no (eqb b 60) (has_close s) (has_close (untagged false s)) e (closed_kept false s), y)
 
 -- no tag is left
-pub untagged-no_tag : (i : Bool) (s : List ℕ) → NoTag (untagged i s)
+pub untagged-no_tag : (i : Bool) (s : List ℕ) → HasNoTag (untagged i s)
 untagged-no_tag i [] = tt
 untagged-no_tag true (b ∷ s) = untagged-no_tag (if eqb b 62 then false else true) s
 untagged-no_tag false (b ∷ s) = no_tag_either b s (eqb b 60 && has_close s) refl (untagged-no_tag true s) (untagged-no_tag false s)
 
 -- and where there is none, the pass changes nothing
-pub untagged-same : (s : List ℕ) → NoTag s → untagged false s ≡ s
+pub untagged-same : (s : List ℕ) → HasNoTag s → untagged false s ≡ s
 untagged-same [] h = refl
 untagged-same (b ∷ s) h = ap (λ t. if t then untagged true s else b ∷ untagged false s) h.0 ∙ ap (λ t. b ∷ t) (untagged-same s h.1)
 
 -- ---- nothing is left, and a second run changes nothing
-pub nothing_left : (s : List ℕ) → NoTag (without_tags s)
+pub nothing_left : (s : List ℕ) → HasNoTag (without_tags s)
 nothing_left s = let t = without_pairs (codes "<!--") (codes "-->") (without_pairs (codes "<style") (codes "</style>") (without_pairs (codes "<script") (codes "</script>") s)) in
-    subst NoTag (sym (last_is false t)) (untagged-no_tag false t)
+    subst HasNoTag (sym (last_is false t)) (untagged-no_tag false t)
 
 close_drop : (k : ℕ) (s : List ℕ) → has_close s ≡ false → has_close (drop k s) ≡ false
 close_drop zero s h = h
@@ -314,12 +314,12 @@ stays_at o e s c false i a k h = let n : c ≢ 60 = (λ z. let u : ⊥ = grind (
 stays_at [] e s c true i a k h = cc
 stays_at (x ∷ p) e s c true i a k h = and_false (begins_mark (x ∷ p) (c ∷ s)) (has_mark e (drop (length p) s)) (no_has e (drop (length p) s) a (close_drop (length p) s h))
 
-stays : (o e s : List ℕ) → is_opener o ≡ true → list_any (λ y. eqb y 62) e ≡ true → NoTag s → kept o e false 0 s ≡ s
+stays : (o e s : List ℕ) → is_opener o ≡ true → list_any (λ y. eqb y 62) e ≡ true → HasNoTag s → kept o e false 0 s ≡ s
 stays o e [] i a h = refl
 stays o e (c ∷ s) i a h =
     ap (λ t. if t then kept o e true (length o - 1) s else c ∷ kept o e false 0 s) (stays_at o e s c (eqb c 60) i a refl h.0) ∙ ap (λ t. c ∷ t) (stays o e s i a h.1)
 
-pub no_change : (s : List ℕ) → NoTag s → without_tags s ≡ s
+pub no_change : (s : List ℕ) → HasNoTag s → without_tags s ≡ s
 no_change s h =
     ap (λ x. without_pairs (codes "<") (codes ">") (without_pairs (codes "<!--") (codes "-->") (without_pairs (codes "<style") (codes "</style>") x))) (stays (codes "<script") (codes "</script>") s refl refl h)
     ∙ ap (λ x. without_pairs (codes "<") (codes ">") (without_pairs (codes "<!--") (codes "-->") x)) (stays (codes "<style") (codes "</style>") s refl refl h)

@@ -14,9 +14,12 @@ use Rattle.liquid_list_filters.specs.Arguments.{Answer}
 abbrev pub is_kept : ℕ → Bool
 is_kept b = (nat_le 97 b && nat_le b 122) || (nat_le 65 b && nat_le b 90) || (nat_le 48 b && nat_le b 57) || b == 45 || b == 46 || b == 95
 
--- each byte that is not kept becomes `%` and two upper-case hexadecimal digits
+-- a byte that is not kept becomes `%` and two upper-case hexadecimal digits
+abbrev pub url_escaped_byte : ℕ → Text
+url_escaped_byte b = if is_kept b then b ∷ [] else percent_encode_byte b
+
 abbrev pub url_escaped : Text → Text
-url_escaped = flat_map (λ b. if is_kept b then b ∷ [] else percent_encode_byte b)
+url_escaped = flat_map url_escaped_byte
 
 -- `+` becomes a space
 abbrev pub plus_to_space : Text → Text

@@ -43,11 +43,7 @@ pub fn operands(alloc: Global, input: &Value, operand: &Value, divides: bool) ->
     }
     let second = operand.to_integer();
     if divides && matches!(second, Some(0)) {
-        return Err(Error::new(
-            alloc,
-            ErrorKind::DivideByZero,
-            "the divisor is 0, and any other number is wanted",
-        ));
+        return Err(Error::new(alloc, ErrorKind::DivideByZero, "the divisor must not be 0"));
     }
     match (input.to_integer(), second) {
         (Some(a), Some(b)) => Ok((a, b)),
@@ -68,7 +64,7 @@ fn unlike(alloc: Global, input: &Value, operand: &Value) -> Error
     Error::new(
         alloc,
         ErrorKind::InvalidArgument,
-        "a number is wanted as the input, but this is another text",
+        "the input must be a number",
     )
 }
 
@@ -79,7 +75,7 @@ pub fn decimal_refused(alloc: Global) -> Error
     Error::new(
         alloc,
         ErrorKind::Float,
-        "a whole number is wanted, but this is a decimal number",
+        "the number must be whole, not decimal",
     )
 }
 
@@ -93,7 +89,7 @@ pub fn within_range(alloc: Global, number: Option<i64>) -> Result<Value>
         None => Err(Error::new(
             alloc,
             ErrorKind::NumberRange,
-            "the result is beyond the whole numbers of 64 bits",
+            "the result must be within 64 bits, from -9223372036854775808 to 9223372036854775807",
         )),
     }
 }

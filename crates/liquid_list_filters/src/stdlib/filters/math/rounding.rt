@@ -114,10 +114,10 @@ fn rounded_to(alloc: Global, input: &Value, places: i64) -> Result<Value>
         return rounded(alloc, input, Rounding::Nearest);
     }
     if places > MOST_PLACES {
-        return Err(Error::new(
+        return Err(Error::formatted(
             alloc,
             ErrorKind::InvalidInput,
-            "2147483647 places at most are wanted, but these are more",
+            format_args!("the places must be at most {MOST_PLACES}, not {places}"),
         ));
     }
     if let Some(number) = input.to_integer() {
