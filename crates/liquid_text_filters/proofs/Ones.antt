@@ -32,14 +32,14 @@ use Rattle.liquid_text_filters.proofs.Replaced.{here_nil, first_found, first_non
 use Rattle.liquid_text_filters.proofs.Spellings.{capitalized_one, downcased_one, strips_end_one, strips_ends_one, strips_newlines_one, strips_start_one, upcased_one}
 
 -- ---- answers
-made_one : {X : Type 0} (f : X → Answer) (R : X → Type 0) (x : X) → IsTheOne R x → IsTheOne (Makes f R) (f x)
+pub made_one : {X : Type 0} (f : X → Answer) (R : X → Type 0) (x : X) → IsTheOne R x → IsTheOne (Makes f R) (f x)
 made_one f R x one = λ a. ((λ h. h.1 ∙ ap f ((one h.0).0 h.2)), λ e. (x, e, (one x).1 refl))
 
 read_one : (r : Result ℤ ErrorKind) (f : ℤ → Answer) (R : ℤ → Answer → Type 0) → ((z : ℤ) → IsTheOne (R z) (f z)) → IsTheOne (Reads r R) (r >>= f)
 read_one (Ok z) f R one = one z
 read_one (Err kind) f R one = λ a. ((λ h. h), λ e. e)
 
-same_one : {X : Type 0} (x : X) → IsTheOne (λ y. y ≡ x) x
+pub same_one : {X : Type 0} (x : X) → IsTheOne (λ y. y ≡ x) x
 same_one x = λ a. ((λ h. h), λ e. e)
 
 -- ---- pieces

@@ -1,6 +1,8 @@
 //! Worked rows of the filters over texts.
 mod examples;
+mod html;
 mod kinds;
+mod url;
 
 use liquid_core::{ErrorKind, Filter, Object, Result, Value};
 use std::alloc::Global;

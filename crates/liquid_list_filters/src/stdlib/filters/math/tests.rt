@@ -1,0 +1,192 @@
+//! Worked rows of the filters over numbers.
+use super::arithmetic::{DividedBy, Minus, Modulo, Plus, Times};
+use super::bounds::{Abs, AtLeast, AtMost};
+use super::rounding::{Ceil, Floor, Round};
+use liquid_core::{Filter, Value};
+use std::alloc::Global;
+use std::process::Abort;
+
+#[derive(Drop)]
+struct Rows<'r, R> {
+    rt: &'r R,
+    alloc: Global,
+}
+
+impl<R: Abort> Rows<'_, R> {
+    fn text(&self, text: &str) -> Value {
+        Value::Text(String::from_str(self.alloc, text).expect(self.rt, "ample memory"))
+    }
+
+    /// The answer's text, or the name of the fault's kind, is what is wanted.
+    fn row<F: Filter>(&self, filter: &F, input: &Value, args: &[Value], wanted: &str) {
+        assert!(self.rt; filter.accepts(args.len()));
+        match filter.evaluate(self.alloc, input, args) {
+            Ok(value) => {
+                assert!(self.rt; matches!(value, Value::Integer(_)));
+                let text = value.text(self.alloc).expect(self.rt, "ample memory");
+                assert_eq!(self.rt; text.as_str(), wanted);
+            }
+            Err(fault) => assert_eq!(self.rt; fault.kind.name(), wanted),
+        }
+    }
+
+    fn texts<F: Filter>(&self, filter: &F, rows: &[(&str, &str)]) {
+        for (input, wanted) in rows {
+            self.row(filter, &self.text(input), &[], wanted);
+        }
+    }
+
+    fn numbers<F: Filter>(&self, filter: &F, rows: &[(i64, i64, &str)]) {
+        for (input, operand, wanted) in rows {
+            self.row(
+                filter,
+                &Value::Integer(*input),
+                &[Value::Integer(*operand)],
+                wanted,
+            );
+        }
+    }
+}
+
+const LEAST: i64 = i64::MIN;
+
+const MOST: i64 = i64::MAX;
+
+#[test]
+fn whole_numbers(rt: HostRuntime) {
+    let rows = Rows {
+        rt: &rt,
+        alloc: rt.alloc(),
+    };
+    rows.numbers(
+        &Plus,
+        &[(1, 1, "2"), (MOST, 1, "NumberRange"), (MOST, LEAST, "-1")],
+    );
+    rows.numbers(
+        &Minus,
+        &[
+            (2, 1, "1"),
+            (LEAST, 1, "NumberRange"),
+            (-1, LEAST, "9223372036854775807"),
+        ],
+    );
+    rows.numbers(
+        &Times,
+        &[
+            (2, 3, "6"),
+            (MOST, 2, "NumberRange"),
+            (LEAST, -1, "NumberRange"),
+        ],
+    );
+    rows.numbers(
+        &DividedBy,
+        &[
+            (-7, 2, "-3"),
+            (7, -2, "-3"),
+            (LEAST, -1, "NumberRange"),
+            (7, 0, "DivideByZero"),
+        ],
+    );
+    rows.numbers(
+        &Modulo,
+        &[
+            (-7, 2, "-1"),
+            (7, -2, "1"),
+            (LEAST, -1, "0"),
+            (7, 0, "DivideByZero"),
+        ],
+    );
+    rows.numbers(&AtLeast, &[(4, 5, "5"), (5, 4, "5")]);
+    rows.numbers(&AtMost, &[(4, 5, "4"), (5, 4, "4")]);
+    rows.row(&Abs, &Value::Integer(-17), &[], "17");
+    rows.row(&Abs, &Value::Integer(LEAST), &[], "NumberRange");
+}
+
+#[test]
+fn texts(rt: HostRuntime) {
+    let rows = Rows {
+        rt: &rt,
+        alloc: rt.alloc(),
+    };
+    let one = Value::Integer(1);
+    rows.row(&Plus, &rows.text("+5"), &[rows.text("-2")], "3");
+    rows.row(&Plus, &rows.text("1.5"), &[Value::Integer(1)], "Float");
+    rows.row(
+        &Plus,
+        &rows.text("x"),
+        &[Value::Integer(1)],
+        "InvalidArgument",
+    );
+    rows.row(&Plus, &Value::Nil, &[Value::Integer(1)], "InvalidInput");
+    rows.row(&Plus, &one, &[Value::Nil], "InvalidArgument");
+    rows.row(&DividedBy, &one, &[rows.text("0.0")], "Float");
+    rows.row(
+        &DividedBy,
+        &rows.text("x"),
+        &[Value::Integer(0)],
+        "DivideByZero",
+    );
+    rows.row(&Modulo, &Value::Nil, &[Value::Integer(0)], "InvalidInput");
+    rows.texts(
+        &Abs,
+        &[("-007", "7"), ("-1.5", "Float"), ("x", "InvalidInput")],
+    );
+}
+
+#[test]
+fn decimals(rt: HostRuntime) {
+    let rows = Rows {
+        rt: &rt,
+        alloc: rt.alloc(),
+    };
+    rows.texts(
+        &Round,
+        &[
+            ("2.5", "3"),
+            ("-2.5", "-3"),
+            ("-0.5", "-1"),
+            ("2.4999999999999999999", "2"),
+            ("007", "7"),
+        ],
+    );
+    rows.texts(
+        &Ceil,
+        &[
+            ("-0.5", "0"),
+            ("9223372036854775807.5", "NumberRange"),
+            ("0.00000000000000000000001", "1"),
+            (".5", "InvalidInput"),
+        ],
+    );
+    rows.texts(
+        &Floor,
+        &[
+            ("-0.5", "-1"),
+            ("9223372036854775807.5", "9223372036854775807"),
+            ("+-5.1", "InvalidInput"),
+            ("5.", "InvalidInput"),
+        ],
+    );
+    let half = rows.text("2.5");
+    rows.row(&Round, &half, &[Value::Integer(1)], "Float");
+    rows.row(&Round, &half, &[Value::Integer(-1)], "3");
+    rows.row(&Round, &half, &[Value::Integer(2147483648)], "InvalidInput");
+    rows.row(&Round, &half, &[Value::Nil], "InvalidArgument");
+    rows.row(
+        &Round,
+        &Value::Integer(MOST),
+        &[Value::Integer(2147483647)],
+        "9223372036854775807",
+    );
+}
+
+/// The digits are looked at a fixed number of times, so this ends at once.
+#[test]
+fn long_text(rt: HostRuntime) {
+    let rows = Rows {
+        rt: &rt,
+        alloc: rt.alloc(),
+    };
+    let digits = "0".repeat(rt.alloc(), 10000).expect(&rt, "ample memory");
+    rows.row(&Round, &Value::Text(digits), &[], "0");
+}
