@@ -323,7 +323,10 @@ fn by_run(rt: &impl Abort, alloc: Global, row: &Row) {
     let answer = run(alloc, row.source, row.data, &[], &mut counted);
     let written: Vec<u8> = counted.into_inner();
     let source = row.source;
-    assert!(rt; written.as_slice() == row.page.as_bytes(), "the page of {source}");
+    assert!(rt;
+        written.as_slice() == row.page.as_bytes(),
+        "the page of {source}"
+    );
     assert!(rt; kind_of(&answer) == row.end, "the end of {source}");
 }
 
@@ -337,7 +340,10 @@ fn by_parts(rt: &impl Abort, alloc: Global, row: &Row) -> Result<()> {
     let answer = template.render_to(alloc, &mut counted, &mut runtime);
     let written: Vec<u8> = counted.into_inner();
     let source = row.source;
-    assert!(rt; written.as_slice() == row.page.as_bytes(), "the page of {source}");
+    assert!(rt;
+        written.as_slice() == row.page.as_bytes(),
+        "the page of {source}"
+    );
     assert!(rt; kind_of(&answer) == row.end, "the end of {source}");
     Ok(())
 }
