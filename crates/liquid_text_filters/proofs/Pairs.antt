@@ -5,7 +5,7 @@ use Rattle.std.specs.Str.{chars, encode_utf8_all}
 use Rattle.liquid_core.specs.Answer.{IsTheOne}
 use Rattle.liquid_core.specs.Data.{Datum, text, text_of}
 use Rattle.liquid_core.specs.Texts.{Text}
-use Rattle.liquid_text_filters.specs.HtmlLaws.{CutsPairs, IsFirstPair, OpensPair, Passes, StandsAt, StripsHtml}
+use Rattle.liquid_text_filters.specs.HtmlLaws.{CutsPairs, IsFirstPair, OpensPair, Passes, StripsHtml}
 use Rattle.liquid_text_filters.specs.Laws.{Texts}
 use Rattle.liquid_text_filters.specs.Tags.{begins_mark, first_mark, is_opener, strip_html, strip_html_answer, without_pairs}
 use Rattle.liquid_text_filters.proofs.Ones.{made_one}

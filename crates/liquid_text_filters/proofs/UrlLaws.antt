@@ -1,5 +1,5 @@
 -- The laws of the filters over URLs.
-use Rattle.std.proofs.Common.{◌≡◌, ◌⊎◌, ℕ, ◌+◌, ◌*◌, ◌/◌, ◌%◌, ◌<◌, ◌≤◌, Bool, true, false, ◌&&◌, ◌==◌, ltb, cond, List, [], ◌∷◌, ◌++◌, All, refl, ap, subst, sym, ◌∙◌, inl, inr, ⊎_elim, arith, Result, Ok, if◌then◌else◌}
+use Rattle.std.proofs.Common.{◌≡◌, ℕ, ◌+◌, ◌*◌, ◌/◌, ◌%◌, ◌<◌, Bool, true, false, ◌&&◌, ◌==◌, ltb, List, [], ◌∷◌, All, refl, ap, subst, sym, ◌∙◌, inl, inr, ⊎_elim, arith, Result, Ok, if◌then◌else◌}
 use Rattle.std.proofs.lemmas.Bool.Decides.{nat_tests}
 use Rattle.std.proofs.lemmas.List.Elements.{All-append, All-from_recursion, All-nil}
 use Rattle.std.specs.Char.{digit_value, is_digit}

@@ -1,8 +1,8 @@
 -- The set of url_escaped bytes, byte by byte, and the round trip.
-use Rattle.std.proofs.Common.{◌≡◌, ℕ, zero, suc, ◌+◌, ◌<◌, ◌≤◌, Bool, true, false, not, ◌&&◌, T, cond, List, [], ◌∷◌, ◌++◌, length, map, get_or, ap, refl, sym, ◌∙◌, arith, ◌⊎◌, inl, inr, All, subst, ◌==◌, if◌then◌else◌, Ok, Err}
+use Rattle.std.proofs.Common.{◌≡◌, ℕ, zero, suc, ◌<◌, Bool, true, false, not, cond, List, [], ◌∷◌, ◌++◌, ap, refl, sym, ◌∙◌, arith, All, subst, ◌==◌, if◌then◌else◌, Ok, Err}
 use borrow.Author.Count.{below_more}
 use Rattle.std.specs.List.{flat_map}
-use Rattle.percent_encoding.specs.AsciiSet.{should_percent_encode, contains}
+use Rattle.percent_encoding.specs.AsciiSet.{should_percent_encode}
 use Rattle.percent_encoding.specs.Percent.{percent_encode, percent_encode_byte, encode_byte, percent_decode}
 use Rattle.percent_encoding.proofs.PercentLemmas.{round_trip, IsByte, IsEscapeByte, All-percent_encode}
 use Rattle.std.proofs.lemmas.List.Elements.{All-head, All-tail}
