@@ -1,10 +1,10 @@
 -- Texts by their characters: each filter's text stands in its relation, and no other does.
-use Rattle.std.proofs.Common.{◌≡◌, ◌≢◌, ℕ, zero, suc, ◌+◌, ◌*◌, ◌/◌, ◌%◌, ◌<◌, ◌≤◌, ◌⊎◌, inl, inr, Bool, true, false, cond, not, ◌&&◌, ◌||◌, ◌==◌, eqb, ltb, List, [], ◌∷◌, ◌++◌, length, map, ap, subst, refl, sym, ◌∙◌, arith, append_assoc, append-nil, if◌then◌else◌}
+use Rattle.std.proofs.Common.{◌≡◌, ◌≢◌, ℕ, suc, ◌+◌, ◌/◌, ◌%◌, ◌<◌, ◌≤◌, ◌⊎◌, inl, inr, Bool, true, false, cond, not, ◌&&◌, ◌||◌, ◌==◌, ltb, List, [], ◌∷◌, ◌++◌, length, map, ap, subst, refl, sym, ◌∙◌, arith, append-nil, if◌then◌else◌}
 use Rattle.std.proofs.lemmas.Bool.Decides.{nat_tests}
 use Rattle.std.proofs.lemmas.List.{map-append}
-use Rattle.std.proofs.lemmas.Str.{chars-encodes, chars_past_char, encode_ascii, encodes-append, encodes-chars, scalars-chars}
+use Rattle.std.proofs.lemmas.Str.{chars-encodes, encode_ascii, encodes-chars, scalars-chars}
 use Rattle.std.proofs.lemmas.Str.Ascii.{lowercase_ascii, uppercase_ascii}
-use Rattle.std.specs.Char.{encode_utf8, is_whitespace, to_ascii_lowercase, to_ascii_uppercase}
+use Rattle.std.specs.Char.{is_whitespace, to_ascii_lowercase, to_ascii_uppercase}
 use Rattle.std.specs.List.{filter}
 use Rattle.std.specs.Str.{all_scalars, chars, drop_trailing_whitespace, encode_utf8_all, IsUtf8, skip_leading_whitespace, trim, trim_end, trim_start}
 use lib.Utf8.{encode, scalar}
