@@ -145,7 +145,7 @@ fn a_fault_tells_its_place(rt: HostRuntime) -> Result<(), Fail> {
         ),
         (
             "x{{ a",
-            "line 1, column 6: the source ends where a value is wanted",
+            "line 1, column 6: the source ends where an item or `}}` is wanted",
         ),
     ] {
         match parse(rt.alloc(), source, &language) {
