@@ -11,7 +11,7 @@ use Rattle.liquid_core.specs.View.{view}
 use Rattle.liquid_core.specs.Expression as tree
 use Rattle.liquid_core.specs.ExpressionView.{expression_view, variable_view, steps_view}
 use Rattle.liquid_core.specs.declared.value.Value.{Value}
-use Rattle.liquid_core.specs.declared.expression.Expression.{Expression, Literal, Variable, the_lemmas}
+use Rattle.liquid_core.specs.declared.expression.Expression.{Expression, Literal, the_lemmas}
 use Rattle.liquid_core.specs.declared.expression.Variable as declared
 
 pub literal_is : (v : Value) → expression_view (Literal v) ≡ tree.literal (view v)

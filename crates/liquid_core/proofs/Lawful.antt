@@ -1,8 +1,8 @@
 -- The laws' proofs, over the definitions alone.
-use Rattle.std.proofs.Common.{◌≡◌, ◌↔◌, ℕ, zero, suc, ◌+◌, ◌-◌, ◌<◌, ◌≤◌, ℤ, pos, negsuc, Bool, true, false, IsTrue, cond, List, [], ◌∷◌, ◌++◌, length, codes, Option, Some, None, bytes_eq, nat_le, refl, sym, ap, ◌∙◌, arith, rules}
-use Rattle.std.specs.List.{flat_map, slice_get}
+use Rattle.std.proofs.Common.{◌≡◌, ℕ, zero, suc, ◌+◌, ◌-◌, ◌<◌, ◌≤◌, negsuc, Bool, true, false, cond, List, [], ◌∷◌, ◌++◌, length, codes, Option, Some, None, nat_le, refl, sym, ap, ◌∙◌, arith, rules}
+use Rattle.std.specs.List.{slice_get}
 use Rattle.std.specs.Option.{option_and_then}
-use Rattle.std.specs.Ordering.{ordering_reverse, ordering_then, nat_cmp, int_cmp, bool_cmp, is_eq}
+use Rattle.std.specs.Ordering.{ordering_then, nat_cmp, int_cmp, is_eq}
 use Rattle.std.specs.declared.cmp.Ordering.{Ordering}
 use Rattle.std.specs.declared.cmp.Ordering.TheVariants.{Less, Equal, Greater}
 use Rattle.std.specs.Cmp.{Equal-is, nat_cmp_is, int_cmp_is}
@@ -12,13 +12,12 @@ use Rattle.std.proofs.lemmas.Map.Text.{is_eq-slice_cmp}
 use Rattle.std.proofs.lemmas.Slice.Eq.{bytes_eq-Decides}
 use Rattle.std.proofs.lemmas.List.{length_push}
 use Rattle.std.proofs.lemmas.Bool.Decides.{nat_tests}
-use Rattle.liquid_core.specs.Data.{Datum, nil, truth, number, text, array, object, Items, no_items, item, Pairs, no_pairs, pair, text_of, scalar}
+use Rattle.liquid_core.specs.Data.{Datum, nil, truth, number, text, array, object, Items, no_items, item, Pairs, no_pairs, pair, text_of}
 use Rattle.liquid_core.specs.View.{items_of}
 use Rattle.liquid_core.specs.Order.{rank, order, order_within, same, items_order, pairs_order}
 use Rattle.liquid_core.specs.OrderLaws.{order_total, order_same, same_Decides}
 use Rattle.liquid_core.specs.Digest.{same_digest, items_len}
 use Rattle.liquid_core.specs.Compare.{compare, items_compare, pairs_compare, by_key}
-use Rattle.liquid_core.specs.Whole.{whole, whole_text}
 use Rattle.liquid_core.specs.Find.{find, step, item_at, item_step, counted}
 use Rattle.liquid_core.specs.Texts.{◌else◌}
 use Rattle.liquid_core.specs.Environment.{local_of}

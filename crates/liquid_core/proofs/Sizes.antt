@@ -1,7 +1,7 @@
 -- No number's text and no truth value's is `size`.
-use Rattle.std.proofs.Common.{◌≡◌, ℕ, zero, suc, ℤ, pos, negsuc, List, [], ◌∷◌, Bool, true, false, cond, codes, bytes_eq, nat_eq, None, ◌<◌, ◌%◌, ◌/◌, ◌==◌, refl, arith, rules}
+use Rattle.std.proofs.Common.{◌≡◌, ℕ, zero, suc, ℤ, pos, negsuc, List, [], ◌∷◌, Bool, true, false, cond, codes, bytes_eq, nat_eq, None, ◌<◌, ◌%◌, ◌/◌, ◌==◌, refl, arith}
 use Rattle.std.proofs.lemmas.Bool.Decides.{nat_tests}
-use Rattle.std.specs.Fmt.{decimal, signed_decimal}
+use Rattle.std.specs.Fmt.{decimal}
 use Rattle.std.specs.Fmt.{digits, digits_onto, digit_glyph}
 use Rattle.liquid_core.specs.Data.{truth, number}
 use Rattle.liquid_core.specs.Find.{scalar_step}

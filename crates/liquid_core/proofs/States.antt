@@ -11,7 +11,6 @@ use Rattle.std.proofs.lemmas.List.{map-append}
 use Rattle.liquid_core.specs.declared.value.Value.{Value}
 use Rattle.liquid_core.specs.declared.state.State.{State}
 use Rattle.liquid_core.specs.Texts.{◌else◌}
-use Rattle.liquid_core.specs.Data.{no_pairs}
 use Rattle.liquid_core.specs.View.{pairs_view}
 use Rattle.liquid_core.specs.Maps.{merged, empty}
 use Rattle.liquid_core.specs.Environment.{local_of, lookup}
@@ -88,7 +87,7 @@ unfolding layers_of
 scopes_of s = refl
 
 pub looked_up : (s : State) (q : Text) → lookup (environment_of s) q
-    ≡ ((((environment_of s).local q else value_at q (pairs_view s.assigned.entries)) else value_at q (pairs_view s.counters.entries)) else value_at q (pairs_view s.«data».entries))
+    ≡ ((((environment_of s).local q else value_at q (pairs_view s.assigned.entries)) else (layers_of s).counters q) else value_at q (pairs_view s.«data».entries))
 unfolding layers_of map_of
 looked_up s q = refl
 

@@ -1,5 +1,5 @@
 -- A fault's message, and its text.
-use Rattle.std.specs.Prelude.{◌≡◌, ◌++◌, List, ℕ, [], codes, Option, Some, None, MatchBool, ⊤, string_bytes}
+use Rattle.std.specs.Prelude.{◌≡◌, ◌++◌, List, ℕ, [], codes, Some, MatchBool, ⊤, string_bytes}
 use Rattle.std.specs.Option.{option_map, option_map_or}
 use Rattle.liquid_core.specs.Told.{is_memory, name_of}
 use Rattle.liquid_core.specs.declared.error.Error.{Error}

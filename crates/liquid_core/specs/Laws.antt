@@ -1,14 +1,13 @@
 -- Laws of values, of finding along a path, and of look-up. Each stands on a function of src/laws.rt.
 --     array_of ds      a list of the data ds
-use Rattle.std.specs.Prelude.{◌≡◌, ◌↔◌, ◌⊎◌, ℕ, ◌+◌, ◌-◌, ◌<◌, ◌≤◌, ℤ, pos, negsuc, ◌<ℤ◌, true, false, IsTrue, List, [], ◌∷◌, ◌++◌, length, codes, Option, Some, None, flat_map, slice_get}
-use Rattle.std.specs.Fmt.{signed_decimal}
+use Rattle.std.specs.Prelude.{◌≡◌, ◌↔◌, ℕ, ◌+◌, ◌-◌, ◌<◌, ◌≤◌, ℤ, pos, negsuc, ◌<ℤ◌, true, false, IsTrue, List, [], ◌∷◌, ◌++◌, length, codes, Some, None, flat_map, slice_get}
 use Rattle.std.specs.Option.{option_and_then}
-use Rattle.std.specs.Ordering.{ordering_reverse, nat_cmp, bool_cmp}
+use Rattle.std.specs.Ordering.{ordering_reverse, nat_cmp}
 use Rattle.std.specs.Cmp.Lexicographic.{slice_cmp}
 use Rattle.std.specs.declared.cmp.Ordering.{Ordering}
-use Rattle.std.specs.declared.cmp.Ordering.TheVariants.{Less, Equal, Greater}
+use Rattle.std.specs.declared.cmp.Ordering.TheVariants.{Less, Equal}
 use Rattle.liquid_core.specs.Texts.{Text}
-use Rattle.liquid_core.specs.Data.{Datum, nil, truth, number, text, array, object, Items, Pairs, no_pairs, pair, text_of, scalar, put}
+use Rattle.liquid_core.specs.Data.{Datum, nil, truth, number, text, array, object, Pairs, pair, text_of, scalar, put}
 use Rattle.liquid_core.specs.View.{items_of}
 use Rattle.liquid_core.specs.Order.{rank, order, same}
 use Rattle.liquid_core.specs.Digest.{digest}
@@ -16,7 +15,7 @@ use Rattle.liquid_core.specs.Compare.{compare}
 use Rattle.liquid_core.specs.Whole.{whole, whole_text, fits}
 use Rattle.liquid_core.specs.Find.{find, step, value_at, counted}
 use Rattle.liquid_core.specs.Maps.{Map}
-use Rattle.liquid_core.specs.Environment.{Environment, lookup, local_of}
+use Rattle.liquid_core.specs.Environment.{Environment, local_of}
 use Rattle.liquid_core.specs.Expressions.{value_along}
 
 abbrev pub array_of : List Datum → Datum

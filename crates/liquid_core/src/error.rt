@@ -1,5 +1,5 @@
 //! Faults: what kind one is, and a message for who reads it.
-ghost use Rattle.std.specs.Prelude.{◌≡◌, Some};
+ghost use Rattle.std.specs.Prelude.{◌≡◌, Some, IfSome};
 ghost use Rattle.liquid_core.specs.Errors.{HasMessageUnlessMemory, error_text};
 ghost use Rattle.liquid_core.specs.Told.{Told, number_of, name_of};
 ghost use Rattle.liquid_core.specs.declared.error.ErrorKind.TheVariants.{Memory};
@@ -182,10 +182,11 @@ impl Error {
     /// A fault of this kind with a message that is written out, as a `format_args!` is, or `Memory` where
     /// there is no room for the message.
     pub fn formatted<M: fmt::Display + Drop>(alloc: Global, kind: ErrorKind, message: M) -> Error
-        ensures { Told kind result.kind }
+        ensures told { Told kind result.kind }
+        ensures message { IfSome (M.output message) (λ written. HasMessageUnlessMemory written result) }
     {
         match message.to_string(alloc) {
-            Ok(text) => Error::with_message(kind, text),
+            Ok(written) => Error::with_message(kind, written),
             Err(refused) => Error::from(refused),
         }
     }

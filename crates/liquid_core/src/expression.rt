@@ -5,6 +5,8 @@ ghost use Rattle.liquid_core.specs.Cow.{cow_view};
 ghost use Rattle.liquid_core.specs.Expressions.{value_of, required};
 ghost use Rattle.liquid_core.specs.ExpressionView.{expression_view, variable_view, steps_view};
 ghost use Rattle.liquid_core.specs.States.{environment_of};
+ghost use Rattle.liquid_core.specs.Told.{Told};
+ghost use Rattle.liquid_core.specs.declared.error.ErrorKind.TheVariants.{UnknownVariable};
 
 use crate::cow::ValueCow;
 use crate::error::{Error, ErrorKind, Result};
@@ -12,6 +14,7 @@ use crate::find::Found;
 use crate::state::State;
 use crate::value::Value;
 use std::alloc::Global;
+use std::fmt::Display;
 
 /// A literal, or a variable.
 #[cycle(expression)]
@@ -54,11 +57,7 @@ impl Expression {
     {
         match expression_value(self, state) {
             Some(value) => Ok(value),
-            None => Err(Error::formatted(
-                alloc,
-                ErrorKind::UnknownVariable,
-                format_args!("`{self}` has no value"),
-            )),
+            None => Err(without_value(alloc, self)),
         }
     }
 
@@ -88,11 +87,7 @@ impl Variable {
     {
         match variable_value(self, state) {
             Some(value) => Ok(value),
-            None => Err(Error::formatted(
-                alloc,
-                ErrorKind::UnknownVariable,
-                format_args!("`{self}` has no value"),
-            )),
+            None => Err(without_value(alloc, self)),
         }
     }
 
@@ -102,6 +97,17 @@ impl Variable {
     {
         copied_variable(alloc, self)
     }
+}
+
+/// The fault of an expression or a variable that has no value.
+fn without_value<D: Display>(alloc: Global, written: &D) -> Error
+    ensures { Told UnknownVariable result.kind }
+{
+    Error::formatted(
+        alloc,
+        ErrorKind::UnknownVariable,
+        format_args!("`{written}` has no value"),
+    )
 }
 
 #[cycle(value)]

@@ -1,4 +1,4 @@
-//! Values of templates.
+//! Values, expressions and the state of templates: what all other layers stand on.
 #![tactic(auto)]
 
 mod compare;

@@ -5,7 +5,7 @@ mod finding;
 mod states;
 mod values;
 
-use crate::{Object, Result, Value};
+use crate::{Object, Result, Value, store};
 use std::alloc::Global;
 use std::collections::BTreeMap;
 
@@ -13,18 +13,18 @@ fn text(alloc: Global, text: &str) -> Result<Value> {
     Ok(Value::Text(String::from_str(alloc, text)?))
 }
 
-fn list<const N: usize>(alloc: Global, values: [Value; N]) -> Result<Value> {
+fn pair(alloc: Global, first: Value, second: Value) -> Result<Value> {
     let mut items = Vec::new(alloc);
-    for value in values {
-        items.push(value)?;
-    }
+    items.push(first)?;
+    items.push(second)?;
     Ok(Value::Array(items))
 }
 
-fn object<const N: usize>(alloc: Global, values: [(&str, Value); N]) -> Result<Object> {
-    let mut pairs: Object = BTreeMap::new(alloc);
-    for (key, value) in values {
-        drop(pairs.insert(String::from_str(alloc, key)?, value)?);
-    }
-    Ok(pairs)
+fn with(alloc: Global, mut object: Object, key: &str, value: Value) -> Result<Object> {
+    store(&mut object, String::from_str(alloc, key)?, value)?;
+    Ok(object)
+}
+
+fn one(alloc: Global, key: &str, value: Value) -> Result<Object> {
+    with(alloc, BTreeMap::new(alloc), key, value)
 }

@@ -1,21 +1,36 @@
 -- The filters that exist: how many arguments each takes, what it answers and what Liquid calls it.
-use Rattle.std.specs.Prelude.{ℕ, Bool, ◌||◌, List, nat_eq, nat_le, codes}
+use Rattle.std.specs.Prelude.{ℕ, Bool, ◌&&◌, ◌||◌, List, nat_eq, nat_le, codes}
 use Rattle.liquid_core.specs.Data.{Datum}
 use Rattle.liquid_core.specs.Texts.{Text}
 use Rattle.liquid_list_filters.specs.Arguments.{Answer}
 use Rattle.liquid_list_filters.specs.Ends.{first_answer, last_answer}
 use Rattle.liquid_list_filters.specs.Joined.{join_answer}
-use Rattle.liquid_list_filters.specs.Keeping.{where_answer, uniq_answer, map_answer, compact_answer}
-use Rattle.liquid_list_filters.specs.Rows.{reverse_answer, concat_answer}
+use Rattle.liquid_list_filters.specs.Keeping.{compact_answer, map_answer, uniq_answer, where_answer}
+use Rattle.liquid_list_filters.specs.Numbers.{abs, at_least, at_most, divided_by, minus, modulo, of_none, of_one, plus, times}
+use Rattle.liquid_list_filters.specs.Rounding.{round, rounded}
+use Rattle.liquid_list_filters.specs.Rows.{concat_answer, reverse_answer}
 use Rattle.liquid_list_filters.specs.Sorting.{sort_answer, sort_natural_answer}
+use Rattle.liquid_text_filters.specs.Case.{capitalize_answer, downcase_answer, upcase_answer}
+use Rattle.liquid_text_filters.specs.Default.{default_answer}
+use Rattle.liquid_text_filters.specs.Escapes.{escape_answer, escape_once_answer}
+use Rattle.liquid_text_filters.specs.LineBreaks.{newline_to_br_answer}
+use Rattle.liquid_text_filters.specs.Operate.{append_answer, prepend_answer, remove_answer, remove_first_answer, replace_answer, replace_first_answer}
+use Rattle.liquid_text_filters.specs.Size.{size_answer}
+use Rattle.liquid_text_filters.specs.Slice.{slice_answer}
+use Rattle.liquid_text_filters.specs.Split.{split_answer}
+use Rattle.liquid_text_filters.specs.Strip.{lstrip_answer, rstrip_answer, strip_answer, strip_newlines_answer}
+use Rattle.liquid_text_filters.specs.Tags.{strip_html_answer}
+use Rattle.liquid_text_filters.specs.Truncate.{truncate_answer, truncatewords_answer}
+use Rattle.liquid_text_filters.specs.Urls.{url_decode_answer, url_encode_answer}
+use Rattle.liquid_list_filters.specs.declared.stdlib.filters.math.decimal.Rounding.TheVariants.{Up, Down}
 use Rattle.liquid_filters.specs.declared.kind.FilterKind.{FilterKind}
-use Rattle.liquid_filters.specs.declared.kind.FilterKind.TheVariants.{Join, Sort, SortNatural, Where, Uniq, Reverse, Map, Compact, Concat, First, Last}
+use Rattle.liquid_filters.specs.declared.kind.FilterKind.TheVariants.{Join, Sort, SortNatural, Where, Uniq, Reverse, Map, Compact, Concat, First, Last, Abs, AtLeast, AtMost, Plus, Minus, Times, DividedBy, Modulo, Round, Ceil, Floor, Size, Default, Slice, Split, Replace, ReplaceFirst, Remove, RemoveFirst, Append, Prepend, Strip, Lstrip, Rstrip, StripNewlines, Downcase, Upcase, Capitalize, Truncate, TruncateWords, Escape, EscapeOnce, StripHtml, NewlineToBr, UrlEncode, UrlDecode}
 
 abbrev pub kind_counts : FilterKind → ℕ → Bool
 kind_counts (Join f) n = nat_le n 1
 kind_counts (Sort f) n = nat_le n 1
 kind_counts (SortNatural f) n = nat_le n 1
-kind_counts (Where f) n = nat_eq n 1 || nat_eq n 2
+kind_counts (Where f) n = nat_le 1 n && nat_le n 2
 kind_counts (Uniq f) n = nat_eq n 0
 kind_counts (Reverse f) n = nat_eq n 0
 kind_counts (Map f) n = nat_eq n 1
@@ -23,6 +38,42 @@ kind_counts (Compact f) n = nat_le n 1
 kind_counts (Concat f) n = nat_eq n 1
 kind_counts (First f) n = nat_eq n 0
 kind_counts (Last f) n = nat_eq n 0
+kind_counts (Abs f) n = nat_eq n 0
+kind_counts (AtLeast f) n = nat_eq n 1
+kind_counts (AtMost f) n = nat_eq n 1
+kind_counts (Plus f) n = nat_eq n 1
+kind_counts (Minus f) n = nat_eq n 1
+kind_counts (Times f) n = nat_eq n 1
+kind_counts (DividedBy f) n = nat_eq n 1
+kind_counts (Modulo f) n = nat_eq n 1
+kind_counts (Round f) n = nat_eq n 0 || nat_eq n 1
+kind_counts (Ceil f) n = nat_eq n 0
+kind_counts (Floor f) n = nat_eq n 0
+kind_counts (Size f) n = nat_eq n 0
+kind_counts (Default f) n = nat_eq n 1
+kind_counts (Slice f) n = nat_le 1 n && nat_le n 2
+kind_counts (Split f) n = nat_eq n 1
+kind_counts (Replace f) n = nat_le 1 n && nat_le n 2
+kind_counts (ReplaceFirst f) n = nat_le 1 n && nat_le n 2
+kind_counts (Remove f) n = nat_eq n 1
+kind_counts (RemoveFirst f) n = nat_eq n 1
+kind_counts (Append f) n = nat_eq n 1
+kind_counts (Prepend f) n = nat_eq n 1
+kind_counts (Strip f) n = nat_eq n 0
+kind_counts (Lstrip f) n = nat_eq n 0
+kind_counts (Rstrip f) n = nat_eq n 0
+kind_counts (StripNewlines f) n = nat_eq n 0
+kind_counts (Downcase f) n = nat_eq n 0
+kind_counts (Upcase f) n = nat_eq n 0
+kind_counts (Capitalize f) n = nat_eq n 0
+kind_counts (Truncate f) n = nat_le n 2
+kind_counts (TruncateWords f) n = nat_le n 2
+kind_counts (Escape f) n = nat_eq n 0
+kind_counts (EscapeOnce f) n = nat_eq n 0
+kind_counts (StripHtml f) n = nat_eq n 0
+kind_counts (NewlineToBr f) n = nat_eq n 0
+kind_counts (UrlEncode f) n = nat_eq n 0
+kind_counts (UrlDecode f) n = nat_eq n 0
 
 abbrev pub kind_answer : FilterKind → Datum → List Datum → Answer
 kind_answer (Join f) = join_answer
@@ -36,6 +87,42 @@ kind_answer (Compact f) = compact_answer
 kind_answer (Concat f) = concat_answer
 kind_answer (First f) = first_answer
 kind_answer (Last f) = last_answer
+kind_answer (Abs f) = of_none abs
+kind_answer (AtLeast f) = of_one at_least
+kind_answer (AtMost f) = of_one at_most
+kind_answer (Plus f) = of_one plus
+kind_answer (Minus f) = of_one minus
+kind_answer (Times f) = of_one times
+kind_answer (DividedBy f) = of_one divided_by
+kind_answer (Modulo f) = of_one modulo
+kind_answer (Round f) = round
+kind_answer (Ceil f) = of_none (rounded Up)
+kind_answer (Floor f) = of_none (rounded Down)
+kind_answer (Size f) = size_answer
+kind_answer (Default f) = default_answer
+kind_answer (Slice f) = slice_answer
+kind_answer (Split f) = split_answer
+kind_answer (Replace f) = replace_answer
+kind_answer (ReplaceFirst f) = replace_first_answer
+kind_answer (Remove f) = remove_answer
+kind_answer (RemoveFirst f) = remove_first_answer
+kind_answer (Append f) = append_answer
+kind_answer (Prepend f) = prepend_answer
+kind_answer (Strip f) = strip_answer
+kind_answer (Lstrip f) = lstrip_answer
+kind_answer (Rstrip f) = rstrip_answer
+kind_answer (StripNewlines f) = strip_newlines_answer
+kind_answer (Downcase f) = downcase_answer
+kind_answer (Upcase f) = upcase_answer
+kind_answer (Capitalize f) = capitalize_answer
+kind_answer (Truncate f) = truncate_answer
+kind_answer (TruncateWords f) = truncatewords_answer
+kind_answer (Escape f) = escape_answer
+kind_answer (EscapeOnce f) = escape_once_answer
+kind_answer (StripHtml f) = strip_html_answer
+kind_answer (NewlineToBr f) = newline_to_br_answer
+kind_answer (UrlEncode f) = url_encode_answer
+kind_answer (UrlDecode f) = url_decode_answer
 
 abbrev pub kind_name : FilterKind → Text
 kind_name (Join f) = codes "join"
@@ -49,3 +136,39 @@ kind_name (Compact f) = codes "compact"
 kind_name (Concat f) = codes "concat"
 kind_name (First f) = codes "first"
 kind_name (Last f) = codes "last"
+kind_name (Abs f) = codes "abs"
+kind_name (AtLeast f) = codes "at_least"
+kind_name (AtMost f) = codes "at_most"
+kind_name (Plus f) = codes "plus"
+kind_name (Minus f) = codes "minus"
+kind_name (Times f) = codes "times"
+kind_name (DividedBy f) = codes "divided_by"
+kind_name (Modulo f) = codes "modulo"
+kind_name (Round f) = codes "round"
+kind_name (Ceil f) = codes "ceil"
+kind_name (Floor f) = codes "floor"
+kind_name (Size f) = codes "size"
+kind_name (Default f) = codes "default"
+kind_name (Slice f) = codes "slice"
+kind_name (Split f) = codes "split"
+kind_name (Replace f) = codes "replace"
+kind_name (ReplaceFirst f) = codes "replace_first"
+kind_name (Remove f) = codes "remove"
+kind_name (RemoveFirst f) = codes "remove_first"
+kind_name (Append f) = codes "append"
+kind_name (Prepend f) = codes "prepend"
+kind_name (Strip f) = codes "strip"
+kind_name (Lstrip f) = codes "lstrip"
+kind_name (Rstrip f) = codes "rstrip"
+kind_name (StripNewlines f) = codes "strip_newlines"
+kind_name (Downcase f) = codes "downcase"
+kind_name (Upcase f) = codes "upcase"
+kind_name (Capitalize f) = codes "capitalize"
+kind_name (Truncate f) = codes "truncate"
+kind_name (TruncateWords f) = codes "truncatewords"
+kind_name (Escape f) = codes "escape"
+kind_name (EscapeOnce f) = codes "escape_once"
+kind_name (StripHtml f) = codes "strip_html"
+kind_name (NewlineToBr f) = codes "newline_to_br"
+kind_name (UrlEncode f) = codes "url_encode"
+kind_name (UrlDecode f) = codes "url_decode"

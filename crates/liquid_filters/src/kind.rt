@@ -2,8 +2,8 @@
 ghost use Rattle.std.specs.Prelude.{◌≡◌};
 ghost use Rattle.liquid_filters.specs.Kinds.{kind_name};
 
+use crate::stdlib;
 use liquid_core::{Filter, Result, Value};
-use liquid_list_filters::stdlib;
 use std::alloc::Global;
 
 /// One of the filters that exist. Each is made from its struct by `From`.
@@ -20,6 +20,42 @@ pub enum FilterKind {
     Concat(stdlib::Concat),
     First(stdlib::First),
     Last(stdlib::Last),
+    Abs(stdlib::Abs),
+    AtLeast(stdlib::AtLeast),
+    AtMost(stdlib::AtMost),
+    Plus(stdlib::Plus),
+    Minus(stdlib::Minus),
+    Times(stdlib::Times),
+    DividedBy(stdlib::DividedBy),
+    Modulo(stdlib::Modulo),
+    Round(stdlib::Round),
+    Ceil(stdlib::Ceil),
+    Floor(stdlib::Floor),
+    Size(stdlib::Size),
+    Default(stdlib::Default),
+    Slice(stdlib::Slice),
+    Split(stdlib::Split),
+    Replace(stdlib::Replace),
+    ReplaceFirst(stdlib::ReplaceFirst),
+    Remove(stdlib::Remove),
+    RemoveFirst(stdlib::RemoveFirst),
+    Append(stdlib::Append),
+    Prepend(stdlib::Prepend),
+    Strip(stdlib::Strip),
+    Lstrip(stdlib::Lstrip),
+    Rstrip(stdlib::Rstrip),
+    StripNewlines(stdlib::StripNewlines),
+    Downcase(stdlib::Downcase),
+    Upcase(stdlib::Upcase),
+    Capitalize(stdlib::Capitalize),
+    Truncate(stdlib::Truncate),
+    TruncateWords(stdlib::TruncateWords),
+    Escape(stdlib::Escape),
+    EscapeOnce(stdlib::EscapeOnce),
+    StripHtml(stdlib::StripHtml),
+    NewlineToBr(stdlib::NewlineToBr),
+    UrlEncode(stdlib::UrlEncode),
+    UrlDecode(stdlib::UrlDecode),
 }
 
 impl FilterKind {
@@ -39,6 +75,42 @@ impl FilterKind {
             FilterKind::Concat(_) => "concat",
             FilterKind::First(_) => "first",
             FilterKind::Last(_) => "last",
+            FilterKind::Abs(_) => "abs",
+            FilterKind::AtLeast(_) => "at_least",
+            FilterKind::AtMost(_) => "at_most",
+            FilterKind::Plus(_) => "plus",
+            FilterKind::Minus(_) => "minus",
+            FilterKind::Times(_) => "times",
+            FilterKind::DividedBy(_) => "divided_by",
+            FilterKind::Modulo(_) => "modulo",
+            FilterKind::Round(_) => "round",
+            FilterKind::Ceil(_) => "ceil",
+            FilterKind::Floor(_) => "floor",
+            FilterKind::Size(_) => "size",
+            FilterKind::Default(_) => "default",
+            FilterKind::Slice(_) => "slice",
+            FilterKind::Split(_) => "split",
+            FilterKind::Replace(_) => "replace",
+            FilterKind::ReplaceFirst(_) => "replace_first",
+            FilterKind::Remove(_) => "remove",
+            FilterKind::RemoveFirst(_) => "remove_first",
+            FilterKind::Append(_) => "append",
+            FilterKind::Prepend(_) => "prepend",
+            FilterKind::Strip(_) => "strip",
+            FilterKind::Lstrip(_) => "lstrip",
+            FilterKind::Rstrip(_) => "rstrip",
+            FilterKind::StripNewlines(_) => "strip_newlines",
+            FilterKind::Downcase(_) => "downcase",
+            FilterKind::Upcase(_) => "upcase",
+            FilterKind::Capitalize(_) => "capitalize",
+            FilterKind::Truncate(_) => "truncate",
+            FilterKind::TruncateWords(_) => "truncatewords",
+            FilterKind::Escape(_) => "escape",
+            FilterKind::EscapeOnce(_) => "escape_once",
+            FilterKind::StripHtml(_) => "strip_html",
+            FilterKind::NewlineToBr(_) => "newline_to_br",
+            FilterKind::UrlEncode(_) => "url_encode",
+            FilterKind::UrlDecode(_) => "url_decode",
         }
     }
 }
@@ -63,6 +135,42 @@ impl Filter for FilterKind {
             FilterKind::Concat(filter) => filter.accepts(count),
             FilterKind::First(filter) => filter.accepts(count),
             FilterKind::Last(filter) => filter.accepts(count),
+            FilterKind::Abs(filter) => filter.accepts(count),
+            FilterKind::AtLeast(filter) => filter.accepts(count),
+            FilterKind::AtMost(filter) => filter.accepts(count),
+            FilterKind::Plus(filter) => filter.accepts(count),
+            FilterKind::Minus(filter) => filter.accepts(count),
+            FilterKind::Times(filter) => filter.accepts(count),
+            FilterKind::DividedBy(filter) => filter.accepts(count),
+            FilterKind::Modulo(filter) => filter.accepts(count),
+            FilterKind::Round(filter) => filter.accepts(count),
+            FilterKind::Ceil(filter) => filter.accepts(count),
+            FilterKind::Floor(filter) => filter.accepts(count),
+            FilterKind::Size(filter) => filter.accepts(count),
+            FilterKind::Default(filter) => filter.accepts(count),
+            FilterKind::Slice(filter) => filter.accepts(count),
+            FilterKind::Split(filter) => filter.accepts(count),
+            FilterKind::Replace(filter) => filter.accepts(count),
+            FilterKind::ReplaceFirst(filter) => filter.accepts(count),
+            FilterKind::Remove(filter) => filter.accepts(count),
+            FilterKind::RemoveFirst(filter) => filter.accepts(count),
+            FilterKind::Append(filter) => filter.accepts(count),
+            FilterKind::Prepend(filter) => filter.accepts(count),
+            FilterKind::Strip(filter) => filter.accepts(count),
+            FilterKind::Lstrip(filter) => filter.accepts(count),
+            FilterKind::Rstrip(filter) => filter.accepts(count),
+            FilterKind::StripNewlines(filter) => filter.accepts(count),
+            FilterKind::Downcase(filter) => filter.accepts(count),
+            FilterKind::Upcase(filter) => filter.accepts(count),
+            FilterKind::Capitalize(filter) => filter.accepts(count),
+            FilterKind::Truncate(filter) => filter.accepts(count),
+            FilterKind::TruncateWords(filter) => filter.accepts(count),
+            FilterKind::Escape(filter) => filter.accepts(count),
+            FilterKind::EscapeOnce(filter) => filter.accepts(count),
+            FilterKind::StripHtml(filter) => filter.accepts(count),
+            FilterKind::NewlineToBr(filter) => filter.accepts(count),
+            FilterKind::UrlEncode(filter) => filter.accepts(count),
+            FilterKind::UrlDecode(filter) => filter.accepts(count),
         }
     }
 
@@ -79,127 +187,42 @@ impl Filter for FilterKind {
             FilterKind::Concat(filter) => filter.evaluate(alloc, input, args),
             FilterKind::First(filter) => filter.evaluate(alloc, input, args),
             FilterKind::Last(filter) => filter.evaluate(alloc, input, args),
+            FilterKind::Abs(filter) => filter.evaluate(alloc, input, args),
+            FilterKind::AtLeast(filter) => filter.evaluate(alloc, input, args),
+            FilterKind::AtMost(filter) => filter.evaluate(alloc, input, args),
+            FilterKind::Plus(filter) => filter.evaluate(alloc, input, args),
+            FilterKind::Minus(filter) => filter.evaluate(alloc, input, args),
+            FilterKind::Times(filter) => filter.evaluate(alloc, input, args),
+            FilterKind::DividedBy(filter) => filter.evaluate(alloc, input, args),
+            FilterKind::Modulo(filter) => filter.evaluate(alloc, input, args),
+            FilterKind::Round(filter) => filter.evaluate(alloc, input, args),
+            FilterKind::Ceil(filter) => filter.evaluate(alloc, input, args),
+            FilterKind::Floor(filter) => filter.evaluate(alloc, input, args),
+            FilterKind::Size(filter) => filter.evaluate(alloc, input, args),
+            FilterKind::Default(filter) => filter.evaluate(alloc, input, args),
+            FilterKind::Slice(filter) => filter.evaluate(alloc, input, args),
+            FilterKind::Split(filter) => filter.evaluate(alloc, input, args),
+            FilterKind::Replace(filter) => filter.evaluate(alloc, input, args),
+            FilterKind::ReplaceFirst(filter) => filter.evaluate(alloc, input, args),
+            FilterKind::Remove(filter) => filter.evaluate(alloc, input, args),
+            FilterKind::RemoveFirst(filter) => filter.evaluate(alloc, input, args),
+            FilterKind::Append(filter) => filter.evaluate(alloc, input, args),
+            FilterKind::Prepend(filter) => filter.evaluate(alloc, input, args),
+            FilterKind::Strip(filter) => filter.evaluate(alloc, input, args),
+            FilterKind::Lstrip(filter) => filter.evaluate(alloc, input, args),
+            FilterKind::Rstrip(filter) => filter.evaluate(alloc, input, args),
+            FilterKind::StripNewlines(filter) => filter.evaluate(alloc, input, args),
+            FilterKind::Downcase(filter) => filter.evaluate(alloc, input, args),
+            FilterKind::Upcase(filter) => filter.evaluate(alloc, input, args),
+            FilterKind::Capitalize(filter) => filter.evaluate(alloc, input, args),
+            FilterKind::Truncate(filter) => filter.evaluate(alloc, input, args),
+            FilterKind::TruncateWords(filter) => filter.evaluate(alloc, input, args),
+            FilterKind::Escape(filter) => filter.evaluate(alloc, input, args),
+            FilterKind::EscapeOnce(filter) => filter.evaluate(alloc, input, args),
+            FilterKind::StripHtml(filter) => filter.evaluate(alloc, input, args),
+            FilterKind::NewlineToBr(filter) => filter.evaluate(alloc, input, args),
+            FilterKind::UrlEncode(filter) => filter.evaluate(alloc, input, args),
+            FilterKind::UrlDecode(filter) => filter.evaluate(alloc, input, args),
         }
-    }
-}
-
-impl From<stdlib::Join> for FilterKind {
-    ghost use Rattle.std.specs.Prelude.{◌≡◌};
-    ghost use Rattle.liquid_filters.specs.declared.kind.FilterKind.TheVariants.{Join};
-
-    ghost from_gives = { λ filter kind. kind ≡ Join filter };
-
-    fn from(filter: stdlib::Join) -> FilterKind {
-        FilterKind::Join(filter)
-    }
-}
-
-impl From<stdlib::Sort> for FilterKind {
-    ghost use Rattle.std.specs.Prelude.{◌≡◌};
-    ghost use Rattle.liquid_filters.specs.declared.kind.FilterKind.TheVariants.{Sort};
-
-    ghost from_gives = { λ filter kind. kind ≡ Sort filter };
-
-    fn from(filter: stdlib::Sort) -> FilterKind {
-        FilterKind::Sort(filter)
-    }
-}
-
-impl From<stdlib::SortNatural> for FilterKind {
-    ghost use Rattle.std.specs.Prelude.{◌≡◌};
-    ghost use Rattle.liquid_filters.specs.declared.kind.FilterKind.TheVariants.{SortNatural};
-
-    ghost from_gives = { λ filter kind. kind ≡ SortNatural filter };
-
-    fn from(filter: stdlib::SortNatural) -> FilterKind {
-        FilterKind::SortNatural(filter)
-    }
-}
-
-impl From<stdlib::Where> for FilterKind {
-    ghost use Rattle.std.specs.Prelude.{◌≡◌};
-    ghost use Rattle.liquid_filters.specs.declared.kind.FilterKind.TheVariants.{Where};
-
-    ghost from_gives = { λ filter kind. kind ≡ Where filter };
-
-    fn from(filter: stdlib::Where) -> FilterKind {
-        FilterKind::Where(filter)
-    }
-}
-
-impl From<stdlib::Uniq> for FilterKind {
-    ghost use Rattle.std.specs.Prelude.{◌≡◌};
-    ghost use Rattle.liquid_filters.specs.declared.kind.FilterKind.TheVariants.{Uniq};
-
-    ghost from_gives = { λ filter kind. kind ≡ Uniq filter };
-
-    fn from(filter: stdlib::Uniq) -> FilterKind {
-        FilterKind::Uniq(filter)
-    }
-}
-
-impl From<stdlib::Reverse> for FilterKind {
-    ghost use Rattle.std.specs.Prelude.{◌≡◌};
-    ghost use Rattle.liquid_filters.specs.declared.kind.FilterKind.TheVariants.{Reverse};
-
-    ghost from_gives = { λ filter kind. kind ≡ Reverse filter };
-
-    fn from(filter: stdlib::Reverse) -> FilterKind {
-        FilterKind::Reverse(filter)
-    }
-}
-
-impl From<stdlib::Map> for FilterKind {
-    ghost use Rattle.std.specs.Prelude.{◌≡◌};
-    ghost use Rattle.liquid_filters.specs.declared.kind.FilterKind.TheVariants.{Map};
-
-    ghost from_gives = { λ filter kind. kind ≡ Map filter };
-
-    fn from(filter: stdlib::Map) -> FilterKind {
-        FilterKind::Map(filter)
-    }
-}
-
-impl From<stdlib::Compact> for FilterKind {
-    ghost use Rattle.std.specs.Prelude.{◌≡◌};
-    ghost use Rattle.liquid_filters.specs.declared.kind.FilterKind.TheVariants.{Compact};
-
-    ghost from_gives = { λ filter kind. kind ≡ Compact filter };
-
-    fn from(filter: stdlib::Compact) -> FilterKind {
-        FilterKind::Compact(filter)
-    }
-}
-
-impl From<stdlib::Concat> for FilterKind {
-    ghost use Rattle.std.specs.Prelude.{◌≡◌};
-    ghost use Rattle.liquid_filters.specs.declared.kind.FilterKind.TheVariants.{Concat};
-
-    ghost from_gives = { λ filter kind. kind ≡ Concat filter };
-
-    fn from(filter: stdlib::Concat) -> FilterKind {
-        FilterKind::Concat(filter)
-    }
-}
-
-impl From<stdlib::First> for FilterKind {
-    ghost use Rattle.std.specs.Prelude.{◌≡◌};
-    ghost use Rattle.liquid_filters.specs.declared.kind.FilterKind.TheVariants.{First};
-
-    ghost from_gives = { λ filter kind. kind ≡ First filter };
-
-    fn from(filter: stdlib::First) -> FilterKind {
-        FilterKind::First(filter)
-    }
-}
-
-impl From<stdlib::Last> for FilterKind {
-    ghost use Rattle.std.specs.Prelude.{◌≡◌};
-    ghost use Rattle.liquid_filters.specs.declared.kind.FilterKind.TheVariants.{Last};
-
-    ghost from_gives = { λ filter kind. kind ≡ Last filter };
-
-    fn from(filter: stdlib::Last) -> FilterKind {
-        FilterKind::Last(filter)
     }
 }

@@ -1,10 +1,11 @@
 //! Every filter, as one closed choice.
 #![tactic(auto)]
 
+mod convert;
 mod kind;
+pub mod stdlib;
 
 pub use kind::FilterKind;
-pub use liquid_list_filters::stdlib;
 
 #[cfg(test)]
 mod tests;

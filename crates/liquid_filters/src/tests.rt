@@ -76,20 +76,24 @@ fn value(alloc: Global, words: &str) -> Result<Value> {
     Ok(values(alloc, words)?.pop().unwrap_or(Value::Nil))
 }
 
-/// Asserts of rows of an input, arguments and what is wanted that the filter answers that value, or a fault of that name.
-fn answers<const N: usize>(
+/// Asserts that the filter answers the wanted value, or a fault of the wanted name.
+fn answers(
     rt: &impl Abort,
     alloc: Global,
     filter: FilterKind,
-    rows: [(&str, &str, &str); N],
+    input: &str,
+    args: &str,
+    wanted: &str,
 ) -> Result<()> {
-    for (input, args, wanted) in rows {
-        let args = values(alloc, args)?;
-        assert!(rt; filter.accepts(args.len()), "the count");
-        match filter.evaluate(alloc, &value(alloc, input)?, &args) {
-            Ok(answer) => assert!(rt; answer == value(alloc, wanted)?, "{} of {input}", filter.name()),
-            Err(fault) => assert_eq!(rt; fault.kind.name(), wanted, "{} of {input}", filter.name()),
-        }
+    let args = values(alloc, args)?;
+    assert!(rt; filter.accepts(args.len()), "the count");
+    match filter.evaluate(alloc, &value(alloc, input)?, &args) {
+        Ok(answer) => assert!(rt;
+            answer == value(alloc, wanted)?,
+            "{} of {input}",
+            filter.name()
+        ),
+        Err(fault) => assert_eq!(rt; fault.kind.name(), wanted, "{} of {input}", filter.name()),
     }
     Ok(())
 }

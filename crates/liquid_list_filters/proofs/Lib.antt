@@ -3,12 +3,12 @@ pub mod Divisions
 pub mod EachLaw
 pub mod Ends
 pub mod Faults
-pub mod Operations
-pub mod RoundingRelation
-pub mod Roundings
 pub mod Keys
 pub mod Ones
+pub mod Operations
 pub mod Reversals
+pub mod RoundingRelation
+pub mod Roundings
 pub mod Rows
 pub mod Sorts
 pub mod SortsByKey

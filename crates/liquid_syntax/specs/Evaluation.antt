@@ -1,13 +1,13 @@
 -- What chains, conditions and loop sources are in an environment: a value, or a kind.
 --     chain_value      a chain's value;   truth_of      a condition's
 --     source_items, window_items      the items of a loop's source; those of them that are asked for
-use Rattle.std.specs.Prelude.{ℕ, zero, suc, ◌-◌, min, ℤ, pos, negsuc, ◌+ℤ◌, ◌-ℤ◌, nat_abs, int_le, nat_le, Bool, true, false, cond, not, ◌&&◌, ◌||◌, List, [], ◌∷◌, length, reverse, get_or, Option, Some, None, Result, Ok, Err, is_some}
+use Rattle.std.specs.Prelude.{ℕ, zero, suc, ◌-◌, min, ℤ, pos, negsuc, ◌+ℤ◌, ◌-ℤ◌, nat_abs, int_le, nat_le, nat_eq, Bool, true, false, cond, not, ◌&&◌, ◌||◌, List, [], ◌∷◌, length, reverse, get_or, Option, Some, None, Result, Ok, Err, is_some}
 use Rattle.std.specs.declared.cmp.Ordering.{Ordering}
-use Rattle.std.specs.Ordering.{is_lt, is_gt, is_le, is_ge, nat_cmp, eq_by_cmp}
+use Rattle.std.specs.Ordering.{is_lt, is_gt, is_le, is_ge}
 use Rattle.std.specs.List.{starts_with, list_any}
 use Rattle.std.specs.Option.{ok_or}
 use Rattle.liquid_core.specs.Texts.{Text}
-use Rattle.liquid_core.specs.Data.{Datum, nil, number, array, object, text_of, truthy, scalar}
+use Rattle.liquid_core.specs.Data.{Datum, Pairs, nil, number, array, object, text_of, truthy, scalar}
 use Rattle.liquid_core.specs.Lists.{list_of, pair_lists}
 use Rattle.liquid_core.specs.Order.{same}
 use Rattle.liquid_core.specs.Compare.{compare}
@@ -20,8 +20,8 @@ use Rattle.liquid_core.specs.Expression.{Expression}
 use Rattle.liquid_core.specs.Environment.{Environment}
 use Rattle.liquid_core.specs.Expressions.{value_of, required, all_required, needed_whole}
 use Rattle.liquid_filters.specs.declared.kind.FilterKind.{FilterKind}
-use Rattle.liquid_syntax.specs.declared.condition.ComparisonOperator.{ComparisonOperator}
-use Rattle.liquid_syntax.specs.declared.condition.ComparisonOperator.TheVariants.{Equals, NotEquals, LessThan, GreaterThan, LessThanEquals, GreaterThanEquals, Contains}
+use Rattle.liquid_syntax.specs.declared.comparison.ComparisonOperator.{ComparisonOperator}
+use Rattle.liquid_syntax.specs.declared.comparison.ComparisonOperator.TheVariants.{Equals, NotEquals, LessThan, GreaterThan, LessThanEquals, GreaterThanEquals, Contains}
 use Rattle.liquid_syntax.specs.Tree.{FilterCall, Chain, Atom, bare, compared, Condition, Source, each_of, counted, Window, Bindings}
 
 -- ---- chains
@@ -30,11 +30,13 @@ use Rattle.liquid_syntax.specs.Tree.{FilterCall, Chain, Atom, bare, compared, Co
 abbrev pub FilterAnswers : Type 0
 FilterAnswers = FilterKind → Datum → List Datum → Result Datum ErrorKind
 
+-- a missing entry is nil before a filter, and UnknownVariable without one
 abbrev pub entry_value : Option Datum → List FilterCall → Result Datum ErrorKind
 entry_value (Some d) calls = Ok d
 entry_value None [] = Err UnknownVariable
 entry_value None (call ∷ calls) = Ok nil
 
+-- the filters in order, each one's arguments evaluated left to right before it; a missing one is UnknownVariable
 unfoldable pub filtered : FilterAnswers → List FilterCall → Datum → Environment → Result Datum ErrorKind
 filtered answers [] d e = Ok d
 filtered answers (call ∷ calls) d e = do
@@ -42,6 +44,7 @@ filtered answers (call ∷ calls) d e = do
   answer ← answers call.filter d arguments
   filtered answers calls answer e
 
+-- the entry, then the filters
 unfoldable pub chain_value : FilterAnswers → Chain → Environment → Result Datum ErrorKind
 chain_value answers chain e = do
   entry ← entry_value (value_of chain.entry e) chain.filters
@@ -49,19 +52,25 @@ chain_value answers chain e = do
 
 -- ---- conditions
 
+-- where the order of conditions has no answer, each test of it is false
 abbrev pub passes : (Ordering → Bool) → Option Ordering → Bool
 passes test None = false
 passes test (Some o) = test o
 
--- t has s in it
+-- whether t has s in it
 abbrev pub occurs_in : Text → Text → Bool
-occurs_in s [] = starts_with (eq_by_cmp nat_cmp) [] s
-occurs_in s (c ∷ t) = starts_with (eq_by_cmp nat_cmp) (c ∷ t) s || occurs_in s t
+occurs_in s [] = starts_with nat_eq [] s
+occurs_in s (c ∷ t) = starts_with nat_eq (c ∷ t) s || occurs_in s t
 
+-- whether the text of a scalar is a key
+abbrev pub has_key : Pairs → Datum → Bool
+has_key ps d = scalar d && is_some (value_at (text_of d) ps)
+
+-- nil on the left is refused; a list has an equal item; a map has a scalar's text as a key; a scalar's text has the text of d in it
 abbrev pub contains : Datum → Datum → Result Bool ErrorKind
 contains nil d = Err UnexpectedValue
-contains (array ds) d = Ok (list_any (same d) (list_of ds))
-contains (object ps) d = Ok (scalar d && is_some (value_at (text_of d) ps))
+contains (array ds) d = Ok (list_any (λ item. same item d) (list_of ds))
+contains (object ps) d = Ok (has_key ps d)
 contains c d = Ok (occurs_in (text_of d) (text_of c))
 
 unfoldable pub comparison_truth : ComparisonOperator → Datum → Datum → Result Bool ErrorKind
@@ -78,6 +87,7 @@ abbrev pub bare_truth : Option Datum → Bool
 bare_truth None = false
 bare_truth (Some d) = truthy d
 
+-- the truth of a value, or a comparison of two, the left one evaluated first
 unfoldable pub atom_truth : Atom → Environment → Result Bool ErrorKind
 atom_truth (bare x) e = Ok (bare_truth (value_of x e))
 atom_truth (compared left comparison right) e = do
@@ -85,12 +95,14 @@ atom_truth (compared left comparison right) e = do
   r ← required right e
   comparison_truth comparison l r
 
+-- atoms joined by `and`: up to the first that is false
 unfoldable pub all_true : List Atom → Environment → Result Bool ErrorKind
 all_true [] e = Ok true
 all_true (atom ∷ atoms) e = do
   holds ← atom_truth atom e
   cond holds (all_true atoms e) (Ok false)
 
+-- conjunctions joined by `or`: up to the first that is true
 unfoldable pub truth_of : Condition → Environment → Result Bool ErrorKind
 truth_of [] e = Ok false
 truth_of (conjunction ∷ conjunctions) e = do
@@ -102,6 +114,7 @@ truth_of (conjunction ∷ conjunctions) e = do
 abbrev pub most_items : ℕ
 most_items = 9223372036854775807
 
+-- a list gives its items, a map the two-item lists `[key, value]`, nil none; other values are refused
 abbrev pub value_items : Datum → Result (List Datum) ErrorKind
 value_items nil = Ok []
 value_items (array ds) = Ok (list_of ds)
@@ -120,6 +133,7 @@ abbrev pub numbers_from : ℤ → ℕ → List Datum
 numbers_from a zero = []
 numbers_from a (suc n) = number a ∷ numbers_from (a +ℤ pos 1) n
 
+-- the items of a value, or the numbers of a range, each end of which is evaluated and converted in turn; too many items are refused
 unfoldable pub source_items : Source → Environment → Result (List Datum) ErrorKind
 source_items (each_of x) e = do
   d ← required x e
@@ -130,7 +144,7 @@ source_items (counted first last) e = do
   b ← needed_whole last e
   not_too_long (count_to a b) (numbers_from a (count_to a b))
 
--- a limit, an offset or a number of columns
+-- a limit, an offset or a number of columns, where one is given: a whole number
 unfoldable pub amount : Option Expression → Environment → Result (Option ℤ) ErrorKind
 amount None e = Ok None
 amount (Some x) e = do
@@ -156,12 +170,14 @@ abbrev pub items_at : List Datum → ℕ → ℕ → List Datum
 items_at ds o zero = []
 items_at ds o (suc m) = get_or ds o nil ∷ items_at ds (suc o) m
 
+-- of these items, what limit, offset and, last of all, `reversed` ask for
 abbrev pub window_items : List Datum → Option ℤ → Option ℤ → Bool → List Datum
 window_items ds limit offset reversed =
     let o = skipped (length ds) offset in
     let items = items_at ds o (wanted (length ds) o limit) in
     cond reversed (reverse items) items
 
+-- limit and offset are evaluated in this order
 unfoldable pub asked_for : Window → List Datum → Environment → Result (List Datum) ErrorKind
 asked_for window ds e = do
   limit ← amount window.limit e
@@ -170,6 +186,7 @@ asked_for window ds e = do
 
 -- ---- the pairs of a tag
 
+-- each pair's name and value, evaluated in order; a missing value is UnknownVariable
 unfoldable pub bound_values : Bindings → Environment → Result (List (Text × Datum)) ErrorKind
 bound_values [] e = Ok []
 bound_values (b ∷ bs) e = do

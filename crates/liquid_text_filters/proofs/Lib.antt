@@ -9,6 +9,7 @@ pub mod Ones
 pub mod Pairs
 pub mod Pieces
 pub mod Replaced
+pub mod Spellings
 pub mod Splits
 pub mod Tags
 pub mod UrlLaws

@@ -3,6 +3,7 @@ use Rattle.std.proofs.Common.{◌≡◌, ℕ, zero, suc, ◌+◌, ◌-◌, ◌<�
 use Rattle.std.proofs.lemmas.Bool.Decides.{nat_tests}
 use Rattle.std.proofs.lemmas.List.{drop_min, length-take, take-append-drop, take_min}
 use Rattle.std.proofs.Math.Seq.{drop-append_seam, take-append_seam}
+use Rattle.std.specs.Char.{to_ascii_lowercase, to_ascii_uppercase}
 use Rattle.std.specs.List.{concat}
 use Rattle.std.specs.Str.{chars, encode_utf8_all, IsUtf8}
 use Rattle.unicode_segmentation.specs.Grapheme.{graphemes}
@@ -15,18 +16,20 @@ use Rattle.liquid_core.specs.declared.error.ErrorKind.{ErrorKind}
 use Rattle.liquid_list_filters.specs.Arguments.{Answer, text_or}
 use Rattle.liquid_list_filters.specs.Joined.{joined}
 use Rattle.liquid_text_filters.specs.Arguments.{whole_or}
-use Rattle.liquid_text_filters.specs.Laws.{Divides, JoinGivesBack, KeepsClusters, KeepsWords, Makes, Reads, RemoveFirstIsOne, RemoveIsOne, ReplaceFirstIsOne, ReplaceIsOne, SliceIsOne, Slices, SplitIsOne, TakesPart, Texts, TruncateIsOne, Truncates, TruncateWordsIsOne, TruncatesWords}
+use Rattle.liquid_text_filters.specs.Laws.{CapitalizeIsOne, Divides, DowncaseIsOne, JoinGivesBack, KeepsClusters, KeepsWords, LstripIsOne, Makes, Reads, RemoveFirstIsOne, RemoveIsOne, ReplaceFirstIsOne, ReplaceIsOne, RstripIsOne, SliceIsOne, Slices, SplitIsOne, StripIsOne, StripNewlinesIsOne, TakesPart, Texts, TruncateIsOne, Truncates, TruncateWordsIsOne, TruncatesWords, UpcaseIsOne}
 use Rattle.liquid_text_filters.specs.Occurrences.{Lacks, Replaces, ReplacesFirst}
 use Rattle.liquid_text_filters.specs.Operate.{replaced, replaced_first}
 use Rattle.liquid_text_filters.specs.Parts.{AreFirst, FollowFirst, IsPart}
 use Rattle.liquid_text_filters.specs.Pieces.{begins, split_by}
 use Rattle.liquid_text_filters.specs.Places.{start, taken}
 use Rattle.liquid_text_filters.specs.Slice.{part, sliced}
+use Rattle.liquid_text_filters.specs.Spelling.{Capitalizes, MapsCharacters, StripsEnd, StripsEnds, StripsNewlines, StripsStart}
 use Rattle.liquid_text_filters.specs.Split.{divided, texts}
 use Rattle.liquid_text_filters.specs.Truncate.{first_clusters, truncated, words_of, words_truncated}
 use Rattle.liquid_text_filters.proofs.Occurrences.{lacks_cons, lacks_start, joined-split_by, pieces_one, split_one}
 use Rattle.liquid_text_filters.proofs.Pieces.{begins_is}
 use Rattle.liquid_text_filters.proofs.Replaced.{here_nil, first_found, first_none}
+use Rattle.liquid_text_filters.proofs.Spellings.{capitalized_one, downcased_one, strips_end_one, strips_ends_one, strips_newlines_one, strips_start_one, upcased_one}
 
 -- ---- answers
 pub made_one : {X : Type 0} (f : X → Answer) (R : X → Type 0) (x : X) → IsTheOne R x → IsTheOne (Makes f R) (f x)
@@ -222,3 +225,28 @@ truncates_words_one d end (negsuc n) = same_one (Ok d)
 pub truncatewords_law : TruncateWordsIsOne
 truncatewords_law d args =
     read_one (whole_or (pos 50) args) (λ n. Ok (words_truncated d (text_or (codes "...") (drop 1 args)) n)) (TruncatesWords d (text_or (codes "...") (drop 1 args))) (truncates_words_one d (text_or (codes "...") (drop 1 args)))
+
+-- ---- characters
+text_one : (R : List ℕ → Type 0) (t : List ℕ) → IsTheOne R t → IsTheOne (Texts R) (Ok (text t))
+text_one R t one = made_one (λ t. Ok (text t)) R t one
+
+pub downcase_law : DowncaseIsOne
+downcase_law d args u = text_one (MapsCharacters to_ascii_lowercase (text_of d)) _ (downcased_one (text_of d) u)
+
+pub upcase_law : UpcaseIsOne
+upcase_law d args u = text_one (MapsCharacters to_ascii_uppercase (text_of d)) _ (upcased_one (text_of d) u)
+
+pub capitalize_law : CapitalizeIsOne
+capitalize_law d args u = text_one (Capitalizes (text_of d)) _ (capitalized_one (text_of d) u)
+
+pub strip_law : StripIsOne
+strip_law d args u = text_one (StripsEnds (text_of d)) _ (strips_ends_one (text_of d) u)
+
+pub lstrip_law : LstripIsOne
+lstrip_law d args u = text_one (StripsStart (text_of d)) _ (strips_start_one (text_of d) u)
+
+pub rstrip_law : RstripIsOne
+rstrip_law d args u = text_one (StripsEnd (text_of d)) _ (strips_end_one (text_of d) u)
+
+pub strip_newlines_law : StripNewlinesIsOne
+strip_newlines_law d args u = text_one (StripsNewlines (text_of d)) _ (strips_newlines_one (text_of d) u)

@@ -1,5 +1,6 @@
 -- What each filter's answer is, told without the filter: the relation that holds of it and of nothing else. The text of a value is always UTF-8.
 use Rattle.std.specs.Prelude.{◌≡◌, ℕ, zero, suc, ◌-◌, ◌<◌, ◌≤◌, ◌⊎◌, true, ℤ, pos, negsuc, List, [], ◌∷◌, ◌++◌, length, drop, codes, Result, Ok, Err}
+use Rattle.std.specs.Char.{to_ascii_lowercase, to_ascii_uppercase}
 use Rattle.std.specs.List.{concat}
 use Rattle.std.specs.Str.{chars, encode_utf8_all, IsUtf8}
 use Rattle.unicode_segmentation.specs.Grapheme.{graphemes}
@@ -14,11 +15,14 @@ use Rattle.liquid_core.specs.declared.error.ErrorKind.TheVariants.{InvalidArgume
 use Rattle.liquid_list_filters.specs.Arguments.{Answer, text_or}
 use Rattle.liquid_list_filters.specs.Joined.{join_answer, joined}
 use Rattle.liquid_text_filters.specs.Arguments.{whole_or}
+use Rattle.liquid_text_filters.specs.Case.{capitalize_answer, downcase_answer, upcase_answer}
 use Rattle.liquid_text_filters.specs.Occurrences.{ArePieces, Replaces, ReplacesFirst, Splits}
 use Rattle.liquid_text_filters.specs.Operate.{remove_answer, remove_first_answer, replace_answer, replace_first_answer}
 use Rattle.liquid_text_filters.specs.Parts.{AreFirst, IsPart}
 use Rattle.liquid_text_filters.specs.Slice.{slice_answer}
+use Rattle.liquid_text_filters.specs.Spelling.{Capitalizes, MapsCharacters, StripsEnd, StripsEnds, StripsNewlines, StripsStart}
 use Rattle.liquid_text_filters.specs.Split.{split_answer, texts}
+use Rattle.liquid_text_filters.specs.Strip.{lstrip_answer, rstrip_answer, strip_answer, strip_newlines_answer}
 use Rattle.liquid_text_filters.specs.Truncate.{truncate_answer, truncatewords_answer}
 
 -- the answer is f of something of which R holds
@@ -97,3 +101,25 @@ TruncatesWords d end (negsuc n) a = a ≡ Ok d
 
 abbrev pub TruncateWordsIsOne : Type 0
 TruncateWordsIsOne = (d : Datum) (args : List Datum) → IsTheOne (Reads (whole_or (pos 50) args) (TruncatesWords d (text_or (codes "...") (drop 1 args)))) (truncatewords_answer d args)
+
+-- ---- characters
+abbrev pub DowncaseIsOne : Type 0
+DowncaseIsOne = (d : Datum) (args : List Datum) → IsUtf8 (text_of d) → IsTheOne (Texts (MapsCharacters to_ascii_lowercase (text_of d))) (downcase_answer d args)
+
+abbrev pub UpcaseIsOne : Type 0
+UpcaseIsOne = (d : Datum) (args : List Datum) → IsUtf8 (text_of d) → IsTheOne (Texts (MapsCharacters to_ascii_uppercase (text_of d))) (upcase_answer d args)
+
+abbrev pub CapitalizeIsOne : Type 0
+CapitalizeIsOne = (d : Datum) (args : List Datum) → IsUtf8 (text_of d) → IsTheOne (Texts (Capitalizes (text_of d))) (capitalize_answer d args)
+
+abbrev pub StripIsOne : Type 0
+StripIsOne = (d : Datum) (args : List Datum) → IsUtf8 (text_of d) → IsTheOne (Texts (StripsEnds (text_of d))) (strip_answer d args)
+
+abbrev pub LstripIsOne : Type 0
+LstripIsOne = (d : Datum) (args : List Datum) → IsUtf8 (text_of d) → IsTheOne (Texts (StripsStart (text_of d))) (lstrip_answer d args)
+
+abbrev pub RstripIsOne : Type 0
+RstripIsOne = (d : Datum) (args : List Datum) → IsUtf8 (text_of d) → IsTheOne (Texts (StripsEnd (text_of d))) (rstrip_answer d args)
+
+abbrev pub StripNewlinesIsOne : Type 0
+StripNewlinesIsOne = (d : Datum) (args : List Datum) → IsUtf8 (text_of d) → IsTheOne (Texts (StripsNewlines (text_of d))) (strip_newlines_answer d args)

@@ -12,6 +12,7 @@ pub mod Pieces
 pub mod Places
 pub mod Size
 pub mod Slice
+pub mod Spelling
 pub mod Split
 pub mod Strip
 pub mod Tags

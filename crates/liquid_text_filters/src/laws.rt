@@ -1,8 +1,9 @@
 //! What is proved of the text filters beyond their answers: each law is the contract of a function without a body.
 //!
-//! `NAME_is_one` says what the filter's answer is without the filter's own steps, and that nothing else is. The other
-//! filters' answers are told in such words from the beginning: two texts joined, each letter mapped, a size.
-ghost use Rattle.liquid_text_filters.specs.Laws.{JoinGivesBack, RemoveFirstIsOne, RemoveIsOne, ReplaceFirstIsOne, ReplaceIsOne, SliceIsOne, SplitIsOne, TruncateIsOne, TruncateWordsIsOne};
+//! `NAME_is_one` says what the filter's answer is without the filter's own steps, and that nothing else is. The answers
+//! of `size`, `default`, `append` and `prepend` are told in such words from the beginning: a length, one of two values,
+//! two texts joined.
+ghost use Rattle.liquid_text_filters.specs.Laws.{CapitalizeIsOne, DowncaseIsOne, JoinGivesBack, LstripIsOne, RemoveFirstIsOne, RemoveIsOne, ReplaceFirstIsOne, ReplaceIsOne, RstripIsOne, SliceIsOne, SplitIsOne, StripIsOne, StripNewlinesIsOne, TruncateIsOne, TruncateWordsIsOne, UpcaseIsOne};
 
 pub mod html;
 pub mod url;
@@ -50,4 +51,39 @@ pub fn truncate_is_one()
 /// `truncatewords`: the first pieces parted by single spaces, where there are more than are wanted.
 pub fn truncatewords_is_one()
     ensures { TruncateWordsIsOne }
+{}
+
+/// `downcase`: each character of the text, `A` to `Z` as `a` to `z`.
+pub fn downcase_is_one()
+    ensures { DowncaseIsOne }
+{}
+
+/// `upcase`: each character of the text, `a` to `z` as `A` to `Z`.
+pub fn upcase_is_one()
+    ensures { UpcaseIsOne }
+{}
+
+/// `capitalize`: the first character in upper case, and what follows it.
+pub fn capitalize_is_one()
+    ensures { CapitalizeIsOne }
+{}
+
+/// `strip`: white space, what is kept, and white space, where what is kept neither begins nor ends with it.
+pub fn strip_is_one()
+    ensures { StripIsOne }
+{}
+
+/// `lstrip`: white space and what is kept, which doesn't begin with it.
+pub fn lstrip_is_one()
+    ensures { LstripIsOne }
+{}
+
+/// `rstrip`: what is kept, which doesn't end with white space, and white space.
+pub fn rstrip_is_one()
+    ensures { RstripIsOne }
+{}
+
+/// `strip_newlines`: the characters that are neither LF nor CR, in their order.
+pub fn strip_newlines_is_one()
+    ensures { StripNewlinesIsOne }
 {}

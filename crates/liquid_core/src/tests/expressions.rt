@@ -1,82 +1,74 @@
-use super::{list, object, text};
-use crate::{Expression, Object, State, Value, Variable};
+use super::{one, pair, text, with};
+use crate::{Expression, State, Value, Variable};
 use std::alloc::Global;
 use std::test::Fail;
 
-fn variable<const N: usize>(
-    alloc: Global,
-    name: &str,
-    steps: [Expression; N],
-) -> crate::Result<Expression> {
+fn name(alloc: Global, name: &str) -> crate::Result<Expression> {
     let name = String::from_str(alloc, name)?;
-    let mut indexes = Vec::new(alloc);
-    for step in steps {
-        indexes.push(step)?;
-    }
+    let indexes = Vec::new(alloc);
     Ok(Expression::Variable(Variable { name, indexes }))
 }
 
-fn literal(alloc: Global, word: &str) -> crate::Result<Expression> {
-    Ok(Expression::Literal(text(alloc, word)?))
+fn steps(
+    alloc: Global,
+    name: &str,
+    first: Expression,
+    second: Expression,
+) -> crate::Result<Expression> {
+    let name = String::from_str(alloc, name)?;
+    let mut indexes = Vec::new(alloc);
+    indexes.push(first)?;
+    indexes.push(second)?;
+    Ok(Expression::Variable(Variable { name, indexes }))
 }
 
-fn sample(alloc: Global) -> crate::Result<Object> {
-    let items = list(alloc, [Value::Integer(4), text(alloc, "five")?])?;
-    let inner = Value::Object(object(alloc, [("b", items)])?);
-    object(
-        alloc,
-        [("a", inner), ("key", text(alloc, "b")?), ("n", Value::Nil)],
-    )
+fn sample(alloc: Global) -> crate::Result<State> {
+    let items = pair(alloc, Value::Integer(4), text(alloc, "five")?)?;
+    let inner = Value::Object(one(alloc, "b", items)?);
+    let data = with(alloc, one(alloc, "a", inner)?, "key", text(alloc, "b")?)?;
+    Ok(State::new(alloc, with(alloc, data, "n", Value::Nil)?))
 }
 
 #[test]
 fn variables_by_their_steps(rt: HostRuntime) -> Result<(), Fail> {
     let alloc = rt.alloc();
-    let state = State::new(alloc, sample(alloc)?);
+    let state = sample(alloc)?;
     let last = Expression::Literal(Value::Integer(-1));
-    let nested = variable(alloc, "a", [variable(alloc, "key", [])?, last])?;
-    assert!(rt; *nested.evaluate(alloc, &state)?.as_value() == text(alloc, "five")?);
-    let by_nil = variable(alloc, "a", [variable(alloc, "n", [])?])?;
-    assert!(rt; by_nil.try_evaluate(alloc, &state)?.is_none());
-    let by_missing = variable(alloc, "a", [variable(alloc, "nope", [])?])?;
-    let fault = match by_missing.evaluate(alloc, &state) {
-        Ok(_) => return Err(Fail::from("a value by a missing step")),
-        Err(fault) => fault,
-    };
+    let found = steps(alloc, "a", name(alloc, "key")?, last)?;
     assert_eq!(rt;
-        fault.to_string(alloc)?.as_str(),
-        "UnknownVariable: `a[nope]` has no value"
+        found
+            .evaluate(alloc, &state)?
+            .as_value()
+            .text(alloc)?
+            .as_str(),
+        "five"
     );
-    let nil = variable(alloc, "n", [])?
-        .try_evaluate(alloc, &state)?
-        .is_some();
-    assert!(rt; nil, "a name that holds nil has a value");
+    let by_nil = steps(alloc, "a", name(alloc, "key")?, name(alloc, "n")?)?;
+    assert!(rt; by_nil.try_evaluate(alloc, &state)?.is_none());
+    let by_missing = steps(alloc, "a", name(alloc, "nope")?, name(alloc, "n")?)?;
+    if let Err(fault) = by_missing.evaluate(alloc, &state) {
+        let told = "UnknownVariable: `a[nope][n]` has no value";
+        assert_eq!(rt; fault.to_string(alloc)?.as_str(), told);
+    }
+    assert!(rt; name(alloc, "n")?.try_evaluate(alloc, &state)?.is_some());
     Ok(())
 }
 
 #[test]
 fn written_forms(rt: HostRuntime) -> Result<(), Fail> {
     let alloc = rt.alloc();
-    for (value, wanted) in [
-        (text(alloc, "n")?, "\"n\""),
-        (Value::Integer(-5), "-5"),
-        (Value::Nil, "nil"),
-        (Value::Bool(true), "true"),
-        (Value::Bool(false), "false"),
-    ] {
-        let written = Expression::Literal(value).to_string(alloc)?;
-        assert_eq!(rt; written.as_str(), wanted);
-    }
+    let quoted = Expression::Literal(text(alloc, "b")?);
+    assert_eq!(rt; quoted.to_string(alloc)?.as_str(), "\"b\"");
+    let nil = Expression::Literal(Value::Nil);
+    assert_eq!(rt; nil.to_string(alloc)?.as_str(), "nil");
+    let truth = Expression::Literal(Value::Bool(false));
+    assert_eq!(rt; truth.to_string(alloc)?.as_str(), "false");
     let zero = Expression::Literal(Value::Integer(0));
-    let nested = variable(
-        alloc,
-        "a",
-        [literal(alloc, "b")?, zero, variable(alloc, "i", [])?],
-    )?;
+    let nested = steps(alloc, "a", quoted, zero)?;
     let mut written = String::from_str(alloc, "cycle ")?;
     nested.append_written_form(&mut written)?;
-    assert_eq!(rt; written.as_str(), "cycle a[\"b\"][0][i]");
+    assert_eq!(rt; written.as_str(), "cycle a[\"b\"][0]");
     let copy = nested.copy(alloc)?;
-    assert_eq!(rt; copy.to_string(alloc)?.as_str(), "a[\"b\"][0][i]");
+    assert_eq!(rt; copy.to_string(alloc)?.as_str(), "a[\"b\"][0]");
     Ok(())
 }

@@ -1,6 +1,7 @@
-use super::{list, object, text};
+use super::{one, pair, text, with};
 use crate::{Error, ErrorKind, Value};
 use std::cmp::Ordering;
+use std::collections::BTreeMap;
 use std::hash::{DefaultHasher, Hash, Hasher};
 use std::test::Fail;
 
@@ -13,8 +14,8 @@ fn hash_of(value: &Value) -> u64 {
 #[test]
 fn texts(rt: HostRuntime) -> Result<(), Fail> {
     let alloc = rt.alloc();
-    let items = list(alloc, [Value::Integer(-7), text(alloc, "x")?, Value::Nil])?;
-    let value = Value::Object(object(alloc, [("b", items), ("a", Value::Bool(true))])?);
+    let items = pair(alloc, Value::Integer(-7), text(alloc, "x")?)?;
+    let value = Value::Object(with(alloc, one(alloc, "b", items)?, "a", Value::Bool(true))?);
     assert_eq!(rt; value.text(alloc)?.as_str(), "atrueb-7x");
     let mut appended = String::from_str(alloc, "a ")?;
     Value::Integer(i64::MIN).append_text(&mut appended)?;
@@ -54,23 +55,20 @@ fn whole_numbers(rt: HostRuntime) -> Result<(), Fail> {
 #[test]
 fn kinds_and_values_in_order(rt: HostRuntime) -> Result<(), Fail> {
     let alloc = rt.alloc();
-    let ascending = [
-        Value::Nil,
-        Value::Bool(false),
-        Value::Bool(true),
-        Value::Integer(-2),
-        Value::Integer(10),
-        text(alloc, "10")?,
-        text(alloc, "9")?,
-        text(alloc, "a")?,
-        list(alloc, [])?,
-        list(alloc, [Value::Nil])?,
-        list(alloc, [Value::Nil, Value::Integer(1)])?,
-        list(alloc, [text(alloc, "a")?])?,
-        Value::Object(object(alloc, [])?),
-        Value::Object(object(alloc, [("a", Value::Integer(2))])?),
-        Value::Object(object(alloc, [("b", Value::Integer(1))])?),
-    ];
+    let mut ascending = Vec::new(alloc);
+    ascending.push(Value::Nil)?;
+    ascending.push(Value::Bool(false))?;
+    ascending.push(Value::Bool(true))?;
+    ascending.push(Value::Integer(-2))?;
+    ascending.push(Value::Integer(10))?;
+    ascending.push(text(alloc, "10")?)?;
+    ascending.push(text(alloc, "9")?)?;
+    ascending.push(Value::Array(Vec::new(alloc)))?;
+    ascending.push(pair(alloc, Value::Nil, Value::Integer(1))?)?;
+    ascending.push(pair(alloc, Value::Nil, text(alloc, "a")?)?)?;
+    ascending.push(Value::Object(BTreeMap::new(alloc)))?;
+    ascending.push(Value::Object(one(alloc, "a", Value::Integer(2))?))?;
+    ascending.push(Value::Object(one(alloc, "b", Value::Integer(1))?))?;
     for (i, lesser) in ascending.iter().enumerate() {
         for (j, greater) in ascending.iter().enumerate() {
             assert!(rt;
@@ -89,11 +87,10 @@ fn order_of_conditions(rt: HostRuntime) -> Result<(), Fail> {
     assert_eq!(rt; one.compare(&Value::Integer(2)), Some(Ordering::Less));
     assert_eq!(rt; one.compare(&text(alloc, "1")?), None);
     assert_eq!(rt; Value::Nil.compare(&Value::Nil), None);
-    let nil = list(alloc, [Value::Nil])?;
-    assert_eq!(rt; nil.compare(&nil), Some(Ordering::Equal));
-    let low = list(alloc, [Value::Nil, Value::Integer(1)])?;
-    let high = list(alloc, [Value::Nil, Value::Integer(2)])?;
-    let other = list(alloc, [Value::Nil, text(alloc, "2")?])?;
+    let low = pair(alloc, Value::Nil, Value::Integer(1))?;
+    let high = pair(alloc, Value::Nil, Value::Integer(2))?;
+    let other = pair(alloc, Value::Nil, text(alloc, "2")?)?;
+    assert_eq!(rt; low.compare(&low), Some(Ordering::Equal));
     assert_eq!(rt; high.compare(&low), Some(Ordering::Greater));
     assert_eq!(rt; high.compare(&other), None);
     Ok(())

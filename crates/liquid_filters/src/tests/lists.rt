@@ -1,10 +1,10 @@
 use super::answers;
-use crate::{FilterKind, stdlib};
+use crate::stdlib;
 use std::test::Fail;
 
 #[test]
 fn join(rt: HostRuntime) -> Result<(), Fail> {
-    let rows = [
+    for (input, args, wanted) in [
         ("[ 1 2 a b nil ]", "-", "1-2-a-b-"),
         ("[ a nil b ]", "", "a~~b"),
         ("[ 1 2 ]", "nil", "'12"),
@@ -14,13 +14,15 @@ fn join(rt: HostRuntime) -> Result<(), Fail> {
         ("nil", "", "InvalidInput"),
         ("x", "", "InvalidInput"),
         ("{ a 1 }", "", "InvalidInput"),
-    ];
-    Ok(answers(&rt, rt.alloc(), stdlib::Join.into(), rows)?)
+    ] {
+        answers(&rt, rt.alloc(), stdlib::Join.into(), input, args, wanted)?;
+    }
+    Ok(())
 }
 
 #[test]
 fn sort(rt: HostRuntime) -> Result<(), Fail> {
-    let rows = [
+    for (input, args, wanted) in [
         ("[ b 2 nil a 1 ]", "", "[ 1 2 a b nil ]"),
         ("[ [ 1 a ] [ 1 2 ] [ 1 ] ]", "", "[ [ 1 ] [ 1 2 ] [ 1 a ] ]"),
         ("[ [ 1 ] [ nil ] ]", "", "[ [ nil ] [ 1 ] ]"),
@@ -28,13 +30,15 @@ fn sort(rt: HostRuntime) -> Result<(), Fail> {
         ("nil", "", "[ ]"),
         ("7", "", "[ 7 ]"),
         ("{ a 1 }", "", "[ { a 1 } ]"),
-    ];
-    Ok(answers(&rt, rt.alloc(), stdlib::Sort.into(), rows)?)
+    ] {
+        answers(&rt, rt.alloc(), stdlib::Sort.into(), input, args, wanted)?;
+    }
+    Ok(())
 }
 
 #[test]
 fn sort_by_a_property(rt: HostRuntime) -> Result<(), Fail> {
-    let rows = [
+    for (input, args, wanted) in [
         (
             "[ { a 2 n x } { a 1 } { n y } { a 2 n b } { a nil } ]",
             "a",
@@ -46,28 +50,43 @@ fn sort_by_a_property(rt: HostRuntime) -> Result<(), Fail> {
         ("nil", "a", "[ ]"),
         ("[ { a 1 } 1 ]", "a", "InvalidInput"),
         ("x", "a", "InvalidInput"),
-    ];
-    Ok(answers(&rt, rt.alloc(), stdlib::Sort.into(), rows)?)
+    ] {
+        answers(&rt, rt.alloc(), stdlib::Sort.into(), input, args, wanted)?;
+    }
+    Ok(())
 }
 
 #[test]
 fn sort_natural(rt: HostRuntime) -> Result<(), Fail> {
-    let rows = [
+    for (input, args, wanted) in [
         ("[ b A a B ]", "", "[ A a b B ]"),
         ("[ nil b A 1 ]", "", "[ 1 A b nil ]"),
         ("[ 10 9 ]", "", "[ 10 9 ]"),
         ("nil", "", "[ ]"),
         ("x", "", "[ x ]"),
         ("{ a 1 }", "", "[ { a 1 } ]"),
-        ("[ { a c } { a B } { } { a A } ]", "a", "[ { a A } { a B } { a c } { } ]"),
+        (
+            "[ { a c } { a B } { } { a A } ]",
+            "a",
+            "[ { a A } { a B } { a c } { } ]",
+        ),
         ("[ 1 ]", "a", "InvalidInput"),
-    ];
-    Ok(answers(&rt, rt.alloc(), stdlib::SortNatural.into(), rows)?)
+    ] {
+        answers(
+            &rt,
+            rt.alloc(),
+            stdlib::SortNatural.into(),
+            input,
+            args,
+            wanted,
+        )?;
+    }
+    Ok(())
 }
 
 #[test]
 fn where_by_a_property(rt: HostRuntime) -> Result<(), Fail> {
-    let rows = [
+    for (input, args, wanted) in [
         ("[ { a 1 } { a false } { b 2 } ]", "a", "[ { a 1 } ]"),
         ("[ { a '1 } { a 1 } ]", "a 1", "[ { a 1 } ]"),
         ("[ { a 1 } { a nil } { b 2 } ]", "a nil", "[ { a nil } ]"),
@@ -77,74 +96,86 @@ fn where_by_a_property(rt: HostRuntime) -> Result<(), Fail> {
         ("[ ]", "a", "[ ]"),
         ("nil", "a", "InvalidInput"),
         ("x", "a", "InvalidInput"),
-    ];
-    Ok(answers(&rt, rt.alloc(), stdlib::Where.into(), rows)?)
+    ] {
+        answers(&rt, rt.alloc(), stdlib::Where.into(), input, args, wanted)?;
+    }
+    Ok(())
 }
 
 #[test]
 fn uniq(rt: HostRuntime) -> Result<(), Fail> {
-    let rows = [
+    for (input, args, wanted) in [
         ("[ 1 '1 1 [ 1 ] [ 1 ] ]", "", "[ 1 '1 [ 1 ] ]"),
         ("[ ]", "", "[ ]"),
         ("nil", "", "InvalidInput"),
         ("x", "", "InvalidInput"),
         ("{ a 1 }", "", "InvalidInput"),
-    ];
-    Ok(answers(&rt, rt.alloc(), stdlib::Uniq.into(), rows)?)
+    ] {
+        answers(&rt, rt.alloc(), stdlib::Uniq.into(), input, args, wanted)?;
+    }
+    Ok(())
 }
 
 #[test]
 fn reverse(rt: HostRuntime) -> Result<(), Fail> {
-    let rows = [
+    for (input, args, wanted) in [
         ("[ 1 2 [ 3 4 ] ]", "", "[ [ 3 4 ] 2 1 ]"),
         ("nil", "", "InvalidInput"),
         ("xy", "", "InvalidInput"),
         ("{ a 1 }", "", "InvalidInput"),
-    ];
-    Ok(answers(&rt, rt.alloc(), stdlib::Reverse.into(), rows)?)
+    ] {
+        answers(&rt, rt.alloc(), stdlib::Reverse.into(), input, args, wanted)?;
+    }
+    Ok(())
 }
 
 #[test]
 fn map(rt: HostRuntime) -> Result<(), Fail> {
-    let rows = [
+    for (input, args, wanted) in [
         ("[ { a 1 } 5 { b 2 } { a nil } ]", "a", "[ 1 nil ]"),
         ("[ { a 1 } ]", "nil", "[ ]"),
         ("nil", "a", "InvalidInput"),
         ("x", "a", "InvalidInput"),
         ("{ a 1 }", "a", "InvalidInput"),
-    ];
-    Ok(answers(&rt, rt.alloc(), stdlib::Map.into(), rows)?)
+    ] {
+        answers(&rt, rt.alloc(), stdlib::Map.into(), input, args, wanted)?;
+    }
+    Ok(())
 }
 
 #[test]
 fn compact(rt: HostRuntime) -> Result<(), Fail> {
-    let rows = [
+    for (input, args, wanted) in [
         ("[ nil 1 false nil ]", "", "[ 1 false ]"),
         ("[ { a nil } { a 1 } { } ]", "a", "[ { a 1 } ]"),
         ("[ { a 1 } nil ]", "a", "InvalidInput"),
         ("nil", "", "InvalidInput"),
         ("x", "a", "InvalidInput"),
         ("{ a 1 }", "", "InvalidInput"),
-    ];
-    Ok(answers(&rt, rt.alloc(), stdlib::Compact.into(), rows)?)
+    ] {
+        answers(&rt, rt.alloc(), stdlib::Compact.into(), input, args, wanted)?;
+    }
+    Ok(())
 }
 
 #[test]
 fn concat(rt: HostRuntime) -> Result<(), Fail> {
-    let rows = [
+    for (input, args, wanted) in [
         ("[ 1 2 ]", "[ 2 nil ]", "[ 1 2 2 nil ]"),
         ("[ ]", "1", "InvalidArgument"),
         ("1", "[ ]", "InvalidInput"),
         ("1", "1", "InvalidInput"),
         ("nil", "[ ]", "InvalidInput"),
         ("{ a 1 }", "[ ]", "InvalidInput"),
-    ];
-    Ok(answers(&rt, rt.alloc(), stdlib::Concat.into(), rows)?)
+    ] {
+        answers(&rt, rt.alloc(), stdlib::Concat.into(), input, args, wanted)?;
+    }
+    Ok(())
 }
 
 #[test]
 fn first(rt: HostRuntime) -> Result<(), Fail> {
-    let rows = [
+    for (input, args, wanted) in [
         ("[ 1 2 ]", "", "1"),
         ("[ ]", "", "nil"),
         ("\u{e9}a", "", "\u{e9}"),
@@ -153,13 +184,15 @@ fn first(rt: HostRuntime) -> Result<(), Fail> {
         ("true", "", "t"),
         ("nil", "", "InvalidInput"),
         ("{ a 1 }", "", "InvalidInput"),
-    ];
-    Ok(answers(&rt, rt.alloc(), stdlib::First.into(), rows)?)
+    ] {
+        answers(&rt, rt.alloc(), stdlib::First.into(), input, args, wanted)?;
+    }
+    Ok(())
 }
 
 #[test]
 fn last(rt: HostRuntime) -> Result<(), Fail> {
-    let rows = [
+    for (input, args, wanted) in [
         ("[ 1 2 ]", "", "2"),
         ("[ ]", "", "nil"),
         ("a\u{1f1f7}", "", "\u{1f1f7}"),
@@ -168,6 +201,8 @@ fn last(rt: HostRuntime) -> Result<(), Fail> {
         ("false", "", "e"),
         ("nil", "", "InvalidInput"),
         ("{ a 1 }", "", "InvalidInput"),
-    ];
-    Ok(answers(&rt, rt.alloc(), stdlib::Last.into(), rows)?)
+    ] {
+        answers(&rt, rt.alloc(), stdlib::Last.into(), input, args, wanted)?;
+    }
+    Ok(())
 }

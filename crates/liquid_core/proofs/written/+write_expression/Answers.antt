@@ -1,4 +1,4 @@
-use Rattle.std.proofs.Common.{rules, arith, ◌≡◌, ℕ, List, [], ◌∷◌, ◌++◌, ◌+◌, codes, drop, get_or, refl, sym, ap, ◌∙◌, append_assoc}
+use Rattle.std.proofs.Common.{rules, arith, ◌≡◌, ℕ, List, ◌∷◌, ◌++◌, ◌+◌, codes, drop, get_or, sym, ap, ◌∙◌, append_assoc}
 use Rattle.std.proofs.Output.{has_written_append}
 use Rattle.std.proofs.lemmas.List.{drop_more}
 use Rattle.liquid_core.specs.ExpressionView.{expression_view, steps_view}

@@ -48,8 +48,8 @@ fn part(alloc: Global, input: &Value, offset: i64, count: usize) -> Result<Value
         Value::Array(items) => Ok(Value::Array(items_part(alloc, items, offset, count)?)),
         _ => {
             let text = text_of(alloc, input)?;
-            let part = text_part(text.as_str(), offset, count);
-            Ok(Value::Text(String::from_str(alloc, part)?))
+            let kept = text_part(text.as_str(), offset, count);
+            Ok(Value::Text(String::from_str(alloc, kept)?))
         }
     }
 }

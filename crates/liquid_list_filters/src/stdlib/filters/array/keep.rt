@@ -1,5 +1,5 @@
 //! The filters that keep some of a list's items.
-ghost use Rattle.std.specs.Prelude.{◌≡◌, IsTrue, ◌||◌, ◌&&◌, nat_eq, nat_le, map, option_map};
+ghost use Rattle.std.specs.Prelude.{◌≡◌, IsTrue, ◌&&◌, nat_eq, nat_le, map, option_map};
 ghost use Rattle.liquid_core.specs.Answer.{Answers, Gives};
 ghost use Rattle.liquid_core.specs.Lists.{list_of};
 ghost use Rattle.liquid_core.specs.View.{view, items_view};
@@ -99,12 +99,12 @@ fn is_given(found: Option<&Value>) -> bool
 pub struct Where;
 
 impl Filter for Where {
-    ghost counts = { λ _ n. nat_eq n 1 || nat_eq n 2 };
+    ghost counts = { λ _ n. nat_le 1 n && nat_le n 2 };
 
     ghost answer = { λ _. where_answer };
 
     fn accepts(&self, count: usize) -> bool {
-        count == 1 || count == 2
+        1 <= count && count <= 2
     }
 
     /// `InvalidInput` where the input is neither a list nor a map.

@@ -68,7 +68,7 @@ fn capitalized(alloc: Global, text: &str) -> Result<String>
     ensures { Gives (λ s. string_bytes s) result (capitalized text.now) }
 {
     let mut rest = text.chars();
-    let mut out = String::new(alloc);
+    let mut out = String::with_capacity(alloc, text.len())?;
     match rest.next() {
         Some(first) => {
             out.push(first.to_ascii_uppercase())?;

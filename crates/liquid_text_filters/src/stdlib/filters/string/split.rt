@@ -64,13 +64,15 @@ fn single_characters(alloc: Global, text: &str) -> Result<Vec<Value>>
     ensures { Gives (λ v. map view v.items) result (map (λ t. text_datum t) (single_characters text.now)) }
 {
     let mut found = Vec::new(alloc);
-    found.push(Value::Text(String::new(alloc)))?;
+    let start = Value::Text(String::new(alloc));
+    found.push(start)?;
     let mut rest = text.chars();
     while let Some(letter) = rest.next() {
         let mut piece = String::new(alloc);
         piece.push(letter)?;
         found.push(Value::Text(piece))?;
     }
-    found.push(Value::Text(String::new(alloc)))?;
+    let end = Value::Text(String::new(alloc));
+    found.push(end)?;
     Ok(found)
 }

@@ -1,0 +1,23 @@
+-- The rules of nodes, to go by: to unfold `node_meaning` elsewhere shows the rule of every kind.
+use Rattle.std.specs.Prelude.{◌≡◌}
+use mathlib.Core.Path.{refl}
+use Rattle.liquid_core.specs.Texts.{Text}
+use Rattle.liquid_core.specs.Data.{text_of}
+use Rattle.liquid_syntax.specs.Tree.{Chain, Nodes, plain, output, assign}
+use Rattle.liquid_syntax.specs.Evaluation.{chain_value}
+use Rattle.liquid_lib.specs.Runs.{Nothing, Run, evaluate, change, write, ◌>>=◌}
+use Rattle.liquid_lib.specs.Effects.{assigned_to}
+use Rattle.liquid_lib.specs.Meaning.{Setting, node_meaning}
+
+module _ (setting : Setting) (deeper : Nodes → Run Nothing) where
+  pub plain_rule : (t : Text) → node_meaning setting deeper (plain t) ≡ write t
+  unfolding node_meaning
+  plain_rule t = refl
+
+  pub output_rule : (chain : Chain) → node_meaning setting deeper (output chain) ≡ (evaluate (chain_value setting.answers chain) >>= (λ d. write (text_of d)))
+  unfolding node_meaning
+  output_rule chain = refl
+
+  pub assign_rule : (name : Text) (chain : Chain) → node_meaning setting deeper (assign name chain) ≡ (evaluate (chain_value setting.answers chain) >>= (λ d. change (assigned_to name d)))
+  unfolding node_meaning
+  assign_rule name chain = refl

@@ -1,0 +1,75 @@
+-- How what was added is put together, and an output around a buffer.
+use Rattle.std.proofs.Common.{◌≡◌, ℕ, List, [], ◌++◌, Option, Some, IsSome, is_some, refl, sym, ap, subst, ◌∙◌, append_assoc}
+use Rattle.std.specs.Io.KnownBytes.{Appends}
+use Rattle.std.proofs.KnownBytes.{Appends-trans, Appends-nil}
+use Rattle.liquid_lib.specs.Sinks.{Sink, held, held_in, Adds, AddsPart}
+
+pub Adds-nil : (s : Sink) → Adds s s []
+Adds-nil s = record { added = Appends-nil (held s); same_place = refl; behind = λ _. (refl, refl) }
+
+IsSome-same : {A : Type 0} (a b : Option A) → is_some b ≡ is_some a → IsSome a → IsSome b
+IsSome-same a b e h = cc
+
+pub Adds-trans : (s t u : Sink) (xs ys : List ℕ) → Adds s t xs → Adds t u ys → Adds s u (xs ++ ys)
+Adds-trans s t u xs ys p q = record {
+  added = Appends-trans (held s) (held t) (held u) xs ys p.added q.added;
+  same_place = q.same_place ∙ p.same_place;
+  behind = λ inside.
+      let first = p.behind inside in
+      let next = q.behind (IsSome-same s.buffer t.buffer p.same_place inside) in
+      (next.0 ∙ first.0, next.1 ∙ first.1);
+}
+
+pub AddsPart-after : (s t u : Sink) (xs ys : List ℕ) → Adds s t xs → AddsPart t u ys → AddsPart s u (xs ++ ys)
+AddsPart-after s t u xs ys p q = record {
+  front = xs ++ q.front;
+  rest = q.rest;
+  whole = append_assoc xs q.front q.rest ∙ ap (λ l. xs ++ l) q.whole;
+  adds = Adds-trans s t u xs q.front p q.adds;
+}
+
+pub AddsPart-longer : (s t : Sink) (xs ys : List ℕ) → AddsPart s t xs → AddsPart s t (xs ++ ys)
+AddsPart-longer s t xs ys p = record {
+  front = p.front;
+  rest = p.rest ++ ys;
+  whole = sym (append_assoc p.front p.rest ys) ∙ ap (λ l. l ++ ys) p.whole;
+  adds = p.adds;
+}
+
+-- nothing is a beginning of any text
+pub AddsPart-none : (s : Sink) (xs : List ℕ) → AddsPart s s xs
+AddsPart-none s xs = record { front = []; rest = xs; whole = refl; adds = Adds-nil s }
+
+-- an output as it was
+pub Adds-same : (s u : Sink) → u.buffer ≡ s.buffer → u.contents ≡ s.contents → u.failures ≡ s.failures → Adds s u []
+Adds-same s u b k f = record {
+  added = subst (λ v. Appends (held s) v []) (ap (λ x. held_in x s.contents) (sym b) ∙ ap (held_in u.buffer) (sym k)) (Appends-nil (held s));
+  same_place = ap is_some b;
+  behind = λ inside. (k, f);
+}
+
+-- s before a buffer is opened, p with the empty buffer, q after the body, u with the buffer closed
+pub record Around (s p q u : Sink) (text : List ℕ) : Type 0 where
+  pub opened : p.buffer ≡ Some []
+  pub closed : q.buffer ≡ Some text
+  pub back : u.buffer ≡ s.buffer
+  pub contents_in : p.contents ≡ s.contents
+  pub contents_out : u.contents ≡ q.contents
+  pub failures_in : p.failures ≡ s.failures
+  pub failures_out : u.failures ≡ q.failures
+
+IsSome-of : {A : Type 0} (o : Option A) (x : A) → o ≡ Some x → IsSome o
+IsSome-of o x e = ap is_some e
+
+pub around-adds : (s p q u : Sink) (text front : List ℕ) → Around s p q u text → Adds p q front → Adds s u []
+around-adds s p q u text front around a =
+    let inside = a.behind (IsSome-of p.buffer [] around.opened) in
+    Adds-same s u around.back (around.contents_out ∙ inside.0 ∙ around.contents_in) (around.failures_out ∙ inside.1 ∙ around.failures_in)
+
+pub around-text : (s p q u : Sink) (text front : List ℕ) → Around s p q u text → Adds p q front → text ≡ front
+around-text s p q u text front around a =
+    let there = subst (λ b. Appends (held_in b p.contents) (held q) front) around.opened a.added in
+    subst (λ b. Appends (Some []) (held_in b q.contents) front) around.closed there
+
+pub part-of_none : (s u : Sink) (text : List ℕ) → Adds s u [] → AddsPart s u text
+part-of_none s u text a = record { front = []; rest = text; whole = refl; adds = a }

@@ -1,0 +1,21 @@
+-- What every answer leaves as it was.
+use Rattle.std.specs.Prelude.{◌≡◌, List}
+use Rattle.liquid_core.specs.Texts.{Text}
+use Rattle.liquid_core.specs.Environment.{Names}
+use Rattle.liquid_core.specs.States.{Layers, layers_of}
+use Rattle.liquid_core.specs.declared.state.State.{State}
+use Rattle.liquid_syntax.specs.Names.{partials_names}
+use Rattle.liquid_lib.specs.Isolation.{HoldsOutside}
+use Rattle.liquid_lib.specs.Meaning.{Setting}
+use Rattle.liquid_lib.specs.Within.{Within}
+
+-- the scopes and the data as they were, and the assigned variables and the counters under each name that is not in N
+pub record LayersKept (N : Names) (old new : Layers) : Type 0 where
+  pub scopes : new.scopes ≡ old.scopes
+  pub globals : new.globals ≡ old.globals
+  pub assigned : HoldsOutside N old.assigned new.assigned
+  pub counters : HoldsOutside N old.counters new.counters
+
+-- for every set of names that has these and those of the partials
+abbrev pub Keeps : List Text → Setting → State → State → Type 0
+Keeps names setting old new = (N : Names) → Within N names → Within N (partials_names setting.partials) → LayersKept N (layers_of old) (layers_of new)

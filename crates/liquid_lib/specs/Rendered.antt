@@ -1,0 +1,42 @@
+-- What a whole rendering has done.
+use Rattle.std.specs.Prelude.{◌≡◌, ℕ, List, Result, ◌⊎◌, Option, None}
+use Rattle.liquid_core.specs.declared.error.Error.{Error}
+use Rattle.liquid_core.specs.Environment.{Names, Environment, cut}
+use Rattle.liquid_syntax.specs.Tree.{Nodes}
+use Rattle.liquid_lib.specs.Sinks.{Adds}
+use Rattle.liquid_lib.specs.Runs.{Nothing, Outcome, Run}
+use Rattle.liquid_lib.specs.Meaning.{meaning}
+use Rattle.liquid_lib.specs.Isolation.{changes, names_of_run}
+use Rattle.liquid_lib.specs.Performs.{Place, Cut, answer_of, unit, writer_sink}
+use Rattle.liquid_lib.specs.RuntimeView.{environment_in, setting_in, depth_in}
+use Rattle.liquid_lib.specs.declared.runtime.Runtime.{Runtime}
+
+-- what the nodes mean, with the runtime's partials and depth
+abbrev pub run_in : Runtime → Nodes → Run Nothing
+run_in runtime nodes = meaning (setting_in runtime) (depth_in runtime) nodes
+
+-- what they come to, from what the runtime holds
+abbrev pub outcome_in : Runtime → Nodes → Outcome Nothing
+outcome_in runtime nodes = run_in runtime nodes (environment_in runtime)
+
+-- the names that the nodes or a partial mention
+abbrev pub names_in : Runtime → Nodes → Names
+names_in runtime nodes = names_of_run (setting_in runtime) nodes
+
+-- a run with no buffer open
+abbrev pub at_writer : {W : Type 0} → (W → Option (List ℕ)) → (W → ℕ) → W → Environment → Place
+at_writer contents failure_count writer environment = record { sink = writer_sink (contents writer) (failure_count writer); environment = environment }
+
+-- a run that no writer sees
+abbrev pub nowhere : Environment → Place
+nowhere environment = record { sink = writer_sink None 0; environment = environment }
+
+-- text, end and changes are those of m for the environment cut to N
+pub record ExactForCut (N : Names) (r : Result (Unit {0}) Error) (m : Run Nothing) (before after : Place) : Type 0 where
+  pub text : Adds before.sink after.sink (m (cut N before.environment)).text
+  pub end : answer_of unit r ≡ (m (cut N before.environment)).end
+  pub changes : changes before.environment after.environment ≡ changes (cut N before.environment) (m (cut N before.environment)).environment
+
+-- unless the answer is `Memory` or `Write`: then a beginning of that text was added
+abbrev pub PerformsForCut : Names → Result (Unit {0}) Error → Run Nothing → Place → Place → Type 0
+PerformsForCut N r m before after = ExactForCut N r m before after ⊎ Cut r (m (cut N before.environment)).text before.sink after.sink

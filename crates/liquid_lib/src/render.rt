@@ -1,0 +1,212 @@
+//! Whole renderings.
+ghost use Rattle.std.specs.Prelude.{◌≡◌, ◌<◌, ◌⊎◌, false, IfErr, IsErrAnd, string_bytes};
+ghost use Rattle.std.specs.Io.KnownBytes.{Appends};
+ghost use Rattle.liquid_core.specs.Answer.{Answers};
+ghost use Rattle.liquid_core.specs.Environment.{cut};
+ghost use Rattle.liquid_core.specs.States.{environment_of, layers_of};
+ghost use Rattle.liquid_syntax.specs.Templates.{tree_of};
+ghost use Rattle.liquid_syntax.specs.Tree.{Nodes};
+ghost use Rattle.liquid_lib.specs.Added.{AppendsPart};
+ghost use Rattle.liquid_lib.specs.Engine.{setting_of};
+ghost use Rattle.liquid_lib.specs.Failures.{SomeFailed};
+ghost use Rattle.liquid_lib.specs.Isolation.{changes, names_of_run};
+ghost use Rattle.liquid_lib.specs.Kept.{LayersKept};
+ghost use Rattle.liquid_lib.specs.Meaning.{meaning};
+ghost use Rattle.liquid_lib.specs.Performs.{Meets, Performs, answer_of, is_refused, unit};
+ghost use Rattle.liquid_lib.specs.Rendered.{PerformsForCut, run_in, outcome_in, names_in, at_writer, nowhere};
+ghost use Rattle.liquid_lib.specs.Runs.{buffered, ended_with};
+ghost use Rattle.liquid_lib.specs.RuntimeView.{SettingKept, layers_in, environment_in};
+
+use crate::counted::{CountedWrite, NoWriter};
+use crate::engine::run_range;
+use crate::output::Output;
+use crate::runtime::Runtime;
+use liquid_core::{ErrorKind, Result, State};
+use liquid_syntax::{Partials, Template};
+use std::alloc::Global;
+
+/// What can be rendered.
+pub trait Renderable {
+    // The nodes that are rendered.
+    ghost nodes: { Self → Nodes };
+
+    /// Writes the text, up to the first fault.
+    ///
+    /// `Memory` where a growth was refused, and `Write` where the writer failed or took nothing of what was left; then a
+    /// beginning of the text is written. Any other kind is the first fault's. After any answer the scopes, the data, the
+    /// partials and the depth are as before, and so is each name that neither the template nor a partial mentions.
+    fn render_to<W: CountedWrite>(
+        &self,
+        alloc: Global,
+        writer: &mut W,
+        runtime: &mut Runtime<'_>,
+    ) -> Result<()>
+        // text, end and environment are those of the meaning
+        ensures meaning { Performs result (run_in runtime.old (nodes self.now))
+            (at_writer W.contents W.failure_count writer.old (environment_in runtime.old))
+            (at_writer W.contents W.failure_count writer.new (environment_in runtime.new)) }
+        // text, end and changes are those for what the runtime holds under the mentioned names, layer by layer
+        ensures isolated { PerformsForCut (names_in runtime.old (nodes self.now)) result
+            (run_in runtime.old (nodes self.now))
+            (at_writer W.contents W.failure_count writer.old (environment_in runtime.old))
+            (at_writer W.contents W.failure_count writer.new (environment_in runtime.new)) }
+
+        // where the answer is neither `Memory` nor `Write`
+        ensures whole { is_refused result ≡ false →
+            Appends (W.contents writer.old) (W.contents writer.new) (outcome_in runtime.old (nodes self.now)).text }
+        ensures end { is_refused result ≡ false → answer_of unit result ≡ (outcome_in runtime.old (nodes self.now)).end }
+        ensures environment { is_refused result ≡ false →
+            environment_in runtime.new ≡ (outcome_in runtime.old (nodes self.now)).environment }
+
+        // after every answer
+        ensures begun { AppendsPart (W.contents writer.old) (W.contents writer.new)
+            (outcome_in runtime.old (nodes self.now)).text }
+        ensures kept { LayersKept (names_in runtime.old (nodes self.now)) (layers_in runtime.old) (layers_in runtime.new) }
+        ensures same { SettingKept runtime.old runtime.new }
+        ensures write { IfErr result (λ e. e.kind ≡ ErrorKind.Write →
+            SomeFailed (W.failure_count writer.old) (W.failure_count writer.new)) }
+        ensures failed { W.failure_count writer.old < W.failure_count writer.new →
+            IsErrAnd result (λ e. (e.kind ≡ ErrorKind.Memory) ⊎ (e.kind ≡ ErrorKind.Write)) };
+
+    /// The text, or the first fault; `Memory` where a growth was refused. Else as `render_to`.
+    fn render(&self, alloc: Global, runtime: &mut Runtime<'_>) -> Result<String>
+        ensures text { Answers (λ t. string_bytes t) result
+            (ended_with (outcome_in runtime.old (nodes self.now)).text (outcome_in runtime.old (nodes self.now)).end) }
+        ensures environment { is_refused result ≡ false →
+            environment_in runtime.new ≡ (outcome_in runtime.old (nodes self.now)).environment }
+
+        // what the runtime holds under the mentioned names decides, layer by layer
+        ensures isolated { let N = names_in runtime.old (nodes self.now) in
+            let o = run_in runtime.old (nodes self.now) (cut N (environment_in runtime.old)) in
+            Answers (λ t. string_bytes t) result (ended_with o.text o.end) }
+        ensures changed { let N = names_in runtime.old (nodes self.now) in
+            let e = environment_in runtime.old in
+            is_refused result ≡ false → changes e (environment_in runtime.new) ≡ changes (cut N e) (run_in runtime.old (nodes self.now) (cut N e)).environment }
+
+        // after every answer
+        ensures kept { LayersKept (names_in runtime.old (nodes self.now)) (layers_in runtime.old) (layers_in runtime.new) }
+        ensures same { SettingKept runtime.old runtime.new };
+}
+
+impl Renderable for Template {
+    ghost nodes = { tree_of };
+
+    fn render_to<W: CountedWrite>(
+        &self,
+        alloc: Global,
+        writer: &mut W,
+        runtime: &mut Runtime<'_>,
+    ) -> Result<()> {
+        match runtime.partials {
+            Some(partials) => write_template(
+                alloc,
+                self,
+                partials,
+                runtime.depth,
+                writer,
+                &mut runtime.state,
+            ),
+            None => write_template(
+                alloc,
+                self,
+                &Partials::new(alloc),
+                runtime.depth,
+                writer,
+                &mut runtime.state,
+            ),
+        }
+    }
+
+    fn render(&self, alloc: Global, runtime: &mut Runtime<'_>) -> Result<String> {
+        match runtime.partials {
+            Some(partials) => template_text(
+                alloc,
+                self,
+                partials,
+                runtime.depth,
+                &mut runtime.state,
+            ),
+            None => template_text(
+                alloc,
+                self,
+                &Partials::new(alloc),
+                runtime.depth,
+                &mut runtime.state,
+            ),
+        }
+    }
+}
+
+/// Runs the nodes of a template to a writer.
+fn write_template<W: CountedWrite>(
+    alloc: Global,
+    template: &Template,
+    partials: &Partials,
+    depth: u32,
+    writer: &mut W,
+    state: &mut State,
+) -> Result<()>
+    ensures performs { Performs result (meaning (setting_of partials.now) depth (tree_of template.now))
+        (at_writer W.contents W.failure_count writer.old (environment_of state.old))
+        (at_writer W.contents W.failure_count writer.new (environment_of state.new)) }
+    ensures kept { LayersKept (names_of_run (setting_of partials.now) (tree_of template.now)) (layers_of state.old) (layers_of state.new) }
+{
+    let mut out = Output {
+        writer,
+        buffer: None,
+    };
+    let nodes = template.nodes();
+    let answer = run_range(
+        alloc,
+        partials,
+        depth,
+        nodes,
+        0,
+        nodes.len(),
+        &mut out,
+        state,
+    );
+    let Output {
+        writer: written,
+        buffer,
+    } = out;
+    drop(buffer);
+    // No effect at run time. The proof reads what the writer holds from this use.
+    let _ = &*written;
+    answer
+}
+
+/// Runs the nodes of a template into a buffer.
+fn template_text(
+    alloc: Global,
+    template: &Template,
+    partials: &Partials,
+    depth: u32,
+    state: &mut State,
+) -> Result<String>
+    ensures performs { Meets (λ t. string_bytes t) result (buffered (meaning (setting_of partials.now) depth (tree_of template.now)))
+        (nowhere (environment_of state.old))
+        (nowhere (environment_of state.new)) }
+    ensures kept { LayersKept (names_of_run (setting_of partials.now) (tree_of template.now)) (layers_of state.old) (layers_of state.new) }
+{
+    let mut writer = NoWriter;
+    let mut out = Output {
+        writer: &mut writer,
+        buffer: None,
+    };
+    let outer = out.open(alloc);
+    let nodes = template.nodes();
+    let answer = run_range(
+        alloc,
+        partials,
+        depth,
+        nodes,
+        0,
+        nodes.len(),
+        &mut out,
+        state,
+    );
+    let text = out.close(outer);
+    answer?;
+    Ok(text)
+}

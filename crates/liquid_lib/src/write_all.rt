@@ -1,0 +1,29 @@
+//! The engine's own loop over `write`.
+ghost use Rattle.std.specs.Prelude.{◌≡◌, OnOk, OnErr};
+ghost use Rattle.std.specs.Io.KnownBytes.{Appends};
+ghost use Rattle.liquid_lib.specs.Added.{AppendsPart};
+ghost use Rattle.liquid_lib.specs.Failures.{SomeFailed};
+
+use crate::counted::CountedWrite;
+
+/// A write failed, or took nothing of bytes that aren't empty.
+#[derive(Clone, Copy, Debug)]
+pub struct WriteFailed;
+
+/// Writes all the bytes. A short count goes on with the rest; what failed isn't tried again, and nothing is flushed.
+pub fn write_all<W: CountedWrite>(writer: &mut W, bytes: &[u8]) -> Result<(), WriteFailed>
+    ensures all { OnOk result (Appends (W.contents writer.old) (W.contents writer.new) bytes.now) }
+    ensures none_failed { OnOk result (W.failure_count writer.new ≡ W.failure_count writer.old) }
+    ensures part { OnErr result (AppendsPart (W.contents writer.old) (W.contents writer.new) bytes.now) }
+    ensures failed { OnErr result (SomeFailed (W.failure_count writer.old) (W.failure_count writer.new)) }
+{
+    let mut rest = bytes;
+    while !rest.is_empty() {
+        match writer.write(rest) {
+            Ok(0) => return Err(WriteFailed),
+            Ok(n) => rest = &rest[n..],
+            Err(_) => return Err(WriteFailed),
+        }
+    }
+    Ok(())
+}

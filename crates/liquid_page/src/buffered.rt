@@ -1,0 +1,111 @@
+//! The writer of the program: standard output behind a buffer.
+ghost use Rattle.std.specs.Prelude.{◌≡◌, ◌≤◌, length, take, drop, IfOk, OnOk, vec_len};
+ghost use Rattle.std.specs.Io.{WritesAtMost};
+ghost use Rattle.std.specs.Io.KnownBytes.{Keeps, Appends, WriteAppends};
+
+use std::alloc::{AllocError, Global};
+use std::io;
+use std::io::Write;
+
+/// How many bytes are held back at most.
+const ROOM: usize = 65536;
+
+/// Holds small writes back and hands them on in large pieces, in their order. Where the writer behind fails or takes
+/// nothing, nothing is tried again: neither what was held back nor what comes after it.
+#[derive(Drop)]
+pub struct Buffered<W> {
+    writer: W,
+    held: Vec<u8>,
+    failed: bool,
+}
+
+impl<W: Write> Buffered<W> {
+    ghost use Rattle.liquid_page.specs.Buffering.{behind};
+
+    /// A buffer in front of the writer, or `AllocError` where there is no memory for it.
+    pub fn new(alloc: Global, writer: W) -> Result<Buffered<W>, AllocError>
+    where
+        W: Drop,
+        ensures { IfOk result (λ b. Keeps (W.contents writer) (behind W.contents b)) }
+    {
+        Ok(Buffered {
+            writer,
+            held: Vec::with_capacity(alloc, ROOM)?,
+            failed: false,
+        })
+    }
+
+    /// Hands on what is held back, once. After a failure it hands on nothing and fails again.
+    pub fn hand_on(&mut self) -> io::Result<()>
+        ensures bytes { Keeps (behind W.contents self.old) (behind W.contents self.new) }
+        ensures empty { OnOk result (vec_len self.new.held ≡ 0) }
+    {
+        if self.failed {
+            return Err(io::Error::from(io::ErrorKind::BrokenPipe));
+        }
+        let (written, answer) = write_once(self.held.as_slice(), &mut self.writer);
+        remove_front(&mut self.held, written);
+        self.failed = answer.is_err();
+        answer
+    }
+
+    /// Hands on what is longer than the buffer, which is empty.
+    fn write_past(&mut self, bytes: &[u8]) -> io::Result<usize>
+        requires { vec_len self.old.held ≡ 0 }
+        ensures bound { WritesAtMost result bytes.now }
+        ensures bytes { WriteAppends (behind W.contents self.old) (behind W.contents self.new) result bytes.now }
+    {
+        let answer = self.writer.write(bytes);
+        self.failed = !matches!(&answer, Ok(1..));
+        answer
+    }
+}
+
+impl<W: Write> Write for Buffered<W> {
+    ghost use Rattle.liquid_page.specs.Buffering.{behind};
+
+    ghost contents = { behind W.contents };
+
+    fn write(&mut self, bytes: &[u8]) -> io::Result<usize> {
+        if bytes.len() > ROOM.saturating_sub(self.held.len()) {
+            self.hand_on()?;
+        }
+        if self.failed {
+            return Err(io::Error::from(io::ErrorKind::BrokenPipe));
+        }
+        if bytes.len() > ROOM {
+            return self.write_past(bytes);
+        }
+        self.held.extend_from_slice(bytes)?;
+        Ok(bytes.len())
+    }
+
+    fn flush(&mut self) -> io::Result<()> {
+        self.hand_on()?;
+        self.writer.flush()
+    }
+}
+
+/// Writes until all is written or a write fails or takes nothing: how many bytes were written, and whether that is all.
+fn write_once<W: Write>(bytes: &[u8], writer: &mut W) -> (usize, io::Result<()>)
+    ensures bound { result.0 ≤ length bytes.now }
+    ensures all { OnOk result.1 (result.0 ≡ length bytes.now) }
+    ensures bytes { Appends (W.contents writer.old) (W.contents writer.new) (take result.0 bytes.now) }
+{
+    let mut written = 0;
+    while written < bytes.len() {
+        match writer.write(&bytes[written..]) {
+            Ok(0) => return (written, Err(io::Error::from(io::ErrorKind::WriteZero))),
+            Ok(n) => written += n,
+            Err(refused) => return (written, Err(refused)),
+        }
+    }
+    (written, Ok(()))
+}
+
+fn remove_front(held: &mut Vec<u8>, n: usize)
+    requires { n ≤ vec_len held.old }
+    ensures items { held.new.items ≡ drop n held.old.items }
+{
+    drop(held.drain(..n));
+}

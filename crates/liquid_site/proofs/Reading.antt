@@ -1,0 +1,87 @@
+-- What is known where the texts of a page are read, and where they are not.
+use Rattle.std.proofs.Common.{◌≡◌, ℕ, ◌≤◌, List, [], ◌∷◌, Bool, true, false, MatchBool, Option, Some, None, Ok, Err, Result, IsErrAnd, inl, inr, refl, sym, ap, arith, append-nil}
+use Rattle.std.specs.Prelude.{⊤, ◌⊎◌, String}
+use Rattle.std.specs.declared.alloc.Global.{Global}
+use Rattle.std.specs.Io.KnownBytes.{Appends, Keeps}
+use Rattle.liquid_core.specs.Answer.{Faulted}
+use Rattle.liquid_core.specs.Data.{Pairs}
+use Rattle.liquid_core.specs.Told.{is_memory, is_refusal, number_of}
+use Rattle.liquid_core.specs.declared.error.Error.{Error}
+use Rattle.liquid_core.specs.declared.error.ErrorKind.{ErrorKind}
+use Rattle.liquid_core.specs.declared.error.ErrorKind.TheVariants.{Memory, Write}
+use Rattle.liquid_syntax.specs.Tree.{Nodes}
+use Rattle.liquid_syntax.specs.Parsing.{IsOnlyTree, HasNoTree, IsOfSource, ParsesTo}
+use Rattle.liquid_syntax.specs.declared.language.Language.{Language}
+use Rattle.liquid_lib.specs.Added.{AppendsPart}
+use Rattle.liquid_lib.specs.Performs.{answer_of, is_refused, unit}
+use Rattle.liquid_lib.specs.Standard.{IsStandard}
+use Rattle.liquid_site.specs.Json.{data_of}
+use Rattle.liquid_site.specs.Page.{Texts, Sources, HasBadPartial, Read, IsRead, Refused, no_template, no_facts, bad_partial, IsPage, page, no_page, page_outcome}
+use Rattle.liquid_site.specs.Shown.{Reads, ReadsPartials, Shows, RanOut}
+
+-- memory ran out, or else
+unless_memory : {P R : Type 0} (b : Bool) → MatchBool b ⊤ P → (b ≡ false → P → R) → MatchBool b ⊤ R
+unless_memory true h f = tt
+unless_memory false h f = f refl h
+
+-- a kind of a source is no refusal
+of_source : (k : ErrorKind) → IsOfSource k → is_memory k ≡ false → is_refusal k ≡ false
+of_source Memory h not = cc
+of_source Write h not = let low : 21 ≤ 18 = h.0 in absurd (omega arith)
+of_source _ h not = refl
+
+pub template_refused : (l : Language) (texts : Texts) (e : Error) → ParsesTo l texts.template (Err e) → IsOfSource e.kind → Reads l texts (Err e)
+template_refused l texts e parses kinds = unless_memory (is_memory e.kind) parses (λ not none. (no_template none kinds, of_source e.kind kinds not))
+
+pub facts_refused : (l : Language) (texts : Texts) (tree : Nodes) (e : Error) → IsOnlyTree l tree texts.template → Faulted e.kind (data_of texts.facts) → Reads l texts (Err e)
+facts_refused l texts tree e only faulted = unless_memory (is_memory e.kind) faulted (λ not h. (no_facts only h.0, h.1))
+
+pub partials_refused : (l : Language) (texts : Texts) (tree : Nodes) (facts : Pairs) (e : Error) → IsOnlyTree l tree texts.template → data_of texts.facts ≡ Ok facts → ReadsPartials l texts.partials [] (Err e) → Reads l texts (Err e)
+partials_refused l texts tree facts e only read bad = unless_memory (is_memory e.kind) bad (λ not h. (bad_partial only read h.0 h.1, of_source e.kind h.1 not))
+
+pub partial_refused : (l : Language) (sources left : Sources) (source : List ℕ) (e : Error) → ParsesTo l source (Err e) → IsOfSource e.kind → (HasNoTree l source → HasBadPartial l sources) → ReadsPartials l sources [] (Err e)
+partial_refused l sources left source e parses kinds bad = unless_memory (is_memory e.kind) parses (λ not none. (bad none, kinds))
+
+-- ---- the page
+
+kept : (o : Option (List ℕ)) → Keeps o o
+kept None = tt
+kept (Some xs) = refl
+
+nothing_added : (o : Option (List ℕ)) → Appends o o []
+nothing_added None = tt
+nothing_added (Some xs) = sym (append-nil xs)
+
+memory_is : (k : ErrorKind) → is_memory k ≡ true → k ≡ Memory
+memory_is Memory h = refl
+memory_is _ h = absurd cc
+
+Told : Language → Texts → Result (Unit {0}) Error → Option (List ℕ) → Type 0
+Told l texts r o = RanOut r o o ⊎ ((x : Language) × IsStandard x × Shows x texts r o o)
+
+refused_by : (l : Language) (texts : Texts) (e : Error) (o : Option (List ℕ)) (b : Bool) → IsStandard l → is_memory e.kind ≡ b → MatchBool b ⊤ (Refused l texts e.kind × (is_refusal e.kind ≡ false)) → Told l texts (Err e) o
+unfolding Told
+refused_by l texts e o true standard is h = inl (record { told = memory_is e.kind is; kept = kept o })
+refused_by l texts e o false standard is h =
+    inr (
+      l,
+      standard,
+      record {
+        text = [];
+        end = Err e.kind;
+        is_page = no_page h.0;
+        begun = record { front = []; rest = []; whole = refl; appended = nothing_added o };
+        whole = λ not. nothing_added o;
+        ended = λ not. refl;
+      },
+    )
+
+pub refused_shown : (l : Language) (texts : Texts) (e : Error) (o : Option (List ℕ)) → IsStandard l → Reads l texts (Err e) → RanOut (Err e) o o ⊎ ((x : Language) × IsStandard x × Shows x texts (Err e) o o)
+unfolding Told
+refused_shown l texts e o standard h = refused_by l texts e o (is_memory e.kind) standard refl h
+
+pub page_shown : (l : Language) (texts : Texts) (read : Read) (r : Result (Unit {0}) Error) (old new : Option (List ℕ)) → IsStandard l → IsRead l texts read
+    → (is_refused r ≡ false → Appends old new (page_outcome read).text) → (is_refused r ≡ false → answer_of unit r ≡ (page_outcome read).end) → AppendsPart old new (page_outcome read).text
+    → RanOut r old new ⊎ ((x : Language) × IsStandard x × Shows x texts r old new)
+page_shown l texts read r old new standard is whole ended begun =
+    inr (l, standard, record { text = (page_outcome read).text; end = (page_outcome read).end; is_page = page read is; begun = begun; whole = whole; ended = ended })

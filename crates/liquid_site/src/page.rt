@@ -1,0 +1,107 @@
+//! A page of its texts: a template, data and partials.
+ghost use Rattle.std.specs.Prelude.{◌≡◌, ◌<◌, ◌⊎◌, [], false, IfErr, IsErrAnd, string_bytes};
+ghost use Rattle.std.specs.Io.KnownBytes.{Appends};
+ghost use Rattle.liquid_lib.specs.Added.{AppendsPart};
+ghost use Rattle.liquid_lib.specs.Failures.{SomeFailed};
+ghost use Rattle.liquid_lib.specs.Performs.{answer_of, is_refused, unit};
+ghost use Rattle.liquid_lib.specs.Standard.{IsStandard};
+ghost use Rattle.liquid_site.specs.Page.{page_outcome, sources_of};
+ghost use Rattle.liquid_site.specs.Shown.{RanOut, Reads, ReadsPartials, Shows, read_view};
+ghost use Rattle.liquid_syntax.specs.declared.language.Language.{Language};
+
+use crate::json::data_from_json;
+use liquid_core::{ErrorKind, Object, Result};
+use liquid_lib::{CountedWrite, Renderable, RuntimeBuilder, language};
+use liquid_syntax::{Language, Partials, Template, parse};
+use std::alloc::Global;
+
+/// How deep partials may be nested in a page.
+const DEPTH: u32 = 32;
+
+/// The texts of a page, read.
+#[derive(Drop)]
+struct ReadTexts {
+    template: Template,
+    data: Object,
+    partials: Partials,
+}
+
+/// Writes the page of a template, of data in JSON, and of partials by name, of which the later of one name wins.
+///
+/// The template is parsed, then the data is read, then the partials are parsed in their order; the first that isn't read is
+/// the answer, and nothing is written: a kind of a source, or `InvalidInput` or `Float` of the data. Then the page is
+/// rendered in a new runtime, with at most 32 nested partials: the answer is its first fault, and what was written is the
+/// text up to there. `Memory` where a growth was refused, and `Write` where a write failed or took nothing: then a
+/// beginning of the text is written.
+pub fn run<W: CountedWrite>(
+    alloc: Global,
+    template: &str,
+    data: &str,
+    partials: &[(String, String)],
+    writer: &mut W,
+) -> Result<()>
+    ensures page { RanOut result (W.contents writer.old) (W.contents writer.new)
+        ⊎ ((l : Language) × IsStandard l × Shows l (record { template = template.now; facts = «data».now; partials = sources_of partials.now }) result (W.contents writer.old) (W.contents writer.new)) }
+    ensures write { IfErr result (λ e. e.kind ≡ ErrorKind.Write → SomeFailed (W.failure_count writer.old) (W.failure_count writer.new)) }
+    ensures failed { W.failure_count writer.old < W.failure_count writer.new → IsErrAnd result (λ e. (e.kind ≡ ErrorKind.Memory) ⊎ (e.kind ≡ ErrorKind.Write)) }
+{
+    let language = language(alloc)?;
+    let read = read_texts(alloc, &language, template, data, partials)?;
+    show(alloc, read, writer)
+}
+
+/// The three kinds of texts are read in this order.
+fn read_texts(
+    alloc: Global,
+    language: &Language,
+    template: &str,
+    data: &str,
+    partials: &[(String, String)],
+) -> Result<ReadTexts>
+    ensures { Reads language.now (record { template = template.now; facts = «data».now; partials = sources_of partials.now }) result }
+{
+    let template = parse(alloc, template, language)?;
+    let data = data_from_json(alloc, data)?;
+    let partials = read_partials(alloc, language, partials)?;
+    Ok(ReadTexts {
+        template,
+        data,
+        partials,
+    })
+}
+
+fn read_partials(
+    alloc: Global,
+    language: &Language,
+    sources: &[(String, String)],
+) -> Result<Partials>
+    ensures { ReadsPartials language.now (sources_of sources.now) [] result }
+{
+    let mut partials = Partials::new(alloc);
+    for (name, source) in sources {
+        let template = parse(alloc, source.as_str(), language)?;
+        partials.insert(String::from_str(alloc, name.as_str())?, template)?;
+    }
+    Ok(partials)
+}
+
+/// Renders what was read, in a new runtime.
+fn show<W: CountedWrite>(alloc: Global, read: ReadTexts, writer: &mut W) -> Result<()>
+    ensures whole { is_refused result ≡ false → Appends (W.contents writer.old) (W.contents writer.new) (page_outcome (read_view read)).text }
+    ensures end { is_refused result ≡ false → answer_of unit result ≡ (page_outcome (read_view read)).end }
+    ensures begun { AppendsPart (W.contents writer.old) (W.contents writer.new) (page_outcome (read_view read)).text }
+    ensures write { IfErr result (λ e. e.kind ≡ ErrorKind.Write → SomeFailed (W.failure_count writer.old) (W.failure_count writer.new)) }
+    ensures failed { W.failure_count writer.old < W.failure_count writer.new → IsErrAnd result (λ e. (e.kind ≡ ErrorKind.Memory) ⊎ (e.kind ≡ ErrorKind.Write)) }
+{
+    let ReadTexts {
+        template,
+        data,
+        partials,
+    } = read;
+    let mut runtime = RuntimeBuilder::new(alloc)
+        .set_globals(data)
+        .set_partials(&partials)
+        .set_depth(DEPTH)
+        .build(alloc);
+    template.render_to(alloc, writer, &mut runtime)
+}

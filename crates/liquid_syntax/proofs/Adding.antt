@@ -1,0 +1,32 @@
+-- The next piece, on the code's stack of open blocks.
+use Rattle.std.proofs.Common.{◌≡◌, ◌<◌, List, [], ◌∷◌, Bool, true, false, cond, Some, None, sym, ap, ◌∙◌}
+use Rattle.liquid_syntax.specs.Tree.{Nodes, no_nodes}
+use Rattle.liquid_syntax.specs.Flats.{flat_of}
+use Rattle.liquid_syntax.specs.OpenBlocks.{begun, ended, Level, level, depth, deeper, with_node, close, step}
+use Rattle.liquid_syntax.specs.Building.{IsStack, Closes, label_view, opening}
+use Rattle.liquid_syntax.specs.declared.block.Block.{Block}
+use Rattle.liquid_syntax.specs.declared.build.Builder.{Builder}
+use Rattle.liquid_syntax.specs.declared.build.Label.{Label}
+use Rattle.liquid_syntax.specs.declared.build.Label.TheVariants as labels
+use Rattle.liquid_syntax.specs.declared.build.Stage.{Stage}
+use Rattle.liquid_syntax.specs.declared.node.Node as code
+use Rattle.liquid_syntax.proofs.NestingLaws.{is_room}
+
+-- one block of a chain of `elsif` has ended
+pub chain_step : (b : Builder) (chained around : Bool) (ls ms : List Level) (cur now : Nodes) → chained ≡ true → close true ls cur ≡ close chained ms now → depth ls ≡ deeper chained (depth ms) → Closes ms now b (Some around)
+    → (ns : List Level) × (later : Nodes) × IsStack b ns later × (close true ls cur ≡ close around ns later) × (depth ls ≡ deeper around (depth ns))
+chain_step b chained around ls [] cur now t e d h = absurd h
+chain_step b chained around ls (level r f k ∷ ms) cur now t e d h =
+    let c = with_node f (ended r now) in
+    let e' : close true ls cur ≡ close k ms c = e ∙ ap (λ (x : Bool). close x (level r f k ∷ ms) now) t in
+    let d' : depth ls ≡ deeper k (depth ms) = d ∙ ap (λ (x : Bool). deeper x (deeper k (depth ms))) t in
+    (ms, c, h.1, e' ∙ ap (λ (x : Bool). close x ms c) (sym h.0), d' ∙ ap (λ (x : Bool). deeper x (depth ms)) (sym h.0))
+
+pub chain_none : (b : Builder) (chained : Bool) (ls ms : List Level) (cur now : Nodes) → chained ≡ true → close true ls cur ≡ close chained ms now → Closes ms now b None → close true ls cur ≡ None
+chain_none b chained ls [] cur now t e h = e ∙ ap (λ (x : Bool). close x [] now) t
+chain_none b chained ls (level r f k ∷ ms) cur now t e h = absurd h
+
+pub begins_step : (b : Block) (stage : Stage) (n : code.Node) (label : Label) (ls : List Level) (cur : Nodes) → label ≡ labels.Begins b stage n → depth ls < 200
+    → step (label_view label) ls cur ≡ Some (level (begun (opening b stage (flat_of n))) cur false ∷ ls, no_nodes)
+begins_step b stage n label ls cur is room =
+    ap (λ (l : Label). step (label_view l) ls cur) is ∙ ap (λ (x : Bool). cond x (Some (level (begun (opening b stage (flat_of n))) cur false ∷ ls, no_nodes)) None) (is_room (depth ls) room)

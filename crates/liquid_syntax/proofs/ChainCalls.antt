@@ -1,0 +1,197 @@
+-- The loops over a chain's tokens, a turn at a time.
+use Rattle.std.proofs.Common.{◌≡◌, ℕ, suc, List, [], ◌∷◌, ◌++◌, length, Bool, true, false, nat_eq, cond, Option, Some, None, refl, sym, ap, ◌∙◌, map, append_assoc, arith, rules}
+use Rattle.std.proofs.lemmas.List.{append-nil}
+use Rattle.std.specs.Option.{option_and_then, option_map}
+use Rattle.liquid_core.specs.Texts.{Text}
+use Rattle.liquid_core.specs.Maps.{listed}
+use Rattle.liquid_core.specs.Expression.{Expression, literal, variable, no_steps, step}
+use Rattle.liquid_syntax.specs.Tree.{FilterCall}
+use Rattle.liquid_syntax.specs.Readers.{Fails, IsFault}
+use Rattle.liquid_syntax.specs.Tokens.{Token, value, range, symbol, tokens_view, word_of, word_in, value_first, word_first, is_symbol, past}
+use Rattle.liquid_syntax.specs.Chains.{Filters}
+use Rattle.liquid_syntax.specs.ChainReading.{Called, accepted_call, call_with, filters_of, call_of, called_of, arguments_of, further_of, no_arguments, one_argument}
+use Rattle.liquid_syntax.specs.declared.item.Item.{Item}
+use Rattle.liquid_syntax.specs.declared.symbol.Symbol.TheVariants.{Colon, Comma, Bar}
+use Rattle.liquid_syntax.specs.declared.fault.ParseError.{ParseError}
+use Rattle.liquid_syntax.specs.declared.fault.ParseError.TheVariants as errors
+
+-- ---- what is left of a list of items
+
+pub left_over : (is : List Item) → nat_eq (length is) 0 ≡ false → length (tokens_view is) ≡ 0 → ⊥
+left_over [] h = absurd cc
+left_over (i ∷ is) h = λ e. absurd (omega (arith, e))
+
+pub none_left : (is : List Item) → nat_eq (length is) 0 ≡ true → tokens_view is ≡ []
+none_left [] h = refl
+none_left (i ∷ is) h = let e : nat_eq (suc (length is)) 0 ≡ false = search rules in absurd cc
+
+-- ---- arguments
+
+-- what was read, behind the arguments xs
+pub behind : List Expression → Option Called → Option Called
+behind xs o = option_map (λ c. (xs ++ c.0, c.1)) o
+
+pub behind_nothing : (o : Option Called) → o ≡ behind [] o
+unfolding behind
+behind_nothing None = refl
+behind_nothing (Some c) = refl
+
+behind_last : (xs : List Expression) (x : Expression) (o : Option Called) → behind xs (one_argument x o) ≡ behind (xs ++ (x ∷ [])) o
+unfolding behind
+behind_last xs x None = refl
+behind_last xs x (Some c) = ap (λ ys. Some (ys, c.1)) (sym (append_assoc xs (x ∷ []) c.0))
+
+behind_none : (xs : List Expression) (o : Option (List FilterCall)) → behind xs (no_arguments o) ≡ option_map (λ calls. (xs, calls)) o
+unfolding behind
+behind_none xs None = refl
+behind_none xs (Some calls) = ap (λ ys. Some (ys, calls)) (append-nil xs)
+
+module _ (known : Filters) where
+  not_colon_by : (t : Token) (ts : List Token) (b : Bool) → is_symbol Colon t ≡ b → cond b (Some ts) None ≡ None → called_of known (t ∷ ts) ≡ no_arguments (filters_of known (t ∷ ts))
+  unfolding filters_of
+  not_colon_by t ts true e h = absurd cc
+  not_colon_by t ts false e h = ap (λ (b : Bool). cond b (arguments_of known ts) (no_arguments (cond (is_symbol Bar t) (call_of known ts) None))) e
+
+  pub not_colon : (ts : List Token) → past Colon ts ≡ None → called_of known ts ≡ no_arguments (filters_of known ts)
+  unfolding filters_of
+  not_colon [] h = refl
+  not_colon (t ∷ ts) h = not_colon_by t ts (is_symbol Colon t) refl h
+
+  colon_by : (t : Token) (ts rest : List Token) (b : Bool) → is_symbol Colon t ≡ b → cond b (Some ts) None ≡ Some rest → called_of known (t ∷ ts) ≡ arguments_of known rest
+  unfolding filters_of
+  colon_by t ts rest true e h = let r : ts ≡ rest = cc in ap (λ (b : Bool). cond b (arguments_of known ts) (no_arguments (cond (is_symbol Bar t) (call_of known ts) None))) e ∙ ap (arguments_of known) r
+  colon_by t ts rest false e h = absurd cc
+
+  pub colon : (ts rest : List Token) → past Colon ts ≡ Some rest → called_of known ts ≡ arguments_of known rest
+  colon [] rest h = absurd cc
+  colon (t ∷ ts) rest h = colon_by t ts rest (is_symbol Colon t) refl h
+
+  not_comma_by : (t : Token) (ts : List Token) (b : Bool) → is_symbol Comma t ≡ b → cond b (Some ts) None ≡ None → further_of known (t ∷ ts) ≡ no_arguments (filters_of known (t ∷ ts))
+  unfolding filters_of
+  not_comma_by t ts true e h = absurd cc
+  not_comma_by t ts false e h = ap (λ (b : Bool). cond b (arguments_of known ts) (no_arguments (cond (is_symbol Bar t) (call_of known ts) None))) e
+
+  not_comma : (ts : List Token) → past Comma ts ≡ None → further_of known ts ≡ no_arguments (filters_of known ts)
+  unfolding filters_of
+  not_comma [] h = refl
+  not_comma (t ∷ ts) h = not_comma_by t ts (is_symbol Comma t) refl h
+
+  comma_by : (t : Token) (ts rest : List Token) (b : Bool) → is_symbol Comma t ≡ b → cond b (Some ts) None ≡ Some rest → further_of known (t ∷ ts) ≡ arguments_of known rest
+  unfolding filters_of
+  comma_by t ts rest true e h = let r : ts ≡ rest = cc in ap (λ (b : Bool). cond b (arguments_of known ts) (no_arguments (cond (is_symbol Bar t) (call_of known ts) None))) e ∙ ap (arguments_of known) r
+  comma_by t ts rest false e h = absurd cc
+
+  comma : (ts rest : List Token) → past Comma ts ≡ Some rest → further_of known ts ≡ arguments_of known rest
+  comma [] rest h = absurd cc
+  comma (t ∷ ts) rest h = comma_by t ts rest (is_symbol Comma t) refl h
+
+  abbrev argument_first : Expression × List Token → Option Called
+  argument_first x = one_argument x.0 (further_of known x.1)
+
+  arguments_first : (ts : List Token) → arguments_of known ts ≡ option_and_then argument_first (value_first ts)
+  unfolding filters_of
+  arguments_first [] = refl
+  arguments_first (value x ∷ ts) = refl
+  arguments_first (range x y ∷ ts) = refl
+  arguments_first (symbol s ∷ ts) = refl
+
+  pub no_value : (xs : List Expression) (ts : List Token) → value_first ts ≡ None → behind xs (arguments_of known ts) ≡ None
+  unfolding behind
+  no_value xs ts h = ap (behind xs) (arguments_first ts ∙ ap (option_and_then argument_first) h)
+
+  pub one_argument_more : (xs : List Expression) (x : Expression) (all ts rest : List Token) → value_first all ≡ Some (x, ts) → past Comma ts ≡ Some rest → behind xs (arguments_of known all) ≡ behind (xs ++ (x ∷ [])) (arguments_of known rest)
+  one_argument_more xs x all ts rest e h = ap (behind xs) (arguments_first all ∙ ap (option_and_then argument_first) e) ∙ behind_last xs x (further_of known ts) ∙ ap (behind (xs ++ (x ∷ []))) (comma ts rest h)
+
+  pub last_argument : (xs : List Expression) (x : Expression) (all ts : List Token) → value_first all ≡ Some (x, ts) → past Comma ts ≡ None → behind xs (arguments_of known all) ≡ option_map (λ calls. (xs ++ (x ∷ []), calls)) (filters_of known ts)
+  last_argument xs x all ts e h =
+      ap (behind xs) (arguments_first all ∙ ap (option_and_then argument_first) e) ∙ behind_last xs x (further_of known ts) ∙ ap (behind (xs ++ (x ∷ []))) (not_comma ts h) ∙ behind_none (xs ++ (x ∷ [])) (filters_of known ts)
+
+  -- ---- filters
+
+  -- what was read, behind the filters that stood before
+  pub filters_behind : List FilterCall → Option (List FilterCall) → Option (List FilterCall)
+  filters_behind before o = option_map (λ calls. before ++ calls) o
+
+  pub filters_nothing : (o : Option (List FilterCall)) → o ≡ filters_behind [] o
+  unfolding filters_behind
+  filters_nothing None = refl
+  filters_nothing (Some calls) = refl
+
+  pub no_filter : (before : List FilterCall) (ts : List Token) → ts ≡ [] → filters_behind before (filters_of known ts) ≡ Some before
+  unfolding filters_behind filters_of
+  no_filter before ts e = ap (λ ts. filters_behind before (filters_of known ts)) e ∙ ap Some (append-nil before)
+
+  abbrev pub called_with : Text × List Token → Option (List FilterCall)
+  called_with w = option_and_then (call_with known w.0) (called_of known w.1)
+
+  call_first : (ts : List Token) → call_of known ts ≡ option_and_then called_with (word_first ts)
+  unfolding filters_of
+  call_first [] = refl
+  call_first (symbol s ∷ ts) = refl
+  call_first (range x y ∷ ts) = refl
+  call_first (value (literal d) ∷ ts) = refl
+  call_first (value (variable w no_steps) ∷ ts) = refl
+  call_first (value (variable w (step x more)) ∷ ts) = refl
+
+  bar_by : (t : Token) (ts : List Token) (b : Bool) (o : Option (List Token)) → is_symbol Bar t ≡ b → cond b (Some ts) None ≡ o → filters_of known (t ∷ ts) ≡ option_and_then (call_of known) o
+  unfolding filters_of
+  bar_by t ts true o e h = ap (λ (b : Bool). cond b (call_of known ts) None) e ∙ ap (option_and_then (call_of known)) h
+  bar_by t ts false o e h = ap (λ (b : Bool). cond b (call_of known ts) None) e ∙ ap (option_and_then (call_of known)) h
+
+  filters_first : (ts : List Token) (o : Option (List Token)) → (length ts ≡ 0 → ⊥) → past Bar ts ≡ o → filters_of known ts ≡ option_and_then (call_of known) o
+  filters_first [] o some h = absurd (some refl)
+  filters_first (t ∷ ts) o some h = bar_by t ts (is_symbol Bar t) o refl h
+
+  pub no_bar : (before : List FilterCall) (ts : List Token) → (length ts ≡ 0 → ⊥) → past Bar ts ≡ None → filters_behind before (filters_of known ts) ≡ None
+  unfolding filters_behind
+  no_bar before ts some h = ap (filters_behind before) (filters_first ts None some h)
+
+  module _ (before : List FilterCall) (all ts : List Token) (some : length all ≡ 0 → ⊥) (barred : past Bar all ≡ Some ts) where
+    at_word : (o : Option (Text × List Token)) → word_first ts ≡ o → filters_of known all ≡ option_and_then called_with o
+    at_word o h = filters_first all (Some ts) some barred ∙ call_first ts ∙ ap (option_and_then called_with) h
+
+    pub no_name : word_first ts ≡ None → filters_behind before (filters_of known all) ≡ None
+    unfolding filters_behind
+    no_name h = ap (filters_behind before) (at_word None h)
+
+    module _ (name : Text) (next : List Token) (named : word_first ts ≡ Some (name, next)) where
+      pub no_call : called_of known next ≡ None → filters_behind before (filters_of known all) ≡ None
+      unfolding filters_behind
+      no_call h = ap (filters_behind before) (at_word (Some (name, next)) named ∙ ap (option_and_then (call_with known name)) h)
+
+      -- behind a filter with these arguments
+      with_call : (xs : List Expression) (o : Option (List FilterCall)) (call : Option FilterCall) → accepted_call (listed known name) xs ≡ call → called_of known next ≡ option_map (λ calls. (xs, calls)) o
+          → filters_of known all ≡ option_and_then (λ calls. option_map (λ c. c ∷ calls) call) o
+      with_call xs None call e h = at_word (Some (name, next)) named ∙ ap (option_and_then (call_with known name)) h
+      with_call xs (Some calls) call e h = at_word (Some (name, next)) named ∙ ap (option_and_then (call_with known name)) h ∙ ap (option_map (λ c. c ∷ calls)) e
+
+      nothing_left : (o : Option (List FilterCall)) → option_and_then (λ calls. option_map (λ (c : FilterCall). c ∷ calls) None) o ≡ None
+      nothing_left None = refl
+      nothing_left (Some calls) = refl
+
+      one_left : (o : Option (List FilterCall)) (c : FilterCall) → filters_behind before (option_and_then (λ calls. option_map (λ (c : FilterCall). c ∷ calls) (Some c)) o) ≡ filters_behind (before ++ (c ∷ [])) o
+      unfolding filters_behind
+      one_left None c = refl
+      one_left (Some calls) c = ap (λ cs. Some cs) (sym (append_assoc before (c ∷ []) calls))
+
+      pub unaccepted : (xs : List Expression) (o : Option (List FilterCall)) → accepted_call (listed known name) xs ≡ None → called_of known next ≡ option_map (λ calls. (xs, calls)) o → filters_behind before (filters_of known all) ≡ None
+      unfolding filters_behind
+      unaccepted xs o e h = ap (filters_behind before) (with_call xs o None e h ∙ nothing_left o)
+
+      pub one_filter : (xs : List Expression) (o : Option (List FilterCall)) (c : FilterCall) → accepted_call (listed known name) xs ≡ Some c → called_of known next ≡ option_map (λ calls. (xs, calls)) o
+          → filters_behind before (filters_of known all) ≡ filters_behind (before ++ (c ∷ [])) o
+      one_filter xs o c e h = ap (filters_behind before) (with_call xs o (Some c) e h) ∙ one_left o c
+
+      pub call_refused : (e : ParseError) (whole : Option (List FilterCall)) → whole ≡ filters_behind before (filters_of known all) → Fails e (called_of known next) → Fails e whole
+      call_refused errors.Memory whole g h = tt
+      call_refused (errors.Fault f) whole g h = g ∙ no_call h
+
+      pub acceptance_refused : (xs : List Expression) (o : Option (List FilterCall)) (e : ParseError) (whole : Option (List FilterCall)) → whole ≡ filters_behind before (filters_of known all)
+          → called_of known next ≡ option_map (λ calls. (xs, calls)) o → Fails e (accepted_call (listed known name) xs) → Fails e whole
+      acceptance_refused xs o errors.Memory whole g h r = tt
+      acceptance_refused xs o (errors.Fault f) whole g h r = g ∙ unaccepted xs o r h
+
+-- a fault tells that there is nothing to read
+pub faulted : {Y : Type 0} (e : ParseError) (read : Option Y) → IsFault e → read ≡ None → Fails e read
+faulted errors.Memory read fault none = absurd fault
+faulted (errors.Fault f) read fault none = none

@@ -1,0 +1,60 @@
+-- A source is read as just the tree that the written grammar gives it.
+use Rattle.std.proofs.Common.{◌≡◌, ℕ, ◌≤◌, List, [], ◌∷◌, length, Bool, false, Option, Some, None, refl, sym, ap, ◌∙◌, arith}
+use Rattle.std.specs.Option.{option_and_then}
+use Rattle.liquid_core.specs.Texts.{Text}
+use Rattle.liquid_syntax.specs.Judging.{reads}
+use Rattle.liquid_syntax.specs.Nesting.{Label, leaf, refused}
+use Rattle.liquid_syntax.specs.OpenBlocks.{Level, State, place_of, step, at_end, go, read}
+use Rattle.liquid_syntax.specs.Pieces.{Piece, text, output, tag, raw, comment}
+use Rattle.liquid_syntax.specs.SourceReading.{all_steps, source_at, Wanted, TakesWanted}
+use Rattle.liquid_syntax.specs.Parsing.{IsTemplate, IsOnlyTree, HasNoTree, body_of, piece_step, begun_with, template_at}
+use Rattle.liquid_syntax.specs.Tree.{Nodes, no_nodes}
+use Rattle.liquid_syntax.specs.declared.language.Language.{Language}
+use Rattle.liquid_syntax.proofs.NestingLaws.{tree_takes, tree_again}
+use Rattle.liquid_syntax.proofs.SourceLaws.{source_takes, source_again}
+
+from_some : {A : Type 0} {x y : A} → Some x ≡ Some y → x ≡ y
+from_some h = cc
+
+some_of : {A B : Type 0} (o : Option A) (f : A → Option B) (y : B) → option_and_then f o ≡ Some y → (x : A) × (o ≡ Some x) × (f x ≡ Some y)
+some_of None f y h = absurd cc
+some_of (Some x) f y h = (x, refl, h)
+
+module _ (l : Language) where
+  -- the pieces that the machine takes have bodies only as it wants them
+  agrees : TakesWanted (body_of l) (piece_step l)
+  agrees s next (text t) h = tt
+  agrees s next (output is) h = tt
+  agrees s next (tag w []) h = refl
+  agrees s next (tag w (i ∷ is)) h = tt
+  agrees s next (raw w t) h = absurd cc
+  agrees s next (comment w) h = absurd cc
+
+  -- one piece after another, and then the end
+  steps_read : (ps : List Piece) (ls : List Level) (cur : Nodes) → option_and_then (λ s. at_end s.0 s.1) (all_steps (piece_step l) ps (ls, cur)) ≡ read (reads l) ps ls cur
+  steps_read [] ls cur = refl
+  steps_read (p ∷ ps) ls cur = on (step (reads l (place_of ls) p) ls cur) (λ s. steps_read ps s.0 s.1)
+    where
+      on : (o : Option State) → ((s : State) → option_and_then (λ s. at_end s.0 s.1) (all_steps (piece_step l) ps s) ≡ read (reads l) ps s.0 s.1)
+          → option_and_then (λ s. at_end s.0 s.1) (option_and_then (all_steps (piece_step l) ps) o) ≡ go (read (reads l) ps) o
+      on None more = refl
+      on (Some s) more = more s
+
+  pub template_takes : (t : Nodes) (source : Text) → template_at l source ≡ Some t → IsTemplate l t source
+  unfolding template_at IsTemplate
+  template_takes t source h =
+      let (s, at_s, ends) = some_of (source_at (body_of l) (piece_step l) (length source) false begun_with source) (λ s. at_end s.0 s.1) t h in
+      let (ps, is, steps) = source_takes (body_of l) (piece_step l) (length source) false begun_with source s at_s in
+      (ps, is, tree_takes (reads l) t ps (sym (steps_read ps [] no_nodes) ∙ ap (option_and_then (λ s. at_end s.0 s.1)) steps ∙ ends))
+
+  pub template_again : (t : Nodes) (source : Text) → IsTemplate l t source → template_at l source ≡ Some t
+  unfolding template_at IsTemplate
+  template_again t source (ps, is, nodes) =
+      let (s, steps, ends) = some_of (all_steps (piece_step l) ps begun_with) (λ s. at_end s.0 s.1) t (steps_read ps [] no_nodes ∙ tree_again (reads l) t ps nodes) in
+      ap (option_and_then (λ s. at_end s.0 s.1)) (source_again (body_of l) (piece_step l) agrees is (length source) (omega arith) begun_with s steps) ∙ ends
+
+  pub only_tree : (t : Nodes) (source : Text) → template_at l source ≡ Some t → IsOnlyTree l t source
+  only_tree t source h = λ u. (λ is. from_some (sym (template_again u source is) ∙ h), λ e. template_takes u source (h ∙ ap Some (sym e)))
+
+  pub no_tree : (source : Text) → template_at l source ≡ None → HasNoTree l source
+  no_tree source h t is = let e = sym h ∙ template_again t source is in absurd cc

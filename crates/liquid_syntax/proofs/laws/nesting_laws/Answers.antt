@@ -1,0 +1,8 @@
+use Rattle.liquid_syntax.proofs.NestingLaws.{tree_takes, tree_again, one_tree}
+use Rattle.liquid_syntax.proofs.laws.nesting_laws.Goals as goal
+
+pub returns-clause-reads : goal.returns-clause-reads
+returns-clause-reads c = λ reads ps t. (tree_takes reads t ps, tree_again reads t ps)
+
+pub returns-clause-unique : goal.returns-clause-unique
+returns-clause-unique c = λ reads ps t u. one_tree reads t u ps

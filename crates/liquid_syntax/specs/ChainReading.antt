@@ -1,0 +1,62 @@
+-- Reading a chain from tokens, one after another.
+use Rattle.std.specs.Prelude.{List, [], ◌∷◌, length, cond, Option, Some, None}
+use Rattle.std.specs.Option.{option_and_then, option_map}
+use Rattle.liquid_core.specs.Texts.{Text}
+use Rattle.liquid_core.specs.Maps.{listed}
+use Rattle.liquid_core.specs.Expression.{Expression}
+use Rattle.liquid_filters.specs.Kinds.{kind_counts}
+use Rattle.liquid_filters.specs.declared.kind.FilterKind.{FilterKind}
+use Rattle.liquid_syntax.specs.Tree.{FilterCall, Chain}
+use Rattle.liquid_syntax.specs.Tokens.{Token, value, symbol, if_value, word_of, is_symbol}
+use Rattle.liquid_syntax.specs.Chains.{Filters}
+use Rattle.liquid_syntax.specs.declared.symbol.Symbol.TheVariants.{Colon, Comma, Bar}
+
+-- arguments, and the filters behind them
+abbrev pub Called : Type 0
+Called = List Expression × List FilterCall
+
+-- a filter with these arguments, where one is registered and accepts their number
+abbrev pub accepted_call : Option FilterKind → List Expression → Option FilterCall
+accepted_call None xs = None
+accepted_call (Some kind) xs = cond (kind_counts kind (length xs)) (Some (record { filter = kind; arguments = xs })) None
+
+abbrev pub no_arguments : Option (List FilterCall) → Option Called
+no_arguments o = option_map (λ calls. ([], calls)) o
+
+abbrev pub one_argument : Expression → Option Called → Option Called
+one_argument x o = option_map (λ c. (x ∷ c.0, c.1)) o
+
+module _ (known : Filters) where
+  abbrev pub call_with : Text → Called → Option (List FilterCall)
+  call_with name c = option_map (λ call. call ∷ c.1) (accepted_call (listed known name) c.0)
+
+  -- each eats one token, and answers what all that is left gives
+  unfoldable mutual
+    -- filters, up to the end
+    pub filters_of : List Token → Option (List FilterCall)
+    filters_of [] = Some []
+    filters_of (t ∷ ts) = cond (is_symbol Bar t) (call_of ts) None
+
+    -- behind a `|`
+    pub call_of : List Token → Option (List FilterCall)
+    call_of [] = None
+    call_of (t ∷ ts) = option_and_then (λ name. option_and_then (call_with name) (called_of ts)) (word_of t)
+
+    -- behind a filter's name
+    pub called_of : List Token → Option Called
+    called_of [] = Some ([], [])
+    called_of (t ∷ ts) = cond (is_symbol Colon t) (arguments_of ts) (no_arguments (cond (is_symbol Bar t) (call_of ts) None))
+
+    -- behind a `:` or a `,`
+    pub arguments_of : List Token → Option Called
+    arguments_of [] = None
+    arguments_of (t ∷ ts) = if_value t (λ x. one_argument x (further_of ts))
+
+    -- behind an argument
+    pub further_of : List Token → Option Called
+    further_of [] = Some ([], [])
+    further_of (t ∷ ts) = cond (is_symbol Comma t) (arguments_of ts) (no_arguments (cond (is_symbol Bar t) (call_of ts) None))
+
+  unfoldable pub chain_of : List Token → Option Chain
+  chain_of [] = None
+  chain_of (t ∷ ts) = if_value t (λ x. option_map (λ calls. record { entry = x; filters = calls }) (filters_of ts))

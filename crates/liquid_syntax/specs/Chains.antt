@@ -1,0 +1,35 @@
+-- The written grammar of chains: which tokens a chain is.
+use Rattle.std.specs.Prelude.{◌≡◌, List, [], ◌∷◌, ◌++◌, length, IsTrue, Some}
+use Rattle.liquid_core.specs.Texts.{Text}
+use Rattle.liquid_core.specs.Maps.{listed}
+use Rattle.liquid_core.specs.Expression.{Expression}
+use Rattle.liquid_filters.specs.Kinds.{kind_counts}
+use Rattle.liquid_filters.specs.declared.kind.FilterKind.{FilterKind}
+use Rattle.liquid_syntax.specs.Tree.{FilterCall, Chain}
+use Rattle.liquid_syntax.specs.Tokens.{Token, value, symbol, word}
+use Rattle.liquid_syntax.specs.declared.symbol.Symbol.TheVariants.{Colon, Comma, Bar}
+
+-- the filters that are registered, by name
+abbrev pub Filters : Type 0
+Filters = List (Text × FilterKind)
+
+-- `, v` for each
+abbrev pub further_arguments : List Expression → List Token
+further_arguments [] = []
+further_arguments (x ∷ xs) = symbol Comma ∷ value x ∷ further_arguments xs
+
+-- `: v, v ..`, or nothing
+abbrev pub arguments : List Expression → List Token
+arguments [] = []
+arguments (x ∷ xs) = symbol Colon ∷ value x ∷ further_arguments xs
+
+-- `| name: v, v ..` for each: the name is registered, and the filter accepts the number of arguments
+pub data AreFilters (known : Filters) : List FilterCall → List Token → Type 0 where
+  none : AreFilters known [] []
+  filter : {kind : FilterKind} {xs : List Expression} {calls : List FilterCall} {ts : List Token} (name : Text)
+      → listed known name ≡ Some kind → IsTrue (kind_counts kind (length xs)) → AreFilters known calls ts
+      → AreFilters known (record { filter = kind; arguments = xs } ∷ calls) (symbol Bar ∷ word name ∷ (arguments xs ++ ts))
+
+-- a value, and filters
+abbrev pub IsChain : Filters → Chain → List Token → Type 0
+IsChain known chain ts = (rest : List Token) × (ts ≡ value chain.entry ∷ rest) × AreFilters known chain.filters rest

@@ -1,0 +1,31 @@
+-- trees with heads of any type
+use Rattle.std.specs.Prelude.{ℕ, suc, ◌+◌}
+
+mutual
+  pub data Forest (A : Type 0) : Type 0 where
+    empty : Forest A
+    node : A → Bodies A → Forest A → Forest A
+
+  pub data Bodies (A : Type 0) : Type 0 where
+    no_bodies : Bodies A
+    body : Forest A → Bodies A → Bodies A
+
+-- how many nodes there are, in all depths
+abbrev mutual
+  pub size : {A : Type 0} → Forest A → ℕ
+  size empty = 0
+  size (node h bs rest) = suc (sizes bs + size rest)
+
+  pub sizes : {A : Type 0} → Bodies A → ℕ
+  sizes no_bodies = 0
+  sizes (body f bs) = size f + sizes bs
+
+-- one forest after another
+abbrev pub append : {A : Type 0} → Forest A → Forest A → Forest A
+append empty g = g
+append (node h bs rest) g = node h bs (append rest g)
+
+-- the forests of the bodies, one after another
+abbrev pub joined : {A : Type 0} → Bodies A → Forest A
+joined no_bodies = empty
+joined (body f bs) = append f (joined bs)

@@ -1,0 +1,10 @@
+-- What it is to take a symbol off the front.
+use Rattle.std.specs.Prelude.{◌≡◌, ◌<◌, Bool, true, false, List, Some, None, length}
+use Rattle.liquid_syntax.specs.Tokens.{tokens_view, past}
+use Rattle.liquid_syntax.specs.declared.item.Item.{Item}
+use Rattle.liquid_syntax.specs.declared.symbol.Symbol.{Symbol}
+
+-- whether a symbol was taken off the front
+abbrev pub Skips : Symbol → List Item → List Item → Bool → Type 0
+Skips s old new true = (past s (tokens_view old) ≡ Some (tokens_view new)) × (length new < length old)
+Skips s old new false = (past s (tokens_view old) ≡ None) × (new ≡ old)

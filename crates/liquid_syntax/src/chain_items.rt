@@ -1,0 +1,120 @@
+//! Chains, read from the items of a piece.
+ghost use Rattle.std.specs.Prelude.{◌≡◌, ◌≤◌, length, map};
+ghost use Rattle.liquid_core.specs.ExpressionView.{expression_view};
+ghost use Rattle.liquid_core.specs.Maps.{listed};
+ghost use Rattle.liquid_syntax.specs.Called.{Calls};
+ghost use Rattle.liquid_syntax.specs.ChainReading.{accepted_call, filters_of, chain_of};
+ghost use Rattle.liquid_syntax.specs.Chains.{Filters};
+ghost use Rattle.liquid_syntax.specs.ChainView.{chain_view, chain_filter_view};
+ghost use Rattle.liquid_syntax.specs.Languages.{kinds_of};
+ghost use Rattle.liquid_syntax.specs.Readers.{Parses, IsFault};
+ghost use Rattle.liquid_syntax.specs.Tokens.{tokens_view};
+
+use crate::chain::{ChainFilter, FilterChain};
+use crate::fault::{Fault, FaultKind, ParseError};
+use crate::item::Item;
+use crate::language::Registry;
+use crate::symbol::Symbol;
+use crate::tokens::{is_over, next_value, next_word, skip};
+use liquid_core::{Expression, Filter};
+use liquid_filters::FilterKind;
+use std::alloc::Global;
+use std::collections::VecDeque;
+
+/// A chain of all the items: a value, and any number of filters behind it. `at` is the source from the piece on.
+#[tactic(auto, unfolding(crate::specs::ChainReading::chain_of))]
+pub fn read_chain(
+    alloc: Global,
+    filters: &Registry<FilterKind>,
+    items: VecDeque<Item<'_>>,
+    at: &str,
+) -> Result<FilterChain, ParseError>
+    ensures { Parses chain_view result (chain_of (kinds_of filters.now) (tokens_view items.entry.items)) }
+{
+    let mut items = items;
+    let Some(entry) = next_value(&mut items) else {
+        return Err(expected(at, "a value"));
+    };
+    let filters = read_filters(alloc, filters, &mut items, at)?;
+    Ok(FilterChain { entry, filters })
+}
+
+/// The filters that all the items are.
+fn read_filters(
+    alloc: Global,
+    known: &Registry<FilterKind>,
+    items: &mut VecDeque<Item<'_>>,
+    at: &str,
+) -> Result<Vec<ChainFilter>, ParseError>
+    ensures { Parses (λ fs. map chain_filter_view fs.items) result (filters_of (kinds_of known.now) (tokens_view items.old.items)) }
+{
+    let mut filters = Vec::new(alloc);
+    'filters: while !is_over(items) {
+        if !skip(items, Symbol::Bar) {
+            return Err(expected(at, "`|` or the end of the chain"));
+        }
+        let Some(name) = next_word(items) else {
+            return Err(expected(at, "the name of a filter"));
+        };
+        let arguments = read_arguments(alloc, items, at)?;
+        filters.push(accepted(known, name.as_str(), arguments, at)?)?;
+    }
+    Ok(filters)
+}
+
+/// The filter of the name with these arguments, where one is registered and takes their number.
+fn accepted(
+    known: &Registry<FilterKind>,
+    name: &str,
+    arguments: Vec<Expression>,
+    at: &str,
+) -> Result<ChainFilter, ParseError>
+    ensures { Parses chain_filter_view result (accepted_call (listed (kinds_of known.now) name.now) (map expression_view arguments.items)) }
+{
+    let Some(filter) = known.get(name) else {
+        return Err(ParseError::Fault(Fault::new(
+            FaultKind::UnknownFilter,
+            at,
+            "a registered filter",
+        )));
+    };
+    if !filter.accepts(arguments.len()) {
+        return Err(ParseError::Fault(Fault::new(
+            FaultKind::FilterArguments,
+            at,
+            "a number of arguments that the filter takes",
+        )));
+    }
+    Ok(ChainFilter { filter, arguments })
+}
+
+/// The arguments behind a filter's name.
+fn read_arguments(
+    alloc: Global,
+    items: &mut VecDeque<Item<'_>>,
+    at: &str,
+) -> Result<Vec<Expression>, ParseError>
+    ensures called { (known : Filters) → Calls known (tokens_view items.old.items) (tokens_view items.new.items) result }
+    ensures shorter { length items.new.items ≤ length items.old.items }
+{
+    let mut arguments = Vec::new(alloc);
+    if !skip(items, Symbol::Colon) {
+        return Ok(arguments);
+    }
+    'arguments: loop {
+        let Some(argument) = next_value(items) else {
+            return Err(expected(at, "an argument of the filter"));
+        };
+        arguments.push(argument)?;
+        if !skip(items, Symbol::Comma) {
+            return Ok(arguments);
+        }
+    }
+}
+
+/// The fault that another item is wanted in the piece.
+pub fn expected(at: &str, wanted: &'static str) -> ParseError
+    ensures { IsFault result }
+{
+    ParseError::Fault(Fault::new(FaultKind::Expected, at, wanted))
+}

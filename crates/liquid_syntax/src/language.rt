@@ -1,0 +1,77 @@
+//! What tags, blocks and filters are called.
+ghost use Rattle.std.specs.Prelude.{◌≡◌, [], option_map, OnErr, string_bytes};
+ghost use Rattle.liquid_core.specs.Answer.{Gives};
+ghost use Rattle.liquid_core.specs.Maps.{listed, insert};
+ghost use Rattle.liquid_syntax.specs.Languages.{kinds_of};
+
+use liquid_core::Result;
+use liquid_filters::FilterKind;
+use std::alloc::Global;
+use std::collections::BTreeMap;
+
+/// A tag without a body.
+#[derive(Clone, Copy, Debug, PartialEq, Eq, Drop)]
+pub enum TagKind {
+    /// `{% assign name = chain %}`
+    Assign,
+}
+
+/// A tag with a body and an end.
+#[derive(Clone, Copy, Debug, PartialEq, Eq, Drop)]
+pub enum BlockKind {}
+
+/// Kinds by the names that they are registered under.
+#[derive(Drop)]
+pub struct Registry<K: Drop> {
+    kinds: BTreeMap<String, K>,
+}
+
+impl<K: Copy + Drop> Registry<K> {
+    /// No kinds.
+    fn new(alloc: Global) -> Registry<K>
+        ensures { kinds_of result ≡ [] }
+    {
+        Registry {
+            kinds: BTreeMap::new(alloc),
+        }
+    }
+
+    /// Registers a kind under a name; what the name stood for before is forgotten. Where there is no memory nothing changes.
+    pub fn register(&mut self, name: String, kind: K) -> Result<()>
+        ensures registered { Gives (λ _. listed (kinds_of self.new)) result (insert (listed (kinds_of self.old)) (string_bytes name) kind) }
+        ensures unchanged { OnErr result (kinds_of self.new ≡ kinds_of self.old) }
+    {
+        drop(self.kinds.insert(name, kind)?);
+        Ok(())
+    }
+
+    /// The kind that is registered under the name.
+    pub fn get(&self, name: &str) -> Option<K>
+        ensures { result ≡ listed (kinds_of self.now) name.now }
+    {
+        self.kinds.get(name).copied()
+    }
+}
+
+/// The tags, blocks and filters that a source may name.
+#[derive(Drop)]
+pub struct Language {
+    pub tags: Registry<TagKind>,
+    pub blocks: Registry<BlockKind>,
+    pub filters: Registry<FilterKind>,
+}
+
+impl Language {
+    /// A language without tags, blocks and filters.
+    pub fn new(alloc: Global) -> Language
+        ensures tags { kinds_of result.tags ≡ [] }
+        ensures blocks { kinds_of result.blocks ≡ [] }
+        ensures filters { kinds_of result.filters ≡ [] }
+    {
+        Language {
+            tags: Registry::new(alloc),
+            blocks: Registry::new(alloc),
+            filters: Registry::new(alloc),
+        }
+    }
+}

@@ -1,0 +1,55 @@
+//! From a source to its template.
+ghost use Rattle.std.specs.Prelude.{◌≡◌, IfErr};
+ghost use Rattle.liquid_syntax.specs.Parsing.{IsOfSource, ParsesTo, ReadsTo};
+
+use crate::build::Builder;
+use crate::cut::{past_byte, stripped, text_before};
+use crate::fault::ParseError;
+use crate::judge::judge;
+use crate::language::Language;
+use crate::piece::read_markup;
+use crate::template::Template;
+use liquid_core::Result;
+use std::alloc::Global;
+
+/// The template that a source is, in a language.
+///
+/// The pieces are read and judged from left to right, and the first fault is the answer, with a message that says where it
+/// stands (line and column in characters, each from 1), what is found there and what is wanted. The kinds are:
+/// `Unclosed`, `BadItem`, `NumberLiteral`, `FloatLiteral` and `StateWord` of items; `Expected`, `UnknownTag`,
+/// `UnknownFilter` and `FilterArguments` of outputs and tags; `MissingEnd` and `TooNested` of blocks. `Memory` where there
+/// is no room for the nodes or for a fault's message.
+pub fn parse(alloc: Global, source: &str, language: &Language) -> Result<Template>
+    ensures parses { ParsesTo language.now source.now result }
+    ensures kinds { IfErr result (λ e. IsOfSource e.kind) }
+{
+    match read_template(alloc, source, language) {
+        Ok(template) => Ok(template),
+        Err(error) => Err(error.tell(alloc, source)),
+    }
+}
+
+fn read_template(
+    alloc: Global,
+    source: &str,
+    language: &Language,
+) -> std::result::Result<Template, ParseError>
+    ensures { ReadsTo language.now source.now result }
+{
+    let mut builder = Builder::new(alloc);
+    let mut front = false;
+    let mut rest = source;
+    'pieces: loop {
+        let (text, behind) = text_before(rest);
+        let Some(inside) = past_byte(behind, b'{') else {
+            builder.text(alloc, stripped(front, text, false))?;
+            return builder.finish();
+        };
+        let (markup, after) = read_markup(alloc, inside)?;
+        builder.text(alloc, stripped(front, text, markup.before))?;
+        let label = judge(alloc, language, builder.place(), markup.piece, behind)?;
+        builder.add(label, behind.len())?;
+        front = markup.after;
+        rest = after;
+    }
+}

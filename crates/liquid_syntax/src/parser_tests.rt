@@ -1,0 +1,187 @@
+//! Sources that are parsed, and sources that are refused, at examples.
+use crate::language::{Language, TagKind};
+use crate::node::Node;
+use crate::parser::parse;
+use crate::partials::Partials;
+use liquid_core::{Error, ErrorKind};
+use liquid_filters::{FilterKind, stdlib};
+use std::alloc::Global;
+use std::test::Fail;
+
+/// `assign`, and the filters `join` and `first`.
+fn small_language(alloc: Global) -> Result<Language, Error> {
+    let mut language = Language::new(alloc);
+    let tags = &mut language.tags;
+    tags.register(String::from_str(alloc, "assign")?, TagKind::Assign)?;
+    let filters = &mut language.filters;
+    filters.register(
+        String::from_str(alloc, "join")?,
+        FilterKind::Join(stdlib::Join),
+    )?;
+    filters.register(
+        String::from_str(alloc, "first")?,
+        FilterKind::First(stdlib::First),
+    )?;
+    Ok(language)
+}
+
+/// The number of nodes of a source, or the kind of its fault.
+fn read(alloc: Global, language: &Language, source: &str) -> std::result::Result<usize, ErrorKind> {
+    match parse(alloc, source, language) {
+        Ok(template) => Ok(template.node_count()),
+        Err(error) => Err(error.kind),
+    }
+}
+
+#[test]
+fn sources_have_nodes(rt: HostRuntime) -> Result<(), Fail> {
+    let language = small_language(rt.alloc())?;
+    for (source, nodes) in [
+        ("", 0),
+        ("a }} b %} { % } {", 1),
+        ("Hello {{ name }}!{% assign x = 2 %} {{ x }}", 6),
+        ("a {{- 'b' -}} c", 3),
+        ("a {{- -5 -}} b", 3),
+        ("{{ a-}} x", 2),
+        ("{{ a -}} \t\r\n {{- b }}", 2),
+        ("{{ 'a }}' }}x }} y %}", 2),
+        ("{{ nil }}{{ true }}{{ -07 }}", 3),
+        ("{{ a.b[1] }}{{ a.b.last }}{{ a.b.size }}{{ a[\"b\"] }}", 4),
+        ("{% assign a = 1 %}x{{ a.b }}", 3),
+        ("{%assign in=in|join:and%}{%-assign with-=as-%}", 2),
+        (
+            "{{ l | join: '-' | first }}{{l|join|first|join:a[b[0]].c}}",
+            2,
+        ),
+    ] {
+        assert_eq!(rt; read(rt.alloc(), &language, source), Ok(nodes), "{source}");
+    }
+    Ok(())
+}
+
+#[test]
+fn sources_are_refused(rt: HostRuntime) -> Result<(), Fail> {
+    let language = small_language(rt.alloc())?;
+    for (source, kind) in [
+        ("a{{ x", ErrorKind::Unclosed),
+        ("{{ 'a }}", ErrorKind::Unclosed),
+        ("{{ a.", ErrorKind::BadItem),
+        ("{{ a.1 }}", ErrorKind::BadItem),
+        ("{{ (nil..3) }}", ErrorKind::BadItem),
+        ("{{ 9223372036854775808 }}", ErrorKind::NumberLiteral),
+        ("{{ 1.5 }}", ErrorKind::FloatLiteral),
+        ("{{ a[empty] }}", ErrorKind::StateWord),
+        ("{{ a | blank }}", ErrorKind::StateWord),
+        ("{% nosuch %}", ErrorKind::UnknownTag),
+        ("{% empty %}", ErrorKind::UnknownTag),
+        ("{% if x == empty %}{% endif %}", ErrorKind::StateWord),
+        ("{% if x %}{% endif %}", ErrorKind::UnknownTag),
+        ("{% else %}", ErrorKind::UnknownTag),
+        ("{% %}", ErrorKind::Expected),
+        ("{{ a | nosuch }}", ErrorKind::UnknownFilter),
+        ("{{ a | nosuch: 1, 2 }}", ErrorKind::UnknownFilter),
+        ("{{ a | join: 1, 2 }}", ErrorKind::FilterArguments),
+        ("{{ a | first: 1 }}", ErrorKind::FilterArguments),
+        ("{{ }}", ErrorKind::Expected),
+        ("{{ a b }}", ErrorKind::Expected),
+        ("{{ (1..2) }}", ErrorKind::Expected),
+        ("{{ a | }}", ErrorKind::Expected),
+        ("{{ a | nil }}", ErrorKind::Expected),
+        ("{{ a | a.b }}", ErrorKind::Expected),
+        ("{{ a | join: }}", ErrorKind::Expected),
+        ("{{ a | join: 1, }}", ErrorKind::Expected),
+        ("{{ a | join 1 }}", ErrorKind::Expected),
+        ("{% assign %}", ErrorKind::Expected),
+        ("{% assign a %}", ErrorKind::Expected),
+        ("{% assign a.b = 1 %}", ErrorKind::Expected),
+        ("{% assign nil = 1 %}", ErrorKind::Expected),
+        ("{% assign a == 1 %}", ErrorKind::Expected),
+        ("{% assign a = 1 2 %}", ErrorKind::Expected),
+        ("{{ a | nosuch }}{{ 1.5 }}", ErrorKind::UnknownFilter),
+    ] {
+        assert_eq!(rt; read(rt.alloc(), &language, source), Err(kind), "{source}");
+    }
+    Ok(())
+}
+
+/// A letter for what a source is: `.` where it is parsed, else the first letter of its fault's kind.
+fn letter(outcome: std::result::Result<usize, ErrorKind>) -> &'static str {
+    match outcome {
+        Ok(_) => ".",
+        Err(ErrorKind::Unclosed) => "U",
+        Err(ErrorKind::BadItem) => "B",
+        Err(ErrorKind::Expected) => "E",
+        Err(_) => "?",
+    }
+}
+
+#[test]
+fn a_source_is_cut_at_every_byte(rt: HostRuntime) -> Result<(), Fail> {
+    let language = small_language(rt.alloc())?;
+    let source = "a{{- x.y[1]|join:'z'-}} {b{%assign v='c'-%} ";
+    let mut outcomes = String::new(rt.alloc());
+    for end in 0..=source.len() {
+        let cut = source.get(..end).unwrap_or("");
+        outcomes.push_str(letter(read(rt.alloc(), &language, cut)))?;
+    }
+    assert_eq!(rt;
+        outcomes.as_str(),
+        "...UUUUBUUUUUUUUUUUUUBB.....UUUUUUUUUUUUUBB.."
+    );
+    Ok(())
+}
+
+#[test]
+fn a_fault_tells_its_place(rt: HostRuntime) -> Result<(), Fail> {
+    let language = small_language(rt.alloc())?;
+    for (source, message) in [
+        (
+            "a\né {{ a | nosuch }}b",
+            "line 2, column 3: found `{{ a | nosuch }}` where a registered filter is wanted",
+        ),
+        (
+            "{% nosuch -%}",
+            "line 1, column 1: found `{% nosuch -%}` where a registered tag is wanted",
+        ),
+        (
+            "x{{ a",
+            "line 1, column 6: the source ends where an item or `}}` is wanted",
+        ),
+    ] {
+        match parse(rt.alloc(), source, &language) {
+            Ok(_) => assert!(rt; false, "{source}"),
+            Err(error) => match &error.message {
+                Some(told) => assert_eq!(rt; told.as_str(), message),
+                None => assert!(rt; false, "{source}"),
+            },
+        }
+    }
+    Ok(())
+}
+
+#[test]
+fn a_later_name_replaces(rt: HostRuntime) -> Result<(), Fail> {
+    let mut language = small_language(rt.alloc())?;
+    language.filters.register(
+        String::from_str(rt.alloc(), "join")?,
+        FilterKind::First(stdlib::First),
+    )?;
+    assert_eq!(rt;
+        read(rt.alloc(), &language, "{{ a | join: 1 }}"),
+        Err(ErrorKind::FilterArguments)
+    );
+    let mut partials = Partials::new(rt.alloc());
+    for source in ["a", "{{ a }}{{ b }}"] {
+        let template = parse(rt.alloc(), source, &language)?;
+        partials.insert(String::from_str(rt.alloc(), "p")?, template)?;
+    }
+    match partials.get("p") {
+        Some(template) => match template.nodes() {
+            [Node::Output(_), Node::Output(_)] => {}
+            _ => assert!(rt; false, "two outputs"),
+        },
+        None => assert!(rt; false, "the partial"),
+    }
+    assert!(rt; partials.get("q").is_none());
+    Ok(())
+}

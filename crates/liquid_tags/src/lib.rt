@@ -1,0 +1,7 @@
+//! The tags and blocks that exist, as structs that stand for their kinds.
+#![tactic(auto)]
+
+mod reflection;
+pub mod stdlib;
+
+pub use reflection::TagReflection;

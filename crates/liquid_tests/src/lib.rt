@@ -1,0 +1,7 @@
+//! Tests across the crates: worked pages and sources that are refused. Each expected value comes from outside.
+#![tactic(auto)]
+
+#[cfg(test)]
+mod pages;
+#[cfg(test)]
+mod refused;

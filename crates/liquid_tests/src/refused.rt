@@ -1,0 +1,58 @@
+//! Sources that are no templates, by the kind of the fault.
+use liquid_core::{ErrorKind, Result};
+use liquid_lib::language;
+use liquid_syntax::parse;
+
+const ROWS: [(&str, ErrorKind); 21] = [
+    ("{{ 1.5 }}", ErrorKind::FloatLiteral),
+    ("a{{ x", ErrorKind::Unclosed),
+    ("{% nosuch %}", ErrorKind::UnknownTag),
+    ("{% if x == empty %}{% endif %}", ErrorKind::StateWord),
+    ("{{ a b }}", ErrorKind::Expected),
+    ("{{ }}", ErrorKind::Expected),
+    ("{{ a | nosuch }}", ErrorKind::UnknownFilter),
+    ("{{ a.1 }}", ErrorKind::BadItem),
+    ("{{ a | sort: 'p', 'q' }}", ErrorKind::FilterArguments),
+    ("a{%", ErrorKind::Unclosed),
+    ("a{% ", ErrorKind::Unclosed),
+    ("a{% i", ErrorKind::Unclosed),
+    ("{{ 9223372036854775808 }}", ErrorKind::NumberLiteral),
+    ("{{ 1a }}", ErrorKind::BadItem),
+    ("{{ 1. }}", ErrorKind::BadItem),
+    ("a{% if", ErrorKind::Unclosed),
+    ("a{% if x", ErrorKind::Unclosed),
+    ("a{{", ErrorKind::Unclosed),
+    ("a{{ b", ErrorKind::Unclosed),
+    ("a{% if x %", ErrorKind::BadItem),
+    ("a{{ b }", ErrorKind::BadItem),
+];
+
+#[test]
+fn sources_are_refused(rt: HostRuntime) -> Result<()> {
+    let alloc = rt.alloc();
+    let language = language(alloc)?;
+    for (source, kind) in &ROWS {
+        let Err(fault) = parse(alloc, source, &language) else {
+            assert!(&rt; false, "a template: {source}");
+            return Ok(());
+        };
+        assert!(&rt; fault.kind == *kind, "the fault of {source}");
+        assert!(&rt; fault.message.is_some(), "no message: {source}");
+    }
+    Ok(())
+}
+
+/// The first bytes of a source are read, or refused with a message, wherever it is cut.
+#[test]
+fn a_source_cut_anywhere_gives_an_answer(rt: HostRuntime) -> Result<()> {
+    let alloc = rt.alloc();
+    let language = language(alloc)?;
+    let source = "é{%- assign ä_ = a[\"ü\"].b | join: '}}', 1 -%} {{- -7 | first -}}x";
+    for (end, _) in source.char_indices() {
+        let front = source.get(..end).unwrap_or("");
+        if let Err(fault) = parse(alloc, front, &language) {
+            assert!(&rt; fault.message.is_some(), "no message: {front}");
+        }
+    }
+    Ok(())
+}

@@ -1,0 +1,5 @@
+use Rattle.liquid_text_filters.proofs.Ones.{rstrip_law}
+use Rattle.liquid_text_filters.proofs.laws.rstrip_is_one.Goals as goal
+
+pub returns : goal.returns
+returns c = rstrip_law

@@ -1,0 +1,5 @@
+use Rattle.liquid_text_filters.proofs.Ones.{upcase_law}
+use Rattle.liquid_text_filters.proofs.laws.upcase_is_one.Goals as goal
+
+pub returns : goal.returns
+returns c = upcase_law
