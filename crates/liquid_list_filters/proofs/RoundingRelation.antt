@@ -1,16 +1,18 @@
 -- A decimal text is brought to the one whole number that its relation tells.
-use Rattle.std.proofs.Common.{◌≡◌, ◌⊎◌, ℕ, zero, suc, ◌+◌, ◌*◌, ◌<◌, ◌≤◌, ℤ, pos, negsuc, ◌-ℤ◌, ◌*ℤ◌, neg_ℤ, List, ◌++◌, length, Bool, true, false, not, Option, Some, None, Ok, Err, MatchBool, refl, sym, ap, subst, ◌∙◌, inl, inr, ⊎_elim, arith, if◌then◌else◌}
+use Rattle.std.proofs.Common.{◌≡◌, ◌⊎◌, ℕ, zero, suc, ◌+◌, ◌*◌, ◌<◌, ◌≤◌, ℤ, pos, negsuc, ◌-ℤ◌, ◌*ℤ◌, ◌≤ℤ◌, ◌<ℤ◌, neg_ℤ, List, [], ◌∷◌, ◌++◌, length, Bool, true, false, not, Option, Some, None, Ok, Err, MatchBool, MatchOption, refl, sym, ap, subst, ◌∙◌, inl, inr, ⊎_elim, arith, if◌then◌else◌}
 use Rattle.std.proofs.lemmas.Int.{ints}
-use Rattle.std.specs.Int.RustNames.{unsigned_abs}
+use Rattle.std.specs.Int.RustNames.{int_le, int_lt, unsigned_abs}
 use Rattle.std.specs.Str.Parse.{digits_value, starts_with_minus}
 use Rattle.liquid_core.specs.Answer.{IsTheOne}
 use Rattle.liquid_core.specs.Data.{Datum, nil, truth, number, text, array, object}
 use Rattle.liquid_core.specs.Whole.{whole}
-use Rattle.liquid_core.specs.declared.error.ErrorKind.TheVariants.{InvalidInput}
-use Rattle.liquid_list_filters.specs.Decimals.{is_decimal, whole_digits, fraction_digits}
+use Rattle.liquid_core.specs.declared.error.ErrorKind.TheVariants.{Float, InvalidArgument, InvalidInput}
+use Rattle.liquid_core.specs.Fallible.{◌>>=◌}
+use Rattle.liquid_list_filters.specs.Arguments.{number_or_fault}
+use Rattle.liquid_list_filters.specs.Decimals.{is_decimal, is_decimal_text, whole_digits, fraction_digits}
 use Rattle.liquid_list_filters.specs.Numbers.{in_range}
-use Rattle.liquid_list_filters.specs.Rounding.{signed, nearest, magnitude, size, rounded, rounded_of, rounded_decimal}
-use Rattle.liquid_list_filters.specs.RoundingLaws.{scale, IsMultipleFor, IsBroughtTo, IsRounded}
+use Rattle.liquid_list_filters.specs.Rounding.{signed, nearest, magnitude, size, round, rounded, rounded_of, rounded_decimal, rounded_to, unrounded_of}
+use Rattle.liquid_list_filters.specs.RoundingLaws.{scale, IsMultipleFor, IsBroughtTo, IsRounded, Rounds, RoundsTo, StaysWhole}
 use Rattle.liquid_list_filters.specs.declared.stdlib.filters.math.decimal.Rounding.{Rounding}
 use Rattle.liquid_list_filters.specs.declared.stdlib.filters.math.decimal.Rounding.TheVariants.{Nearest, Up, Down}
 use Rattle.liquid_list_filters.proofs.Roundings.{floor_is, floor_meets, ceiling_is, ceiling_meets, pow_pos10}
@@ -138,3 +140,40 @@ rounded_at how None (object ps) = same_one (Err InvalidInput)
 
 pub rounded_one : (how : Rounding) (d : Datum) → IsTheOne (IsRounded how (whole d) d) (rounded how d)
 rounded_one how d = rounded_at how (whole d) d
+
+-- ---- with places after the point
+whole_one : (n : Option ℤ) (decimal : Bool) → IsTheOne (StaysWhole n decimal) (unrounded_of n decimal)
+whole_one (Some n) decimal = same_one (Ok (number n))
+whole_one None true = same_one (Err Float)
+whole_one None false = same_one (Err InvalidInput)
+
+places_one : (places : ℤ) (d : Datum) (t u : Bool) → int_le places (pos 0) ≡ t → int_lt (pos 2147483647) places ≡ u
+    → IsTheOne (RoundsTo places d) (if t then rounded Nearest d else (if u then Err InvalidInput else unrounded_of (whole d) (is_decimal_text d)))
+places_one places d true u e f =
+    let low : places ≤ℤ pos 0 = grind (arith, ints) in
+    λ x. (
+      ⊎_elim (λ a. (rounded_one Nearest d x).0 a.1) (⊎_elim (λ b. absurd (omega (arith, ints, b.0, low))) (λ c. absurd (omega (arith, ints, c.0, low)))),
+      λ q. inl (low, (rounded_one Nearest d x).1 q),
+    )
+places_one places d false true e f =
+    let low : pos 0 <ℤ places = grind (arith, ints) in
+    let high : pos 2147483647 <ℤ places = grind (arith, ints) in
+    λ x. (
+      ⊎_elim (λ a. absurd (omega (arith, ints, a.0, low))) (⊎_elim (λ b. b.1) (λ c. absurd (omega (arith, ints, c.1, high)))),
+      λ q. inr (inl (high, q)),
+    )
+places_one places d false false e f =
+    let low : pos 0 <ℤ places = grind (arith, ints) in
+    let high : places ≤ℤ pos 2147483647 = grind (arith, ints) in
+    λ x. (
+      ⊎_elim (λ a. absurd (omega (arith, ints, a.0, low))) (⊎_elim (λ b. absurd (omega (arith, ints, b.0, high))) (λ c. (whole_one (whole d) (is_decimal_text d) x).0 c.2)),
+      λ q. inr (inr (low, high, (whole_one (whole d) (is_decimal_text d) x).1 q)),
+    )
+
+read_one : (n : Option ℤ) (d : Datum) → IsTheOne (λ x. MatchOption n (x ≡ Err InvalidArgument) (λ places. RoundsTo places d x)) (number_or_fault n >>= λ places. rounded_to places d)
+read_one None d = same_one (Err InvalidArgument)
+read_one (Some places) d = places_one places d (int_le places (pos 0)) (int_lt (pos 2147483647) places) refl refl
+
+pub round_one : (d : Datum) (args : List Datum) → IsTheOne (Rounds args d) (round d args)
+round_one d [] = rounded_one Nearest d
+round_one d (e ∷ es) = read_one (whole e) d

@@ -1,6 +1,6 @@
 //! Laws of the filters over numbers. Each function does nothing: its contract is the law.
 ghost use Rattle.liquid_list_filters.specs.NumberLaws.{DivisionIsOne, PlusIsOne, MinusIsOne, TimesIsOne, DividedByIsOne, ModuloIsOne, AtLeastIsOne, AtMostIsOne, AbsIsOne, QuotientAndRemainder};
-ghost use Rattle.liquid_list_filters.specs.RoundingLaws.{RoundedIsOne};
+ghost use Rattle.liquid_list_filters.specs.RoundingLaws.{RoundIsOne, RoundedIsOne};
 
 /// `plus`: the sum, by the steps of two operands.
 pub fn plus_is_one()
@@ -52,7 +52,12 @@ pub fn division_is_one()
     ensures { DivisionIsOne }
 {}
 
-/// `round`, `ceil` and `floor`: the whole number whose product with a power of ten is the one that the digits are brought to.
+/// `round` without places, `ceil` and `floor`: the whole number whose product with a power of ten is the one that the digits are brought to.
 pub fn rounded_is_one()
     ensures { RoundedIsOne }
+{}
+
+/// `round`, with and without places after the point.
+pub fn round_is_one()
+    ensures { RoundIsOne }
 {}
