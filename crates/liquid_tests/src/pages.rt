@@ -14,7 +14,7 @@ struct Row {
     end: Option<ErrorKind>,
 }
 
-const ROWS: [Row; 49] = [
+const ROWS: [Row; 50] = [
     Row {
         source: "",
         data: "{}",
@@ -307,6 +307,13 @@ const ROWS: [Row; 49] = [
         source: "}} a %} b",
         data: "{}",
         page: "}} a %} b",
+        end: None,
+    },
+    // the mail of the examples
+    Row {
+        source: "{%- assign greeting = customer.name | default: 'customer' | capitalize -%}\nDear {{ greeting }},\n\nthank you for your order {{ order.number }} of {{ order.lines | size }} things:\n{{ order.lines | map: 'title' | sort_natural | join: ', ' }}.\n\nIt is on its way to {{ customer.address | strip | replace: ', ', '\n' | escape }}.\n\n{{ shop.name | upcase }}\n{{ shop.link }}?order={{ order.number | url_encode }}\n",
+        data: "{\n  \"customer\": { \"name\": \"ada\", \"address\": \"  1 Engine Row, <London> \" },\n  \"order\": {\n    \"number\": \"A/17\",\n    \"lines\": [{ \"title\": \"Gears\" }, { \"title\": \"crank\" }, { \"title\": \"Axle\" }]\n  },\n  \"shop\": { \"name\": \"Mill & Store\", \"link\": \"https://mill.example/orders\" }\n}\n",
+        page: "Dear Ada,\n\nthank you for your order A/17 of 3 things:\nAxle, crank, Gears.\n\nIt is on its way to 1 Engine Row\n&lt;London&gt;.\n\nMILL & STORE\nhttps://mill.example/orders?order=A%2F17\n",
         end: None,
     },
 ];
