@@ -6,7 +6,10 @@ pub mod ChainLaw
 pub mod ChainReading
 pub mod ChainView
 pub mod Chains
+pub mod ConditionLaw
+pub mod ConditionReading
 pub mod ConditionView
+pub mod Conditions
 pub mod Controls
 pub mod Entries
 pub mod Evaluation
