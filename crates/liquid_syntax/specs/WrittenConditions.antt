@@ -1,8 +1,7 @@
 -- The written form of a condition: how it stands in a template's source.
-use Rattle.std.specs.Prelude.{List, map, ◌++◌, codes}
+use Rattle.std.specs.Prelude.{List, [], ◌∷◌, map, ◌++◌, codes}
 use Rattle.liquid_core.specs.Texts.{Text}
 use Rattle.liquid_core.specs.Written.{written_form}
-use Rattle.liquid_list_filters.specs.Joined.{joined}
 use Rattle.liquid_syntax.specs.Tree.{Atom, bare, compared, Condition}
 use Rattle.liquid_syntax.specs.declared.comparison.ComparisonOperator.{ComparisonOperator}
 use Rattle.liquid_syntax.specs.declared.comparison.ComparisonOperator.TheVariants.{Equals, NotEquals, LessThan, GreaterThan, LessThanEquals, GreaterThanEquals, Contains}
@@ -15,6 +14,16 @@ written_operator GreaterThan = codes ">"
 written_operator LessThanEquals = codes "<="
 written_operator GreaterThanEquals = codes ">="
 written_operator Contains = codes "contains"
+
+-- each text with the separator before it
+abbrev pub joined_rest : Text → List Text → Text
+joined_rest separator [] = []
+joined_rest separator (t ∷ ts) = separator ++ (t ++ joined_rest separator ts)
+
+-- the texts with the separator between them
+abbrev pub joined : Text → List Text → Text
+joined separator [] = []
+joined separator (t ∷ ts) = t ++ joined_rest separator ts
 
 -- a comparison has its operator between single spaces
 abbrev pub written_atom : Atom → Text
