@@ -8,6 +8,8 @@ mod chain_items;
 mod comparison;
 mod condition;
 mod condition_items;
+#[cfg(test)]
+mod condition_tests;
 mod cut;
 mod fault;
 mod filter_call;
