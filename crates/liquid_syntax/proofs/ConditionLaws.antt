@@ -1,19 +1,19 @@
 -- A condition is read where it is written, and is written where it is read.
-use Rattle.std.proofs.Common.{◌≡◌, ℕ, List, [], ◌∷◌, ◌++◌, append_assoc, Bool, true, false, cond, Option, Some, None, codes, bytes_eq, refl, sym, ap, ◌∙◌, subst}
+use Rattle.std.proofs.Common.{◌≡◌, List, [], ◌∷◌, ◌++◌, append_assoc, Bool, true, false, cond, Option, Some, None, codes, refl, sym, ap, ◌∙◌, subst}
 use Rattle.std.proofs.lemmas.List.{append-nil}
 use Rattle.std.proofs.lemmas.Slice.Eq.{bytes_eq-Decides}
-use Rattle.std.specs.Option.{option_and_then, option_map}
+use Rattle.std.specs.Option.{option_map}
 use Rattle.liquid_core.specs.Texts.{Text}
 use Rattle.liquid_core.specs.Expression.{Expression, literal, variable, Steps, no_steps, step}
-use Rattle.liquid_syntax.specs.Conditions.{and_word, or_word, contains_word, IsOperator, equals, not_equals, less_or_greater, less, greater, less_or_equal, greater_or_equal, contains, IsAtom, bare_value, comparison, IsConjunction, one_atom, and_more, IsCondition, one_conjunction, or_more}
-use Rattle.liquid_syntax.specs.ConditionReading.{operator_of, symbol_operator, with_atom, joined, compared_or, condition_of, behind_value, behind_operator, behind_atom, alternatives_of}
-use Rattle.liquid_syntax.specs.Tokens.{Token, value, range, symbol, word, word_of, is_that, is_word, if_value}
+use Rattle.liquid_syntax.specs.Conditions.{and_word, or_word, IsOperator, equals, not_equals, less_or_greater, less, greater, less_or_equal, greater_or_equal, contains, IsAtom, bare_value, comparison, IsConjunction, one_atom, and_more, IsCondition, one_conjunction, or_more}
+use Rattle.liquid_syntax.specs.ConditionReading.{operator_of, symbol_operator, with_atom, joined, compared_or, condition_of, behind_value, behind_operator, behind_atom}
+use Rattle.liquid_syntax.specs.Tokens.{Token, value, range, symbol, word, is_word}
 use Rattle.liquid_syntax.specs.Tree.{Atom, bare, compared, Condition}
 use Rattle.liquid_syntax.specs.declared.comparison.ComparisonOperator.{ComparisonOperator}
 use Rattle.liquid_syntax.specs.declared.symbol.Symbol.{Symbol}
 use Rattle.liquid_syntax.specs.declared.symbol.Symbol.TheVariants.{Equals, NotEquals, LessOrGreater, LessThanEquals, GreaterThanEquals, LessThan, GreaterThan, Assign, Colon, Comma, Bar}
 use Rattle.liquid_syntax.specs.declared.comparison.ComparisonOperator.TheVariants as operators
-use Rattle.liquid_syntax.proofs.Printed.{from_some, bind_some, map_some}
+use Rattle.liquid_syntax.proofs.Printed.{from_some, map_some}
 
 -- ---- what is written is read
 

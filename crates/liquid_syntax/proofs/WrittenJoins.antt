@@ -1,6 +1,5 @@
 -- Texts written one after another with a separator between them, a turn at a time.
-use Rattle.std.proofs.Common.{◌≡◌, ℕ, List, [], ◌∷◌, ◌++◌, ◌+◌, ◌<◌, drop, get_or, map, refl, sym, ap, ◌∙◌, append_assoc, arith}
-use Rattle.std.proofs.lemmas.List.{drop_more}
+use Rattle.std.proofs.Common.{◌≡◌, ℕ, List, [], ◌∷◌, ◌++◌, ◌+◌, drop, map, refl, sym, ap, ◌∙◌, append_assoc}
 use Rattle.liquid_core.specs.Texts.{Text}
 use Rattle.liquid_syntax.specs.WrittenConditions.{joined, joined_rest}
 

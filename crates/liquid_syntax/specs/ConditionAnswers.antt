@@ -1,6 +1,6 @@
 -- What reading the parts of a condition answers.
 use Rattle.std.specs.Prelude.{◌≡◌, ◌<◌, List, [], ◌∷◌, length, Option, Some, None, Result, Ok, Err, Vec}
-use Rattle.std.specs.Option.{option_and_then, option_map}
+use Rattle.std.specs.Option.{option_map}
 use Rattle.std.specs.declared.alloc.Global.{Global}
 use Rattle.liquid_syntax.specs.ConditionReading.{operator_of, condition_of, behind_atom, alternatives_of}
 use Rattle.liquid_syntax.specs.ConditionView.{atom_view, atoms_view}

@@ -1,6 +1,6 @@
 -- Reading a condition from tokens, one after another.
 use Rattle.std.specs.Prelude.{List, [], ◌∷◌, codes, cond, Option, Some, None}
-use Rattle.std.specs.Option.{option_and_then, option_map}
+use Rattle.std.specs.Option.{option_map}
 use Rattle.liquid_core.specs.Expression.{Expression}
 use Rattle.liquid_syntax.specs.Tokens.{Token, value, range, symbol, if_value, is_word}
 use Rattle.liquid_syntax.specs.Tree.{Atom, bare, compared, Condition}

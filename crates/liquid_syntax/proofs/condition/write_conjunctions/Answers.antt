@@ -1,8 +1,8 @@
-use Rattle.std.proofs.Common.{rules, arith, ◌≡◌, ℕ, List, [], ◌∷◌, ◌++◌, ◌+◌, codes, drop, get_or, map, sym, ap, ◌∙◌}
+use Rattle.std.proofs.Common.{rules, arith, ◌≡◌, [], ◌∷◌, ◌++◌, ◌+◌, codes, drop, get_or, map, sym, ap, ◌∙◌}
 use Rattle.std.proofs.Output.{has_written_append}
 use Rattle.std.proofs.lemmas.List.{drop_more}
 use Rattle.liquid_syntax.specs.ConditionView.{atoms_view}
-use Rattle.liquid_syntax.specs.WrittenConditions.{written_conjunction, written_condition}
+use Rattle.liquid_syntax.specs.WrittenConditions.{written_conjunction}
 use Rattle.liquid_syntax.proofs.WrittenJoins.{from_nothing, one_text_more}
 use Rattle.liquid_syntax.proofs.condition.write_conjunctions.Goals as goal
 

@@ -1,6 +1,5 @@
 use Rattle.std.proofs.Common.{◌≡◌, sym, subst}
 use Rattle.liquid_core.specs.ExpressionView.{expression_view}
-use Rattle.liquid_syntax.specs.ConditionAnswers.{operator_first}
 use Rattle.liquid_syntax.specs.ConditionReading.{condition_of, behind_atom}
 use Rattle.liquid_syntax.specs.Tokens.{tokens_view}
 use Rattle.liquid_syntax.specs.Tree.{bare}

@@ -1,4 +1,4 @@
-use Rattle.std.proofs.Common.{◌≡◌, ap, ◌∙◌, arith}
+use Rattle.std.proofs.Common.{ap, ◌∙◌, arith}
 use Rattle.liquid_syntax.specs.Tokens.{is_that}
 use Rattle.liquid_syntax.proofs.PlainWords.{no_word}
 use Rattle.liquid_syntax.proofs.tokens.is_that_word.Goals as goal
