@@ -19,14 +19,14 @@ use Rattle.liquid_syntax.specs.declared.symbol.Symbol.TheVariants.{Equals, NotEq
 
 -- ---- options
 
-from_some : {A : Type 0} {x y : A} → Some x ≡ Some y → x ≡ y
+pub from_some : {A : Type 0} {x y : A} → Some x ≡ Some y → x ≡ y
 from_some h = cc
 
-bind_some : {A B : Type 0} (o : Option A) (f : A → Option B) (y : B) → option_and_then f o ≡ Some y → (x : A) × (o ≡ Some x) × (f x ≡ Some y)
+pub bind_some : {A B : Type 0} (o : Option A) (f : A → Option B) (y : B) → option_and_then f o ≡ Some y → (x : A) × (o ≡ Some x) × (f x ≡ Some y)
 bind_some None f y h = absurd cc
 bind_some (Some x) f y h = (x, refl, h)
 
-map_some : {A B : Type 0} (o : Option A) (f : A → B) (y : B) → option_map f o ≡ Some y → (x : A) × (o ≡ Some x) × (f x ≡ y)
+pub map_some : {A B : Type 0} (o : Option A) (f : A → B) (y : B) → option_map f o ≡ Some y → (x : A) × (o ≡ Some x) × (f x ≡ y)
 map_some None f y h = absurd cc
 map_some (Some x) f y h = (x, refl, from_some h)
 

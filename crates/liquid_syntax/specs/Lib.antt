@@ -6,7 +6,11 @@ pub mod ChainLaw
 pub mod ChainReading
 pub mod ChainView
 pub mod Chains
+pub mod ConditionAnswers
+pub mod ConditionLaw
+pub mod ConditionReading
 pub mod ConditionView
+pub mod Conditions
 pub mod Controls
 pub mod Entries
 pub mod Evaluation
@@ -40,3 +44,4 @@ pub mod ValueReading
 pub mod Values
 pub mod Verbatim
 pub mod Words
+pub mod WrittenConditions

@@ -1,5 +1,5 @@
 -- Tokens: what the items of a piece say, without their spelling.
-use Rattle.std.specs.Prelude.{ℕ, nat_eq, List, [], ◌∷◌, map, Bool, true, false, Option, Some, None, cond}
+use Rattle.std.specs.Prelude.{ℕ, nat_eq, List, [], ◌∷◌, map, Bool, true, false, Option, Some, None, cond, bytes_eq}
 use Rattle.std.specs.Option.{option_and_then, option_map}
 use Rattle.liquid_core.specs.Texts.{Text}
 use Rattle.liquid_core.specs.Expression.{Expression, literal, variable, Steps, no_steps, step}
@@ -81,3 +81,16 @@ is_symbol s t = false
 abbrev pub past : Symbol → List Token → Option (List Token)
 past s [] = None
 past s (t ∷ ts) = cond (is_symbol s t) (Some ts) None
+
+-- whether a token is this word
+abbrev pub is_that : Text → Option Text → Bool
+is_that w None = false
+is_that w (Some u) = bytes_eq u w
+
+abbrev pub is_word : Text → Token → Bool
+is_word w t = is_that w (word_of t)
+
+-- what stands behind a word at the front
+abbrev pub past_word : Text → List Token → Option (List Token)
+past_word w [] = None
+past_word w (t ∷ ts) = cond (is_word w t) (Some ts) None

@@ -1,13 +1,16 @@
 //! How two values are compared.
-ghost use Rattle.std.specs.Prelude.{◌≡◌, Ok, List, string_bytes, ℕ};
+ghost use Rattle.std.specs.Prelude.{◌≡◌, Ok, Some, List, string_bytes, ℕ};
 ghost use Rattle.liquid_core.specs.Answer.{Answers, Gives};
 ghost use Rattle.liquid_core.specs.Data.{text_of, scalar};
 ghost use Rattle.liquid_core.specs.View.{view, pairs_view};
 ghost use Rattle.liquid_syntax.specs.Evaluation.{comparison_truth, contains, has_key, occurs_in};
+ghost use Rattle.liquid_syntax.specs.WrittenConditions.{written_operator};
 
 use liquid_core::{Error, ErrorKind, Object, Result, Value, look_up};
 use std::alloc::Global;
 use std::cmp::Ordering;
+use std::fmt;
+use std::fmt::{Formatter, Write};
 
 /// How two values are compared (Liquid's operators of conditions).
 #[derive(Clone, Copy, Debug, PartialEq, Eq)]
@@ -53,6 +56,32 @@ impl ComparisonOperator {
             )),
             ComparisonOperator::Contains => contains(alloc, left, right),
         }
+    }
+}
+
+impl ComparisonOperator {
+    /// How the operator stands in a condition.
+    pub fn as_str(self) -> &'static str
+        ensures { result.now ≡ written_operator self }
+    {
+        match self {
+            ComparisonOperator::Equals => "==",
+            ComparisonOperator::NotEquals => "!=",
+            ComparisonOperator::LessThan => "<",
+            ComparisonOperator::GreaterThan => ">",
+            ComparisonOperator::LessThanEquals => "<=",
+            ComparisonOperator::GreaterThanEquals => ">=",
+            ComparisonOperator::Contains => "contains",
+        }
+    }
+}
+
+/// How the operator stands in a condition.
+impl fmt::Display for ComparisonOperator {
+    ghost output = { λ operator. Some (written_operator operator) };
+
+    fn fmt<W: Write>(&self, f: &mut Formatter<W>) -> fmt::Result {
+        f.write_str(self.as_str())
     }
 }
 

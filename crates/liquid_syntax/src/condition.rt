@@ -1,13 +1,17 @@
 //! Conditions of `if`, `elsif` and `unless`.
-ghost use Rattle.std.specs.Prelude.{◌≡◌, map};
+ghost use Rattle.std.specs.Prelude.{◌≡◌, Some, map};
+ghost use Rattle.std.specs.Fmt.{WritesOnOk};
 ghost use Rattle.liquid_core.specs.Answer.{Answers};
 ghost use Rattle.liquid_core.specs.States.{environment_of};
 ghost use Rattle.liquid_syntax.specs.ConditionView.{atom_view, atoms_view, condition_view};
 ghost use Rattle.liquid_syntax.specs.Evaluation.{atom_truth, all_true, truth_of};
+ghost use Rattle.liquid_syntax.specs.WrittenConditions.{written_atom, written_conjunction, written_condition};
 
 use crate::comparison::ComparisonOperator;
 use liquid_core::{Expression, Result, State};
 use std::alloc::Global;
+use std::fmt;
+use std::fmt::{Formatter, Write};
 
 /// A condition: conjunctions joined by `or`, each of atoms joined by `and`.
 #[derive(Drop)]
@@ -69,4 +73,50 @@ impl Atom {
             }
         }
     }
+}
+
+/// The conjunctions with ` or ` between them.
+impl fmt::Display for Condition {
+    ghost output = { λ condition. Some (written_condition (condition_view condition)) };
+
+    fn fmt<W: Write>(&self, f: &mut Formatter<W>) -> fmt::Result {
+        write_conjunctions(&self.conjunctions, f)
+    }
+}
+
+/// The written form of the value, or of both with the operator between single spaces.
+impl fmt::Display for Atom {
+    ghost output = { λ atom. Some (written_atom (atom_view atom)) };
+
+    fn fmt<W: Write>(&self, f: &mut Formatter<W>) -> fmt::Result {
+        match self {
+            Atom::Bare(value) => write!(f, "{value}"),
+            Atom::Compared(left, operator, right) => write!(f, "{left} {operator} {right}"),
+        }
+    }
+}
+
+fn write_conjunctions<W: Write>(conjunctions: &Vec<Vec<Atom>>, f: &mut Formatter<W>) -> fmt::Result
+    ensures { WritesOnOk W.write_str_gives f.old result (written_condition (map atoms_view conjunctions.now.items)) f.new }
+{
+    let mut join = "";
+    for conjunction in conjunctions {
+        f.write_str(join)?;
+        write_atoms(conjunction, f)?;
+        join = " or ";
+    }
+    Ok(())
+}
+
+/// The atoms with ` and ` between them.
+fn write_atoms<W: Write>(atoms: &Vec<Atom>, f: &mut Formatter<W>) -> fmt::Result
+    ensures { WritesOnOk W.write_str_gives f.old result (written_conjunction (atoms_view atoms.now)) f.new }
+{
+    let mut join = "";
+    for atom in atoms {
+        f.write_str(join)?;
+        write!(f, "{atom}")?;
+        join = " and ";
+    }
+    Ok(())
 }

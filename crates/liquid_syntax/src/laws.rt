@@ -1,5 +1,6 @@
 //! Laws of the definitions that contracts speak of.
 ghost use Rattle.liquid_syntax.specs.ChainLaw.{ReadsChains, ReadsAssigns};
+ghost use Rattle.liquid_syntax.specs.ConditionLaw.{ReadsConditions};
 ghost use Rattle.liquid_syntax.specs.NestingLaw.{ReadsTheGrammar, AtMostOneTree};
 ghost use Rattle.liquid_syntax.specs.ReadingLaws.{ReadValueStands, StandingValueIsRead, ReadItemsStand, StandingItemsAreRead, ReadRawStands, StandingRawIsRead, ReadCommentStands, StandingCommentIsRead, ReadSourceStands, StandingSourceIsRead};
 
@@ -39,4 +40,9 @@ pub fn nesting_laws()
 pub fn chain_laws()
     ensures chains { ReadsChains }
     ensures assigns { ReadsAssigns }
+{}
+
+/// A condition is read exactly where the written grammar says that the items are it.
+pub fn condition_law()
+    ensures { ReadsConditions }
 {}

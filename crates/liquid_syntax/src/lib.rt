@@ -7,6 +7,9 @@ mod chain;
 mod chain_items;
 mod comparison;
 mod condition;
+mod condition_items;
+#[cfg(test)]
+mod condition_tests;
 mod cut;
 mod fault;
 mod filter_call;
@@ -38,7 +41,9 @@ pub use fault::{Fault, FaultKind, ParseError};
 pub use filter_call::{FilterCall, apply_filters};
 pub use item::{Delimiter, Item};
 pub use language::{BlockKind, Language, Registry, TagKind};
-pub use laws::{chain_laws, item_laws, nesting_laws, source_laws, value_laws, verbatim_laws};
+pub use laws::{
+    chain_laws, condition_law, item_laws, nesting_laws, source_laws, value_laws, verbatim_laws,
+};
 pub use mark::Mark;
 pub use node::Node;
 pub use parser::parse;

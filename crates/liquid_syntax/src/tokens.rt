@@ -1,9 +1,9 @@
 //! The items of a piece, taken off the front one after another.
 ghost use Rattle.std.specs.Prelude.{◌≡◌, ◌≤◌, ◌<◌, nat_eq, length, map, option_map, string_bytes, MatchBool, ⊤, Bool};
 ghost use Rattle.liquid_core.specs.ExpressionView.{expression_view};
-ghost use Rattle.liquid_syntax.specs.Tokens.{Token, tokens_view, value_first, word_first, word_in, token_of, is_symbol};
+ghost use Rattle.liquid_syntax.specs.Tokens.{Token, tokens_view, value_first, word_first, word_in, token_of, is_symbol, is_word, is_that};
 ghost use Rattle.liquid_syntax.specs.PieceView.{item_view};
-ghost use Rattle.liquid_syntax.specs.TokenReading.{Skips};
+ghost use Rattle.liquid_syntax.specs.TokenReading.{Skips, SkipsWord};
 
 use crate::item::Item;
 use crate::symbol::Symbol;
@@ -68,6 +68,45 @@ pub fn skip(items: &mut VecDeque<Item<'_>>, symbol: Symbol) -> bool
         None => false,
         Some(item) => {
             if !is_symbol(item, symbol) {
+                return false;
+            }
+            items.pop_front();
+            true
+        }
+    }
+}
+
+/// Whether the item is this word.
+pub fn is_word(item: &Item<'_>, word: &str) -> bool
+    ensures { result ≡ is_word word.now (token_of (item_view item.now)) }
+{
+    match item {
+        Item::Value(value, _) => is_that_word(value, word),
+        Item::Range(_, _) => false,
+        Item::Symbol(_) => false,
+    }
+}
+
+/// Whether the expression is this word.
+fn is_that_word(value: &Expression, word: &str) -> bool
+    ensures { result ≡ is_that word.now (word_in (expression_view value.now)) }
+{
+    match value {
+        Expression::Literal(_) => false,
+        Expression::Variable(variable) => {
+            variable.indexes.is_empty() && variable.name.as_str() == word
+        }
+    }
+}
+
+/// Takes the word off the front, and answers whether it stood there.
+pub fn skip_word(items: &mut VecDeque<Item<'_>>, word: &str) -> bool
+    ensures { SkipsWord word.now items.old.items items.new.items result }
+{
+    match items.front() {
+        None => false,
+        Some(item) => {
+            if !is_word(item, word) {
                 return false;
             }
             items.pop_front();

@@ -1,0 +1,71 @@
+-- Reading a condition from tokens, one after another.
+use Rattle.std.specs.Prelude.{List, [], ◌∷◌, codes, cond, Option, Some, None}
+use Rattle.std.specs.Option.{option_map}
+use Rattle.liquid_core.specs.Expression.{Expression}
+use Rattle.liquid_syntax.specs.Tokens.{Token, value, range, symbol, if_value, is_word}
+use Rattle.liquid_syntax.specs.Tree.{Atom, bare, compared, Condition}
+use Rattle.liquid_syntax.specs.declared.comparison.ComparisonOperator.{ComparisonOperator}
+use Rattle.liquid_syntax.specs.declared.comparison.ComparisonOperator.TheVariants as operators
+use Rattle.liquid_syntax.specs.declared.symbol.Symbol.{Symbol}
+use Rattle.liquid_syntax.specs.declared.symbol.Symbol.TheVariants as symbols
+
+-- the operator that a symbol is
+abbrev pub symbol_operator : Symbol → Option ComparisonOperator
+symbol_operator symbols.Equals = Some operators.Equals
+symbol_operator symbols.NotEquals = Some operators.NotEquals
+symbol_operator symbols.LessOrGreater = Some operators.NotEquals
+symbol_operator symbols.LessThanEquals = Some operators.LessThanEquals
+symbol_operator symbols.GreaterThanEquals = Some operators.GreaterThanEquals
+symbol_operator symbols.LessThan = Some operators.LessThan
+symbol_operator symbols.GreaterThan = Some operators.GreaterThan
+symbol_operator symbols.Assign = None
+symbol_operator symbols.Colon = None
+symbol_operator symbols.Comma = None
+symbol_operator symbols.Bar = None
+
+-- the operator that a token is
+abbrev pub operator_of : Token → Option ComparisonOperator
+operator_of (value x) = cond (is_word (codes "contains") (value x)) (Some operators.Contains) None
+operator_of (range x y) = None
+operator_of (symbol s) = symbol_operator s
+
+-- an atom before the first conjunction
+abbrev pub with_atom : Atom → Condition → Condition
+with_atom a [] = (a ∷ []) ∷ []
+with_atom a (c ∷ cs) = (a ∷ c) ∷ cs
+
+-- what an atom and the token behind it give, where a condition may be behind that
+abbrev pub joined : Atom → Token → Option Condition → Option Condition
+joined a t o = cond (is_word (codes "and") t) (option_map (with_atom a) o) (option_map (λ cs. (a ∷ []) ∷ cs) (cond (is_word (codes "or") t) o None))
+
+-- a comparison, where the token is an operator
+abbrev pub compared_or : Option ComparisonOperator → (ComparisonOperator → Option Condition) → Option Condition → Option Condition
+compared_or None f o = o
+compared_or (Some operator) f o = f operator
+
+-- each eats one token, and answers what all that is left gives
+unfoldable mutual
+  -- a condition
+  pub condition_of : List Token → Option Condition
+  condition_of [] = None
+  condition_of (t ∷ ts) = if_value t (behind_value ts)
+
+  -- behind the first value of an atom
+  pub behind_value : List Token → Expression → Option Condition
+  behind_value [] x = Some ((bare x ∷ []) ∷ [])
+  behind_value (t ∷ ts) x = compared_or (operator_of t) (behind_operator ts x) (joined (bare x) t (condition_of ts))
+
+  -- behind an operator
+  pub behind_operator : List Token → Expression → ComparisonOperator → Option Condition
+  behind_operator [] x operator = None
+  behind_operator (t ∷ ts) x operator = if_value t (λ y. behind_atom ts (compared x operator y))
+
+  -- behind an atom
+  pub behind_atom : List Token → Atom → Option Condition
+  behind_atom [] a = Some ((a ∷ []) ∷ [])
+  behind_atom (t ∷ ts) a = joined a t (condition_of ts)
+
+-- behind a conjunction: nothing, or `or` and a condition
+unfoldable pub alternatives_of : List Token → Option Condition
+alternatives_of [] = Some []
+alternatives_of (t ∷ ts) = cond (is_word (codes "or") t) (condition_of ts) None

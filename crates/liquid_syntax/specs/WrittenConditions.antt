@@ -1,0 +1,37 @@
+-- The written form of a condition: how it stands in a template's source.
+use Rattle.std.specs.Prelude.{List, [], ◌∷◌, map, ◌++◌, codes}
+use Rattle.liquid_core.specs.Texts.{Text}
+use Rattle.liquid_core.specs.Written.{written_form}
+use Rattle.liquid_syntax.specs.Tree.{Atom, bare, compared, Condition}
+use Rattle.liquid_syntax.specs.declared.comparison.ComparisonOperator.{ComparisonOperator}
+use Rattle.liquid_syntax.specs.declared.comparison.ComparisonOperator.TheVariants.{Equals, NotEquals, LessThan, GreaterThan, LessThanEquals, GreaterThanEquals, Contains}
+
+abbrev pub written_operator : ComparisonOperator → Text
+written_operator Equals = codes "=="
+written_operator NotEquals = codes "!="
+written_operator LessThan = codes "<"
+written_operator GreaterThan = codes ">"
+written_operator LessThanEquals = codes "<="
+written_operator GreaterThanEquals = codes ">="
+written_operator Contains = codes "contains"
+
+-- each text with the separator before it
+abbrev pub joined_rest : Text → List Text → Text
+joined_rest separator [] = []
+joined_rest separator (t ∷ ts) = separator ++ (t ++ joined_rest separator ts)
+
+-- the texts with the separator between them
+abbrev pub joined : Text → List Text → Text
+joined separator [] = []
+joined separator (t ∷ ts) = t ++ joined_rest separator ts
+
+-- a comparison has its operator between single spaces
+abbrev pub written_atom : Atom → Text
+written_atom (bare x) = written_form x
+written_atom (compared left operator right) = written_form left ++ (codes " " ++ (written_operator operator ++ (codes " " ++ written_form right)))
+
+abbrev pub written_conjunction : List Atom → Text
+written_conjunction atoms = joined (codes " and ") (map written_atom atoms)
+
+abbrev pub written_condition : Condition → Text
+written_condition conjunctions = joined (codes " or ") (map written_conjunction conjunctions)
