@@ -1,9 +1,9 @@
 -- The next piece, on the code's stack of open blocks.
-use Rattle.std.proofs.Common.{◌≡◌, ◌<◌, List, [], ◌∷◌, Bool, true, false, cond, Some, None, sym, ap, ◌∙◌}
+use Rattle.std.proofs.Common.{◌≡◌, ◌<◌, List, [], ◌∷◌, Bool, true, false, cond, Some, None, sym, ap, subst, ◌∙◌}
 use Rattle.liquid_syntax.specs.Tree.{Nodes, no_nodes}
 use Rattle.liquid_syntax.specs.Flats.{flat_of}
 use Rattle.liquid_syntax.specs.OpenBlocks.{begun, ended, Level, level, depth, deeper, with_node, close, step}
-use Rattle.liquid_syntax.specs.Building.{IsStack, Closes, label_view, opening}
+use Rattle.liquid_syntax.specs.Building.{IsStack, Closes, IsPrepared, IsSound, label_view, opening}
 use Rattle.liquid_syntax.specs.declared.block.Block.{Block}
 use Rattle.liquid_syntax.specs.declared.build.Builder.{Builder}
 use Rattle.liquid_syntax.specs.declared.build.Label.{Label}
@@ -30,3 +30,7 @@ pub begins_step : (b : Block) (stage : Stage) (n : code.Node) (label : Label) (l
     → step (label_view label) ls cur ≡ Some (level (begun (opening b stage (flat_of n))) cur false ∷ ls, no_nodes)
 begins_step b stage n label ls cur is room =
     ap (λ (l : Label). step (label_view l) ls cur) is ∙ ap (λ (x : Bool). cond x (Some (level (begun (opening b stage (flat_of n))) cur false ∷ ls, no_nodes)) None) (is_room (depth ls) room)
+
+-- what is asked of the label of a block is asked of its node
+pub prepared_begins : {b : Block} {stage : Stage} {n : code.Node} {label : Label} → label ≡ labels.Begins b stage n → IsSound label → IsPrepared stage n
+prepared_begins is sound = subst (λ (l : Label). IsSound l) is sound

@@ -111,9 +111,8 @@ impl Builder {
         chained: bool,
         node: Node,
     ) -> Result<(), ParseError>
-        requires { IsPrepared stage node }
         ensures depth { OnOk result (self.new.depth ≡ self.old.depth) }
-        ensures stack { OnOk result ((ls : List Level) (cur : Nodes) → IsStack self.old ls cur → Begins block stage chained node ls cur self.new) }
+        ensures stack { IsPrepared stage node → OnOk result ((ls : List Level) (cur : Nodes) → IsStack self.old ls cur → Begins block stage chained node ls cur self.new) }
         ensures fails { IsMemory result }
     {
         let place = self.nodes.len();
@@ -153,9 +152,8 @@ impl Builder {
 
     /// `elsif`: the last body begins, and in it a block that ends with the one around it.
     fn elsif(&mut self, node: Node) -> Result<(), ParseError>
-        requires built { IsBuilt self.old }
-        requires prepared { IsPrepared stages.First node }
-        ensures { (ls : List Level) (cur : Nodes) → IsBuilding self.old ls cur → Steps (to_elsif (of_bodies (flat_of node)) ls cur) self.new result }
+        requires { IsBuilt self.old }
+        ensures { IsPrepared stages.First node → (ls : List Level) (cur : Nodes) → IsBuilding self.old ls cur → Steps (to_elsif (of_bodies (flat_of node)) ls cur) self.new result }
     {
         let block = self.otherwise()?;
         self.open(block, Stage::First, true, node)

@@ -17,7 +17,7 @@ pub enum TagKind {
 }
 
 /// A tag with a body and an end.
-#[derive(Clone, Copy, Debug, PartialEq, Eq, Drop)]
+#[derive(Clone, Copy, Drop)]
 pub enum BlockKind {}
 
 /// Kinds by the names that they are registered under.

@@ -3,7 +3,7 @@ use Rattle.liquid_syntax.specs.Tree.{no_nodes}
 use Rattle.liquid_syntax.specs.Flats.{flat_of}
 use Rattle.liquid_syntax.specs.OpenBlocks.{depth, level, begun}
 use Rattle.liquid_syntax.specs.Building.{opening}
-use Rattle.liquid_syntax.proofs.Adding.{begins_step}
+use Rattle.liquid_syntax.proofs.Adding.{begins_step, prepared_begins}
 use Rattle.liquid_syntax.proofs.build.Builder.add.Goals as goal
 
 pub returns-in_ok-open-in-Begins : goal.returns-in_ok-open-in-Begins
@@ -14,5 +14,5 @@ returns-in_ok-open-in-Begins c ls cur b =
     let room : depth ls < 200 = omega (arith, d, c.if-self-ge-MAX_DEPTH.false) in (
       (level (begun (opening i.block i.stage (flat_of i.node))) cur false ∷ ls, no_nodes),
       begins_step i.block i.stage i.node c.args.label ls cur i.is room,
-      (c.in_ok-open-in-Begins.ensures.stack ls cur b.0, omega (arith, d, same)),
+      (c.in_ok-open-in-Begins.ensures.stack (prepared_begins i.is c.requires.sound) ls cur b.0, omega (arith, d, same)),
     )
