@@ -56,6 +56,6 @@ impl Write for NoFlush {
 fn a_refused_flush_is_a_failed_write(rt: HostRuntime) -> Result<()> {
     let alloc = rt.alloc();
     let answer = write_page(alloc, "a", "{}", &[], NoFlush);
-    assert!(rt; matches!(answer, Err(fault) if fault.kind == ErrorKind::Write));
+    assert!(rt; matches!(&answer, Err(fault) if fault.kind == ErrorKind::Write));
     Ok(())
 }
