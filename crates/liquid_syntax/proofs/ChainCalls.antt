@@ -6,14 +6,14 @@ use Rattle.liquid_core.specs.Texts.{Text}
 use Rattle.liquid_core.specs.Maps.{listed}
 use Rattle.liquid_core.specs.Expression.{Expression, literal, variable, no_steps, step}
 use Rattle.liquid_syntax.specs.Tree.{FilterCall}
-use Rattle.liquid_syntax.specs.Readers.{Fails, IsFault}
-use Rattle.liquid_syntax.specs.Tokens.{Token, value, range, symbol, tokens_view, word_of, word_in, value_first, word_first, is_symbol, past}
+use Rattle.liquid_source.specs.Readers.{Fails, IsFault}
+use Rattle.liquid_source.specs.Tokens.{Token, value, range, symbol, tokens_view, word_of, word_in, value_first, word_first, is_symbol, past}
 use Rattle.liquid_syntax.specs.Chains.{Filters}
 use Rattle.liquid_syntax.specs.ChainReading.{Called, accepted_call, call_with, filters_of, call_of, called_of, arguments_of, further_of, no_arguments, one_argument}
-use Rattle.liquid_syntax.specs.declared.item.Item.{Item}
-use Rattle.liquid_syntax.specs.declared.symbol.Symbol.TheVariants.{Colon, Comma, Bar}
-use Rattle.liquid_syntax.specs.declared.fault.ParseError.{ParseError}
-use Rattle.liquid_syntax.specs.declared.fault.ParseError.TheVariants as errors
+use Rattle.liquid_source.specs.declared.item.Item.{Item}
+use Rattle.liquid_source.specs.declared.symbol.Symbol.TheVariants.{Colon, Comma, Bar}
+use Rattle.liquid_source.specs.declared.fault.ParseError.{ParseError}
+use Rattle.liquid_source.specs.declared.fault.ParseError.TheVariants as errors
 
 -- ---- what is left of a list of items
 

@@ -9,19 +9,19 @@ use Rattle.liquid_syntax.specs.Judging.{reads}
 use Rattle.liquid_syntax.specs.Nesting.{Label}
 use Rattle.liquid_syntax.specs.OpenBlocks.{Level, State, place_of, step, at_end}
 use Rattle.liquid_syntax.specs.Parsing.{body_of, piece_step, begun_with, template_at, ReadsTo}
-use Rattle.liquid_syntax.specs.Pieces.{Piece, stripped}
-use Rattle.liquid_syntax.specs.Readers.{Fails}
-use Rattle.liquid_syntax.specs.SourceReading.{Markup, markup_at, bare_name, body_at, wanted_body, text_step, source_at}
+use Rattle.liquid_source.specs.Pieces.{Piece, stripped}
+use Rattle.liquid_source.specs.Readers.{Fails}
+use Rattle.liquid_source.specs.SourceReading.{Markup, markup_at, bare_name, body_at, wanted_body, text_step, source_at}
 use Rattle.liquid_syntax.specs.Templates.{tree_of}
 use Rattle.liquid_syntax.specs.Tree.{Nodes}
-use Rattle.liquid_syntax.specs.ValueReading.{past_byte, text_at}
+use Rattle.liquid_source.specs.ValueReading.{past_byte, text_at}
 use Rattle.liquid_syntax.specs.declared.build.Builder.{Builder}
-use Rattle.liquid_syntax.specs.declared.fault.ParseError.{ParseError}
-use Rattle.liquid_syntax.specs.declared.fault.ParseError.TheVariants as errors
+use Rattle.liquid_source.specs.declared.fault.ParseError.{ParseError}
+use Rattle.liquid_source.specs.declared.fault.ParseError.TheVariants as errors
 use Rattle.liquid_syntax.specs.declared.language.Language.{Language}
-use Rattle.liquid_syntax.specs.declared.piece.Body.{Body}
+use Rattle.liquid_source.specs.declared.piece.Body.{Body}
 use Rattle.liquid_syntax.specs.declared.template.Template.{Template}
-use Rattle.liquid_syntax.proofs.SourceTurns.{last_turn, no_markup, no_step, next_turn, turn_shorter}
+use Rattle.liquid_source.proofs.SourceTurns.{last_turn, no_markup, no_step, next_turn, turn_shorter}
 use Rattle.liquid_syntax.proofs.TemplateLaws.{only_tree, no_tree}
 
 -- the tree, where the source ends in this state

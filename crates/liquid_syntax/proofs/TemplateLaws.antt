@@ -5,13 +5,13 @@ use Rattle.liquid_core.specs.Texts.{Text}
 use Rattle.liquid_syntax.specs.Judging.{reads}
 use Rattle.liquid_syntax.specs.Nesting.{Label, leaf, refused}
 use Rattle.liquid_syntax.specs.OpenBlocks.{Level, State, place_of, step, at_end, go, read}
-use Rattle.liquid_syntax.specs.Pieces.{Piece, text, output, tag, raw, comment}
-use Rattle.liquid_syntax.specs.SourceReading.{all_steps, source_at, Wanted, TakesWanted}
+use Rattle.liquid_source.specs.Pieces.{Piece, text, output, tag, raw, comment}
+use Rattle.liquid_source.specs.SourceReading.{all_steps, source_at, Wanted, TakesWanted}
 use Rattle.liquid_syntax.specs.Parsing.{IsTemplate, IsOnlyTree, HasNoTree, body_of, piece_step, begun_with, template_at}
 use Rattle.liquid_syntax.specs.Tree.{Nodes, no_nodes}
 use Rattle.liquid_syntax.specs.declared.language.Language.{Language}
 use Rattle.liquid_syntax.proofs.NestingLaws.{tree_takes, tree_again}
-use Rattle.liquid_syntax.proofs.SourceLaws.{source_takes, source_again}
+use Rattle.liquid_source.proofs.SourceLaws.{source_takes, source_again}
 
 from_some : {A : Type 0} {x y : A} → Some x ≡ Some y → x ≡ y
 from_some h = cc

@@ -5,7 +5,7 @@ use Rattle.liquid_syntax.specs.Forest.{Forest, Bodies, no_bodies, sizes}
 use Rattle.liquid_syntax.specs.Laid.{Flat, ends_of, laid, laid_bodies}
 use Rattle.liquid_syntax.specs.Nesting as nesting
 use Rattle.liquid_syntax.specs.OpenBlocks.{Reading, last, first, unkept, armed, begun, ended, Level, level, State, depth, place_of, to_else, with_node}
-use Rattle.liquid_syntax.specs.Readers.{Fails}
+use Rattle.liquid_source.specs.Readers.{Fails}
 use Rattle.liquid_syntax.specs.Templates.{tree_of}
 use Rattle.liquid_syntax.specs.Tree.{Node, Nodes, no_nodes, plain}
 use Rattle.liquid_syntax.specs.declared.block.Block.{Block}
@@ -17,8 +17,8 @@ use Rattle.liquid_syntax.specs.declared.build.Label.TheVariants as labels
 use Rattle.liquid_syntax.specs.declared.build.Open.{Open}
 use Rattle.liquid_syntax.specs.declared.build.Stage.{Stage}
 use Rattle.liquid_syntax.specs.declared.build.Stage.TheVariants.{First, Last}
-use Rattle.liquid_syntax.specs.declared.fault.ParseError.{ParseError}
-use Rattle.liquid_syntax.specs.declared.fault.ParseError.TheVariants as errors
+use Rattle.liquid_source.specs.declared.fault.ParseError.{ParseError}
+use Rattle.liquid_source.specs.declared.fault.ParseError.TheVariants as errors
 use Rattle.liquid_syntax.specs.declared.node.Node as code
 use Rattle.liquid_syntax.specs.declared.template.Template.{Template}
 

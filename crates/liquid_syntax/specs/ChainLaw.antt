@@ -5,10 +5,10 @@ use Rattle.liquid_syntax.specs.ChainReading.{chain_of}
 use Rattle.liquid_syntax.specs.Chains.{Filters, IsChain}
 use Rattle.liquid_syntax.specs.Judging.{assign_of}
 use Rattle.liquid_syntax.specs.Languages.{kinds_of}
-use Rattle.liquid_syntax.specs.Tokens.{Token, symbol, word}
+use Rattle.liquid_source.specs.Tokens.{Token, symbol, word}
 use Rattle.liquid_syntax.specs.Tree.{Chain, assign}
 use Rattle.liquid_syntax.specs.declared.language.Language.{Language}
-use Rattle.liquid_syntax.specs.declared.symbol.Symbol.TheVariants.{Assign}
+use Rattle.liquid_source.specs.declared.symbol.Symbol.TheVariants.{Assign}
 
 -- tokens are read as a chain exactly where the grammar says that they are it
 abbrev pub ReadsChains : Type 0

@@ -6,8 +6,8 @@ use Rattle.liquid_core.specs.Expression.{Expression}
 use Rattle.liquid_filters.specs.Kinds.{kind_counts}
 use Rattle.liquid_filters.specs.declared.kind.FilterKind.{FilterKind}
 use Rattle.liquid_syntax.specs.Tree.{FilterCall, Chain}
-use Rattle.liquid_syntax.specs.Tokens.{Token, value, symbol, word}
-use Rattle.liquid_syntax.specs.declared.symbol.Symbol.TheVariants.{Colon, Comma, Bar}
+use Rattle.liquid_source.specs.Tokens.{Token, value, symbol, word}
+use Rattle.liquid_source.specs.declared.symbol.Symbol.TheVariants.{Colon, Comma, Bar}
 
 -- the filters that are registered, by name
 abbrev pub Filters : Type 0

@@ -3,8 +3,8 @@ use Rattle.std.specs.Prelude.{◌≡◌, Result, Ok, Err}
 use Rattle.liquid_syntax.specs.Building.{label_view, IsSound}
 use Rattle.liquid_syntax.specs.Nesting as nesting
 use Rattle.liquid_syntax.specs.declared.build.Label.{Label}
-use Rattle.liquid_syntax.specs.declared.fault.ParseError.{ParseError}
-use Rattle.liquid_syntax.specs.declared.fault.ParseError.TheVariants as errors
+use Rattle.liquid_source.specs.declared.fault.ParseError.{ParseError}
+use Rattle.liquid_source.specs.declared.fault.ParseError.TheVariants as errors
 
 -- The label that was to come, memory aside. No fault is answered where the piece isn't refused.
 abbrev pub Judges : nesting.Label → Result Label ParseError → Type 0

@@ -6,8 +6,8 @@ use Rattle.liquid_syntax.specs.ChainReading.{chain_of}
 use Rattle.liquid_syntax.specs.Controls.{end_word}
 use Rattle.liquid_syntax.specs.Languages.{kinds_of}
 use Rattle.liquid_syntax.specs.Nesting.{Label, leaf, ends, refused}
-use Rattle.liquid_syntax.specs.Pieces as pieces
-use Rattle.liquid_syntax.specs.Tokens.{Token, tokens_of, word_first, past}
+use Rattle.liquid_source.specs.Pieces as pieces
+use Rattle.liquid_source.specs.Tokens.{Token, tokens_of, word_first, past}
 use Rattle.liquid_syntax.specs.Tree.{Node, plain, output, assign}
 use Rattle.liquid_syntax.specs.declared.block.Block.{Block}
 use Rattle.liquid_syntax.specs.declared.block.Place.{Place}
@@ -15,7 +15,7 @@ use Rattle.liquid_syntax.specs.declared.block.Place.TheVariants.{Outside, InBody
 use Rattle.liquid_syntax.specs.declared.language.Language.{Language}
 use Rattle.liquid_syntax.specs.declared.language.TagKind.{TagKind}
 use Rattle.liquid_syntax.specs.declared.language.TagKind.TheVariants as tags
-use Rattle.liquid_syntax.specs.declared.symbol.Symbol.TheVariants as symbols
+use Rattle.liquid_source.specs.declared.symbol.Symbol.TheVariants as symbols
 
 abbrev pub leaf_or : Option Node → Label
 leaf_or None = refused

@@ -1,5 +1,4 @@
 pub mod Building
-pub mod Bytes
 pub mod Called
 pub mod Calls
 pub mod ChainLaw
@@ -17,8 +16,6 @@ pub mod Evaluation
 pub mod Flats
 pub mod Forest
 pub mod Groups
-pub mod ItemReading
-pub mod Items
 pub mod Judges
 pub mod Judging
 pub mod Laid
@@ -28,20 +25,8 @@ pub mod Nested
 pub mod Nesting
 pub mod NestingLaw
 pub mod OpenBlocks
-pub mod Openers
 pub mod Parsing
-pub mod PieceView
-pub mod Pieces
-pub mod Readers
-pub mod ReadingLaws
 pub mod Round
-pub mod SourceReading
 pub mod Templates
-pub mod TokenReading
-pub mod Tokens
 pub mod Tree
-pub mod ValueReading
-pub mod Values
-pub mod Verbatim
-pub mod Words
 pub mod WrittenConditions

@@ -10,16 +10,16 @@ use Rattle.liquid_core.specs.declared.error.ErrorKind.{ErrorKind}
 use Rattle.liquid_syntax.specs.Judging.{reads}
 use Rattle.liquid_syntax.specs.Nesting.{AreNodes}
 use Rattle.liquid_syntax.specs.OpenBlocks.{State, place_of, step, at_end}
-use Rattle.liquid_syntax.specs.Pieces.{Piece, IsSource}
-use Rattle.liquid_syntax.specs.SourceReading.{source_at}
+use Rattle.liquid_source.specs.Pieces.{Piece, IsSource}
+use Rattle.liquid_source.specs.SourceReading.{source_at}
 use Rattle.liquid_syntax.specs.Templates.{tree_of}
 use Rattle.liquid_syntax.specs.Tree.{Nodes, no_nodes}
 use Rattle.liquid_syntax.specs.declared.block.Place.TheVariants.{Outside}
 use Rattle.liquid_syntax.specs.declared.language.Language.{Language}
-use Rattle.liquid_syntax.specs.declared.piece.Body.{Body}
+use Rattle.liquid_source.specs.declared.piece.Body.{Body}
 use Rattle.liquid_syntax.specs.declared.template.Template.{Template}
-use Rattle.liquid_syntax.specs.declared.fault.ParseError.{ParseError}
-use Rattle.liquid_syntax.specs.declared.fault.ParseError.TheVariants as errors
+use Rattle.liquid_source.specs.declared.fault.ParseError.{ParseError}
+use Rattle.liquid_source.specs.declared.fault.ParseError.TheVariants as errors
 
 -- The source is pieces, and they are the nodes, of which blocks nest at most 200 deep.
 unfoldable pub IsTemplate : Language → Nodes → Text → Type 0

@@ -8,9 +8,9 @@ ghost use Rattle.liquid_syntax.specs.Tree.{Nodes, no_nodes};
 ghost use Rattle.liquid_syntax.specs.declared.build.Stage.TheVariants as stages;
 
 use crate::block::{Block, Place, end_tag};
-use crate::fault::{Fault, FaultKind, ParseError};
 use crate::node::Node;
 use crate::template::Template;
+use liquid_source::{Fault, FaultKind, ParseError};
 use std::alloc::Global;
 
 /// Which body of a block is being read.

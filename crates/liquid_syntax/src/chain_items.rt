@@ -7,17 +7,14 @@ ghost use Rattle.liquid_syntax.specs.ChainReading.{accepted_call, filters_of, ch
 ghost use Rattle.liquid_syntax.specs.Chains.{Filters};
 ghost use Rattle.liquid_syntax.specs.ChainView.{chain_view, chain_filter_view};
 ghost use Rattle.liquid_syntax.specs.Languages.{kinds_of};
-ghost use Rattle.liquid_syntax.specs.Readers.{Parses, IsFault};
-ghost use Rattle.liquid_syntax.specs.Tokens.{tokens_view};
+ghost use Rattle.liquid_source.specs.Readers.{Parses, IsFault};
+ghost use Rattle.liquid_source.specs.Tokens.{tokens_view};
 
 use crate::chain::{ChainFilter, FilterChain};
-use crate::fault::{Fault, FaultKind, ParseError};
-use crate::item::Item;
 use crate::language::Registry;
-use crate::symbol::Symbol;
-use crate::tokens::{is_over, next_value, next_word, skip};
 use liquid_core::{Expression, Filter};
 use liquid_filters::FilterKind;
+use liquid_source::{Fault, FaultKind, Item, ParseError, Symbol, is_over, next_value, next_word, skip};
 use std::alloc::Global;
 use std::collections::VecDeque;
 

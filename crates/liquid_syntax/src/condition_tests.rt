@@ -1,8 +1,7 @@
 //! Conditions that are read, and items that are none, at examples.
 use crate::condition::Condition;
 use crate::condition_items::read_condition;
-use crate::fault::ParseError;
-use crate::item::{Delimiter, read_items};
+use liquid_source::{Delimiter, ParseError, read_items};
 use std::alloc::Global;
 use std::test::Fail;
 

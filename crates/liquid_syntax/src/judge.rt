@@ -2,25 +2,21 @@
 ghost use Rattle.std.specs.Prelude.{◌≡◌};
 ghost use Rattle.liquid_syntax.specs.Judges.{Judges};
 ghost use Rattle.liquid_syntax.specs.Judging.{assign_of, ends_or, in_block, leaf_or, reads, registered, tag_label};
-ghost use Rattle.liquid_syntax.specs.PieceView.{piece_view};
-ghost use Rattle.liquid_syntax.specs.Readers.{IsFault};
-ghost use Rattle.liquid_syntax.specs.Tokens.{tokens_view};
+ghost use Rattle.liquid_source.specs.PieceView.{piece_view};
+ghost use Rattle.liquid_source.specs.Readers.{IsFault};
+ghost use Rattle.liquid_source.specs.Tokens.{tokens_view};
 
 use crate::block::{Block, Place, end_tag};
 use crate::build::Label;
 use crate::chain_items::{expected, read_chain};
-use crate::fault::{Fault, FaultKind, ParseError};
-use crate::item::Item;
 use crate::language::{Language, TagKind};
 use crate::node::Node;
-use crate::piece::Piece;
-use crate::symbol::Symbol;
-use crate::tokens::{next_word, skip};
+use liquid_source::{Fault, FaultKind, Item, ParseError, Piece, Symbol, next_word, skip};
 use std::alloc::Global;
 use std::collections::VecDeque;
 
 /// The label of a piece that stands at a place. `at` is the source from the piece on.
-#[tactic(auto, using(crate::proofs::Seen::seen_tokens))]
+#[tactic(auto, using(liquid_source::proofs::Seen::seen_tokens))]
 pub fn judge(
     alloc: Global,
     language: &Language,

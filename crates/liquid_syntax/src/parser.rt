@@ -3,13 +3,11 @@ ghost use Rattle.std.specs.Prelude.{◌≡◌, IfErr};
 ghost use Rattle.liquid_syntax.specs.Parsing.{IsOfSource, ParsesTo, ReadsTo};
 
 use crate::build::Builder;
-use crate::cut::{past_byte, stripped, text_before};
-use crate::fault::ParseError;
 use crate::judge::judge;
 use crate::language::Language;
-use crate::piece::read_markup;
 use crate::template::Template;
 use liquid_core::Result;
+use liquid_source::{ParseError, past_byte, read_markup, stripped, text_before};
 use std::alloc::Global;
 
 /// The template that a source is, in a language.

@@ -3,8 +3,8 @@ use Rattle.std.proofs.lemmas.List.{map-append}
 use Rattle.std.proofs.lemmas.Result.{err_from_is_err_and}
 use Rattle.liquid_core.specs.ExpressionView.{expression_view}
 use Rattle.liquid_core.specs.Maps.{listed}
-use Rattle.liquid_syntax.specs.Readers.{Fails}
-use Rattle.liquid_syntax.specs.Tokens.{tokens_view}
+use Rattle.liquid_source.specs.Readers.{Fails}
+use Rattle.liquid_source.specs.Tokens.{tokens_view}
 use Rattle.liquid_syntax.specs.ChainView.{chain_filter_view}
 use Rattle.liquid_syntax.specs.Languages.{kinds_of}
 use Rattle.liquid_syntax.specs.ChainReading.{filters_of, accepted_call}

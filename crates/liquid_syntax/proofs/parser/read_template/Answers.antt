@@ -8,8 +8,8 @@ use Rattle.liquid_syntax.specs.Judging.{reads}
 use Rattle.liquid_syntax.specs.Nesting.{Label}
 use Rattle.liquid_syntax.specs.OpenBlocks.{place_of, step}
 use Rattle.liquid_syntax.specs.Parsing.{template_at}
-use Rattle.liquid_syntax.specs.PieceView.{markup_view, piece_view}
-use Rattle.liquid_syntax.specs.Readers.{Fails}
+use Rattle.liquid_source.specs.PieceView.{markup_view, piece_view}
+use Rattle.liquid_source.specs.Readers.{Fails}
 use Rattle.liquid_syntax.specs.Tree.{no_nodes}
 use Rattle.liquid_syntax.specs.declared.block.Place.{Place}
 use Rattle.liquid_syntax.proofs.Grow.{place_is}

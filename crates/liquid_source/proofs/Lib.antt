@@ -1,0 +1,15 @@
+pub mod CommentLaws
+pub mod CommentTurns
+pub mod Cuts
+pub mod Expressions
+pub mod ItemLaws
+pub mod ItemTurns
+pub mod MarkCuts
+pub mod MarkLaws
+pub mod PlainWords
+pub mod Seen
+pub mod SourceLaws
+pub mod SourceTurns
+pub mod StepTurns
+pub mod ValueLaws
+pub mod WordLaws

@@ -1,0 +1,18 @@
+-- A variable with steps is no word.
+use Rattle.std.proofs.Common.{◌≡◌, ℕ, List, [], ◌∷◌, length, Option, Some, None, string_bytes, refl, sym, ap, ◌∙◌, rules}
+use Rattle.liquid_core.specs.Texts.{Text}
+use Rattle.liquid_core.specs.Expression as tree
+use Rattle.liquid_core.specs.ExpressionView.{expression_view, steps_view}
+use Rattle.liquid_core.specs.declared.expression.Expression.{Expression, Variable, the_lemmas}
+use Rattle.liquid_core.specs.declared.expression.Variable as declared
+use Rattle.liquid_source.specs.Tokens.{word_if, word_in}
+
+variable_seen : (v : declared.Variable) → expression_view (Variable v) ≡ tree.variable (string_bytes v.name) (steps_view v.indexes.items)
+variable_seen v = search (rules, the_lemmas)
+
+stepped : (w : Text) (xs : List Expression) → (length xs ≡ 0 → ⊥) → None ≡ word_if w (steps_view xs)
+stepped w [] some = absurd (some refl)
+stepped w (x ∷ xs) some = refl
+
+pub no_word : (x : Expression) (v : declared.Variable) → x ≡ Variable v → (length v.indexes.items ≡ 0 → ⊥) → None ≡ word_in (expression_view x)
+no_word x v is some = stepped (string_bytes v.name) v.indexes.items some ∙ sym (ap (λ y. word_in (expression_view y)) is ∙ ap word_in (variable_seen v))

@@ -1,0 +1,15 @@
+pub mod Bytes
+pub mod ItemReading
+pub mod Items
+pub mod Openers
+pub mod PieceView
+pub mod Pieces
+pub mod Readers
+pub mod ReadingLaws
+pub mod SourceReading
+pub mod TokenReading
+pub mod Tokens
+pub mod ValueReading
+pub mod Values
+pub mod Verbatim
+pub mod Words

@@ -1,0 +1,15 @@
+-- The written grammar of what stands behind the `{` of an opener.
+use Rattle.std.specs.Prelude.{◌≡◌, ℕ, List, ◌∷◌, Bool, true, false}
+use Rattle.liquid_source.specs.Words.{begins_with}
+use Rattle.liquid_source.specs.declared.item.Delimiter.{Delimiter}
+use Rattle.liquid_source.specs.declared.item.Delimiter.TheVariants.{Output, Tag}
+
+-- an output opens by `{{`, a tag by `{%`
+abbrev pub opener : Delimiter → ℕ
+opener Output = 123
+opener Tag = 37
+
+-- a dash belongs to the opener. The truth value: whether it has one
+pub data IsOpener : Delimiter → Bool → List ℕ → List ℕ → Type 0 where
+  with_dash : {k : Delimiter} {rest : List ℕ} → IsOpener k true (opener k ∷ 45 ∷ rest) rest
+  no_dash : {k : Delimiter} {rest : List ℕ} → begins_with 45 rest ≡ false → IsOpener k false (opener k ∷ rest) rest

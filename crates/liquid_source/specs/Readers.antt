@@ -1,0 +1,42 @@
+-- What a reader answers.
+use Rattle.std.specs.Prelude.{◌≡◌, ◌⊎◌, Option, Some, None, Result, Ok, Err}
+use Rattle.liquid_core.specs.declared.error.ErrorKind.{ErrorKind}
+use Rattle.liquid_core.specs.declared.error.ErrorKind.TheVariants.{Memory}
+use Rattle.liquid_source.specs.declared.fault.FaultKind.{FaultKind}
+use Rattle.liquid_source.specs.declared.fault.FaultKind.TheVariants as faults
+use Rattle.liquid_source.specs.declared.fault.ParseError.{ParseError}
+use Rattle.liquid_source.specs.declared.fault.ParseError.TheVariants as errors
+use Rattle.liquid_core.specs.declared.error.ErrorKind.TheVariants as kinds
+
+-- memory aside, nothing is to be read there; which fault it is isn't said
+abbrev pub Fails : {Y : Type 0} → ParseError → Option Y → Type 0
+Fails errors.Memory read = Unit {0}
+Fails (errors.Fault f) read = read ≡ None
+
+-- what was read, seen by the view, is what reading gives
+abbrev pub Parses : {X Y : Type 0} → (X → Y) → Result X ParseError → Option Y → Type 0
+Parses view (Ok x) read = read ≡ Some (view x)
+Parses view (Err e) read = Fails e read
+
+abbrev pub kind_of : FaultKind → ErrorKind
+kind_of faults.Unclosed = kinds.Unclosed
+kind_of faults.BadItem = kinds.BadItem
+kind_of faults.NumberLiteral = kinds.NumberLiteral
+kind_of faults.FloatLiteral = kinds.FloatLiteral
+kind_of faults.StateWord = kinds.StateWord
+kind_of faults.UnknownTag = kinds.UnknownTag
+kind_of faults.UnknownFilter = kinds.UnknownFilter
+kind_of faults.FilterArguments = kinds.FilterArguments
+kind_of faults.Expected = kinds.Expected
+kind_of faults.MissingEnd = kinds.MissingEnd
+kind_of faults.TooNested = kinds.TooNested
+
+-- a want of memory is told as that; a fault by its kind, unless there is no memory for its message
+abbrev pub TellsOf : ParseError → ErrorKind → Type 0
+TellsOf errors.Memory told = told ≡ Memory
+TellsOf (errors.Fault f) told = (told ≡ kind_of f.kind) ⊎ (told ≡ Memory)
+
+-- a fault of the source, and no want of memory
+abbrev pub IsFault : ParseError → Type 0
+IsFault errors.Memory = ⊥
+IsFault (errors.Fault f) = Unit {0}

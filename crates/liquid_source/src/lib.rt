@@ -1,0 +1,25 @@
+//! Sources, cut into pieces and items: what is read before any tag, block or filter is known by name.
+#![tactic(auto)]
+
+mod cut;
+mod fault;
+mod item;
+mod laws;
+mod mark;
+mod number;
+mod piece;
+#[cfg(test)]
+mod piece_tests;
+mod scan;
+mod symbol;
+mod tokens;
+mod value;
+
+pub use cut::{past_byte, stripped, text_before};
+pub use fault::{Fault, FaultKind, ParseError};
+pub use item::{Delimiter, Item};
+pub use laws::{item_laws, source_laws, value_laws, verbatim_laws};
+pub use mark::Mark;
+pub use piece::{Body, Markup, Piece, bare_name, read_body, read_markup};
+pub use symbol::Symbol;
+pub use tokens::{is_over, is_word, next_value, next_word, skip, skip_word};

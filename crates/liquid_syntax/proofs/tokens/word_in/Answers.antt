@@ -1,6 +1,0 @@
-use Rattle.std.proofs.Common.{arith}
-use Rattle.liquid_syntax.proofs.PlainWords.{no_word}
-use Rattle.liquid_syntax.proofs.tokens.word_in.Goals as goal
-
-pub returns : goal.returns
-returns c = no_word c.args.value c.in-Variable.variable c.in-Variable.is (λ e. grind (arith, e, c.if-is_empty.false, c.is_empty.ensures))
