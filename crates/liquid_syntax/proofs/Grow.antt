@@ -1,5 +1,5 @@
 -- Each step of building.
-use Rattle.std.proofs.Common.{◌≡◌, ℕ, suc, ◌+◌, ◌-◌, ◌<◌, List, [], ◌∷◌, ◌++◌, length, get_or, reverse, Bool, Some, None, refl, sym, ap, ◌∙◌, subst, arith, append_assoc, length-append}
+use Rattle.std.proofs.Common.{◌≡◌, ℕ, suc, ◌+◌, ◌-◌, ◌<◌, List, [], ◌∷◌, ◌++◌, length, get_or, reverse, Bool, true, Some, None, refl, sym, ap, ◌∙◌, subst, arith, append_assoc, length-append}
 use Rattle.std.proofs.lemmas.List.{append-nil, reverse-append, reverse-reverse, length-reverse}
 use Rattle.std.specs.Prelude.{slice_set, slice_get}
 use Rattle.std.proofs.Math.Seq.{set-append_seam, get_or-append_seam}
@@ -9,11 +9,11 @@ use Rattle.liquid_syntax.specs.Forest as forest
 use Rattle.liquid_syntax.specs.Forest.{Forest, Bodies, empty, node, no_bodies, body, size, sizes}
 use Rattle.liquid_syntax.specs.Laid.{Flat, ends_of, laid, laid_bodies}
 use Rattle.liquid_syntax.specs.Round.{length-laid, length-laid_bodies}
-use Rattle.liquid_syntax.specs.OpenBlocks.{append, Reading, last, first, unkept, armed, place_in, ended, Level, level, place_of, depth, State, with_node, to_else, at_end}
+use Rattle.liquid_syntax.specs.OpenBlocks.{append, Reading, last, first, unkept, armed, begun, to_elsif, elsif_of, place_in, ended, Level, level, place_of, depth, State, with_node, to_else, at_end}
 use Rattle.liquid_syntax.specs.Tree as tree
 use Rattle.liquid_syntax.specs.Tree.{Nodes, no_nodes}
-use Rattle.liquid_syntax.specs.Flats.{flats}
-use Rattle.liquid_syntax.specs.Building.{set_first, set_last, first_ended, last_ended, block_ended, Fits, Builds, Closes, stage_place, place_at}
+use Rattle.liquid_syntax.specs.Flats.{flat_of, flats}
+use Rattle.liquid_syntax.specs.Building.{IsPrepared, opening, set_first, set_last, first_ended, last_ended, block_ended, Fits, Builds, Closes, stage_place, place_at}
 use Rattle.liquid_syntax.specs.declared.block.Block.{Block}
 use Rattle.liquid_syntax.specs.declared.build.Builder.{Builder}
 use Rattle.liquid_syntax.specs.declared.block.Place.{Place}
@@ -332,3 +332,42 @@ not_end ns (o ∷ os) (l ∷ ls) cur h b = refl
 
 pub still_open : (ns : Flats) (xs : List Open) (ls : List Level) (cur : Nodes) → (length xs ≡ 0 → ⊥) → Builds ns (reverse xs) ls cur → at_end ls cur ≡ None
 still_open ns xs ls cur h b = not_end ns (reverse xs) ls cur (λ e. h (sym (length-reverse xs) ∙ e)) b
+
+prepared_fits : (o : Open) (b : Block) (stage : Stage) (n : code.Node) (k : ℕ) → o.stage ≡ stage → o.block ≡ b → IsPrepared stage n → Fits o (begun (opening b stage (flat_of n))) (flat_of n) no_bodies k
+prepared_fits o b First n k st bl prepared = (st, bl, refl, prepared, λ g h. refl)
+prepared_fits o b Last n k st bl prepared = (st, bl, prepared, λ g. refl)
+
+-- a block begins behind the nodes
+pub begins_on : (ns ms : Flats) (n : code.Node) (all now : List Open) (o : Open) (b : Block) (stage : Stage) (ls : List Level) (cur : Nodes) → ms ≡ ns ++ flat_of n ∷ [] → now ≡ all ++ o ∷ [] → o.place ≡ length ns
+    → o.stage ≡ stage → o.block ≡ b → IsPrepared stage n → Builds ns (reverse all) ls cur → Builds ms (reverse now) (level (begun (opening b stage (flat_of n))) cur o.chained ∷ ls) no_nodes
+begins_on ns ms n all now o b stage ls cur e stack at st bl prepared built =
+    subst (λ os. Builds ms os (level (begun (opening b stage (flat_of n))) cur o.chained ∷ ls) no_nodes) (sym (ap reverse stack ∙ reverse-last all o))
+    (begin ns ms (flat_of n) (begun (opening b stage (flat_of n))) o (reverse all) ls cur e at (prepared_fits o b stage n (length ns + 1) st bl prepared) built)
+
+same_state : (s t : State) → Some s ≡ Some t → s ≡ t
+same_state s t e = cc
+
+same_last : (a b : Block) → InLast a ≡ InLast b → a ≡ b
+same_last a b e = cc
+
+-- an `elsif`: the last body begins, and in it a block that ends with the one around it
+pub elsif_after : (ns : Flats) (os : List Open) (next : Nodes → Nodes → tree.Node) (ls : List Level) (cur : Nodes) (s : State) (b : Block) → Builds ns os ls cur → to_else ls cur ≡ Some s → place_of s.0 ≡ InLast b
+    → to_elsif next ls cur ≡ Some (level (first b next) s.1 true ∷ s.0, no_nodes)
+elsif_after ns os next [] cur s b built h at = absurd cc
+elsif_after ns os next (level (last c make) f k ∷ ls) cur s b built h at = absurd cc
+elsif_after ns os next (level (first c make) f k ∷ ls) cur s b built h at =
+    let is : (level (last c (make cur)) f k ∷ ls, no_nodes) ≡ s = same_state (level (last c (make cur)) f k ∷ ls, no_nodes) s h in
+    let block : c ≡ b = same_last c b (ap (λ (s : State). place_of s.0) is ∙ at) in
+    ap (λ (s : State). Some (level (first c next) s.1 true ∷ s.0, no_nodes)) is ∙ ap (λ (c : Block). Some (level (first c next) s.1 true ∷ s.0, no_nodes)) block
+elsif_after ns [] next (level (unkept c make) f k ∷ ls) cur s b built h at = absurd built
+elsif_after ns (o ∷ os) next (level (unkept c make) f k ∷ ls) cur s b (pre, x, bs, cs, is, at', chained, fits, e, below) h at = absurd fits
+elsif_after ns [] next (level (armed c make) f k ∷ ls) cur s b built h at = absurd built
+elsif_after ns (o ∷ os) next (level (armed c make) f k ∷ ls) cur s b (pre, x, bs, cs, is, at', chained, fits, e, below) h at = absurd fits
+
+-- where no `else` may stand, no `elsif` may
+pub no_elsif : (next : Nodes → Nodes → tree.Node) (ls : List Level) (cur : Nodes) → to_else ls cur ≡ None → to_elsif next ls cur ≡ None
+no_elsif next [] cur h = refl
+no_elsif next (level (last c make) f k ∷ ls) cur h = refl
+no_elsif next (level (first c make) f k ∷ ls) cur h = absurd cc
+no_elsif next (level (unkept c make) f k ∷ ls) cur h = refl
+no_elsif next (level (armed c make) f k ∷ ls) cur h = refl

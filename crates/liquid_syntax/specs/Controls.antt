@@ -1,7 +1,9 @@
 -- The words that a block knows besides those that are registered.
-use Rattle.std.specs.Prelude.{codes}
+use Rattle.std.specs.Prelude.{List, codes, cond, bytes_eq, Option, Some, None}
 use Rattle.liquid_core.specs.Texts.{Text}
 use Rattle.liquid_syntax.specs.declared.block.Block.{Block}
+use Rattle.liquid_syntax.specs.declared.block.Control.{Control}
+use Rattle.liquid_syntax.specs.declared.block.Control.TheVariants.{Elsif, Else}
 use Rattle.liquid_syntax.specs.declared.block.Block.TheVariants.{If, Unless, Case, For, TableRow, Capture, IfChanged}
 
 abbrev pub end_word : Block → Text
@@ -12,3 +14,17 @@ end_word For = codes "endfor"
 end_word TableRow = codes "endtablerow"
 end_word Capture = codes "endcapture"
 end_word IfChanged = codes "endifchanged"
+
+-- `else`, or nothing
+abbrev pub else_word : Text → Option Control
+else_word w = cond (bytes_eq w (codes "else")) (Some Else) None
+
+-- the control word that a name is, in a body of the block that one can end; what `case` and `for` know comes with them
+abbrev pub control_of : Block → Text → Option Control
+control_of If w = cond (bytes_eq w (codes "elsif")) (Some Elsif) (else_word w)
+control_of Unless w = else_word w
+control_of Case w = None
+control_of For w = None
+control_of TableRow w = None
+control_of Capture w = None
+control_of IfChanged w = None

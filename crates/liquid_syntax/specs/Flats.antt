@@ -5,11 +5,13 @@
 --     NodeAt ns at n next      the node at `at`, with its bodies, is n, and ends before `next`
 use Rattle.std.specs.Prelude.{◌≡◌, ℕ, ◌+◌, ◌≤◌, List, [], ◌∷◌, map, Some, slice_get, string_bytes}
 use Rattle.liquid_syntax.specs.ChainView.{chain_view}
+use Rattle.liquid_syntax.specs.ConditionView.{condition_view}
 use Rattle.liquid_syntax.specs.Tree as tree
 use Rattle.liquid_syntax.specs.Forest.{Forest, Bodies, empty, node, no_bodies, body}
 use Rattle.liquid_syntax.specs.Laid.{Flat, Stands, StandBodies, last_end}
 use Rattle.liquid_syntax.specs.declared.node.Node.{Node}
-use Rattle.liquid_syntax.specs.declared.node.Node.TheVariants.{Text as Plain, Output, Assign}
+use Rattle.liquid_syntax.specs.declared.node.TwoBodies.{TwoBodies}
+use Rattle.liquid_syntax.specs.declared.node.Node.TheVariants.{Text as Plain, Output, Assign, If}
 
 -- a node of the tree, from the trees of its bodies
 abbrev pub Maker : Type 0
@@ -26,11 +28,15 @@ with_two make _ = tree.comment
 abbrev pub leaf : tree.Node → Flat Maker
 leaf n = record { head = (λ bodies. n); ends = [] }
 
+abbrev pub two_bodies : (tree.Nodes → tree.Nodes → tree.Node) → TwoBodies → Flat Maker
+two_bodies make bodies = record { head = with_two make; ends = bodies.first_end ∷ bodies.last_end ∷ [] }
+
 -- one clause for each kind of node
 abbrev pub flat_of : Node → Flat Maker
 flat_of (Plain t) = leaf (tree.plain (string_bytes t))
 flat_of (Output chain) = leaf (tree.output (chain_view chain))
 flat_of (Assign name chain) = leaf (tree.assign (string_bytes name) (chain_view chain))
+flat_of (If condition bodies) = two_bodies (tree.if_true (condition_view condition)) bodies
 
 abbrev pub flats : List Node → List (Flat Maker)
 flats ns = map flat_of ns

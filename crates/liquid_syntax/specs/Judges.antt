@@ -1,13 +1,23 @@
 -- What judging a piece answers.
-use Rattle.std.specs.Prelude.{◌≡◌, Result, Ok, Err}
-use Rattle.liquid_syntax.specs.Building.{label_view, IsSound}
+use Rattle.std.specs.Prelude.{◌≡◌, Option, Some, Result, Ok, Err}
+use Rattle.liquid_source.specs.Readers.{Fails}
+use Rattle.liquid_syntax.specs.Building.{label_view, of_bodies, IsPrepared, IsSound}
+use Rattle.liquid_syntax.specs.Flats.{flat_of}
 use Rattle.liquid_syntax.specs.Nesting as nesting
+use Rattle.liquid_syntax.specs.Tree.{Node, Nodes}
 use Rattle.liquid_syntax.specs.declared.build.Label.{Label}
+use Rattle.liquid_syntax.specs.declared.build.Stage.TheVariants.{First}
 use Rattle.liquid_source.specs.declared.fault.ParseError.{ParseError}
 use Rattle.liquid_source.specs.declared.fault.ParseError.TheVariants as errors
+use Rattle.liquid_syntax.specs.declared.node.Node as code
 
 -- The label that was to come, memory aside. No fault is answered where the piece isn't refused.
 abbrev pub Judges : nesting.Label → Result Label ParseError → Type 0
 Judges l (Ok x) = (l ≡ label_view x) × IsSound x
 Judges l (Err errors.Memory) = Unit {0}
 Judges l (Err (errors.Fault f)) = l ≡ nesting.refused
+
+-- A node with two bodies that makes what was to be made of them, memory aside. No fault is answered where something was.
+abbrev pub ReadsTwo : Option (Nodes → Nodes → Node) → Result code.Node ParseError → Type 0
+ReadsTwo o (Ok n) = (o ≡ Some (of_bodies (flat_of n))) × IsPrepared First n
+ReadsTwo o (Err e) = Fails e o

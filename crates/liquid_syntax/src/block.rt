@@ -1,6 +1,6 @@
 //! Blocks that are open while a source is read.
 ghost use Rattle.std.specs.Prelude.{◌≡◌};
-ghost use Rattle.liquid_syntax.specs.Controls.{end_word};
+ghost use Rattle.liquid_syntax.specs.Controls.{control_of, end_word};
 
 /// A block with bodies of its own.
 #[derive(Clone, Copy, Debug, PartialEq, Eq)]
@@ -23,6 +23,26 @@ pub enum Place {
     InBody(Block),
     /// In the last body that the block can have, which its end alone ends.
     InLast(Block),
+}
+
+/// A word that a block knows in a body, besides its end.
+#[derive(Clone, Copy, Debug, PartialEq, Eq)]
+pub enum Control {
+    /// `elsif condition`
+    Elsif,
+    /// `else`
+    Else,
+}
+
+/// The control word of the block that a tag's name is, in a body that it can end.
+pub fn control_word(block: Block, name: &str) -> Option<Control>
+    ensures { result ≡ control_of block name.now }
+{
+    match block {
+        Block::If if name == "elsif" => Some(Control::Elsif),
+        Block::If | Block::Unless if name == "else" => Some(Control::Else),
+        _ => None,
+    }
 }
 
 /// The tag that ends the block.

@@ -239,19 +239,21 @@ fn end_block(node: &mut Node, stage: Stage, end: usize)
 }
 
 /// Writes where the first of two bodies ends.
-fn end_first(node: &mut Node, _end: usize)
-    ensures { flat_of node.new ≡ first_ended _end (flat_of node.old) }
+fn end_first(node: &mut Node, end: usize)
+    ensures { flat_of node.new ≡ first_ended end (flat_of node.old) }
 {
     match node {
+        Node::If(_, bodies) => bodies.first_end = end,
         Node::Text(_) | Node::Output(_) | Node::Assign(..) => {}
     }
 }
 
 /// Writes where the last body ends.
-fn end_last(node: &mut Node, _end: usize)
-    ensures { flat_of node.new ≡ last_ended _end (flat_of node.old) }
+fn end_last(node: &mut Node, end: usize)
+    ensures { flat_of node.new ≡ last_ended end (flat_of node.old) }
 {
     match node {
+        Node::If(_, bodies) => bodies.last_end = end,
         Node::Text(_) | Node::Output(_) | Node::Assign(..) => {}
     }
 }

@@ -14,7 +14,9 @@ use crate::chain::{ChainFilter, FilterChain};
 use crate::language::Registry;
 use liquid_core::{Expression, Filter};
 use liquid_filters::FilterKind;
-use liquid_source::{Fault, FaultKind, Item, ParseError, Symbol, is_over, next_value, next_word, skip};
+use liquid_source::{
+    Fault, FaultKind, Item, ParseError, Symbol, is_over, next_value, next_word, skip,
+};
 use std::alloc::Global;
 use std::collections::VecDeque;
 

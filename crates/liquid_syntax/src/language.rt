@@ -17,8 +17,11 @@ pub enum TagKind {
 }
 
 /// A tag with a body and an end.
-#[derive(Clone, Copy, Drop)]
-pub enum BlockKind {}
+#[derive(Clone, Copy, Debug, PartialEq, Eq, Drop)]
+pub enum BlockKind {
+    /// `{% if condition %}`, with `elsif` and `else`
+    If,
+}
 
 /// Kinds by the names that they are registered under.
 #[derive(Drop)]

@@ -21,19 +21,18 @@ mod parser_tests;
 mod partials;
 mod template;
 
-pub use block::{Block, Place};
+pub use block::{Block, Control, Place};
 pub use chain::{ChainFilter, FilterChain};
 pub use comparison::ComparisonOperator;
 pub use condition::{Atom, Condition};
 pub use filter_call::{FilterCall, apply_filters};
 pub use language::{BlockKind, Language, Registry, TagKind};
 pub use laws::{chain_laws, condition_law, nesting_laws};
-pub use node::Node;
+pub use liquid_source::{
+    Body, Delimiter, Fault, FaultKind, Item, Mark, Markup, ParseError, Piece, Symbol, item_laws,
+    source_laws, value_laws, verbatim_laws,
+};
+pub use node::{Node, TwoBodies};
 pub use parser::parse;
 pub use partials::Partials;
 pub use template::Template;
-
-pub use liquid_source::{
-    Body, Delimiter, Fault, FaultKind, Item, Mark, Markup, ParseError, Piece, Symbol, item_laws, source_laws, value_laws,
-    verbatim_laws,
-};

@@ -1,6 +1,24 @@
 //! The nodes of a template.
 
 use crate::chain::FilterChain;
+use crate::condition::Condition;
+
+/// Where the two bodies of a node end, as indices of the list.
+#[derive(Clone, Copy, Debug, PartialEq, Eq)]
+pub struct TwoBodies {
+    pub first_end: usize,
+    pub last_end: usize,
+}
+
+impl TwoBodies {
+    /// The bodies of a node of which it isn't known yet where they end.
+    pub fn open() -> TwoBodies {
+        TwoBodies {
+            first_end: 0,
+            last_end: 0,
+        }
+    }
+}
 
 /// A node of a template's list.
 ///
@@ -15,4 +33,7 @@ pub enum Node {
     Output(FilterChain),
     /// `{% assign name = chain %}`
     Assign(String, FilterChain),
+    /// `{% if condition %}`, with the body that runs where the condition holds, and that of `else`.
+    /// An `elsif` is an `If` alone in the body of `else`.
+    If(Condition, TwoBodies),
 }
