@@ -1,5 +1,6 @@
 -- The next piece, on the code's stack of open blocks.
-use Rattle.std.proofs.Common.{◌≡◌, ◌<◌, List, [], ◌∷◌, Bool, true, false, cond, Option, Some, None, Result, Ok, Err, OnOk, sym, ap, subst, ◌∙◌}
+use Rattle.std.proofs.Common.{◌≡◌, ◌<◌, ℕ, nat_le, arith, List, [], ◌∷◌, Bool, true, false, cond, Option, Some, None, Result, Ok, Err, OnOk, sym, ap, subst, ◌∙◌}
+use Rattle.std.proofs.lemmas.Bool.Decides.{nat_tests}
 use Rattle.liquid_source.specs.Readers.{Fails}
 use Rattle.liquid_source.specs.declared.fault.ParseError.{ParseError}
 use Rattle.liquid_source.specs.declared.fault.ParseError.TheVariants as errors
@@ -15,7 +16,7 @@ use Rattle.liquid_syntax.specs.declared.build.Stage.{Stage}
 use Rattle.liquid_syntax.specs.declared.build.Stage.TheVariants.{First}
 use Rattle.liquid_syntax.specs.declared.node.Node as code
 use Rattle.liquid_syntax.proofs.Grow.{no_elsif}
-use Rattle.liquid_syntax.proofs.NestingLaws.{is_room}
+use Rattle.liquid_syntax.proofs.NestingLaws.{some_room}
 
 -- one block of a chain of `elsif` has ended
 pub chain_step : (b : Builder) (chained around : Bool) (ls ms : List Level) (cur now : Nodes) → chained ≡ true → close true ls cur ≡ close chained ms now → depth ls ≡ deeper chained (depth ms) → Closes ms now b (Some around)
@@ -34,7 +35,7 @@ chain_none b chained ls (level r f k ∷ ms) cur now t e h = absurd h
 pub begins_step : (b : Block) (stage : Stage) (n : code.Node) (label : Label) (ls : List Level) (cur : Nodes) → label ≡ labels.Begins b stage n → depth ls < 200
     → step (label_view label) ls cur ≡ Some (level (begun (opening b stage (flat_of n))) cur false ∷ ls, no_nodes)
 begins_step b stage n label ls cur is room =
-    ap (λ (l : Label). step (label_view l) ls cur) is ∙ ap (λ (x : Bool). cond x (Some (level (begun (opening b stage (flat_of n))) cur false ∷ ls, no_nodes)) None) (is_room (depth ls) room)
+    ap (λ (l : Label). step (label_view l) ls cur) is ∙ ap (λ (x : Bool). cond x (Some (level (begun (opening b stage (flat_of n))) cur false ∷ ls, no_nodes)) None) (some_room (depth ls) room)
 
 -- what is asked of the label of a block is asked of its node
 pub prepared_begins : {b : Block} {stage : Stage} {n : code.Node} {label : Label} → label ≡ labels.Begins b stage n → IsSound label → IsPrepared stage n
@@ -51,3 +52,11 @@ elsif_opens (Err (errors.Fault f)) b was block n read s memory is deep opens bui
 pub elsif_fails : (e : ParseError) (next : Nodes → Nodes → Node) (ls : List Level) (cur : Nodes) → Fails e (to_else ls cur) → Fails e (to_elsif next ls cur)
 elsif_fails errors.Memory next ls cur h = tt
 elsif_fails (errors.Fault f) next ls cur h = no_elsif next ls cur h
+
+pub closed_step : (n : code.Node) (label : Label) (ls : List Level) (cur : Nodes) → label ≡ labels.Closed n → depth ls < 200 → step (label_view label) ls cur ≡ Some (ls, with_node cur ((flat_of n).head []))
+closed_step n label ls cur is room =
+    ap (λ (l : Label). step (label_view l) ls cur) is ∙ ap (λ (x : Bool). cond x (Some (ls, with_node cur ((flat_of n).head []))) None) (some_room (depth ls) room)
+
+-- a builder that isn't full has room for a block
+pub has_room : (n m : ℕ) (full : Bool) → full ≡ nat_le 200 n → full ≡ false → n ≡ m → m < 200
+has_room n m full is off same = let l : nat_le 200 n ≡ false = sym is ∙ off in let k : n < 200 = grind (arith, nat_tests) in omega (arith, k, same)

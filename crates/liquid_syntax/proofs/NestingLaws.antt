@@ -3,8 +3,8 @@ use Rattle.std.proofs.Common.{◌≡◌, ℕ, suc, ◌+◌, ◌-◌, ◌<◌, �
 use Rattle.std.proofs.lemmas.Bool.Decides.{nat_tests}
 use Rattle.liquid_core.specs.Expression.{Expression}
 use Rattle.liquid_syntax.specs.Tree.{Node, Nodes, no_nodes, node, Whens, no_whens, when}
-use Rattle.liquid_syntax.specs.Nesting.{Opening, of_one, of_two, of_many, Label, leaf, begins, elsif, arm, otherwise, ends, refused, AreNodes, none, is_leaf, is_block, IsBlock, one, two, many, IsLast, no_else, is_else, IsElse, is_last, is_elsif, AreWhens, no_more, is_when}
-use Rattle.liquid_syntax.specs.OpenBlocks.{append, with_node, Reading, last, first, unkept, armed, begun, place_in, ended, else_of, when_of, elsif_of, Level, level, place_of, deeper, depth, close, step, to_begin, go, read}
+use Rattle.liquid_syntax.specs.Nesting.{Opening, of_one, of_two, of_many, Label, leaf, closed, begins, elsif, arm, otherwise, ends, refused, AreNodes, none, is_leaf, is_closed, is_block, IsBlock, one, two, many, IsLast, no_else, is_else, IsElse, is_last, is_elsif, AreWhens, no_more, is_when}
+use Rattle.liquid_syntax.specs.OpenBlocks.{append, with_node, Reading, last, first, unkept, armed, begun, place_in, ended, else_of, when_of, elsif_of, Level, level, place_of, deeper, depth, close, step, to_closed, to_begin, go, read}
 use Rattle.liquid_syntax.specs.declared.block.Block.{Block}
 use Rattle.liquid_syntax.specs.declared.block.Place.{Place}
 use Rattle.liquid_syntax.specs.declared.block.Place.TheVariants.{Outside, InBody, InLast}
@@ -17,8 +17,8 @@ pub append-none : (f : Nodes) → append f no_nodes ≡ f
 append-none no_nodes = refl
 append-none (node n f) = ap (node n) (append-none f)
 
-pub is_room : (d : ℕ) → d < 200 → nat_lt d 200 ≡ true
-is_room d h = grind (arith, nat_tests)
+pub some_room : (d : ℕ) → d < 200 → nat_lt d 200 ≡ true
+some_room d h = grind (arith, nat_tests)
 
 room_is : (d : ℕ) → nat_lt d 200 ≡ true → d < 200
 room_is d h = grind (arith, nat_tests)
@@ -30,7 +30,10 @@ module _ {P : Type 0} (reads : Place → P → Label) where
   turn x p l ps ls cur e h = ap (λ (y : Place). go (read reads ps) (step (reads y p) ls cur)) e ∙ ap (λ (l : Label). go (read reads ps) (step l ls cur)) h
 
   begin_turn : (o : Opening) (ps : List P) (ls : List Level) (cur : Nodes) → depth ls < 200 → go (read reads ps) (to_begin o ls cur) ≡ read reads ps (level (begun o) cur false ∷ ls) no_nodes
-  begin_turn o ps ls cur h = ap (λ (b : Bool). go (read reads ps) (cond b (Some (level (begun o) cur false ∷ ls, no_nodes)) None)) (is_room (depth ls) h)
+  begin_turn o ps ls cur h = ap (λ (b : Bool). go (read reads ps) (cond b (Some (level (begun o) cur false ∷ ls, no_nodes)) None)) (some_room (depth ls) h)
+
+  closed_turn : (n : Node) (ps : List P) (ls : List Level) (cur : Nodes) → depth ls < 200 → go (read reads ps) (to_closed n ls cur) ≡ read reads ps ls (with_node cur n)
+  closed_turn n ps ls cur h = ap (λ (b : Bool). go (read reads ps) (cond b (Some (ls, with_node cur n)) None)) (some_room (depth ls) h)
 
   -- the body that is being read can be ended by a `when` and an `else`, with this node
   record Arms (b : Block) (r : Reading) (cur : Nodes) (make : Whens → Nodes → Node) : Type 0 where
@@ -45,6 +48,11 @@ module _ {P : Type 0} (reads : Place → P → Label) where
     nodes_again (none {ps = ps}) ls cur e m = ap (read reads ps ls) (sym (append-none cur))
     nodes_again (is_leaf {x = x} {p = p} {n = n} {f = f} {ps = ps} {rest = rest} r ns) ls cur e m =
         turn x p (leaf n) ps ls cur e r ∙ nodes_again ns ls (with_node cur n) e m ∙ ap (read reads rest ls) (append-assoc cur (node n no_nodes) f)
+    nodes_again (is_closed {x = x} {d = d} {p = p} {n = n} {f = f} {ps = ps} {rest = rest} r ns) ls cur e m =
+        turn x p (closed n) ps ls cur e r
+        ∙ closed_turn n ps ls cur (omega (arith, m))
+        ∙ nodes_again ns ls (with_node cur n) e m
+        ∙ ap (read reads rest ls) (append-assoc cur (node n no_nodes) f)
     nodes_again (is_block {x = x} {d = d} {p = p} {o = o} {n = n} {f = f} {ps = ps} {after = after} {rest = rest} r b ns) ls cur e m =
         turn x p (begins o) ps ls cur e r
         ∙ begin_turn o ps ls cur (omega (arith, m))
@@ -115,6 +123,13 @@ module _ {P : Type 0} (reads : Place → P → Label) where
   rest_leaf p m (unkept b make) d cur n ps rest s (g, after, ws, o, ns, os, is) = (node m g, after, ws, o, is_leaf s ns, os, is)
   rest_leaf p m (armed b make) d cur n ps rest s (g, after, ws, o, ns, os, is) = (node m g, after, ws, o, is_leaf s ns, os, is ∙ ap (λ (f : Nodes). make f ws o) (append-assoc cur (node m no_nodes) g))
 
+  rest_closed : (p : P) (m : Node) (r : Reading) (d : ℕ) (cur : Nodes) (n : Node) (ps rest : List P) → reads (place_in r) p ≡ closed m → Rest r (suc d) (with_node cur m) n ps rest → Rest r (suc d) cur n (p ∷ ps) rest
+  unfolding Rest
+  rest_closed p m (last b make) d cur n ps rest s (g, q, ns, e, is) = (node m g, q, is_closed s ns, e, is ∙ ap make (append-assoc cur (node m no_nodes) g))
+  rest_closed p m (first b make) d cur n ps rest s (g, after, o, ns, os, is) = (node m g, after, o, is_closed s ns, os, is ∙ ap (λ (f : Nodes). make f o) (append-assoc cur (node m no_nodes) g))
+  rest_closed p m (unkept b make) d cur n ps rest s (g, after, ws, o, ns, os, is) = (node m g, after, ws, o, is_closed s ns, os, is)
+  rest_closed p m (armed b make) d cur n ps rest s (g, after, ws, o, ns, os, is) = (node m g, after, ws, o, is_closed s ns, os, is ∙ ap (λ (f : Nodes). make f ws o) (append-assoc cur (node m no_nodes) g))
+
   rest_block : (p : P) (o : Opening) (m : Node) (r : Reading) (d : ℕ) (cur : Nodes) (n : Node) (ps after rest : List P) → reads (place_in r) p ≡ begins o → IsBlock reads d o m ps after
       → Rest r (suc d) (with_node cur m) n after rest → Rest r (suc d) cur n (p ∷ ps) rest
   unfolding Rest
@@ -177,6 +192,16 @@ module _ {P : Type 0} (reads : Place → P → Label) where
       let is : 200 - e ≡ suc (200 - suc e) = omega (arith, l) in
       subst (λ (d : ℕ). Rest r d cur n (p ∷ ps) rest) (sym is) (rest_block p o m r (200 - suc e) cur n ps after rest s b (subst (λ (d : ℕ). Rest r d (with_node cur m) n after rest) is h))
 
+  rest_closed_deeper : (p : P) (m : Node) (r : Reading) (e : ℕ) (cur : Nodes) (n : Node) (ps rest : List P) → e < 200 → reads (place_in r) p ≡ closed m → Rest r (200 - e) (with_node cur m) n ps rest → Rest r (200 - e) cur n (p ∷ ps) rest
+  rest_closed_deeper p m r e cur n ps rest l s h =
+      let is : 200 - e ≡ suc (200 - suc e) = omega (arith, l) in
+      subst (λ (d : ℕ). Rest r d cur n (p ∷ ps) rest) (sym is) (rest_closed p m r (200 - suc e) cur n ps rest s (subst (λ (d : ℕ). Rest r d (with_node cur m) n ps rest) is h))
+
+  more_closed : (p : P) (m : Node) (ls : List Level) (cur : Nodes) (ps : List P) (t : Nodes) → depth ls < 200 → reads (place_of ls) p ≡ closed m → Completes false ls (with_node cur m) ps t → Completes false ls cur (p ∷ ps) t
+  unfolding Completes
+  more_closed p m [] cur ps t l s (f, ns, e) = (node m f, is_closed s ns, e ∙ append-assoc cur (node m no_nodes) f)
+  more_closed p m (level r f k ∷ ls) cur ps t l s (n, rest, h, c) = (n, rest, rest_closed_deeper p m r (deeper k (depth ls)) cur n ps rest l s h, c)
+
   more_block : (p : P) (o : Opening) (m : Node) (ls : List Level) (cur : Nodes) (ps after : List P) (t : Nodes) → depth ls < 200 → reads (place_of ls) p ≡ begins o → IsBlock reads (200 - suc (depth ls)) o m ps after
       → Completes false ls (with_node cur m) after t → Completes false ls cur (p ∷ ps) t
   unfolding Completes
@@ -197,6 +222,11 @@ module _ {P : Type 0} (reads : Place → P → Label) where
     begin_takes p o ls cur true e s h =
         let (n, rest, r, c) = more (level (begun o) cur false ∷ ls) no_nodes h in
         more_block p o n ls cur ps rest t (room_is (depth ls) e) s (rest_begun o (200 - suc (depth ls)) n ps rest r) c
+
+    closed_takes : (p : P) (m : Node) (ls : List Level) (cur : Nodes) (room : Bool) → nat_lt (depth ls) 200 ≡ room → reads (place_of ls) p ≡ closed m
+        → go (read reads ps) (cond room (Some (ls, with_node cur m)) None) ≡ Some t → Completes false ls cur (p ∷ ps) t
+    closed_takes p m ls cur false e s h = absurd cc
+    closed_takes p m ls cur true e s h = more_closed p m ls cur ps t (room_is (depth ls) e) s (more ls (with_node cur m) h)
 
     else_takes : (p : P) (r : Reading) (f : Nodes) (k : Bool) (ls : List Level) (cur : Nodes) (to : Option Reading) → else_of r cur ≡ to → reads (place_in r) p ≡ otherwise
         → go (read reads ps) (option_map (λ s. (level s f k ∷ ls, no_nodes)) to) ≡ Some t → Completes false (level r f k ∷ ls) cur (p ∷ ps) t
@@ -228,6 +258,7 @@ module _ {P : Type 0} (reads : Place → P → Label) where
     step_takes : (p : P) (l : Label) (ls : List Level) (cur : Nodes) → reads (place_of ls) p ≡ l → go (read reads ps) (step l ls cur) ≡ Some t → Completes false ls cur (p ∷ ps) t
     unfolding Completes
     step_takes p (leaf m) ls cur s h = more_leaf p m ls cur ps t s (more ls (with_node cur m) h)
+    step_takes p (closed m) ls cur s h = closed_takes p m ls cur (nat_lt (depth ls) 200) refl s h
     step_takes p (begins o) ls cur s h = begin_takes p o ls cur (nat_lt (depth ls) 200) refl s h
     step_takes p (elsif next) [] cur s h = absurd cc
     step_takes p (elsif next) (level r f k ∷ ls) cur s h = elsif_takes p next r f k ls cur s h

@@ -1,27 +1,38 @@
 -- The loop of `parse`, a turn at a time.
-use Rattle.std.proofs.Common.{◌≡◌, ℕ, ◌-◌, ◌<◌, ◌≤◌, List, [], ◌∷◌, length, Bool, true, false, Option, Some, None, refl, sym, ap, subst, ◌∙◌}
+use Rattle.std.proofs.Common.{◌≡◌, ℕ, ◌-◌, ◌<◌, ◌≤◌, nat_le, nat_lt, arith, List, [], ◌∷◌, length, Bool, true, false, cond, Option, Some, None, refl, sym, ap, subst, ◌∙◌}
+use Rattle.std.proofs.lemmas.Bool.Decides.{nat_tests}
 use Rattle.std.specs.Option.{option_and_then}
 use Rattle.std.specs.Prelude.{Result, Ok, Err}
 use Rattle.liquid_core.specs.Texts.{Text}
 use Rattle.liquid_syntax.specs.Building.{IsBuilding, Finishes, text_added}
 use Rattle.liquid_syntax.specs.Judges.{Judges}
-use Rattle.liquid_syntax.specs.Judging.{reads}
-use Rattle.liquid_syntax.specs.Nesting.{Label}
-use Rattle.liquid_syntax.specs.OpenBlocks.{Level, State, place_of, step, at_end}
+use Rattle.liquid_syntax.specs.Judging.{if_of, two_or, tag_label, raw_label, comment_label, reads, is_start, opens}
+use Rattle.liquid_syntax.specs.Roles.{role_of, unread_body}
+use Rattle.liquid_source.specs.Tokens.{Token, tokens_of}
+use Rattle.liquid_syntax.specs.declared.block.Block.{Block}
+use Rattle.liquid_syntax.specs.declared.block.Block.TheVariants.{If}
+use Rattle.liquid_syntax.specs.declared.block.Place.{Place}
+use Rattle.liquid_syntax.specs.declared.block.Role.{Role}
+use Rattle.liquid_syntax.specs.declared.block.Role.TheVariants.{End, Control as Word, Tag, Block as Start}
+use Rattle.liquid_syntax.specs.declared.language.BlockKind.TheVariants as blocks
+use Rattle.liquid_syntax.specs.Nesting.{Label, leaf, closed, begins, elsif, arm, otherwise, ends, refused}
+use Rattle.liquid_syntax.specs.OpenBlocks.{Level, level, State, begun, depth, place_of, step, at_end, with_node}
 use Rattle.liquid_syntax.specs.Parsing.{body_of, piece_step, begun_with, template_at, ReadsTo}
+use Rattle.liquid_source.specs.Pieces as pieces
 use Rattle.liquid_source.specs.Pieces.{Piece, stripped}
 use Rattle.liquid_source.specs.Readers.{Fails}
 use Rattle.liquid_source.specs.SourceReading.{Markup, markup_at, bare_name, body_at, wanted_body, text_step, source_at}
 use Rattle.liquid_syntax.specs.Templates.{tree_of}
-use Rattle.liquid_syntax.specs.Tree.{Nodes}
+use Rattle.liquid_syntax.specs.Tree.{Node, Nodes, no_nodes}
 use Rattle.liquid_source.specs.ValueReading.{past_byte, text_at}
 use Rattle.liquid_syntax.specs.declared.build.Builder.{Builder}
 use Rattle.liquid_source.specs.declared.fault.ParseError.{ParseError}
 use Rattle.liquid_source.specs.declared.fault.ParseError.TheVariants as errors
 use Rattle.liquid_syntax.specs.declared.language.Language.{Language}
 use Rattle.liquid_source.specs.declared.piece.Body.{Body}
+use Rattle.liquid_source.specs.declared.piece.Body.TheVariants as bodies
 use Rattle.liquid_syntax.specs.declared.template.Template.{Template}
-use Rattle.liquid_source.proofs.SourceTurns.{last_turn, no_markup, no_step, next_turn, turn_shorter}
+use Rattle.liquid_source.proofs.SourceTurns.{last_turn, no_markup, no_body, no_step, next_turn, turn_shorter}
 use Rattle.liquid_syntax.proofs.TemplateLaws.{only_tree, no_tree}
 
 -- the tree, where the source ends in this state
@@ -31,6 +42,10 @@ tree_in o = option_and_then (λ s. at_end s.0 s.1) o
 pub fails_by : {X Y : Type 0} (e : ParseError) (o : Option X) (p : Option Y) → (o ≡ None → p ≡ None) → Fails e o → Fails e p
 fails_by errors.Memory o p f h = tt
 fails_by (errors.Fault g) o p f h = f h
+
+pub fails_at : {Y : Type 0} (e : ParseError) (o : Option Y) → o ≡ None → Fails e o
+fails_at errors.Memory o h = tt
+fails_at (errors.Fault g) o h = h
 
 pub after_text : (b : Builder) (ls : List Level) (now : Nodes) → ((s : State) × (Some (ls, now) ≡ Some s) × IsBuilding b s.0 s.1) → IsBuilding b ls now
 after_text b ls now (s, e, h) = let same : (ls, now) ≡ s = cc in subst (λ (s : State). IsBuilding b s.0 s.1) (sym same) h
@@ -43,16 +58,71 @@ pub refused_all : (l : Language) (e : ParseError) (source : Text) → Fails e (t
 refused_all l errors.Memory source h = tt
 refused_all l (errors.Fault f) source h = no_tree l source h
 
+-- where blocks nest as deep as they may, no block begins
+full : (n : ℕ) → nat_le 200 n ≡ true → nat_lt n 200 ≡ false
+full n h = grind (arith, nat_tests)
+
+start_label : Label → Type 0
+start_label (leaf n) = ⊥
+start_label (closed n) = Unit {0}
+start_label (begins o) = Unit {0}
+start_label (elsif next) = ⊥
+start_label (arm vs) = ⊥
+start_label otherwise = ⊥
+start_label ends = ⊥
+start_label refused = Unit {0}
+
+start_refused : (x : Label) (ls : List Level) (cur : Nodes) → start_label x → nat_lt (depth ls) 200 ≡ false → step x ls cur ≡ None
+unfolding start_label
+start_refused (leaf n) ls cur s h = absurd s
+start_refused (closed n) ls cur s h = ap (λ (b : Bool). cond b (Some (ls, with_node cur n)) None) h
+start_refused (begins o) ls cur s h = ap (λ (b : Bool). cond b (Some (level (begun o) cur false ∷ ls, no_nodes)) None) h
+start_refused (elsif next) ls cur s h = absurd s
+start_refused (arm vs) ls cur s h = absurd s
+start_refused otherwise ls cur s h = absurd s
+start_refused ends ls cur s h = absurd s
+start_refused refused ls cur s h = refl
+
+two_starts : (b : Block) (o : Option (Nodes → Nodes → Node)) → start_label (two_or b o)
+unfolding start_label
+two_starts b None = tt
+two_starts b (Some make) = tt
+
+tag_starts : (l : Language) (ts : List Token) (role : Option Role) → is_start role ≡ true → start_label (tag_label l ts role)
+unfolding start_label
+tag_starts l ts None h = absurd cc
+tag_starts l ts (Some End) h = absurd cc
+tag_starts l ts (Some (Word word)) h = absurd cc
+tag_starts l ts (Some (Tag kind)) h = absurd cc
+tag_starts l ts (Some (Start blocks.If)) h = two_starts If (if_of ts)
+tag_starts l ts (Some (Start blocks.Raw)) h = tt
+tag_starts l ts (Some (Start blocks.Comment)) h = tt
+
+raw_starts : (t : Text) (body : Option Body) → start_label (raw_label t body)
+unfolding start_label
+raw_starts t None = tt
+raw_starts t (Some bodies.Raw) = tt
+raw_starts t (Some bodies.Comment) = tt
+
+comment_starts : (body : Option Body) → start_label (comment_label body)
+unfolding start_label
+comment_starts None = tt
+comment_starts (Some bodies.Raw) = tt
+comment_starts (Some bodies.Comment) = tt
+
+piece_starts : (l : Language) (x : Place) (p : Piece) → opens l x p ≡ true → start_label (reads l x p)
+piece_starts l x (pieces.text t) h = absurd cc
+piece_starts l x (pieces.output is) h = absurd cc
+piece_starts l x (pieces.tag w is) h = tag_starts l (tokens_of is) (role_of l x w) h
+piece_starts l x (pieces.raw w t) h = raw_starts t (unread_body (role_of l x w))
+piece_starts l x (pieces.comment w) h = comment_starts (unread_body (role_of l x w))
+
+pub no_room : (l : Language) (x : Place) (p : Piece) (ls : List Level) (cur : Nodes) → opens l x p ≡ true → nat_le 200 (depth ls) ≡ true → step (reads l x p) ls cur ≡ None
+no_room l x p ls cur o d = start_refused (reads l x p) ls cur (piece_starts l x p o) (full (depth ls) d)
+
 text_taken : (l : Language) (t : Text) (ls : List Level) (cur : Nodes) → text_step (piece_step l) t (ls, cur) ≡ Some (ls, text_added t cur)
 text_taken l [] ls cur = refl
 text_taken l (b ∷ bs) ls cur = refl
-
-never : {A B : Type 0} (f : A → Option B) (o : Option A) → ((a : A) → f a ≡ None) → option_and_then f o ≡ None
-never f None none = refl
-never f (Some a) none = none a
-
-no_body : (l : Language) (s : State) (m : Markup × List ℕ) → body_at (wanted_body (body_of l s) m.0.piece) m.0 m.1 ≡ Some m
-no_body l s m = ap (λ o. body_at o m.0 m.1) (never (body_of l s) (bare_name m.0.piece) (λ w. refl))
 
 module _ (l : Language) (source rest t behind : Text) (n : ℕ) (front : Bool) (ls : List Level) (cur : Nodes)
     (whole : template_at l source ≡ tree_in (source_at (body_of l) (piece_step l) n front (ls, cur) rest)) (cut : (t, behind) ≡ text_at rest) where
@@ -81,15 +151,22 @@ module _ (l : Language) (source rest t behind : Text) (n : ℕ) (front : Bool) (
       texted : text_step (piece_step l) (stripped front t m.0.before) (ls, cur) ≡ Some (ls, text_added st cur)
       texted = ap (λ t. text_step (piece_step l) t (ls, cur)) (sym strip) ∙ text_taken l st ls cur
 
-      pub piece_refused : (e : ParseError) → Fails e (step (reads l (place_of ls) m.0.piece) ls (text_added st cur)) → ReadsTo l source (Err e)
-      piece_refused e h =
-          refused_all l e source (fails_by e (step (reads l (place_of ls) m.0.piece) ls (text_added st cur)) (template_at l source)
-          (λ g. whole ∙ ap tree_in (no_step rest t behind cut (body_of l) (piece_step l) n front (ls, cur) inside (sym is) m found (ls, text_added st cur) texted m (no_body l (ls, text_added st cur) m) g)) h)
+      -- a body without its end
+      pub body_refused : (e : ParseError) → Fails e (body_at (wanted_body (body_of l (ls, text_added st cur)) m.0.piece) m.0 m.1) → ReadsTo l source (Err e)
+      body_refused e h =
+          refused_all l e source (fails_by e (body_at (wanted_body (body_of l (ls, text_added st cur)) m.0.piece) m.0 m.1) (template_at l source)
+          (λ g. whole ∙ ap tree_in (no_body rest t behind cut (body_of l) (piece_step l) n front (ls, cur) inside (sym is) m found (ls, text_added st cur) texted g)) h)
 
-      pub went_on : (s : State) → length rest ≤ n → step (reads l (place_of ls) m.0.piece) ls (text_added st cur) ≡ Some s
-          → template_at l source ≡ tree_in (source_at (body_of l) (piece_step l) (n - 1) m.0.after s m.1)
-      went_on s le g =
-          whole ∙ ap tree_in (next_turn rest t behind cut (body_of l) (piece_step l) n front (ls, cur) inside (sym is) m found (ls, text_added st cur) texted m (no_body l (ls, text_added st cur) m) le s g)
+      module _ (v : Markup × List ℕ) (closed : body_at (wanted_body (body_of l (ls, text_added st cur)) m.0.piece) m.0 m.1 ≡ Some v) where
+        pub piece_refused : (e : ParseError) → Fails e (step (reads l (place_of ls) v.0.piece) ls (text_added st cur)) → ReadsTo l source (Err e)
+        piece_refused e h =
+            refused_all l e source (fails_by e (step (reads l (place_of ls) v.0.piece) ls (text_added st cur)) (template_at l source)
+            (λ g. whole ∙ ap tree_in (no_step rest t behind cut (body_of l) (piece_step l) n front (ls, cur) inside (sym is) m found (ls, text_added st cur) texted v closed g)) h)
 
-      pub went_shorter : length m.1 < length rest
-      went_shorter = turn_shorter rest t behind cut (body_of l) (piece_step l) n front (ls, cur) inside (sym is) m found (ls, text_added st cur) texted m (no_body l (ls, text_added st cur) m)
+        pub went_on : (s : State) → length rest ≤ n → step (reads l (place_of ls) v.0.piece) ls (text_added st cur) ≡ Some s
+            → template_at l source ≡ tree_in (source_at (body_of l) (piece_step l) (n - 1) v.0.after s v.1)
+        went_on s le g =
+            whole ∙ ap tree_in (next_turn rest t behind cut (body_of l) (piece_step l) n front (ls, cur) inside (sym is) m found (ls, text_added st cur) texted v closed le s g)
+
+        pub went_shorter : length v.1 < length rest
+        went_shorter = turn_shorter rest t behind cut (body_of l) (piece_step l) n front (ls, cur) inside (sym is) m found (ls, text_added st cur) texted v closed

@@ -2,7 +2,13 @@
 use Rattle.std.proofs.Common.{◌≡◌, ℕ, ◌≤◌, List, [], ◌∷◌, length, Bool, false, Option, Some, None, refl, sym, ap, ◌∙◌, arith}
 use Rattle.std.specs.Option.{option_and_then}
 use Rattle.liquid_core.specs.Texts.{Text}
-use Rattle.liquid_syntax.specs.Judging.{reads}
+use Rattle.liquid_syntax.specs.Judging.{tag_label, raw_label, comment_label, reads}
+use Rattle.liquid_syntax.specs.Roles.{role_of, unread_body}
+use Rattle.liquid_syntax.specs.declared.block.Role.{Role}
+use Rattle.liquid_syntax.specs.declared.block.Role.TheVariants.{End, Control as Word, Tag, Block as Start}
+use Rattle.liquid_syntax.specs.declared.language.BlockKind.TheVariants as blocks
+use Rattle.liquid_source.specs.declared.piece.Body.{Body}
+use Rattle.liquid_source.specs.declared.piece.Body.TheVariants as bodies
 use Rattle.liquid_syntax.specs.Nesting.{Label, leaf, refused}
 use Rattle.liquid_syntax.specs.OpenBlocks.{Level, State, place_of, step, at_end, go, read}
 use Rattle.liquid_source.specs.Pieces.{Piece, text, output, tag, raw, comment}
@@ -21,14 +27,33 @@ some_of None f y h = absurd cc
 some_of (Some x) f y h = (x, refl, h)
 
 module _ (l : Language) where
+  bare_tag : (role : Option Role) (s next : State) → step (tag_label l [] role) s.0 s.1 ≡ Some next → unread_body role ≡ None
+  bare_tag None s next h = refl
+  bare_tag (Some End) s next h = refl
+  bare_tag (Some (Word word)) s next h = refl
+  bare_tag (Some (Tag kind)) s next h = refl
+  bare_tag (Some (Start blocks.If)) s next h = refl
+  bare_tag (Some (Start blocks.Raw)) s next h = absurd cc
+  bare_tag (Some (Start blocks.Comment)) s next h = absurd cc
+
+  raw_wanted : (t : Text) (body : Option Body) (s next : State) → step (raw_label t body) s.0 s.1 ≡ Some next → body ≡ Some bodies.Raw
+  raw_wanted t None s next h = absurd cc
+  raw_wanted t (Some bodies.Raw) s next h = refl
+  raw_wanted t (Some bodies.Comment) s next h = absurd cc
+
+  comment_wanted : (body : Option Body) (s next : State) → step (comment_label body) s.0 s.1 ≡ Some next → body ≡ Some bodies.Comment
+  comment_wanted None s next h = absurd cc
+  comment_wanted (Some bodies.Raw) s next h = absurd cc
+  comment_wanted (Some bodies.Comment) s next h = refl
+
   -- the pieces that the machine takes have bodies only as it wants them
   agrees : TakesWanted (body_of l) (piece_step l)
   agrees s next (text t) h = tt
   agrees s next (output is) h = tt
-  agrees s next (tag w []) h = refl
+  agrees s next (tag w []) h = bare_tag (role_of l (place_of s.0) w) s next h
   agrees s next (tag w (i ∷ is)) h = tt
-  agrees s next (raw w t) h = absurd cc
-  agrees s next (comment w) h = absurd cc
+  agrees s next (raw w t) h = raw_wanted t (unread_body (role_of l (place_of s.0) w)) s next h
+  agrees s next (comment w) h = comment_wanted (unread_body (role_of l (place_of s.0) w)) s next h
 
   -- one piece after another, and then the end
   steps_read : (ps : List Piece) (ls : List Level) (cur : Nodes) → option_and_then (λ s. at_end s.0 s.1) (all_steps (piece_step l) ps (ls, cur)) ≡ read (reads l) ps ls cur

@@ -1,5 +1,5 @@
 -- A list of nodes that is being built, with blocks that are still open.
-use Rattle.std.specs.Prelude.{◌≡◌, ℕ, ◌+◌, List, [], ◌∷◌, ◌++◌, Bool, Option, Some, None, length, reverse, Result, Ok, Err}
+use Rattle.std.specs.Prelude.{◌≡◌, ℕ, ◌+◌, List, [], ◌∷◌, ◌++◌, Bool, nat_le, Option, Some, None, length, reverse, Result, Ok, Err}
 use Rattle.liquid_syntax.specs.Flats.{Maker, flat_of, flats, nodes_of, bodies_of}
 use Rattle.liquid_syntax.specs.Forest.{Forest, Bodies, no_bodies, sizes}
 use Rattle.liquid_syntax.specs.Laid.{Flat, ends_of, laid, laid_bodies}
@@ -37,6 +37,7 @@ opening b Last x = nesting.of_one b (of_body x)
 
 abbrev pub label_view : Label → nesting.Label
 label_view (labels.Leaf n) = nesting.leaf ((flat_of n).head [])
+label_view (labels.Closed n) = nesting.closed ((flat_of n).head [])
 label_view (labels.Begins b stage n) = nesting.begins (opening b stage (flat_of n))
 label_view (labels.Elsif n) = nesting.elsif (of_bodies (flat_of n))
 label_view labels.Otherwise = nesting.otherwise
@@ -49,6 +50,7 @@ IsPrepared Last n = (z : ℕ) × ((flat_of n).ends ≡ z ∷ [])
 
 abbrev pub IsSound : Label → Type 0
 IsSound (labels.Leaf n) = (flat_of n).ends ≡ []
+IsSound (labels.Closed n) = (flat_of n).ends ≡ []
 IsSound (labels.Begins b stage n) = IsPrepared stage n
 IsSound (labels.Elsif n) = IsPrepared First n
 IsSound labels.Otherwise = Unit {0}
@@ -103,6 +105,10 @@ IsBuilding b ls cur = IsStack b ls cur × (b.depth ≡ depth ls)
 
 abbrev pub IsBuilt : Builder → Type 0
 IsBuilt b = (ls : List Level) × (cur : Nodes) × IsBuilding b ls cur
+
+-- as many blocks are open as may be, in one another
+abbrev pub is_full : Builder → Bool
+is_full b = nat_le 200 b.depth
 
 -- ---- what the builder's calls do
 

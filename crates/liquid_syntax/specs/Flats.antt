@@ -11,7 +11,7 @@ use Rattle.liquid_syntax.specs.Forest.{Forest, Bodies, empty, node, no_bodies, b
 use Rattle.liquid_syntax.specs.Laid.{Flat, Stands, StandBodies, last_end}
 use Rattle.liquid_syntax.specs.declared.node.Node.{Node}
 use Rattle.liquid_syntax.specs.declared.node.TwoBodies.{TwoBodies}
-use Rattle.liquid_syntax.specs.declared.node.Node.TheVariants.{Text as Plain, Output, Assign, If}
+use Rattle.liquid_syntax.specs.declared.node.Node.TheVariants.{Text as Plain, Output, Assign, Raw, Comment, If}
 
 -- a node of the tree, from the trees of its bodies
 abbrev pub Maker : Type 0
@@ -36,6 +36,8 @@ abbrev pub flat_of : Node → Flat Maker
 flat_of (Plain t) = leaf (tree.plain (string_bytes t))
 flat_of (Output chain) = leaf (tree.output (chain_view chain))
 flat_of (Assign name chain) = leaf (tree.assign (string_bytes name) (chain_view chain))
+flat_of (Raw t) = leaf (tree.raw (string_bytes t))
+flat_of Comment = leaf tree.comment
 flat_of (If condition bodies) = two_bodies (tree.if_true (condition_view condition)) bodies
 
 abbrev pub flats : List Node → List (Flat Maker)

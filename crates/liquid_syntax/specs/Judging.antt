@@ -1,27 +1,26 @@
 -- What a piece is, where it stands, by the names that a language has and by its items.
-use Rattle.std.specs.Prelude.{List, [], ◌∷◌, cond, bytes_eq, Option, Some, None, option_and_then, option_map}
-use Rattle.liquid_core.specs.Maps.{listed}
+use Rattle.std.specs.Prelude.{List, [], ◌∷◌, Bool, true, false, Option, Some, None, option_and_then, option_map}
 use Rattle.liquid_core.specs.Texts.{Text}
-use Rattle.liquid_syntax.specs.ChainReading.{chain_of}
-use Rattle.liquid_syntax.specs.ConditionReading.{condition_of}
-use Rattle.liquid_syntax.specs.Controls.{end_word, control_of}
-use Rattle.liquid_syntax.specs.Languages.{kinds_of}
-use Rattle.liquid_syntax.specs.Nesting.{of_two, Label, leaf, begins, elsif, otherwise, ends, refused}
 use Rattle.liquid_source.specs.Pieces as pieces
 use Rattle.liquid_source.specs.Tokens.{Token, tokens_of, word_first, past}
-use Rattle.liquid_syntax.specs.Tree.{Condition, Node, Nodes, plain, output, assign, if_true}
+use Rattle.liquid_source.specs.declared.piece.Body.{Body}
+use Rattle.liquid_source.specs.declared.piece.Body.TheVariants as bodies
+use Rattle.liquid_source.specs.declared.symbol.Symbol.TheVariants as symbols
+use Rattle.liquid_syntax.specs.ChainReading.{chain_of}
+use Rattle.liquid_syntax.specs.ConditionReading.{condition_of}
+use Rattle.liquid_syntax.specs.Languages.{kinds_of}
+use Rattle.liquid_syntax.specs.Nesting.{of_two, Label, leaf, closed, begins, elsif, otherwise, ends, refused}
+use Rattle.liquid_syntax.specs.Roles.{role_of, unread_body}
+use Rattle.liquid_syntax.specs.Tree.{Condition, Node, Nodes, plain, raw, comment, output, assign, if_true}
 use Rattle.liquid_syntax.specs.declared.block.Block.{Block}
 use Rattle.liquid_syntax.specs.declared.block.Block.TheVariants.{If}
-use Rattle.liquid_syntax.specs.declared.block.Control.{Control}
 use Rattle.liquid_syntax.specs.declared.block.Control.TheVariants.{Elsif, Else}
 use Rattle.liquid_syntax.specs.declared.block.Place.{Place}
-use Rattle.liquid_syntax.specs.declared.block.Place.TheVariants.{Outside, InBody, InLast}
-use Rattle.liquid_syntax.specs.declared.language.BlockKind.{BlockKind}
+use Rattle.liquid_syntax.specs.declared.block.Role.{Role}
+use Rattle.liquid_syntax.specs.declared.block.Role.TheVariants.{End, Control as Word, Tag, Block as Start}
 use Rattle.liquid_syntax.specs.declared.language.BlockKind.TheVariants as blocks
 use Rattle.liquid_syntax.specs.declared.language.Language.{Language}
-use Rattle.liquid_syntax.specs.declared.language.TagKind.{TagKind}
 use Rattle.liquid_syntax.specs.declared.language.TagKind.TheVariants as tags
-use Rattle.liquid_source.specs.declared.symbol.Symbol.TheVariants as symbols
 
 abbrev pub leaf_or : Option Node → Label
 leaf_or None = refused
@@ -51,36 +50,48 @@ abbrev pub elsif_or : Option (Nodes → Nodes → Node) → Label
 elsif_or None = refused
 elsif_or (Some make) = elsif make
 
-abbrev pub by_block : List Token → Option BlockKind → Label
-by_block ts None = refused
-by_block ts (Some blocks.If) = two_or If (if_of ts)
+-- a tag and its items. A block whose body isn't read has no items, and with its body it is a piece of its own
+abbrev pub tag_label : Language → List Token → Option Role → Label
+tag_label l ts None = refused
+tag_label l ts (Some End) = ends_or ts
+tag_label l ts (Some (Word Elsif)) = elsif_or (if_of ts)
+-- the items of an `else` are ignored
+tag_label l ts (Some (Word Else)) = otherwise
+tag_label l ts (Some (Tag tags.Assign)) = leaf_or (assign_of l ts)
+tag_label l ts (Some (Start blocks.If)) = two_or If (if_of ts)
+tag_label l ts (Some (Start blocks.Raw)) = refused
+tag_label l ts (Some (Start blocks.Comment)) = refused
 
--- a tag of a registered name: tags come before blocks
-abbrev pub by_tag : Language → Text → List Token → Option TagKind → Label
-by_tag l w ts None = by_block ts (listed (kinds_of l.blocks) w)
-by_tag l w ts (Some tags.Assign) = leaf_or (assign_of l ts)
+abbrev pub raw_label : Text → Option Body → Label
+raw_label t (Some bodies.Raw) = closed (raw t)
+raw_label t (Some bodies.Comment) = refused
+raw_label t None = refused
 
-abbrev pub registered : Language → Text → List Token → Label
-registered l w ts = by_tag l w ts (listed (kinds_of l.tags) w)
-
--- in a block its end comes first
-abbrev pub in_block : Block → Text → List Token → Label → Label
-in_block b w ts others = cond (bytes_eq w (end_word b)) (ends_or ts) others
-
--- then its control words; the items of an `else` are ignored
-abbrev pub by_control : Language → Text → List Token → Option Control → Label
-by_control l w ts None = registered l w ts
-by_control l w ts (Some Elsif) = elsif_or (if_of ts)
-by_control l w ts (Some Else) = otherwise
-
-abbrev pub tag_label : Language → Place → Text → List Token → Label
-tag_label l Outside w ts = registered l w ts
-tag_label l (InBody b) w ts = in_block b w ts (by_control l w ts (control_of b w))
-tag_label l (InLast b) w ts = in_block b w ts (registered l w ts)
+abbrev pub comment_label : Option Body → Label
+comment_label (Some bodies.Comment) = closed comment
+comment_label (Some bodies.Raw) = refused
+comment_label None = refused
 
 abbrev pub reads : Language → Place → pieces.Piece → Label
 reads l x (pieces.text t) = leaf (plain t)
 reads l x (pieces.output is) = leaf_or (option_map output (chain_of (kinds_of l.filters) (tokens_of is)))
-reads l x (pieces.tag w is) = tag_label l x w (tokens_of is)
-reads l x (pieces.raw w t) = refused
-reads l x (pieces.comment w) = refused
+reads l x (pieces.tag w is) = tag_label l (tokens_of is) (role_of l x w)
+reads l x (pieces.raw w t) = raw_label t (unread_body (role_of l x w))
+reads l x (pieces.comment w) = comment_label (unread_body (role_of l x w))
+
+-- ---- where a block begins
+
+abbrev pub is_start : Option Role → Bool
+is_start None = false
+is_start (Some End) = false
+is_start (Some (Word word)) = false
+is_start (Some (Tag kind)) = false
+is_start (Some (Start kind)) = true
+
+-- the piece is the start of a block, whatever its items are
+abbrev pub opens : Language → Place → pieces.Piece → Bool
+opens l x (pieces.text t) = false
+opens l x (pieces.output is) = false
+opens l x (pieces.tag w is) = is_start (role_of l x w)
+opens l x (pieces.raw w t) = is_start (role_of l x w)
+opens l x (pieces.comment w) = is_start (role_of l x w)

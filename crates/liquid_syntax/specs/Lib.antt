@@ -27,6 +27,7 @@ pub mod NestingLaw
 pub mod OpenBlocks
 pub mod Parsing
 pub mod Round
+pub mod Roles
 pub mod Templates
 pub mod Tree
 pub mod WrittenConditions

@@ -15,6 +15,7 @@ pub data Opening : Type 0 where
 -- what a piece is, where it stands
 pub data Label : Type 0 where
   leaf : Node → Label  -- a node without bodies
+  closed : Node → Label  -- a block whose body isn't read, as a whole
   begins : Opening → Label  -- the start of a block
   elsif : (Nodes → Nodes → Node) → Label  -- `elsif`, and the node that it makes of its body and its else list
   arm : List Expression → Label  -- `when`, with its values
@@ -29,6 +30,8 @@ module _ {P : Type 0} (reads : Place → P → Label) where
       none : {x : Place} {d : ℕ} {ps : List P} → AreNodes x d no_nodes ps ps
       is_leaf : {x : Place} {d : ℕ} {p : P} {n : Node} {f : Nodes} {ps rest : List P}
           → reads x p ≡ leaf n → AreNodes x d f ps rest → AreNodes x d (node n f) (p ∷ ps) rest
+      is_closed : {x : Place} {d : ℕ} {p : P} {n : Node} {f : Nodes} {ps rest : List P}
+          → reads x p ≡ closed n → AreNodes x (suc d) f ps rest → AreNodes x (suc d) (node n f) (p ∷ ps) rest
       is_block : {x : Place} {d : ℕ} {p : P} {o : Opening} {n : Node} {f : Nodes} {ps after rest : List P}
           → reads x p ≡ begins o → IsBlock d o n ps after → AreNodes x (suc d) f after rest → AreNodes x (suc d) (node n f) (p ∷ ps) rest
 

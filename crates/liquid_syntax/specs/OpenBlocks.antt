@@ -2,7 +2,7 @@
 use Rattle.std.specs.Prelude.{ℕ, suc, List, [], ◌∷◌, Bool, true, false, cond, nat_lt, Option, Some, None, option_and_then, option_map}
 use Rattle.liquid_core.specs.Expression.{Expression}
 use Rattle.liquid_syntax.specs.Tree.{Node, Nodes, no_nodes, node, Whens, no_whens, when}
-use Rattle.liquid_syntax.specs.Nesting.{Opening, of_one, of_two, of_many, Label, leaf, begins, elsif, arm, otherwise, ends, refused}
+use Rattle.liquid_syntax.specs.Nesting.{Opening, of_one, of_two, of_many, Label, leaf, closed, begins, elsif, arm, otherwise, ends, refused}
 use Rattle.liquid_syntax.specs.declared.block.Block.{Block}
 use Rattle.liquid_syntax.specs.declared.block.Place.{Place}
 use Rattle.liquid_syntax.specs.declared.block.Place.TheVariants.{Outside, InBody, InLast}
@@ -88,8 +88,15 @@ close false ls cur = Some (ls, cur)
 close true [] cur = None
 close true (level r f k ∷ ls) cur = close k ls (with_node f (ended r cur))
 
+-- a block may stand here: it is no more than 200 deep
+abbrev pub is_room : List Level → Bool
+is_room ls = nat_lt (depth ls) 200
+
+abbrev pub to_closed : Node → List Level → Nodes → Option State
+to_closed n ls cur = cond (is_room ls) (Some (ls, with_node cur n)) None
+
 abbrev pub to_begin : Opening → List Level → Nodes → Option State
-to_begin o ls cur = cond (nat_lt (depth ls) 200) (Some (level (begun o) cur false ∷ ls, no_nodes)) None
+to_begin o ls cur = cond (is_room ls) (Some (level (begun o) cur false ∷ ls, no_nodes)) None
 
 abbrev pub to_else : List Level → Nodes → Option State
 to_else [] cur = None
@@ -106,6 +113,7 @@ to_elsif next (level r f k ∷ ls) cur = option_map (λ s. (level s.1 no_nodes t
 -- a piece changes the state
 abbrev pub step : Label → List Level → Nodes → Option State
 step (leaf n) ls cur = Some (ls, with_node cur n)
+step (closed n) ls cur = to_closed n ls cur
 step (begins o) ls cur = to_begin o ls cur
 step (elsif next) ls cur = to_elsif next ls cur
 step (arm vs) ls cur = to_when vs ls cur

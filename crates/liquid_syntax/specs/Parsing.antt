@@ -12,6 +12,7 @@ use Rattle.liquid_syntax.specs.Nesting.{AreNodes}
 use Rattle.liquid_syntax.specs.OpenBlocks.{State, place_of, step, at_end}
 use Rattle.liquid_source.specs.Pieces.{Piece, IsSource}
 use Rattle.liquid_source.specs.SourceReading.{source_at}
+use Rattle.liquid_syntax.specs.Roles.{body_behind}
 use Rattle.liquid_syntax.specs.Templates.{tree_of}
 use Rattle.liquid_syntax.specs.Tree.{Nodes, no_nodes}
 use Rattle.liquid_syntax.specs.declared.block.Place.TheVariants.{Outside}
@@ -43,9 +44,9 @@ IsOfSource kind = MatchBool (is_memory kind) ⊤ ((21 ≤ number_of kind) × (nu
 
 -- ---- reading
 
--- the verbatim body behind a tag of the name, where one is to be: no block that is registered has one
+-- the verbatim body behind a tag of the name, where one is to be
 abbrev pub body_of : Language → State → Text → Option Body
-body_of l s w = None
+body_of l s w = body_behind l (place_of s.0) w
 
 -- the next piece
 abbrev pub piece_step : Language → State → Piece → Option State

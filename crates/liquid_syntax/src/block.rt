@@ -1,6 +1,10 @@
 //! Blocks that are open while a source is read.
 ghost use Rattle.std.specs.Prelude.{◌≡◌};
 ghost use Rattle.liquid_syntax.specs.Controls.{control_of, end_word};
+ghost use Rattle.liquid_syntax.specs.Roles.{registered, role_of, unread_body};
+
+use crate::language::{BlockKind, Language, TagKind};
+use liquid_source::Body;
 
 /// A block with bodies of its own.
 #[derive(Clone, Copy, Debug, PartialEq, Eq)]
@@ -41,6 +45,63 @@ pub fn control_word(block: Block, name: &str) -> Option<Control>
     match block {
         Block::If if name == "elsif" => Some(Control::Elsif),
         Block::If | Block::Unless if name == "else" => Some(Control::Else),
+        _ => None,
+    }
+}
+
+/// What a tag's name is, where the tag stands.
+#[derive(Clone, Copy, Debug, PartialEq, Eq)]
+pub enum Role {
+    /// The end of the innermost block.
+    End,
+    /// A control word of the innermost block.
+    Control(Control),
+    Tag(TagKind),
+    Block(BlockKind),
+}
+
+/// What the name is, where a tag stands: in a block its end comes first, then the control words that can end the body,
+/// then registered tags, then registered blocks.
+pub fn role_of(language: &Language, place: Place, name: &str) -> Option<Role>
+    ensures { result ≡ role_of language.now place name.now }
+{
+    match place {
+        Place::Outside => registered(language, name),
+        Place::InBody(block) => {
+            if name == end_tag(block) {
+                return Some(Role::End);
+            }
+            match control_word(block, name) {
+                Some(word) => Some(Role::Control(word)),
+                None => registered(language, name),
+            }
+        }
+        Place::InLast(block) => {
+            if name == end_tag(block) {
+                return Some(Role::End);
+            }
+            registered(language, name)
+        }
+    }
+}
+
+/// What is registered under the name: tags come before blocks.
+fn registered(language: &Language, name: &str) -> Option<Role>
+    ensures { result ≡ registered language.now name.now }
+{
+    match language.tags.get(name) {
+        Some(kind) => Some(Role::Tag(kind)),
+        None => Some(Role::Block(language.blocks.get(name)?)),
+    }
+}
+
+/// The body behind a tag, where it is a block's that isn't read.
+pub fn unread_body(role: Option<Role>) -> Option<Body>
+    ensures { result ≡ unread_body role }
+{
+    match role {
+        Some(Role::Block(BlockKind::Raw)) => Some(Body::Raw),
+        Some(Role::Block(BlockKind::Comment)) => Some(Body::Comment),
         _ => None,
     }
 }

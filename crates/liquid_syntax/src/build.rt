@@ -1,7 +1,8 @@
 //! Building the list of nodes with a stack of open blocks: where a body ends is written into its block's node as it ends.
 
 ghost use Rattle.std.specs.Prelude.{◌≡◌, ◌<◌, ◌-◌, IfSome, List, [], ◌∷◌, length, slice_get, Some, OnOk, true};
-ghost use Rattle.liquid_syntax.specs.Building.{Begins, Closes, Elses, Finishes, IsBuilding, IsBuilt, IsMemory, IsPrepared, IsSound, IsStack, Steps, block_ended, first_ended, label_view, last_ended, of_bodies, place_at, text_added};
+ghost use Rattle.liquid_source.specs.Readers.{IsFault};
+ghost use Rattle.liquid_syntax.specs.Building.{Begins, Closes, Elses, Finishes, IsBuilding, IsBuilt, IsMemory, IsPrepared, IsSound, IsStack, Steps, block_ended, is_full, first_ended, label_view, last_ended, of_bodies, place_at, text_added};
 ghost use Rattle.liquid_syntax.specs.Flats.{flat_of};
 ghost use Rattle.liquid_syntax.specs.OpenBlocks.{Level, at_end, close, step, to_elsif, with_node};
 ghost use Rattle.liquid_syntax.specs.Tree.{Nodes, no_nodes};
@@ -27,6 +28,8 @@ pub enum Stage {
 pub enum Label {
     /// A node without bodies.
     Leaf(Node),
+    /// A block whose body isn't read, as a whole.
+    Closed(Node),
     /// The start of a block.
     Begins(Block, Stage, Node),
     /// `elsif`, as the `if` that it is in the else list.
@@ -83,6 +86,13 @@ impl Builder {
                 Stage::Last => Place::InLast(open.block),
             },
         }
+    }
+
+    /// Whether the blocks nest as deep as they may, so that no other may begin.
+    pub fn is_full(&self) -> bool
+        ensures { result ≡ is_full self.now }
+    {
+        self.depth >= MAX_DEPTH
     }
 
     fn leaf(&mut self, node: Node) -> Result<(), ParseError>
@@ -196,9 +206,15 @@ impl Builder {
     {
         match label {
             Label::Leaf(node) => self.leaf(node),
+            Label::Closed(node) => {
+                if self.is_full() {
+                    return Err(too_nested(left));
+                }
+                self.leaf(node)
+            }
             Label::Begins(block, stage, node) => {
-                if self.depth >= MAX_DEPTH {
-                    return Err(ParseError::Fault(too_nested(left)));
+                if self.is_full() {
+                    return Err(too_nested(left));
                 }
                 self.open(block, stage, false, node)?;
                 self.depth += 1;
@@ -244,7 +260,7 @@ fn end_first(node: &mut Node, end: usize)
 {
     match node {
         Node::If(_, bodies) => bodies.first_end = end,
-        Node::Text(_) | Node::Output(_) | Node::Assign(..) => {}
+        Node::Text(_) | Node::Output(_) | Node::Assign(..) | Node::Raw(_) | Node::Comment => {}
     }
 }
 
@@ -254,7 +270,7 @@ fn end_last(node: &mut Node, end: usize)
 {
     match node {
         Node::If(_, bodies) => bodies.last_end = end,
-        Node::Text(_) | Node::Output(_) | Node::Assign(..) => {}
+        Node::Text(_) | Node::Output(_) | Node::Assign(..) | Node::Raw(_) | Node::Comment => {}
     }
 }
 
@@ -267,12 +283,15 @@ fn no_body() -> Fault {
     }
 }
 
-fn too_nested(left: usize) -> Fault {
-    Fault {
+/// The fault of a block that nests too deep; so many bytes of the source are left from it on.
+pub fn too_nested(left: usize) -> ParseError
+    ensures { IsFault result }
+{
+    ParseError::Fault(Fault {
         kind: FaultKind::TooNested,
         left,
         wanted: "at most 200 blocks in one another",
-    }
+    })
 }
 
 /// The fault of a source that ends in a block.

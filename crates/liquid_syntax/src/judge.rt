@@ -1,23 +1,43 @@
 //! What a piece is, where it stands: the label of an output or a tag, by the language and by its items.
 ghost use Rattle.std.specs.Prelude.{◌≡◌};
-ghost use Rattle.liquid_core.specs.Maps.{listed};
-ghost use Rattle.liquid_syntax.specs.Judges.{Judges, ReadsTwo};
-ghost use Rattle.liquid_syntax.specs.Judging.{assign_of, by_block, ends_or, if_of, leaf_or, reads, registered, tag_label};
-ghost use Rattle.liquid_syntax.specs.Languages.{kinds_of};
-ghost use Rattle.liquid_syntax.specs.declared.block.Place.TheVariants.{InBody, InLast};
 ghost use Rattle.liquid_source.specs.PieceView.{piece_view};
 ghost use Rattle.liquid_source.specs.Readers.{IsFault};
+ghost use Rattle.liquid_source.specs.SourceReading.{wanted_body};
 ghost use Rattle.liquid_source.specs.Tokens.{tokens_view};
+ghost use Rattle.liquid_syntax.specs.Judges.{Judges, ReadsTwo};
+ghost use Rattle.liquid_syntax.specs.Judging.{assign_of, comment_label, ends_or, if_of, leaf_or, opens, raw_label, reads, tag_label};
+ghost use Rattle.liquid_syntax.specs.Roles.{body_behind, role_of};
 
-use crate::block::{Block, Control, Place, control_word, end_tag};
+use crate::block::{Block, Control, Place, Role, role_of, unread_body};
 use crate::build::{Label, Stage};
 use crate::chain_items::{expected, read_chain};
 use crate::condition_items::read_condition;
 use crate::language::{BlockKind, Language, TagKind};
 use crate::node::{Node, TwoBodies};
-use liquid_source::{Fault, FaultKind, Item, ParseError, Piece, Symbol, next_word, skip};
+use liquid_source::{
+    Body, Fault, FaultKind, Item, ParseError, Piece, Symbol, bare_name, next_word, skip,
+};
 use std::alloc::Global;
 use std::collections::VecDeque;
+
+/// The body behind a piece, where it is a tag without items that begins a block whose body isn't read.
+pub fn body_behind(language: &Language, place: Place, piece: &Piece<'_>) -> Option<Body>
+    ensures { result ≡ wanted_body (body_behind language.now place) (piece_view piece.now) }
+{
+    unread_body(role_of(language, place, bare_name(piece)?))
+}
+
+/// Whether the piece is the start of a block, whatever its items are.
+pub fn opens(language: &Language, place: Place, piece: &Piece<'_>) -> bool
+    ensures { result ≡ opens language.now place (piece_view piece.now) }
+{
+    match piece {
+        Piece::Text(_) | Piece::Output(_) => false,
+        Piece::Tag(name, _) | Piece::Raw(name, _) | Piece::Comment(name) => {
+            matches!(role_of(language, place, name), Some(Role::Block(_)))
+        }
+    }
+}
 
 /// The label of a piece that stands at a place. `at` is the source from the piece on.
 #[tactic(auto, using(liquid_source::proofs::Seen::seen_tokens))]
@@ -39,7 +59,32 @@ pub fn judge(
             at,
         )?))),
         Piece::Tag(name, items) => read_tag(alloc, language, place, name, items, at),
-        Piece::Raw(..) | Piece::Comment(_) => Err(unknown_tag(at)),
+        Piece::Raw(name, body) => {
+            let role = role_of(language, place, name);
+            raw_block(alloc, unread_body(role), body, at)
+        }
+        Piece::Comment(name) => {
+            let role = role_of(language, place, name);
+            comment_block(unread_body(role), at)
+        }
+    }
+}
+
+fn raw_block(alloc: Global, wanted: Option<Body>, body: &str, at: &str) -> Result<Label, ParseError>
+    ensures { Judges (raw_label body.now wanted) result }
+{
+    match wanted {
+        Some(Body::Raw) => Ok(Label::Closed(Node::Raw(String::from_str(alloc, body)?))),
+        Some(Body::Comment) | None => Err(unknown_tag(at)),
+    }
+}
+
+fn comment_block(wanted: Option<Body>, at: &str) -> Result<Label, ParseError>
+    ensures { Judges (comment_label wanted) result }
+{
+    match wanted {
+        Some(Body::Comment) => Ok(Label::Closed(Node::Comment)),
+        Some(Body::Raw) | None => Err(unknown_tag(at)),
     }
 }
 
@@ -51,51 +96,24 @@ fn read_tag(
     items: VecDeque<Item<'_>>,
     at: &str,
 ) -> Result<Label, ParseError>
-    ensures { Judges (tag_label language.now place name.now (tokens_view items.entry.items)) result }
+    ensures { Judges (tag_label language.now (tokens_view items.entry.items) (role_of language.now place name.now)) result }
 {
-    match place {
-        Place::Outside => read_registered(alloc, language, name, items, at),
-        Place::InBody(block) => read_in_body(alloc, language, block, name, items, at),
-        Place::InLast(block) => read_in_last(alloc, language, block, name, items, at),
+    let Some(role) = role_of(language, place, name) else {
+        return Err(unknown_tag(at));
+    };
+    match role {
+        Role::End => read_end(items, at),
+        Role::Control(Control::Elsif) => Ok(Label::Elsif(read_if(alloc, items, at)?)),
+        Role::Control(Control::Else) => Ok(Label::Otherwise),
+        Role::Tag(TagKind::Assign) => read_assign(alloc, language, items, at),
+        Role::Block(BlockKind::If) => {
+            let node = read_if(alloc, items, at)?;
+            Ok(Label::Begins(Block::If, Stage::First, node))
+        }
+        Role::Block(BlockKind::Raw) | Role::Block(BlockKind::Comment) => {
+            Err(expected(at, "a tag without items"))
+        }
     }
-}
-
-/// A tag in a body that a control word can end: the block's end comes first, then its control words.
-fn read_in_body(
-    alloc: Global,
-    language: &Language,
-    block: Block,
-    name: &str,
-    items: VecDeque<Item<'_>>,
-    at: &str,
-) -> Result<Label, ParseError>
-    ensures { Judges (tag_label language.now (InBody block) name.now (tokens_view items.entry.items)) result }
-{
-    if name == end_tag(block) {
-        return read_end(items, at);
-    }
-    match control_word(block, name) {
-        Some(Control::Elsif) => Ok(Label::Elsif(read_if(alloc, items, at)?)),
-        Some(Control::Else) => Ok(Label::Otherwise),
-        None => read_registered(alloc, language, name, items, at),
-    }
-}
-
-/// A tag in the last body of a block, which its end alone ends.
-fn read_in_last(
-    alloc: Global,
-    language: &Language,
-    block: Block,
-    name: &str,
-    items: VecDeque<Item<'_>>,
-    at: &str,
-) -> Result<Label, ParseError>
-    ensures { Judges (tag_label language.now (InLast block) name.now (tokens_view items.entry.items)) result }
-{
-    if name == end_tag(block) {
-        return read_end(items, at);
-    }
-    read_registered(alloc, language, name, items, at)
 }
 
 fn read_end(items: VecDeque<Item<'_>>, at: &str) -> Result<Label, ParseError>
@@ -105,41 +123,6 @@ fn read_end(items: VecDeque<Item<'_>>, at: &str) -> Result<Label, ParseError>
         Ok(Label::Ends)
     } else {
         Err(expected(at, "an end without items"))
-    }
-}
-
-/// A tag of a registered name.
-fn read_registered(
-    alloc: Global,
-    language: &Language,
-    name: &str,
-    items: VecDeque<Item<'_>>,
-    at: &str,
-) -> Result<Label, ParseError>
-    ensures { Judges (registered language.now name.now (tokens_view items.entry.items)) result }
-{
-    match language.tags.get(name) {
-        Some(TagKind::Assign) => read_assign(alloc, language, items, at),
-        None => read_block(alloc, language, name, items, at),
-    }
-}
-
-/// The start of a block of a registered name.
-fn read_block(
-    alloc: Global,
-    language: &Language,
-    name: &str,
-    items: VecDeque<Item<'_>>,
-    at: &str,
-) -> Result<Label, ParseError>
-    ensures { Judges (by_block (tokens_view items.entry.items) (listed (kinds_of language.now.blocks) name.now)) result }
-{
-    match language.blocks.get(name) {
-        Some(BlockKind::If) => {
-            let node = read_if(alloc, items, at)?;
-            Ok(Label::Begins(Block::If, Stage::First, node))
-        }
-        None => Err(unknown_tag(at)),
     }
 }
 

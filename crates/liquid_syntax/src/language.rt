@@ -19,6 +19,10 @@ pub enum TagKind {
 /// A tag with a body and an end.
 #[derive(Clone, Copy, Debug, PartialEq, Eq, Drop)]
 pub enum BlockKind {
+    /// `{% raw %}`: its body is text, up to the first `{% endraw %}`
+    Raw,
+    /// `{% comment %}`: its body is skipped
+    Comment,
     /// `{% if condition %}`, with `elsif` and `else`
     If,
 }

@@ -33,6 +33,10 @@ pub enum Node {
     Output(FilterChain),
     /// `{% assign name = chain %}`
     Assign(String, FilterChain),
+    /// `{% raw %}`, with its body as it stands in the source.
+    Raw(String),
+    /// `{% comment %}`
+    Comment,
     /// `{% if condition %}`, with the body that runs where the condition holds, and that of `else`.
     /// An `elsif` is an `If` alone in the body of `else`.
     If(Condition, TwoBodies),

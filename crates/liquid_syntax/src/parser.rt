@@ -2,12 +2,12 @@
 ghost use Rattle.std.specs.Prelude.{◌≡◌, IfErr};
 ghost use Rattle.liquid_syntax.specs.Parsing.{IsOfSource, ParsesTo, ReadsTo};
 
-use crate::build::Builder;
-use crate::judge::judge;
+use crate::build::{Builder, too_nested};
+use crate::judge::{body_behind, judge, opens};
 use crate::language::Language;
 use crate::template::Template;
 use liquid_core::Result;
-use liquid_source::{ParseError, past_byte, read_markup, stripped, text_before};
+use liquid_source::{ParseError, past_byte, read_body, read_markup, stripped, text_before};
 use std::alloc::Global;
 
 /// The template that a source is, in a language.
@@ -45,7 +45,13 @@ fn read_template(
         };
         let (markup, after) = read_markup(alloc, inside)?;
         builder.text(alloc, stripped(front, text, markup.before))?;
-        let label = judge(alloc, language, builder.place(), markup.piece, behind)?;
+        let place = builder.place();
+        let body = body_behind(language, place, &markup.piece);
+        let (markup, after) = read_body(body, markup, after)?;
+        if builder.is_full() && opens(language, place, &markup.piece) {
+            return Err(too_nested(behind.len()));
+        }
+        let label = judge(alloc, language, place, markup.piece, behind)?;
         builder.add(label, behind.len())?;
         front = markup.after;
         rest = after;

@@ -1,0 +1,15 @@
+use Rattle.std.proofs.Common.{List, sym, subst}
+use Rattle.liquid_source.specs.PieceView.{piece_view, item_view}
+use Rattle.liquid_source.specs.Tokens.{Token, tokens_view}
+use Rattle.liquid_source.specs.declared.piece.Piece.{Piece}
+use Rattle.liquid_source.proofs.Seen.{seen_tokens}
+use Rattle.liquid_syntax.specs.Judges.{Judges}
+use Rattle.liquid_syntax.specs.Judging.{reads, tag_label}
+use Rattle.liquid_syntax.specs.Roles.{role_of}
+use Rattle.liquid_syntax.proofs.judge.judge.Goals as goal
+
+pub returns-in-Tag : goal.returns-in-Tag
+returns-in-Tag c =
+    let role = role_of c.args.language.now c.args.place c.in-Tag.name.now in
+    let judged = subst (λ (ts : List Token). Judges (tag_label c.args.language.now ts role) c.read_tag.result) (sym (seen_tokens c.in-Tag.items.items)) c.read_tag.ensures in
+    subst (λ (p : Piece). Judges (reads c.args.language.now c.args.place (piece_view p)) c.read_tag.result) (sym c.in-Tag.is) judged

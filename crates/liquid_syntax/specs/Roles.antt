@@ -1,0 +1,54 @@
+-- What a tag's name is, where the tag stands.
+--     role_of l x w      of the name w in a language, at a place
+--     unread_body role      the body behind such a tag, where it is a block's that isn't read
+use Rattle.std.specs.Prelude.{cond, bytes_eq, Option, Some, None, option_map}
+use Rattle.liquid_core.specs.Maps.{listed}
+use Rattle.liquid_core.specs.Texts.{Text}
+use Rattle.liquid_source.specs.declared.piece.Body.{Body}
+use Rattle.liquid_source.specs.declared.piece.Body.TheVariants as bodies
+use Rattle.liquid_syntax.specs.Controls.{end_word, control_of}
+use Rattle.liquid_syntax.specs.Languages.{kinds_of}
+use Rattle.liquid_syntax.specs.declared.block.Block.{Block}
+use Rattle.liquid_syntax.specs.declared.block.Control.{Control}
+use Rattle.liquid_syntax.specs.declared.block.Place.{Place}
+use Rattle.liquid_syntax.specs.declared.block.Place.TheVariants.{Outside, InBody, InLast}
+use Rattle.liquid_syntax.specs.declared.block.Role.{Role}
+use Rattle.liquid_syntax.specs.declared.block.Role.TheVariants.{End, Control as Word, Tag, Block as Start}
+use Rattle.liquid_syntax.specs.declared.language.BlockKind.{BlockKind}
+use Rattle.liquid_syntax.specs.declared.language.BlockKind.TheVariants as blocks
+use Rattle.liquid_syntax.specs.declared.language.Language.{Language}
+use Rattle.liquid_syntax.specs.declared.language.TagKind.{TagKind}
+
+-- the first of two, or else the second
+abbrev pub tag_or_block : Option TagKind → Option BlockKind → Option Role
+tag_or_block (Some kind) b = Some (Tag kind)
+tag_or_block None b = option_map Start b
+
+-- tags come before blocks
+abbrev pub registered : Language → Text → Option Role
+registered l w = tag_or_block (listed (kinds_of l.tags) w) (listed (kinds_of l.blocks) w)
+
+abbrev pub word_or : Option Control → Option Role → Option Role
+word_or (Some word) o = Some (Word word)
+word_or None o = o
+
+-- in a block its end comes first, then the control words that can end the body, then what is registered
+abbrev pub role_of : Language → Place → Text → Option Role
+role_of l Outside w = registered l w
+role_of l (InBody b) w = cond (bytes_eq w (end_word b)) (Some End) (word_or (control_of b w) (registered l w))
+role_of l (InLast b) w = cond (bytes_eq w (end_word b)) (Some End) (registered l w)
+
+abbrev pub unread : BlockKind → Option Body
+unread blocks.Raw = Some bodies.Raw
+unread blocks.Comment = Some bodies.Comment
+unread blocks.If = None
+
+abbrev pub unread_body : Option Role → Option Body
+unread_body None = None
+unread_body (Some End) = None
+unread_body (Some (Word word)) = None
+unread_body (Some (Tag kind)) = None
+unread_body (Some (Start kind)) = unread kind
+
+abbrev pub body_behind : Language → Place → Text → Option Body
+body_behind l x w = unread_body (role_of l x w)
