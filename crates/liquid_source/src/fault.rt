@@ -103,13 +103,14 @@ impl<T: Drop> From<AllocFailed<T>> for ParseError {
 
 impl ParseError {
     /// The error that tells it: its kind, and a message with the line and the column (in characters, each from 1) of the
-    /// place in `source`, with what is found and what is wanted there. `Memory` where there is no room for the message.
-    pub fn tell(self, alloc: Global, source: &str) -> Error
+    /// place in `source`, with what is found and what is wanted there, and `more` behind it. `Memory` where there is no
+    /// room for the message.
+    pub fn tell(self, alloc: Global, source: &str, more: &str) -> Error
         ensures { TellsOf self result.kind }
     {
         match self {
             ParseError::Memory => out_of_memory(),
-            ParseError::Fault(fault) => match message(alloc, source, fault) {
+            ParseError::Fault(fault) => match message(alloc, source, fault, more) {
                 Ok(text) => Error {
                     kind: fault.kind.kind(),
                     message: Some(text),
@@ -129,16 +130,21 @@ fn out_of_memory() -> Error
     }
 }
 
-fn message(alloc: Global, source: &str, fault: Fault) -> Result<String, AllocError> {
+fn message(
+    alloc: Global,
+    source: &str,
+    fault: Fault,
+    more: &str,
+) -> Result<String, AllocError> {
     let (line, column) = place(source, fault.left);
     let wanted = fault.wanted;
     let found = found(source, fault.left);
     if found.is_empty() {
         return format!(in alloc;
-            "line {line}, column {column}: the source ends where {wanted} is wanted"
+            "line {line}, column {column}: the source ends where {wanted} is wanted{more}"
         );
     }
-    format!(in alloc; "line {line}, column {column}: found `{found}` where {wanted} is wanted")
+    format!(in alloc; "line {line}, column {column}: found `{found}` where {wanted} is wanted{more}")
 }
 
 /// The line and the column, in characters and each from 1, of the place with so many bytes left.

@@ -17,7 +17,7 @@ mod value;
 
 pub use cut::{past_byte, stripped, text_before};
 pub use fault::{Fault, FaultKind, ParseError};
-pub use item::{Delimiter, Item};
+pub use item::{Delimiter, Item, read_items};
 pub use laws::{item_laws, source_laws, value_laws, verbatim_laws};
 pub use mark::Mark;
 pub use piece::{Body, Markup, Piece, bare_name, read_body, read_markup};

@@ -327,7 +327,7 @@ fn messages(rt: HostRuntime) -> Result<(), Fail> {
     let alloc = rt.alloc();
     for (source, want) in rows {
         let message = match pieces(alloc, source) {
-            Err(error) => error.tell(alloc, source).message,
+            Err(error) => error.tell(alloc, source, "").message,
             Ok(_) => None,
         };
         assert_eq!(rt; message.as_deref(), Some(want), "{source}");

@@ -75,7 +75,7 @@ fn raw_block(alloc: Global, wanted: Option<Body>, body: &str, at: &str) -> Resul
 {
     match wanted {
         Some(Body::Raw) => Ok(Label::Closed(Node::Raw(String::from_str(alloc, body)?))),
-        Some(Body::Comment) | None => Err(unknown_tag(at)),
+        _ => Err(unknown_tag(at)),
     }
 }
 
@@ -84,7 +84,7 @@ fn comment_block(wanted: Option<Body>, at: &str) -> Result<Label, ParseError>
 {
     match wanted {
         Some(Body::Comment) => Ok(Label::Closed(Node::Comment)),
-        Some(Body::Raw) | None => Err(unknown_tag(at)),
+        _ => Err(unknown_tag(at)),
     }
 }
 
@@ -98,19 +98,17 @@ fn read_tag(
 ) -> Result<Label, ParseError>
     ensures { Judges (tag_label language.now (tokens_view items.entry.items) (role_of language.now place name.now)) result }
 {
-    let Some(role) = role_of(language, place, name) else {
-        return Err(unknown_tag(at));
-    };
-    match role {
-        Role::End => read_end(items, at),
-        Role::Control(Control::Elsif) => Ok(Label::Elsif(read_if(alloc, items, at)?)),
-        Role::Control(Control::Else) => Ok(Label::Otherwise),
-        Role::Tag(TagKind::Assign) => read_assign(alloc, language, items, at),
-        Role::Block(BlockKind::If) => {
+    match role_of(language, place, name) {
+        None => Err(unknown_tag(at)),
+        Some(Role::End) => read_end(items, at),
+        Some(Role::Control(Control::Elsif)) => Ok(Label::Elsif(read_if(alloc, items, at)?)),
+        Some(Role::Control(Control::Else)) => Ok(Label::Otherwise),
+        Some(Role::Tag(TagKind::Assign)) => read_assign(alloc, language, items, at),
+        Some(Role::Block(BlockKind::If)) => {
             let node = read_if(alloc, items, at)?;
             Ok(Label::Begins(Block::If, Stage::First, node))
         }
-        Role::Block(BlockKind::Raw) | Role::Block(BlockKind::Comment) => {
+        Some(Role::Block(BlockKind::Raw | BlockKind::Comment)) => {
             Err(expected(at, "a tag without items"))
         }
     }

@@ -8,6 +8,7 @@ use liquid_core::Result;
 use liquid_filters::FilterKind;
 use std::alloc::Global;
 use std::collections::BTreeMap;
+use std::collections::btree_map::Keys;
 
 /// A tag without a body.
 #[derive(Clone, Copy, Debug, PartialEq, Eq, Drop)]
@@ -50,6 +51,11 @@ impl<K: Copy + Drop> Registry<K> {
     {
         drop(self.kinds.insert(name, kind)?);
         Ok(())
+    }
+
+    /// The registered names, in order.
+    pub fn names(&self) -> Keys<'_, String, K> {
+        self.kinds.keys()
     }
 
     /// The kind that is registered under the name.

@@ -11,6 +11,7 @@ mod condition_items;
 #[cfg(test)]
 mod condition_tests;
 mod filter_call;
+mod hint;
 mod judge;
 mod language;
 mod laws;

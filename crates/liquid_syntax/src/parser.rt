@@ -1,12 +1,14 @@
 //! From a source to its template.
 ghost use Rattle.std.specs.Prelude.{◌≡◌, IfErr};
+ghost use Rattle.liquid_source.specs.Readers.{TellsOf};
 ghost use Rattle.liquid_syntax.specs.Parsing.{IsOfSource, ParsesTo, ReadsTo};
 
 use crate::build::{Builder, too_nested};
+use crate::hint::hint;
 use crate::judge::{body_behind, judge, opens};
 use crate::language::Language;
 use crate::template::Template;
-use liquid_core::Result;
+use liquid_core::{Error, Result};
 use liquid_source::{ParseError, past_byte, read_body, read_markup, stripped, text_before};
 use std::alloc::Global;
 
@@ -23,7 +25,20 @@ pub fn parse(alloc: Global, source: &str, language: &Language) -> Result<Templat
 {
     match read_template(alloc, source, language) {
         Ok(template) => Ok(template),
-        Err(error) => Err(error.tell(alloc, source)),
+        Err(error) => Err(told(alloc, source, language, error)),
+    }
+}
+
+/// The error that tells why the source could not be read, and of an unknown name which it is.
+fn told(alloc: Global, source: &str, language: &Language, error: ParseError) -> Error
+    ensures { TellsOf error result.kind }
+{
+    match error {
+        ParseError::Memory => ParseError::Memory.tell(alloc, source, ""),
+        ParseError::Fault(fault) => match hint(alloc, source, language, fault) {
+            Ok(more) => ParseError::Fault(fault).tell(alloc, source, more.as_str()),
+            Err(_) => ParseError::Memory.tell(alloc, source, ""),
+        },
     }
 }
 

@@ -1,5 +1,5 @@
 //! Sources that are parsed, and sources that are refused, at examples.
-use crate::language::{Language, TagKind};
+use crate::language::{BlockKind, Language, TagKind};
 use crate::node::Node;
 use crate::parser::parse;
 use crate::partials::Partials;
@@ -22,6 +22,21 @@ fn small_language(alloc: Global) -> Result<Language, Error> {
         String::from_str(alloc, "first")?,
         FilterKind::First(stdlib::First),
     )?;
+    Ok(language)
+}
+
+/// The small language, with the blocks `if`, `raw` and `comment`.
+fn language_with_blocks(alloc: Global) -> Result<Language, Error> {
+    let mut language = small_language(alloc)?;
+    for (name, kind) in [
+        ("if", BlockKind::If),
+        ("raw", BlockKind::Raw),
+        ("comment", BlockKind::Comment),
+    ] {
+        language
+            .blocks
+            .register(String::from_str(alloc, name)?, kind)?;
+    }
     Ok(language)
 }
 
@@ -137,11 +152,31 @@ fn a_fault_tells_its_place(rt: HostRuntime) -> Result<(), Fail> {
     for (source, message) in [
         (
             "a\né {{ a | nosuch }}b",
-            "line 2, column 3: found `{{ a | nosuch }}` where a registered filter is wanted",
+            "line 2, column 3: found `{{ a | nosuch }}` where a registered filter is wanted; `nosuch` is unknown",
+        ),
+        (
+            "{{ a | join | frist: 1 }}",
+            "line 1, column 1: found `{{ a | join | frist: 1 }}` where a registered filter is wanted; `frist` is unknown, did you mean `first`?",
+        ),
+        (
+            "{{ a | first | join: 1, b }}",
+            "line 1, column 1: found `{{ a | first | join: 1, b }}` where a number of arguments that the filter takes is wanted; `join` doesn't take 2",
+        ),
+        (
+            "{% asign a = 1 %}",
+            "line 1, column 1: found `{% asign a = 1 %}` where a registered tag is wanted; `asign` is unknown, did you mean `assign`?",
+        ),
+        (
+            "{% elseif a %}",
+            "line 1, column 1: found `{% elseif a %}` where a registered tag is wanted; `elseif` is unknown, did you mean `elsif`?",
+        ),
+        (
+            "\n{% else %}",
+            "line 2, column 1: found `{% else %}` where a registered tag is wanted; no open block knows `else` here",
         ),
         (
             "{% nosuch -%}",
-            "line 1, column 1: found `{% nosuch -%}` where a registered tag is wanted",
+            "line 1, column 1: found `{% nosuch -%}` where a registered tag is wanted; `nosuch` is unknown",
         ),
         (
             "x{{ a",
@@ -183,5 +218,140 @@ fn a_later_name_replaces(rt: HostRuntime) -> Result<(), Fail> {
         None => assert!(rt; false, "the partial"),
     }
     assert!(rt; partials.get("q").is_none());
+    Ok(())
+}
+
+#[test]
+fn blocks_are_nodes(rt: HostRuntime) -> Result<(), Fail> {
+    let language = language_with_blocks(rt.alloc())?;
+    for (source, nodes) in [
+        ("{% if a %}{% endif %}", 1),
+        ("{% if a %}b{% endif %}c", 3),
+        ("{% if a %}b{% elsif c %}d{% else %}e{% endif %}f", 6),
+        (
+            "{% if a %}{% elsif b %}{% elsif c %}{% elsif d %}x{% endif %}",
+            5,
+        ),
+        ("{% if a == nil %}y{% else junk, | %}n{% endif %}", 3),
+        (
+            "{% if a %}{% if b %}{% endif %}{% else %}{% if c %}{% else %}x{% endif %}{% endif %}",
+            4,
+        ),
+        ("a{% raw %}{{ b }}{% if %}{% endraw %}c", 3),
+        ("{%raw%}hello{%if%}world{%endraw%}", 1),
+        ("{%- raw -%}{% endraw %}", 1),
+        (
+            "a{% comment %}{% if %}{% raw %}{% endcomment %}{% endraw %}{% endcomment %}b",
+            3,
+        ),
+        ("{% if a %}{% raw %}{% endif %}{% endraw %}{% endif %}", 2),
+        (
+            "{% comment %}{% comment %}{% endcomment %}{{ {% endcomment %}",
+            1,
+        ),
+    ] {
+        assert_eq!(rt; read(rt.alloc(), &language, source), Ok(nodes), "{source}");
+    }
+    Ok(())
+}
+
+#[test]
+fn blocks_are_refused(rt: HostRuntime) -> Result<(), Fail> {
+    let language = language_with_blocks(rt.alloc())?;
+    for (source, kind) in [
+        ("{% if a %}", ErrorKind::MissingEnd),
+        ("{% if a %}{% else %}", ErrorKind::MissingEnd),
+        ("{% if a %}{% if b %}{% endif %}", ErrorKind::MissingEnd),
+        ("{% raw %}{% endraw x %}", ErrorKind::MissingEnd),
+        (
+            "{% comment %}{% raw %}{% endcomment %}",
+            ErrorKind::MissingEnd,
+        ),
+        ("{% endif %}", ErrorKind::UnknownTag),
+        ("{% elsif a %}", ErrorKind::UnknownTag),
+        ("{% else %}", ErrorKind::UnknownTag),
+        ("{% endraw %}", ErrorKind::UnknownTag),
+        (
+            "{% if x %}a{% else %}b{% elsif y %}c{% endif %}",
+            ErrorKind::UnknownTag,
+        ),
+        (
+            "{% if x %}a{% else %}b{% else %}c{% endif %}",
+            ErrorKind::UnknownTag,
+        ),
+        ("{% if true %}a{% endif x %}", ErrorKind::Expected),
+        ("{% if %}{% endif %}", ErrorKind::Expected),
+        ("{% if a and %}{% endif %}", ErrorKind::Expected),
+        ("{% if a b %}{% endif %}", ErrorKind::Expected),
+        ("{% if a %}{% elsif %}{% endif %}", ErrorKind::Expected),
+        ("{% raw x %}{% endraw %}", ErrorKind::Expected),
+        ("{% comment 1 %}{% endcomment %}", ErrorKind::Expected),
+        ("{% if a | first %}{% endif %}", ErrorKind::Expected),
+    ] {
+        assert_eq!(rt; read(rt.alloc(), &language, source), Err(kind), "{source}");
+    }
+    Ok(())
+}
+
+/// So many `if` in one another, with something inside.
+fn nested(
+    alloc: Global,
+    language: &Language,
+    count: usize,
+    inside: &str,
+) -> Result<std::result::Result<usize, ErrorKind>, Error> {
+    let mut source = String::new(alloc);
+    for _ in 0..count {
+        source.push_str("{% if true %}")?;
+    }
+    source.push_str(inside)?;
+    for _ in 0..count {
+        source.push_str("{% endif %}")?;
+    }
+    Ok(read(alloc, language, source.as_str()))
+}
+
+#[test]
+fn blocks_nest_at_most_200_deep(rt: HostRuntime) -> Result<(), Fail> {
+    let language = language_with_blocks(rt.alloc())?;
+    let too_nested = Err(ErrorKind::TooNested);
+    for (count, inside, outcome) in [
+        (200, "x", Ok(201)),
+        (199, "{% raw %}{% endraw %}", Ok(200)),
+        (
+            199,
+            "{% comment %}{% comment %}{% endcomment %}{% endcomment %}",
+            Ok(200),
+        ),
+        (200, "{% elsif a %}{% elsif b %}x", Ok(203)),
+        (201, "x", too_nested),
+        (200, "{% raw %}{% endraw %}", too_nested),
+        (200, "{% comment %}{% endcomment %}", too_nested),
+        (200, "{% if %}{% endif %}", too_nested),
+        (199, "{% if %}{% endif %}", Err(ErrorKind::Expected)),
+    ] {
+        assert_eq!(rt;
+            nested(rt.alloc(), &language, count, inside)?,
+            outcome,
+            "{inside}"
+        );
+    }
+    Ok(())
+}
+
+#[test]
+fn a_name_is_a_tag_before_a_block(rt: HostRuntime) -> Result<(), Fail> {
+    let mut language = language_with_blocks(rt.alloc())?;
+    for name in ["raw", "else", "endif"] {
+        language
+            .tags
+            .register(String::from_str(rt.alloc(), name)?, TagKind::Assign)?;
+    }
+    assert_eq!(rt; read(rt.alloc(), &language, "{% raw a = 1 %}"), Ok(1));
+    assert_eq!(rt;
+        read(rt.alloc(), &language, "{% if a %}{% else = 1 %}{% endif %}"),
+        Ok(1)
+    );
+    assert_eq!(rt; read(rt.alloc(), &language, "{% endif a = 1 %}"), Ok(1));
     Ok(())
 }
