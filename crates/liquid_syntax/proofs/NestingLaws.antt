@@ -23,11 +23,22 @@ some_room d h = grind (arith, nat_tests)
 room_is : (d : ℕ) → nat_lt d 200 ≡ true → d < 200
 room_is d h = grind (arith, nat_tests)
 
-module _ {P : Type 0} (reads : Place → P → Label) where
+-- a label by which a piece stands in the grammar
+abbrev pub Stands : Label → Type 0
+Stands (leaf n) = Unit {0}
+Stands (closed n) = Unit {0}
+Stands (begins o) = Unit {0}
+Stands (elsif next) = Unit {0}
+Stands (arm vs) = Unit {0}
+Stands otherwise = Unit {0}
+Stands ends = Unit {0}
+Stands refused = ⊥
+
+module _ {P : Type 0} (Is : Place → P → Label → Type 0) (reads : Place → P → Label) (says : (x : Place) (p : P) (l : Label) → Is x p l → reads x p ≡ l) (stands : (x : Place) (p : P) (l : Label) → Stands l → reads x p ≡ l → Is x p l) where
   -- ---- what stands in the grammar is read
 
-  turn : (x : Place) (p : P) (l : Label) (ps : List P) (ls : List Level) (cur : Nodes) → place_of ls ≡ x → reads x p ≡ l → read reads (p ∷ ps) ls cur ≡ go (read reads ps) (step l ls cur)
-  turn x p l ps ls cur e h = ap (λ (y : Place). go (read reads ps) (step (reads y p) ls cur)) e ∙ ap (λ (l : Label). go (read reads ps) (step l ls cur)) h
+  turn : (x : Place) (p : P) (l : Label) (ps : List P) (ls : List Level) (cur : Nodes) → place_of ls ≡ x → Is x p l → read reads (p ∷ ps) ls cur ≡ go (read reads ps) (step l ls cur)
+  turn x p l ps ls cur e h = ap (λ (y : Place). go (read reads ps) (step (reads y p) ls cur)) e ∙ ap (λ (l : Label). go (read reads ps) (step l ls cur)) (says x p l h)
 
   begin_turn : (o : Opening) (ps : List P) (ls : List Level) (cur : Nodes) → depth ls < 200 → go (read reads ps) (to_begin o ls cur) ≡ read reads ps (level (begun o) cur false ∷ ls) no_nodes
   begin_turn o ps ls cur h = ap (λ (b : Bool). go (read reads ps) (cond b (Some (level (begun o) cur false ∷ ls, no_nodes)) None)) (some_room (depth ls) h)
@@ -43,7 +54,7 @@ module _ {P : Type 0} (reads : Place → P → Label) where
     at_when : (vs : List Expression) → when_of vs r cur ≡ Some (armed b (λ g ws o. make (when vs g ws) o))
 
   mutual
-    pub nodes_again : {x : Place} {d : ℕ} {f : Nodes} {ps rest : List P} → AreNodes reads x d f ps rest → (ls : List Level) (cur : Nodes) → place_of ls ≡ x → depth ls + d ≤ 200
+    pub nodes_again : {x : Place} {d : ℕ} {f : Nodes} {ps rest : List P} → AreNodes Is x d f ps rest → (ls : List Level) (cur : Nodes) → place_of ls ≡ x → depth ls + d ≤ 200
         → read reads ps ls cur ≡ read reads rest ls (append cur f)
     nodes_again (none {ps = ps}) ls cur e m = ap (read reads ps ls) (sym (append-none cur))
     nodes_again (is_leaf {x = x} {p = p} {n = n} {f = f} {ps = ps} {rest = rest} r ns) ls cur e m =
@@ -60,7 +71,7 @@ module _ {P : Type 0} (reads : Place → P → Label) where
         ∙ nodes_again ns ls (with_node cur n) e m
         ∙ ap (read reads rest ls) (append-assoc cur (node n no_nodes) f)
 
-    block_again : {d : ℕ} {o : Opening} {n : Node} {ps rest : List P} → IsBlock reads d o n ps rest → (cur : Nodes) (ls : List Level) → suc (depth ls) + d ≤ 200
+    block_again : {d : ℕ} {o : Opening} {n : Node} {ps rest : List P} → IsBlock Is d o n ps rest → (cur : Nodes) (ls : List Level) → suc (depth ls) + d ≤ 200
         → read reads ps (level (begun o) cur false ∷ ls) no_nodes ≡ read reads rest ls (with_node cur n)
     block_again (one {b = b} {make = make} {f = f} {q = q} {rest = rest} ns e) cur ls m =
         nodes_again ns (level (last b make) cur false ∷ ls) no_nodes refl m ∙ turn (InLast b) q ends rest (level (last b make) cur false ∷ ls) f refl e
@@ -70,7 +81,7 @@ module _ {P : Type 0} (reads : Place → P → Label) where
         nodes_again ns (level (unkept b make) cur false ∷ ls) no_nodes refl m
         ∙ whens_again ws (unkept b make) make cur false ls f (record { place = refl; at_end = refl; at_else = refl; at_when = λ vs. refl }) m
 
-    else_again : {b : Block} {d : ℕ} {o : Nodes} {ps rest : List P} → IsElse reads b d o ps rest → (make : Nodes → Nodes → Node) (f : Nodes) (k : Bool) (ls : List Level) (cur : Nodes) → deeper k (depth ls) + d ≤ 200
+    else_again : {b : Block} {d : ℕ} {o : Nodes} {ps rest : List P} → IsElse Is b d o ps rest → (make : Nodes → Nodes → Node) (f : Nodes) (k : Bool) (ls : List Level) (cur : Nodes) → deeper k (depth ls) + d ≤ 200
         → read reads ps (level (first b make) f k ∷ ls) cur ≡ go (read reads rest) (close k ls (with_node f (make cur o)))
     else_again (is_last {b = b} os) make f k ls cur m = last_again os (first b make) (make cur) f k ls cur refl refl refl m
     else_again (is_elsif {b = b} {p = p} {make = next} {f = g} {o = o} {ps = ps} r ns os) make f k ls cur m =
@@ -78,7 +89,7 @@ module _ {P : Type 0} (reads : Place → P → Label) where
         ∙ nodes_again ns (level (first b next) no_nodes true ∷ level (last b (make cur)) f k ∷ ls) no_nodes refl m
         ∙ else_again os next no_nodes true (level (last b (make cur)) f k ∷ ls) g m
 
-    last_again : {b : Block} {d : ℕ} {o : Nodes} {ps rest : List P} → IsLast reads b d o ps rest → (r : Reading) (make : Nodes → Node) (f : Nodes) (k : Bool) (ls : List Level) (cur : Nodes)
+    last_again : {b : Block} {d : ℕ} {o : Nodes} {ps rest : List P} → IsLast Is b d o ps rest → (r : Reading) (make : Nodes → Node) (f : Nodes) (k : Bool) (ls : List Level) (cur : Nodes)
         → place_in r ≡ InBody b → ended r cur ≡ make no_nodes → else_of r cur ≡ Some (last b make) → deeper k (depth ls) + d ≤ 200
         → read reads ps (level r f k ∷ ls) cur ≡ go (read reads rest) (close k ls (with_node f (make o)))
     last_again (no_else {b = b} {p = p} {rest = rest} s) r make f k ls cur x e h m =
@@ -89,7 +100,7 @@ module _ {P : Type 0} (reads : Place → P → Label) where
         ∙ nodes_again ns (level (last b make) f k ∷ ls) no_nodes refl m
         ∙ turn (InLast b) q ends rest (level (last b make) f k ∷ ls) o refl t
 
-    whens_again : {b : Block} {d : ℕ} {ws : Whens} {o : Nodes} {ps rest : List P} → AreWhens reads b d ws o ps rest → (r : Reading) (make : Whens → Nodes → Node) (f : Nodes) (k : Bool) (ls : List Level) (cur : Nodes)
+    whens_again : {b : Block} {d : ℕ} {ws : Whens} {o : Nodes} {ps rest : List P} → AreWhens Is b d ws o ps rest → (r : Reading) (make : Whens → Nodes → Node) (f : Nodes) (k : Bool) (ls : List Level) (cur : Nodes)
         → Arms b r cur make → deeper k (depth ls) + d ≤ 200
         → read reads ps (level r f k ∷ ls) cur ≡ go (read reads rest) (close k ls (with_node f (make ws o)))
     whens_again (no_more os) r make f k ls cur a m = last_again os r (make no_whens) f k ls cur a.place a.at_end a.at_else m
@@ -104,33 +115,33 @@ module _ {P : Type 0} (reads : Place → P → Label) where
 
   -- the pieces go on so that the block, whose body is being read, is the node n
   Rest : Reading → ℕ → Nodes → Node → List P → List P → Type 0
-  Rest (last b make) d cur n ps rest = (g : Nodes) × (q : P) × AreNodes reads (InLast b) d g ps (q ∷ rest) × (reads (InLast b) q ≡ ends) × (n ≡ make (append cur g))
-  Rest (first b make) d cur n ps rest = (g : Nodes) × (after : List P) × (o : Nodes) × AreNodes reads (InBody b) d g ps after × IsElse reads b d o after rest × (n ≡ make (append cur g) o)
-  Rest (unkept b make) d cur n ps rest = (g : Nodes) × (after : List P) × (ws : Whens) × (o : Nodes) × AreNodes reads (InBody b) d g ps after × AreWhens reads b d ws o after rest × (n ≡ make ws o)
-  Rest (armed b make) d cur n ps rest = (g : Nodes) × (after : List P) × (ws : Whens) × (o : Nodes) × AreNodes reads (InBody b) d g ps after × AreWhens reads b d ws o after rest × (n ≡ make (append cur g) ws o)
+  Rest (last b make) d cur n ps rest = (g : Nodes) × (q : P) × AreNodes Is (InLast b) d g ps (q ∷ rest) × (Is (InLast b) q ends) × (n ≡ make (append cur g))
+  Rest (first b make) d cur n ps rest = (g : Nodes) × (after : List P) × (o : Nodes) × AreNodes Is (InBody b) d g ps after × IsElse Is b d o after rest × (n ≡ make (append cur g) o)
+  Rest (unkept b make) d cur n ps rest = (g : Nodes) × (after : List P) × (ws : Whens) × (o : Nodes) × AreNodes Is (InBody b) d g ps after × AreWhens Is b d ws o after rest × (n ≡ make ws o)
+  Rest (armed b make) d cur n ps rest = (g : Nodes) × (after : List P) × (ws : Whens) × (o : Nodes) × AreNodes Is (InBody b) d g ps after × AreWhens Is b d ws o after rest × (n ≡ make (append cur g) ws o)
 
   -- the pieces go on so that the tree is t. The truth value says that a block has just ended, by whose end the one around it ends
   Completes : Bool → List Level → Nodes → List P → Nodes → Type 0
   Completes true [] cur ps t = ⊥
   Completes true (level r f k ∷ ls) cur ps t = Completes k ls (with_node f (ended r cur)) ps t
-  Completes false [] cur ps t = (f : Nodes) × AreNodes reads Outside 200 f ps [] × (t ≡ append cur f)
+  Completes false [] cur ps t = (f : Nodes) × AreNodes Is Outside 200 f ps [] × (t ≡ append cur f)
   Completes false (level r f k ∷ ls) cur ps t = (n : Node) × (rest : List P) × Rest r (200 - deeper k (depth ls)) cur n ps rest × Completes k ls (with_node f n) rest t
 
-  rest_leaf : (p : P) (m : Node) (r : Reading) (d : ℕ) (cur : Nodes) (n : Node) (ps rest : List P) → reads (place_in r) p ≡ leaf m → Rest r d (with_node cur m) n ps rest → Rest r d cur n (p ∷ ps) rest
+  rest_leaf : (p : P) (m : Node) (r : Reading) (d : ℕ) (cur : Nodes) (n : Node) (ps rest : List P) → Is (place_in r) p (leaf m) → Rest r d (with_node cur m) n ps rest → Rest r d cur n (p ∷ ps) rest
   unfolding Rest
   rest_leaf p m (last b make) d cur n ps rest s (g, q, ns, e, is) = (node m g, q, is_leaf s ns, e, is ∙ ap make (append-assoc cur (node m no_nodes) g))
   rest_leaf p m (first b make) d cur n ps rest s (g, after, o, ns, os, is) = (node m g, after, o, is_leaf s ns, os, is ∙ ap (λ (f : Nodes). make f o) (append-assoc cur (node m no_nodes) g))
   rest_leaf p m (unkept b make) d cur n ps rest s (g, after, ws, o, ns, os, is) = (node m g, after, ws, o, is_leaf s ns, os, is)
   rest_leaf p m (armed b make) d cur n ps rest s (g, after, ws, o, ns, os, is) = (node m g, after, ws, o, is_leaf s ns, os, is ∙ ap (λ (f : Nodes). make f ws o) (append-assoc cur (node m no_nodes) g))
 
-  rest_closed : (p : P) (m : Node) (r : Reading) (d : ℕ) (cur : Nodes) (n : Node) (ps rest : List P) → reads (place_in r) p ≡ closed m → Rest r (suc d) (with_node cur m) n ps rest → Rest r (suc d) cur n (p ∷ ps) rest
+  rest_closed : (p : P) (m : Node) (r : Reading) (d : ℕ) (cur : Nodes) (n : Node) (ps rest : List P) → Is (place_in r) p (closed m) → Rest r (suc d) (with_node cur m) n ps rest → Rest r (suc d) cur n (p ∷ ps) rest
   unfolding Rest
   rest_closed p m (last b make) d cur n ps rest s (g, q, ns, e, is) = (node m g, q, is_closed s ns, e, is ∙ ap make (append-assoc cur (node m no_nodes) g))
   rest_closed p m (first b make) d cur n ps rest s (g, after, o, ns, os, is) = (node m g, after, o, is_closed s ns, os, is ∙ ap (λ (f : Nodes). make f o) (append-assoc cur (node m no_nodes) g))
   rest_closed p m (unkept b make) d cur n ps rest s (g, after, ws, o, ns, os, is) = (node m g, after, ws, o, is_closed s ns, os, is)
   rest_closed p m (armed b make) d cur n ps rest s (g, after, ws, o, ns, os, is) = (node m g, after, ws, o, is_closed s ns, os, is ∙ ap (λ (f : Nodes). make f ws o) (append-assoc cur (node m no_nodes) g))
 
-  rest_block : (p : P) (o : Opening) (m : Node) (r : Reading) (d : ℕ) (cur : Nodes) (n : Node) (ps after rest : List P) → reads (place_in r) p ≡ begins o → IsBlock reads d o m ps after
+  rest_block : (p : P) (o : Opening) (m : Node) (r : Reading) (d : ℕ) (cur : Nodes) (n : Node) (ps after rest : List P) → Is (place_in r) p (begins o) → IsBlock Is d o m ps after
       → Rest r (suc d) (with_node cur m) n after rest → Rest r (suc d) cur n (p ∷ ps) rest
   unfolding Rest
   rest_block p o m (last b make) d cur n ps after rest s is_b (g, q, ns, e, is) = (node m g, q, is_block s is_b ns, e, is ∙ ap make (append-assoc cur (node m no_nodes) g))
@@ -139,20 +150,20 @@ module _ {P : Type 0} (reads : Place → P → Label) where
   rest_block p o m (armed b make) d cur n ps after rest s is_b (g, later, ws, os, ns, h, is) = (node m g, later, ws, os, is_block s is_b ns, h, is ∙ ap (λ (f : Nodes). make f ws os) (append-assoc cur (node m no_nodes) g))
 
   -- a block that has begun is whole
-  rest_begun : (o : Opening) (d : ℕ) (n : Node) (ps rest : List P) → Rest (begun o) d no_nodes n ps rest → IsBlock reads d o n ps rest
+  rest_begun : (o : Opening) (d : ℕ) (n : Node) (ps rest : List P) → Rest (begun o) d no_nodes n ps rest → IsBlock Is d o n ps rest
   unfolding Rest
-  rest_begun (of_one b make) d n ps rest (g, q, ns, e, is) = subst (λ (m : Node). IsBlock reads d (of_one b make) m ps rest) (sym is) (one ns e)
-  rest_begun (of_two b make) d n ps rest (g, after, o, ns, os, is) = subst (λ (m : Node). IsBlock reads d (of_two b make) m ps rest) (sym is) (two ns os)
-  rest_begun (of_many b make) d n ps rest (g, after, ws, o, ns, os, is) = subst (λ (m : Node). IsBlock reads d (of_many b make) m ps rest) (sym is) (many ns os)
+  rest_begun (of_one b make) d n ps rest (g, q, ns, e, is) = subst (λ (m : Node). IsBlock Is d (of_one b make) m ps rest) (sym is) (one ns e)
+  rest_begun (of_two b make) d n ps rest (g, after, o, ns, os, is) = subst (λ (m : Node). IsBlock Is d (of_two b make) m ps rest) (sym is) (two ns os)
+  rest_begun (of_many b make) d n ps rest (g, after, ws, o, ns, os, is) = subst (λ (m : Node). IsBlock Is d (of_many b make) m ps rest) (sym is) (many ns os)
 
-  rest_ends : (p : P) (r : Reading) (d : ℕ) (cur : Nodes) (rest : List P) → reads (place_in r) p ≡ ends → Rest r d cur (ended r cur) (p ∷ rest) rest
+  rest_ends : (p : P) (r : Reading) (d : ℕ) (cur : Nodes) (rest : List P) → Is (place_in r) p ends → Rest r d cur (ended r cur) (p ∷ rest) rest
   unfolding Rest
   rest_ends p (last b make) d cur rest s = (no_nodes, p, none, s, ap make (sym (append-none cur)))
   rest_ends p (first b make) d cur rest s = (no_nodes, p ∷ rest, no_nodes, none, is_last (no_else s), ap (λ (f : Nodes). make f no_nodes) (sym (append-none cur)))
   rest_ends p (unkept b make) d cur rest s = (no_nodes, p ∷ rest, no_whens, no_nodes, none, no_more (no_else s), refl)
   rest_ends p (armed b make) d cur rest s = (no_nodes, p ∷ rest, no_whens, no_nodes, none, no_more (no_else s), ap (λ (f : Nodes). make f no_whens no_nodes) (sym (append-none cur)))
 
-  rest_else : (p : P) (r s : Reading) (d : ℕ) (cur : Nodes) (n : Node) (ps rest : List P) → reads (place_in r) p ≡ otherwise → else_of r cur ≡ Some s → Rest s d no_nodes n ps rest → Rest r d cur n (p ∷ ps) rest
+  rest_else : (p : P) (r s : Reading) (d : ℕ) (cur : Nodes) (n : Node) (ps rest : List P) → Is (place_in r) p otherwise → else_of r cur ≡ Some s → Rest s d no_nodes n ps rest → Rest r d cur n (p ∷ ps) rest
   unfolding Rest
   rest_else p (last b make) s d cur n ps rest w e h = absurd cc
   rest_else p (first b make) s d cur n ps rest w e h =
@@ -168,7 +179,7 @@ module _ {P : Type 0} (reads : Place → P → Label) where
       let (g, q, ns, t, is) = subst (λ (s : Reading). Rest s d no_nodes n ps rest) same h in
       (no_nodes, p ∷ ps, no_whens, g, none, no_more (is_else w ns t), is ∙ ap (λ (f : Nodes). make f no_whens g) (sym (append-none cur)))
 
-  rest_when : (p : P) (vs : List Expression) (r s : Reading) (d : ℕ) (cur : Nodes) (n : Node) (ps rest : List P) → reads (place_in r) p ≡ arm vs → when_of vs r cur ≡ Some s → Rest s d no_nodes n ps rest → Rest r d cur n (p ∷ ps) rest
+  rest_when : (p : P) (vs : List Expression) (r s : Reading) (d : ℕ) (cur : Nodes) (n : Node) (ps rest : List P) → Is (place_in r) p (arm vs) → when_of vs r cur ≡ Some s → Rest s d no_nodes n ps rest → Rest r d cur n (p ∷ ps) rest
   unfolding Rest
   rest_when p vs (last b make) s d cur n ps rest w e h = absurd cc
   rest_when p vs (first b make) s d cur n ps rest w e h = absurd cc
@@ -181,28 +192,28 @@ module _ {P : Type 0} (reads : Place → P → Label) where
       let (g, after, ws, o, ns, t, is) = subst (λ (s : Reading). Rest s d no_nodes n ps rest) same h in
       (no_nodes, p ∷ ps, when vs g ws, o, none, is_when w ns t, is ∙ ap (λ (f : Nodes). make f (when vs g ws) o) (sym (append-none cur)))
 
-  more_leaf : (p : P) (m : Node) (ls : List Level) (cur : Nodes) (ps : List P) (t : Nodes) → reads (place_of ls) p ≡ leaf m → Completes false ls (with_node cur m) ps t → Completes false ls cur (p ∷ ps) t
+  more_leaf : (p : P) (m : Node) (ls : List Level) (cur : Nodes) (ps : List P) (t : Nodes) → Is (place_of ls) p (leaf m) → Completes false ls (with_node cur m) ps t → Completes false ls cur (p ∷ ps) t
   unfolding Completes
   more_leaf p m [] cur ps t s (f, ns, e) = (node m f, is_leaf s ns, e ∙ append-assoc cur (node m no_nodes) f)
   more_leaf p m (level r f k ∷ ls) cur ps t s (n, rest, h, c) = (n, rest, rest_leaf p m r (200 - deeper k (depth ls)) cur n ps rest s h, c)
 
-  rest_deeper : (p : P) (o : Opening) (m : Node) (r : Reading) (e : ℕ) (cur : Nodes) (n : Node) (ps after rest : List P) → e < 200 → reads (place_in r) p ≡ begins o → IsBlock reads (200 - suc e) o m ps after
+  rest_deeper : (p : P) (o : Opening) (m : Node) (r : Reading) (e : ℕ) (cur : Nodes) (n : Node) (ps after rest : List P) → e < 200 → Is (place_in r) p (begins o) → IsBlock Is (200 - suc e) o m ps after
       → Rest r (200 - e) (with_node cur m) n after rest → Rest r (200 - e) cur n (p ∷ ps) rest
   rest_deeper p o m r e cur n ps after rest l s b h =
       let is : 200 - e ≡ suc (200 - suc e) = omega (arith, l) in
       subst (λ (d : ℕ). Rest r d cur n (p ∷ ps) rest) (sym is) (rest_block p o m r (200 - suc e) cur n ps after rest s b (subst (λ (d : ℕ). Rest r d (with_node cur m) n after rest) is h))
 
-  rest_closed_deeper : (p : P) (m : Node) (r : Reading) (e : ℕ) (cur : Nodes) (n : Node) (ps rest : List P) → e < 200 → reads (place_in r) p ≡ closed m → Rest r (200 - e) (with_node cur m) n ps rest → Rest r (200 - e) cur n (p ∷ ps) rest
+  rest_closed_deeper : (p : P) (m : Node) (r : Reading) (e : ℕ) (cur : Nodes) (n : Node) (ps rest : List P) → e < 200 → Is (place_in r) p (closed m) → Rest r (200 - e) (with_node cur m) n ps rest → Rest r (200 - e) cur n (p ∷ ps) rest
   rest_closed_deeper p m r e cur n ps rest l s h =
       let is : 200 - e ≡ suc (200 - suc e) = omega (arith, l) in
       subst (λ (d : ℕ). Rest r d cur n (p ∷ ps) rest) (sym is) (rest_closed p m r (200 - suc e) cur n ps rest s (subst (λ (d : ℕ). Rest r d (with_node cur m) n ps rest) is h))
 
-  more_closed : (p : P) (m : Node) (ls : List Level) (cur : Nodes) (ps : List P) (t : Nodes) → depth ls < 200 → reads (place_of ls) p ≡ closed m → Completes false ls (with_node cur m) ps t → Completes false ls cur (p ∷ ps) t
+  more_closed : (p : P) (m : Node) (ls : List Level) (cur : Nodes) (ps : List P) (t : Nodes) → depth ls < 200 → Is (place_of ls) p (closed m) → Completes false ls (with_node cur m) ps t → Completes false ls cur (p ∷ ps) t
   unfolding Completes
   more_closed p m [] cur ps t l s (f, ns, e) = (node m f, is_closed s ns, e ∙ append-assoc cur (node m no_nodes) f)
   more_closed p m (level r f k ∷ ls) cur ps t l s (n, rest, h, c) = (n, rest, rest_closed_deeper p m r (deeper k (depth ls)) cur n ps rest l s h, c)
 
-  more_block : (p : P) (o : Opening) (m : Node) (ls : List Level) (cur : Nodes) (ps after : List P) (t : Nodes) → depth ls < 200 → reads (place_of ls) p ≡ begins o → IsBlock reads (200 - suc (depth ls)) o m ps after
+  more_block : (p : P) (o : Opening) (m : Node) (ls : List Level) (cur : Nodes) (ps after : List P) (t : Nodes) → depth ls < 200 → Is (place_of ls) p (begins o) → IsBlock Is (200 - suc (depth ls)) o m ps after
       → Completes false ls (with_node cur m) after t → Completes false ls cur (p ∷ ps) t
   unfolding Completes
   more_block p o m [] cur ps after t l s b (f, ns, e) = (node m f, is_block s b ns, e ∙ append-assoc cur (node m no_nodes) f)
@@ -215,7 +226,7 @@ module _ {P : Type 0} (reads : Place → P → Label) where
     close_takes true [] cur h = absurd cc
     close_takes true (level r f k ∷ ls) cur h = close_takes k ls (with_node f (ended r cur)) h
 
-    begin_takes : (p : P) (o : Opening) (ls : List Level) (cur : Nodes) (room : Bool) → nat_lt (depth ls) 200 ≡ room → reads (place_of ls) p ≡ begins o
+    begin_takes : (p : P) (o : Opening) (ls : List Level) (cur : Nodes) (room : Bool) → nat_lt (depth ls) 200 ≡ room → Is (place_of ls) p (begins o)
         → go (read reads ps) (cond room (Some (level (begun o) cur false ∷ ls, no_nodes)) None) ≡ Some t → Completes false ls cur (p ∷ ps) t
     unfolding Completes
     begin_takes p o ls cur false e s h = absurd cc
@@ -223,12 +234,12 @@ module _ {P : Type 0} (reads : Place → P → Label) where
         let (n, rest, r, c) = more (level (begun o) cur false ∷ ls) no_nodes h in
         more_block p o n ls cur ps rest t (room_is (depth ls) e) s (rest_begun o (200 - suc (depth ls)) n ps rest r) c
 
-    closed_takes : (p : P) (m : Node) (ls : List Level) (cur : Nodes) (room : Bool) → nat_lt (depth ls) 200 ≡ room → reads (place_of ls) p ≡ closed m
+    closed_takes : (p : P) (m : Node) (ls : List Level) (cur : Nodes) (room : Bool) → nat_lt (depth ls) 200 ≡ room → Is (place_of ls) p (closed m)
         → go (read reads ps) (cond room (Some (ls, with_node cur m)) None) ≡ Some t → Completes false ls cur (p ∷ ps) t
     closed_takes p m ls cur false e s h = absurd cc
     closed_takes p m ls cur true e s h = more_closed p m ls cur ps t (room_is (depth ls) e) s (more ls (with_node cur m) h)
 
-    else_takes : (p : P) (r : Reading) (f : Nodes) (k : Bool) (ls : List Level) (cur : Nodes) (to : Option Reading) → else_of r cur ≡ to → reads (place_in r) p ≡ otherwise
+    else_takes : (p : P) (r : Reading) (f : Nodes) (k : Bool) (ls : List Level) (cur : Nodes) (to : Option Reading) → else_of r cur ≡ to → Is (place_in r) p otherwise
         → go (read reads ps) (option_map (λ s. (level s f k ∷ ls, no_nodes)) to) ≡ Some t → Completes false (level r f k ∷ ls) cur (p ∷ ps) t
     unfolding Completes
     else_takes p r f k ls cur None e s h = absurd cc
@@ -236,7 +247,7 @@ module _ {P : Type 0} (reads : Place → P → Label) where
         let (n, rest, d, c) = more (level to f k ∷ ls) no_nodes h in
         (n, rest, rest_else p r to (200 - deeper k (depth ls)) cur n ps rest s e d, c)
 
-    when_takes : (p : P) (vs : List Expression) (r : Reading) (f : Nodes) (k : Bool) (ls : List Level) (cur : Nodes) (to : Option Reading) → when_of vs r cur ≡ to → reads (place_in r) p ≡ arm vs
+    when_takes : (p : P) (vs : List Expression) (r : Reading) (f : Nodes) (k : Bool) (ls : List Level) (cur : Nodes) (to : Option Reading) → when_of vs r cur ≡ to → Is (place_in r) p (arm vs)
         → go (read reads ps) (option_map (λ s. (level s f k ∷ ls, no_nodes)) to) ≡ Some t → Completes false (level r f k ∷ ls) cur (p ∷ ps) t
     unfolding Completes
     when_takes p vs r f k ls cur None e s h = absurd cc
@@ -244,30 +255,30 @@ module _ {P : Type 0} (reads : Place → P → Label) where
         let (n, rest, d, c) = more (level to f k ∷ ls) no_nodes h in
         (n, rest, rest_when p vs r to (200 - deeper k (depth ls)) cur n ps rest s e d, c)
 
-    elsif_takes : (p : P) (next : Nodes → Nodes → Node) (r : Reading) (f : Nodes) (k : Bool) (ls : List Level) (cur : Nodes) → reads (place_in r) p ≡ elsif next
+    elsif_takes : (p : P) (next : Nodes → Nodes → Node) (r : Reading) (f : Nodes) (k : Bool) (ls : List Level) (cur : Nodes) → Is (place_in r) p (elsif next)
         → go (read reads ps) (option_map (λ s. (level s.1 no_nodes true ∷ level s.0 f k ∷ ls, no_nodes)) (elsif_of next r cur)) ≡ Some t → Completes false (level r f k ∷ ls) cur (p ∷ ps) t
     unfolding Completes Rest
     elsif_takes p next (last b make) f k ls cur s h = absurd cc
     elsif_takes p next (first b make) f k ls cur s h =
         let (n, rest, (g, after, o, ns, os, is), c) = more (level (first b next) no_nodes true ∷ level (last b (make cur)) f k ∷ ls) no_nodes h in
-        let e : IsElse reads b (200 - deeper k (depth ls)) (node n no_nodes) (p ∷ ps) rest = subst (λ (m : Node). IsElse reads b (200 - deeper k (depth ls)) (node m no_nodes) (p ∷ ps) rest) (sym is) (is_elsif s ns os) in
+        let e : IsElse Is b (200 - deeper k (depth ls)) (node n no_nodes) (p ∷ ps) rest = subst (λ (m : Node). IsElse Is b (200 - deeper k (depth ls)) (node m no_nodes) (p ∷ ps) rest) (sym is) (is_elsif s ns os) in
         (make cur (node n no_nodes), rest, (no_nodes, p ∷ ps, node n no_nodes, none, e, ap (λ (f : Nodes). make f (node n no_nodes)) (sym (append-none cur))), c)
     elsif_takes p next (unkept b make) f k ls cur s h = absurd cc
     elsif_takes p next (armed b make) f k ls cur s h = absurd cc
 
     step_takes : (p : P) (l : Label) (ls : List Level) (cur : Nodes) → reads (place_of ls) p ≡ l → go (read reads ps) (step l ls cur) ≡ Some t → Completes false ls cur (p ∷ ps) t
     unfolding Completes
-    step_takes p (leaf m) ls cur s h = more_leaf p m ls cur ps t s (more ls (with_node cur m) h)
-    step_takes p (closed m) ls cur s h = closed_takes p m ls cur (nat_lt (depth ls) 200) refl s h
-    step_takes p (begins o) ls cur s h = begin_takes p o ls cur (nat_lt (depth ls) 200) refl s h
+    step_takes p (leaf m) ls cur s h = more_leaf p m ls cur ps t (stands (place_of ls) p (leaf m) tt s) (more ls (with_node cur m) h)
+    step_takes p (closed m) ls cur s h = closed_takes p m ls cur (nat_lt (depth ls) 200) refl (stands (place_of ls) p (closed m) tt s) h
+    step_takes p (begins o) ls cur s h = begin_takes p o ls cur (nat_lt (depth ls) 200) refl (stands (place_of ls) p (begins o) tt s) h
     step_takes p (elsif next) [] cur s h = absurd cc
-    step_takes p (elsif next) (level r f k ∷ ls) cur s h = elsif_takes p next r f k ls cur s h
+    step_takes p (elsif next) (level r f k ∷ ls) cur s h = elsif_takes p next r f k ls cur (stands (place_in r) p (elsif next) tt s) h
     step_takes p (arm vs) [] cur s h = absurd cc
-    step_takes p (arm vs) (level r f k ∷ ls) cur s h = when_takes p vs r f k ls cur (when_of vs r cur) refl s h
+    step_takes p (arm vs) (level r f k ∷ ls) cur s h = when_takes p vs r f k ls cur (when_of vs r cur) refl (stands (place_in r) p (arm vs) tt s) h
     step_takes p otherwise [] cur s h = absurd cc
-    step_takes p otherwise (level r f k ∷ ls) cur s h = else_takes p r f k ls cur (else_of r cur) refl s h
+    step_takes p otherwise (level r f k ∷ ls) cur s h = else_takes p r f k ls cur (else_of r cur) refl (stands (place_in r) p otherwise tt s) h
     step_takes p ends [] cur s h = absurd cc
-    step_takes p ends (level r f k ∷ ls) cur s h = (ended r cur, ps, rest_ends p r (200 - deeper k (depth ls)) cur ps s, close_takes k ls (with_node f (ended r cur)) h)
+    step_takes p ends (level r f k ∷ ls) cur s h = (ended r cur, ps, rest_ends p r (200 - deeper k (depth ls)) cur ps (stands (place_in r) p ends tt s), close_takes k ls (with_node f (ended r cur)) h)
     step_takes p refused ls cur s h = absurd cc
 
   read_takes : (t : Nodes) (ps : List P) (ls : List Level) (cur : Nodes) → read reads ps ls cur ≡ Some t → Completes false ls cur ps t
@@ -276,12 +287,12 @@ module _ {P : Type 0} (reads : Place → P → Label) where
   read_takes t [] (l ∷ ls) cur h = absurd cc
   read_takes t (p ∷ ps) ls cur h = step_takes t ps (read_takes t ps) p (reads (place_of ls) p) ls cur refl h
 
-  pub tree_takes : (t : Nodes) (ps : List P) → read reads ps [] no_nodes ≡ Some t → AreNodes reads Outside 200 t ps []
+  pub tree_takes : (t : Nodes) (ps : List P) → read reads ps [] no_nodes ≡ Some t → AreNodes Is Outside 200 t ps []
   unfolding Completes
-  tree_takes t ps h = let (f, ns, e) = read_takes t ps [] no_nodes h in subst (λ (n : Nodes). AreNodes reads Outside 200 n ps []) (sym e) ns
+  tree_takes t ps h = let (f, ns, e) = read_takes t ps [] no_nodes h in subst (λ (n : Nodes). AreNodes Is Outside 200 n ps []) (sym e) ns
 
-  pub tree_again : (t : Nodes) (ps : List P) → AreNodes reads Outside 200 t ps [] → read reads ps [] no_nodes ≡ Some t
+  pub tree_again : (t : Nodes) (ps : List P) → AreNodes Is Outside 200 t ps [] → read reads ps [] no_nodes ≡ Some t
   tree_again t ps h = nodes_again h [] no_nodes refl (omega arith)
 
-  pub one_tree : (t u : Nodes) (ps : List P) → AreNodes reads Outside 200 t ps [] → AreNodes reads Outside 200 u ps [] → t ≡ u
+  pub one_tree : (t u : Nodes) (ps : List P) → AreNodes Is Outside 200 t ps [] → AreNodes Is Outside 200 u ps [] → t ≡ u
   one_tree t u ps h g = let e : Some t ≡ Some u = sym (tree_again t ps h) ∙ tree_again u ps g in cc

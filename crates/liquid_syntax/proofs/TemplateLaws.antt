@@ -16,6 +16,8 @@ use Rattle.liquid_source.specs.SourceReading.{all_steps, source_at, Wanted, Take
 use Rattle.liquid_syntax.specs.Parsing.{IsTemplate, IsOnlyTree, HasNoTree, body_of, piece_step, begun_with, template_at}
 use Rattle.liquid_syntax.specs.Tree.{Nodes, no_nodes}
 use Rattle.liquid_syntax.specs.declared.language.Language.{Language}
+use Rattle.liquid_syntax.specs.Labels.{IsLabel}
+use Rattle.liquid_syntax.proofs.LabelLaws.{label_says, label_stands}
 use Rattle.liquid_syntax.proofs.NestingLaws.{tree_takes, tree_again}
 use Rattle.liquid_source.proofs.SourceLaws.{source_takes, source_again}
 
@@ -70,12 +72,12 @@ module _ (l : Language) where
   template_takes t source h =
       let (s, at_s, ends) = some_of (source_at (body_of l) (piece_step l) (length source) false begun_with source) (λ s. at_end s.0 s.1) t h in
       let (ps, is, steps) = source_takes (body_of l) (piece_step l) (length source) false begun_with source s at_s in
-      (ps, is, tree_takes (reads l) t ps (sym (steps_read ps [] no_nodes) ∙ ap (option_and_then (λ s. at_end s.0 s.1)) steps ∙ ends))
+      (ps, is, tree_takes (IsLabel l) (reads l) (label_says l) (label_stands l) t ps (sym (steps_read ps [] no_nodes) ∙ ap (option_and_then (λ s. at_end s.0 s.1)) steps ∙ ends))
 
   pub template_again : (t : Nodes) (source : Text) → IsTemplate l t source → template_at l source ≡ Some t
   unfolding template_at IsTemplate
   template_again t source (ps, is, nodes) =
-      let (s, steps, ends) = some_of (all_steps (piece_step l) ps begun_with) (λ s. at_end s.0 s.1) t (steps_read ps [] no_nodes ∙ tree_again (reads l) t ps nodes) in
+      let (s, steps, ends) = some_of (all_steps (piece_step l) ps begun_with) (λ s. at_end s.0 s.1) t (steps_read ps [] no_nodes ∙ tree_again (IsLabel l) (reads l) (label_says l) (label_stands l) t ps nodes) in
       ap (option_and_then (λ s. at_end s.0 s.1)) (source_again (body_of l) (piece_step l) agrees is (length source) (omega arith) begun_with s steps) ∙ ends
 
   pub only_tree : (t : Nodes) (source : Text) → template_at l source ≡ Some t → IsOnlyTree l t source

@@ -2,23 +2,16 @@
 use Rattle.std.specs.Prelude.{◌≡◌, ◌↔◌, List, ◌∷◌, Some}
 use Rattle.liquid_core.specs.Texts.{Text}
 use Rattle.liquid_syntax.specs.ChainReading.{chain_of}
-use Rattle.liquid_syntax.specs.Chains.{Filters, IsChain}
+use Rattle.liquid_syntax.specs.Chains.{Filters, IsChain, IsAssign}
 use Rattle.liquid_syntax.specs.Judging.{assign_of}
 use Rattle.liquid_syntax.specs.Languages.{kinds_of}
-use Rattle.liquid_source.specs.Tokens.{Token, symbol, word}
+use Rattle.liquid_source.specs.Tokens.{Token}
 use Rattle.liquid_syntax.specs.Tree.{Chain, assign}
 use Rattle.liquid_syntax.specs.declared.language.Language.{Language}
-use Rattle.liquid_source.specs.declared.symbol.Symbol.TheVariants.{Assign}
 
 -- tokens are read as a chain exactly where the grammar says that they are it
 abbrev pub ReadsChains : Type 0
 ReadsChains = (known : Filters) (c : Chain) (ts : List Token) → (chain_of known ts ≡ Some c) ↔ IsChain known c ts
-
--- ---- `assign`
-
--- a word, `=` and a chain
-abbrev pub IsAssign : Filters → Text → Chain → List Token → Type 0
-IsAssign known w c ts = (rest : List Token) × (ts ≡ word w ∷ symbol Assign ∷ rest) × IsChain known c rest
 
 -- so are the items of an `assign`
 abbrev pub ReadsAssigns : Type 0

@@ -7,7 +7,7 @@ use Rattle.liquid_filters.specs.Kinds.{kind_counts}
 use Rattle.liquid_filters.specs.declared.kind.FilterKind.{FilterKind}
 use Rattle.liquid_syntax.specs.Tree.{FilterCall, Chain}
 use Rattle.liquid_source.specs.Tokens.{Token, value, symbol, word}
-use Rattle.liquid_source.specs.declared.symbol.Symbol.TheVariants.{Colon, Comma, Bar}
+use Rattle.liquid_source.specs.declared.symbol.Symbol.TheVariants.{Assign, Colon, Comma, Bar}
 
 -- the filters that are registered, by name
 abbrev pub Filters : Type 0
@@ -33,3 +33,9 @@ pub data AreFilters (known : Filters) : List FilterCall → List Token → Type 
 -- a value, and filters
 abbrev pub IsChain : Filters → Chain → List Token → Type 0
 IsChain known chain ts = (rest : List Token) × (ts ≡ value chain.entry ∷ rest) × AreFilters known chain.filters rest
+
+-- ---- `assign`
+
+-- a word, `=` and a chain
+abbrev pub IsAssign : Filters → Text → Chain → List Token → Type 0
+IsAssign known w c ts = (rest : List Token) × (ts ≡ word w ∷ symbol Assign ∷ rest) × IsChain known c rest

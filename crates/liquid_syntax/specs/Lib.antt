@@ -18,6 +18,8 @@ pub mod Forest
 pub mod Groups
 pub mod Judges
 pub mod Judging
+pub mod LabelLaw
+pub mod Labels
 pub mod Laid
 pub mod Languages
 pub mod Names

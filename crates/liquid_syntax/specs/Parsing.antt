@@ -8,6 +8,7 @@ use Rattle.liquid_core.specs.Told.{is_memory, number_of}
 use Rattle.liquid_core.specs.declared.error.Error.{Error}
 use Rattle.liquid_core.specs.declared.error.ErrorKind.{ErrorKind}
 use Rattle.liquid_syntax.specs.Judging.{reads}
+use Rattle.liquid_syntax.specs.Labels.{IsLabel}
 use Rattle.liquid_syntax.specs.Nesting.{AreNodes}
 use Rattle.liquid_syntax.specs.OpenBlocks.{State, place_of, step, at_end}
 use Rattle.liquid_source.specs.Pieces.{Piece, IsSource}
@@ -24,7 +25,7 @@ use Rattle.liquid_source.specs.declared.fault.ParseError.TheVariants as errors
 
 -- The source is pieces, and they are the nodes, of which blocks nest at most 200 deep.
 unfoldable pub IsTemplate : Language → Nodes → Text → Type 0
-IsTemplate l t source = (ps : List Piece) × IsSource false ps source × AreNodes (reads l) Outside 200 t ps []
+IsTemplate l t source = (ps : List Piece) × IsSource false ps source × AreNodes (IsLabel l) Outside 200 t ps []
 
 -- the tree is the source's, and none but it is
 abbrev pub IsOnlyTree : Language → Nodes → Text → Type 0

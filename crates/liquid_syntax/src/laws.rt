@@ -1,12 +1,18 @@
 //! Laws of the definitions that contracts speak of.
 ghost use Rattle.liquid_syntax.specs.ChainLaw.{ReadsChains, ReadsAssigns};
 ghost use Rattle.liquid_syntax.specs.ConditionLaw.{ReadsConditions};
+ghost use Rattle.liquid_syntax.specs.LabelLaw.{ReadsLabels};
 ghost use Rattle.liquid_syntax.specs.NestingLaw.{ReadsTheGrammar, AtMostOneTree};
 
 /// Reading with a stack of open blocks gives a list of pieces the tree of the written grammar, and there is at most one.
 pub fn nesting_laws()
     ensures reads { ReadsTheGrammar }
     ensures unique { AtMostOneTree }
+{}
+
+/// A piece is read as a label, by the names of a language, exactly where the written grammar says that it is that.
+pub fn label_law()
+    ensures { ReadsLabels }
 {}
 
 /// A chain of filters and an `assign` are read exactly where the written grammar says that the items are it.

@@ -28,7 +28,7 @@ pub use comparison::ComparisonOperator;
 pub use condition::{Atom, Condition};
 pub use filter_call::{FilterCall, apply_filters};
 pub use language::{BlockKind, Language, Registry, TagKind};
-pub use laws::{chain_laws, condition_law, nesting_laws};
+pub use laws::{chain_laws, condition_law, label_law, nesting_laws};
 pub use liquid_source::{
     Body, Delimiter, Fault, FaultKind, Item, Mark, Markup, ParseError, Piece, Symbol, item_laws,
     source_laws, value_laws, verbatim_laws,

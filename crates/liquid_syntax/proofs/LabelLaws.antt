@@ -1,0 +1,114 @@
+-- A piece is read as just what the written grammar says that it is.
+use Rattle.std.proofs.Common.{◌≡◌, List, [], ◌∷◌, Option, Some, None, option_map, refl, sym, ap, subst, ◌∙◌}
+use Rattle.std.specs.Option.{option_and_then}
+use Rattle.liquid_core.specs.Texts.{Text}
+use Rattle.liquid_source.specs.Pieces as pieces
+use Rattle.liquid_source.specs.Pieces.{Piece}
+use Rattle.liquid_source.specs.Items.{Item}
+use Rattle.liquid_source.specs.Tokens.{Token, tokens_of, word_first, past}
+use Rattle.liquid_source.specs.declared.piece.Body.{Body}
+use Rattle.liquid_source.specs.declared.piece.Body.TheVariants as bodies
+use Rattle.liquid_source.specs.declared.symbol.Symbol.TheVariants.{Assign}
+use Rattle.liquid_syntax.specs.ChainReading.{chain_of}
+use Rattle.liquid_syntax.specs.ConditionReading.{condition_of}
+use Rattle.liquid_syntax.specs.Judging.{leaf_or, assign_of, if_node, two_or, elsif_or, ends_or, tag_label, raw_label, comment_label, reads}
+use Rattle.liquid_syntax.specs.Labels.{IsLabel, is_text, is_output, is_end, is_elsif, is_else, is_assign, is_if, is_raw, is_comment}
+use Rattle.liquid_syntax.specs.Languages.{kinds_of}
+use Rattle.liquid_syntax.specs.Nesting.{Label, leaf, closed, begins, elsif, arm, otherwise, ends, refused}
+use Rattle.liquid_syntax.specs.Roles.{role_of, unread_body}
+use Rattle.liquid_syntax.specs.Tree.{Node, Chain, Condition, output, assign}
+use Rattle.liquid_syntax.specs.declared.block.Block.TheVariants.{If}
+use Rattle.liquid_syntax.specs.declared.block.Control.TheVariants.{Elsif, Else}
+use Rattle.liquid_syntax.specs.declared.block.Place.{Place}
+use Rattle.liquid_syntax.specs.declared.block.Role.{Role}
+use Rattle.liquid_syntax.specs.declared.block.Role.TheVariants.{End, Control as Word, Tag, Block as Start}
+use Rattle.liquid_syntax.specs.declared.language.BlockKind.TheVariants as blocks
+use Rattle.liquid_syntax.specs.declared.language.Language.{Language}
+use Rattle.liquid_syntax.specs.declared.language.TagKind.TheVariants as tags
+use Rattle.liquid_syntax.proofs.ConditionLaws.{condition_takes, condition_again}
+use Rattle.liquid_syntax.proofs.NestingLaws.{Stands}
+use Rattle.liquid_syntax.proofs.Printed.{bind_some, map_some, chain_takes, chain_again, assign_takes, assign_again}
+
+pub label_says : (l : Language) (x : Place) (p : Piece) (label : Label) → IsLabel l x p label → reads l x p ≡ label
+label_says l x p label is_text = refl
+label_says l x p label (is_output {c = c} {is = is} h) = ap (λ (o : Option Chain). leaf_or (option_map output o)) (chain_again (kinds_of l.filters) c (tokens_of is) h)
+label_says l x p label (is_end r) = ap (tag_label l []) r
+label_says l x p label (is_elsif {is = is} r h) = ap (tag_label l (tokens_of is)) r ∙ ap (λ (o : Option Condition). elsif_or (option_map if_node o)) (condition_again h)
+label_says l x p label (is_else {is = is} r) = ap (tag_label l (tokens_of is)) r
+label_says l x p label (is_assign {name = name} {c = c} {is = is} r h) = ap (tag_label l (tokens_of is)) r ∙ ap leaf_or (assign_again l name c (tokens_of is) h)
+label_says l x p label (is_if {is = is} r h) = ap (tag_label l (tokens_of is)) r ∙ ap (λ (o : Option Condition). two_or If (option_map if_node o)) (condition_again h)
+label_says l x p label (is_raw {t = t} h) = ap (raw_label t) h
+label_says l x p label (is_comment h) = ap comment_label h
+
+never : {A : Type 0} (label : Label) → refused ≡ label → Stands label → A
+never label e s = absurd (subst Stands (sym e) s)
+
+assigned : (l : Language) (ts : List Token) (n : Node) → assign_of l ts ≡ Some n → (w : Text) × (c : Chain) × (n ≡ assign w c)
+assigned l ts n h =
+    let (x, named, more) = bind_some (word_first ts) _ n h in
+    let (rest, behind, made) = bind_some (past Assign x.1) _ n more in
+    let (d, read, same) = map_some (chain_of (kinds_of l.filters) rest) (assign x.0) n made in
+    (x.0, d, sym same)
+
+module _ (l : Language) (x : Place) (label : Label) (stands : Stands label) where
+  output_stands : (is : List Item) (o : Option Chain) → chain_of (kinds_of l.filters) (tokens_of is) ≡ o → leaf_or (option_map output o) ≡ label → IsLabel l x (pieces.output is) label
+  output_stands is None e h = never label h stands
+  output_stands is (Some c) e h = subst (IsLabel l x (pieces.output is)) h (is_output (chain_takes (kinds_of l.filters) c (tokens_of is) e))
+
+  end_stands : (w : Text) (is : List Item) → role_of l x w ≡ Some End → ends_or (tokens_of is) ≡ label → IsLabel l x (pieces.tag w is) label
+  end_stands w [] r h = subst (IsLabel l x (pieces.tag w [])) h (is_end r)
+  end_stands w (i ∷ is) r h = never label h stands
+
+  elsif_stands : (w : Text) (is : List Item) (o : Option Condition) → role_of l x w ≡ Some (Word Elsif) → condition_of (tokens_of is) ≡ o → elsif_or (option_map if_node o) ≡ label → IsLabel l x (pieces.tag w is) label
+  elsif_stands w is None r e h = never label h stands
+  elsif_stands w is (Some c) r e h = subst (IsLabel l x (pieces.tag w is)) h (is_elsif r (condition_takes (tokens_of is) c e))
+
+  if_stands : (w : Text) (is : List Item) (o : Option Condition) → role_of l x w ≡ Some (Start blocks.If) → condition_of (tokens_of is) ≡ o → two_or If (option_map if_node o) ≡ label → IsLabel l x (pieces.tag w is) label
+  if_stands w is None r e h = never label h stands
+  if_stands w is (Some c) r e h = subst (IsLabel l x (pieces.tag w is)) h (is_if r (condition_takes (tokens_of is) c e))
+
+  assign_stands : (w : Text) (is : List Item) (o : Option Node) → role_of l x w ≡ Some (Tag tags.Assign) → assign_of l (tokens_of is) ≡ o → leaf_or o ≡ label → IsLabel l x (pieces.tag w is) label
+  assign_stands w is None r e h = never label h stands
+  assign_stands w is (Some n) r e h =
+      let (name, c, same) = assigned l (tokens_of is) n e in
+      subst (IsLabel l x (pieces.tag w is)) (ap leaf (sym same) ∙ h) (is_assign r (assign_takes l name c (tokens_of is) (e ∙ ap Some same)))
+
+  tag_stands : (w : Text) (is : List Item) (role : Option Role) → role_of l x w ≡ role → tag_label l (tokens_of is) role ≡ label → IsLabel l x (pieces.tag w is) label
+  tag_stands w is None r h = never label h stands
+  tag_stands w is (Some End) r h = end_stands w is r h
+  tag_stands w is (Some (Word Elsif)) r h = elsif_stands w is (condition_of (tokens_of is)) r refl h
+  tag_stands w is (Some (Word Else)) r h = subst (IsLabel l x (pieces.tag w is)) h (is_else r)
+  tag_stands w is (Some (Tag tags.Assign)) r h = assign_stands w is (assign_of l (tokens_of is)) r refl h
+  tag_stands w is (Some (Start blocks.If)) r h = if_stands w is (condition_of (tokens_of is)) r refl h
+  tag_stands w is (Some (Start blocks.Raw)) r h = never label h stands
+  tag_stands w is (Some (Start blocks.Comment)) r h = never label h stands
+
+  raw_stands : (w t : Text) (o : Option Body) → unread_body (role_of l x w) ≡ o → raw_label t o ≡ label → IsLabel l x (pieces.raw w t) label
+  raw_stands w t None e h = never label h stands
+  raw_stands w t (Some bodies.Raw) e h = subst (IsLabel l x (pieces.raw w t)) h (is_raw e)
+  raw_stands w t (Some bodies.Comment) e h = never label h stands
+
+  comment_stands : (w : Text) (o : Option Body) → unread_body (role_of l x w) ≡ o → comment_label o ≡ label → IsLabel l x (pieces.comment w) label
+  comment_stands w None e h = never label h stands
+  comment_stands w (Some bodies.Raw) e h = never label h stands
+  comment_stands w (Some bodies.Comment) e h = subst (IsLabel l x (pieces.comment w)) h (is_comment e)
+
+  piece_stands : (p : Piece) → reads l x p ≡ label → IsLabel l x p label
+  piece_stands (pieces.text t) h = subst (IsLabel l x (pieces.text t)) h is_text
+  piece_stands (pieces.output is) h = output_stands is (chain_of (kinds_of l.filters) (tokens_of is)) refl h
+  piece_stands (pieces.tag w is) h = tag_stands w is (role_of l x w) refl h
+  piece_stands (pieces.raw w t) h = raw_stands w t (unread_body (role_of l x w)) refl h
+  piece_stands (pieces.comment w) h = comment_stands w (unread_body (role_of l x w)) refl h
+
+pub label_stands : (l : Language) (x : Place) (p : Piece) (label : Label) → Stands label → reads l x p ≡ label → IsLabel l x p label
+label_stands l x p label s h = piece_stands l x label s p h
+
+pub stands_of : (label : Label) → (label ≡ refused → ⊥) → Stands label
+stands_of (leaf n) f = tt
+stands_of (closed n) f = tt
+stands_of (begins o) f = tt
+stands_of (elsif next) f = tt
+stands_of (arm vs) f = tt
+stands_of otherwise f = tt
+stands_of ends f = tt
+stands_of refused f = f refl
