@@ -1,10 +1,10 @@
 -- What expressions are in an environment: a value, or a kind.
 --     value_of x e      the value, or `None` where it is missing;   required x e      where missing, UnknownVariable
-use Rattle.std.specs.Prelude.{ℤ, cond, List, [], ◌∷◌, Option, Some, None, Result, Ok}
+use Rattle.std.specs.Prelude.{ℤ, Bool, true, cond, List, [], ◌∷◌, Option, Some, None, Result, Ok}
 use Rattle.std.specs.Option.{option_and_then, ok_or}
 use Rattle.liquid_core.specs.declared.error.ErrorKind.{ErrorKind}
 use Rattle.liquid_core.specs.declared.error.ErrorKind.TheVariants.{UnknownVariable, UnexpectedValue}
-use Rattle.liquid_core.specs.Data.{Datum, scalar, text_of}
+use Rattle.liquid_core.specs.Data.{Datum, scalar, text_of, is_text}
 use Rattle.liquid_core.specs.Whole.{whole}
 use Rattle.liquid_core.specs.Find.{find}
 use Rattle.liquid_core.specs.Expression.{Expression, literal, variable, Steps, no_steps, step}
@@ -15,6 +15,11 @@ use Rattle.liquid_core.specs.Fallible.{◌>>=◌}
 abbrev pub value_along : Environment → List Datum → Option Datum
 value_along e [] = None
 value_along e (name ∷ path) = option_and_then (λ d. find d path) (lookup e (text_of name))
+
+-- a path whose name is a text already (so is the empty path, which has none)
+abbrev pub begins_with_text : List Datum → Bool
+begins_with_text [] = true
+begins_with_text (name ∷ path) = is_text name
 
 unfoldable mutual
   pub value_of : Expression → Environment → Option Datum

@@ -1,6 +1,6 @@
 //! Expressions: literals, and variables with their steps.
-ghost use Rattle.std.specs.Prelude.{◌≡◌, option_map, map};
-ghost use Rattle.liquid_core.specs.Answer.{Answers, Gives};
+ghost use Rattle.std.specs.Prelude.{◌≡◌, option_map, map, IsOk};
+ghost use Rattle.liquid_core.specs.Answer.{Answers, Gives, TakesNoMemory};
 ghost use Rattle.liquid_core.specs.Cow.{cow_view};
 ghost use Rattle.liquid_core.specs.Expressions.{value_of, required};
 ghost use Rattle.liquid_core.specs.ExpressionView.{expression_view, variable_view, steps_view};
@@ -40,20 +40,23 @@ impl Expression {
     /// The value of the expression, where it has one. A variable has none where its name has none, where a
     /// step's value is missing or no scalar, and where the steps lead to nothing.
     ///
-    /// The value is lent by the state or the expression, and a length is owned. It refuses for `Memory` alone.
+    /// The value is lent by the state or the expression, and a length is owned. It takes no memory and is never
+    /// refused.
     pub fn try_evaluate<'a>(
         &'a self,
         _alloc: Global,
         state: &'a State,
     ) -> Result<Option<ValueCow<'a>>>
-        ensures { Gives (λ r. option_map cow_view r) result (value_of (expression_view self.now) (environment_of state.now)) }
+        ensures value { Gives (λ r. option_map cow_view r) result (value_of (expression_view self.now) (environment_of state.now)) }
+        ensures no_memory { IsOk result }
     {
         Ok(expression_value(self, state))
     }
 
-    /// The same, or `UnknownVariable` where the expression has no value.
+    /// The same, or `UnknownVariable` where the expression has no value. Only that fault takes memory.
     pub fn evaluate<'a>(&'a self, alloc: Global, state: &'a State) -> Result<ValueCow<'a>>
-        ensures { Answers cow_view result (required (expression_view self.now) (environment_of state.now)) }
+        ensures value { Answers cow_view result (required (expression_view self.now) (environment_of state.now)) }
+        ensures no_memory { TakesNoMemory result (required (expression_view self.now) (environment_of state.now)) }
     {
         match expression_value(self, state) {
             Some(value) => Ok(value),
@@ -70,20 +73,22 @@ impl Expression {
 }
 
 impl Variable {
-    /// The value of the variable, where it has one.
+    /// The value of the variable, where it has one. It takes no memory and is never refused.
     pub fn try_evaluate<'a>(
         &'a self,
         _alloc: Global,
         state: &'a State,
     ) -> Result<Option<ValueCow<'a>>>
-        ensures { Gives (λ r. option_map cow_view r) result (value_of (variable_view self.now) (environment_of state.now)) }
+        ensures value { Gives (λ r. option_map cow_view r) result (value_of (variable_view self.now) (environment_of state.now)) }
+        ensures no_memory { IsOk result }
     {
         Ok(variable_value(self, state))
     }
 
-    /// The same, or `UnknownVariable` where the variable has no value.
+    /// The same, or `UnknownVariable` where the variable has no value. Only that fault takes memory.
     pub fn evaluate<'a>(&'a self, alloc: Global, state: &'a State) -> Result<ValueCow<'a>>
-        ensures { Answers cow_view result (required (variable_view self.now) (environment_of state.now)) }
+        ensures value { Answers cow_view result (required (variable_view self.now) (environment_of state.now)) }
+        ensures no_memory { TakesNoMemory result (required (variable_view self.now) (environment_of state.now)) }
     {
         match variable_value(self, state) {
             Some(value) => Ok(value),

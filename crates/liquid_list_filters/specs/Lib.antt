@@ -2,6 +2,7 @@ pub mod Arguments
 pub mod Decimals
 pub mod Division
 pub mod Ends
+pub mod Faults
 pub mod Joined
 pub mod Keeping
 pub mod Keyed

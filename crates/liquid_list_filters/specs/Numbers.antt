@@ -1,5 +1,5 @@
 -- What the filters over numbers answer, and in what order they refuse.
-use Rattle.std.specs.Prelude.{ℤ, pos, ◌+ℤ◌, ◌-ℤ◌, ◌*ℤ◌, Bool, true, false, ◌&&◌, ◌||◌, not, List, [], ◌∷◌, Result, Ok, Err, Option, Some, None, IsOk, int_div, int_rem, if◌then◌else◌, is_some, unsigned_abs}
+use Rattle.std.specs.Prelude.{ℤ, pos, ◌+ℤ◌, ◌-ℤ◌, ◌*ℤ◌, Bool, true, false, ◌&&◌, ◌||◌, not, List, [], ◌∷◌, Result, Ok, Err, Option, Some, None, int_div, int_rem, if◌then◌else◌, is_some, unsigned_abs}
 use Rattle.std.specs.Int.{int_max, int_min}
 use Rattle.std.specs.Ordering.{int_eq}
 use Rattle.liquid_core.specs.Data.{Datum, number, scalar}
@@ -9,10 +9,6 @@ use Rattle.liquid_core.specs.declared.error.ErrorKind.{ErrorKind}
 use Rattle.liquid_core.specs.declared.error.ErrorKind.TheVariants.{InvalidInput, InvalidArgument, DivideByZero, NumberRange, Float}
 use Rattle.liquid_list_filters.specs.Arguments.{Answer}
 use Rattle.liquid_list_filters.specs.Decimals.{is_decimal_text, if_fits}
-
--- where the wanted answer is no fault, the call answers no fault either: it takes no memory
-abbrev pub TakesNoMemory : {X Y E : Type 0} → Result X E → Result Y ErrorKind → Type 0
-TakesNoMemory result wanted = IsOk wanted → IsOk result
 
 -- what was computed, or NumberRange
 abbrev pub or_range : Option ℤ → Answer

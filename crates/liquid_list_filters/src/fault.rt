@@ -1,35 +1,43 @@
 //! Faults of filters, with what was wanted and what was found.
+ghost use Rattle.std.specs.Prelude.{◌≡◌, codes};
+ghost use Rattle.liquid_core.specs.Errors.{HasMessageUnlessMemory};
 ghost use Rattle.liquid_core.specs.Told.{Told};
+ghost use Rattle.liquid_core.specs.View.{view};
 ghost use Rattle.liquid_core.specs.declared.error.ErrorKind.TheVariants.{InvalidArgument, InvalidInput};
+ghost use Rattle.liquid_list_filters.specs.Faults.{kind_name, must_be};
 
 use liquid_core::{Error, ErrorKind, Value};
 use std::alloc::Global;
 
 /// An input that is another thing than what is wanted.
 pub fn invalid_input(alloc: Global, wanted: &str, found: &Value) -> Error
-    ensures { Told InvalidInput result.kind }
+    ensures told { Told InvalidInput result.kind }
+    ensures message { HasMessageUnlessMemory (must_be (codes "the input") wanted.now (view found.now)) result }
 {
-    let found = kind_name(found);
+    let found_kind = kind_name(found);
     Error::formatted(
         alloc,
         ErrorKind::InvalidInput,
-        format_args!("the input must be {wanted}, not {found}"),
+        format_args!("the input must be {wanted}, not {found_kind}"),
     )
 }
 
 /// An argument that is another thing than what is wanted.
 pub fn invalid_argument(alloc: Global, wanted: &str, found: &Value) -> Error
-    ensures { Told InvalidArgument result.kind }
+    ensures told { Told InvalidArgument result.kind }
+    ensures message { HasMessageUnlessMemory (must_be (codes "the argument") wanted.now (view found.now)) result }
 {
-    let found = kind_name(found);
+    let found_kind = kind_name(found);
     Error::formatted(
         alloc,
         ErrorKind::InvalidArgument,
-        format_args!("the argument must be {wanted}, not {found}"),
+        format_args!("the argument must be {wanted}, not {found_kind}"),
     )
 }
 
-fn kind_name(value: &Value) -> &'static str {
+fn kind_name(value: &Value) -> &'static str
+    ensures { result.now ≡ kind_name (view value.now) }
+{
     match value {
         Value::Nil => "nil",
         Value::Bool(_) => "a truth value",

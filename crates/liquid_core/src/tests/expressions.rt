@@ -1,6 +1,7 @@
 use super::{one, pair, text, with};
 use crate::{Expression, State, Value, Variable};
 use std::alloc::Global;
+use std::collections::BTreeMap;
 use std::test::Fail;
 
 fn name(alloc: Global, name: &str) -> crate::Result<Expression> {
@@ -46,11 +47,29 @@ fn variables_by_their_steps(rt: HostRuntime) -> Result<(), Fail> {
     let by_nil = steps(alloc, "a", name(alloc, "key")?, name(alloc, "n")?)?;
     assert!(rt; by_nil.try_evaluate(alloc, &state)?.is_none());
     let by_missing = steps(alloc, "a", name(alloc, "nope")?, name(alloc, "n")?)?;
-    if let Err(fault) = by_missing.evaluate(alloc, &state) {
-        let told = "UnknownVariable: `a[nope][n]` has no value";
-        assert_eq!(rt; fault.to_string(alloc)?.as_str(), told);
-    }
+    let fault = by_missing.evaluate(alloc, &state).err();
+    let fault = fault.ok_or("a step without a value gives none")?;
+    let told = "UnknownVariable: `a[nope][n]` has no value";
+    assert_eq!(rt; fault.to_string(alloc)?.as_str(), told);
     assert!(rt; name(alloc, "n")?.try_evaluate(alloc, &state)?.is_some());
+    Ok(())
+}
+
+#[test]
+fn variables_by_themselves(rt: HostRuntime) -> Result<(), Fail> {
+    let alloc = rt.alloc();
+    let state = sample(alloc)?;
+    let mut indexes = Vec::new(alloc);
+    indexes.push(Expression::Literal(text(alloc, "b")?))?;
+    indexes.push(Expression::Literal(text(alloc, "first")?))?;
+    let name = String::from_str(alloc, "a")?;
+    let variable = Variable { name, indexes }.copy(alloc)?;
+    assert_eq!(rt; variable.to_string(alloc)?.as_str(), "a[\"b\"][\"first\"]");
+    assert!(rt; variable.try_evaluate(alloc, &state)?.is_some());
+    let first = variable.evaluate(alloc, &state)?;
+    assert_eq!(rt; first.as_value().to_integer(), Some(4));
+    let nothing = State::new(alloc, BTreeMap::new(alloc));
+    assert!(rt; variable.try_evaluate(alloc, &nothing)?.is_none());
     Ok(())
 }
 

@@ -46,10 +46,11 @@ fn paths_that_lead_nowhere(rt: HostRuntime) -> Result<(), Fail> {
     let state = State::new(alloc, one(alloc, "7", text(alloc, "seven")?)?);
     assert!(rt; state.try_get(alloc, &[])?.is_none());
     assert!(rt; state.try_get(alloc, &[Value::Integer(7)])?.is_some());
-    if let Err(fault) = state.get(alloc, &[text(alloc, "nope")?]) {
-        let told = "UnknownVariable: the path from `nope` leads to no value";
-        assert_eq!(rt; fault.to_string(alloc)?.as_str(), told);
-    }
+    let path = [text(alloc, "nope")?];
+    let fault = state.get(alloc, &path).err();
+    let fault = fault.ok_or("a name that no layer holds has no value")?;
+    let told = "UnknownVariable: the path from `nope` leads to no value";
+    assert_eq!(rt; fault.to_string(alloc)?.as_str(), told);
     Ok(())
 }
 

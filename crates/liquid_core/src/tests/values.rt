@@ -1,5 +1,5 @@
 use super::{one, pair, text, with};
-use crate::{Error, ErrorKind, Value};
+use crate::{Error, ErrorKind, Value, ValueCow, copy_items, look_up};
 use std::cmp::Ordering;
 use std::collections::BTreeMap;
 use std::hash::{DefaultHasher, Hash, Hasher};
@@ -23,7 +23,47 @@ fn texts(rt: HostRuntime) -> Result<(), Fail> {
     let copy = value.copy(alloc)?;
     assert!(rt; copy == value && hash_of(&copy) == hash_of(&value));
     assert!(rt; value.is_truthy() && !value.is_default() && !value.is_scalar());
-    assert!(rt; !Value::Nil.is_truthy() && Value::Nil.is_default());
+    Ok(())
+}
+
+#[test]
+fn kinds_by_their_tests(rt: HostRuntime) -> Result<(), Fail> {
+    let alloc = rt.alloc();
+    for (value, is_truthy, is_default, is_scalar) in [
+        (Value::Nil, false, true, false),
+        (Value::Bool(false), false, true, true),
+        (Value::Bool(true), true, false, true),
+        (Value::Integer(0), true, false, true),
+        (text(alloc, "")?, true, true, true),
+        (text(alloc, "a")?, true, false, true),
+        (Value::Array(Vec::new(alloc)), true, true, false),
+        (Value::Object(BTreeMap::new(alloc)), true, true, false),
+    ] {
+        assert_eq!(rt; value.is_truthy(), is_truthy, "of {value}");
+        assert_eq!(rt; value.is_default(), is_default, "of {value}");
+        assert_eq!(rt; value.is_scalar(), is_scalar, "of {value}");
+    }
+    Ok(())
+}
+
+#[test]
+fn values_that_are_lent_or_owned(rt: HostRuntime) -> Result<(), Fail> {
+    let alloc = rt.alloc();
+    let object = one(alloc, "a", text(alloc, "b")?)?;
+    let held = look_up(&object, "a").ok_or("the value at a key")?;
+    assert!(rt; look_up(&object, "b").is_none());
+    assert_eq!(rt;
+        ValueCow::Borrowed(held).as_value().text(alloc)?.as_str(),
+        "b"
+    );
+    assert!(rt; ValueCow::Borrowed(held).into_owned(alloc)? == *held);
+    let owned = ValueCow::Owned(Value::Integer(2)).into_owned(alloc)?;
+    assert_eq!(rt; owned.to_integer(), Some(2));
+    let mut items = Vec::new(alloc);
+    items.push(Value::Integer(1))?;
+    items.push(held.copy(alloc)?)?;
+    let copies = copy_items(alloc, &items)?;
+    assert_eq!(rt; Value::Array(copies).text(alloc)?.as_str(), "1b");
     Ok(())
 }
 
@@ -75,6 +115,16 @@ fn kinds_and_values_in_order(rt: HostRuntime) -> Result<(), Fail> {
                 lesser.cmp(greater) == i.cmp(&j),
                 "{lesser} at {i} and {greater} at {j}"
             );
+            assert_eq!(rt;
+                lesser < greater,
+                i < j,
+                "{lesser} at {i} and {greater} at {j}"
+            );
+            assert_eq!(rt;
+                lesser == greater,
+                i == j,
+                "{lesser} at {i} and {greater} at {j}"
+            );
         }
     }
     Ok(())
@@ -93,6 +143,8 @@ fn order_of_conditions(rt: HostRuntime) -> Result<(), Fail> {
     assert_eq!(rt; low.compare(&low), Some(Ordering::Equal));
     assert_eq!(rt; high.compare(&low), Some(Ordering::Greater));
     assert_eq!(rt; high.compare(&other), None);
+    let empty = Value::Array(Vec::new(alloc));
+    assert_eq!(rt; empty.compare(&low), Some(Ordering::Less));
     Ok(())
 }
 
@@ -110,6 +162,9 @@ fn faults(rt: HostRuntime) -> Result<(), Fail> {
         format_args!("{} is decimal", "1.5"),
     );
     assert_eq!(rt; fault.to_string(alloc)?.as_str(), "Float: 1.5 is decimal");
+    let message = String::from_str(alloc, "a message")?;
+    let fault = Error::with_message(ErrorKind::TooDeep, message);
+    assert_eq!(rt; fault.to_string(alloc)?.as_str(), "TooDeep: a message");
     for (kind, number, name) in [
         (ErrorKind::UnknownVariable, 1, "UnknownVariable"),
         (ErrorKind::Memory, 17, "Memory"),
@@ -118,6 +173,7 @@ fn faults(rt: HostRuntime) -> Result<(), Fail> {
     ] {
         assert_eq!(rt; kind.number(), number);
         assert_eq!(rt; kind.name(), name);
+        assert_eq!(rt; kind.to_string(alloc)?.as_str(), name);
     }
     Ok(())
 }

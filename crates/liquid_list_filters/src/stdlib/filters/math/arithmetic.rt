@@ -1,9 +1,9 @@
 //! Sums, differences, products, quotients and remainders.
 ghost use Rattle.std.specs.Prelude.{◌≡◌, ◌≢◌, IsTrue, length, map, nat_eq, pos, int_div};
-ghost use Rattle.liquid_core.specs.Answer.{Answers};
+ghost use Rattle.liquid_core.specs.Answer.{Answers, TakesNoMemory};
 ghost use Rattle.liquid_core.specs.View.{view};
 ghost use Rattle.liquid_list_filters.specs.Decimals.{if_fits};
-ghost use Rattle.liquid_list_filters.specs.Numbers.{of_one, plus, minus, times, divided_by, modulo, TakesNoMemory};
+ghost use Rattle.liquid_list_filters.specs.Numbers.{of_one, plus, minus, times, divided_by, modulo};
 
 use super::operands::{operands, within_range};
 use liquid_core::{Filter, Result, Value};

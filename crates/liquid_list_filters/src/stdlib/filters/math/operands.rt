@@ -1,11 +1,11 @@
 //! The whole numbers that a filter over numbers computes with.
 ghost use Rattle.std.specs.Prelude.{MatchOption, ⊤, false, true, ◌≡◌};
-ghost use Rattle.liquid_core.specs.Answer.{Answers};
+ghost use Rattle.liquid_core.specs.Answer.{Answers, TakesNoMemory};
 ghost use Rattle.liquid_core.specs.Told.{Told};
 ghost use Rattle.liquid_core.specs.View.{view};
 ghost use Rattle.liquid_core.specs.declared.error.ErrorKind.TheVariants.{Float};
 ghost use Rattle.liquid_list_filters.specs.Decimals.{is_decimal_text};
-ghost use Rattle.liquid_list_filters.specs.Numbers.{operands, is_numeric, unlike, or_range, TakesNoMemory};
+ghost use Rattle.liquid_list_filters.specs.Numbers.{operands, is_numeric, unlike, or_range};
 
 use super::decimal::Decimal;
 use crate::fault::{invalid_argument, invalid_input};
