@@ -1,2 +1,3 @@
 pub mod Buffering
+pub mod Outcomes
 pub mod Words

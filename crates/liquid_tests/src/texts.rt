@@ -77,7 +77,10 @@ const BAD_TEXTS: [Texts; 9] = [
 fn owned(alloc: Global, partials: &[(&str, &str)]) -> Result<Vec<(String, String)>> {
     let mut all = Vec::new(alloc);
     for (name, source) in partials {
-        all.push((String::from_str(alloc, name)?, String::from_str(alloc, source)?))?;
+        all.push((
+            String::from_str(alloc, name)?,
+            String::from_str(alloc, source)?,
+        ))?;
     }
     Ok(all)
 }
@@ -88,7 +91,10 @@ fn ends_before_it_writes(rt: &impl Abort, alloc: Global, texts: &Texts) -> Resul
     let answer = run(alloc, texts.template, texts.data, &partials, &mut counted);
     let written: Vec<u8> = counted.into_inner();
     assert_eq!(rt; kind_of(&answer), Some(texts.kind));
-    assert!(rt; matches!(&answer, Err(fault) if fault.message.is_some()), "no message");
+    assert!(rt;
+        matches!(&answer, Err(fault) if fault.message.is_some()),
+        "no message"
+    );
     assert!(rt; written.is_empty(), "something is written");
     Ok(())
 }

@@ -8,7 +8,9 @@ use std::io;
 use std::io::Write;
 
 const SOURCE: &str = "Hello {{ name }}!{% assign x = 2 %} {{ x }}";
+
 const DATA: &str = "{\"name\":\"Ada\"}";
+
 const PAGE: &str = "Hello Ada! 2";
 
 /// Takes at most so many bytes at each write, and fails once no write is left.
@@ -94,11 +96,18 @@ fn each_write_of_a_page_fails(rt: HostRuntime) {
                 },
             );
             let bytes = writer.bytes.as_slice();
-            assert_eq!(rt; kind_of(&answer), Some(ErrorKind::Write), "write {writes_left}");
+            assert_eq!(rt;
+                kind_of(&answer),
+                Some(ErrorKind::Write),
+                "write {writes_left}"
+            );
             assert_eq!(rt; failures, 1, "write {writes_left}");
             assert!(rt; PAGE.as_bytes().starts_with(bytes), "write {writes_left}");
             assert!(rt; bytes.len() < PAGE.len(), "write {writes_left}");
-            assert!(rt; most > 1 || bytes.len() == writes_left, "write {writes_left}");
+            assert!(rt;
+                most > 1 || bytes.len() == writes_left,
+                "write {writes_left}"
+            );
         }
     }
 }
