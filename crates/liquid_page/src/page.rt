@@ -1,4 +1,9 @@
 //! From the words of a call to its page.
+ghost use Rattle.std.specs.Prelude.{◌≡◌, false};
+ghost use Rattle.liquid_lib.specs.Performs.{is_refused};
+ghost use Rattle.liquid_page.specs.Written.{IsWritten};
+ghost use Rattle.liquid_site.specs.Page.{sources_of};
+
 use crate::buffered::Buffered;
 use crate::outcome::Outcome;
 use crate::words::{Call, call_of};
@@ -49,7 +54,8 @@ fn page_written<T: Texts, W: Write + Drop>(
         let source = text_of(alloc, texts, path)?;
         sources.push((String::from_str(alloc, name)?, source))?;
     }
-    write_page(alloc, &template, &data, &sources, writer)?;
+    let (_, answer) = write_page(alloc, &template, &data, &sources, writer);
+    answer?;
     Ok(())
 }
 
@@ -69,24 +75,32 @@ fn text_of<T: Texts>(
     }
 }
 
-/// Writes the page through a buffer. Where the run is done the writer is flushed, once; after a fault what the page had
-/// written is handed on too. A writer that refuses is `Write`.
+/// Writes the page through a buffer, and gives the writer back. Where the run is done the writer is flushed, once; after a
+/// fault what the page had written is handed on too. A writer that refuses is `Write`.
 pub fn write_page<W: Write + Drop>(
     alloc: Global,
     template: &str,
     data: &str,
     partials: &[(String, String)],
     writer: W,
-) -> Result<()> {
-    let mut counted = Counted::new(Buffered::new(alloc, writer)?);
+) -> (W, Result<()>)
+    ensures page { is_refused result.1 ≡ false →
+        IsWritten (record { template = template.now; facts = «data».now; partials = sources_of partials.now }) result.1 (W.contents writer) (W.contents result.0) }
+{
+    let buffered = match Buffered::new(alloc, writer) {
+        Ok(buffered) => buffered,
+        Err(writer) => return (writer, Err(Error::from(AllocError))),
+    };
+    let mut counted = Counted::new(buffered);
     let answer = run(alloc, template, data, partials, &mut counted);
     let mut buffered = counted.into_inner();
     let handed_on = match &answer {
         Ok(()) => buffered.flush(),
         Err(_) => buffered.hand_on(),
     };
-    match handed_on {
+    let answer = match handed_on {
         Ok(()) => answer,
         Err(_) => Err(Error::new(alloc, ErrorKind::Write, "the writer refused the page")),
-    }
+    };
+    (buffered.into_inner(), answer)
 }

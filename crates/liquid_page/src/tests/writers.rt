@@ -2,7 +2,7 @@
 use crate::outcome::Outcome;
 use crate::page::write_page;
 use liquid_core::{ErrorKind, Result};
-use std::alloc::AllocError;
+use std::alloc::{AllocError, Global};
 use std::io;
 use std::io::Write;
 
@@ -45,17 +45,21 @@ fn is_write<T>(answer: &Result<T>) -> bool {
     matches!(answer, Err(fault) if fault.kind == ErrorKind::Write)
 }
 
-#[test]
-fn a_page_is_flushed_once(rt: HostRuntime) -> Result<()> {
-    let alloc = rt.alloc();
-    let mut room = Room {
+fn room_for(alloc: Global, left: usize) -> Room {
+    Room {
         bytes: Vec::new(alloc),
-        left: 100,
+        left,
         refused: 0,
         flushes: 0,
         fails_to_flush: false,
-    };
-    write_page(alloc, HELLO, ADA, &[], &mut room)?;
+    }
+}
+
+#[test]
+fn a_page_is_flushed_once(rt: HostRuntime) -> Result<()> {
+    let alloc = rt.alloc();
+    let (room, answer) = write_page(alloc, HELLO, ADA, &[], room_for(alloc, 100));
+    answer?;
     assert!(rt; room.bytes.as_slice() == b"Hello Ada! 2".as_slice());
     assert_eq!(rt; room.flushes, 1);
     Ok(())
@@ -64,14 +68,11 @@ fn a_page_is_flushed_once(rt: HostRuntime) -> Result<()> {
 #[test]
 fn a_refused_flush_is_a_failed_write(rt: HostRuntime) {
     let alloc = rt.alloc();
-    let mut room = Room {
-        bytes: Vec::new(alloc),
-        left: 100,
-        refused: 0,
-        flushes: 0,
+    let writer = Room {
         fails_to_flush: true,
+        ..room_for(alloc, 100)
     };
-    let answer = write_page(alloc, HELLO, ADA, &[], &mut room);
+    let (room, answer) = write_page(alloc, HELLO, ADA, &[], writer);
     assert!(rt; is_write(&answer));
     assert!(rt; room.bytes.as_slice() == b"Hello Ada! 2".as_slice());
     assert_eq!(rt; room.flushes, 1);
@@ -81,14 +82,7 @@ fn a_refused_flush_is_a_failed_write(rt: HostRuntime) {
 fn a_full_writer_is_asked_no_further(rt: HostRuntime) {
     let alloc = rt.alloc();
     for left in 0..12 {
-        let mut room = Room {
-            bytes: Vec::new(alloc),
-            left,
-            refused: 0,
-            flushes: 0,
-            fails_to_flush: false,
-        };
-        let answer = write_page(alloc, HELLO, ADA, &[], &mut room);
+        let (room, answer) = write_page(alloc, HELLO, ADA, &[], room_for(alloc, left));
         assert!(rt; is_write(&answer), "room for {left}");
         assert_eq!(rt; room.refused, 1, "room for {left}");
         assert_eq!(rt; room.flushes, 0, "room for {left}");
@@ -108,14 +102,7 @@ fn a_page_that_is_longer_than_the_buffer(rt: HostRuntime) -> Result<()> {
     let template = format!(in alloc; "{{{{ name }}}}{long}{{{{ name }}}}")?;
     let page = format!(in alloc; "Ada{long}Ada")?;
     for left in [200000, 100003, 70000, 2] {
-        let mut room = Room {
-            bytes: Vec::new(alloc),
-            left,
-            refused: 0,
-            flushes: 0,
-            fails_to_flush: false,
-        };
-        let answer = write_page(alloc, &template, ADA, &[], &mut room);
+        let (room, answer) = write_page(alloc, &template, ADA, &[], room_for(alloc, left));
         let written = left.min(page.len());
         assert_eq!(rt; is_write(&answer), left < page.len(), "room for {left}");
         assert_eq!(rt; room.bytes.len(), written, "room for {left}");
