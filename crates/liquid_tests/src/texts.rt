@@ -16,7 +16,7 @@ struct Texts {
 }
 
 /// Each text is bad in its own way, so that the kind tells which was read first.
-const BAD_TEXTS: [Texts; 9] = [
+const BAD_TEXTS: [Texts; 12] = [
     Texts {
         template: "a{{ x",
         data: "[1]",
@@ -46,6 +46,24 @@ const BAD_TEXTS: [Texts; 9] = [
         data: "{\"x\":1.5}",
         partials: &[("p", "{% nosuch %}")],
         kind: ErrorKind::Float,
+    },
+    Texts {
+        template: "a{{ x }}",
+        data: "{\"y\":[{\"z\":0.0}]}",
+        partials: &[],
+        kind: ErrorKind::Float,
+    },
+    Texts {
+        template: "a{{ x }}",
+        data: "{\"x\":-9223372036854775809}",
+        partials: &[],
+        kind: ErrorKind::Float,
+    },
+    Texts {
+        template: "a{{ x }}",
+        data: "{\"x\":1e999}",
+        partials: &[],
+        kind: ErrorKind::InvalidInput,
     },
     Texts {
         template: "a{{ x }}",
