@@ -13,6 +13,7 @@ pub mod Law
 pub mod Maps
 pub mod Nodes
 pub mod Pieces
+pub mod Registered
 pub mod Renderings
 pub mod Rules
 pub mod RunKinds

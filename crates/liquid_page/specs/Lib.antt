@@ -1,2 +1,4 @@
 pub mod Buffering
+pub mod Outcomes
 pub mod Words
+pub mod Written

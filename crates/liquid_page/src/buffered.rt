@@ -1,9 +1,9 @@
 //! The writer of the program: standard output behind a buffer.
-ghost use Rattle.std.specs.Prelude.{◌≡◌, ◌≤◌, length, take, drop, IfOk, OnOk, vec_len};
+ghost use Rattle.std.specs.Prelude.{◌≡◌, ◌≤◌, [], length, take, drop, true, is_err, IfOk, OnOk, vec_len};
 ghost use Rattle.std.specs.Io.{WritesAtMost};
 ghost use Rattle.std.specs.Io.KnownBytes.{Keeps, Appends, WriteAppends};
 
-use std::alloc::{AllocError, Global};
+use std::alloc::Global;
 use std::io;
 use std::io::Write;
 
@@ -22,23 +22,38 @@ pub struct Buffered<W> {
 impl<W: Write> Buffered<W> {
     ghost use Rattle.liquid_page.specs.Buffering.{behind};
 
-    /// A buffer in front of the writer, or `AllocError` where there is no memory for it.
-    pub fn new(alloc: Global, writer: W) -> Result<Buffered<W>, AllocError>
-    where
-        W: Drop,
+    /// A buffer in front of the writer, or the writer where there is no memory for a buffer.
+    pub fn new(alloc: Global, writer: W) -> Result<Buffered<W>, W>
         ensures { IfOk result (λ b. Keeps (W.contents writer) (behind W.contents b)) }
     {
-        Ok(Buffered {
+        match Vec::with_capacity(alloc, ROOM) {
+            Ok(held) => Ok(Buffered {
+                writer,
+                held,
+                failed: false,
+            }),
+            Err(_) => Err(writer),
+        }
+    }
+
+    /// The writer. What is held back is let go.
+    pub fn into_inner(self) -> W
+        ensures { result ≡ self.writer }
+    {
+        let Buffered {
             writer,
-            held: Vec::with_capacity(alloc, ROOM)?,
-            failed: false,
-        })
+            held: _,
+            failed: _,
+        } = self;
+        writer
     }
 
     /// Hands on what is held back, once. After a failure it hands on nothing and fails again.
     pub fn hand_on(&mut self) -> io::Result<()>
         ensures bytes { Keeps (behind W.contents self.old) (behind W.contents self.new) }
-        ensures empty { OnOk result (vec_len self.new.held ≡ 0) }
+        ensures empty { OnOk result (self.new.held.items ≡ []) }
+        ensures told { self.new.failed ≡ is_err result }
+        ensures stopped { self.old.failed ≡ true → self.new ≡ self.old }
     {
         if self.failed {
             return Err(io::Error::from(io::ErrorKind::BrokenPipe));
@@ -51,7 +66,7 @@ impl<W: Write> Buffered<W> {
 
     /// Hands on what is longer than the buffer, which is empty.
     fn write_past(&mut self, bytes: &[u8]) -> io::Result<usize>
-        requires { vec_len self.old.held ≡ 0 }
+        requires { self.old.held.items ≡ [] }
         ensures bound { WritesAtMost result bytes.now }
         ensures bytes { WriteAppends (behind W.contents self.old) (behind W.contents self.new) result bytes.now }
     {
@@ -66,7 +81,11 @@ impl<W: Write> Write for Buffered<W> {
 
     ghost contents = { behind W.contents };
 
-    fn write(&mut self, bytes: &[u8]) -> io::Result<usize> {
+    fn write(&mut self, bytes: &[u8]) -> io::Result<usize>
+        ensures bound { WritesAtMost result bytes.now }
+        ensures bytes { WriteAppends (behind W.contents self.old) (behind W.contents self.new) result bytes.now }
+        ensures stopped { self.old.failed ≡ true → self.new ≡ self.old }
+    {
         if bytes.len() > ROOM.saturating_sub(self.held.len()) {
             self.hand_on()?;
         }
@@ -80,7 +99,11 @@ impl<W: Write> Write for Buffered<W> {
         Ok(bytes.len())
     }
 
-    fn flush(&mut self) -> io::Result<()> {
+    fn flush(&mut self) -> io::Result<()>
+        ensures bytes { Keeps (behind W.contents self.old) (behind W.contents self.new) }
+        ensures empty { OnOk result (self.new.held.items ≡ []) }
+        ensures stopped { self.old.failed ≡ true → self.new ≡ self.old }
+    {
         self.hand_on()?;
         self.writer.flush()
     }

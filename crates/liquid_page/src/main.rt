@@ -2,29 +2,60 @@
 #![tactic(auto)]
 
 mod buffered;
+mod outcome;
 mod page;
 #[cfg(test)]
 mod tests;
 mod words;
 
-use crate::page::{Outcome, page};
+use crate::outcome::Outcome;
+use crate::page::{Texts, page};
 pub use liquid_site::{data_from_json, run};
+use std::alloc::AllocError;
 use std::process::ExitCode;
+use std::{env, fs, io};
+
+/// The files of the system.
+#[derive(Drop)]
+struct Files<'r> {
+    rt: &'r HostRuntime,
+}
+
+impl<'r> Texts for Files<'r> {
+    fn text_at(&mut self, path: &str) -> io::Result<String> {
+        fs::read_to_string(self.rt, path)
+    }
+}
 
 fn main(rt: HostRuntime) -> ExitCode {
-    match page(&rt) {
-        Outcome::Done => ExitCode::from(0),
-        Outcome::Usage => {
-            let _ = eprintln!(rt; "usage: liquid_page TEMPLATE DATA [NAME=FILE ..]");
-            ExitCode::from(2)
-        }
-        Outcome::Unread(file) => {
-            let _ = eprintln!(rt; "error: Read: {file}");
-            ExitCode::from(1)
-        }
-        Outcome::Fault(fault) => {
-            let _ = eprintln!(rt; "error: {fault}");
-            ExitCode::from(1)
+    let outcome = outcome_of(&rt);
+    let status = outcome.status();
+    if status != 0 {
+        let _ = eprintln!(rt; "{outcome}");
+    }
+    ExitCode::from(status)
+}
+
+fn outcome_of(rt: &HostRuntime) -> Outcome {
+    match words_given(rt) {
+        Ok(words) => page(rt.alloc(), &words, &mut Files { rt }, io::writer(rt)),
+        Err(outcome) => outcome,
+    }
+}
+
+/// The words behind the program's own. A word that isn't UTF-8 makes no call.
+fn words_given(rt: &HostRuntime) -> std::result::Result<Vec<String>, Outcome> {
+    let mut words: Vec<String> = Vec::new(rt.alloc());
+    match env::args(rt) {
+        Ok(all) => for word in all.skip(1) {
+            words.push(word)?;
+        },
+        Err(refused) => {
+            if refused.kind() == io::ErrorKind::OutOfMemory {
+                return Err(Outcome::from(AllocError));
+            }
+            return Err(Outcome::Usage);
         }
     }
+    Ok(words)
 }

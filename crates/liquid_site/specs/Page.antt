@@ -14,6 +14,7 @@ use Rattle.liquid_syntax.specs.Entries.{put}
 use Rattle.liquid_syntax.specs.declared.language.Language.{Language}
 use Rattle.liquid_lib.specs.Runs.{Nothing, Outcome}
 use Rattle.liquid_lib.specs.Meaning.{meaning}
+use Rattle.liquid_lib.specs.Standard.{IsStandard}
 use Rattle.liquid_site.specs.Json.{data_of}
 
 -- names and texts of partials, in their order
@@ -66,3 +67,7 @@ page_outcome read = meaning (record { answers = kind_answer; partials = read.par
 pub data IsPage (l : Language) (texts : Texts) : Text → Result Nothing ErrorKind → Type 0 where
   page : (read : Read) → IsRead l texts read → IsPage l texts (page_outcome read).text (page_outcome read).end
   no_page : {kind : ErrorKind} → Refused l texts kind → IsPage l texts [] (Err kind)
+
+-- the page in the standard language
+abbrev pub IsStandardPage : Texts → Text → Result Nothing ErrorKind → Type 0
+IsStandardPage texts text end = (l : Language) × IsStandard l × IsPage l texts text end

@@ -2,6 +2,12 @@
 #![tactic(auto)]
 
 #[cfg(test)]
+mod answers;
+#[cfg(test)]
 mod pages;
 #[cfg(test)]
 mod refused;
+#[cfg(test)]
+mod texts;
+#[cfg(test)]
+mod writers;

@@ -1,4 +1,5 @@
 //! Pages of sources and data, and how they end.
+use crate::answers::kind_of;
 use liquid_core::{ErrorKind, Result};
 use liquid_lib::{Counted, Renderable, RuntimeBuilder, language};
 use liquid_site::{data_from_json, run};
@@ -318,13 +319,6 @@ const ROWS: [Row; 50] = [
     },
 ];
 
-fn kind_of<T: Drop>(answer: &Result<T>) -> Option<ErrorKind> {
-    match answer {
-        Ok(_) => None,
-        Err(fault) => Some(fault.kind),
-    }
-}
-
 fn by_run(rt: &impl Abort, alloc: Global, row: &Row) {
     let mut counted = Counted::new(Vec::new(alloc));
     let answer = run(alloc, row.source, row.data, &[], &mut counted);
@@ -355,6 +349,21 @@ fn by_parts(rt: &impl Abort, alloc: Global, row: &Row) -> Result<()> {
     Ok(())
 }
 
+fn by_render(rt: &impl Abort, alloc: Global, row: &Row) -> Result<()> {
+    let template = parse(alloc, row.source, &language(alloc)?)?;
+    let Ok(data) = data_from_json(alloc, row.data) else {
+        return Ok(());
+    };
+    let mut runtime = RuntimeBuilder::new(alloc).set_globals(data).build(alloc);
+    let answer = template.render(alloc, &mut runtime);
+    let source = row.source;
+    assert!(rt; kind_of(&answer) == row.end, "the end of {source}");
+    if let Ok(text) = answer {
+        assert!(rt; text.as_str() == row.page, "the page of {source}");
+    }
+    Ok(())
+}
+
 #[test]
 fn pages_by_run(rt: HostRuntime) {
     for row in &ROWS {
@@ -366,6 +375,14 @@ fn pages_by_run(rt: HostRuntime) {
 fn pages_by_parse_and_render_to(rt: HostRuntime) -> Result<()> {
     for row in &ROWS {
         by_parts(&rt, rt.alloc(), row)?;
+    }
+    Ok(())
+}
+
+#[test]
+fn pages_by_parse_and_render(rt: HostRuntime) -> Result<()> {
+    for row in &ROWS {
+        by_render(&rt, rt.alloc(), row)?;
     }
     Ok(())
 }

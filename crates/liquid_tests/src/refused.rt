@@ -1,6 +1,8 @@
 //! Sources that are no templates, by the kind of the fault.
+use crate::answers::kind_of;
 use liquid_core::{ErrorKind, Result};
-use liquid_lib::language;
+use liquid_lib::{Counted, language};
+use liquid_site::run;
 use liquid_syntax::parse;
 
 const ROWS: [(&str, ErrorKind); 21] = [
@@ -40,6 +42,18 @@ fn sources_are_refused(rt: HostRuntime) -> Result<()> {
         assert!(&rt; fault.message.is_some(), "no message: {source}");
     }
     Ok(())
+}
+
+#[test]
+fn refused_sources_write_nothing(rt: HostRuntime) {
+    let alloc = rt.alloc();
+    for (source, kind) in &ROWS {
+        let mut counted = Counted::new(Vec::new(alloc));
+        let answer = run(alloc, source, "{}", &[], &mut counted);
+        let written: Vec<u8> = counted.into_inner();
+        assert!(rt; kind_of(&answer) == Some(*kind), "the fault of {source}");
+        assert!(rt; written.is_empty(), "a page of {source}");
+    }
 }
 
 /// The first bytes of a source are read, or refused with a message, wherever it is cut.

@@ -1,0 +1,17 @@
+-- The program's status, and what it tells on standard error.
+use Rattle.std.specs.Prelude.{ℕ, List, [], ◌++◌, codes, string_bytes}
+use Rattle.liquid_core.specs.Errors.{error_text}
+use Rattle.liquid_page.specs.declared.outcome.Outcome.{Outcome}
+use Rattle.liquid_page.specs.declared.outcome.Outcome.TheVariants.{Done, Usage, Unread, Fault}
+
+abbrev pub status_of : Outcome → ℕ
+status_of Done = 0
+status_of (Unread file) = 1
+status_of (Fault e) = 1
+status_of Usage = 2
+
+abbrev pub told : Outcome → List ℕ
+told Done = []
+told (Unread file) = codes "error: Read: " ++ string_bytes file
+told (Fault e) = codes "error: " ++ error_text e
+told Usage = codes "usage: liquid_page TEMPLATE DATA [NAME=FILE ..]"

@@ -1,0 +1,65 @@
+//! How a call of the program ends.
+ghost use Rattle.std.specs.Prelude.{◌≡◌, Some};
+ghost use Rattle.liquid_page.specs.Outcomes.{status_of, told};
+
+use liquid_core::Error;
+use std::alloc::{AllocError, AllocFailed};
+use std::fmt;
+
+/// How a call of the program ended.
+#[derive(Drop)]
+pub enum Outcome {
+    /// The page is written.
+    Done,
+    /// The words are no call.
+    Usage,
+    /// The file of this name can't be read, or isn't UTF-8.
+    Unread(String),
+    /// The page ended by a fault.
+    Fault(Error),
+}
+
+impl Outcome {
+    /// The status that the program ends with.
+    pub fn status(&self) -> u8
+        ensures { result ≡ status_of self.now }
+    {
+        match self {
+            Outcome::Done => 0,
+            Outcome::Unread(_) | Outcome::Fault(_) => 1,
+            Outcome::Usage => 2,
+        }
+    }
+}
+
+/// What is told on standard error: nothing where the page is written.
+impl fmt::Display for Outcome {
+    ghost output = { λ outcome. Some (told outcome) };
+
+    fn fmt<W: fmt::Write>(&self, f: &mut fmt::Formatter<W>) -> fmt::Result {
+        match self {
+            Outcome::Done => Ok(()),
+            Outcome::Usage => f.write_str("usage: liquid_page TEMPLATE DATA [NAME=FILE ..]"),
+            Outcome::Unread(file) => write!(f, "error: Read: {file}"),
+            Outcome::Fault(fault) => write!(f, "error: {fault}"),
+        }
+    }
+}
+
+impl From<Error> for Outcome {
+    fn from(fault: Error) -> Outcome {
+        Outcome::Fault(fault)
+    }
+}
+
+impl From<AllocError> for Outcome {
+    fn from(refused: AllocError) -> Outcome {
+        Outcome::Fault(Error::from(refused))
+    }
+}
+
+impl<T: Drop> From<AllocFailed<T>> for Outcome {
+    fn from(refused: AllocFailed<T>) -> Outcome {
+        Outcome::Fault(Error::from(refused))
+    }
+}
