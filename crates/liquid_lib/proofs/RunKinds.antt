@@ -15,8 +15,9 @@ use Rattle.liquid_core.specs.Environment.{Environment}
 use Rattle.liquid_filters.specs.declared.kind.FilterKind.{FilterKind}
 use Rattle.liquid_syntax.specs.declared.comparison.ComparisonOperator.{ComparisonOperator}
 use Rattle.liquid_syntax.specs.declared.comparison.ComparisonOperator.TheVariants.{Equals, NotEquals, LessThan, GreaterThan, LessThanEquals, GreaterThanEquals, Contains}
+use Rattle.liquid_syntax.specs.Calls.{applied}
 use Rattle.liquid_syntax.specs.Tree.{FilterCall, Chain, Atom, bare, compared, Condition, Source, each_of, counted, Window, Bindings, Node, plain, raw, comment, output, assign, increment, decrement, break_loop, continue_loop, cycle, if_true, unless, case_of, for_each, tablerow, capture, ifchanged, include, jekyll_include, render, Nodes, no_nodes, node, Whens, no_whens, when}
-use Rattle.liquid_syntax.specs.Evaluation.{FilterAnswers, entry_value, filtered, chain_value, contains, comparison_truth, atom_truth, all_true, truth_of, value_items, not_too_long, source_items, amount, asked_for, bound_values}
+use Rattle.liquid_syntax.specs.Evaluation.{FilterAnswers, entry_value, calls_by, chain_value, contains, comparison_truth, atom_truth, all_true, truth_of, value_items, not_too_long, source_items, amount, asked_for, bound_values}
 use Rattle.liquid_lib.specs.Runs.{Nothing, Run, done, read, evaluate, fault, change, write, go_on, ◌>>=◌, with_scope, ended_with, buffered, apart}
 use Rattle.liquid_lib.specs.Effects.{take_interrupt, if_none, unless_interrupted}
 use Rattle.liquid_lib.specs.Loops.{until_break, for_all, if_empty, needs_columns, loop, rows}
@@ -62,10 +63,10 @@ unfolding all_required
 ended_all_required [] e = ended_ok []
 ended_all_required (x ∷ xs) e = ended_then (ended_required x e) (λ d. ended_then (ended_all_required xs e) (λ ds. ended_ok _))
 
-ended_filtered : (answers : FilterAnswers) → ((filter : FilterKind) (d : Datum) (ds : List Datum) → Ended (answers filter d ds)) → (calls : List FilterCall) (d : Datum) (e : Environment) → Ended (filtered answers calls d e)
-unfolding filtered
-ended_filtered answers i [] d e = ended_ok d
-ended_filtered answers i (call ∷ calls) d e = ended_then (ended_all_required call.arguments e) (λ ds. ended_then (i call.filter d ds) (λ answer. ended_filtered answers i calls answer e))
+ended_calls : (answers : FilterAnswers) → ((filter : FilterKind) (d : Datum) (ds : List Datum) → Ended (answers filter d ds)) → (calls : List FilterCall) (d : Datum) (e : Environment) → Ended (applied (calls_by answers calls) d e)
+unfolding applied
+ended_calls answers i [] d e = ended_ok d
+ended_calls answers i (call ∷ calls) d e = ended_then (ended_all_required call.arguments e) (λ ds. ended_then (i call.filter d ds) (λ answer. ended_calls answers i calls answer e))
 
 ended_entry : (o : Option Datum) (calls : List FilterCall) → Ended (entry_value o calls)
 ended_entry (Some d) calls = ended_ok d
@@ -74,7 +75,7 @@ ended_entry None (call ∷ calls) = ended_ok nil
 
 ended_chain : (answers : FilterAnswers) → ((filter : FilterKind) (d : Datum) (ds : List Datum) → Ended (answers filter d ds)) → (chain : Chain) (e : Environment) → Ended (chain_value answers chain e)
 unfolding chain_value
-ended_chain answers i chain e = ended_then (ended_entry (value_of chain.entry e) chain.filters) (λ d. ended_filtered answers i chain.filters d e)
+ended_chain answers i chain e = ended_then (ended_entry (value_of chain.entry e) chain.filters) (λ d. ended_calls answers i chain.filters d e)
 
 ended_contains : (c d : Datum) → Ended (contains c d)
 ended_contains nil d = ended_err _ tt

@@ -8,11 +8,12 @@ use Rattle.liquid_core.specs.declared.error.ErrorKind.{ErrorKind}
 use Rattle.liquid_core.specs.declared.error.ErrorKind.TheVariants.{UnknownVariable}
 use Rattle.liquid_core.specs.Find.{find}
 use Rattle.liquid_core.specs.Expression.{Expression, literal, variable, Steps, no_steps, step}
+use Rattle.liquid_syntax.specs.Calls.{applied}
 use Rattle.liquid_syntax.specs.Tree.{FilterCall, Chain, Atom, bare, compared, Condition, Source, each_of, counted, Window, Bindings}
 use Rattle.liquid_core.specs.Environment.{Names, Environment, lookup}
 use Rattle.liquid_core.specs.Fallible.{◌>>=◌}
 use Rattle.liquid_core.specs.Expressions.{value_of, path_of, required, all_required, needed_whole}
-use Rattle.liquid_syntax.specs.Evaluation.{FilterAnswers, filtered, entry_value, chain_value, bare_truth, atom_truth, all_true, truth_of, source_items, amount, asked_for, bound_values}
+use Rattle.liquid_syntax.specs.Evaluation.{FilterAnswers, entry_value, calls_by, chain_value, bare_truth, atom_truth, all_true, truth_of, source_items, amount, asked_for, bound_values}
 use Rattle.liquid_syntax.specs.Names.{expression_names, steps_names, all_names, optional_names, filters_names, chain_names, atom_names, atoms_names, condition_names, source_names, window_names, bound_names}
 use Rattle.liquid_lib.proofs.Runs.{AgreeOn}
 use Rattle.liquid_lib.specs.Within.{Within}
@@ -53,14 +54,14 @@ module _ (N : Names) (e f : Environment) (agree : AgreeOn N e f) where
   all_required_same [] h = refl
   all_required_same (x ∷ xs) h = bind_same (required_same x (left N (expression_names x) _ h)) (λ d. bind_same (all_required_same xs (right N (expression_names x) _ h)) (λ ds. refl))
 
-  filtered_same : (answers : FilterAnswers) (calls : List FilterCall) → Within N (filters_names calls) → (d : Datum) → filtered answers calls d e ≡ filtered answers calls d f
-  unfolding filtered filters_names
-  filtered_same answers [] h d = refl
-  filtered_same answers (call ∷ calls) h d = bind_same (all_required_same call.arguments (left N (all_names call.arguments) _ h)) (λ arguments. bind_same refl (λ answer. filtered_same answers calls (right N (all_names call.arguments) _ h) answer))
+  calls_same : (answers : FilterAnswers) (calls : List FilterCall) → Within N (filters_names calls) → (d : Datum) → applied (calls_by answers calls) d e ≡ applied (calls_by answers calls) d f
+  unfolding applied filters_names
+  calls_same answers [] h d = refl
+  calls_same answers (call ∷ calls) h d = bind_same (all_required_same call.arguments (left N (all_names call.arguments) _ h)) (λ arguments. bind_same refl (λ answer. calls_same answers calls (right N (all_names call.arguments) _ h) answer))
 
   pub chain_same : (answers : FilterAnswers) (chain : Chain) → Within N (chain_names chain) → chain_value answers chain e ≡ chain_value answers chain f
   unfolding chain_value chain_names
-  chain_same answers chain h = bind_same (ap (λ o. entry_value o chain.filters) (value_same chain.entry (left N (expression_names chain.entry) _ h))) (λ entry. filtered_same answers chain.filters (right N (expression_names chain.entry) _ h) entry)
+  chain_same answers chain h = bind_same (ap (λ o. entry_value o chain.filters) (value_same chain.entry (left N (expression_names chain.entry) _ h))) (λ entry. calls_same answers chain.filters (right N (expression_names chain.entry) _ h) entry)
 
   atom_same : (atom : Atom) → Within N (atom_names atom) → atom_truth atom e ≡ atom_truth atom f
   unfolding atom_truth atom_names

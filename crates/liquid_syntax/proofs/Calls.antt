@@ -12,7 +12,7 @@ use Rattle.liquid_core.specs.Environment.{Environment}
 use Rattle.liquid_core.specs.Expressions.{value_of, required, all_required}
 use Rattle.liquid_syntax.specs.Calls.{Call, applied}
 use Rattle.liquid_syntax.specs.Tree.{FilterCall, Chain}
-use Rattle.liquid_syntax.specs.Evaluation.{FilterAnswers, entry_value, filtered, chain_value}
+use Rattle.liquid_syntax.specs.Evaluation.{FilterAnswers, entry_value, call_by, calls_by, chain_value}
 
 -- a fault met first is the fault of the whole
 pub faulted_then : {A B : Type 0} (kind : ErrorKind) (a : Result A ErrorKind) (f : A → Result B ErrorKind) → Faulted kind a → Faulted kind (a >>= f)
@@ -112,41 +112,38 @@ alone (Ok ds) answers d k = on (answers d ds)
     on (Ok y) = refl
     on (Err kind) = refl
 
-abbrev pub stored_call : FilterAnswers → FilterCall → Call
-stored_call answers call = record { answers = answers call.filter; arguments = call.arguments }
-
 next_filter : {X : Type 0} (answers : FilterAnswers) (f : X → FilterCall) (e : Environment) (xs : List X) (i : ℕ) (x : X) (d : Datum) → i < length xs → x ≡ get_or xs i x
-    → filtered answers (map f (drop i xs)) d e ≡ (applied (stored_call answers (f x) ∷ []) d e >>= (λ y. filtered answers (map f (drop (i + 1) xs)) y e))
-unfolding filtered applied
+    → applied (calls_by answers (map f (drop i xs))) d e ≡ (applied (call_by answers (f x) ∷ []) d e >>= (λ y. applied (calls_by answers (map f (drop (i + 1) xs))) y e))
+unfolding applied
 next_filter answers f e xs i x d h is =
-    ap (λ y. filtered answers (map f y) d e) (drop_more xs i x h ∙ ap (λ y. y ∷ drop (i + 1) xs) (sym is))
-    ∙ alone (all_required (f x).arguments e) (answers (f x).filter) d (λ y. filtered answers (map f (drop (i + 1) xs)) y e)
+    ap (λ y. applied (calls_by answers (map f y)) d e) (drop_more xs i x h ∙ ap (λ y. y ∷ drop (i + 1) xs) (sym is))
+    ∙ alone (all_required (f x).arguments e) (answers (f x).filter) d (λ y. applied (calls_by answers (map f (drop (i + 1) xs))) y e)
 
 pub filters_more : {X : Type 0} (answers : FilterAnswers) (f : X → FilterCall) (all : Result Datum ErrorKind) (e : Environment) (xs : List X) (i : ℕ) (x : X) (d answer : Datum)
-    → i < length xs → x ≡ get_or xs i x → applied (stored_call answers (f x) ∷ []) d e ≡ Ok answer
-    → all ≡ filtered answers (map f (drop i xs)) d e → all ≡ filtered answers (map f (drop (i + 1) xs)) answer e
+    → i < length xs → x ≡ get_or xs i x → applied (call_by answers (f x) ∷ []) d e ≡ Ok answer
+    → all ≡ applied (calls_by answers (map f (drop i xs))) d e → all ≡ applied (calls_by answers (map f (drop (i + 1) xs))) answer e
 filters_more answers f all e xs i x d answer h is a so_far =
-    so_far ∙ next_filter answers f e xs i x d h is ∙ ap (λ r. r >>= (λ y. filtered answers (map f (drop (i + 1) xs)) y e)) a
+    so_far ∙ next_filter answers f e xs i x d h is ∙ ap (λ r. r >>= (λ y. applied (calls_by answers (map f (drop (i + 1) xs))) y e)) a
 
 pub filters_stop : {X : Type 0} (answers : FilterAnswers) (f : X → FilterCall) (all : Result Datum ErrorKind) (e : Environment) (xs : List X) (i : ℕ) (x : X) (d : Datum) (kind : ErrorKind)
-    → i < length xs → x ≡ get_or xs i x → Faulted kind (applied (stored_call answers (f x) ∷ []) d e)
-    → all ≡ filtered answers (map f (drop i xs)) d e → Faulted kind all
+    → i < length xs → x ≡ get_or xs i x → Faulted kind (applied (call_by answers (f x) ∷ []) d e)
+    → all ≡ applied (calls_by answers (map f (drop i xs))) d e → Faulted kind all
 filters_stop answers f all e xs i x d kind h is a so_far =
     faulted_as kind all _ (so_far ∙ next_filter answers f e xs i x d h is)
-    (faulted_then kind (applied (stored_call answers (f x) ∷ []) d e) (λ y. filtered answers (map f (drop (i + 1) xs)) y e) a)
+    (faulted_then kind (applied (call_by answers (f x) ∷ []) d e) (λ y. applied (calls_by answers (map f (drop (i + 1) xs))) y e) a)
 
 pub filters_end : {X : Type 0} (answers : FilterAnswers) (f : X → FilterCall) (all : Result Datum ErrorKind) (e : Environment) (xs : List X) (i : ℕ) (d : Datum) → length xs ≤ i
-    → all ≡ filtered answers (map f (drop i xs)) d e → all ≡ Ok d
-unfolding filtered
-filters_end answers f all e xs i d h so_far = so_far ∙ ap (λ y. filtered answers (map f y) d e) (drop_all i xs h)
+    → all ≡ applied (calls_by answers (map f (drop i xs))) d e → all ≡ Ok d
+unfolding applied
+filters_end answers f all e xs i d h so_far = so_far ∙ ap (λ y. applied (calls_by answers (map f y)) d e) (drop_all i xs h)
 
 -- the chain once its entry has a value, and where it has none
 pub chain_from : (answers : FilterAnswers) (chain : Chain) (e : Environment) (d : Datum) → entry_value (value_of chain.entry e) chain.filters ≡ Ok d
-    → chain_value answers chain e ≡ filtered answers chain.filters d e
+    → chain_value answers chain e ≡ applied (calls_by answers chain.filters) d e
 unfolding chain_value
-chain_from answers chain e d h = ap (λ r. r >>= (λ y. filtered answers chain.filters y e)) h
+chain_from answers chain e d h = ap (λ r. r >>= (λ y. applied (calls_by answers chain.filters) y e)) h
 
 pub chain_faulted : (answers : FilterAnswers) (chain : Chain) (e : Environment) (kind : ErrorKind) → Faulted kind (entry_value (value_of chain.entry e) chain.filters)
     → Faulted kind (chain_value answers chain e)
 unfolding chain_value
-chain_faulted answers chain e kind h = faulted_then kind (entry_value (value_of chain.entry e) chain.filters) (λ y. filtered answers chain.filters y e) h
+chain_faulted answers chain e kind h = faulted_then kind (entry_value (value_of chain.entry e) chain.filters) (λ y. applied (calls_by answers chain.filters) y e) h

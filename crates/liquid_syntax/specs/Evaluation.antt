@@ -1,7 +1,7 @@
 -- What chains, conditions and loop sources are in an environment: a value, or a kind.
 --     chain_value      a chain's value;   truth_of      a condition's
 --     source_items, window_items      the items of a loop's source; those of them that are asked for
-use Rattle.std.specs.Prelude.{ℕ, zero, suc, ◌-◌, min, ℤ, pos, negsuc, ◌+ℤ◌, ◌-ℤ◌, nat_abs, int_le, nat_le, nat_eq, Bool, true, false, cond, not, ◌&&◌, ◌||◌, List, [], ◌∷◌, length, reverse, get_or, Option, Some, None, Result, Ok, Err, is_some}
+use Rattle.std.specs.Prelude.{ℕ, zero, suc, ◌-◌, min, ℤ, pos, negsuc, ◌+ℤ◌, ◌-ℤ◌, nat_abs, int_le, nat_le, nat_eq, Bool, true, false, cond, not, ◌&&◌, ◌||◌, List, [], ◌∷◌, length, map, reverse, get_or, Option, Some, None, Result, Ok, Err, is_some}
 use Rattle.std.specs.declared.cmp.Ordering.{Ordering}
 use Rattle.std.specs.Ordering.{is_lt, is_gt, is_le, is_ge}
 use Rattle.std.specs.List.{starts_with, list_any}
@@ -18,10 +18,11 @@ use Rattle.liquid_core.specs.declared.error.ErrorKind.TheVariants.{UnknownVariab
 use Rattle.liquid_core.specs.Fallible.{◌>>=◌}
 use Rattle.liquid_core.specs.Expression.{Expression}
 use Rattle.liquid_core.specs.Environment.{Environment}
-use Rattle.liquid_core.specs.Expressions.{value_of, required, all_required, needed_whole}
+use Rattle.liquid_core.specs.Expressions.{value_of, required, needed_whole}
 use Rattle.liquid_filters.specs.declared.kind.FilterKind.{FilterKind}
 use Rattle.liquid_syntax.specs.declared.comparison.ComparisonOperator.{ComparisonOperator}
 use Rattle.liquid_syntax.specs.declared.comparison.ComparisonOperator.TheVariants.{Equals, NotEquals, LessThan, GreaterThan, LessThanEquals, GreaterThanEquals, Contains}
+use Rattle.liquid_syntax.specs.Calls.{Call, applied}
 use Rattle.liquid_syntax.specs.Tree.{FilterCall, Chain, Atom, bare, compared, Condition, Source, each_of, counted, Window, Bindings}
 
 -- ---- chains
@@ -36,19 +37,18 @@ entry_value (Some d) calls = Ok d
 entry_value None [] = Err UnknownVariable
 entry_value None (call ∷ calls) = Ok nil
 
--- the filters in order, each one's arguments evaluated left to right before it; a missing one is UnknownVariable
-unfoldable pub filtered : FilterAnswers → List FilterCall → Datum → Environment → Result Datum ErrorKind
-filtered answers [] d e = Ok d
-filtered answers (call ∷ calls) d e = do
-  arguments ← all_required call.arguments e
-  answer ← answers call.filter d arguments
-  filtered answers calls answer e
+-- a chain's filter with what it answers, and all of them
+abbrev pub call_by : FilterAnswers → FilterCall → Call
+call_by answers call = record { answers = answers call.filter; arguments = call.arguments }
 
--- the entry, then the filters
+abbrev pub calls_by : FilterAnswers → List FilterCall → List Call
+calls_by answers = map (call_by answers)
+
+-- the entry, then the filters in order
 unfoldable pub chain_value : FilterAnswers → Chain → Environment → Result Datum ErrorKind
 chain_value answers chain e = do
   entry ← entry_value (value_of chain.entry e) chain.filters
-  filtered answers chain.filters entry e
+  applied (calls_by answers chain.filters) entry e
 
 -- ---- conditions
 

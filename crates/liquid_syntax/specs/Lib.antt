@@ -1,3 +1,4 @@
+pub mod AnyFilters
 pub mod Building
 pub mod Called
 pub mod Calls

@@ -1,5 +1,6 @@
 -- The written form of a condition: how it stands in a template's source.
-use Rattle.std.specs.Prelude.{List, [], ◌∷◌, map, ◌++◌, codes}
+use Rattle.std.specs.Prelude.{List, ◌++◌, codes}
+use Rattle.std.specs.List.{join_by}
 use Rattle.liquid_core.specs.Texts.{Text}
 use Rattle.liquid_core.specs.Written.{written_form}
 use Rattle.liquid_syntax.specs.Tree.{Atom, bare, compared, Condition}
@@ -15,23 +16,13 @@ written_operator LessThanEquals = codes "<="
 written_operator GreaterThanEquals = codes ">="
 written_operator Contains = codes "contains"
 
--- each text with the separator before it
-abbrev pub joined_rest : Text → List Text → Text
-joined_rest separator [] = []
-joined_rest separator (t ∷ ts) = separator ++ (t ++ joined_rest separator ts)
-
--- the texts with the separator between them
-abbrev pub joined : Text → List Text → Text
-joined separator [] = []
-joined separator (t ∷ ts) = t ++ joined_rest separator ts
-
 -- a comparison has its operator between single spaces
 abbrev pub written_atom : Atom → Text
 written_atom (bare x) = written_form x
 written_atom (compared left operator right) = written_form left ++ (codes " " ++ (written_operator operator ++ (codes " " ++ written_form right)))
 
 abbrev pub written_conjunction : List Atom → Text
-written_conjunction atoms = joined (codes " and ") (map written_atom atoms)
+written_conjunction atoms = join_by written_atom (codes " and ") atoms
 
 abbrev pub written_condition : Condition → Text
-written_condition conjunctions = joined (codes " or ") (map written_conjunction conjunctions)
+written_condition conjunctions = join_by written_conjunction (codes " or ") conjunctions

@@ -1,7 +1,8 @@
 //! Chains of filters, as a template holds them.
-ghost use Rattle.std.specs.Prelude.{IsTrue, length};
+ghost use Rattle.std.specs.Prelude.{◌≡◌, IsTrue, length};
 ghost use Rattle.liquid_filters.specs.Kinds.{kind_counts};
 
+use crate::any_filter::AnyFilter;
 use crate::filter_call::{FilterCall, apply_to};
 use liquid_core::{Expression, Result, State, Value, ValueCow};
 use liquid_filters::FilterKind;
@@ -13,6 +14,25 @@ pub struct ChainFilter {
     pub filter: FilterKind,
     pub arguments: Vec<Expression>,
     pub ghost accepted: { IsTrue (kind_counts filter (length arguments.items)) },
+}
+
+impl ChainFilter {
+    ghost use Rattle.liquid_filters.specs.Kinds.{kind_answer};
+    ghost use Rattle.liquid_syntax.specs.AnyFilters.{any_answer, any_counts};
+    ghost use Rattle.liquid_syntax.specs.Calls.{call_of};
+    ghost use Rattle.liquid_syntax.specs.ChainView.{chain_filter_view};
+    ghost use Rattle.liquid_syntax.specs.Evaluation.{call_by};
+
+    /// The call by which the filter is run on its arguments, whose number it accepts.
+    pub fn call(&self) -> FilterCall<'_, AnyFilter>
+        ensures call { call_of (any_answer result.filter) result.args.now ≡ call_by kind_answer (chain_filter_view self.now) }
+        ensures accepted { IsTrue (any_counts result.filter (length result.args.now)) }
+    {
+        FilterCall {
+            filter: AnyFilter::Kind(self.filter),
+            args: self.arguments.as_slice(),
+        }
+    }
 }
 
 /// An entry, and the filters that its value goes through in order.
@@ -48,11 +68,7 @@ impl FilterChain {
     {
         let mut value = self.evaluate_entry(alloc, state)?;
         for stored in &self.filters {
-            let call = [FilterCall {
-                filter: stored.filter,
-                args: stored.arguments.as_slice(),
-            }];
-            value = apply_to(alloc, value, &call, state)?;
+            value = apply_to(alloc, value, &[stored.call()], state)?;
         }
         Ok(value)
     }

@@ -1,14 +1,20 @@
 //! Conditions that are read, and items that are none, at examples.
+use crate::chain_items::expected;
 use crate::condition::Condition;
 use crate::condition_items::read_condition;
-use liquid_source::{Delimiter, ParseError, read_items};
+use liquid_source::{ParseError, Piece, read_markup};
 use std::alloc::Global;
 use std::test::Fail;
 
 /// The condition that the items up to `%}` are.
 fn read(alloc: Global, source: &str) -> Result<Condition, ParseError> {
-    let (items, _, _) = read_items(alloc, source, Delimiter::Tag)?;
-    read_condition(alloc, items, source)
+    let mut tag = String::from_str(alloc, "%if ")?;
+    tag.push_str(source)?;
+    let (markup, _) = read_markup(alloc, tag.as_str())?;
+    match markup.piece {
+        Piece::Tag(_, items) => read_condition(alloc, items, source),
+        _ => Err(expected(source, "a tag")),
+    }
 }
 
 /// The written form of the condition, or the kind of the source's fault.

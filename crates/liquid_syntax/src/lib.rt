@@ -1,10 +1,13 @@
 //! From source to template.
 #![tactic(auto)]
 
+mod any_filter;
 mod block;
 mod build;
 mod chain;
 mod chain_items;
+#[cfg(test)]
+mod chain_tests;
 mod comparison;
 mod condition;
 mod condition_items;
@@ -22,6 +25,7 @@ mod parser_tests;
 mod partials;
 mod template;
 
+pub use any_filter::AnyFilter;
 pub use block::{Block, Control, Place};
 pub use chain::{ChainFilter, FilterChain};
 pub use comparison::ComparisonOperator;

@@ -9,7 +9,7 @@ use Rattle.liquid_syntax.proofs.condition.write_atoms.Goals as goal
 pub loop-atom-init : goal.loop-atom-init
 loop-atom-init g c = record {
   text = search rules;
-  written = λ plain. ([], record { wrote = search rules; plain = plain }, from_nothing (codes " and ") (map written_atom (map atom_view c.args.atoms.now.items)));
+  written = λ plain. ([], record { wrote = search rules; plain = plain }, from_nothing written_atom (codes " and ") (map atom_view c.args.atoms.now.items));
 }
 
 pub loop-atom-preserved : goal.loop-atom-preserved

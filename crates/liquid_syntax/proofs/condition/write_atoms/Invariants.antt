@@ -12,5 +12,5 @@ abbrev pub invariant-loop-atom : goal.invariant-loop-atom
 invariant-loop-atom g l = record {
   text : shadow (Utf8 l.join);
   written : IsPlainFormatter l.initial.f → (done : List ℕ) × HasWritten g.W.Write.write_str_gives l.initial.f done l.f
-      × (done ++ joined_from l.join (codes " and ") (map written_atom (map atom_view (drop l.atom-index l.atoms.items))) ≡ written_conjunction (map atom_view l.atoms.items));
+      × (done ++ joined_from l.join written_atom (codes " and ") (map atom_view (drop l.atom-index l.atoms.items)) ≡ written_conjunction (map atom_view l.atoms.items));
 }

@@ -9,7 +9,7 @@ use Rattle.liquid_syntax.proofs.condition.write_conjunctions.Goals as goal
 pub loop-conjunction-init : goal.loop-conjunction-init
 loop-conjunction-init g c = record {
   text = search rules;
-  written = λ plain. ([], record { wrote = search rules; plain = plain }, from_nothing (codes " or ") (map written_conjunction (map atoms_view c.args.conjunctions.now.items)));
+  written = λ plain. ([], record { wrote = search rules; plain = plain }, from_nothing written_conjunction (codes " or ") (map atoms_view c.args.conjunctions.now.items));
 }
 
 pub loop-conjunction-preserved : goal.loop-conjunction-preserved

@@ -12,5 +12,5 @@ abbrev pub invariant-loop-conjunction : goal.invariant-loop-conjunction
 invariant-loop-conjunction g l = record {
   text : shadow (Utf8 l.join);
   written : IsPlainFormatter l.initial.f → (done : List ℕ) × HasWritten g.W.Write.write_str_gives l.initial.f done l.f
-      × (done ++ joined_from l.join (codes " or ") (map written_conjunction (map atoms_view (drop l.conjunction-index l.conjunctions.items))) ≡ written_condition (map atoms_view l.conjunctions.items));
+      × (done ++ joined_from l.join written_conjunction (codes " or ") (map atoms_view (drop l.conjunction-index l.conjunctions.items)) ≡ written_condition (map atoms_view l.conjunctions.items));
 }
