@@ -2,6 +2,7 @@ pub mod Added
 pub mod Apart
 pub mod Cells
 pub mod Changes
+pub mod Choices
 pub mod Computed
 pub mod Further
 pub mod Going

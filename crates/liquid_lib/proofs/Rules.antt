@@ -1,13 +1,13 @@
 -- The rules of nodes, to go by: to unfold `node_meaning` elsewhere shows the rule of every kind.
-use Rattle.std.specs.Prelude.{◌≡◌}
+use Rattle.std.specs.Prelude.{◌≡◌, cond}
 use mathlib.Core.Path.{refl}
 use Rattle.liquid_core.specs.Texts.{Text}
 use Rattle.liquid_core.specs.Data.{text_of}
-use Rattle.liquid_syntax.specs.Tree.{Chain, Nodes, plain, output, assign}
-use Rattle.liquid_syntax.specs.Evaluation.{chain_value}
+use Rattle.liquid_syntax.specs.Tree.{Chain, Condition, Nodes, plain, output, assign, if_true}
+use Rattle.liquid_syntax.specs.Evaluation.{chain_value, truth_of}
 use Rattle.liquid_lib.specs.Runs.{Nothing, Run, evaluate, change, write, ◌>>=◌}
 use Rattle.liquid_lib.specs.Effects.{assigned_to}
-use Rattle.liquid_lib.specs.Meaning.{Setting, node_meaning}
+use Rattle.liquid_lib.specs.Meaning.{Setting, node_meaning, nodes_meaning}
 
 module _ (setting : Setting) (deeper : Nodes → Run Nothing) where
   pub plain_rule : (t : Text) → node_meaning setting deeper (plain t) ≡ write t
@@ -21,3 +21,8 @@ module _ (setting : Setting) (deeper : Nodes → Run Nothing) where
   pub assign_rule : (name : Text) (chain : Chain) → node_meaning setting deeper (assign name chain) ≡ (evaluate (chain_value setting.answers chain) >>= (λ d. change (assigned_to name d)))
   unfolding node_meaning
   assign_rule name chain = refl
+
+  pub if_rule : (condition : Condition) (body otherwise : Nodes) → node_meaning setting deeper (if_true condition body otherwise)
+      ≡ (evaluate (truth_of condition) >>= (λ holds. cond holds (nodes_meaning setting deeper body) (nodes_meaning setting deeper otherwise)))
+  unfolding node_meaning
+  if_rule condition body otherwise = refl

@@ -1,4 +1,5 @@
 pub mod Added
+pub mod Choices
 pub mod CountedParts
 pub mod Effects
 pub mod Engine

@@ -1,6 +1,7 @@
 //! Runs of nodes.
-ghost use Rattle.std.specs.Prelude.{◌≡◌, ℕ};
+ghost use Rattle.std.specs.Prelude.{◌≡◌, ℕ, ◌+◌};
 ghost use Rattle.liquid_syntax.specs.ChainView.{chain_view};
+ghost use Rattle.liquid_syntax.specs.ConditionView.{condition_view};
 ghost use Rattle.liquid_syntax.specs.Flats.{Maker, StandsAt, IsRange, NodeAt, IsNode, nodes_of};
 ghost use Rattle.liquid_syntax.specs.Forest.{Forest};
 ghost use Rattle.liquid_syntax.specs.Names.{node_names, nodes_names};
@@ -9,11 +10,12 @@ ghost use Rattle.liquid_lib.specs.Engine.{setting_of, node_meant, nodes_meant};
 ghost use Rattle.liquid_lib.specs.Kept.{Keeps};
 ghost use Rattle.liquid_lib.specs.Performs.{Performs, place_of};
 
+use crate::choice::chosen_range;
 use crate::counted::CountedWrite;
 use crate::output::Output;
 use crate::push_value::push_value;
 use liquid_core::{Result, State};
-use liquid_syntax::{FilterChain, Node, Partials};
+use liquid_syntax::{Condition, FilterChain, Node, Partials, TwoBodies};
 use std::alloc::Global;
 
 /// Writes a text.
@@ -80,10 +82,12 @@ fn next_after(nodes: &[Node], at: usize, to: usize) -> usize
 {
     match &nodes[at] {
         Node::Text(_) | Node::Output(_) | Node::Assign(_, _) => at + 1,
+        Node::If(_, bodies) => bodies.last_end,
     }
 }
 
 /// Runs the nodes of a range in order, up to the first fault or interrupt. The first node runs whatever the interrupt was.
+#[cycle(run)]
 pub(crate) fn run_range<W: CountedWrite>(
     alloc: Global,
     partials: &Partials,
@@ -114,6 +118,7 @@ pub(crate) fn run_range<W: CountedWrite>(
 }
 
 /// Runs one node.
+#[cycle(run)]
 fn run_node<W: CountedWrite>(
     alloc: Global,
     partials: &Partials,
@@ -144,5 +149,37 @@ fn run_node<W: CountedWrite>(
             out,
             state,
         ),
+        Node::If(condition, bodies) => {
+            run_if(
+                alloc, partials, depth, nodes, at, condition, *bodies, out, state,
+            )
+        }
     }
+}
+
+/// Runs the body that the conditions choose.
+#[cycle(run)]
+fn run_if<W: CountedWrite>(
+    alloc: Global,
+    partials: &Partials,
+    depth: u32,
+    nodes: &[Node],
+    at: usize,
+    condition: &Condition,
+    bodies: TwoBodies,
+    out: &mut Output<'_, W>,
+    state: &mut State,
+) -> Result<()>
+    requires body { IsRange nodes.now (at + 1) bodies.first_end }
+    requires otherwise { IsRange nodes.now bodies.first_end bodies.last_end }
+    ensures performs { (b d : Forest Maker) → StandsAt nodes.now (at + 1) b bodies.first_end → StandsAt nodes.now bodies.first_end d bodies.last_end →
+        Performs result (node_meant (setting_of partials.now) depth (tree.if_true (condition_view condition.now) (nodes_of b) (nodes_of d)))
+        (place_of W.contents W.failure_count out.old state.old)
+        (place_of W.contents W.failure_count out.new state.new) }
+    ensures same_writer { out.new.writer.ghost_name ≡ out.old.writer.ghost_name }
+    ensures kept { (b d : Forest Maker) → StandsAt nodes.now (at + 1) b bodies.first_end → StandsAt nodes.now bodies.first_end d bodies.last_end →
+        Keeps (node_names (tree.if_true (condition_view condition.now) (nodes_of b) (nodes_of d))) (setting_of partials.now) state.old state.new }
+{
+    let (from, to) = chosen_range(alloc, nodes, at, condition, bodies, state)?;
+    run_range(alloc, partials, depth, nodes, from, to, out, state)
 }

@@ -1,6 +1,7 @@
 //! Runs of templates.
 #![tactic(auto)]
 
+mod choice;
 mod counted;
 mod engine;
 mod laws;
@@ -9,6 +10,7 @@ mod push_value;
 mod render;
 mod runtime;
 mod standard;
+pub mod stdlib;
 #[cfg(test)]
 mod tests;
 mod worked;
@@ -16,6 +18,7 @@ mod write_all;
 
 pub use counted::{Counted, CountedWrite};
 pub use laws::{isolation_laws, loop_laws, run_laws};
+pub use liquid_tags::{BlockReflection, TagReflection};
 pub use render::Renderable;
 pub use runtime::{Runtime, RuntimeBuilder};
 pub use standard::{STANDARD_FILTERS, language};

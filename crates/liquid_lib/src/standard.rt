@@ -7,9 +7,9 @@ ghost use Rattle.liquid_syntax.specs.Languages.{kinds_of};
 
 use liquid_core::{ErrorKind, Result};
 use liquid_filters::{FilterKind, stdlib};
-use liquid_syntax::{Language, Registry, TagKind};
-use liquid_tags::TagReflection;
-use liquid_tags::stdlib::AssignTag;
+use liquid_syntax::{BlockKind, Language, Registry, TagKind};
+use liquid_tags::stdlib::{AssignTag, IfBlock};
+use liquid_tags::{BlockReflection, TagReflection};
 use std::alloc::Global;
 
 /// The filters of the standard library.
@@ -74,6 +74,11 @@ pub fn language(alloc: Global) -> Result<Language>
     language.tags.register(
         String::from_str(alloc, assign.tag())?,
         TagKind::from(assign),
+    )?;
+    let if_block = IfBlock::new();
+    language.blocks.register(
+        String::from_str(alloc, if_block.start_tag())?,
+        BlockKind::from(if_block),
     )?;
     register_filters(alloc, &mut language.filters, &STANDARD_FILTERS)?;
     Ok(language)

@@ -4,4 +4,4 @@
 mod reflection;
 pub mod stdlib;
 
-pub use reflection::TagReflection;
+pub use reflection::{BlockReflection, TagReflection};

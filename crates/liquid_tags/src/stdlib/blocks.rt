@@ -1,0 +1,5 @@
+//! Blocks: tags with a body and an end.
+
+mod if_block;
+
+pub use if_block::IfBlock;
