@@ -3,9 +3,9 @@ use Rattle.std.specs.Prelude.{◌≡◌, cond}
 use mathlib.Core.Path.{refl}
 use Rattle.liquid_core.specs.Texts.{Text}
 use Rattle.liquid_core.specs.Data.{text_of}
-use Rattle.liquid_syntax.specs.Tree.{Chain, Condition, Nodes, plain, output, assign, if_true}
+use Rattle.liquid_syntax.specs.Tree.{Chain, Condition, Nodes, plain, raw, comment, output, assign, if_true}
 use Rattle.liquid_syntax.specs.Evaluation.{chain_value, truth_of}
-use Rattle.liquid_lib.specs.Runs.{Nothing, Run, evaluate, change, write, ◌>>=◌}
+use Rattle.liquid_lib.specs.Runs.{Nothing, Run, done, evaluate, change, write, ◌>>=◌}
 use Rattle.liquid_lib.specs.Effects.{assigned_to}
 use Rattle.liquid_lib.specs.Meaning.{Setting, node_meaning, nodes_meaning}
 
@@ -13,6 +13,14 @@ module _ (setting : Setting) (deeper : Nodes → Run Nothing) where
   pub plain_rule : (t : Text) → node_meaning setting deeper (plain t) ≡ write t
   unfolding node_meaning
   plain_rule t = refl
+
+  pub raw_rule : (t : Text) → node_meaning setting deeper (raw t) ≡ write t
+  unfolding node_meaning
+  raw_rule t = refl
+
+  pub comment_rule : node_meaning setting deeper comment ≡ done tt
+  unfolding node_meaning
+  comment_rule = refl
 
   pub output_rule : (chain : Chain) → node_meaning setting deeper (output chain) ≡ (evaluate (chain_value setting.answers chain) >>= (λ d. write (text_of d)))
   unfolding node_meaning

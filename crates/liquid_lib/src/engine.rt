@@ -36,6 +36,24 @@ pub(crate) fn run_text<W: CountedWrite>(
     out.push_text(alloc, text)
 }
 
+/// Writes the body of a `raw`.
+pub(crate) fn run_raw<W: CountedWrite>(
+    alloc: Global,
+    partials: &Partials,
+    depth: u32,
+    text: &str,
+    out: &mut Output<'_, W>,
+    state: &mut State,
+) -> Result<()>
+    ensures performs { Performs result (node_meant (setting_of partials.now) depth (tree.raw text.now))
+        (place_of W.contents W.failure_count out.old state.old)
+        (place_of W.contents W.failure_count out.new state.new) }
+    ensures same_writer { out.new.writer.ghost_name ≡ out.old.writer.ghost_name }
+    ensures kept { Keeps (node_names (tree.raw text.now)) (setting_of partials.now) state.old state.new }
+{
+    out.push_text(alloc, text)
+}
+
 /// Writes the text of a chain's value.
 pub(crate) fn run_output<W: CountedWrite>(
     alloc: Global,
@@ -81,7 +99,8 @@ fn next_after(nodes: &[Node], at: usize, to: usize) -> usize
     ensures { (n : tree.Node) (next : ℕ) → NodeAt nodes.now at n next → result ≡ next }
 {
     match &nodes[at] {
-        Node::Text(_) | Node::Output(_) | Node::Assign(_, _) => at + 1,
+        Node::Text(_) | Node::Output(_) | Node::Assign(_, _) | Node::Raw(_) | Node::Comment => at
+            + 1,
         Node::If(_, bodies) => bodies.last_end,
     }
 }
@@ -149,6 +168,8 @@ fn run_node<W: CountedWrite>(
             out,
             state,
         ),
+        Node::Raw(text) => run_raw(alloc, partials, depth, text.as_str(), out, state),
+        Node::Comment => Ok(()),
         Node::If(condition, bodies) => {
             run_if(
                 alloc, partials, depth, nodes, at, condition, *bodies, out, state,

@@ -1,14 +1,14 @@
 //! The language of the standard library.
 ghost use Rattle.std.specs.Prelude.{◌≡◌, IfOk, IfErr};
 ghost use Rattle.liquid_core.specs.Answer.{Gives};
-ghost use Rattle.liquid_core.specs.Maps.{listed};
+ghost use Rattle.liquid_core.specs.Maps.{insert, listed};
 ghost use Rattle.liquid_lib.specs.Standard.{IsStandard, with_filters};
 ghost use Rattle.liquid_syntax.specs.Languages.{kinds_of};
 
 use liquid_core::{ErrorKind, Result};
 use liquid_filters::{FilterKind, stdlib};
 use liquid_syntax::{BlockKind, Language, Registry, TagKind};
-use liquid_tags::stdlib::{AssignTag, IfBlock};
+use liquid_tags::stdlib::{AssignTag, CommentBlock, IfBlock, RawBlock};
 use liquid_tags::{BlockReflection, TagReflection};
 use std::alloc::Global;
 
@@ -71,17 +71,47 @@ pub fn language(alloc: Global) -> Result<Language>
 {
     let mut language = Language::new(alloc);
     let assign = AssignTag::new();
-    language.tags.register(
-        String::from_str(alloc, assign.tag())?,
+    register(
+        alloc,
+        &mut language.tags,
+        assign.tag(),
         TagKind::from(assign),
     )?;
+    let raw = RawBlock::new();
+    register(
+        alloc,
+        &mut language.blocks,
+        raw.start_tag(),
+        BlockKind::from(raw),
+    )?;
+    let comment = CommentBlock::new();
+    register(
+        alloc,
+        &mut language.blocks,
+        comment.start_tag(),
+        BlockKind::from(comment),
+    )?;
     let if_block = IfBlock::new();
-    language.blocks.register(
-        String::from_str(alloc, if_block.start_tag())?,
+    register(
+        alloc,
+        &mut language.blocks,
+        if_block.start_tag(),
         BlockKind::from(if_block),
     )?;
     register_filters(alloc, &mut language.filters, &STANDARD_FILTERS)?;
     Ok(language)
+}
+
+/// Registers a kind under a name.
+fn register<K: Copy + Drop>(
+    alloc: Global,
+    kinds: &mut Registry<K>,
+    name: &str,
+    kind: K,
+) -> Result<()>
+    ensures { Gives (λ _. listed (kinds_of kinds.new)) result (insert (listed (kinds_of kinds.old)) name.now kind) }
+{
+    kinds.register(String::from_str(alloc, name)?, kind)
 }
 
 /// Registers each filter under its own name.
@@ -93,8 +123,7 @@ fn register_filters(
     ensures { Gives (λ _. listed (kinds_of filters.new)) result (with_filters (listed (kinds_of filters.old)) kinds.now) }
 {
     for kind in kinds {
-        let name = String::from_str(alloc, kind.name())?;
-        filters.register(name, *kind)?;
+        register(alloc, filters, kind.name(), *kind)?;
     }
     Ok(())
 }

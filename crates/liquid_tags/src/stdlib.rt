@@ -3,5 +3,5 @@
 mod blocks;
 mod tags;
 
-pub use blocks::IfBlock;
+pub use blocks::{CommentBlock, IfBlock, RawBlock};
 pub use tags::AssignTag;

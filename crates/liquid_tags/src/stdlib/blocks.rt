@@ -1,5 +1,9 @@
 //! Blocks: tags with a body and an end.
 
+mod comment_block;
 mod if_block;
+mod raw_block;
 
+pub use comment_block::CommentBlock;
 pub use if_block::IfBlock;
+pub use raw_block::RawBlock;

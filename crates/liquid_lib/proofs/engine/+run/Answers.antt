@@ -12,6 +12,10 @@ use Rattle.liquid_lib.specs.Meaning.{node_meaning}
 use Rattle.liquid_lib.specs.Performs.{Performs, place_of}
 use Rattle.liquid_lib.proofs.Choices.{refused_performs}
 use Rattle.liquid_lib.proofs.Going.{leaf_performs, leaf_keeps, two, two_performs, two_keeps, going_fault, going_halt, going_node, going_on, going_end, going_past, kept_step}
+use Rattle.std.specs.Prelude.{Ok}
+use Rattle.liquid_lib.proofs.Joined.{by_rule, done_met}
+use Rattle.liquid_lib.proofs.Kept.{kept_same}
+use Rattle.liquid_lib.proofs.Rules.{comment_rule}
 use Rattle.liquid_lib.proofs.Interrupts.{interrupt_of, some_of, none_of}
 use Rattle.liquid_lib.proofs.engine.+run.Goals as goal
 
@@ -103,6 +107,28 @@ pub run_node-returns-in-Assign-clause-kept : goal.run_node-returns-in-Assign-cla
 run_node-returns-in-Assign-clause-kept g t c =
     leaf_keeps (setting_of c.args.partials.now) c.args.nodes.now c.args.at c.args.to c.index-nodes-at.result _ (tree.assign (string_bytes c.in-Assign.name) (chain_view c.in-Assign.chain)) c.args.state.now c.run_assign.new.state c.requires c.index-nodes-at.is c.in-Assign.is refl
     (subst (λ x. Keeps (node_names (tree.assign x (chain_view c.in-Assign.chain))) (setting_of c.args.partials.now) c.args.state.now c.run_assign.new.state) c.as_str-in-Assign.ensures.value c.run_assign.ensures.kept)
+
+pub run_node-returns-in-Raw-clause-performs : goal.run_node-returns-in-Raw-clause-performs
+run_node-returns-in-Raw-clause-performs g t c =
+    let place = place_of g.W.CountedWrite.contents g.W.CountedWrite.failure_count in
+    leaf_performs (setting_of c.args.partials.now) c.args.depth c.args.nodes.now c.args.at c.args.to c.index-nodes-at.result _ (tree.raw (string_bytes c.in-Raw.text)) c.run_raw.result (place c.args.out.now c.args.state.now) (place c.run_raw.new.out c.run_raw.new.state) c.requires c.index-nodes-at.is c.in-Raw.is refl
+    (subst (λ x. Performs c.run_raw.result (node_meant (setting_of c.args.partials.now) c.args.depth (tree.raw x)) (place c.args.out.now c.args.state.now) (place c.run_raw.new.out c.run_raw.new.state)) c.as_str-in-Raw.ensures.value c.run_raw.ensures.performs)
+
+pub run_node-returns-in-Raw-clause-kept : goal.run_node-returns-in-Raw-clause-kept
+run_node-returns-in-Raw-clause-kept g t c =
+    leaf_keeps (setting_of c.args.partials.now) c.args.nodes.now c.args.at c.args.to c.index-nodes-at.result _ (tree.raw (string_bytes c.in-Raw.text)) c.args.state.now c.run_raw.new.state c.requires c.index-nodes-at.is c.in-Raw.is refl
+    (subst (λ x. Keeps (node_names (tree.raw x)) (setting_of c.args.partials.now) c.args.state.now c.run_raw.new.state) c.as_str-in-Raw.ensures.value c.run_raw.ensures.kept)
+
+pub run_node-returns-in-Comment-clause-performs : goal.run_node-returns-in-Comment-clause-performs
+run_node-returns-in-Comment-clause-performs g t c =
+    let place = place_of g.W.CountedWrite.contents g.W.CountedWrite.failure_count in
+    leaf_performs (setting_of c.args.partials.now) c.args.depth c.args.nodes.now c.args.at c.args.to c.index-nodes-at.result _ tree.comment (Ok tt) (place c.args.out.now c.args.state.now) (place c.args.out.now c.args.state.now) c.requires c.index-nodes-at.is c.in-Comment.is refl
+    (by_rule (comment_rule _ _) (done_met tt (place c.args.out.now c.args.state.now)))
+
+pub run_node-returns-in-Comment-clause-kept : goal.run_node-returns-in-Comment-clause-kept
+run_node-returns-in-Comment-clause-kept g t c =
+    leaf_keeps (setting_of c.args.partials.now) c.args.nodes.now c.args.at c.args.to c.index-nodes-at.result _ tree.comment c.args.state.now c.args.state.now c.requires c.index-nodes-at.is c.in-Comment.is refl
+    (λ N names inside. kept_same N _ _ refl)
 
 pub run_node-run_if-requires : goal.run_node-run_if-requires
 run_node-run_if-requires g t c κs within =
