@@ -1,4 +1,6 @@
 pub mod Buffering
+pub mod Files
 pub mod Outcomes
+pub mod Read
 pub mod Words
 pub mod Written

@@ -1,6 +1,7 @@
 -- The program's status, and what it tells on standard error.
-use Rattle.std.specs.Prelude.{ℕ, List, [], ◌++◌, codes, string_bytes}
+use Rattle.std.specs.Prelude.{◌≡◌, ℕ, List, [], ◌++◌, codes, string_bytes}
 use Rattle.liquid_core.specs.Errors.{error_text}
+use Rattle.liquid_core.specs.declared.error.ErrorKind.TheVariants.{Memory}
 use Rattle.liquid_page.specs.declared.outcome.Outcome.{Outcome}
 use Rattle.liquid_page.specs.declared.outcome.Outcome.TheVariants.{Done, Usage, Unread, Fault}
 
@@ -15,3 +16,8 @@ told Done = []
 told (Unread file) = codes "error: Read: " ++ string_bytes file
 told (Fault e) = codes "error: " ++ error_text e
 told Usage = codes "usage: liquid_page TEMPLATE DATA [NAME=FILE ..]"
+
+-- memory ran out
+abbrev pub IsMemory : Outcome → Type 0
+IsMemory (Fault e) = e.kind ≡ Memory
+IsMemory _ = ⊥

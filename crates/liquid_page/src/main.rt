@@ -9,7 +9,7 @@ mod tests;
 mod words;
 
 use crate::outcome::Outcome;
-use crate::page::{Texts, page};
+use crate::page::{Texts, Unreadable, page};
 pub use liquid_site::{data_from_json, run};
 use std::alloc::AllocError;
 use std::process::ExitCode;
@@ -22,8 +22,12 @@ struct Files<'r> {
 }
 
 impl<'r> Texts for Files<'r> {
-    fn text_at(&mut self, path: &str) -> io::Result<String> {
-        fs::read_to_string(self.rt, path)
+    fn text_at(&mut self, path: &str) -> Result<String, Unreadable> {
+        match fs::read_to_string(self.rt, path) {
+            Ok(text) => Ok(text),
+            Err(refused) if refused.kind() == io::ErrorKind::OutOfMemory => Err(Unreadable::Memory),
+            Err(_) => Err(Unreadable::File),
+        }
     }
 }
 
@@ -37,14 +41,17 @@ fn main(rt: HostRuntime) -> ExitCode {
 }
 
 fn outcome_of(rt: &HostRuntime) -> Outcome {
-    match words_given(rt) {
-        Ok(words) => page(rt.alloc(), &words, &mut Files { rt }, io::writer(rt)),
-        Err(outcome) => outcome,
-    }
+    let words = match words_given(rt) {
+        Ok(words) => words,
+        Err(outcome) => return outcome,
+    };
+    let mut files = Files { rt };
+    let (_, outcome) = page(rt.alloc(), &words, &mut files, io::writer(rt));
+    outcome
 }
 
 /// The words behind the program's own. A word that isn't UTF-8 makes no call.
-fn words_given(rt: &HostRuntime) -> std::result::Result<Vec<String>, Outcome> {
+fn words_given(rt: &HostRuntime) -> Result<Vec<String>, Outcome> {
     let mut words: Vec<String> = Vec::new(rt.alloc());
     match env::args(rt) {
         Ok(all) => for word in all.skip(1) {

@@ -1,6 +1,7 @@
 //! How a call of the program ends.
 ghost use Rattle.std.specs.Prelude.{◌≡◌, Some};
-ghost use Rattle.liquid_page.specs.Outcomes.{status_of, told};
+ghost use Rattle.liquid_page.specs.Outcomes.{IsMemory, status_of, told};
+ghost use Rattle.liquid_page.specs.declared.outcome.Outcome.TheVariants.{Fault};
 
 use liquid_core::Error;
 use std::alloc::{AllocError, AllocFailed};
@@ -47,18 +48,24 @@ impl fmt::Display for Outcome {
 }
 
 impl From<Error> for Outcome {
+    ghost from_gives = { λ fault outcome. outcome ≡ Fault fault };
+
     fn from(fault: Error) -> Outcome {
         Outcome::Fault(fault)
     }
 }
 
 impl From<AllocError> for Outcome {
+    ghost from_gives = { λ _ outcome. IsMemory outcome };
+
     fn from(refused: AllocError) -> Outcome {
         Outcome::Fault(Error::from(refused))
     }
 }
 
 impl<T: Drop> From<AllocFailed<T>> for Outcome {
+    ghost from_gives = { λ _ outcome. IsMemory outcome };
+
     fn from(refused: AllocFailed<T>) -> Outcome {
         Outcome::Fault(Error::from(refused))
     }

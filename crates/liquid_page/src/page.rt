@@ -1,6 +1,9 @@
 //! From the words of a call to its page.
-ghost use Rattle.std.specs.Prelude.{◌≡◌, false};
+ghost use Rattle.std.specs.Prelude.{◌≡◌, [], None, Option, false, IfSome, map, string_bytes};
 ghost use Rattle.liquid_lib.specs.Performs.{is_refused};
+ghost use Rattle.liquid_page.specs.Files.{Files, Ends, Finds, sources_from, text_at, texts_at, texts_of};
+ghost use Rattle.liquid_page.specs.Read.{IsTextOf, read_view};
+ghost use Rattle.liquid_page.specs.Words.{call_view, lent};
 ghost use Rattle.liquid_page.specs.Written.{IsWritten};
 ghost use Rattle.liquid_site.specs.Page.{sources_of};
 
@@ -11,67 +14,120 @@ use liquid_core::{Error, ErrorKind, Result};
 use liquid_lib::Counted;
 use liquid_site::run;
 use std::alloc::{AllocError, Global};
-use std::io;
 use std::io::Write;
+
+/// Why a file has no text.
+#[derive(Clone, Copy, Debug, Drop)]
+pub enum Unreadable {
+    /// No memory was to be had.
+    Memory,
+    /// It can't be read, or isn't UTF-8.
+    File,
+}
 
 /// Where the texts of files come from.
 pub trait Texts {
-    /// The text of the file at a path. An error where it can't be read, or isn't UTF-8.
-    fn text_at(&mut self, path: &str) -> io::Result<String>;
+    // The texts of the files, where they are known.
+    ghost known: { Self → Option Files } = { λ _. None };
+
+    /// The text of the file at a path.
+    fn text_at(&mut self, path: &str) -> std::result::Result<String, Unreadable>
+        ensures text { IfSome (known self.old) (λ files. IsTextOf (files path.now) result) }
+        ensures same { known self.new ≡ known self.old };
 }
 
-/// Judges the words, then reads the files in order, and then writes the page.
+/// The texts that a call names.
+#[derive(Drop)]
+struct ReadTexts {
+    template: String,
+    data: String,
+    partials: Vec<(String, String)>,
+}
+
+/// Judges the words, then reads the files in order, and then writes the page. It gives the writer back.
 pub fn page<T: Texts, W: Write + Drop>(
     alloc: Global,
     words: &[String],
     texts: &mut T,
     writer: W,
-) -> Outcome {
-    match page_written(alloc, words, texts, writer) {
-        Ok(()) => Outcome::Done,
-        Err(outcome) => outcome,
+) -> (W, Outcome)
+    ensures page { IfSome (T.known texts.old) (λ files. Ends (texts_of files (map string_bytes words.now)) result.1 (W.contents writer) (W.contents result.0)) }
+{
+    match read_call(alloc, words, texts) {
+        Ok(read) => {
+            let (writer, answer) = write_page(
+                alloc,
+                &read.template,
+                &read.data,
+                &read.partials,
+                writer,
+            );
+            match answer {
+                Ok(()) => (writer, Outcome::Done),
+                Err(fault) => (writer, Outcome::Fault(fault)),
+            }
+        }
+        Err(outcome) => (writer, outcome),
     }
 }
 
-fn page_written<T: Texts, W: Write + Drop>(
+fn read_call<T: Texts>(
     alloc: Global,
     words: &[String],
     texts: &mut T,
-    writer: W,
-) -> std::result::Result<(), Outcome> {
-    let Some(call) = call_of(alloc, words)? else {
-        return Err(Outcome::Usage);
-    };
-    let Call {
+) -> std::result::Result<ReadTexts, Outcome>
+    ensures { IfSome (T.known texts.old) (λ files. Finds read_view (texts_of files (map string_bytes words.now)) result) }
+{
+    match call_of(alloc, words)? {
+        Some(call) => read_files(alloc, &call, texts),
+        None => Err(Outcome::Usage),
+    }
+}
+
+fn read_files<T: Texts>(
+    alloc: Global,
+    call: &Call<'_>,
+    texts: &mut T,
+) -> std::result::Result<ReadTexts, Outcome>
+    ensures { IfSome (T.known texts.old) (λ files. Finds read_view (texts_at files (call_view call.now)) result) }
+{
+    let template = text_of(alloc, call.template, texts)?;
+    let data = text_of(alloc, call.data, texts)?;
+    let partials = read_partials(alloc, &call.partials, texts)?;
+    Ok(ReadTexts {
         template,
         data,
         partials,
-    } = call;
-    let template = text_of(alloc, texts, template)?;
-    let data = text_of(alloc, texts, data)?;
-    let mut sources: Vec<(String, String)> = Vec::new(alloc);
-    for (name, path) in &partials {
-        let source = text_of(alloc, texts, path)?;
+    })
+}
+
+fn read_partials<T: Texts>(
+    alloc: Global,
+    partials: &[(&str, &str)],
+    texts: &mut T,
+) -> std::result::Result<Vec<(String, String)>, Outcome>
+    ensures { IfSome (T.known texts.old) (λ files. Finds (λ v. sources_of v.items) (sources_from files (map lent partials.now) []) result) }
+{
+    let mut sources = Vec::new(alloc);
+    for (name, path) in partials {
+        let source = text_of(alloc, path, texts)?;
         sources.push((String::from_str(alloc, name)?, source))?;
     }
-    let (_, answer) = write_page(alloc, &template, &data, &sources, writer);
-    answer?;
-    Ok(())
+    Ok(sources)
 }
 
 fn text_of<T: Texts>(
     alloc: Global,
-    texts: &mut T,
     path: &str,
-) -> std::result::Result<String, Outcome> {
+    texts: &mut T,
+) -> std::result::Result<String, Outcome>
+    ensures text { IfSome (T.known texts.old) (λ files. Finds string_bytes (text_at files path.now) result) }
+    ensures same { T.known texts.new ≡ T.known texts.old }
+{
     match texts.text_at(path) {
         Ok(text) => Ok(text),
-        Err(refused) => {
-            if refused.kind() == io::ErrorKind::OutOfMemory {
-                return Err(Outcome::from(AllocError));
-            }
-            Err(Outcome::Unread(String::from_str(alloc, path)?))
-        }
+        Err(Unreadable::Memory) => Err(Outcome::from(AllocError)),
+        Err(Unreadable::File) => Err(Outcome::Unread(String::from_str(alloc, path)?)),
     }
 }
 

@@ -355,11 +355,13 @@ fn by_render(rt: &impl Abort, alloc: Global, row: &Row) -> Result<()> {
         return Ok(());
     };
     let mut runtime = RuntimeBuilder::new(alloc).set_globals(data).build(alloc);
-    let answer = template.render(alloc, &mut runtime);
     let source = row.source;
-    assert!(rt; kind_of(&answer) == row.end, "the end of {source}");
-    if let Ok(text) = answer {
-        assert!(rt; text.as_str() == row.page, "the page of {source}");
+    match template.render(alloc, &mut runtime) {
+        Ok(text) => {
+            assert!(rt; row.end == None, "the end of {source}");
+            assert!(rt; text.as_str() == row.page, "the page of {source}");
+        }
+        Err(fault) => assert!(rt; row.end == Some(fault.kind), "the end of {source}"),
     }
     Ok(())
 }

@@ -1,10 +1,9 @@
 //! What the program does at its words and files, line by line: its status, what it tells and writes, and what it reads.
 use super::words;
-use crate::page::{Texts, page};
+use crate::page::{Texts, Unreadable, page};
 use crate::words::call_of;
 use liquid_core::Result;
 use std::alloc::Global;
-use std::io;
 use std::process::Abort;
 
 #[test]
@@ -46,15 +45,18 @@ struct Given {
 }
 
 impl Texts for Given {
-    fn text_at(&mut self, path: &str) -> io::Result<String> {
-        self.asked.push_str(path)?;
-        self.asked.push_str(" ")?;
-        for (name, text) in self.texts {
-            if *name == path {
-                return Ok(String::from_str(self.alloc, text)?);
+    fn text_at(&mut self, path: &str) -> std::result::Result<String, Unreadable> {
+        for part in [path, " "] {
+            if self.asked.push_str(part).is_err() {
+                return Err(Unreadable::Memory);
             }
         }
-        Err(io::Error::from(io::ErrorKind::NotFound))
+        for (name, text) in self.texts {
+            if *name == path {
+                return String::from_str(self.alloc, text).map_err(|_| Unreadable::Memory);
+            }
+        }
+        Err(Unreadable::File)
     }
 }
 
@@ -218,8 +220,8 @@ fn goes(rt: &impl Abort, alloc: Global, number: usize, line: &Line) -> Result<()
         texts: &TEXTS,
         asked: String::new(alloc),
     };
-    let mut written: Vec<u8> = Vec::new(alloc);
-    let outcome = page(alloc, &words(alloc, line.words)?, &mut texts, &mut written);
+    let given = words(alloc, line.words)?;
+    let (written, outcome) = page(alloc, &given, &mut texts, Vec::new(alloc));
     let told = outcome.to_string(alloc)?;
     assert_eq!(rt;
         outcome.status(),

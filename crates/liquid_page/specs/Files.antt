@@ -1,0 +1,56 @@
+-- What a call of the program does, over files whose texts are known.
+use Rattle.std.specs.Prelude.{◌≡◌, ℕ, List, [], ◌∷◌, ◌++◌, Option, Result, Ok, Err, MatchBool, ⊤, string_bytes}
+use Rattle.std.specs.Io.KnownBytes.{Keeps}
+use Rattle.std.specs.Option.{ok_or}
+use Rattle.liquid_core.specs.Texts.{Text}
+use Rattle.liquid_core.specs.Told.{is_refusal}
+use Rattle.liquid_core.specs.declared.error.ErrorKind.TheVariants.{Memory}
+use Rattle.liquid_page.specs.Words.{Named, NamedFiles, call_of}
+use Rattle.liquid_page.specs.Written.{IsWritten}
+use Rattle.liquid_page.specs.declared.outcome.Outcome.{Outcome}
+use Rattle.liquid_page.specs.declared.outcome.Outcome.TheVariants.{Done, Usage, Unread, Fault}
+use Rattle.liquid_site.specs.Page.{Sources, Texts}
+
+-- the text of the file at each path, where it can be read
+abbrev pub Files : Type 0
+Files = Text → Option Text
+
+-- why no page is begun
+pub data Stop : Type 0 where
+  no_call : Stop
+  unread : Text → Stop
+
+infixl 10 ◌>>=◌
+abbrev pub ◌>>=◌ : {A B : Type 0} → Result A Stop → (A → Result B Stop) → Result B Stop
+◌>>=◌ (Ok a) k = k a
+◌>>=◌ (Err stop) k = Err stop
+
+abbrev pub text_at : Files → Text → Result Text Stop
+text_at files path = ok_or (files path) (unread path)
+
+-- the texts of named files, in order, behind those that are read
+abbrev pub sources_from : Files → Named → Sources → Result Sources Stop
+sources_from files [] done = Ok done
+sources_from files (p ∷ ps) done = text_at files p.1 >>= λ t. sources_from files ps (done ++ (p.0, t) ∷ [])
+
+abbrev pub texts_at : Files → NamedFiles → Result Texts Stop
+texts_at files c = text_at files c.template >>= λ t. text_at files c.facts >>= λ d. sources_from files c.partials [] >>= λ ps. Ok (record { template = t; facts = d; partials = ps })
+
+-- the words are judged first, then the files are read, in their order
+abbrev pub texts_of : Files → List Text → Result Texts Stop
+texts_of files words = ok_or (call_of words) no_call >>= texts_at files
+
+-- what a step of reading answers, unless memory ran out
+abbrev pub Finds : {X A : Type 0} → (X → A) → Result A Stop → Result X Outcome → Type 0
+Finds view wanted (Ok x) = wanted ≡ Ok (view x)
+Finds view wanted (Err Done) = ⊥
+Finds view wanted (Err Usage) = wanted ≡ Err no_call
+Finds view wanted (Err (Unread file)) = wanted ≡ Err (unread (string_bytes file))
+Finds view wanted (Err (Fault e)) = e.kind ≡ Memory
+
+-- how a call ends by the texts that it is to read, unless memory ran out or the writer refused
+abbrev pub Ends : Result Texts Stop → Outcome → Option (List ℕ) → Option (List ℕ) → Type 0
+Ends wanted Done old new = (texts : Texts) × (wanted ≡ Ok texts) × IsWritten texts (Ok tt) old new
+Ends wanted Usage old new = (wanted ≡ Err no_call) × Keeps old new
+Ends wanted (Unread file) old new = (wanted ≡ Err (unread (string_bytes file))) × Keeps old new
+Ends wanted (Fault e) old new = MatchBool (is_refusal e.kind) ⊤ ((texts : Texts) × (wanted ≡ Ok texts) × IsWritten texts (Err e) old new)

@@ -1,0 +1,17 @@
+-- What reading a file answers, and the texts that were read.
+use Rattle.std.specs.Prelude.{◌≡◌, Option, Some, None, Result, Ok, Err, ⊤, String, string_bytes}
+use Rattle.std.specs.declared.alloc.Global.{Global}
+use Rattle.liquid_core.specs.Texts.{Text}
+use Rattle.liquid_site.specs.Page.{Texts, sources_of}
+use Rattle.liquid_page.specs.declared.page.ReadTexts.{ReadTexts}
+use Rattle.liquid_page.specs.declared.page.Unreadable.{Unreadable}
+use Rattle.liquid_page.specs.declared.page.Unreadable.TheVariants.{Memory, File}
+
+-- a file's text, or that it has none, unless memory ran out
+abbrev pub IsTextOf : Option Text → Result (String Global) Unreadable → Type 0
+IsTextOf wanted (Ok text) = wanted ≡ Some (string_bytes text)
+IsTextOf wanted (Err Memory) = ⊤
+IsTextOf wanted (Err File) = wanted ≡ None
+
+abbrev pub read_view : ReadTexts → Texts
+read_view r = record { template = string_bytes r.template; facts = string_bytes r.«data»; partials = sources_of r.partials.items }
