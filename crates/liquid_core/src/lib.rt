@@ -28,3 +28,4 @@ pub use interrupt::Interrupt;
 pub use object::{look_up, store};
 pub use state::State;
 pub use value::{Object, Value, copy_items};
+pub use whole::whole_of;

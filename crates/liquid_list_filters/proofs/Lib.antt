@@ -2,7 +2,6 @@ pub mod Decimals
 pub mod Divisions
 pub mod EachLaw
 pub mod Ends
-pub mod Faults
 pub mod Keys
 pub mod Ones
 pub mod Operations

@@ -1,18 +1,9 @@
 //! Whole numbers.
 ghost use Rattle.std.specs.Prelude.{◌≡◌, option_map};
-ghost use Rattle.liquid_core.specs.Whole.{whole_text};
 ghost use Rattle.liquid_source.specs.ValueReading.{number_at};
 
 use crate::scan::{number_goes_on, number_len};
-
-fn whole(text: &str) -> Option<i64>
-    ensures { result ≡ whole_text text.now }
-{
-    match text.parse::<i64>() {
-        Ok(n) => Some(n),
-        Err(_) => None,
-    }
-}
+use liquid_core::whole_of;
 
 /// A number: an optional sign and digits, within 64 bits. It isn't one where a letter or a fraction follows.
 #[tactic(auto, unfolding(crate::specs::ValueReading::number_at), using(crate::proofs::Cuts::number_cut))]
@@ -23,5 +14,5 @@ pub fn number(text: &str) -> Option<(i64, &str)>
     if number_goes_on(rest.as_bytes()) {
         return None;
     }
-    Some((whole(spelling)?, rest))
+    Some((whole_of(spelling)?, rest))
 }

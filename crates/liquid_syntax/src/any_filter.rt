@@ -5,11 +5,11 @@ use std::alloc::Global;
 
 /// A filter by which a stored chain is run.
 ///
-/// A chain asks of it what it asks of any `Filter` and no more. Filters that aren't among the 47 would be a further
-/// variant; there are none yet.
+/// A chain asks of it what it asks of any `Filter`, and no more. So a filter of another origin would be one more
+/// variant; today each is a `FilterKind`.
 #[derive(Clone, Copy, Drop)]
 pub enum AnyFilter {
-    /// One of the 47 filters.
+    /// One of the filters that exist.
     Kind(FilterKind),
 }
 
