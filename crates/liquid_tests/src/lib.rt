@@ -2,6 +2,10 @@
 #![tactic(auto)]
 
 #[cfg(test)]
+mod conditions;
+#[cfg(test)]
 mod pages;
 #[cfg(test)]
 mod refused;
+#[cfg(test)]
+mod rows;

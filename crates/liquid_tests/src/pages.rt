@@ -1,18 +1,6 @@
 //! Pages of sources and data, and how they end.
+use crate::rows::{Row, by_parts, by_run};
 use liquid_core::{ErrorKind, Result};
-use liquid_lib::{Counted, Renderable, RuntimeBuilder, language};
-use liquid_site::{data_from_json, run};
-use liquid_syntax::parse;
-use std::alloc::Global;
-use std::process::Abort;
-
-/// A source with its data, the page that is written, and the kind of the fault that ends it.
-struct Row {
-    source: &'static str,
-    data: &'static str,
-    page: &'static str,
-    end: Option<ErrorKind>,
-}
 
 const ROWS: [Row; 50] = [
     Row {
@@ -317,43 +305,6 @@ const ROWS: [Row; 50] = [
         end: None,
     },
 ];
-
-fn kind_of<T: Drop>(answer: &Result<T>) -> Option<ErrorKind> {
-    match answer {
-        Ok(_) => None,
-        Err(fault) => Some(fault.kind),
-    }
-}
-
-fn by_run(rt: &impl Abort, alloc: Global, row: &Row) {
-    let mut counted = Counted::new(Vec::new(alloc));
-    let answer = run(alloc, row.source, row.data, &[], &mut counted);
-    let written: Vec<u8> = counted.into_inner();
-    let source = row.source;
-    assert!(rt;
-        written.as_slice() == row.page.as_bytes(),
-        "the page of {source}"
-    );
-    assert!(rt; kind_of(&answer) == row.end, "the end of {source}");
-}
-
-fn by_parts(rt: &impl Abort, alloc: Global, row: &Row) -> Result<()> {
-    let template = parse(alloc, row.source, &language(alloc)?)?;
-    let Ok(data) = data_from_json(alloc, row.data) else {
-        return Ok(());
-    };
-    let mut runtime = RuntimeBuilder::new(alloc).set_globals(data).build(alloc);
-    let mut counted = Counted::new(Vec::new(alloc));
-    let answer = template.render_to(alloc, &mut counted, &mut runtime);
-    let written: Vec<u8> = counted.into_inner();
-    let source = row.source;
-    assert!(rt;
-        written.as_slice() == row.page.as_bytes(),
-        "the page of {source}"
-    );
-    assert!(rt; kind_of(&answer) == row.end, "the end of {source}");
-    Ok(())
-}
 
 #[test]
 fn pages_by_run(rt: HostRuntime) {
