@@ -4,9 +4,13 @@
 #[cfg(test)]
 mod answers;
 #[cfg(test)]
+mod conditions;
+#[cfg(test)]
 mod pages;
 #[cfg(test)]
 mod refused;
+#[cfg(test)]
+mod rows;
 #[cfg(test)]
 mod texts;
 #[cfg(test)]

@@ -1,21 +1,8 @@
 //! Pages of sources and data, and how they end.
-use crate::answers::kind_of;
+use crate::rows::{Row, by_parts, by_render, by_run};
 use liquid_core::{ErrorKind, Result};
-use liquid_lib::{Counted, Renderable, RuntimeBuilder, language};
-use liquid_site::{data_from_json, run};
-use liquid_syntax::parse;
-use std::alloc::Global;
-use std::process::Abort;
 
-/// A source with its data, the page that is written, and the kind of the fault that ends it.
-struct Row {
-    source: &'static str,
-    data: &'static str,
-    page: &'static str,
-    end: Option<ErrorKind>,
-}
-
-const ROWS: [Row; 50] = [
+const ROWS: [Row; 53] = [
     Row {
         source: "",
         data: "{}",
@@ -310,6 +297,24 @@ const ROWS: [Row; 50] = [
         page: "}} a %} b",
         end: None,
     },
+    Row {
+        source: "a{% comment %}{% if %}{% raw %}{% endcomment %}{% endraw %}{% endcomment %}b",
+        data: "{}",
+        page: "ab",
+        end: None,
+    },
+    Row {
+        source: "{%raw%}hello{%if%}world{%endraw%}",
+        data: "{}",
+        page: "hello{%if%}world",
+        end: None,
+    },
+    Row {
+        source: "a {%- raw -%} {{ b }} {% endraw -%} c",
+        data: "{}",
+        page: "a{{ b }} c",
+        end: None,
+    },
     // the mail of the examples
     Row {
         source: "{%- assign greeting = customer.name | default: 'customer' | capitalize -%}\nDear {{ greeting }},\n\nthank you for your order {{ order.number }} of {{ order.lines | size }} things:\n{{ order.lines | map: 'title' | sort_natural | join: ', ' }}.\n\nIt is on its way to {{ customer.address | strip | replace: ', ', '\n' | escape }}.\n\n{{ shop.name | upcase }}\n{{ shop.link }}?order={{ order.number | url_encode }}\n",
@@ -318,53 +323,6 @@ const ROWS: [Row; 50] = [
         end: None,
     },
 ];
-
-fn by_run(rt: &impl Abort, alloc: Global, row: &Row) {
-    let mut counted = Counted::new(Vec::new(alloc));
-    let answer = run(alloc, row.source, row.data, &[], &mut counted);
-    let written: Vec<u8> = counted.into_inner();
-    let source = row.source;
-    assert!(rt;
-        written.as_slice() == row.page.as_bytes(),
-        "the page of {source}"
-    );
-    assert!(rt; kind_of(&answer) == row.end, "the end of {source}");
-}
-
-fn by_parts(rt: &impl Abort, alloc: Global, row: &Row) -> Result<()> {
-    let template = parse(alloc, row.source, &language(alloc)?)?;
-    let Ok(data) = data_from_json(alloc, row.data) else {
-        return Ok(());
-    };
-    let mut runtime = RuntimeBuilder::new(alloc).set_globals(data).build(alloc);
-    let mut counted = Counted::new(Vec::new(alloc));
-    let answer = template.render_to(alloc, &mut counted, &mut runtime);
-    let written: Vec<u8> = counted.into_inner();
-    let source = row.source;
-    assert!(rt;
-        written.as_slice() == row.page.as_bytes(),
-        "the page of {source}"
-    );
-    assert!(rt; kind_of(&answer) == row.end, "the end of {source}");
-    Ok(())
-}
-
-fn by_render(rt: &impl Abort, alloc: Global, row: &Row) -> Result<()> {
-    let template = parse(alloc, row.source, &language(alloc)?)?;
-    let Ok(data) = data_from_json(alloc, row.data) else {
-        return Ok(());
-    };
-    let mut runtime = RuntimeBuilder::new(alloc).set_globals(data).build(alloc);
-    let source = row.source;
-    match template.render(alloc, &mut runtime) {
-        Ok(text) => {
-            assert!(rt; row.end == None, "the end of {source}");
-            assert!(rt; text.as_str() == row.page, "the page of {source}");
-        }
-        Err(fault) => assert!(rt; row.end == Some(fault.kind), "the end of {source}"),
-    }
-    Ok(())
-}
 
 #[test]
 fn pages_by_run(rt: HostRuntime) {

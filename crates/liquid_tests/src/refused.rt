@@ -5,7 +5,7 @@ use liquid_lib::{Counted, language};
 use liquid_site::run;
 use liquid_syntax::parse;
 
-const ROWS: [(&str, ErrorKind); 21] = [
+const ROWS: [(&str, ErrorKind); 50] = [
     ("{{ 1.5 }}", ErrorKind::FloatLiteral),
     ("a{{ x", ErrorKind::Unclosed),
     ("{% nosuch %}", ErrorKind::UnknownTag),
@@ -27,6 +27,47 @@ const ROWS: [(&str, ErrorKind); 21] = [
     ("a{{ b", ErrorKind::Unclosed),
     ("a{% if x %", ErrorKind::BadItem),
     ("a{{ b }", ErrorKind::BadItem),
+    ("a{% if ", ErrorKind::Unclosed),
+    ("a{% if x ", ErrorKind::Unclosed),
+    ("a{% if x %}", ErrorKind::MissingEnd),
+    ("a{% if x %}b", ErrorKind::MissingEnd),
+    ("a{% if x %}{", ErrorKind::MissingEnd),
+    ("a{% if x %}{{", ErrorKind::Unclosed),
+    ("a{% if x %}{{ b }", ErrorKind::BadItem),
+    ("a{% if x %}{{ b }}", ErrorKind::MissingEnd),
+    ("a{% if x %}{{ b }}{%", ErrorKind::Unclosed),
+    ("a{% if x %}{{ b }}{% endif", ErrorKind::Unclosed),
+    ("a{% if x %}{{ b }}{% endif %", ErrorKind::BadItem),
+    (
+        "{% if x %}a{% elsif y %}b{% else %}c",
+        ErrorKind::MissingEnd,
+    ),
+    (
+        "{% if x %}a{% else %}b{% elsif y %}c{% endif %}",
+        ErrorKind::UnknownTag,
+    ),
+    (
+        "{% if x %}a{% else %}b{% else %}c{% endif %}",
+        ErrorKind::UnknownTag,
+    ),
+    ("{% endif %}", ErrorKind::UnknownTag),
+    ("{% elsif x %}", ErrorKind::UnknownTag),
+    ("{% else %}", ErrorKind::UnknownTag),
+    (
+        "{% if x %}{% endunless %}{% endif %}",
+        ErrorKind::UnknownTag,
+    ),
+    ("{% if true %}a{% endif x %}", ErrorKind::Expected),
+    ("{% if %}a{% endif %}", ErrorKind::Expected),
+    ("{% if x %}a{% elsif %}b{% endif %}", ErrorKind::Expected),
+    ("{% if x y %}a{% endif %}", ErrorKind::Expected),
+    ("{% if x == %}a{% endif %}", ErrorKind::Expected),
+    ("{% if == x %}a{% endif %}", ErrorKind::Expected),
+    ("{% if x and %}a{% endif %}", ErrorKind::Expected),
+    ("{% if or x %}a{% endif %}", ErrorKind::Expected),
+    ("{% if x == y == z %}a{% endif %}", ErrorKind::Expected),
+    ("{% if x, y %}a{% endif %}", ErrorKind::Expected),
+    ("{% if (1..2) %}a{% endif %}", ErrorKind::Expected),
 ];
 
 #[test]
@@ -61,7 +102,8 @@ fn refused_sources_write_nothing(rt: HostRuntime) {
 fn a_source_cut_anywhere_gives_an_answer(rt: HostRuntime) -> Result<()> {
     let alloc = rt.alloc();
     let language = language(alloc)?;
-    let source = "é{%- assign ä_ = a[\"ü\"].b | join: '}}', 1 -%} {{- -7 | first -}}x";
+    let source =
+        "é{%- assign ä_ = a[\"ü\"].b | join: '}}', 1 -%} {{- -7 | first -}}x{% if a and b contains '%}' -%} y {%- elsif c <> nil or d %}z{% else e %}{{ f }}{% endif %}";
     for (end, _) in source.char_indices() {
         let front = source.get(..end).unwrap_or("");
         if let Err(fault) = parse(alloc, front, &language) {

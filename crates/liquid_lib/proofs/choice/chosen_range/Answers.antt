@@ -20,8 +20,11 @@ overflow_add-result c =
 
 pub returns-then-branch-clause-inside : goal.returns-then-branch-clause-inside
 returns-then-branch-clause-inside c =
+    let (b, here) = c.requires.body in
     let (d, after) = c.requires.otherwise in
-    (omega arith, Stands-le (flats c.args.nodes.now) c.args.bodies.first_end d c.args.bodies.last_end after)
+    let body : c.args.at + 1 ≤ c.args.bodies.first_end = Stands-le (flats c.args.nodes.now) (c.args.at + 1) b c.args.bodies.first_end here in
+    let otherwise : c.args.bodies.first_end ≤ c.args.bodies.last_end = Stands-le (flats c.args.nodes.now) c.args.bodies.first_end d c.args.bodies.last_end after in
+    (omega arith, omega arith)
 
 pub returns-then-branch-clause-chosen : goal.returns-then-branch-clause-chosen
 returns-then-branch-clause-chosen c b d here after =
