@@ -29,8 +29,8 @@ pub mod Nesting
 pub mod NestingLaw
 pub mod OpenBlocks
 pub mod Parsing
-pub mod Round
 pub mod Roles
+pub mod Round
 pub mod Templates
 pub mod Tree
 pub mod WrittenConditions

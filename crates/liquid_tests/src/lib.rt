@@ -14,4 +14,6 @@ mod rows;
 #[cfg(test)]
 mod texts;
 #[cfg(test)]
+mod verbatim;
+#[cfg(test)]
 mod writers;

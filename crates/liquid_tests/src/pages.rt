@@ -2,7 +2,7 @@
 use crate::rows::{Row, by_parts, by_render, by_run};
 use liquid_core::{ErrorKind, Result};
 
-const ROWS: [Row; 53] = [
+const ROWS: [Row; 50] = [
     Row {
         source: "",
         data: "{}",
@@ -295,24 +295,6 @@ const ROWS: [Row; 53] = [
         source: "}} a %} b",
         data: "{}",
         page: "}} a %} b",
-        end: None,
-    },
-    Row {
-        source: "a{% comment %}{% if %}{% raw %}{% endcomment %}{% endraw %}{% endcomment %}b",
-        data: "{}",
-        page: "ab",
-        end: None,
-    },
-    Row {
-        source: "{%raw%}hello{%if%}world{%endraw%}",
-        data: "{}",
-        page: "hello{%if%}world",
-        end: None,
-    },
-    Row {
-        source: "a {%- raw -%} {{ b }} {% endraw -%} c",
-        data: "{}",
-        page: "a{{ b }} c",
         end: None,
     },
     // the mail of the examples
