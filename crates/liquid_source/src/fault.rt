@@ -130,12 +130,7 @@ fn out_of_memory() -> Error
     }
 }
 
-fn message(
-    alloc: Global,
-    source: &str,
-    fault: Fault,
-    more: &str,
-) -> Result<String, AllocError> {
+fn message(alloc: Global, source: &str, fault: Fault, more: &str) -> Result<String, AllocError> {
     let (line, column) = place(source, fault.left);
     let wanted = fault.wanted;
     let found = found(source, fault.left);
@@ -144,7 +139,9 @@ fn message(
             "line {line}, column {column}: the source ends where {wanted} is wanted{more}"
         );
     }
-    format!(in alloc; "line {line}, column {column}: found `{found}` where {wanted} is wanted{more}")
+    format!(in alloc;
+        "line {line}, column {column}: found `{found}` where {wanted} is wanted{more}"
+    )
 }
 
 /// The line and the column, in characters and each from 1, of the place with so many bytes left.
