@@ -70,31 +70,18 @@ pub fn language(alloc: Global) -> Result<Language>
     ensures memory { IfErr result (λ e. e.kind ≡ ErrorKind.Memory) }
 {
     let mut language = Language::new(alloc);
+    let tags = &mut language.tags;
     let assign = AssignTag::new();
-    register(
-        alloc,
-        &mut language.tags,
-        assign.tag(),
-        TagKind::from(assign),
-    )?;
+    register(alloc, tags, assign.tag(), TagKind::from(assign))?;
+    let blocks = &mut language.blocks;
     let raw = RawBlock::new();
-    register(
-        alloc,
-        &mut language.blocks,
-        raw.start_tag(),
-        BlockKind::from(raw),
-    )?;
+    register(alloc, blocks, raw.start_tag(), BlockKind::from(raw))?;
     let comment = CommentBlock::new();
-    register(
-        alloc,
-        &mut language.blocks,
-        comment.start_tag(),
-        BlockKind::from(comment),
-    )?;
+    register(alloc, blocks, comment.start_tag(), BlockKind::from(comment))?;
     let if_block = IfBlock::new();
     register(
         alloc,
-        &mut language.blocks,
+        blocks,
         if_block.start_tag(),
         BlockKind::from(if_block),
     )?;
