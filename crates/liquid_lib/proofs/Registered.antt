@@ -1,5 +1,5 @@
 -- Filters that are registered one after another, each at its own name.
-use Rattle.std.proofs.Common.{◌≡◌, ◌⊎◌, Bool, true, false, cond, T, List, [], ◌∷◌, map, Some, None, All, Contains, IsSome, IsSomeAnd, inl, inr, refl, sym, ap, subst, ◌∙◌, arith}
+use Rattle.std.proofs.Common.{◌≡◌, ◌⊎◌, Bool, true, false, cond, T, List, [], ◌∷◌, map, Some, Contains, IsSome, IsSomeAnd, inl, inr, refl, sym, subst, arith}
 use Rattle.std.proofs.lemmas.List.Elements.{All-from_recursion, All-map, Contains-append_right, Contains-get_or}
 use Rattle.std.specs.Cmp.Lexicographic.{bytes_decides}
 use Rattle.std.specs.List.{AllByRecursion}

@@ -1,11 +1,10 @@
 -- What is known where the texts of a page are read, and where they are not.
-use Rattle.std.proofs.Common.{◌≡◌, ℕ, ◌≤◌, List, [], ◌∷◌, Bool, true, false, MatchBool, Option, Some, None, Ok, Err, Result, IsErrAnd, inl, inr, refl, sym, ap, arith, append-nil}
-use Rattle.std.specs.Prelude.{⊤, ◌⊎◌, String}
-use Rattle.std.specs.declared.alloc.Global.{Global}
+use Rattle.std.proofs.Common.{◌≡◌, ℕ, ◌≤◌, List, [], Bool, true, false, MatchBool, Option, Some, None, Ok, Err, Result, inl, inr, refl, sym, arith, append-nil}
+use Rattle.std.specs.Prelude.{⊤, ◌⊎◌}
 use Rattle.std.specs.Io.KnownBytes.{Appends, Keeps}
 use Rattle.liquid_core.specs.Answer.{Faulted}
 use Rattle.liquid_core.specs.Data.{Pairs}
-use Rattle.liquid_core.specs.Told.{is_memory, is_refusal, number_of}
+use Rattle.liquid_core.specs.Told.{is_memory, is_refusal}
 use Rattle.liquid_core.specs.declared.error.Error.{Error}
 use Rattle.liquid_core.specs.declared.error.ErrorKind.{ErrorKind}
 use Rattle.liquid_core.specs.declared.error.ErrorKind.TheVariants.{Memory, Write}
@@ -16,7 +15,7 @@ use Rattle.liquid_lib.specs.Added.{AppendsPart}
 use Rattle.liquid_lib.specs.Performs.{answer_of, is_refused, unit}
 use Rattle.liquid_lib.specs.Standard.{IsStandard}
 use Rattle.liquid_site.specs.Json.{data_of}
-use Rattle.liquid_site.specs.Page.{Texts, Sources, HasBadPartial, Read, IsRead, Refused, no_template, no_facts, bad_partial, IsPage, page, no_page, page_outcome}
+use Rattle.liquid_site.specs.Page.{Texts, Sources, HasBadPartial, Read, IsRead, Refused, no_template, no_facts, bad_partial, page, no_page, page_outcome}
 use Rattle.liquid_site.specs.Shown.{Reads, ReadsPartials, Shows, RanOut}
 
 -- memory ran out, or else

@@ -1,5 +1,5 @@
 -- What reading the texts of a page answers, and what showing the page does.
-use Rattle.std.specs.Prelude.{◌≡◌, ℕ, ◌⊎◌, List, false, MatchBool, ⊤, IsErrAnd, Result, Ok, Err, Option}
+use Rattle.std.specs.Prelude.{◌≡◌, ℕ, List, false, MatchBool, ⊤, IsErrAnd, Result, Ok, Err, Option}
 use Rattle.std.specs.Io.KnownBytes.{Appends, Keeps}
 use Rattle.liquid_core.specs.Texts.{Text}
 use Rattle.liquid_core.specs.Told.{is_memory, is_refusal}
@@ -14,7 +14,6 @@ use Rattle.liquid_syntax.specs.declared.partials.Partials.{Partials}
 use Rattle.liquid_lib.specs.Added.{AppendsPart}
 use Rattle.liquid_lib.specs.Performs.{answer_of, is_refused, unit}
 use Rattle.liquid_lib.specs.Runs.{Nothing}
-use Rattle.liquid_lib.specs.Standard.{IsStandard}
 use Rattle.liquid_site.specs.Page.{Sources, Texts, Trees, ArePartials, HasBadPartial, Read, IsRead, Refused, IsPage}
 use Rattle.liquid_site.specs.declared.page.ReadTexts.{ReadTexts}
 
