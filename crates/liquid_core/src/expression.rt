@@ -1,7 +1,8 @@
 //! Expressions: literals, and variables with their steps.
-ghost use Rattle.std.specs.Prelude.{◌≡◌, option_map, map, IsOk};
+ghost use Rattle.std.specs.Prelude.{◌≡◌, option_map, map, IsOk, IfSome};
 ghost use Rattle.liquid_core.specs.Answer.{Answers, Gives, TakesNoMemory};
 ghost use Rattle.liquid_core.specs.Cow.{cow_view};
+ghost use Rattle.liquid_core.specs.Errors.{HasMessageUnlessMemory, without_value_message};
 ghost use Rattle.liquid_core.specs.Expressions.{value_of, required};
 ghost use Rattle.liquid_core.specs.ExpressionView.{expression_view, variable_view, steps_view};
 ghost use Rattle.liquid_core.specs.States.{environment_of};
@@ -106,7 +107,8 @@ impl Variable {
 
 /// The fault of an expression or a variable that has no value.
 fn without_value<D: Display>(alloc: Global, written: &D) -> Error
-    ensures { Told UnknownVariable result.kind }
+    ensures told { Told UnknownVariable result.kind }
+    ensures message { IfSome (D.output written.now) (λ form. HasMessageUnlessMemory (without_value_message form) result) }
 {
     Error::formatted(
         alloc,
