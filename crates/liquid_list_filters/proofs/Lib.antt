@@ -11,3 +11,4 @@ pub mod Roundings
 pub mod Rows
 pub mod Sorts
 pub mod SortsByKey
+pub mod Standing

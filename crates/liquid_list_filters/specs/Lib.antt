@@ -15,3 +15,4 @@ pub mod Rows
 pub mod Sequences
 pub mod Sorting
 pub mod Sorts
+pub mod Stands
