@@ -1,16 +1,10 @@
 pub mod Arguments
-pub mod Decimals
-pub mod Division
 pub mod Ends
 pub mod Joined
 pub mod Keeping
 pub mod Keyed
 pub mod Laws
-pub mod NumberLaws
-pub mod Numbers
 pub mod Places
-pub mod Rounding
-pub mod RoundingLaws
 pub mod Rows
 pub mod Sequences
 pub mod Sorting
