@@ -6,8 +6,8 @@ use Rattle.liquid_list_filters.specs.Arguments.{Answer}
 use Rattle.liquid_list_filters.specs.Ends.{first_answer, last_answer}
 use Rattle.liquid_list_filters.specs.Joined.{join_answer}
 use Rattle.liquid_list_filters.specs.Keeping.{compact_answer, map_answer, uniq_answer, where_answer}
-use Rattle.liquid_list_filters.specs.Numbers.{abs, at_least, at_most, divided_by, minus, modulo, of_none, of_one, plus, times}
-use Rattle.liquid_list_filters.specs.Rounding.{round, rounded}
+use Rattle.liquid_number_filters.specs.Numbers.{abs, at_least, at_most, divided_by, minus, modulo, of_none, of_one, plus, times}
+use Rattle.liquid_number_filters.specs.Rounding.{round, rounded}
 use Rattle.liquid_list_filters.specs.Rows.{concat_answer, reverse_answer}
 use Rattle.liquid_list_filters.specs.Sorting.{sort_answer, sort_natural_answer}
 use Rattle.liquid_text_filters.specs.Case.{capitalize_answer, downcase_answer, upcase_answer}
@@ -22,7 +22,7 @@ use Rattle.liquid_text_filters.specs.Strip.{lstrip_answer, rstrip_answer, strip_
 use Rattle.liquid_text_filters.specs.Tags.{strip_html_answer}
 use Rattle.liquid_text_filters.specs.Truncate.{truncate_answer, truncatewords_answer}
 use Rattle.liquid_text_filters.specs.Urls.{url_decode_answer, url_encode_answer}
-use Rattle.liquid_list_filters.specs.declared.stdlib.filters.math.decimal.Rounding.TheVariants.{Up, Down}
+use Rattle.liquid_number_filters.specs.declared.stdlib.filters.math.decimal.Rounding.TheVariants.{Up, Down}
 use Rattle.liquid_filters.specs.declared.kind.FilterKind.{FilterKind}
 use Rattle.liquid_filters.specs.declared.kind.FilterKind.TheVariants.{Join, Sort, SortNatural, Where, Uniq, Reverse, Map, Compact, Concat, First, Last, Abs, AtLeast, AtMost, Plus, Minus, Times, DividedBy, Modulo, Round, Ceil, Floor, Size, Default, Slice, Split, Replace, ReplaceFirst, Remove, RemoveFirst, Append, Prepend, Strip, Lstrip, Rstrip, StripNewlines, Downcase, Upcase, Capitalize, Truncate, TruncateWords, Escape, EscapeOnce, StripHtml, NewlineToBr, UrlEncode, UrlDecode}
 

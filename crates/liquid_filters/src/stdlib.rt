@@ -1,7 +1,9 @@
 //! The standard set of filters.
 pub use liquid_list_filters::stdlib::{
-    Abs, AtLeast, AtMost, Ceil, Compact, Concat, DividedBy, First, Floor, Join, Last, Map, Minus,
-    Modulo, Plus, Reverse, Round, Sort, SortNatural, Times, Uniq, Where,
+    Compact, Concat, First, Join, Last, Map, Reverse, Sort, SortNatural, Uniq, Where,
+};
+pub use liquid_number_filters::stdlib::{
+    Abs, AtLeast, AtMost, Ceil, DividedBy, Floor, Minus, Modulo, Plus, Round, Times,
 };
 pub use liquid_text_filters::stdlib::{
     Append, Capitalize, Default, Downcase, Escape, EscapeOnce, Lstrip, NewlineToBr, Prepend,

@@ -1,13 +1,9 @@
-pub mod Decimals
-pub mod Divisions
 pub mod EachLaw
 pub mod Ends
 pub mod Keys
 pub mod Ones
-pub mod Operations
 pub mod Reversals
-pub mod RoundingRelation
-pub mod Roundings
 pub mod Rows
 pub mod Sorts
 pub mod SortsByKey
+pub mod Standing

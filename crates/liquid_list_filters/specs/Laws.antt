@@ -29,10 +29,11 @@ OfList R _ a = a ≡ Err InvalidInput
 abbrev pub OfMaps : List Datum → (Answer → Type 0) → (Answer → Type 0) → Answer → Type 0
 OfMaps ds R S a = MatchBool (all_maps ds) (R a) (S a)
 
+abbrev pub Joins : Datum → List Datum → Answer → Type 0
+Joins d args = OfList (λ ds a. (s : Text) × (a ≡ Ok (text s)) × IsJoined (text_or (codes " ") args) (map text_of ds) s) d
+
 abbrev pub JoinIsOne : Type 0
-JoinIsOne = (d : Datum) (args : List Datum) → IsTheOne
-    (OfList (λ ds a. (s : Text) × (a ≡ Ok (text s)) × IsJoined (text_or (codes " ") args) (map text_of ds) s) d)
-    (join_answer d args)
+JoinIsOne = (d : Datum) (args : List Datum) → IsTheOne (Joins d args) (join_answer d args)
 
 -- ---- sorts
 abbrev pub Sorts : (Option Text → Datum → Key) → Datum → List Datum → Answer → Type 0
@@ -77,23 +78,35 @@ Wheres name target d a = OfList (Chooses name target) d a
 abbrev pub WhereIsOne : Type 0
 WhereIsOne = (d name : Datum) (args : List Datum) → IsTheOne (Wheres (text_of name) (first_of args) d) (where_answer d (name ∷ args))
 
+abbrev pub Maps : Text → Datum → Answer → Type 0
+Maps name d = OfList (λ ds. Lists (KeepsValues (property name) ds)) d
+
 abbrev pub MapIsOne : Type 0
-MapIsOne = (d name : Datum) (args : List Datum) → IsTheOne (OfList (λ ds. Lists (KeepsValues (property (text_of name)) ds)) d) (map_answer d (name ∷ args))
+MapIsOne = (d name : Datum) (args : List Datum) → IsTheOne (Maps (text_of name) d) (map_answer d (name ∷ args))
+
+abbrev pub Uniqs : Datum → Answer → Type 0
+Uniqs d = OfList (λ ds. Lists (KeepsFirsts [] ds)) d
 
 abbrev pub UniqIsOne : Type 0
-UniqIsOne = (d : Datum) (args : List Datum) → IsTheOne (OfList (λ ds. Lists (KeepsFirsts [] ds)) d) (uniq_answer d args)
+UniqIsOne = (d : Datum) (args : List Datum) → IsTheOne (Uniqs d) (uniq_answer d args)
 
 -- ---- rows and ends
+abbrev pub Reverses : Datum → Answer → Type 0
+Reverses d = OfList (λ ds. Lists (IsReversed ds)) d
+
 abbrev pub ReverseIsOne : Type 0
-ReverseIsOne = (d : Datum) (args : List Datum) → IsTheOne (OfList (λ ds. Lists (IsReversed ds)) d) (reverse_answer d args)
+ReverseIsOne = (d : Datum) (args : List Datum) → IsTheOne (Reverses d) (reverse_answer d args)
 
 -- the input is looked at before the argument
 abbrev pub Follows : Datum → List Datum → Answer → Type 0
 Follows (array es) ds a = Lists (IsFollowed ds (list_of es)) a
 Follows _ ds a = a ≡ Err InvalidArgument
 
+abbrev pub Concats : Datum → Datum → Answer → Type 0
+Concats e d = OfList (Follows e) d
+
 abbrev pub ConcatIsOne : Type 0
-ConcatIsOne = (d e : Datum) (args : List Datum) → IsTheOne (OfList (Follows e) d) (concat_answer d (e ∷ args))
+ConcatIsOne = (d e : Datum) (args : List Datum) → IsTheOne (Concats e d) (concat_answer d (e ∷ args))
 
 -- an end of a list, or of the characters of a scalar's text
 abbrev pub OfEnds : (List Datum → Option Datum → Type 0) → (List ℕ → Option ℕ → Type 0) → Datum → Answer → Type 0

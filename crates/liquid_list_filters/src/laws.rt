@@ -3,8 +3,6 @@
 //! `NAME_is_one` says what the filter's answer is without the filter's own steps, and that nothing else is.
 ghost use Rattle.liquid_list_filters.specs.Laws.{JoinIsOne, SortIsOne, SortNaturalIsOne, SortTwiceIsOnce, SortNaturalTwiceIsOnce, CompactIsOne, WhereIsOne, MapIsOne, UniqIsOne, ReverseIsOne, ConcatIsOne, FirstIsOne, LastIsOne};
 
-pub mod numbers;
-
 /// `join`: the texts in a row, the separator between each and the next.
 pub fn join_is_one()
     ensures { JoinIsOne }

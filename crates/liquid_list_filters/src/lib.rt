@@ -1,4 +1,4 @@
-//! Filters over lists and numbers, and the readers of their arguments.
+//! Filters over lists, and the readers of arguments.
 #![tactic(auto)]
 
 mod argument;

@@ -1,2 +1,1 @@
 pub mod array;
-pub mod math;

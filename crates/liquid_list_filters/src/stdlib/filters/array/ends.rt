@@ -1,8 +1,11 @@
 //! The filters that take an end of a list or a text.
-ghost use Rattle.std.specs.Prelude.{◌≡◌, ◌++◌, ◌∷◌, [], MatchOption, map, nat_eq, option_map, string_bytes};
+ghost use Rattle.std.specs.Prelude.{◌≡◌, ◌++◌, ◌∷◌, [], MatchOption, map, nat_eq, option_map, string_bytes, IsTrue, length};
 ghost use Rattle.std.specs.Str.{chars};
-ghost use Rattle.liquid_core.specs.Answer.{Gives};
+ghost use Rattle.liquid_core.specs.Answer.{Answers, Gives};
 ghost use Rattle.liquid_core.specs.View.{view, items_view};
+ghost use Rattle.liquid_list_filters.specs.Laws.{OfEnds};
+ghost use Rattle.liquid_list_filters.specs.Places.{EndsWith, StartsWith};
+ghost use Rattle.liquid_list_filters.specs.Stands.{Stands};
 ghost use Rattle.liquid_list_filters.specs.Ends.{first_answer, last_answer, first_item, last_item, first_character, last_character, character, or_nil};
 
 use crate::argument::text_of;
@@ -24,12 +27,23 @@ impl Filter for First {
     }
 
     /// `InvalidInput` where the input is nil or a map.
-    fn evaluate(&self, alloc: Global, input: &Value, _args: &[Value]) -> Result<Value> {
-        match input {
-            Value::Array(items) => first_item(alloc, items),
-            Value::Nil | Value::Object(_) => Err(invalid_input(alloc, "a list or a scalar", input)),
-            _ => Ok(Value::Text(first_character(alloc, text_of(alloc, input)?.as_str())?)),
-        }
+    fn evaluate(&self, alloc: Global, input: &Value, args: &[Value]) -> Result<Value>
+        requires { IsTrue (nat_eq (length args.now) 0) }
+        ensures answer { Answers view result (first_answer (view input.now) (map view args.now)) }
+        ensures relation { Stands (OfEnds StartsWith StartsWith (view input.now)) result }
+    {
+        first_answer(alloc, input, args)
+    }
+}
+
+fn first_answer(alloc: Global, input: &Value, _args: &[Value]) -> Result<Value>
+    requires { IsTrue (nat_eq (length _args.now) 0) }
+    ensures { Answers view result (first_answer (view input.now) (map view _args.now)) }
+{
+    match input {
+        Value::Array(items) => first_item(alloc, items),
+        Value::Nil | Value::Object(_) => Err(invalid_input(alloc, "a list or a scalar", input)),
+        _ => Ok(Value::Text(first_character(alloc, text_of(alloc, input)?.as_str())?)),
     }
 }
 
@@ -47,12 +61,23 @@ impl Filter for Last {
     }
 
     /// `InvalidInput` where the input is nil or a map.
-    fn evaluate(&self, alloc: Global, input: &Value, _args: &[Value]) -> Result<Value> {
-        match input {
-            Value::Array(items) => last_item(alloc, items),
-            Value::Nil | Value::Object(_) => Err(invalid_input(alloc, "a list or a scalar", input)),
-            _ => Ok(Value::Text(last_character(alloc, text_of(alloc, input)?.as_str())?)),
-        }
+    fn evaluate(&self, alloc: Global, input: &Value, args: &[Value]) -> Result<Value>
+        requires { IsTrue (nat_eq (length args.now) 0) }
+        ensures answer { Answers view result (last_answer (view input.now) (map view args.now)) }
+        ensures relation { Stands (OfEnds EndsWith EndsWith (view input.now)) result }
+    {
+        last_answer(alloc, input, args)
+    }
+}
+
+fn last_answer(alloc: Global, input: &Value, _args: &[Value]) -> Result<Value>
+    requires { IsTrue (nat_eq (length _args.now) 0) }
+    ensures { Answers view result (last_answer (view input.now) (map view _args.now)) }
+{
+    match input {
+        Value::Array(items) => last_item(alloc, items),
+        Value::Nil | Value::Object(_) => Err(invalid_input(alloc, "a list or a scalar", input)),
+        _ => Ok(Value::Text(last_character(alloc, text_of(alloc, input)?.as_str())?)),
     }
 }
 

@@ -1,9 +1,11 @@
 //! The filter that joins a list into a text.
-ghost use Rattle.std.specs.Prelude.{map, nat_le, string_bytes};
+ghost use Rattle.std.specs.Prelude.{map, nat_le, string_bytes, IsTrue, length};
 ghost use Rattle.liquid_core.specs.Answer.{Answers, Gives};
 ghost use Rattle.liquid_core.specs.Data.{text_of};
 ghost use Rattle.liquid_core.specs.Lists.{list_of};
 ghost use Rattle.liquid_core.specs.View.{view, items_view};
+ghost use Rattle.liquid_list_filters.specs.Laws.{Joins};
+ghost use Rattle.liquid_list_filters.specs.Stands.{Stands};
 ghost use Rattle.liquid_list_filters.specs.Joined.{join_answer, join_by, joined};
 
 use crate::argument::text_of;
@@ -26,11 +28,22 @@ impl Filter for Join {
     }
 
     /// `InvalidInput` where the input is no list.
-    fn evaluate(&self, alloc: Global, input: &Value, args: &[Value]) -> Result<Value> {
-        match args.first() {
-            None => joined_list(alloc, input, " "),
-            Some(separator) => joined_list(alloc, input, text_of(alloc, separator)?.as_str()),
-        }
+    fn evaluate(&self, alloc: Global, input: &Value, args: &[Value]) -> Result<Value>
+        requires { IsTrue (nat_le (length args.now) 1) }
+        ensures answer { Answers view result (join_answer (view input.now) (map view args.now)) }
+        ensures relation { Stands (Joins (view input.now) (map view args.now)) result }
+    {
+        join_answer(alloc, input, args)
+    }
+}
+
+fn join_answer(alloc: Global, input: &Value, args: &[Value]) -> Result<Value>
+    requires { IsTrue (nat_le (length args.now) 1) }
+    ensures { Answers view result (join_answer (view input.now) (map view args.now)) }
+{
+    match args.first() {
+        None => joined_list(alloc, input, " "),
+        Some(separator) => joined_list(alloc, input, text_of(alloc, separator)?.as_str()),
     }
 }
 

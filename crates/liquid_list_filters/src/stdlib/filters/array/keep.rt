@@ -1,8 +1,12 @@
 //! The filters that keep some of a list's items.
-ghost use Rattle.std.specs.Prelude.{◌≡◌, IsTrue, ◌&&◌, nat_eq, nat_le, map, option_map};
+ghost use Rattle.std.specs.Prelude.{◌≡◌, IsTrue, ◌&&◌, nat_eq, nat_le, map, option_map, length};
 ghost use Rattle.liquid_core.specs.Answer.{Answers, Gives};
+ghost use Rattle.liquid_core.specs.Data.{text_of};
 ghost use Rattle.liquid_core.specs.Lists.{list_of};
 ghost use Rattle.liquid_core.specs.View.{view, items_view};
+ghost use Rattle.liquid_list_filters.specs.Arguments.{first_of};
+ghost use Rattle.liquid_list_filters.specs.Laws.{Compacts, Maps, Uniqs, Wheres};
+ghost use Rattle.liquid_list_filters.specs.Stands.{Stands, WithFirst};
 ghost use Rattle.liquid_list_filters.specs.Keeping.{compact, compact_of, compact_by, compact_answer, is_given, is_wanted, where_of, where_by, where_answer, map_of, map_answer, has_same, uniq, uniq_answer};
 ghost use Rattle.liquid_list_filters.specs.Sequences.{of_list};
 
@@ -27,11 +31,22 @@ impl Filter for Compact {
     }
 
     /// `InvalidInput` where the input is no list, or with a property has an item that is no map.
-    fn evaluate(&self, alloc: Global, input: &Value, args: &[Value]) -> Result<Value> {
-        match args.first() {
-            None => compacted(alloc, input),
-            Some(name) => compacted_by(alloc, input, text_of(alloc, name)?.as_str()),
-        }
+    fn evaluate(&self, alloc: Global, input: &Value, args: &[Value]) -> Result<Value>
+        requires { IsTrue (nat_le (length args.now) 1) }
+        ensures answer { Answers view result (compact_answer (view input.now) (map view args.now)) }
+        ensures relation { Stands (Compacts (view input.now) (map view args.now)) result }
+    {
+        compact_answer(alloc, input, args)
+    }
+}
+
+fn compact_answer(alloc: Global, input: &Value, args: &[Value]) -> Result<Value>
+    requires { IsTrue (nat_le (length args.now) 1) }
+    ensures { Answers view result (compact_answer (view input.now) (map view args.now)) }
+{
+    match args.first() {
+        None => compacted(alloc, input),
+        Some(name) => compacted_by(alloc, input, text_of(alloc, name)?.as_str()),
     }
 }
 
@@ -108,10 +123,21 @@ impl Filter for Where {
     }
 
     /// `InvalidInput` where the input is neither a list nor a map.
-    fn evaluate(&self, alloc: Global, input: &Value, args: &[Value]) -> Result<Value> {
-        let name = text_of(alloc, &args[0])?;
-        where_by(alloc, input, name.as_str(), args.get(1))
+    fn evaluate(&self, alloc: Global, input: &Value, args: &[Value]) -> Result<Value>
+        requires { IsTrue (nat_le 1 (length args.now) && nat_le (length args.now) 2) }
+        ensures answer { Answers view result (where_answer (view input.now) (map view args.now)) }
+        ensures relation { Stands (WithFirst (λ name rest. Wheres (text_of name) (first_of rest) (view input.now)) (map view args.now)) result }
+    {
+        where_answer(alloc, input, args)
     }
+}
+
+fn where_answer(alloc: Global, input: &Value, args: &[Value]) -> Result<Value>
+    requires { IsTrue (nat_le 1 (length args.now) && nat_le (length args.now) 2) }
+    ensures { Answers view result (where_answer (view input.now) (map view args.now)) }
+{
+    let name = text_of(alloc, &args[0])?;
+    where_by(alloc, input, name.as_str(), args.get(1))
 }
 
 fn where_by(alloc: Global, input: &Value, name: &str, target: Option<&Value>) -> Result<Value>
@@ -176,10 +202,21 @@ impl Filter for Map {
     }
 
     /// `InvalidInput` where the input is no list.
-    fn evaluate(&self, alloc: Global, input: &Value, args: &[Value]) -> Result<Value> {
-        let name = text_of(alloc, &args[0])?;
-        mapped(alloc, input, name.as_str())
+    fn evaluate(&self, alloc: Global, input: &Value, args: &[Value]) -> Result<Value>
+        requires { IsTrue (nat_eq (length args.now) 1) }
+        ensures answer { Answers view result (map_answer (view input.now) (map view args.now)) }
+        ensures relation { Stands (WithFirst (λ name rest. Maps (text_of name) (view input.now)) (map view args.now)) result }
+    {
+        map_answer(alloc, input, args)
     }
+}
+
+fn map_answer(alloc: Global, input: &Value, args: &[Value]) -> Result<Value>
+    requires { IsTrue (nat_eq (length args.now) 1) }
+    ensures { Answers view result (map_answer (view input.now) (map view args.now)) }
+{
+    let name = text_of(alloc, &args[0])?;
+    mapped(alloc, input, name.as_str())
 }
 
 fn mapped(alloc: Global, input: &Value, name: &str) -> Result<Value>
@@ -219,11 +256,22 @@ impl Filter for Uniq {
     }
 
     /// `InvalidInput` where the input is no list.
-    fn evaluate(&self, alloc: Global, input: &Value, _args: &[Value]) -> Result<Value> {
-        match input {
-            Value::Array(items) => Ok(Value::Array(unique(alloc, items)?)),
-            _ => Err(invalid_input(alloc, "a list", input)),
-        }
+    fn evaluate(&self, alloc: Global, input: &Value, args: &[Value]) -> Result<Value>
+        requires { IsTrue (nat_eq (length args.now) 0) }
+        ensures answer { Answers view result (uniq_answer (view input.now) (map view args.now)) }
+        ensures relation { Stands (Uniqs (view input.now)) result }
+    {
+        uniq_answer(alloc, input, args)
+    }
+}
+
+fn uniq_answer(alloc: Global, input: &Value, _args: &[Value]) -> Result<Value>
+    requires { IsTrue (nat_eq (length _args.now) 0) }
+    ensures { Answers view result (uniq_answer (view input.now) (map view _args.now)) }
+{
+    match input {
+        Value::Array(items) => Ok(Value::Array(unique(alloc, items)?)),
+        _ => Err(invalid_input(alloc, "a list", input)),
     }
 }
 

@@ -1,8 +1,10 @@
 //! The filters that put lists into another row.
-ghost use Rattle.std.specs.Prelude.{◌++◌, nat_eq, map, reverse};
+ghost use Rattle.std.specs.Prelude.{◌++◌, nat_eq, map, reverse, IsTrue, length};
 ghost use Rattle.liquid_core.specs.Answer.{Answers, Gives};
 ghost use Rattle.liquid_core.specs.Lists.{list_of};
 ghost use Rattle.liquid_core.specs.View.{view, items_view};
+ghost use Rattle.liquid_list_filters.specs.Laws.{Concats, Reverses};
+ghost use Rattle.liquid_list_filters.specs.Stands.{Stands, WithFirst};
 ghost use Rattle.liquid_list_filters.specs.Rows.{concat_by, concat_answer, reverse_answer};
 
 use crate::fault::{invalid_argument, invalid_input};
@@ -23,11 +25,22 @@ impl Filter for Reverse {
     }
 
     /// `InvalidInput` where the input is no list.
-    fn evaluate(&self, alloc: Global, input: &Value, _args: &[Value]) -> Result<Value> {
-        match input {
-            Value::Array(items) => Ok(Value::Array(reversed(alloc, items)?)),
-            _ => Err(invalid_input(alloc, "a list", input)),
-        }
+    fn evaluate(&self, alloc: Global, input: &Value, args: &[Value]) -> Result<Value>
+        requires { IsTrue (nat_eq (length args.now) 0) }
+        ensures answer { Answers view result (reverse_answer (view input.now) (map view args.now)) }
+        ensures relation { Stands (Reverses (view input.now)) result }
+    {
+        reverse_answer(alloc, input, args)
+    }
+}
+
+fn reverse_answer(alloc: Global, input: &Value, _args: &[Value]) -> Result<Value>
+    requires { IsTrue (nat_eq (length _args.now) 0) }
+    ensures { Answers view result (reverse_answer (view input.now) (map view _args.now)) }
+{
+    match input {
+        Value::Array(items) => Ok(Value::Array(reversed(alloc, items)?)),
+        _ => Err(invalid_input(alloc, "a list", input)),
     }
 }
 
@@ -61,14 +74,25 @@ impl Filter for Concat {
     }
 
     /// `InvalidInput` where the input is no list, then `InvalidArgument` where the argument is none.
-    fn evaluate(&self, alloc: Global, input: &Value, args: &[Value]) -> Result<Value> {
-        match (input, &args[0]) {
-            (Value::Array(items), Value::Array(more)) => {
-                Ok(Value::Array(concatenated(alloc, items, more)?))
-            }
-            (Value::Array(_), other) => Err(invalid_argument(alloc, "a list", other)),
-            (_, _) => Err(invalid_input(alloc, "a list", input)),
+    fn evaluate(&self, alloc: Global, input: &Value, args: &[Value]) -> Result<Value>
+        requires { IsTrue (nat_eq (length args.now) 1) }
+        ensures answer { Answers view result (concat_answer (view input.now) (map view args.now)) }
+        ensures relation { Stands (WithFirst (λ e rest. Concats e (view input.now)) (map view args.now)) result }
+    {
+        concat_answer(alloc, input, args)
+    }
+}
+
+fn concat_answer(alloc: Global, input: &Value, args: &[Value]) -> Result<Value>
+    requires { IsTrue (nat_eq (length args.now) 1) }
+    ensures { Answers view result (concat_answer (view input.now) (map view args.now)) }
+{
+    match (input, &args[0]) {
+        (Value::Array(items), Value::Array(more)) => {
+            Ok(Value::Array(concatenated(alloc, items, more)?))
         }
+        (Value::Array(_), other) => Err(invalid_argument(alloc, "a list", other)),
+        (_, _) => Err(invalid_input(alloc, "a list", input)),
     }
 }
 

@@ -1,9 +1,11 @@
 //! The filters that sort.
-ghost use Rattle.std.specs.Prelude.{◌≡◌, nat_le, map, option_map};
+ghost use Rattle.std.specs.Prelude.{◌≡◌, nat_le, map, option_map, IsTrue, length};
 ghost use Rattle.liquid_core.specs.Answer.{Answers, Gives};
 ghost use Rattle.liquid_core.specs.Cow.{cow_view};
 ghost use Rattle.liquid_core.specs.Lists.{list_of};
 ghost use Rattle.liquid_core.specs.View.{view, items_view};
+ghost use Rattle.liquid_list_filters.specs.Laws.{Sorts};
+ghost use Rattle.liquid_list_filters.specs.Stands.{Stands};
 ghost use Rattle.liquid_list_filters.specs.Keyed.{key_view, keyed_view, keyed_below};
 ghost use Rattle.liquid_list_filters.specs.Sorting.{given, key_order, key_of, natural_key_of, sort_by, sorted, sort_answer, sort_natural_answer, sort_named};
 
@@ -30,11 +32,22 @@ impl Filter for Sort {
     }
 
     /// `InvalidInput` where with a property an item is no map.
-    fn evaluate(&self, alloc: Global, input: &Value, args: &[Value]) -> Result<Value> {
-        match args.first() {
-            None => Ok(Value::Array(sorted(alloc, sequence(input), None)?)),
-            Some(name) => sorted_maps(alloc, input, text_of(alloc, name)?.as_str()),
-        }
+    fn evaluate(&self, alloc: Global, input: &Value, args: &[Value]) -> Result<Value>
+        requires { IsTrue (nat_le (length args.now) 1) }
+        ensures answer { Answers view result (sort_answer (view input.now) (map view args.now)) }
+        ensures relation { Stands (Sorts key_of (view input.now) (map view args.now)) result }
+    {
+        sort_answer(alloc, input, args)
+    }
+}
+
+fn sort_answer(alloc: Global, input: &Value, args: &[Value]) -> Result<Value>
+    requires { IsTrue (nat_le (length args.now) 1) }
+    ensures { Answers view result (sort_answer (view input.now) (map view args.now)) }
+{
+    match args.first() {
+        None => Ok(Value::Array(sorted(alloc, sequence(input), None)?)),
+        Some(name) => sorted_maps(alloc, input, text_of(alloc, name)?.as_str()),
     }
 }
 
@@ -69,11 +82,22 @@ impl Filter for SortNatural {
     }
 
     /// `InvalidInput` where with a property an item is no map.
-    fn evaluate(&self, alloc: Global, input: &Value, args: &[Value]) -> Result<Value> {
-        match args.first() {
-            None => Ok(Value::Array(naturally_sorted(alloc, sequence(input), None)?)),
-            Some(name) => naturally_sorted_maps(alloc, input, text_of(alloc, name)?.as_str()),
-        }
+    fn evaluate(&self, alloc: Global, input: &Value, args: &[Value]) -> Result<Value>
+        requires { IsTrue (nat_le (length args.now) 1) }
+        ensures answer { Answers view result (sort_natural_answer (view input.now) (map view args.now)) }
+        ensures relation { Stands (Sorts natural_key_of (view input.now) (map view args.now)) result }
+    {
+        sort_natural_answer(alloc, input, args)
+    }
+}
+
+fn sort_natural_answer(alloc: Global, input: &Value, args: &[Value]) -> Result<Value>
+    requires { IsTrue (nat_le (length args.now) 1) }
+    ensures { Answers view result (sort_natural_answer (view input.now) (map view args.now)) }
+{
+    match args.first() {
+        None => Ok(Value::Array(naturally_sorted(alloc, sequence(input), None)?)),
+        Some(name) => naturally_sorted_maps(alloc, input, text_of(alloc, name)?.as_str()),
     }
 }
 

@@ -1,0 +1,73 @@
+-- An answer stands in the relation that holds of it alone.
+use Rattle.std.proofs.Common.{◌≡◌, true, false, Bool, List, [], ◌∷◌, refl, subst}
+use Rattle.std.specs.Prelude.{MatchBool, ⊤, Result, Ok, Err}
+use Rattle.liquid_core.specs.Answer.{Answers, IsTheOne}
+use Rattle.liquid_core.specs.Data.{Datum, text_of}
+use Rattle.liquid_core.specs.Told.{is_memory, is_refusal}
+use Rattle.liquid_core.specs.View.{view}
+use Rattle.liquid_core.specs.declared.error.Error.{Error}
+use Rattle.liquid_core.specs.declared.error.ErrorKind.{ErrorKind}
+use Rattle.liquid_core.specs.declared.value.Value.{Value}
+use Rattle.liquid_list_filters.specs.Arguments.{Answer, first_of}
+use Rattle.liquid_list_filters.specs.Ends.{first_answer, last_answer}
+use Rattle.liquid_list_filters.specs.Joined.{join_answer}
+use Rattle.liquid_list_filters.specs.Keeping.{compact_answer, where_answer, map_answer, uniq_answer}
+use Rattle.liquid_list_filters.specs.Laws.{Joins, Sorts, Compacts, Wheres, Maps, Uniqs, Reverses, Concats, OfEnds}
+use Rattle.liquid_list_filters.specs.Places.{StartsWith, EndsWith}
+use Rattle.liquid_list_filters.specs.Rows.{reverse_answer, concat_answer}
+use Rattle.liquid_list_filters.specs.Sorting.{key_of, natural_key_of, sort_answer, sort_natural_answer}
+use Rattle.liquid_list_filters.specs.Stands.{Stands, WithFirst}
+use Rattle.liquid_list_filters.proofs.EachLaw.{join_is_one, sort_is_one, sort_natural_is_one, compact_is_one, where_is_one, map_is_one, uniq_is_one, reverse_is_one, concat_is_one, first_is_one, last_is_one}
+
+faulted : (R : Answer → Type 0) (a : Answer) (k : ErrorKind) (m : Bool) → R a → MatchBool m ⊤ ((a ≡ Err k) × (is_refusal k ≡ false)) → MatchBool m ⊤ (R (Err k))
+faulted R a k true h w = tt
+faulted R a k false h w = subst R w.0 h
+
+stands : (R : Answer → Type 0) (a : Answer) (r : Result Value Error) → IsTheOne R a → Answers view r a → Stands R r
+stands R a (Ok v) one w = subst R w ((one a).1 refl)
+stands R a (Err e) one w = faulted R a e.kind (is_memory e.kind) ((one a).1 refl) w
+
+-- nothing is said of a call without arguments
+unsaid : (m : Bool) → MatchBool m ⊤ (Unit {0})
+unsaid true = tt
+unsaid false = tt
+
+none_given : (R : Datum → List Datum → Answer → Type 0) (r : Result Value Error) → Stands (WithFirst R []) r
+none_given R (Ok v) = tt
+none_given R (Err e) = unsaid (is_memory e.kind)
+
+pub joins : (d : Datum) (args : List Datum) (r : Result Value Error) → Answers view r (join_answer d args) → Stands (Joins d args) r
+joins d args r = stands (Joins d args) (join_answer d args) r (join_is_one d args)
+
+pub sorts : (d : Datum) (args : List Datum) (r : Result Value Error) → Answers view r (sort_answer d args) → Stands (Sorts key_of d args) r
+sorts d args r = stands (Sorts key_of d args) (sort_answer d args) r (sort_is_one d args)
+
+pub sorts_naturally : (d : Datum) (args : List Datum) (r : Result Value Error) → Answers view r (sort_natural_answer d args) → Stands (Sorts natural_key_of d args) r
+sorts_naturally d args r = stands (Sorts natural_key_of d args) (sort_natural_answer d args) r (sort_natural_is_one d args)
+
+pub compacts : (d : Datum) (args : List Datum) (r : Result Value Error) → Answers view r (compact_answer d args) → Stands (Compacts d args) r
+compacts d args r = stands (Compacts d args) (compact_answer d args) r (compact_is_one d args)
+
+pub wheres : (d : Datum) (args : List Datum) (r : Result Value Error) → Answers view r (where_answer d args) → Stands (WithFirst (λ name rest. Wheres (text_of name) (first_of rest) d) args) r
+wheres d [] r h = none_given (λ name rest. Wheres (text_of name) (first_of rest) d) r
+wheres d (name ∷ args) r h = stands (Wheres (text_of name) (first_of args) d) (where_answer d (name ∷ args)) r (where_is_one d name args) h
+
+pub maps : (d : Datum) (args : List Datum) (r : Result Value Error) → Answers view r (map_answer d args) → Stands (WithFirst (λ name rest. Maps (text_of name) d) args) r
+maps d [] r h = none_given (λ name rest. Maps (text_of name) d) r
+maps d (name ∷ args) r h = stands (Maps (text_of name) d) (map_answer d (name ∷ args)) r (map_is_one d name args) h
+
+pub uniqs : (d : Datum) (args : List Datum) (r : Result Value Error) → Answers view r (uniq_answer d args) → Stands (Uniqs d) r
+uniqs d args r = stands (Uniqs d) (uniq_answer d args) r (uniq_is_one d args)
+
+pub reverses : (d : Datum) (args : List Datum) (r : Result Value Error) → Answers view r (reverse_answer d args) → Stands (Reverses d) r
+reverses d args r = stands (Reverses d) (reverse_answer d args) r (reverse_is_one d args)
+
+pub concats : (d : Datum) (args : List Datum) (r : Result Value Error) → Answers view r (concat_answer d args) → Stands (WithFirst (λ e rest. Concats e d) args) r
+concats d [] r h = none_given (λ e rest. Concats e d) r
+concats d (e ∷ args) r h = stands (Concats e d) (concat_answer d (e ∷ args)) r (concat_is_one d e args) h
+
+pub firsts : (d : Datum) (args : List Datum) (r : Result Value Error) → Answers view r (first_answer d args) → Stands (OfEnds StartsWith StartsWith d) r
+firsts d args r = stands (OfEnds StartsWith StartsWith d) (first_answer d args) r (first_is_one d args)
+
+pub lasts : (d : Datum) (args : List Datum) (r : Result Value Error) → Answers view r (last_answer d args) → Stands (OfEnds EndsWith EndsWith d) r
+lasts d args r = stands (OfEnds EndsWith EndsWith d) (last_answer d args) r (last_is_one d args)

@@ -1,0 +1,18 @@
+-- What a filter answers, told by the relation that its answer stands in.
+use Rattle.std.specs.Prelude.{MatchBool, ⊤, List, [], ◌∷◌, Result, Ok, Err}
+use Rattle.liquid_core.specs.Data.{Datum}
+use Rattle.liquid_core.specs.Told.{is_memory}
+use Rattle.liquid_core.specs.View.{view}
+use Rattle.liquid_core.specs.declared.error.Error.{Error}
+use Rattle.liquid_core.specs.declared.value.Value.{Value}
+use Rattle.liquid_list_filters.specs.Arguments.{Answer}
+
+-- memory aside, R holds of the answer
+abbrev pub Stands : (Answer → Type 0) → Result Value Error → Type 0
+Stands R (Ok v) = R (Ok (view v))
+Stands R (Err e) = MatchBool (is_memory e.kind) ⊤ (R (Err e.kind))
+
+-- where there is a first argument, R of it, of the others and of the answer
+abbrev pub WithFirst : (Datum → List Datum → Answer → Type 0) → List Datum → Answer → Type 0
+WithFirst R [] a = Unit {0}
+WithFirst R (x ∷ args) a = R x args a

@@ -1,0 +1,5 @@
+pub mod Decimals
+pub mod Divisions
+pub mod Operations
+pub mod RoundingRelation
+pub mod Roundings

@@ -1,0 +1,5 @@
+//! Filters over numbers.
+#![tactic(auto)]
+
+pub mod laws;
+pub mod stdlib;

@@ -1,0 +1,95 @@
+//! The whole numbers that a filter over numbers computes with.
+ghost use Rattle.std.specs.Prelude.{MatchOption, ⊤, false, true, ◌≡◌};
+ghost use Rattle.liquid_core.specs.Answer.{Answers, TakesNoMemory};
+ghost use Rattle.liquid_core.specs.Told.{Told};
+ghost use Rattle.liquid_core.specs.View.{view};
+ghost use Rattle.liquid_core.specs.declared.error.ErrorKind.TheVariants.{Float};
+ghost use Rattle.liquid_number_filters.specs.Decimals.{is_decimal_text};
+ghost use Rattle.liquid_number_filters.specs.Numbers.{operands, is_numeric, unlike, or_range};
+
+use super::decimal::Decimal;
+use liquid_core::{Error, ErrorKind, Result, Value};
+use liquid_list_filters::{invalid_argument, invalid_input};
+use std::alloc::Global;
+
+/// Whether the value is a decimal text.
+pub fn is_decimal_text(value: &Value) -> bool
+    ensures { result ≡ is_decimal_text (view value.now) }
+{
+    match value {
+        Value::Text(text) => Decimal::read(text.as_str()).is_some(),
+        _ => false,
+    }
+}
+
+fn is_numeric(value: &Value) -> bool
+    ensures { result ≡ is_numeric (view value.now) }
+{
+    value.to_integer().is_some() || is_decimal_text(value)
+}
+
+/// The whole numbers of the input and the operand. The first that applies: `InvalidInput` where the input is no
+/// scalar, `InvalidArgument` where the operand is none, `DivideByZero` where a divisor is the whole number 0,
+/// `Float` where one is a decimal text and the other that or a whole number, and else `InvalidArgument`.
+pub fn operands(alloc: Global, input: &Value, operand: &Value, divides: bool) -> Result<(i64, i64)>
+    ensures answer { Answers (λ p. p) result (operands divides (view input.now) (view operand.now)) }
+    ensures no_memory { TakesNoMemory result (operands divides (view input.now) (view operand.now)) }
+{
+    if !input.is_scalar() {
+        return Err(invalid_input(alloc, "a number", input));
+    }
+    if !operand.is_scalar() {
+        return Err(invalid_argument(alloc, "a number", operand));
+    }
+    let second = operand.to_integer();
+    if divides && matches!(second, Some(0)) {
+        return Err(Error::new(alloc, ErrorKind::DivideByZero, "the divisor must not be 0"));
+    }
+    match (input.to_integer(), second) {
+        (Some(a), Some(b)) => Ok((a, b)),
+        _ => Err(unlike(alloc, input, operand)),
+    }
+}
+
+/// Why two scalars that haven't both a whole number are refused.
+fn unlike(alloc: Global, input: &Value, operand: &Value) -> Error
+    ensures { Told (unlike (view input.now) (view operand.now)) result.kind }
+{
+    if is_numeric(input) && is_numeric(operand) {
+        return decimal_refused(alloc);
+    }
+    if is_numeric(input) {
+        return invalid_argument(alloc, "a whole number", operand);
+    }
+    Error::new(
+        alloc,
+        ErrorKind::InvalidArgument,
+        "the input must be a number",
+    )
+}
+
+/// A decimal text, with which no filter computes but those that round.
+pub fn decimal_refused(alloc: Global) -> Error
+    ensures { Told Float result.kind }
+{
+    Error::new(
+        alloc,
+        ErrorKind::Float,
+        "the number must be whole, not decimal",
+    )
+}
+
+/// The number that was computed, or `NumberRange` where it is beyond 64 bits.
+pub fn within_range(alloc: Global, number: Option<i64>) -> Result<Value>
+    ensures answer { Answers view result (or_range number) }
+    ensures no_memory { TakesNoMemory result (or_range number) }
+{
+    match number {
+        Some(n) => Ok(Value::Integer(n)),
+        None => Err(Error::new(
+            alloc,
+            ErrorKind::NumberRange,
+            "the result must be within 64 bits, from -9223372036854775808 to 9223372036854775807",
+        )),
+    }
+}
