@@ -1,5 +1,5 @@
 //! Expressions: literals, and variables with their steps.
-ghost use Rattle.std.specs.Prelude.{◌≡◌, option_map, map, IsOk, IfSome};
+ghost use Rattle.std.specs.Prelude.{◌≡◌, option_map, map, IsOk, IfSome, IfErr};
 ghost use Rattle.liquid_core.specs.Answer.{Answers, Gives, TakesNoMemory};
 ghost use Rattle.liquid_core.specs.Cow.{cow_view};
 ghost use Rattle.liquid_core.specs.Errors.{HasMessageUnlessMemory, without_value_message};
@@ -7,6 +7,7 @@ ghost use Rattle.liquid_core.specs.Expressions.{value_of, required};
 ghost use Rattle.liquid_core.specs.ExpressionView.{expression_view, variable_view, steps_view};
 ghost use Rattle.liquid_core.specs.States.{environment_of};
 ghost use Rattle.liquid_core.specs.Told.{Told};
+ghost use Rattle.liquid_core.specs.Written.{written_form};
 ghost use Rattle.liquid_core.specs.declared.error.ErrorKind.TheVariants.{UnknownVariable};
 
 use crate::cow::ValueCow;
@@ -58,6 +59,7 @@ impl Expression {
     pub fn evaluate<'a>(&'a self, alloc: Global, state: &'a State) -> Result<ValueCow<'a>>
         ensures value { Answers cow_view result (required (expression_view self.now) (environment_of state.now)) }
         ensures no_memory { TakesNoMemory result (required (expression_view self.now) (environment_of state.now)) }
+        ensures message { IfErr result (λ e. HasMessageUnlessMemory (without_value_message (written_form (expression_view self.now))) e) }
     {
         match expression_value(self, state) {
             Some(value) => Ok(value),
@@ -90,6 +92,7 @@ impl Variable {
     pub fn evaluate<'a>(&'a self, alloc: Global, state: &'a State) -> Result<ValueCow<'a>>
         ensures value { Answers cow_view result (required (variable_view self.now) (environment_of state.now)) }
         ensures no_memory { TakesNoMemory result (required (variable_view self.now) (environment_of state.now)) }
+        ensures message { IfErr result (λ e. HasMessageUnlessMemory (without_value_message (written_form (variable_view self.now))) e) }
     {
         match variable_value(self, state) {
             Some(value) => Ok(value),
