@@ -4,7 +4,7 @@ use liquid_core::Filter;
 use liquid_source::{Fault, FaultKind, Item, ParseError, Piece, Symbol, past_byte, read_markup};
 use std::alloc::{AllocError, Global};
 use std::collections::VecDeque;
-use strsim::osa_distance;
+use strsim::generic_damerau_levenshtein;
 
 /// With more edits than these a name is no likely misspelling of another.
 const MOST_EDITS: usize = 2;
@@ -158,7 +158,7 @@ fn nearer<'n>(
     meant: &str,
     near: Option<Near<'n>>,
 ) -> Result<Option<Near<'n>>, AllocError> {
-    let edits = osa_distance(alloc, name, meant)?;
+    let edits = generic_damerau_levenshtein(alloc, name.as_bytes(), meant.as_bytes())?;
     let most = match near {
         Some(near) => near.edits.saturating_sub(1),
         None => MOST_EDITS,

@@ -5,7 +5,7 @@ use liquid_lib::{Renderable, RuntimeBuilder, language};
 use liquid_syntax::parse;
 use std::alloc::Global;
 
-const ROWS: [Row; 26] = [
+pub(crate) const ROWS: [Row; 26] = [
     Row {
         source: "{% if a == nil %}y{% else junk, | %}n{% endif %}",
         data: "{\"a\": null}",

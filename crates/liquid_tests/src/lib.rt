@@ -6,6 +6,8 @@ mod answers;
 #[cfg(test)]
 mod conditions;
 #[cfg(test)]
+mod memory;
+#[cfg(test)]
 mod pages;
 #[cfg(test)]
 mod refused;

@@ -2,7 +2,7 @@
 use crate::rows::{Row, by_parts, by_render, by_run};
 use liquid_core::{ErrorKind, Result};
 
-const ROWS: [Row; 50] = [
+pub(crate) const ROWS: [Row; 50] = [
     Row {
         source: "",
         data: "{}",

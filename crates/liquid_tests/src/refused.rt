@@ -5,7 +5,7 @@ use liquid_lib::{Counted, language};
 use liquid_site::run;
 use liquid_syntax::parse;
 
-const ROWS: [(&str, ErrorKind); 50] = [
+pub(crate) const ROWS: [(&str, ErrorKind); 50] = [
     ("{{ 1.5 }}", ErrorKind::FloatLiteral),
     ("a{{ x", ErrorKind::Unclosed),
     ("{% nosuch %}", ErrorKind::UnknownTag),

@@ -6,7 +6,7 @@ use liquid_syntax::parse;
 use std::alloc::Global;
 
 /// Sources and their pages.
-const PAGES: [(&str, &str); 9] = [
+pub(crate) const PAGES: [(&str, &str); 9] = [
     ("a {%- raw -%} x {%- endraw -%} b", "axb"),
     (
         "{% raw %}{{ a }}{% endraw x %}{% endraw %}",

@@ -73,10 +73,10 @@ fn escaped(alloc: Global, text: &str) -> Result<String>
 fn spaced(alloc: Global, text: &str) -> Result<Vec<u8>>
     ensures { Gives (λ v. v.items) result (plus_to_space text.now) }
 {
-    let bytes: Vec<u8> = text
-        .bytes()
-        .map(|byte| if byte == b'+' { b' ' } else { byte })
-        .collect(alloc)?;
+    let mut bytes = Vec::with_capacity(alloc, text.len())?;
+    for byte in text.as_bytes() {
+        bytes.push(if *byte == b'+' { b' ' } else { *byte })?;
+    }
     Ok(bytes)
 }
 

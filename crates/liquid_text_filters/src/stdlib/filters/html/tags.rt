@@ -39,7 +39,11 @@ fn stripped(alloc: Global, text: &str) -> Result<String>
 fn letters(alloc: Global, text: &str) -> Result<Vec<char>>
     ensures { Gives (λ v. v.items) result (chars text.now) }
 {
-    let letters: Vec<char> = text.chars().collect(alloc)?;
+    let mut letters = Vec::with_capacity(alloc, text.len())?;
+    let mut rest = text.chars();
+    while let Some(letter) = rest.next() {
+        letters.push(letter)?;
+    }
     Ok(letters)
 }
 

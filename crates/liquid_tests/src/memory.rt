@@ -1,0 +1,87 @@
+//! Calls whose requests for memory are refused, one after another, by `tests/refusals/run`.
+//!
+//! Requests count from one mark on standard output to the next, so that what a call is made with is never refused. Behind
+//! the marks each call tells its answer. The script demands `Memory` of the calls that were refused a request, and of no
+//! other; the tests here assert all else. Run without the script they run with ample memory.
+macro_rules! asked {
+    ($rt:expr, $call:expr, $at:expr, $wanted:expr, $made:expr) => {{
+        begin($rt);
+        let answer = $made;
+        end($rt, $call, $at, $wanted, &answer);
+        answer
+    }};
+}
+
+mod filters;
+mod none;
+mod pages;
+mod states;
+mod templates;
+mod texts;
+mod values;
+
+use crate::answers::kind_of;
+use liquid_core::{ErrorKind, Result, State, Value, ValueCow};
+use liquid_site::data_from_json;
+use std::alloc::Global;
+use std::process::Abort;
+
+/// The first mark.
+fn begin(rt: &impl Print) {
+    let _ = println!(rt; "@refuse");
+}
+
+/// The second mark, and how the call ended behind it: as it is wanted, or for want of memory.
+fn end<T>(
+    rt: &(impl Abort + Print),
+    call: &str,
+    at: &str,
+    wanted: Option<ErrorKind>,
+    answer: &Result<T>,
+) {
+    let _ = println!(rt; "@allow");
+    let kind = kind_of(answer);
+    let name = kind.map_or("done", |kind| kind.name());
+    let _ = println!(rt; "answer: {call} {at:?} {name}");
+    assert!(rt; kind == wanted || is_refused(answer), "{call} {at}");
+}
+
+/// Whether the call ended for want of memory.
+fn is_refused<T>(answer: &Result<T>) -> bool {
+    kind_of(answer) == Some(ErrorKind::Memory)
+}
+
+/// The value that is written in JSON.
+fn value(alloc: Global, written: &str) -> Result<Value> {
+    let mut object = data_from_json(
+        alloc,
+        format!(in alloc; "{{\"value\":{written}}}")?.as_str(),
+    )?;
+    Ok(object.remove("value").unwrap_or(Value::Nil))
+}
+
+/// The values that are written in JSON as a list.
+fn items(alloc: Global, written: &str) -> Result<Vec<Value>> {
+    match value(alloc, written)? {
+        Value::Array(items) => Ok(items),
+        _ => Ok(Vec::new(alloc)),
+    }
+}
+
+/// Whether a path led to the value.
+fn leads_to(found: &Option<ValueCow<'_>>, wanted: &Value) -> bool {
+    match found {
+        Some(value) => *value.as_value() == *wanted,
+        None => false,
+    }
+}
+
+/// The whole number that a name has.
+fn number(state: &State, name: &str) -> Option<i64> {
+    state.look_up(name)?.to_integer()
+}
+
+/// The names under which things are put, so many that a map of them grows more than once.
+const NAMES: [&str; 16] = [
+    "a", "p", "b", "o", "c", "n", "d", "m", "e", "l", "f", "k", "g", "j", "h", "i",
+];
