@@ -374,7 +374,13 @@ fn nil_is_not_asked_what_it_contains(rt: HostRuntime) {
 }
 
 /// A text, and then another one so many times, and then a last one.
-fn repeated(alloc: Global, first: &str, again: &str, count: usize, last: &str) -> Result<String> {
+pub(crate) fn repeated(
+    alloc: Global,
+    first: &str,
+    again: &str,
+    count: usize,
+    last: &str,
+) -> Result<String> {
     let mut text = String::from_str(alloc, first)?;
     for _ in 0..count {
         text.push_str(again)?;

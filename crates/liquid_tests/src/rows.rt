@@ -9,15 +9,15 @@ use std::process::Abort;
 
 /// A source with its data, the page that is written, and the kind of the fault that ends it.
 #[derive(Drop)]
-pub(crate) struct Row {
-    pub(crate) source: &'static str,
-    pub(crate) data: &'static str,
-    pub(crate) page: &'static str,
+pub(crate) struct Row<'r> {
+    pub(crate) source: &'r str,
+    pub(crate) data: &'r str,
+    pub(crate) page: &'r str,
     pub(crate) end: Option<ErrorKind>,
 }
 
 /// The page of `run`.
-pub(crate) fn by_run(rt: &impl Abort, alloc: Global, row: &Row) {
+pub(crate) fn by_run(rt: &impl Abort, alloc: Global, row: &Row<'_>) {
     let mut counted = Counted::new(Vec::new(alloc));
     let answer = run(alloc, row.source, row.data, &[], &mut counted);
     let written: Vec<u8> = counted.into_inner();
@@ -30,7 +30,7 @@ pub(crate) fn by_run(rt: &impl Abort, alloc: Global, row: &Row) {
 }
 
 /// The page of `parse` and `render_to`. Nothing is looked at where the data can't be read.
-pub(crate) fn by_parts(rt: &impl Abort, alloc: Global, row: &Row) -> Result<()> {
+pub(crate) fn by_parts(rt: &impl Abort, alloc: Global, row: &Row<'_>) -> Result<()> {
     let template = parse(alloc, row.source, &language(alloc)?)?;
     let Ok(data) = data_from_json(alloc, row.data) else {
         return Ok(());
@@ -49,7 +49,7 @@ pub(crate) fn by_parts(rt: &impl Abort, alloc: Global, row: &Row) -> Result<()> 
 }
 
 /// The page of `parse` and `render`, which is a text or a fault. Nothing is looked at where the data can't be read.
-pub(crate) fn by_render(rt: &impl Abort, alloc: Global, row: &Row) -> Result<()> {
+pub(crate) fn by_render(rt: &impl Abort, alloc: Global, row: &Row<'_>) -> Result<()> {
     let template = parse(alloc, row.source, &language(alloc)?)?;
     let Ok(data) = data_from_json(alloc, row.data) else {
         return Ok(());

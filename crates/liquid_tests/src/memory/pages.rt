@@ -1,5 +1,7 @@
 //! Pages, each with room for its text made beforehand.
 use super::{begin, end, is_refused, number};
+use crate::answers::kind_of;
+use crate::conditions::repeated;
 use crate::rows::Row;
 use crate::{conditions, pages, refused, verbatim};
 use liquid_core::{Object, Result, State};
@@ -7,10 +9,11 @@ use liquid_lib::{Counted, Renderable, RuntimeBuilder, language};
 use liquid_site::{data_from_json, run};
 use liquid_syntax::{Language, Template, parse};
 use std::alloc::Global;
+use std::fmt::Write;
 use std::process::Abort;
 
 /// Asserts that the page is written, or a beginning of it where memory was refused.
-fn is_written(rt: &impl Abort, row: &Row, answer: &Result<()>, written: &[u8]) {
+fn is_written(rt: &impl Abort, row: &Row<'_>, answer: &Result<()>, written: &[u8]) {
     let source = row.source;
     let page = row.page.as_bytes();
     if is_refused(answer) {
@@ -42,7 +45,18 @@ fn has_data(rt: &impl Abort, state: &State, data: &Object, source: &str) {
     }
 }
 
-fn by_run(rt: &(impl Abort + Print), alloc: Global, row: &Row) -> Result<()> {
+/// The row's data, or none where the row ends by the fault of its data.
+fn row_data(rt: &impl Abort, alloc: Global, row: &Row<'_>) -> Option<Object> {
+    let data = data_from_json(alloc, row.data);
+    let source = row.source;
+    assert!(rt;
+        data.is_ok() || kind_of(&data) == row.end,
+        "the data of {source}"
+    );
+    data.ok()
+}
+
+fn by_run(rt: &(impl Abort + Print), alloc: Global, row: &Row<'_>) -> Result<()> {
     let mut counted = Counted::new(Vec::with_capacity(alloc, row.page.len())?);
     let answer = asked!(
         rt,
@@ -74,9 +88,9 @@ fn by_parts(
     rt: &(impl Abort + Print),
     alloc: Global,
     language: &Language,
-    row: &Row,
+    row: &Row<'_>,
 ) -> Result<()> {
-    let Ok(data) = data_from_json(alloc, row.data) else {
+    let Some(data) = row_data(rt, alloc, row) else {
         return Ok(());
     };
     let source = row.source;
@@ -124,9 +138,9 @@ fn by_render(
     rt: &(impl Abort + Print),
     alloc: Global,
     language: &Language,
-    row: &Row,
+    row: &Row<'_>,
 ) -> Result<()> {
-    let Ok(data) = data_from_json(alloc, row.data) else {
+    let Some(data) = row_data(rt, alloc, row) else {
         return Ok(());
     };
     let source = row.source;
@@ -151,7 +165,12 @@ fn by_render(
 }
 
 /// The page by each call that makes it.
-fn page(rt: &(impl Abort + Print), alloc: Global, language: &Language, row: &Row) -> Result<()> {
+fn page(
+    rt: &(impl Abort + Print),
+    alloc: Global,
+    language: &Language,
+    row: &Row<'_>,
+) -> Result<()> {
     by_run(rt, alloc, row)?;
     by_parts(rt, alloc, language, row)?;
     by_render(rt, alloc, language, row)
@@ -176,6 +195,42 @@ fn memory_pages(rt: HostRuntime) -> Result<()> {
         page(&rt, rt.alloc(), &language, &row)?;
     }
     Ok(())
+}
+
+/// The numbers up to 199, with a text between them.
+fn numbers(alloc: Global, between: &str) -> Result<String> {
+    let mut all = String::from_str(alloc, "0")?;
+    for number in 1..200 {
+        write!(all, "{between}{number}")?;
+    }
+    Ok(all)
+}
+
+/// A page of long texts, a long list and many nodes, so that a call that gives up at some size is seen.
+#[test]
+fn memory_long_page(rt: HostRuntime) -> Result<()> {
+    let alloc = rt.alloc();
+    let text = repeated(alloc, "", "0123456789", 300, "")?;
+    let text = text.as_str();
+    let piece = "{% if l contains 199 %}{{ t }},{% endif %}";
+    let source = repeated(alloc, text, piece, 20, "{{ l | join: '-' }}")?;
+    let list = numbers(alloc, ",")?;
+    let joined = numbers(alloc, "-")?;
+    let page_of_it = repeated(
+        alloc,
+        text,
+        format!(in alloc; "{text},")?.as_str(),
+        20,
+        joined.as_str(),
+    )?;
+    let data = format!(in alloc; "{{\"t\":\"{text}\",\"l\":[{list}]}}")?;
+    let row = Row {
+        source: source.as_str(),
+        data: data.as_str(),
+        page: page_of_it.as_str(),
+        end: None,
+    };
+    page(&rt, alloc, &language(alloc)?, &row)
 }
 
 #[test]
