@@ -157,12 +157,15 @@ fn literals(alloc: Global, written: &str) -> Result<Vec<Expression>> {
     Ok(literals)
 }
 
-/// Runs the filter alone, and then as a chain of one.
-fn filtered(
+/// A row: input, arguments and answer.
+type Case<'r> = (&'r str, &'r str, &'r str);
+
+/// Runs the filter alone.
+fn alone(
     rt: &(impl Abort + Print),
     alloc: Global,
     filter: FilterKind,
-    (input, args, wanted): (&str, &str, &str),
+    (input, args, wanted): Case<'_>,
 ) -> Result<()> {
     let name = filter.name();
     let wanted = value(alloc, wanted)?;
@@ -180,7 +183,19 @@ fn filtered(
         is_refused(&answer) || answer? == wanted,
         "{name} of {input}"
     );
+    Ok(())
+}
 
+/// Runs the filter as a chain of one.
+fn in_a_chain(
+    rt: &(impl Abort + Print),
+    alloc: Global,
+    filter: FilterKind,
+    (input, args, wanted): Case<'_>,
+) -> Result<()> {
+    let name = filter.name();
+    let wanted = value(alloc, wanted)?;
+    let entry = value(alloc, input)?;
     let literals = literals(alloc, args)?;
     assert!(rt; filter.accepts(literals.len()), "{name}");
     let calls = [FilterCall {
@@ -208,7 +223,9 @@ fn memory_filters(rt: HostRuntime) -> Result<()> {
         let mut rows = 0_usize;
         for (name, input, args, wanted) in &ROWS {
             if *name == filter.name() {
-                filtered(&rt, rt.alloc(), *filter, (*input, *args, *wanted))?;
+                let case = (*input, *args, *wanted);
+                alone(&rt, rt.alloc(), *filter, case)?;
+                in_a_chain(&rt, rt.alloc(), *filter, case)?;
                 rows = rows.saturating_add(1);
             }
         }

@@ -198,6 +198,11 @@ fn looked_up(rt: &(impl Abort + Print), alloc: Global, state: &State) -> Result<
     assert!(rt; found?.is_none());
     let found = asked!(rt, "State::get", "a[0]", None, state.get(alloc, &path));
     assert!(rt; found?.as_value().to_integer() == Some(7));
+    evaluated(rt, alloc, state)
+}
+
+/// A variable with a value, and one without.
+fn evaluated(rt: &(impl Abort + Print), alloc: Global, state: &State) -> Result<()> {
     let known = variable(alloc, "a")?;
     let found = asked!(
         rt,
@@ -249,11 +254,15 @@ fn memory_none_of_states(rt: HostRuntime) -> Result<()> {
     let popped = asked!(&rt, "State::pop_scope", "", None, Ok(state.pop_scope()));
     assert!(&rt; popped.is_ok());
     looked_up(&rt, alloc, &state)?;
+    runtimes(&rt, alloc)
+}
 
-    let partials = asked!(&rt, "Partials::new", "", None, Ok(Partials::new(alloc)))?;
+/// Runtimes as they are made, and what they show of their state.
+fn runtimes(rt: &(impl Abort + Print), alloc: Global) -> Result<()> {
+    let partials = asked!(rt, "Partials::new", "", None, Ok(Partials::new(alloc)))?;
     let data = data_from_json(alloc, r#"{"a": [7]}"#)?;
     let mut runtime = asked!(
-        &rt,
+        rt,
         "RuntimeBuilder",
         "",
         None,
@@ -266,18 +275,18 @@ fn memory_none_of_states(rt: HostRuntime) -> Result<()> {
         )
     )?;
     runtime.push_scope(data_from_json(alloc, r#"{"a": [8], "b": "c"}"#)?)?;
-    let popped = asked!(&rt, "Runtime::pop_scope", "", None, Ok(runtime.pop_scope()));
-    assert!(&rt; popped.is_ok());
+    let popped = asked!(rt, "Runtime::pop_scope", "", None, Ok(runtime.pop_scope()));
+    assert!(rt; popped.is_ok());
     let found = asked!(
-        &rt,
+        rt,
         "Runtime::get_index",
         "a",
         None,
         Ok(runtime.get_index("a"))
     );
-    assert!(&rt; found?.is_none());
-    let state = asked!(&rt, "Runtime::state", "", None, Ok(runtime.state()));
-    looked_up(&rt, alloc, state?)
+    assert!(rt; found?.is_none());
+    let state = asked!(rt, "Runtime::state", "", None, Ok(runtime.state()));
+    looked_up(rt, alloc, state?)
 }
 
 /// Names of tags, and languages and writers as they are made.

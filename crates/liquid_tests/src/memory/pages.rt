@@ -5,7 +5,7 @@ use crate::conditions::repeated;
 use crate::rows::Row;
 use crate::{conditions, pages, refused, verbatim};
 use liquid_core::{Object, Result, State};
-use liquid_lib::{Counted, Renderable, RuntimeBuilder, language};
+use liquid_lib::{Counted, Renderable, Runtime, RuntimeBuilder, language};
 use liquid_site::{data_from_json, run};
 use liquid_syntax::{Language, Template, parse};
 use std::alloc::Global;
@@ -95,7 +95,6 @@ fn by_parts(
     };
     let source = row.source;
     let template = parsed(rt, alloc, source, language)?;
-    let again = parse(alloc, "{{ scope_of_this_test }}", language)?;
     let mut runtime = RuntimeBuilder::new(alloc).set_globals(data).build(alloc);
     runtime.push_scope(data_from_json(alloc, r#"{"scope_of_this_test": 1}"#)?)?;
     runtime.push_scope(data_from_json(alloc, r#"{"scope_of_this_test": 2}"#)?)?;
@@ -117,15 +116,21 @@ fn by_parts(
         &data_from_json(alloc, row.data)?,
         source,
     );
-    assert!(rt;
-        again.render(alloc, &mut runtime)?.as_str() == "2",
-        "{source}"
-    );
+    in_two_scopes(rt, alloc, language, &mut runtime, source)
+}
+
+/// Asserts that the runtime renders a small page still, and has the two scopes that were pushed.
+fn in_two_scopes(
+    rt: &impl Abort,
+    alloc: Global,
+    language: &Language,
+    runtime: &mut Runtime<'_>,
+    source: &str,
+) -> Result<()> {
+    let small = parse(alloc, "{{ scope_of_this_test }}", language)?;
+    assert!(rt; small.render(alloc, runtime)?.as_str() == "2", "{source}");
     runtime.pop_scope();
-    assert!(rt;
-        again.render(alloc, &mut runtime)?.as_str() == "1",
-        "{source}"
-    );
+    assert!(rt; small.render(alloc, runtime)?.as_str() == "1", "{source}");
     runtime.pop_scope();
     assert!(rt;
         number(runtime.state(), "scope_of_this_test").is_none(),

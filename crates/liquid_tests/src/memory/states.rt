@@ -202,7 +202,12 @@ fn looked_up(rt: &(impl Abort + Print), alloc: Global) -> Result<()> {
     assert!(rt; answer.is_err());
     let answer = asked!(rt, "State::get", "nothing", unknown, state.get(alloc, &[]));
     assert!(rt; answer.is_err());
+    looked_up_in_runtime(rt, alloc)
+}
 
+fn looked_up_in_runtime(rt: &(impl Abort + Print), alloc: Global) -> Result<()> {
+    let path = [Value::Integer(7), Value::Integer(0)];
+    let unknown = Some(ErrorKind::UnknownVariable);
     let runtime = RuntimeBuilder::new(alloc).build(alloc);
     let answer = asked!(
         rt,

@@ -157,32 +157,37 @@ fn decided(
     Ok(())
 }
 
-#[test]
-fn memory_templates(rt: HostRuntime) -> Result<()> {
-    let alloc = rt.alloc();
+/// Tags, blocks and filters that are registered.
+fn registries(rt: &(impl Abort + Print), alloc: Global) -> Result<()> {
     let mut made = Language::new(alloc);
     registered(
-        &rt,
+        rt,
         alloc,
         "tags.register",
         &mut made.tags,
         TagKind::from(AssignTag::new()),
     )?;
     registered(
-        &rt,
+        rt,
         alloc,
         "blocks.register",
         &mut made.blocks,
         BlockKind::from(IfBlock::new()),
     )?;
     registered(
-        &rt,
+        rt,
         alloc,
         "filters.register",
         &mut made.filters,
         FilterKind::Sort(Sort),
     )?;
+    Ok(())
+}
 
+#[test]
+fn memory_templates(rt: HostRuntime) -> Result<()> {
+    let alloc = rt.alloc();
+    registries(&rt, alloc)?;
     let language = language(alloc)?;
     inserted(&rt, alloc, &language)?;
     let state = State::new(alloc, data_from_json(alloc, DATA)?);

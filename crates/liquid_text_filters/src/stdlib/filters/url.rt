@@ -1,5 +1,5 @@
 //! Filters over URLs.
-ghost use Rattle.std.specs.Prelude.{map, nat_eq, string_bytes};
+ghost use Rattle.std.specs.Prelude.{◌≡◌, ◌==◌, if◌then◌else◌, map, nat_eq, string_bytes};
 ghost use Rattle.liquid_core.specs.Answer.{Answers, Gives};
 ghost use Rattle.liquid_text_filters.specs.Urls.{plus_to_space, text_of_bytes, unescaped, url_decode_answer, url_encode_answer, url_escaped};
 
@@ -70,12 +70,19 @@ fn escaped(alloc: Global, text: &str) -> Result<String>
     Ok(out)
 }
 
+/// A space for `+`, and any other byte itself.
+fn plus_as_space(byte: u8) -> u8
+    ensures { result ≡ (if byte == 43 then 32 else byte) }
+{
+    if byte == b'+' { b' ' } else { byte }
+}
+
 fn spaced(alloc: Global, text: &str) -> Result<Vec<u8>>
     ensures { Gives (λ v. v.items) result (plus_to_space text.now) }
 {
     let mut bytes = Vec::with_capacity(alloc, text.len())?;
     for byte in text.as_bytes() {
-        bytes.push(if *byte == b'+' { b' ' } else { *byte })?;
+        bytes.push(plus_as_space(*byte))?;
     }
     Ok(bytes)
 }
