@@ -13,8 +13,6 @@ pub mod laws;
 mod object;
 mod order;
 mod state;
-#[cfg(test)]
-mod tests;
 mod text;
 mod value;
 mod whole;

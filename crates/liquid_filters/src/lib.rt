@@ -6,6 +6,3 @@ mod kind;
 pub mod stdlib;
 
 pub use kind::FilterKind;
-
-#[cfg(test)]
-mod tests;

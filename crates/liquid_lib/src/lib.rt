@@ -11,8 +11,6 @@ mod render;
 mod runtime;
 mod standard;
 pub mod stdlib;
-#[cfg(test)]
-mod tests;
 mod worked;
 mod write_all;
 

@@ -8,8 +8,6 @@ mod laws;
 mod mark;
 mod number;
 mod piece;
-#[cfg(test)]
-mod piece_tests;
 mod scan;
 mod symbol;
 mod tokens;

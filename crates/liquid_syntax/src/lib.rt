@@ -6,13 +6,9 @@ mod block;
 mod build;
 mod chain;
 mod chain_items;
-#[cfg(test)]
-mod chain_tests;
 mod comparison;
 mod condition;
 mod condition_items;
-#[cfg(test)]
-mod condition_tests;
 mod filter_call;
 mod hint;
 mod judge;
@@ -20,8 +16,6 @@ mod language;
 mod laws;
 mod node;
 mod parser;
-#[cfg(test)]
-mod parser_tests;
 mod partials;
 mod template;
 

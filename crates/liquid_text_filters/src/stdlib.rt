@@ -1,7 +1,5 @@
 //! The standard set of filters.
 mod filters;
-#[cfg(test)]
-mod tests;
 
 pub use filters::default::Default;
 pub use filters::html::escape::{Escape, EscapeOnce};

@@ -4,5 +4,3 @@ pub mod bounds;
 mod decimal;
 mod operands;
 pub mod rounding;
-#[cfg(test)]
-mod tests;

@@ -1,8 +1,8 @@
 //! Sources and the pieces that they are read into, at examples.
-use crate::cut::{past_byte, stripped, text_before};
-use crate::fault::ParseError;
-use crate::item::Item;
-use crate::piece::{Body, Piece, bare_name, read_body, read_markup};
+use liquid_source::{
+    Body, Item, ParseError, Piece, bare_name, past_byte, read_body, read_markup, stripped,
+    text_before,
+};
 use std::alloc::Global;
 use std::collections::VecDeque;
 use std::fmt::Write;

@@ -3,11 +3,8 @@
 //! Values are written in words: `nil`, `true`, `12`, `[ 1 2 ]` for a list and `{ key 1 }` for a map.
 //! A quote begins a text that would be read otherwise: `'1`, `'` for the empty one; any other word is a text.
 //! In a text `~` stands for a space.
-
-mod lists;
-
-use crate::FilterKind;
 use liquid_core::{Filter, Object, Result, Value};
+use liquid_filters::FilterKind;
 use std::alloc::Global;
 use std::collections::BTreeMap;
 use std::process::Abort;
@@ -77,7 +74,7 @@ fn value(alloc: Global, words: &str) -> Result<Value> {
 }
 
 /// Asserts that the filter answers the wanted value, or a fault of the wanted name.
-fn answers(
+pub(crate) fn answers(
     rt: &impl Abort,
     alloc: Global,
     filter: FilterKind,

@@ -1,11 +1,11 @@
 //! Each filter at nil, a list, a map and a number, and the counts of arguments that it accepts.
-use super::Rows;
-use crate::stdlib::{
+use crate::rows::Rows;
+use liquid_core::{Filter, Value};
+use liquid_filters::stdlib::{
     Append, Capitalize, Default, Downcase, Lstrip, Prepend, Remove, RemoveFirst, Replace,
     ReplaceFirst, Rstrip, Size, Slice, Split, Strip, StripNewlines, Truncate, TruncateWords,
     Upcase,
 };
-use liquid_core::{Filter, Value};
 use std::process::Abort;
 
 /// The filter's texts for nil, for a list with the text `Ab`, for a map with the text `K1`, and for -12.

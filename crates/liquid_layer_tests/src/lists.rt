@@ -1,5 +1,6 @@
-use super::answers;
-use crate::stdlib;
+//! Filters at lists.
+use crate::words::answers;
+use liquid_filters::stdlib;
 use std::test::Fail;
 
 #[test]

@@ -1,5 +1,6 @@
-use super::{one, pair, text, with};
-use crate::{Error, ErrorKind, Value, ValueCow, copy_items, look_up};
+//! Values: their texts, tests and orders; and faults.
+use crate::samples::{one, pair, text, with};
+use liquid_core::{Error, ErrorKind, Value, ValueCow, copy_items, look_up};
 use std::cmp::Ordering;
 use std::collections::BTreeMap;
 use std::hash::{DefaultHasher, Hash, Hasher};

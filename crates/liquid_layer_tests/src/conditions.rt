@@ -1,33 +1,31 @@
 //! Conditions that are read, and items that are none, at examples.
-use crate::chain_items::expected;
-use crate::condition::Condition;
-use crate::condition_items::read_condition;
-use liquid_source::{ParseError, Piece, read_markup};
+use crate::templates::language_with_blocks;
+use liquid_core::Result;
+use liquid_syntax::{Node, Template, parse};
 use std::alloc::Global;
 use std::test::Fail;
 
-/// The condition that the items up to `%}` are.
-fn read(alloc: Global, source: &str) -> Result<Condition, ParseError> {
-    let mut tag = String::from_str(alloc, "%if ")?;
+/// The template of an `if` whose tag goes on so behind its name, with no body.
+fn read(alloc: Global, source: &str) -> Result<Template> {
+    let mut tag = String::from_str(alloc, "{%if ")?;
     tag.push_str(source)?;
-    let (markup, _) = read_markup(alloc, tag.as_str())?;
-    match markup.piece {
-        Piece::Tag(_, items) => read_condition(alloc, items, source),
-        _ => Err(expected(source, "a tag")),
-    }
+    tag.push_str("{% endif %}")?;
+    parse(alloc, tag.as_str(), &language_with_blocks(alloc)?)
 }
 
 /// The written form of the condition, or the kind of the source's fault.
-fn shown(alloc: Global, source: &str) -> Result<String, Fail> {
+fn shown(alloc: Global, source: &str) -> Result<String> {
     match read(alloc, source) {
-        Ok(condition) => Ok(condition.to_string(alloc)?),
-        Err(ParseError::Fault(fault)) => Ok(format!(in alloc; "{:?}", fault.kind)?),
-        Err(ParseError::Memory) => Ok(String::from_str(alloc, "Memory")?),
+        Ok(template) => match template.nodes() {
+            [Node::If(condition, _)] => Ok(condition.to_string(alloc)?),
+            _ => Ok(String::from_str(alloc, "nodes beside the `if`")?),
+        },
+        Err(fault) => Ok(String::from_str(alloc, fault.kind.name())?),
     }
 }
 
 #[test]
-fn conditions(rt: HostRuntime) -> Result<(), Fail> {
+fn conditions(rt: HostRuntime) -> std::result::Result<(), Fail> {
     for (source, want) in [
         ("a == nil %}", "a == nil"),
         (
@@ -54,7 +52,7 @@ fn conditions(rt: HostRuntime) -> Result<(), Fail> {
 }
 
 #[test]
-fn no_conditions(rt: HostRuntime) -> Result<(), Fail> {
+fn no_conditions(rt: HostRuntime) -> std::result::Result<(), Fail> {
     for source in [
         "%}",
         "a and %}",

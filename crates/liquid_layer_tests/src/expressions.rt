@@ -1,10 +1,11 @@
-use super::{one, pair, text, with};
-use crate::{Expression, State, Value, Variable};
+//! Expressions and variables: what they evaluate to, and their written forms.
+use crate::samples::{one, pair, text, with};
+use liquid_core::{Expression, State, Value, Variable};
 use std::alloc::Global;
 use std::collections::BTreeMap;
 use std::test::Fail;
 
-fn name(alloc: Global, name: &str) -> crate::Result<Expression> {
+fn name(alloc: Global, name: &str) -> liquid_core::Result<Expression> {
     let name = String::from_str(alloc, name)?;
     let indexes = Vec::new(alloc);
     Ok(Expression::Variable(Variable { name, indexes }))
@@ -15,7 +16,7 @@ fn steps(
     name: &str,
     first: Expression,
     second: Expression,
-) -> crate::Result<Expression> {
+) -> liquid_core::Result<Expression> {
     let name = String::from_str(alloc, name)?;
     let mut indexes = Vec::new(alloc);
     indexes.push(first)?;
@@ -23,7 +24,7 @@ fn steps(
     Ok(Expression::Variable(Variable { name, indexes }))
 }
 
-fn sample(alloc: Global) -> crate::Result<State> {
+fn sample(alloc: Global) -> liquid_core::Result<State> {
     let items = pair(alloc, Value::Integer(4), text(alloc, "five")?)?;
     let inner = Value::Object(one(alloc, "b", items)?);
     let data = with(alloc, one(alloc, "a", inner)?, "key", text(alloc, "b")?)?;

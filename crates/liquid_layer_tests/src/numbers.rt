@@ -1,23 +1,13 @@
 //! Worked rows of the filters over numbers.
-use super::arithmetic::{DividedBy, Minus, Modulo, Plus, Times};
-use super::bounds::{Abs, AtLeast, AtMost};
-use super::rounding::{Ceil, Floor, Round};
+use crate::rows::Rows;
 use liquid_core::{Filter, Value};
-use std::alloc::Global;
+use liquid_filters::stdlib::{
+    Abs, AtLeast, AtMost, Ceil, DividedBy, Floor, Minus, Modulo, Plus, Round, Times,
+};
 use std::process::Abort;
 
-#[derive(Drop)]
-struct Rows<'r, R> {
-    rt: &'r R,
-    alloc: Global,
-}
-
 impl<R: Abort> Rows<'_, R> {
-    fn text(&self, text: &str) -> Value {
-        Value::Text(String::from_str(self.alloc, text).expect(self.rt, "ample memory"))
-    }
-
-    /// The answer's text, or the name of the fault's kind, is what is wanted.
+    /// The answer is a number of the wanted text, or a fault whose kind has the wanted name.
     fn row<F: Filter>(&self, filter: &F, input: &Value, args: &[Value], wanted: &str) {
         assert!(self.rt; filter.accepts(args.len()));
         match filter.evaluate(self.alloc, input, args) {
@@ -30,13 +20,15 @@ impl<R: Abort> Rows<'_, R> {
         }
     }
 
-    fn texts<F: Filter>(&self, filter: &F, rows: &[(&str, &str)]) {
+    /// A row for each text.
+    fn of_texts<F: Filter>(&self, filter: &F, rows: &[(&str, &str)]) {
         for (input, wanted) in rows {
             self.row(filter, &self.text(input), &[], wanted);
         }
     }
 
-    fn numbers<F: Filter>(&self, filter: &F, rows: &[(i64, i64, &str)]) {
+    /// A row for each two numbers.
+    fn of_numbers<F: Filter>(&self, filter: &F, rows: &[(i64, i64, &str)]) {
         for (input, operand, wanted) in rows {
             self.row(
                 filter,
@@ -58,11 +50,11 @@ fn whole_numbers(rt: HostRuntime) {
         rt: &rt,
         alloc: rt.alloc(),
     };
-    rows.numbers(
+    rows.of_numbers(
         &Plus,
         &[(1, 1, "2"), (MOST, 1, "NumberRange"), (MOST, LEAST, "-1")],
     );
-    rows.numbers(
+    rows.of_numbers(
         &Minus,
         &[
             (2, 1, "1"),
@@ -70,7 +62,7 @@ fn whole_numbers(rt: HostRuntime) {
             (-1, LEAST, "9223372036854775807"),
         ],
     );
-    rows.numbers(
+    rows.of_numbers(
         &Times,
         &[
             (2, 3, "6"),
@@ -78,7 +70,7 @@ fn whole_numbers(rt: HostRuntime) {
             (LEAST, -1, "NumberRange"),
         ],
     );
-    rows.numbers(
+    rows.of_numbers(
         &DividedBy,
         &[
             (-7, 2, "-3"),
@@ -87,7 +79,7 @@ fn whole_numbers(rt: HostRuntime) {
             (7, 0, "DivideByZero"),
         ],
     );
-    rows.numbers(
+    rows.of_numbers(
         &Modulo,
         &[
             (-7, 2, "-1"),
@@ -96,8 +88,8 @@ fn whole_numbers(rt: HostRuntime) {
             (7, 0, "DivideByZero"),
         ],
     );
-    rows.numbers(&AtLeast, &[(4, 5, "5"), (5, 4, "5")]);
-    rows.numbers(&AtMost, &[(4, 5, "4"), (5, 4, "4")]);
+    rows.of_numbers(&AtLeast, &[(4, 5, "5"), (5, 4, "5")]);
+    rows.of_numbers(&AtMost, &[(4, 5, "4"), (5, 4, "4")]);
     rows.row(&Abs, &Value::Integer(-17), &[], "17");
     rows.row(&Abs, &Value::Integer(LEAST), &[], "NumberRange");
 }
@@ -127,7 +119,7 @@ fn texts(rt: HostRuntime) {
         "DivideByZero",
     );
     rows.row(&Modulo, &Value::Nil, &[Value::Integer(0)], "InvalidInput");
-    rows.texts(
+    rows.of_texts(
         &Abs,
         &[("-007", "7"), ("-1.5", "Float"), ("x", "InvalidInput")],
     );
@@ -139,7 +131,7 @@ fn decimals(rt: HostRuntime) {
         rt: &rt,
         alloc: rt.alloc(),
     };
-    rows.texts(
+    rows.of_texts(
         &Round,
         &[
             ("2.5", "3"),
@@ -149,7 +141,7 @@ fn decimals(rt: HostRuntime) {
             ("007", "7"),
         ],
     );
-    rows.texts(
+    rows.of_texts(
         &Ceil,
         &[
             ("-0.5", "0"),
@@ -158,7 +150,7 @@ fn decimals(rt: HostRuntime) {
             (".5", "InvalidInput"),
         ],
     );
-    rows.texts(
+    rows.of_texts(
         &Floor,
         &[
             ("-0.5", "-1"),

@@ -1,10 +1,11 @@
-use super::{one, pair, text, with};
-use crate::Value;
+//! What stands at a path in a value.
+use crate::samples::{one, pair, text, with};
+use liquid_core::Value;
 use std::alloc::Global;
 use std::test::Fail;
 
 /// The steps between dots: `#7` is the number 7, `?` is true, and all else is a text.
-fn path(alloc: Global, written: &str) -> crate::Result<Vec<Value>> {
+fn path(alloc: Global, written: &str) -> liquid_core::Result<Vec<Value>> {
     let mut steps = Vec::new(alloc);
     for part in written.split('.') {
         let step = match part.strip_prefix("#") {
@@ -20,7 +21,7 @@ fn path(alloc: Global, written: &str) -> crate::Result<Vec<Value>> {
     Ok(steps)
 }
 
-fn sample(alloc: Global) -> crate::Result<Value> {
+fn sample(alloc: Global) -> liquid_core::Result<Value> {
     let keyed = with(
         alloc,
         one(alloc, "size", Value::Integer(7))?,

@@ -1,11 +1,11 @@
 //! Filters at texts.
-use super::Rows;
-use crate::stdlib::{
+use crate::rows::Rows;
+use liquid_core::{ErrorKind, Value};
+use liquid_filters::stdlib::{
     Append, Capitalize, Default, Downcase, Lstrip, Prepend, Remove, RemoveFirst, Replace,
     ReplaceFirst, Rstrip, Size, Slice, Split, Strip, StripNewlines, Truncate, TruncateWords,
     Upcase,
 };
-use liquid_core::{ErrorKind, Value};
 
 #[test]
 fn sizes_and_defaults(rt: HostRuntime) {

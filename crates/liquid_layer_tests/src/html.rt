@@ -1,7 +1,7 @@
 //! Filters at HTML.
-use super::Rows;
-use crate::stdlib::{Escape, EscapeOnce, NewlineToBr, StripHtml};
+use crate::rows::Rows;
 use liquid_core::Value;
+use liquid_filters::stdlib::{Escape, EscapeOnce, NewlineToBr, StripHtml};
 
 #[test]
 fn escapes(rt: HostRuntime) {

@@ -1,10 +1,7 @@
 //! Sources that are parsed, and sources that are refused, at examples.
-use crate::language::{BlockKind, Language, TagKind};
-use crate::node::Node;
-use crate::parser::parse;
-use crate::partials::Partials;
 use liquid_core::{Error, ErrorKind};
 use liquid_filters::{FilterKind, stdlib};
+use liquid_syntax::{BlockKind, Language, Node, Partials, TagKind, parse};
 use std::alloc::Global;
 use std::test::Fail;
 
@@ -26,7 +23,7 @@ fn small_language(alloc: Global) -> Result<Language, Error> {
 }
 
 /// The small language, with the blocks `if`, `raw` and `comment`.
-fn language_with_blocks(alloc: Global) -> Result<Language, Error> {
+pub(crate) fn language_with_blocks(alloc: Global) -> Result<Language, Error> {
     let mut language = small_language(alloc)?;
     for (name, kind) in [
         ("if", BlockKind::If),

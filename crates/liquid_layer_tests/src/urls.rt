@@ -1,7 +1,7 @@
 //! Filters at URLs.
-use super::Rows;
-use crate::stdlib::{UrlDecode, UrlEncode};
+use crate::rows::Rows;
 use liquid_core::{ErrorKind, Value};
+use liquid_filters::stdlib::{UrlDecode, UrlEncode};
 
 #[test]
 fn urls(rt: HostRuntime) {

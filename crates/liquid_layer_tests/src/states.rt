@@ -1,5 +1,6 @@
-use super::{one, text, with};
-use crate::{Interrupt, State, Value};
+//! The state of a run: its layers and registers.
+use crate::samples::{one, text, with};
+use liquid_core::{Interrupt, State, Value};
 use std::collections::BTreeMap;
 use std::test::Fail;
 
