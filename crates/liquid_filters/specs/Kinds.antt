@@ -12,16 +12,16 @@ use Rattle.liquid_list_filters.specs.Rows.{concat_answer, reverse_answer}
 use Rattle.liquid_list_filters.specs.Sorting.{sort_answer, sort_natural_answer}
 use Rattle.liquid_text_filters.specs.Case.{capitalize_answer, downcase_answer, upcase_answer}
 use Rattle.liquid_text_filters.specs.Default.{default_answer}
-use Rattle.liquid_text_filters.specs.Escapes.{escape_answer, escape_once_answer}
-use Rattle.liquid_text_filters.specs.LineBreaks.{newline_to_br_answer}
 use Rattle.liquid_text_filters.specs.Operate.{append_answer, prepend_answer, remove_answer, remove_first_answer, replace_answer, replace_first_answer}
 use Rattle.liquid_text_filters.specs.Size.{size_answer}
 use Rattle.liquid_text_filters.specs.Slice.{slice_answer}
 use Rattle.liquid_text_filters.specs.Split.{split_answer}
 use Rattle.liquid_text_filters.specs.Strip.{lstrip_answer, rstrip_answer, strip_answer, strip_newlines_answer}
-use Rattle.liquid_text_filters.specs.Tags.{strip_html_answer}
 use Rattle.liquid_text_filters.specs.Truncate.{truncate_answer, truncatewords_answer}
-use Rattle.liquid_text_filters.specs.Urls.{url_decode_answer, url_encode_answer}
+use Rattle.liquid_web_filters.specs.Escapes.{escape_answer, escape_once_answer}
+use Rattle.liquid_web_filters.specs.LineBreaks.{newline_to_br_answer}
+use Rattle.liquid_web_filters.specs.Tags.{strip_html_answer}
+use Rattle.liquid_web_filters.specs.Urls.{url_decode_answer, url_encode_answer}
 use Rattle.liquid_number_filters.specs.declared.stdlib.filters.math.decimal.Rounding.TheVariants.{Up, Down}
 use Rattle.liquid_filters.specs.declared.kind.FilterKind.{FilterKind}
 use Rattle.liquid_filters.specs.declared.kind.FilterKind.TheVariants.{Join, Sort, SortNatural, Where, Uniq, Reverse, Map, Compact, Concat, First, Last, Abs, AtLeast, AtMost, Plus, Minus, Times, DividedBy, Modulo, Round, Ceil, Floor, Size, Default, Slice, Split, Replace, ReplaceFirst, Remove, RemoveFirst, Append, Prepend, Strip, Lstrip, Rstrip, StripNewlines, Downcase, Upcase, Capitalize, Truncate, TruncateWords, Escape, EscapeOnce, StripHtml, NewlineToBr, UrlEncode, UrlDecode}

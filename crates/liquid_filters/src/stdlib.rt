@@ -6,7 +6,10 @@ pub use liquid_number_filters::stdlib::{
     Abs, AtLeast, AtMost, Ceil, DividedBy, Floor, Minus, Modulo, Plus, Round, Times,
 };
 pub use liquid_text_filters::stdlib::{
-    Append, Capitalize, Default, Downcase, Escape, EscapeOnce, Lstrip, NewlineToBr, Prepend,
-    Remove, RemoveFirst, Replace, ReplaceFirst, Rstrip, Size, Slice, Split, Strip, StripHtml,
-    StripNewlines, Truncate, TruncateWords, Upcase, UrlDecode, UrlEncode,
+    Append, Capitalize, Default, Downcase, Lstrip, Prepend, Remove, RemoveFirst, Replace,
+    ReplaceFirst, Rstrip, Size, Slice, Split, Strip, StripNewlines, Truncate, TruncateWords,
+    Upcase,
+};
+pub use liquid_web_filters::stdlib::{
+    Escape, EscapeOnce, NewlineToBr, StripHtml, UrlDecode, UrlEncode,
 };

@@ -11,3 +11,4 @@ pub mod Sequences
 pub mod Sorting
 pub mod Sorts
 pub mod Stands
+pub mod Text

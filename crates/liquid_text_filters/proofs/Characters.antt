@@ -61,18 +61,6 @@ skipped_end (b ∷ s) all n z h = absurd (omega arith)
 pub skipped_done : (s all : List ℕ) (n : ℕ) → n ≡ 0 → IsUtf8 s × (all ≡ drop n (chars s)) → s ≡ encode_utf8_all all
 skipped_done s all n z h = sym (encodes-chars s h.0) ∙ ap encode_utf8_all (sym (h.1 ∙ ap (λ k. drop k (chars s)) z))
 
--- ---- one character after another, put behind those before it
-pub read_turn : (s rest out next all : List ℕ) (c : ℕ) → s ≡ encode_utf8 c ++ rest → next ≡ out ++ c ∷ []
-    → IsUtf8 s × (all ≡ out ++ chars s) → IsUtf8 rest × (all ≡ next ++ chars rest)
-read_turn s rest out next all c e g h = (
-  IsUtf8-past_char s rest c h.0 e,
-  h.1 ∙ ap (λ t. out ++ t) (chars_past_char s rest c h.0 e) ∙ sym (append_assoc out (c ∷ []) (chars rest)) ∙ ap (λ t. t ++ chars rest) (sym g),
-)
-
-pub read_end : (s out all : List ℕ) → length s ≡ 0 → IsUtf8 s × (all ≡ out ++ chars s) → out ≡ all
-read_end [] out all z h = sym (append-nil out) ∙ ap (λ t. out ++ t) (sym chars-nil) ∙ sym h.1
-read_end (b ∷ s) out all z h = absurd (omega arith)
-
 -- a text is its first characters and those after them
 pub characters_cut : (s : List ℕ) (n : ℕ) → IsUtf8 s → s ≡ encode_utf8_all (take n (chars s)) ++ encode_utf8_all (drop n (chars s))
 characters_cut s n u = sym (encodes-chars s u) ∙ ap encode_utf8_all (sym (take-append-drop n (chars s))) ∙ encodes-append (take n (chars s)) (drop n (chars s))

@@ -15,12 +15,14 @@ use Rattle.liquid_core.specs.View.{items_of}
 use Rattle.liquid_core.specs.declared.error.ErrorKind.{ErrorKind}
 use Rattle.liquid_list_filters.specs.Arguments.{Answer, text_or}
 use Rattle.liquid_list_filters.specs.Joined.{joined}
+use Rattle.liquid_list_filters.specs.Text.{begins, Makes, Texts}
+use Rattle.liquid_list_filters.proofs.Ones.{image_one, same_one}
 use Rattle.liquid_text_filters.specs.Arguments.{whole_or}
-use Rattle.liquid_text_filters.specs.Laws.{CapitalizeIsOne, Divides, DowncaseIsOne, JoinGivesBack, KeepsClusters, KeepsWords, LstripIsOne, Makes, Reads, RemoveFirstIsOne, RemoveIsOne, ReplaceFirstIsOne, ReplaceIsOne, RstripIsOne, SliceIsOne, Slices, SplitIsOne, StripIsOne, StripNewlinesIsOne, TakesPart, Texts, TruncateIsOne, Truncates, TruncateWordsIsOne, TruncatesWords, UpcaseIsOne}
+use Rattle.liquid_text_filters.specs.Laws.{CapitalizeIsOne, Divides, DowncaseIsOne, JoinGivesBack, KeepsClusters, KeepsWords, LstripIsOne, Reads, RemoveFirstIsOne, RemoveIsOne, ReplaceFirstIsOne, ReplaceIsOne, RstripIsOne, SliceIsOne, Slices, SplitIsOne, StripIsOne, StripNewlinesIsOne, TakesPart, TruncateIsOne, Truncates, TruncateWordsIsOne, TruncatesWords, UpcaseIsOne}
 use Rattle.liquid_text_filters.specs.Occurrences.{Lacks, Replaces, ReplacesFirst}
 use Rattle.liquid_text_filters.specs.Operate.{replaced, replaced_first}
 use Rattle.liquid_text_filters.specs.Parts.{AreFirst, FollowFirst, IsPart}
-use Rattle.liquid_text_filters.specs.Pieces.{begins, split_by}
+use Rattle.liquid_text_filters.specs.Pieces.{split_by}
 use Rattle.liquid_text_filters.specs.Places.{start, taken}
 use Rattle.liquid_text_filters.specs.Slice.{part, sliced}
 use Rattle.liquid_text_filters.specs.Spelling.{Capitalizes, MapsCharacters, StripsEnd, StripsEnds, StripsNewlines, StripsStart}
@@ -32,15 +34,9 @@ use Rattle.liquid_text_filters.proofs.Replaced.{here_nil, first_found, first_non
 use Rattle.liquid_text_filters.proofs.Spellings.{capitalized_one, downcased_one, strips_end_one, strips_ends_one, strips_newlines_one, strips_start_one, upcased_one}
 
 -- ---- answers
-pub made_one : {X : Type 0} (f : X → Answer) (R : X → Type 0) (x : X) → IsTheOne R x → IsTheOne (Makes f R) (f x)
-made_one f R x one = λ a. ((λ h. h.1 ∙ ap f ((one h.0).0 h.2)), λ e. (x, e, (one x).1 refl))
-
 read_one : (r : Result ℤ ErrorKind) (f : ℤ → Answer) (R : ℤ → Answer → Type 0) → ((z : ℤ) → IsTheOne (R z) (f z)) → IsTheOne (Reads r R) (r >>= f)
 read_one (Ok z) f R one = one z
 read_one (Err kind) f R one = λ a. ((λ h. h), λ e. e)
-
-pub same_one : {X : Type 0} (x : X) → IsTheOne (λ y. y ≡ x) x
-same_one x = λ a. ((λ h. h), λ e. e)
 
 -- ---- pieces
 divides_one : (p s : List ℕ) → IsUtf8 s → IsTheOne (Divides p s) (divided p s)
@@ -48,7 +44,7 @@ divides_one p [] u = same_one []
 divides_one p (b ∷ s) u = split_one p (b ∷ s) u
 
 pub split_law : SplitIsOne
-split_law d args u = made_one (λ ps. Ok (texts ps)) (Divides (text_or [] args) (text_of d)) _ (divides_one (text_or [] args) (text_of d) u)
+split_law d args u = image_one (Divides (text_or [] args) (text_of d)) (λ ps. Ok (texts ps)) _ (divides_one (text_or [] args) (text_of d) u)
 
 texts_of : (ts : List (List ℕ)) → map text_of (list_of (items_of (map (λ t. text t) ts))) ≡ ts
 texts_of [] = refl
@@ -65,10 +61,10 @@ replaces_one : (p r s : List ℕ) → IsUtf8 s → IsTheOne (Replaces p r s) (re
 replaces_one p r s u = λ t. ((λ h. h.2 ∙ ap (joined r) ((split_one p s u h.0).0 h.1)), λ e. (split_by p s, (split_one p s u (split_by p s)).1 refl, e))
 
 pub replace_law : ReplaceIsOne
-replace_law d args u = made_one (λ t. Ok (text t)) (Replaces (text_or [] args) (text_or [] (drop 1 args)) (text_of d)) _ (replaces_one (text_or [] args) (text_or [] (drop 1 args)) (text_of d) u)
+replace_law d args u = image_one (Replaces (text_or [] args) (text_or [] (drop 1 args)) (text_of d)) (λ t. Ok (text t)) _ (replaces_one (text_or [] args) (text_or [] (drop 1 args)) (text_of d) u)
 
 pub remove_law : RemoveIsOne
-remove_law d args u = made_one (λ t. Ok (text t)) (Replaces (text_or [] args) [] (text_of d)) _ (replaces_one (text_or [] args) [] (text_of d) u)
+remove_law d args u = image_one (Replaces (text_or [] args) [] (text_of d)) (λ t. Ok (text t)) _ (replaces_one (text_or [] args) [] (text_of d) u)
 
 -- ---- the first occurrence
 lacks_empty : (p : List ℕ) → begins p [] ≡ false → Lacks p []
@@ -107,10 +103,10 @@ replaces_first_one : (p r s : List ℕ) → IsTheOne (ReplacesFirst p r s) (repl
 replaces_first_one p r s = λ t. (first_unique p r s t, λ e. subst (ReplacesFirst p r s) (sym e) (first_stands p r s))
 
 pub replace_first_law : ReplaceFirstIsOne
-replace_first_law d args = made_one (λ t. Ok (text t)) (ReplacesFirst (text_or [] args) (text_or [] (drop 1 args)) (text_of d)) _ (replaces_first_one (text_or [] args) (text_or [] (drop 1 args)) (text_of d))
+replace_first_law d args = image_one (ReplacesFirst (text_or [] args) (text_or [] (drop 1 args)) (text_of d)) (λ t. Ok (text t)) _ (replaces_first_one (text_or [] args) (text_or [] (drop 1 args)) (text_of d))
 
 pub remove_first_law : RemoveFirstIsOne
-remove_first_law d args = made_one (λ t. Ok (text t)) (ReplacesFirst (text_or [] args) [] (text_of d)) _ (replaces_first_one (text_or [] args) [] (text_of d))
+remove_first_law d args = image_one (ReplacesFirst (text_or [] args) [] (text_of d)) (λ t. Ok (text t)) _ (replaces_first_one (text_or [] args) [] (text_of d))
 
 -- ---- parts of lists
 first_one : {X : Type 0} (n : ℕ) (xs : List X) → IsTheOne (AreFirst n xs) (take n xs)
@@ -150,14 +146,14 @@ module _ {X : Type 0} (n count : ℕ) (xs : List X) where
 
 characters_part : (offset : ℤ) (count : ℕ) (s : List ℕ)
     → IsTheOne (Makes (λ cs. Ok (text (encode_utf8_all cs))) (IsPart (length s) offset count (chars s))) (Ok (text (encode_utf8_all (taken (length s) (start (length s) offset) count (chars s)))))
-characters_part offset count s = made_one (λ cs. Ok (text (encode_utf8_all cs))) (IsPart (length s) offset count (chars s)) _ (part_one (length s) count (chars s) offset)
+characters_part offset count s = image_one (IsPart (length s) offset count (chars s)) (λ cs. Ok (text (encode_utf8_all cs))) _ (part_one (length s) count (chars s) offset)
 
 takes_one : (offset : ℤ) (count : ℕ) (d : Datum) → IsTheOne (TakesPart offset count d) (Ok (part offset count d))
 takes_one offset count nil = characters_part offset count (text_of nil)
 takes_one offset count (truth b) = characters_part offset count (text_of (truth b))
 takes_one offset count (number z) = characters_part offset count (text_of (number z))
 takes_one offset count (text s) = characters_part offset count s
-takes_one offset count (array ds) = made_one (λ out. Ok (array (items_of out))) (IsPart (length (list_of ds)) offset count (list_of ds)) _ (part_one (length (list_of ds)) count (list_of ds) offset)
+takes_one offset count (array ds) = image_one (IsPart (length (list_of ds)) offset count (list_of ds)) (λ out. Ok (array (items_of out))) _ (part_one (length (list_of ds)) count (list_of ds) offset)
 takes_one offset count (object ms) = characters_part offset count (text_of (object ms))
 
 slices_one : (d : Datum) (offset count : ℤ) → IsTheOne (Slices d offset count) (sliced d offset count)
@@ -194,7 +190,7 @@ clusters_one n end s = λ t. (
 truncates_one : (d : Datum) (end : List ℕ) (z : ℤ) → IsTheOne (Truncates d end z) (Ok (truncated d end z))
 truncates_one d end (pos n) =
     shorter_one n (length (text_of d)) d (text (first_clusters (n - length end) (text_of d) ++ end)) (Texts (KeepsClusters (n - length end) end (text_of d)))
-    (made_one (λ t. Ok (text t)) (KeepsClusters (n - length end) end (text_of d)) _ (clusters_one (n - length end) end (text_of d)))
+    (image_one (KeepsClusters (n - length end) end (text_of d)) (λ t. Ok (text t)) _ (clusters_one (n - length end) end (text_of d)))
 truncates_one d end (negsuc n) = same_one (Ok d)
 
 pub truncate_law : TruncateIsOne
@@ -212,7 +208,7 @@ words_known : (d : Datum) (end : List ℕ) (n : ℕ) (ws : List (List ℕ))
     → IsTheOne (λ a. ((n < length ws) × Texts (KeepsWords n end ws) a) ⊎ ((length ws ≤ n) × (a ≡ Ok d))) (Ok (if ltb n (length ws) then text (joined (codes " ") (take n ws) ++ end) else d))
 words_known d end n ws =
     shorter_one n (length ws) d (text (joined (codes " ") (take n ws) ++ end)) (Texts (KeepsWords n end ws))
-    (made_one (λ t. Ok (text t)) (KeepsWords n end ws) _ (words_one n end ws))
+    (image_one (KeepsWords n end ws) (λ t. Ok (text t)) _ (words_one n end ws))
 
 truncates_words_one : (d : Datum) (end : List ℕ) (z : ℤ) → IsTheOne (TruncatesWords d end z) (Ok (words_truncated d end z))
 truncates_words_one d end (pos n) =
@@ -228,7 +224,7 @@ truncatewords_law d args =
 
 -- ---- characters
 text_one : (R : List ℕ → Type 0) (t : List ℕ) → IsTheOne R t → IsTheOne (Texts R) (Ok (text t))
-text_one R t one = made_one (λ t. Ok (text t)) R t one
+text_one R t one = image_one R (λ t. Ok (text t)) t one
 
 pub downcase_law : DowncaseIsOne
 downcase_law d args u = text_one (MapsCharacters to_ascii_lowercase (text_of d)) _ (downcased_one (text_of d) u)

@@ -2,7 +2,8 @@
 use Rattle.std.proofs.Common.{◌≡◌, ◌≢◌, ℕ, zero, suc, ◌-◌, ◌<◌, ◌≤◌, Bool, true, false, ◌&&◌, ◌==◌, List, [], ◌∷◌, ◌++◌, length, take, drop, ap, refl, sym, ◌∙◌, arith, if◌then◌else◌}
 use Rattle.std.proofs.lemmas.Bool.Decides.{nat_tests}
 use Rattle.liquid_list_filters.specs.Joined.{joined, joined_rest}
-use Rattle.liquid_text_filters.specs.Pieces.{begins, push, pieces, split_by}
+use Rattle.liquid_list_filters.specs.Text.{begins}
+use Rattle.liquid_text_filters.specs.Pieces.{push, pieces, split_by}
 
 joined-push : (p : List ℕ) (b : ℕ) (ps : List (List ℕ)) → joined p (push b ps) ≡ b ∷ joined p ps
 joined-push p b [] = refl

@@ -7,9 +7,10 @@ use Rattle.std.specs.Str.{chars, IsUtf8}
 use Rattle.std.specs.Str.Pattern.{FindsText, LacksTextAt}
 use Rattle.std.specs.Str.Replace.{ContinuesAfterMatch, ReplacesMatches, ReplacesFirstMatches}
 use Rattle.liquid_list_filters.specs.Joined.{joined, joined_rest}
+use Rattle.liquid_list_filters.specs.Text.{begins}
 use Rattle.liquid_text_filters.specs.Occurrences.{Lacks}
 use Rattle.liquid_text_filters.specs.Operate.{replaced, replaced_first}
-use Rattle.liquid_text_filters.specs.Pieces.{begins, pieces}
+use Rattle.liquid_text_filters.specs.Pieces.{pieces}
 use Rattle.liquid_text_filters.proofs.Pieces.{begins_own, begins_not, joined_rest-pieces, pieces_found, pieces_none}
 
 -- a search text, as the code holds it

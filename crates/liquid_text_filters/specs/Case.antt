@@ -4,7 +4,7 @@ use Rattle.std.specs.Char.{to_ascii_lowercase, to_ascii_uppercase}
 use Rattle.std.specs.Str.{chars, encode_utf8_all}
 use Rattle.liquid_core.specs.Data.{Datum}
 use Rattle.liquid_list_filters.specs.Arguments.{Answer}
-use Rattle.liquid_text_filters.specs.Text.{of_text}
+use Rattle.liquid_list_filters.specs.Text.{of_text}
 
 -- the first character in upper case
 abbrev pub upper_first : List ℕ → List ℕ

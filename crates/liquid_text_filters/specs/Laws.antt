@@ -14,6 +14,7 @@ use Rattle.liquid_core.specs.declared.error.ErrorKind.{ErrorKind}
 use Rattle.liquid_core.specs.declared.error.ErrorKind.TheVariants.{InvalidArgument}
 use Rattle.liquid_list_filters.specs.Arguments.{Answer, text_or}
 use Rattle.liquid_list_filters.specs.Joined.{join_answer, joined}
+use Rattle.liquid_list_filters.specs.Text.{Makes, Texts}
 use Rattle.liquid_text_filters.specs.Arguments.{whole_or}
 use Rattle.liquid_text_filters.specs.Case.{capitalize_answer, downcase_answer, upcase_answer}
 use Rattle.liquid_text_filters.specs.Occurrences.{ArePieces, Replaces, ReplacesFirst, Splits}
@@ -24,14 +25,6 @@ use Rattle.liquid_text_filters.specs.Spelling.{Capitalizes, MapsCharacters, Stri
 use Rattle.liquid_text_filters.specs.Split.{split_answer, texts}
 use Rattle.liquid_text_filters.specs.Strip.{lstrip_answer, rstrip_answer, strip_answer, strip_newlines_answer}
 use Rattle.liquid_text_filters.specs.Truncate.{truncate_answer, truncatewords_answer}
-
--- the answer is f of something of which R holds
-abbrev pub Makes : {X : Type 0} → (X → Answer) → (X → Type 0) → Answer → Type 0
-Makes {X} f R a = (x : X) × (a ≡ f x) × R x
-
--- the answer is a text of which R holds
-abbrev pub Texts : (Text → Type 0) → Answer → Type 0
-Texts = Makes (λ t. Ok (text t))
 
 -- where a number was read R holds of it and the answer, else the fault is the answer
 abbrev pub Reads : Result ℤ ErrorKind → (ℤ → Answer → Type 0) → Answer → Type 0

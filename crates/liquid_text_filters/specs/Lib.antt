@@ -1,10 +1,7 @@
 pub mod Arguments
 pub mod Case
 pub mod Default
-pub mod Escapes
-pub mod HtmlLaws
 pub mod Laws
-pub mod LineBreaks
 pub mod Occurrences
 pub mod Operate
 pub mod Parts
@@ -15,8 +12,4 @@ pub mod Slice
 pub mod Spelling
 pub mod Split
 pub mod Strip
-pub mod Tags
-pub mod Text
 pub mod Truncate
-pub mod UrlLaws
-pub mod Urls

@@ -4,7 +4,8 @@ use Rattle.liquid_core.specs.Data.{Datum, text, text_of}
 use Rattle.liquid_core.specs.Texts.{Text}
 use Rattle.liquid_list_filters.specs.Arguments.{Answer, text_or}
 use Rattle.liquid_list_filters.specs.Joined.{joined}
-use Rattle.liquid_text_filters.specs.Pieces.{begins, split_by}
+use Rattle.liquid_list_filters.specs.Text.{begins}
+use Rattle.liquid_text_filters.specs.Pieces.{split_by}
 
 -- `append`: the input's text, then the argument's
 abbrev pub append_answer : Datum → List Datum → Answer

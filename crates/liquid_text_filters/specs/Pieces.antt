@@ -1,14 +1,9 @@
 -- The pieces of a text between the occurrences of another, from left to right and without overlap.
-use Rattle.std.specs.Prelude.{ℕ, zero, suc, ◌-◌, Bool, true, false, ◌&&◌, ◌==◌, List, [], ◌∷◌, ◌++◌, length, map, if◌then◌else◌}
+use Rattle.std.specs.Prelude.{ℕ, zero, suc, ◌-◌, List, [], ◌∷◌, ◌++◌, length, map, if◌then◌else◌}
 use Rattle.std.specs.Char.{encode_utf8}
 use Rattle.std.specs.Str.{chars}
 use Rattle.liquid_core.specs.Texts.{Text}
-
--- the text begins with p
-abbrev pub begins : Text → Text → Bool
-begins [] s = true
-begins (x ∷ p) [] = false
-begins (x ∷ p) (y ∷ s) = x == y && begins p s
+use Rattle.liquid_list_filters.specs.Text.{begins}
 
 -- a byte before the first piece
 abbrev pub push : ℕ → List Text → List Text

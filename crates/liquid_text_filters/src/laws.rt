@@ -5,9 +5,6 @@
 //! two texts joined.
 ghost use Rattle.liquid_text_filters.specs.Laws.{CapitalizeIsOne, DowncaseIsOne, JoinGivesBack, LstripIsOne, RemoveFirstIsOne, RemoveIsOne, ReplaceFirstIsOne, ReplaceIsOne, RstripIsOne, SliceIsOne, SplitIsOne, StripIsOne, StripNewlinesIsOne, TruncateIsOne, TruncateWordsIsOne, UpcaseIsOne};
 
-pub mod html;
-pub mod url;
-
 /// `split`: the pieces between the occurrences, from left to right and without overlap.
 pub fn split_is_one()
     ensures { SplitIsOne }

@@ -2,9 +2,6 @@
 mod filters;
 
 pub use filters::default::Default;
-pub use filters::html::escape::{Escape, EscapeOnce};
-pub use filters::html::line_break::NewlineToBr;
-pub use filters::html::tags::StripHtml;
 pub use filters::size::Size;
 pub use filters::slice::Slice;
 pub use filters::string::case::{Capitalize, Downcase, Upcase};
@@ -12,4 +9,3 @@ pub use filters::string::operate::{Append, Prepend, Remove, RemoveFirst, Replace
 pub use filters::string::split::Split;
 pub use filters::string::strip::{Lstrip, Rstrip, Strip, StripNewlines};
 pub use filters::string::truncate::{Truncate, TruncateWords};
-pub use filters::url::{UrlDecode, UrlEncode};

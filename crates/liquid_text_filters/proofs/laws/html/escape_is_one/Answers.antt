@@ -1,5 +1,0 @@
-use Rattle.liquid_text_filters.proofs.HtmlLaws.{escape_one}
-use Rattle.liquid_text_filters.proofs.laws.html.escape_is_one.Goals as goal
-
-pub returns : goal.returns
-returns c = escape_one

@@ -1,5 +1,0 @@
-use Rattle.liquid_text_filters.proofs.HtmlLaws.{newline_to_br_one}
-use Rattle.liquid_text_filters.proofs.laws.html.newline_to_br_is_one.Goals as goal
-
-pub returns : goal.returns
-returns c = newline_to_br_one

@@ -1,0 +1,10 @@
+pub mod Bytes
+pub mod Escapes
+pub mod Faults
+pub mod HtmlLaws
+pub mod Letters
+pub mod LineBreaks
+pub mod Pairs
+pub mod Tags
+pub mod UrlLaws
+pub mod Urls

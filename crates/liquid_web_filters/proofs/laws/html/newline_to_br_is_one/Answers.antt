@@ -1,0 +1,5 @@
+use Rattle.liquid_web_filters.proofs.HtmlLaws.{newline_to_br_one}
+use Rattle.liquid_web_filters.proofs.laws.html.newline_to_br_is_one.Goals as goal
+
+pub returns : goal.returns
+returns c = newline_to_br_one

@@ -1,0 +1,6 @@
+pub mod Escapes
+pub mod HtmlLaws
+pub mod LineBreaks
+pub mod Tags
+pub mod UrlLaws
+pub mod Urls

@@ -1,0 +1,5 @@
+//! Filters over HTML and URLs.
+#![tactic(auto)]
+
+pub mod laws;
+pub mod stdlib;

@@ -1,0 +1,3 @@
+//! Filters by what they work on.
+pub mod html;
+pub mod url;

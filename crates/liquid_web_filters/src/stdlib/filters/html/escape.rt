@@ -1,0 +1,122 @@
+//! Filters that write the letters with a meaning in HTML by their escapes.
+ghost use Rattle.std.specs.Prelude.{◌≡◌, ◌++◌, nat_eq, option_map, string_bytes};
+ghost use Rattle.liquid_core.specs.Answer.{Gives};
+ghost use Rattle.liquid_web_filters.specs.Escapes.{ends_escape, escape_answer, escape_of, escape_once_answer, escaped, escaped_letter, escaped_once, once_letter};
+
+use liquid_core::{Filter, Result, Value};
+use liquid_list_filters::text_of;
+use std::alloc::Global;
+
+/// `escape`: the input's text with `&lt;`, `&gt;`, `&#39;`, `&quot;` and `&amp;` for `<`, `>`, `'`, `"` and `&`. Nil stays.
+#[derive(Clone, Copy, Drop)]
+pub struct Escape;
+
+impl Filter for Escape {
+    ghost counts = { λ _ n. nat_eq n 0 };
+
+    ghost answer = { λ _. escape_answer };
+
+    fn accepts(&self, count: usize) -> bool {
+        count == 0
+    }
+
+    fn evaluate(&self, alloc: Global, input: &Value, _args: &[Value]) -> Result<Value> {
+        match input {
+            Value::Nil => Ok(Value::Nil),
+            _ => {
+                let text = text_of(alloc, input)?;
+                Ok(Value::Text(escaped(alloc, text.as_str())?))
+            }
+        }
+    }
+}
+
+/// `escape_once`: as `escape`, but an `&` that begins one of the five escapes stays.
+#[derive(Clone, Copy, Drop)]
+pub struct EscapeOnce;
+
+impl Filter for EscapeOnce {
+    ghost counts = { λ _ n. nat_eq n 0 };
+
+    ghost answer = { λ _. escape_once_answer };
+
+    fn accepts(&self, count: usize) -> bool {
+        count == 0
+    }
+
+    fn evaluate(&self, alloc: Global, input: &Value, _args: &[Value]) -> Result<Value> {
+        match input {
+            Value::Nil => Ok(Value::Nil),
+            _ => {
+                let text = text_of(alloc, input)?;
+                Ok(Value::Text(escaped_once(alloc, text.as_str())?))
+            }
+        }
+    }
+}
+
+fn escaped(alloc: Global, text: &str) -> Result<String>
+    ensures { Gives (λ s. string_bytes s) result (escaped text.now) }
+{
+    let mut out = String::with_capacity(alloc, text.len())?;
+    let mut rest = text.chars();
+    while let Some(letter) = rest.next() {
+        push_escaped(&mut out, letter)?;
+    }
+    Ok(out)
+}
+
+fn escaped_once(alloc: Global, text: &str) -> Result<String>
+    ensures { Gives (λ s. string_bytes s) result (escaped_once text.now) }
+{
+    let mut out = String::with_capacity(alloc, text.len())?;
+    let mut rest = text.chars();
+    while let Some(letter) = rest.next() {
+        push_escaped_once(&mut out, letter, rest.as_str())?;
+    }
+    Ok(out)
+}
+
+/// Appends a character, or the escape for it unless it is the `&` of one with the text after it.
+fn push_escaped_once(out: &mut String, letter: char, after: &str) -> Result<()>
+    ensures { Gives (λ _. string_bytes out.new) result (string_bytes out.old ++ once_letter letter after.now) }
+{
+    if letter == '&' && ends_escape(after) {
+        return Ok(out.push(letter)?);
+    }
+    push_escaped(out, letter)
+}
+
+/// Whether the text begins with what follows the `&` of an escape.
+fn ends_escape(after: &str) -> bool
+    ensures { result ≡ ends_escape after.now }
+{
+    after.starts_with("lt;")
+        || after.starts_with("gt;")
+        || after.starts_with("#39;")
+        || after.starts_with("quot;")
+        || after.starts_with("amp;")
+}
+
+/// Appends a character, or the escape for it.
+fn push_escaped(out: &mut String, letter: char) -> Result<()>
+    ensures { Gives (λ _. string_bytes out.new) result (string_bytes out.old ++ escaped_letter letter) }
+{
+    match escape_of(letter) {
+        Some(escape) => Ok(out.push_str(escape)?),
+        None => Ok(out.push(letter)?),
+    }
+}
+
+fn escape_of(letter: char) -> Option<&'static str>
+    ensures { option_map (λ t. t.now) result ≡ escape_of letter }
+{
+    match letter {
+        '<' => Some("&lt;"),
+        '>' => Some("&gt;"),
+        '\'' => Some("&#39;"),
+        '"' => Some("&quot;"),
+        '&' => Some("&amp;"),
+        _ => None,
+    }
+}

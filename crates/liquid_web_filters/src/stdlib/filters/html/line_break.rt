@@ -1,0 +1,48 @@
+//! The filter that breaks lines.
+ghost use Rattle.std.specs.Prelude.{◌++◌, nat_eq, string_bytes};
+ghost use Rattle.liquid_core.specs.Answer.{Gives};
+ghost use Rattle.liquid_web_filters.specs.LineBreaks.{broken, broken_letter, newline_to_br_answer};
+
+use liquid_core::{Filter, Result, Value};
+use liquid_list_filters::text_of;
+use std::alloc::Global;
+
+/// `newline_to_br`: the input's text with `<br />` before each LF.
+#[derive(Clone, Copy, Drop)]
+pub struct NewlineToBr;
+
+impl Filter for NewlineToBr {
+    ghost counts = { λ _ n. nat_eq n 0 };
+
+    ghost answer = { λ _. newline_to_br_answer };
+
+    fn accepts(&self, count: usize) -> bool {
+        count == 0
+    }
+
+    fn evaluate(&self, alloc: Global, input: &Value, _args: &[Value]) -> Result<Value> {
+        let text = text_of(alloc, input)?;
+        Ok(Value::Text(broken(alloc, text.as_str())?))
+    }
+}
+
+fn broken(alloc: Global, text: &str) -> Result<String>
+    ensures { Gives (λ s. string_bytes s) result (broken text.now) }
+{
+    let mut out = String::with_capacity(alloc, text.len())?;
+    let mut rest = text.chars();
+    while let Some(letter) = rest.next() {
+        push_broken(&mut out, letter)?;
+    }
+    Ok(out)
+}
+
+/// Appends a character, and before an LF a break.
+fn push_broken(out: &mut String, letter: char) -> Result<()>
+    ensures { Gives (λ _. string_bytes out.new) result (string_bytes out.old ++ broken_letter letter) }
+{
+    if letter == '\n' {
+        return Ok(out.push_str("<br />\n")?);
+    }
+    Ok(out.push(letter)?)
+}
