@@ -1,8 +1,7 @@
 //! Filters in order, of one type and of another, at examples.
-use crate::any_filter::AnyFilter;
-use crate::filter_call::{FilterCall, apply_filters};
 use liquid_core::{Expression, Filter, Result, State, Value, Variable};
 use liquid_filters::{FilterKind, stdlib};
+use liquid_tree::{AnyFilter, FilterCall, apply_filters};
 use std::alloc::Global;
 use std::collections::BTreeMap;
 use std::test::Fail;

@@ -1,8 +1,8 @@
 //! Conditions that are read, and items that are none, at examples.
 use crate::chain_items::expected;
-use crate::condition::Condition;
 use crate::condition_items::read_condition;
 use liquid_source::{ParseError, Piece, read_markup};
+use liquid_tree::Condition;
 use std::alloc::Global;
 use std::test::Fail;
 
