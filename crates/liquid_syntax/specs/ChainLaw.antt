@@ -1,5 +1,5 @@
 -- The laws of chains and of `assign`.
-use Rattle.std.specs.Prelude.{◌≡◌, ◌↔◌, List, ◌∷◌, Some}
+use Rattle.std.specs.Prelude.{◌≡◌, ◌↔◌, List, Some}
 use Rattle.liquid_core.specs.Texts.{Text}
 use Rattle.liquid_syntax.specs.ChainReading.{chain_of}
 use Rattle.liquid_syntax.specs.Chains.{Filters, IsChain, IsAssign}

@@ -1,7 +1,7 @@
 -- What `parse` reads: the one tree that the written grammar gives a source.
 --     IsTemplate l t source      the source is the tree t, in a language
 --     template_at l source      the tree, as it is read
-use Rattle.std.specs.Prelude.{◌≡◌, ℕ, ◌≤◌, List, [], length, false, Option, None, option_and_then, Result, Ok, Err, MatchBool, ⊤}
+use Rattle.std.specs.Prelude.{◌≤◌, List, [], length, false, Option, option_and_then, Result, Ok, Err, MatchBool, ⊤}
 use Rattle.liquid_core.specs.Answer.{IsTheOne}
 use Rattle.liquid_core.specs.Texts.{Text}
 use Rattle.liquid_core.specs.Told.{is_memory, number_of}

@@ -1,4 +1,4 @@
-use Rattle.std.proofs.Common.{rules, ◌≡◌, length, ℕ, ◌-◌, ◌<◌, [], sym, ap, ◌∙◌, arith, refl, subst, nat_le, Option}
+use Rattle.std.proofs.Common.{rules, ◌≡◌, length, ◌-◌, ◌<◌, [], sym, ap, ◌∙◌, arith, refl, subst, nat_le, Option}
 use Rattle.std.proofs.lemmas.Result.{err_from_is_err_and}
 use Rattle.std.specs.Prelude.{Err}
 use Rattle.liquid_source.specs.PieceView.{markup_view, piece_view}
