@@ -5,7 +5,6 @@ use Rattle.std.specs.Prelude.{ℕ, zero, suc, ◌-◌, min, ℤ, pos, negsuc, �
 use Rattle.std.specs.declared.cmp.Ordering.{Ordering}
 use Rattle.std.specs.Ordering.{is_lt, is_gt, is_le, is_ge}
 use Rattle.std.specs.List.{starts_with, list_any}
-use Rattle.std.specs.Option.{ok_or}
 use Rattle.liquid_core.specs.Texts.{Text}
 use Rattle.liquid_core.specs.Data.{Datum, Pairs, nil, number, array, object, text_of, truthy, scalar}
 use Rattle.liquid_core.specs.Lists.{list_of, pair_lists}

@@ -8,7 +8,7 @@ use Rattle.liquid_core.specs.States.{environment_of}
 use Rattle.liquid_filters.specs.Kinds.{kind_answer}
 use Rattle.liquid_tree.specs.Calls.{Call, applied}
 use Rattle.liquid_tree.specs.ChainView.{chain_view, chain_filter_view}
-use Rattle.liquid_tree.specs.Evaluation.{call_by, calls_by, chain_value}
+use Rattle.liquid_tree.specs.Evaluation.{calls_by, chain_value}
 use Rattle.liquid_tree.proofs.Calls.{chain_from, chain_faulted, filters_more, filters_stop, filters_end}
 use Rattle.liquid_tree.proofs.chain.FilterChain.evaluate_cow.Goals as goal
 
