@@ -1,13 +1,13 @@
 -- The loops over a chain's tokens, a turn at a time.
-use Rattle.std.proofs.Common.{◌≡◌, ℕ, suc, List, [], ◌∷◌, ◌++◌, length, Bool, true, false, nat_eq, cond, Option, Some, None, refl, sym, ap, ◌∙◌, map, append_assoc, arith, rules}
+use Rattle.std.proofs.Common.{◌≡◌, suc, List, [], ◌∷◌, ◌++◌, length, Bool, true, false, nat_eq, cond, Option, Some, None, refl, sym, ap, ◌∙◌, append_assoc, arith, rules}
 use Rattle.std.proofs.lemmas.List.{append-nil}
 use Rattle.std.specs.Option.{option_and_then, option_map}
 use Rattle.liquid_core.specs.Texts.{Text}
 use Rattle.liquid_core.specs.Maps.{listed}
 use Rattle.liquid_core.specs.Expression.{Expression, literal, variable, no_steps, step}
-use Rattle.liquid_syntax.specs.Tree.{FilterCall}
+use Rattle.liquid_tree.specs.Tree.{FilterCall}
 use Rattle.liquid_source.specs.Readers.{Fails, IsFault}
-use Rattle.liquid_source.specs.Tokens.{Token, value, range, symbol, tokens_view, word_of, word_in, value_first, word_first, is_symbol, past}
+use Rattle.liquid_source.specs.Tokens.{Token, value, range, symbol, tokens_view, value_first, word_first, is_symbol, past}
 use Rattle.liquid_syntax.specs.Chains.{Filters}
 use Rattle.liquid_syntax.specs.ChainReading.{Called, accepted_call, call_with, filters_of, call_of, called_of, arguments_of, further_of, no_arguments, one_argument}
 use Rattle.liquid_source.specs.declared.item.Item.{Item}

@@ -1,6 +1,5 @@
 -- A piece is read as just what the written grammar says that it is.
 use Rattle.std.proofs.Common.{◌≡◌, List, [], ◌∷◌, Option, Some, None, option_map, refl, sym, ap, subst, ◌∙◌}
-use Rattle.std.specs.Option.{option_and_then}
 use Rattle.liquid_core.specs.Texts.{Text}
 use Rattle.liquid_source.specs.Pieces as pieces
 use Rattle.liquid_source.specs.Pieces.{Piece}
@@ -16,7 +15,7 @@ use Rattle.liquid_syntax.specs.Labels.{IsLabel, is_text, is_output, is_end, is_e
 use Rattle.liquid_syntax.specs.Languages.{kinds_of}
 use Rattle.liquid_syntax.specs.Nesting.{Label, leaf, closed, begins, elsif, arm, otherwise, ends, refused}
 use Rattle.liquid_syntax.specs.Roles.{role_of, unread_body}
-use Rattle.liquid_syntax.specs.Tree.{Node, Chain, Condition, output, assign}
+use Rattle.liquid_tree.specs.Tree.{Node, Chain, Condition, output, assign}
 use Rattle.liquid_syntax.specs.declared.block.Block.TheVariants.{If}
 use Rattle.liquid_syntax.specs.declared.block.Control.TheVariants.{Elsif, Else}
 use Rattle.liquid_syntax.specs.declared.block.Place.{Place}

@@ -17,13 +17,13 @@ use Rattle.liquid_syntax.specs.declared.block.Role.TheVariants.{End, Control as 
 use Rattle.liquid_syntax.specs.declared.language.BlockKind.TheVariants as blocks
 use Rattle.liquid_syntax.specs.Nesting.{Label, leaf, closed, begins, elsif, arm, otherwise, ends, refused}
 use Rattle.liquid_syntax.specs.OpenBlocks.{Level, level, State, begun, depth, place_of, step, at_end, with_node}
-use Rattle.liquid_syntax.specs.Parsing.{body_of, piece_step, begun_with, template_at, ReadsTo}
+use Rattle.liquid_syntax.specs.Parsing.{body_of, piece_step, template_at, ReadsTo}
 use Rattle.liquid_source.specs.Pieces as pieces
 use Rattle.liquid_source.specs.Pieces.{Piece, stripped}
 use Rattle.liquid_source.specs.Readers.{Fails}
-use Rattle.liquid_source.specs.SourceReading.{Markup, markup_at, bare_name, body_at, wanted_body, text_step, source_at}
+use Rattle.liquid_source.specs.SourceReading.{Markup, markup_at, body_at, wanted_body, text_step, source_at}
 use Rattle.liquid_syntax.specs.Templates.{tree_of}
-use Rattle.liquid_syntax.specs.Tree.{Node, Nodes, no_nodes}
+use Rattle.liquid_tree.specs.Tree.{Node, Nodes, no_nodes}
 use Rattle.liquid_source.specs.ValueReading.{past_byte, text_at}
 use Rattle.liquid_syntax.specs.declared.build.Builder.{Builder}
 use Rattle.liquid_source.specs.declared.fault.ParseError.{ParseError}

@@ -1,5 +1,5 @@
 -- A source is read as just the tree that the written grammar gives it.
-use Rattle.std.proofs.Common.{◌≡◌, ℕ, ◌≤◌, List, [], ◌∷◌, length, Bool, false, Option, Some, None, refl, sym, ap, ◌∙◌, arith}
+use Rattle.std.proofs.Common.{◌≡◌, List, [], ◌∷◌, length, false, Option, Some, None, refl, sym, ap, ◌∙◌, arith}
 use Rattle.std.specs.Option.{option_and_then}
 use Rattle.liquid_core.specs.Texts.{Text}
 use Rattle.liquid_syntax.specs.Judging.{tag_label, raw_label, comment_label, reads}
@@ -9,12 +9,11 @@ use Rattle.liquid_syntax.specs.declared.block.Role.TheVariants.{End, Control as 
 use Rattle.liquid_syntax.specs.declared.language.BlockKind.TheVariants as blocks
 use Rattle.liquid_source.specs.declared.piece.Body.{Body}
 use Rattle.liquid_source.specs.declared.piece.Body.TheVariants as bodies
-use Rattle.liquid_syntax.specs.Nesting.{Label, leaf, refused}
 use Rattle.liquid_syntax.specs.OpenBlocks.{Level, State, place_of, step, at_end, go, read}
 use Rattle.liquid_source.specs.Pieces.{Piece, text, output, tag, raw, comment}
-use Rattle.liquid_source.specs.SourceReading.{all_steps, source_at, Wanted, TakesWanted}
+use Rattle.liquid_source.specs.SourceReading.{all_steps, source_at, TakesWanted}
 use Rattle.liquid_syntax.specs.Parsing.{IsTemplate, IsOnlyTree, HasNoTree, body_of, piece_step, begun_with, template_at}
-use Rattle.liquid_syntax.specs.Tree.{Nodes, no_nodes}
+use Rattle.liquid_tree.specs.Tree.{Nodes, no_nodes}
 use Rattle.liquid_syntax.specs.declared.language.Language.{Language}
 use Rattle.liquid_syntax.specs.Labels.{IsLabel}
 use Rattle.liquid_syntax.proofs.LabelLaws.{label_says, label_stands}

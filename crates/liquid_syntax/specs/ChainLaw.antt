@@ -1,12 +1,12 @@
 -- The laws of chains and of `assign`.
-use Rattle.std.specs.Prelude.{◌≡◌, ◌↔◌, List, ◌∷◌, Some}
+use Rattle.std.specs.Prelude.{◌≡◌, ◌↔◌, List, Some}
 use Rattle.liquid_core.specs.Texts.{Text}
 use Rattle.liquid_syntax.specs.ChainReading.{chain_of}
 use Rattle.liquid_syntax.specs.Chains.{Filters, IsChain, IsAssign}
 use Rattle.liquid_syntax.specs.Judging.{assign_of}
 use Rattle.liquid_syntax.specs.Languages.{kinds_of}
 use Rattle.liquid_source.specs.Tokens.{Token}
-use Rattle.liquid_syntax.specs.Tree.{Chain, assign}
+use Rattle.liquid_tree.specs.Tree.{Chain, assign}
 use Rattle.liquid_syntax.specs.declared.language.Language.{Language}
 
 -- tokens are read as a chain exactly where the grammar says that they are it

@@ -1,7 +1,7 @@
 -- What `parse` reads: the one tree that the written grammar gives a source.
 --     IsTemplate l t source      the source is the tree t, in a language
 --     template_at l source      the tree, as it is read
-use Rattle.std.specs.Prelude.{◌≡◌, ℕ, ◌≤◌, List, [], length, false, Option, None, option_and_then, Result, Ok, Err, MatchBool, ⊤}
+use Rattle.std.specs.Prelude.{◌≤◌, List, [], length, false, Option, option_and_then, Result, Ok, Err, MatchBool, ⊤}
 use Rattle.liquid_core.specs.Answer.{IsTheOne}
 use Rattle.liquid_core.specs.Texts.{Text}
 use Rattle.liquid_core.specs.Told.{is_memory, number_of}
@@ -15,7 +15,7 @@ use Rattle.liquid_source.specs.Pieces.{Piece, IsSource}
 use Rattle.liquid_source.specs.SourceReading.{source_at}
 use Rattle.liquid_syntax.specs.Roles.{body_behind}
 use Rattle.liquid_syntax.specs.Templates.{tree_of}
-use Rattle.liquid_syntax.specs.Tree.{Nodes, no_nodes}
+use Rattle.liquid_tree.specs.Tree.{Nodes, no_nodes}
 use Rattle.liquid_syntax.specs.declared.block.Place.TheVariants.{Outside}
 use Rattle.liquid_syntax.specs.declared.language.Language.{Language}
 use Rattle.liquid_source.specs.declared.piece.Body.{Body}

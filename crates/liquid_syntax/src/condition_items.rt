@@ -2,15 +2,14 @@
 ghost use Rattle.std.specs.Prelude.{◌≡◌, ◌≤◌, length};
 ghost use Rattle.liquid_syntax.specs.ConditionAnswers.{TakesOperator, TakesAtom, TakesConjunction};
 ghost use Rattle.liquid_syntax.specs.ConditionReading.{symbol_operator, operator_of, condition_of};
-ghost use Rattle.liquid_syntax.specs.ConditionView.{condition_view};
+ghost use Rattle.liquid_tree.specs.ConditionView.{condition_view};
 ghost use Rattle.liquid_source.specs.PieceView.{item_view};
 ghost use Rattle.liquid_source.specs.Readers.{Parses};
 ghost use Rattle.liquid_source.specs.Tokens.{tokens_view, token_of};
 
 use crate::chain_items::expected;
-use crate::comparison::ComparisonOperator;
-use crate::condition::{Atom, Condition};
 use liquid_source::{Item, ParseError, Symbol, is_over, is_word, next_value, skip_word};
+use liquid_tree::{Atom, ComparisonOperator, Condition};
 use std::alloc::Global;
 use std::collections::VecDeque;
 

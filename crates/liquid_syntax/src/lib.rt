@@ -1,15 +1,10 @@
 //! From source to template.
 #![tactic(auto)]
 
-mod any_filter;
 mod block;
 mod build;
-mod chain;
 mod chain_items;
-mod comparison;
-mod condition;
 mod condition_items;
-mod filter_call;
 mod hint;
 mod judge;
 mod language;
@@ -19,17 +14,16 @@ mod parser;
 mod partials;
 mod template;
 
-pub use any_filter::AnyFilter;
 pub use block::{Block, Control, Place};
-pub use chain::{ChainFilter, FilterChain};
-pub use comparison::ComparisonOperator;
-pub use condition::{Atom, Condition};
-pub use filter_call::{FilterCall, apply_filters};
 pub use language::{BlockKind, Language, Registry, TagKind};
 pub use laws::{chain_laws, condition_law, label_law, nesting_laws};
 pub use liquid_source::{
     Body, Delimiter, Fault, FaultKind, Item, Mark, Markup, ParseError, Piece, Symbol, item_laws,
     source_laws, value_laws, verbatim_laws,
+};
+pub use liquid_tree::{
+    AnyFilter, Atom, ChainFilter, ComparisonOperator, Condition, FilterCall, FilterChain,
+    apply_filters,
 };
 pub use node::{Node, TwoBodies};
 pub use parser::parse;

@@ -1,7 +1,6 @@
 //! The nodes of a template.
 
-use crate::chain::FilterChain;
-use crate::condition::Condition;
+use liquid_tree::{Condition, FilterChain};
 
 /// Where the two bodies of a node end, as indices of the list.
 #[derive(Clone, Copy, Debug, PartialEq, Eq)]

@@ -1,11 +1,11 @@
-use Rattle.std.proofs.Common.{◌≡◌, length, [], ◌∷◌, ◌++◌, sym, ap, ◌∙◌, map, string_bytes, Some, subst}
+use Rattle.std.proofs.Common.{◌≡◌, sym, ap, ◌∙◌, map, string_bytes, Some, subst}
 use Rattle.std.proofs.lemmas.List.{map-append}
 use Rattle.std.proofs.lemmas.Result.{err_from_is_err_and}
 use Rattle.liquid_core.specs.ExpressionView.{expression_view}
 use Rattle.liquid_core.specs.Maps.{listed}
 use Rattle.liquid_source.specs.Readers.{Fails}
 use Rattle.liquid_source.specs.Tokens.{tokens_view}
-use Rattle.liquid_syntax.specs.ChainView.{chain_filter_view}
+use Rattle.liquid_tree.specs.ChainView.{chain_filter_view}
 use Rattle.liquid_syntax.specs.Languages.{kinds_of}
 use Rattle.liquid_syntax.specs.ChainReading.{filters_of, accepted_call}
 use Rattle.liquid_syntax.proofs.ChainCalls.{left_over, none_left, filters_behind, filters_nothing, no_filter, no_bar, no_name, one_filter, call_refused, acceptance_refused, faulted}

@@ -1,6 +1,6 @@
 use Rattle.std.proofs.Common.{List, sym, subst}
-use Rattle.liquid_source.specs.PieceView.{piece_view, item_view}
-use Rattle.liquid_source.specs.Tokens.{Token, tokens_view}
+use Rattle.liquid_source.specs.PieceView.{piece_view}
+use Rattle.liquid_source.specs.Tokens.{Token}
 use Rattle.liquid_source.specs.declared.piece.Piece.{Piece}
 use Rattle.liquid_source.proofs.Seen.{seen_tokens}
 use Rattle.liquid_syntax.specs.Judges.{Judges}

@@ -1,4 +1,4 @@
-use Rattle.std.proofs.Common.{rules, ◌≡◌, length, ℕ, ◌-◌, ◌<◌, [], sym, ap, ◌∙◌, arith, refl, subst, nat_le, Option}
+use Rattle.std.proofs.Common.{rules, ◌≡◌, length, ◌-◌, ◌<◌, [], sym, ap, ◌∙◌, arith, refl, subst, nat_le, Option}
 use Rattle.std.proofs.lemmas.Result.{err_from_is_err_and}
 use Rattle.std.specs.Prelude.{Err}
 use Rattle.liquid_source.specs.PieceView.{markup_view, piece_view}
@@ -13,7 +13,7 @@ use Rattle.liquid_syntax.specs.Nesting.{Label}
 use Rattle.liquid_syntax.specs.OpenBlocks.{place_of, step}
 use Rattle.liquid_syntax.specs.Parsing.{template_at}
 use Rattle.liquid_syntax.specs.Roles.{body_behind}
-use Rattle.liquid_syntax.specs.Tree.{no_nodes}
+use Rattle.liquid_tree.specs.Tree.{no_nodes}
 use Rattle.liquid_syntax.specs.declared.block.Place.{Place}
 use Rattle.liquid_syntax.proofs.Grow.{place_is}
 use Rattle.liquid_syntax.proofs.ParseTurns.{after_text, label_refused, ended, markup_refused, body_refused, piece_refused, went_on, went_shorter, fails_at, no_room}

@@ -1,9 +1,9 @@
-use Rattle.std.proofs.Common.{◌≡◌, ◌∷◌, ◌<◌, arith, true, false, subst, nat_le}
-use Rattle.liquid_syntax.specs.Tree.{no_nodes}
+use Rattle.std.proofs.Common.{◌∷◌, ◌<◌, arith, false}
+use Rattle.liquid_tree.specs.Tree.{no_nodes}
 use Rattle.liquid_syntax.specs.Flats.{flat_of}
-use Rattle.liquid_syntax.specs.OpenBlocks.{depth, level, begun, with_node}
+use Rattle.liquid_syntax.specs.OpenBlocks.{depth, level, begun}
 use Rattle.liquid_syntax.specs.Building.{opening}
-use Rattle.liquid_syntax.proofs.Adding.{begins_step, closed_step, has_room, prepared_begins}
+use Rattle.liquid_syntax.proofs.Adding.{begins_step, has_room, prepared_begins}
 use Rattle.liquid_syntax.proofs.build.Builder.add.Goals as goal
 
 pub returns-in_ok-open-in-Begins : goal.returns-in_ok-open-in-Begins

@@ -1,10 +1,8 @@
-use Rattle.std.proofs.Common.{sym}
-use Rattle.std.proofs.lemmas.Result.{err_from_is_err_and}
 use Rattle.std.specs.Prelude.{reverse}
 use Rattle.liquid_syntax.specs.Building.{of_bodies}
 use Rattle.liquid_syntax.specs.Flats.{flat_of, flats}
 use Rattle.liquid_syntax.specs.OpenBlocks.{to_elsif}
-use Rattle.liquid_syntax.proofs.Adding.{elsif_opens, elsif_fails}
+use Rattle.liquid_syntax.proofs.Adding.{elsif_opens}
 use Rattle.liquid_syntax.proofs.Grow.{elsif_after}
 use Rattle.liquid_syntax.proofs.build.Builder.elsif.Goals as goal
 
