@@ -9,7 +9,7 @@ use Rattle.liquid_core.specs.View.{pairs_view}
 use Rattle.liquid_core.specs.declared.value.Value.{Value}
 use Rattle.liquid_core.specs.declared.error.Error.{Error}
 use Rattle.liquid_filters.specs.Kinds.{kind_answer}
-use Rattle.liquid_syntax.specs.Tree.{Nodes}
+use Rattle.liquid_tree.specs.Tree.{Nodes}
 use Rattle.liquid_syntax.specs.Templates.{partials_of}
 use Rattle.liquid_syntax.specs.declared.partials.Partials.{Partials}
 use Rattle.liquid_lib.specs.Engine.{setting_of}

@@ -9,8 +9,8 @@ use Rattle.liquid_core.specs.Told.{is_memory, is_refusal}
 use Rattle.liquid_core.specs.Environment.{Environment, Names}
 use Rattle.liquid_syntax.specs.Flats.{Maker, StandsAt, nodes_of}
 use Rattle.liquid_syntax.specs.Forest.{Forest}
-use Rattle.liquid_syntax.specs.Names.{node_names, nodes_names}
-use Rattle.liquid_syntax.specs.Tree as tree
+use Rattle.liquid_tree.specs.Names.{node_names, nodes_names}
+use Rattle.liquid_tree.specs.Tree as tree
 use Rattle.liquid_syntax.specs.declared.node.Node.{Node}
 use Rattle.liquid_meaning.specs.Meaning.{Setting, node_meaning, nodes_meaning}
 use Rattle.liquid_meaning.specs.Runs.{Nothing, Run}

@@ -1,7 +1,7 @@
 -- What the functions of a run do.
 use Rattle.std.specs.Prelude.{ℕ}
 use Rattle.liquid_filters.specs.Kinds.{kind_answer}
-use Rattle.liquid_syntax.specs.Tree as tree
+use Rattle.liquid_tree.specs.Tree as tree
 use Rattle.liquid_syntax.specs.Templates.{partials_of}
 use Rattle.liquid_syntax.specs.declared.partials.Partials.{Partials}
 use Rattle.liquid_meaning.specs.Runs.{Nothing, Run}

@@ -4,7 +4,7 @@ use Rattle.liquid_core.specs.Texts.{Text}
 use Rattle.liquid_core.specs.Environment.{Names}
 use Rattle.liquid_core.specs.States.{Layers, layers_of}
 use Rattle.liquid_core.specs.declared.state.State.{State}
-use Rattle.liquid_syntax.specs.Names.{partials_names}
+use Rattle.liquid_tree.specs.Names.{partials_names}
 use Rattle.liquid_meaning.specs.Isolation.{HoldsOutside}
 use Rattle.liquid_meaning.specs.Meaning.{Setting}
 use Rattle.liquid_meaning.specs.Within.{Within}

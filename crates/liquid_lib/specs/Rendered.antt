@@ -2,7 +2,7 @@
 use Rattle.std.specs.Prelude.{◌≡◌, ℕ, List, Result, ◌⊎◌, Option, None}
 use Rattle.liquid_core.specs.declared.error.Error.{Error}
 use Rattle.liquid_core.specs.Environment.{Names, Environment, cut}
-use Rattle.liquid_syntax.specs.Tree.{Nodes}
+use Rattle.liquid_tree.specs.Tree.{Nodes}
 use Rattle.liquid_lib.specs.Sinks.{Adds}
 use Rattle.liquid_meaning.specs.Runs.{Nothing, Outcome, Run}
 use Rattle.liquid_meaning.specs.Meaning.{meaning}

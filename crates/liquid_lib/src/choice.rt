@@ -1,10 +1,10 @@
 //! Which nodes an `if` comes to.
 ghost use Rattle.std.specs.Prelude.{◌≡◌, ◌+◌, ◌<◌, ◌≤◌, IfOk};
 ghost use Rattle.liquid_core.specs.States.{environment_of};
-ghost use Rattle.liquid_syntax.specs.ConditionView.{condition_view};
+ghost use Rattle.liquid_tree.specs.ConditionView.{condition_view};
 ghost use Rattle.liquid_syntax.specs.Flats.{Maker, StandsAt, IsRange, nodes_of};
 ghost use Rattle.liquid_syntax.specs.Forest.{Forest};
-ghost use Rattle.liquid_syntax.specs.Tree as tree;
+ghost use Rattle.liquid_tree.specs.Tree as tree;
 ghost use Rattle.liquid_lib.specs.Choices.{NodeComesTo, ListComesTo};
 
 use liquid_core::{Result, State};

@@ -1,11 +1,11 @@
 //! Runs of nodes.
 ghost use Rattle.std.specs.Prelude.{◌≡◌, ℕ, ◌+◌};
-ghost use Rattle.liquid_syntax.specs.ChainView.{chain_view};
-ghost use Rattle.liquid_syntax.specs.ConditionView.{condition_view};
+ghost use Rattle.liquid_tree.specs.ChainView.{chain_view};
+ghost use Rattle.liquid_tree.specs.ConditionView.{condition_view};
 ghost use Rattle.liquid_syntax.specs.Flats.{Maker, StandsAt, IsRange, NodeAt, IsNode, nodes_of};
 ghost use Rattle.liquid_syntax.specs.Forest.{Forest};
-ghost use Rattle.liquid_syntax.specs.Names.{node_names, nodes_names};
-ghost use Rattle.liquid_syntax.specs.Tree as tree;
+ghost use Rattle.liquid_tree.specs.Names.{node_names, nodes_names};
+ghost use Rattle.liquid_tree.specs.Tree as tree;
 ghost use Rattle.liquid_lib.specs.Engine.{setting_of, node_meant, nodes_meant};
 ghost use Rattle.liquid_lib.specs.Kept.{Keeps};
 ghost use Rattle.liquid_lib.specs.Performs.{Performs, place_of};

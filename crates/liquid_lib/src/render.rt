@@ -5,7 +5,7 @@ ghost use Rattle.liquid_core.specs.Answer.{Answers};
 ghost use Rattle.liquid_core.specs.Environment.{cut};
 ghost use Rattle.liquid_core.specs.States.{environment_of, layers_of};
 ghost use Rattle.liquid_syntax.specs.Templates.{tree_of};
-ghost use Rattle.liquid_syntax.specs.Tree.{Nodes};
+ghost use Rattle.liquid_tree.specs.Tree.{Nodes};
 ghost use Rattle.liquid_lib.specs.Added.{AppendsPart};
 ghost use Rattle.liquid_lib.specs.Engine.{setting_of};
 ghost use Rattle.liquid_lib.specs.Failures.{SomeFailed};

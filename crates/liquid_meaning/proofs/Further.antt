@@ -8,8 +8,8 @@ use Rattle.liquid_core.specs.declared.error.ErrorKind.{ErrorKind}
 use Rattle.liquid_core.specs.declared.interrupt.Interrupt.{Interrupt}
 use Rattle.liquid_core.specs.Maps.{Map, insert, merged}
 use Rattle.liquid_core.specs.Environment.{Environment}
-use Rattle.liquid_syntax.specs.Tree.{Chain, Source, Window, Nodes, node, assign, plain, for_each}
-use Rattle.liquid_syntax.specs.Evaluation.{source_items, asked_for}
+use Rattle.liquid_tree.specs.Tree.{Chain, Source, Window, Nodes, node, assign, plain, for_each}
+use Rattle.liquid_tree.specs.Evaluation.{source_items, asked_for}
 use Rattle.liquid_meaning.specs.Runs.{Nothing, Run, evaluate, change, write, go_on, ◌>>=◌, with_scope}
 use Rattle.liquid_meaning.specs.Effects.{assigned_to}
 use Rattle.liquid_meaning.specs.Loops.{until_break, loop}

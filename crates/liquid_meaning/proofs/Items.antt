@@ -4,7 +4,7 @@ use mathlib.Core.Path.{refl, ap, subst, ◌∙◌}
 use native.Mathlib.Omega.{arith}
 use Rattle.std.proofs.lemmas.Int.{ints}
 use Rattle.liquid_core.specs.Data.{Datum, nil, number}
-use Rattle.liquid_syntax.specs.Evaluation.{count_to, numbers_from, items_at}
+use Rattle.liquid_tree.specs.Evaluation.{count_to, numbers_from, items_at}
 use Rattle.liquid_meaning.specs.LoopLaws.{WindowLaw, RangeLaw}
 
 items_count : (ds : List Datum) (o m : ℕ) → length (items_at ds o m) ≡ m

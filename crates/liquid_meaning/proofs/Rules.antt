@@ -3,8 +3,8 @@ use Rattle.std.specs.Prelude.{◌≡◌, cond}
 use mathlib.Core.Path.{refl}
 use Rattle.liquid_core.specs.Texts.{Text}
 use Rattle.liquid_core.specs.Data.{text_of}
-use Rattle.liquid_syntax.specs.Tree.{Chain, Condition, Nodes, plain, raw, comment, output, assign, if_true}
-use Rattle.liquid_syntax.specs.Evaluation.{chain_value, truth_of}
+use Rattle.liquid_tree.specs.Tree.{Chain, Condition, Nodes, plain, raw, comment, output, assign, if_true}
+use Rattle.liquid_tree.specs.Evaluation.{chain_value, truth_of}
 use Rattle.liquid_meaning.specs.Runs.{Nothing, Run, done, evaluate, change, write, ◌>>=◌}
 use Rattle.liquid_meaning.specs.Effects.{assigned_to}
 use Rattle.liquid_meaning.specs.Meaning.{Setting, node_meaning, nodes_meaning}

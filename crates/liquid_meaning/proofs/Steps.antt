@@ -4,7 +4,7 @@ use mathlib.Core.Path.{refl, sym, ap, ◌∙◌}
 use Rattle.std.proofs.Common.{append_assoc, append-nil}
 use Rattle.liquid_core.specs.Texts.{Text}
 use Rattle.liquid_core.specs.declared.error.ErrorKind.{ErrorKind}
-use Rattle.liquid_syntax.specs.Tree.{Node, Nodes, no_nodes, node}
+use Rattle.liquid_tree.specs.Tree.{Node, Nodes, no_nodes, node}
 use Rattle.liquid_core.specs.Environment.{Environment}
 use Rattle.liquid_core.specs.declared.interrupt.Interrupt.{Interrupt}
 use Rattle.liquid_meaning.specs.Runs.{Nothing, Outcome, Run, done, after_text, go_on, ◌>>=◌}

@@ -5,7 +5,7 @@ use Rattle.liquid_meaning.proofs.Maps.{same_text_itself}
 use Rattle.liquid_core.specs.Texts.{Text, same_text}
 use Rattle.liquid_meaning.specs.Within.{Within}
 use Rattle.liquid_core.specs.Environment.{Names}
-use Rattle.liquid_syntax.specs.Names.{mentioned}
+use Rattle.liquid_tree.specs.Names.{mentioned}
 
 pub left : (N : Names) (xs ys : List Text) → Within N (xs ++ ys) → Within N xs
 left N [] ys h = tt

@@ -7,8 +7,8 @@ use Rattle.liquid_core.specs.Told.{number_of}
 use Rattle.liquid_core.specs.Find.{find}
 use Rattle.liquid_core.specs.Environment.{Environment}
 use Rattle.liquid_filters.specs.declared.kind.FilterKind.{FilterKind}
-use Rattle.liquid_syntax.specs.Tree.{Chain, Source, Window, Nodes, no_nodes, node, plain, assign, for_each}
-use Rattle.liquid_syntax.specs.Evaluation.{source_items, asked_for}
+use Rattle.liquid_tree.specs.Tree.{Chain, Source, Window, Nodes, no_nodes, node, plain, assign, for_each}
+use Rattle.liquid_tree.specs.Evaluation.{source_items, asked_for}
 use Rattle.liquid_meaning.specs.Loops.{forloop_object}
 use Rattle.liquid_meaning.specs.Meaning.{Setting, meaning}
 

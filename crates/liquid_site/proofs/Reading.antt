@@ -8,7 +8,7 @@ use Rattle.liquid_core.specs.Told.{is_memory, is_refusal}
 use Rattle.liquid_core.specs.declared.error.Error.{Error}
 use Rattle.liquid_core.specs.declared.error.ErrorKind.{ErrorKind}
 use Rattle.liquid_core.specs.declared.error.ErrorKind.TheVariants.{Memory, Write}
-use Rattle.liquid_syntax.specs.Tree.{Nodes}
+use Rattle.liquid_tree.specs.Tree.{Nodes}
 use Rattle.liquid_syntax.specs.Parsing.{IsOnlyTree, HasNoTree, IsOfSource, ParsesTo}
 use Rattle.liquid_syntax.specs.declared.language.Language.{Language}
 use Rattle.liquid_lib.specs.Added.{AppendsPart}

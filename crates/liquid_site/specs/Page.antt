@@ -8,7 +8,7 @@ use Rattle.liquid_core.specs.Data.{Pairs}
 use Rattle.liquid_core.specs.States.{map_of, merged_layers, new_layers}
 use Rattle.liquid_core.specs.declared.error.ErrorKind.{ErrorKind}
 use Rattle.liquid_filters.specs.Kinds.{kind_answer}
-use Rattle.liquid_syntax.specs.Tree.{Nodes}
+use Rattle.liquid_tree.specs.Tree.{Nodes}
 use Rattle.liquid_syntax.specs.Parsing.{IsOnlyTree, HasNoTree, IsOfSource}
 use Rattle.liquid_syntax.specs.Entries.{put}
 use Rattle.liquid_syntax.specs.declared.language.Language.{Language}

@@ -4,7 +4,7 @@ use Rattle.std.proofs.lemmas.Bool.Decides.{nat_tests}
 use Rattle.liquid_source.specs.Readers.{Fails}
 use Rattle.liquid_source.specs.declared.fault.ParseError.{ParseError}
 use Rattle.liquid_source.specs.declared.fault.ParseError.TheVariants as errors
-use Rattle.liquid_syntax.specs.Tree.{Node, Nodes, no_nodes}
+use Rattle.liquid_tree.specs.Tree.{Node, Nodes, no_nodes}
 use Rattle.liquid_syntax.specs.Flats.{flat_of}
 use Rattle.liquid_syntax.specs.OpenBlocks.{State, begun, ended, Level, level, depth, deeper, with_node, close, step, to_else, to_elsif}
 use Rattle.liquid_syntax.specs.Building.{Begins, Steps, IsBuilding, IsMemory, IsStack, Closes, IsPrepared, IsSound, label_view, opening}

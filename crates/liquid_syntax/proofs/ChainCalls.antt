@@ -5,7 +5,7 @@ use Rattle.std.specs.Option.{option_and_then, option_map}
 use Rattle.liquid_core.specs.Texts.{Text}
 use Rattle.liquid_core.specs.Maps.{listed}
 use Rattle.liquid_core.specs.Expression.{Expression, literal, variable, no_steps, step}
-use Rattle.liquid_syntax.specs.Tree.{FilterCall}
+use Rattle.liquid_tree.specs.Tree.{FilterCall}
 use Rattle.liquid_source.specs.Readers.{Fails, IsFault}
 use Rattle.liquid_source.specs.Tokens.{Token, value, range, symbol, tokens_view, word_of, word_in, value_first, word_first, is_symbol, past}
 use Rattle.liquid_syntax.specs.Chains.{Filters}

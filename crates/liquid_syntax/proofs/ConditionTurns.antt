@@ -7,8 +7,8 @@ use Rattle.liquid_syntax.specs.ConditionAnswers.{operator_before, operator_first
 use Rattle.liquid_syntax.specs.ConditionReading.{operator_of, with_atom, joined, compared_or, condition_of, behind_value, behind_operator, behind_atom, alternatives_of}
 use Rattle.liquid_source.specs.Readers.{Fails}
 use Rattle.liquid_source.specs.Tokens.{Token, value, range, symbol, value_first, is_word, past_word}
-use Rattle.liquid_syntax.specs.Tree.{Atom, bare, compared, Condition}
-use Rattle.liquid_syntax.specs.declared.comparison.ComparisonOperator.{ComparisonOperator}
+use Rattle.liquid_tree.specs.Tree.{Atom, bare, compared, Condition}
+use Rattle.liquid_tree.specs.declared.comparison.ComparisonOperator.{ComparisonOperator}
 use Rattle.liquid_source.specs.declared.fault.ParseError.{ParseError}
 use Rattle.liquid_source.specs.declared.fault.ParseError.TheVariants as errors
 use Rattle.liquid_syntax.proofs.Printed.{from_some}

@@ -10,8 +10,8 @@ use Rattle.liquid_syntax.specs.Forest.{Forest, Bodies, empty, node, no_bodies, b
 use Rattle.liquid_syntax.specs.Laid.{Flat, ends_of, laid, laid_bodies}
 use Rattle.liquid_syntax.specs.Round.{length-laid, length-laid_bodies}
 use Rattle.liquid_syntax.specs.OpenBlocks.{append, Reading, last, first, unkept, armed, begun, to_elsif, elsif_of, place_in, ended, Level, level, place_of, depth, State, with_node, to_else, at_end}
-use Rattle.liquid_syntax.specs.Tree as tree
-use Rattle.liquid_syntax.specs.Tree.{Nodes, no_nodes}
+use Rattle.liquid_tree.specs.Tree as tree
+use Rattle.liquid_tree.specs.Tree.{Nodes, no_nodes}
 use Rattle.liquid_syntax.specs.Flats.{flat_of, flats}
 use Rattle.liquid_syntax.specs.Building.{IsPrepared, opening, set_first, set_last, first_ended, last_ended, block_ended, Fits, Builds, Closes, stage_place, place_at}
 use Rattle.liquid_syntax.specs.declared.block.Block.{Block}

@@ -16,7 +16,7 @@ use Rattle.liquid_syntax.specs.Labels.{IsLabel, is_text, is_output, is_end, is_e
 use Rattle.liquid_syntax.specs.Languages.{kinds_of}
 use Rattle.liquid_syntax.specs.Nesting.{Label, leaf, closed, begins, elsif, arm, otherwise, ends, refused}
 use Rattle.liquid_syntax.specs.Roles.{role_of, unread_body}
-use Rattle.liquid_syntax.specs.Tree.{Node, Chain, Condition, output, assign}
+use Rattle.liquid_tree.specs.Tree.{Node, Chain, Condition, output, assign}
 use Rattle.liquid_syntax.specs.declared.block.Block.TheVariants.{If}
 use Rattle.liquid_syntax.specs.declared.block.Control.TheVariants.{Elsif, Else}
 use Rattle.liquid_syntax.specs.declared.block.Place.{Place}

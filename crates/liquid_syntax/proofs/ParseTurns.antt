@@ -23,7 +23,7 @@ use Rattle.liquid_source.specs.Pieces.{Piece, stripped}
 use Rattle.liquid_source.specs.Readers.{Fails}
 use Rattle.liquid_source.specs.SourceReading.{Markup, markup_at, bare_name, body_at, wanted_body, text_step, source_at}
 use Rattle.liquid_syntax.specs.Templates.{tree_of}
-use Rattle.liquid_syntax.specs.Tree.{Node, Nodes, no_nodes}
+use Rattle.liquid_tree.specs.Tree.{Node, Nodes, no_nodes}
 use Rattle.liquid_source.specs.ValueReading.{past_byte, text_at}
 use Rattle.liquid_syntax.specs.declared.build.Builder.{Builder}
 use Rattle.liquid_source.specs.declared.fault.ParseError.{ParseError}

@@ -11,7 +11,7 @@ use Rattle.liquid_syntax.specs.Chains.{Filters, further_arguments, arguments, Ar
 use Rattle.liquid_source.specs.Tokens.{Token, value, range, symbol, word, word_of, word_first, past, is_symbol}
 use Rattle.liquid_syntax.specs.Judging.{assign_of}
 use Rattle.liquid_syntax.specs.Languages.{kinds_of}
-use Rattle.liquid_syntax.specs.Tree.{FilterCall, Chain, Node, assign}
+use Rattle.liquid_tree.specs.Tree.{FilterCall, Chain, Node, assign}
 use Rattle.liquid_syntax.specs.declared.language.Language.{Language}
 use Rattle.liquid_source.specs.declared.symbol.Symbol.{Symbol}
 use Rattle.liquid_source.specs.declared.symbol.Symbol.TheVariants.{Equals, NotEquals, LessOrGreater, LessThanEquals, GreaterThanEquals, LessThan, GreaterThan, Assign, Colon, Comma, Bar}

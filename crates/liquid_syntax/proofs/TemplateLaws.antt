@@ -14,7 +14,7 @@ use Rattle.liquid_syntax.specs.OpenBlocks.{Level, State, place_of, step, at_end,
 use Rattle.liquid_source.specs.Pieces.{Piece, text, output, tag, raw, comment}
 use Rattle.liquid_source.specs.SourceReading.{all_steps, source_at, Wanted, TakesWanted}
 use Rattle.liquid_syntax.specs.Parsing.{IsTemplate, IsOnlyTree, HasNoTree, body_of, piece_step, begun_with, template_at}
-use Rattle.liquid_syntax.specs.Tree.{Nodes, no_nodes}
+use Rattle.liquid_tree.specs.Tree.{Nodes, no_nodes}
 use Rattle.liquid_syntax.specs.declared.language.Language.{Language}
 use Rattle.liquid_syntax.specs.Labels.{IsLabel}
 use Rattle.liquid_syntax.proofs.LabelLaws.{label_says, label_stands}

@@ -7,7 +7,7 @@ use Rattle.liquid_syntax.specs.Nesting as nesting
 use Rattle.liquid_syntax.specs.OpenBlocks.{Reading, last, first, unkept, armed, begun, ended, Level, level, State, depth, place_of, to_else, with_node}
 use Rattle.liquid_source.specs.Readers.{Fails}
 use Rattle.liquid_syntax.specs.Templates.{tree_of}
-use Rattle.liquid_syntax.specs.Tree.{Node, Nodes, no_nodes, plain}
+use Rattle.liquid_tree.specs.Tree.{Node, Nodes, no_nodes, plain}
 use Rattle.liquid_syntax.specs.declared.block.Block.{Block}
 use Rattle.liquid_syntax.specs.declared.block.Place.{Place}
 use Rattle.liquid_syntax.specs.declared.block.Place.TheVariants.{Outside, InBody, InLast}

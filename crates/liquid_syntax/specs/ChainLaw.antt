@@ -6,7 +6,7 @@ use Rattle.liquid_syntax.specs.Chains.{Filters, IsChain, IsAssign}
 use Rattle.liquid_syntax.specs.Judging.{assign_of}
 use Rattle.liquid_syntax.specs.Languages.{kinds_of}
 use Rattle.liquid_source.specs.Tokens.{Token}
-use Rattle.liquid_syntax.specs.Tree.{Chain, assign}
+use Rattle.liquid_tree.specs.Tree.{Chain, assign}
 use Rattle.liquid_syntax.specs.declared.language.Language.{Language}
 
 -- tokens are read as a chain exactly where the grammar says that they are it

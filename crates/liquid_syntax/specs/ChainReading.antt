@@ -6,7 +6,7 @@ use Rattle.liquid_core.specs.Maps.{listed}
 use Rattle.liquid_core.specs.Expression.{Expression}
 use Rattle.liquid_filters.specs.Kinds.{kind_counts}
 use Rattle.liquid_filters.specs.declared.kind.FilterKind.{FilterKind}
-use Rattle.liquid_syntax.specs.Tree.{FilterCall, Chain}
+use Rattle.liquid_tree.specs.Tree.{FilterCall, Chain}
 use Rattle.liquid_source.specs.Tokens.{Token, value, symbol, if_value, word_of, is_symbol}
 use Rattle.liquid_syntax.specs.Chains.{Filters}
 use Rattle.liquid_source.specs.declared.symbol.Symbol.TheVariants.{Colon, Comma, Bar}

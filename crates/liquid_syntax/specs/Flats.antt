@@ -4,9 +4,9 @@
 --     IsRange ns from to      the nodes from `from` to `to` are whole: each with all the nodes of its bodies
 --     NodeAt ns at n next      the node at `at`, with its bodies, is n, and ends before `next`
 use Rattle.std.specs.Prelude.{◌≡◌, ℕ, ◌+◌, ◌≤◌, List, [], ◌∷◌, map, Some, slice_get, string_bytes}
-use Rattle.liquid_syntax.specs.ChainView.{chain_view}
-use Rattle.liquid_syntax.specs.ConditionView.{condition_view}
-use Rattle.liquid_syntax.specs.Tree as tree
+use Rattle.liquid_tree.specs.ChainView.{chain_view}
+use Rattle.liquid_tree.specs.ConditionView.{condition_view}
+use Rattle.liquid_tree.specs.Tree as tree
 use Rattle.liquid_syntax.specs.Forest.{Forest, Bodies, empty, node, no_bodies, body}
 use Rattle.liquid_syntax.specs.Laid.{Flat, Stands, StandBodies, last_end}
 use Rattle.liquid_syntax.specs.declared.node.Node.{Node}

@@ -4,7 +4,7 @@ use Rattle.liquid_source.specs.Readers.{Fails}
 use Rattle.liquid_syntax.specs.Building.{label_view, of_bodies, IsPrepared, IsSound}
 use Rattle.liquid_syntax.specs.Flats.{flat_of}
 use Rattle.liquid_syntax.specs.Nesting as nesting
-use Rattle.liquid_syntax.specs.Tree.{Node, Nodes}
+use Rattle.liquid_tree.specs.Tree.{Node, Nodes}
 use Rattle.liquid_syntax.specs.declared.build.Label.{Label}
 use Rattle.liquid_syntax.specs.declared.build.Stage.TheVariants.{First}
 use Rattle.liquid_source.specs.declared.fault.ParseError.{ParseError}

@@ -10,7 +10,7 @@ use Rattle.liquid_syntax.specs.Conditions.{IsCondition}
 use Rattle.liquid_syntax.specs.Languages.{kinds_of}
 use Rattle.liquid_syntax.specs.Nesting.{of_two, Label, leaf, closed, begins, elsif, otherwise, ends}
 use Rattle.liquid_syntax.specs.Roles.{role_of, unread_body}
-use Rattle.liquid_syntax.specs.Tree.{Chain, Condition, plain, raw, comment, output, assign, if_true}
+use Rattle.liquid_tree.specs.Tree.{Chain, Condition, plain, raw, comment, output, assign, if_true}
 use Rattle.liquid_syntax.specs.declared.block.Block.TheVariants.{If}
 use Rattle.liquid_syntax.specs.declared.block.Control.TheVariants.{Elsif, Else}
 use Rattle.liquid_syntax.specs.declared.block.Place.{Place}

@@ -1,7 +1,7 @@
 -- The written grammar of blocks: which nodes a list of pieces is. What a single piece is, where it stands, is told by `Is`.
 use Rattle.std.specs.Prelude.{◌≡◌, ℕ, suc, List, ◌∷◌}
 use Rattle.liquid_core.specs.Expression.{Expression}
-use Rattle.liquid_syntax.specs.Tree.{Node, Nodes, no_nodes, node, Whens, no_whens, when}
+use Rattle.liquid_tree.specs.Tree.{Node, Nodes, no_nodes, node, Whens, no_whens, when}
 use Rattle.liquid_syntax.specs.declared.block.Block.{Block}
 use Rattle.liquid_syntax.specs.declared.block.Place.{Place}
 use Rattle.liquid_syntax.specs.declared.block.Place.TheVariants.{InBody, InLast}

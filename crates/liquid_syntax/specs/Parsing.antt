@@ -15,7 +15,7 @@ use Rattle.liquid_source.specs.Pieces.{Piece, IsSource}
 use Rattle.liquid_source.specs.SourceReading.{source_at}
 use Rattle.liquid_syntax.specs.Roles.{body_behind}
 use Rattle.liquid_syntax.specs.Templates.{tree_of}
-use Rattle.liquid_syntax.specs.Tree.{Nodes, no_nodes}
+use Rattle.liquid_tree.specs.Tree.{Nodes, no_nodes}
 use Rattle.liquid_syntax.specs.declared.block.Place.TheVariants.{Outside}
 use Rattle.liquid_syntax.specs.declared.language.Language.{Language}
 use Rattle.liquid_source.specs.declared.piece.Body.{Body}

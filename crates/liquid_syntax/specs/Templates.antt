@@ -5,7 +5,7 @@ use Rattle.std.specs.Prelude.{ℕ, List, [], ◌∷◌, max, length, String}
 use Rattle.std.specs.declared.alloc.Global.{Global}
 use Rattle.liquid_core.specs.Texts.{Text}
 use Rattle.liquid_syntax.specs.Entries.{seen}
-use Rattle.liquid_syntax.specs.Tree as tree
+use Rattle.liquid_tree.specs.Tree as tree
 use Rattle.liquid_syntax.specs.Forest.{Forest, size}
 use Rattle.liquid_syntax.specs.Laid as laid
 use Rattle.liquid_syntax.specs.Flats.{Maker, flats, nodes_of}

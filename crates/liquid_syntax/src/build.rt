@@ -5,7 +5,7 @@ ghost use Rattle.liquid_source.specs.Readers.{IsFault};
 ghost use Rattle.liquid_syntax.specs.Building.{Begins, Closes, Elses, Finishes, IsBuilding, IsBuilt, IsMemory, IsPrepared, IsSound, IsStack, Steps, block_ended, is_full, first_ended, label_view, last_ended, of_bodies, place_at, text_added};
 ghost use Rattle.liquid_syntax.specs.Flats.{flat_of};
 ghost use Rattle.liquid_syntax.specs.OpenBlocks.{Level, at_end, close, step, to_elsif, with_node};
-ghost use Rattle.liquid_syntax.specs.Tree.{Nodes, no_nodes};
+ghost use Rattle.liquid_tree.specs.Tree.{Nodes, no_nodes};
 ghost use Rattle.liquid_syntax.specs.declared.build.Stage.TheVariants as stages;
 
 use crate::block::{Block, Place, end_tag};

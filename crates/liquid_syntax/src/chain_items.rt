@@ -5,7 +5,7 @@ ghost use Rattle.liquid_core.specs.Maps.{listed};
 ghost use Rattle.liquid_syntax.specs.Called.{Calls};
 ghost use Rattle.liquid_syntax.specs.ChainReading.{accepted_call, filters_of, chain_of};
 ghost use Rattle.liquid_syntax.specs.Chains.{Filters};
-ghost use Rattle.liquid_syntax.specs.ChainView.{chain_view, chain_filter_view};
+ghost use Rattle.liquid_tree.specs.ChainView.{chain_view, chain_filter_view};
 ghost use Rattle.liquid_syntax.specs.Languages.{kinds_of};
 ghost use Rattle.liquid_source.specs.Readers.{Parses, IsFault};
 ghost use Rattle.liquid_source.specs.Tokens.{tokens_view};

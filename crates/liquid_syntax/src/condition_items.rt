@@ -2,7 +2,7 @@
 ghost use Rattle.std.specs.Prelude.{◌≡◌, ◌≤◌, length};
 ghost use Rattle.liquid_syntax.specs.ConditionAnswers.{TakesOperator, TakesAtom, TakesConjunction};
 ghost use Rattle.liquid_syntax.specs.ConditionReading.{symbol_operator, operator_of, condition_of};
-ghost use Rattle.liquid_syntax.specs.ConditionView.{condition_view};
+ghost use Rattle.liquid_tree.specs.ConditionView.{condition_view};
 ghost use Rattle.liquid_source.specs.PieceView.{item_view};
 ghost use Rattle.liquid_source.specs.Readers.{Parses};
 ghost use Rattle.liquid_source.specs.Tokens.{tokens_view, token_of};

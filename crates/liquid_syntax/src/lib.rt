@@ -1,19 +1,14 @@
 //! From source to template.
 #![tactic(auto)]
 
-mod any_filter;
 mod block;
 mod build;
-mod chain;
 mod chain_items;
 #[cfg(test)]
 mod chain_tests;
-mod comparison;
-mod condition;
 mod condition_items;
 #[cfg(test)]
 mod condition_tests;
-mod filter_call;
 mod hint;
 mod judge;
 mod language;

@@ -1,10 +1,10 @@
 use Rattle.std.proofs.Common.{arith, ◌+◌, ◌-◌, ◌*◌, ◌<◌, ◌≤◌, ◌∙◌, refl, subst, string_bytes, rules}
 use Rattle.std.proofs.lemmas.Result.{err_from_is_err_and}
-use Rattle.liquid_syntax.specs.ChainView.{chain_view}
-use Rattle.liquid_syntax.specs.ConditionView.{condition_view}
+use Rattle.liquid_tree.specs.ChainView.{chain_view}
+use Rattle.liquid_tree.specs.ConditionView.{condition_view}
 use Rattle.liquid_syntax.specs.Flats.{flats, nodes_of}
-use Rattle.liquid_syntax.specs.Names.{node_names}
-use Rattle.liquid_syntax.specs.Tree as tree
+use Rattle.liquid_tree.specs.Names.{node_names}
+use Rattle.liquid_tree.specs.Tree as tree
 use Rattle.liquid_syntax.proofs.Places.{Stands-le}
 use Rattle.liquid_lib.specs.Engine.{setting_of, node_meant}
 use Rattle.liquid_lib.specs.Kept.{Keeps}

@@ -1,7 +1,7 @@
 use Rattle.std.proofs.Common.{◌≡◌, ◌+◌, ◌-◌, ◌*◌, ◌≤◌}
 use Rattle.liquid_syntax.specs.Flats.{Maker, StandsAt, nodes_of}
 use Rattle.liquid_syntax.specs.Forest.{Forest}
-use Rattle.liquid_syntax.specs.Names.{nodes_names}
+use Rattle.liquid_tree.specs.Names.{nodes_names}
 use Rattle.liquid_lib.specs.Engine.{setting_of}
 use Rattle.liquid_lib.specs.Kept.{Keeps}
 use Rattle.liquid_lib.specs.Performs.{place_of}

@@ -5,9 +5,9 @@ use Rattle.liquid_core.specs.View.{view}
 use Rattle.liquid_core.specs.States.{environment_of, layers_of, with_assigned}
 use Rattle.liquid_core.specs.declared.value.Value.{Value}
 use Rattle.liquid_filters.specs.Kinds.{kind_answer}
-use Rattle.liquid_syntax.specs.ChainView.{chain_view}
-use Rattle.liquid_syntax.specs.Evaluation.{chain_value}
-use Rattle.liquid_syntax.specs.Names.{node_names}
+use Rattle.liquid_tree.specs.ChainView.{chain_view}
+use Rattle.liquid_tree.specs.Evaluation.{chain_value}
+use Rattle.liquid_tree.specs.Names.{node_names}
 use Rattle.liquid_meaning.specs.Runs.{change}
 use Rattle.liquid_meaning.specs.Effects.{assigned_to}
 use Rattle.liquid_lib.specs.Performs.{unit, place_of}

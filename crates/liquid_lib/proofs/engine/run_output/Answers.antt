@@ -5,8 +5,8 @@ use Rattle.liquid_core.specs.Data.{text_of}
 use Rattle.liquid_core.specs.States.{environment_of}
 use Rattle.liquid_core.specs.declared.cow.ValueCow.{ValueCow}
 use Rattle.liquid_filters.specs.Kinds.{kind_answer}
-use Rattle.liquid_syntax.specs.ChainView.{chain_view}
-use Rattle.liquid_syntax.specs.Evaluation.{chain_value}
+use Rattle.liquid_tree.specs.ChainView.{chain_view}
+use Rattle.liquid_tree.specs.Evaluation.{chain_value}
 use Rattle.liquid_meaning.specs.Runs.{write}
 use Rattle.liquid_lib.specs.Performs.{unit, place_of}
 use Rattle.liquid_lib.proofs.Joined.{by_rule, write_met, given_met, refused_met}

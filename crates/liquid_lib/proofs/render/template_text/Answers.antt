@@ -2,7 +2,7 @@ use Rattle.std.proofs.Common.{[], None, String, Global, string_bytes, refl, ap}
 use Rattle.std.specs.Option.{option_map}
 use Rattle.std.proofs.lemmas.Result.{err_from_is_err_and}
 use Rattle.liquid_core.specs.States.{environment_of}
-use Rattle.liquid_syntax.specs.Names.{nodes_names, run_names}
+use Rattle.liquid_tree.specs.Names.{nodes_names, run_names}
 use Rattle.liquid_syntax.specs.Templates.{forest_of, partials_of, tree_of}
 use Rattle.liquid_lib.specs.Engine.{setting_of}
 use Rattle.liquid_meaning.specs.Isolation.{names_of_run}

@@ -1,5 +1,5 @@
 use Rattle.std.proofs.Common.{rules}
-use Rattle.liquid_syntax.specs.Names.{nodes_names, run_names}
+use Rattle.liquid_tree.specs.Names.{nodes_names, run_names}
 use Rattle.liquid_syntax.specs.Templates.{forest_of, partials_of, tree_of}
 use Rattle.liquid_lib.specs.Engine.{setting_of}
 use Rattle.liquid_meaning.specs.Isolation.{names_of_run}

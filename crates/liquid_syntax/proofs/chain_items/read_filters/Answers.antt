@@ -5,7 +5,7 @@ use Rattle.liquid_core.specs.ExpressionView.{expression_view}
 use Rattle.liquid_core.specs.Maps.{listed}
 use Rattle.liquid_source.specs.Readers.{Fails}
 use Rattle.liquid_source.specs.Tokens.{tokens_view}
-use Rattle.liquid_syntax.specs.ChainView.{chain_filter_view}
+use Rattle.liquid_tree.specs.ChainView.{chain_filter_view}
 use Rattle.liquid_syntax.specs.Languages.{kinds_of}
 use Rattle.liquid_syntax.specs.ChainReading.{filters_of, accepted_call}
 use Rattle.liquid_syntax.proofs.ChainCalls.{left_over, none_left, filters_behind, filters_nothing, no_filter, no_bar, no_name, one_filter, call_refused, acceptance_refused, faulted}

@@ -13,7 +13,7 @@ use Rattle.liquid_syntax.specs.Nesting.{Label}
 use Rattle.liquid_syntax.specs.OpenBlocks.{place_of, step}
 use Rattle.liquid_syntax.specs.Parsing.{template_at}
 use Rattle.liquid_syntax.specs.Roles.{body_behind}
-use Rattle.liquid_syntax.specs.Tree.{no_nodes}
+use Rattle.liquid_tree.specs.Tree.{no_nodes}
 use Rattle.liquid_syntax.specs.declared.block.Place.{Place}
 use Rattle.liquid_syntax.proofs.Grow.{place_is}
 use Rattle.liquid_syntax.proofs.ParseTurns.{after_text, label_refused, ended, markup_refused, body_refused, piece_refused, went_on, went_shorter, fails_at, no_room}

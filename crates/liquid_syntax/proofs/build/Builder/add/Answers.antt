@@ -1,5 +1,5 @@
 use Rattle.std.proofs.Common.{◌≡◌, ◌∷◌, ◌<◌, arith, true, false, subst, nat_le}
-use Rattle.liquid_syntax.specs.Tree.{no_nodes}
+use Rattle.liquid_tree.specs.Tree.{no_nodes}
 use Rattle.liquid_syntax.specs.Flats.{flat_of}
 use Rattle.liquid_syntax.specs.OpenBlocks.{depth, level, begun, with_node}
 use Rattle.liquid_syntax.specs.Building.{opening}

@@ -1,0 +1,149 @@
+-- Chains of filters, call by call.
+use Rattle.std.proofs.Common.{◌≡◌, ℕ, ◌+◌, ◌<◌, ◌≤◌, List, [], ◌∷◌, ◌++◌, length, drop, map, get_or, Bool, true, false, MatchBool, Result, Ok, Err, refl, sym, ap, ◌∙◌, subst, append_assoc, append-nil}
+use Rattle.std.specs.Bool.{⊤}
+use Rattle.std.proofs.lemmas.List.{drop_more, drop_all}
+use Rattle.liquid_core.specs.Answer.{Faulted}
+use Rattle.liquid_core.specs.Told.{is_memory, is_refusal}
+use Rattle.liquid_core.specs.Data.{Datum}
+use Rattle.liquid_core.specs.declared.error.ErrorKind.{ErrorKind}
+use Rattle.liquid_core.specs.Fallible.{◌>>=◌}
+use Rattle.liquid_core.specs.Expression as tree
+use Rattle.liquid_core.specs.Environment.{Environment}
+use Rattle.liquid_core.specs.Expressions.{value_of, required, all_required}
+use Rattle.liquid_tree.specs.Calls.{Call, applied}
+use Rattle.liquid_tree.specs.Tree.{FilterCall, Chain}
+use Rattle.liquid_tree.specs.Evaluation.{FilterAnswers, entry_value, call_by, calls_by, chain_value}
+
+-- a fault met first is the fault of the whole
+pub faulted_then : {A B : Type 0} (kind : ErrorKind) (a : Result A ErrorKind) (f : A → Result B ErrorKind) → Faulted kind a → Faulted kind (a >>= f)
+faulted_then {A} {B} kind a f h = on (is_memory kind) h
+  where
+    on : (b : Bool) → MatchBool b ⊤ ((a ≡ Err kind) × (is_refusal kind ≡ false)) → MatchBool b ⊤ (((a >>= f) ≡ Err kind) × (is_refusal kind ≡ false))
+    on true m = m
+    on false m = (ap (λ r. r >>= f) m.0, m.1)
+
+pub faulted_as : {A : Type 0} (kind : ErrorKind) (a b : Result A ErrorKind) → a ≡ b → Faulted kind b → Faulted kind a
+faulted_as kind a b e h = subst (λ r. Faulted kind r) (sym e) h
+
+-- ---- arguments
+
+-- a value put before what is done with the rest
+cons_then : (r : Result (List Datum) ErrorKind) (done : List Datum) (d : Datum)
+    → ((r >>= (λ ds. Ok (d ∷ ds))) >>= (λ ds. Ok (done ++ ds))) ≡ (r >>= (λ ds. Ok ((done ++ d ∷ []) ++ ds)))
+cons_then (Ok ds) done d = ap Ok (sym (append_assoc done (d ∷ []) ds))
+cons_then (Err kind) done d = refl
+
+next_argument : {X : Type 0} (f : X → tree.Expression) (e : Environment) (xs : List X) (i : ℕ) (x : X) (done : List Datum) → i < length xs → x ≡ get_or xs i x
+    → (all_required (map f (drop i xs)) e >>= (λ ds. Ok (done ++ ds)))
+    ≡ ((required (f x) e >>= (λ d. all_required (map f (drop (i + 1) xs)) e >>= (λ ds. Ok (d ∷ ds)))) >>= (λ ds. Ok (done ++ ds)))
+unfolding all_required
+next_argument f e xs i x done h is =
+    ap (λ y. all_required (map f y) e >>= (λ ds. Ok (done ++ ds))) (drop_more xs i x h ∙ ap (λ y. y ∷ drop (i + 1) xs) (sym is))
+
+pub arguments_more : {X : Type 0} (f : X → tree.Expression) (all : Result (List Datum) ErrorKind) (e : Environment) (xs : List X) (i : ℕ) (x : X) (done : List Datum) (d : Datum)
+    → i < length xs → x ≡ get_or xs i x → required (f x) e ≡ Ok d
+    → all ≡ (all_required (map f (drop i xs)) e >>= (λ ds. Ok (done ++ ds)))
+    → all ≡ (all_required (map f (drop (i + 1) xs)) e >>= (λ ds. Ok ((done ++ d ∷ []) ++ ds)))
+arguments_more f all e xs i x done d h is v so_far =
+    so_far ∙ next_argument f e xs i x done h is
+    ∙ ap (λ r. (r >>= (λ d. all_required (map f (drop (i + 1) xs)) e >>= (λ ds. Ok (d ∷ ds)))) >>= (λ ds. Ok (done ++ ds))) v
+    ∙ cons_then (all_required (map f (drop (i + 1) xs)) e) done d
+
+pub arguments_stop : {X : Type 0} (f : X → tree.Expression) (all : Result (List Datum) ErrorKind) (e : Environment) (xs : List X) (i : ℕ) (x : X) (done : List Datum) (kind : ErrorKind)
+    → i < length xs → x ≡ get_or xs i x → Faulted kind (required (f x) e)
+    → all ≡ (all_required (map f (drop i xs)) e >>= (λ ds. Ok (done ++ ds)))
+    → Faulted kind all
+arguments_stop f all e xs i x done kind h is v so_far =
+    faulted_as kind all _ (so_far ∙ next_argument f e xs i x done h is)
+    (faulted_then kind _ (λ ds. Ok (done ++ ds)) (faulted_then kind (required (f x) e) (λ d. all_required (map f (drop (i + 1) xs)) e >>= (λ ds. Ok (d ∷ ds))) v))
+
+pub arguments_end : {X : Type 0} (f : X → tree.Expression) (all : Result (List Datum) ErrorKind) (e : Environment) (xs : List X) (i : ℕ) (done : List Datum) → length xs ≤ i
+    → all ≡ (all_required (map f (drop i xs)) e >>= (λ ds. Ok (done ++ ds))) → all ≡ Ok done
+unfolding all_required
+arguments_end f all e xs i done h so_far =
+    so_far ∙ ap (λ y. all_required (map f y) e >>= (λ ds. Ok (done ++ ds))) (drop_all i xs h) ∙ ap Ok (append-nil done)
+
+-- ---- calls
+
+next_call : {X : Type 0} (f : X → Call) (e : Environment) (xs : List X) (i : ℕ) (x : X) (d : Datum) → i < length xs → x ≡ get_or xs i x
+    → applied (map f (drop i xs)) d e
+    ≡ (all_required (f x).arguments e >>= (λ ds. (f x).answers d ds >>= (λ answer. applied (map f (drop (i + 1) xs)) answer e)))
+unfolding applied
+next_call f e xs i x d h is = ap (λ y. applied (map f y) d e) (drop_more xs i x h ∙ ap (λ y. y ∷ drop (i + 1) xs) (sym is))
+
+pub calls_more : {X : Type 0} (f : X → Call) (all : Result Datum ErrorKind) (e : Environment) (xs : List X) (i : ℕ) (x : X) (d answer : Datum) (ds : List Datum)
+    → i < length xs → x ≡ get_or xs i x → all_required (f x).arguments e ≡ Ok ds → (f x).answers d ds ≡ Ok answer
+    → all ≡ applied (map f (drop i xs)) d e → all ≡ applied (map f (drop (i + 1) xs)) answer e
+calls_more f all e xs i x d answer ds h is a b so_far =
+    so_far ∙ next_call f e xs i x d h is
+    ∙ ap (λ r. r >>= (λ es. (f x).answers d es >>= (λ y. applied (map f (drop (i + 1) xs)) y e))) a
+    ∙ ap (λ r. r >>= (λ y. applied (map f (drop (i + 1) xs)) y e)) b
+
+-- an argument's fault
+pub calls_stop_at_argument : {X : Type 0} (f : X → Call) (all : Result Datum ErrorKind) (e : Environment) (xs : List X) (i : ℕ) (x : X) (d : Datum) (kind : ErrorKind)
+    → i < length xs → x ≡ get_or xs i x → Faulted kind (all_required (f x).arguments e)
+    → all ≡ applied (map f (drop i xs)) d e → Faulted kind all
+calls_stop_at_argument f all e xs i x d kind h is a so_far =
+    faulted_as kind all _ (so_far ∙ next_call f e xs i x d h is)
+    (faulted_then kind (all_required (f x).arguments e) (λ ds. (f x).answers d ds >>= (λ y. applied (map f (drop (i + 1) xs)) y e)) a)
+
+-- a filter's fault
+pub calls_stop : {X : Type 0} (f : X → Call) (all : Result Datum ErrorKind) (e : Environment) (xs : List X) (i : ℕ) (x : X) (d : Datum) (ds : List Datum) (kind : ErrorKind)
+    → i < length xs → x ≡ get_or xs i x → all_required (f x).arguments e ≡ Ok ds → Faulted kind ((f x).answers d ds)
+    → all ≡ applied (map f (drop i xs)) d e → Faulted kind all
+calls_stop f all e xs i x d ds kind h is a b so_far =
+    faulted_as kind all _
+    (so_far ∙ next_call f e xs i x d h is ∙ ap (λ r. r >>= (λ es. (f x).answers d es >>= (λ y. applied (map f (drop (i + 1) xs)) y e))) a)
+    (faulted_then kind ((f x).answers d ds) (λ y. applied (map f (drop (i + 1) xs)) y e) b)
+
+pub calls_end : {X : Type 0} (f : X → Call) (all : Result Datum ErrorKind) (e : Environment) (xs : List X) (i : ℕ) (d : Datum) → length xs ≤ i
+    → all ≡ applied (map f (drop i xs)) d e → all ≡ Ok d
+unfolding applied
+calls_end f all e xs i d h so_far = so_far ∙ ap (λ y. applied (map f y) d e) (drop_all i xs h)
+
+-- ---- a stored chain, of which each filter is applied alone
+
+alone : (r : Result (List Datum) ErrorKind) (answers : Datum → List Datum → Result Datum ErrorKind) (d : Datum) (k : Datum → Result Datum ErrorKind)
+    → (r >>= (λ ds. answers d ds >>= k)) ≡ ((r >>= (λ ds. answers d ds >>= (λ y. Ok y))) >>= k)
+alone (Err kind) answers d k = refl
+alone (Ok ds) answers d k = on (answers d ds)
+  where
+    on : (a : Result Datum ErrorKind) → (a >>= k) ≡ ((a >>= (λ y. Ok y)) >>= k)
+    on (Ok y) = refl
+    on (Err kind) = refl
+
+next_filter : {X : Type 0} (answers : FilterAnswers) (f : X → FilterCall) (e : Environment) (xs : List X) (i : ℕ) (x : X) (d : Datum) → i < length xs → x ≡ get_or xs i x
+    → applied (calls_by answers (map f (drop i xs))) d e ≡ (applied (call_by answers (f x) ∷ []) d e >>= (λ y. applied (calls_by answers (map f (drop (i + 1) xs))) y e))
+unfolding applied
+next_filter answers f e xs i x d h is =
+    ap (λ y. applied (calls_by answers (map f y)) d e) (drop_more xs i x h ∙ ap (λ y. y ∷ drop (i + 1) xs) (sym is))
+    ∙ alone (all_required (f x).arguments e) (answers (f x).filter) d (λ y. applied (calls_by answers (map f (drop (i + 1) xs))) y e)
+
+pub filters_more : {X : Type 0} (answers : FilterAnswers) (f : X → FilterCall) (all : Result Datum ErrorKind) (e : Environment) (xs : List X) (i : ℕ) (x : X) (d answer : Datum)
+    → i < length xs → x ≡ get_or xs i x → applied (call_by answers (f x) ∷ []) d e ≡ Ok answer
+    → all ≡ applied (calls_by answers (map f (drop i xs))) d e → all ≡ applied (calls_by answers (map f (drop (i + 1) xs))) answer e
+filters_more answers f all e xs i x d answer h is a so_far =
+    so_far ∙ next_filter answers f e xs i x d h is ∙ ap (λ r. r >>= (λ y. applied (calls_by answers (map f (drop (i + 1) xs))) y e)) a
+
+pub filters_stop : {X : Type 0} (answers : FilterAnswers) (f : X → FilterCall) (all : Result Datum ErrorKind) (e : Environment) (xs : List X) (i : ℕ) (x : X) (d : Datum) (kind : ErrorKind)
+    → i < length xs → x ≡ get_or xs i x → Faulted kind (applied (call_by answers (f x) ∷ []) d e)
+    → all ≡ applied (calls_by answers (map f (drop i xs))) d e → Faulted kind all
+filters_stop answers f all e xs i x d kind h is a so_far =
+    faulted_as kind all _ (so_far ∙ next_filter answers f e xs i x d h is)
+    (faulted_then kind (applied (call_by answers (f x) ∷ []) d e) (λ y. applied (calls_by answers (map f (drop (i + 1) xs))) y e) a)
+
+pub filters_end : {X : Type 0} (answers : FilterAnswers) (f : X → FilterCall) (all : Result Datum ErrorKind) (e : Environment) (xs : List X) (i : ℕ) (d : Datum) → length xs ≤ i
+    → all ≡ applied (calls_by answers (map f (drop i xs))) d e → all ≡ Ok d
+unfolding applied
+filters_end answers f all e xs i d h so_far = so_far ∙ ap (λ y. applied (calls_by answers (map f y)) d e) (drop_all i xs h)
+
+-- the chain once its entry has a value, and where it has none
+pub chain_from : (answers : FilterAnswers) (chain : Chain) (e : Environment) (d : Datum) → entry_value (value_of chain.entry e) chain.filters ≡ Ok d
+    → chain_value answers chain e ≡ applied (calls_by answers chain.filters) d e
+unfolding chain_value
+chain_from answers chain e d h = ap (λ r. r >>= (λ y. applied (calls_by answers chain.filters) y e)) h
+
+pub chain_faulted : (answers : FilterAnswers) (chain : Chain) (e : Environment) (kind : ErrorKind) → Faulted kind (entry_value (value_of chain.entry e) chain.filters)
+    → Faulted kind (chain_value answers chain e)
+unfolding chain_value
+chain_faulted answers chain e kind h = faulted_then kind (entry_value (value_of chain.entry e) chain.filters) (λ y. applied (calls_by answers chain.filters) y e) h

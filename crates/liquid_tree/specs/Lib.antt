@@ -1,0 +1,9 @@
+pub mod AnyFilters
+pub mod Calls
+pub mod ChainView
+pub mod ConditionView
+pub mod Evaluation
+pub mod Groups
+pub mod Names
+pub mod Tree
+pub mod WrittenConditions

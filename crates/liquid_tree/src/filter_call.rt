@@ -1,0 +1,70 @@
+//! Filters in order, for filters of any type.
+ghost use Rattle.std.specs.Prelude.{◌≡◌, length, map, All, IsTrue, IfOk};
+ghost use Rattle.liquid_core.specs.Answer.{Answers};
+ghost use Rattle.liquid_core.specs.Cow.{cow_view};
+ghost use Rattle.liquid_core.specs.Expressions.{all_required};
+ghost use Rattle.liquid_core.specs.ExpressionView.{expression_view};
+ghost use Rattle.liquid_core.specs.States.{environment_of};
+ghost use Rattle.liquid_core.specs.View.{view};
+ghost use Rattle.liquid_tree.specs.Calls.{applied, call_of};
+
+use liquid_core::{Expression, Filter, Result, State, Value, ValueCow};
+use std::alloc::Global;
+
+/// One filter of a chain, with its arguments.
+#[derive(Drop)]
+pub struct FilterCall<'c, F> {
+    pub filter: F,
+    pub args: &'c [Expression],
+}
+
+/// The value that the entry becomes through the filters, in order. The arguments of each are taken from left to right.
+///
+/// A missing argument is `UnknownVariable`, and a filter's fault ends the chain. `Memory` where a growth was refused.
+/// Each filter has to accept the number of its arguments. Without calls the answer is the entry.
+pub fn apply_filters<F: Filter>(
+    alloc: Global,
+    entry: Value,
+    calls: &[FilterCall<'_, F>],
+    state: &State,
+) -> Result<Value>
+    requires { All (λ c. IsTrue (F.counts c.filter (length c.args.now))) calls.now }
+    ensures { Answers view result
+        (applied (map (λ c. call_of (F.answer c.filter) c.args.now) calls.now) (view entry) (environment_of state.now)) }
+{
+    apply_to(alloc, ValueCow::Owned(entry), calls, state)?.into_owned(alloc)
+}
+
+/// `apply_filters` over an entry that may be lent, which without calls is answered as it was lent.
+pub fn apply_to<'v, F: Filter>(
+    alloc: Global,
+    entry: ValueCow<'v>,
+    calls: &[FilterCall<'_, F>],
+    state: &State,
+) -> Result<ValueCow<'v>>
+    requires { All (λ c. IsTrue (F.counts c.filter (length c.args.now))) calls.now }
+    ensures { Answers cow_view result
+        (applied (map (λ c. call_of (F.answer c.filter) c.args.now) calls.now) (cow_view entry.entry) (environment_of state.now)) }
+{
+    let mut value = entry;
+    for call in calls {
+        let arguments = evaluate_all(alloc, call.args, state)?;
+        value = ValueCow::Owned(
+            call.filter
+                .evaluate(alloc, value.as_value(), arguments.as_slice())?,
+        );
+    }
+    Ok(value)
+}
+
+/// The values of the expressions, from left to right.
+fn evaluate_all(alloc: Global, expressions: &[Expression], state: &State) -> Result<Vec<Value>>
+    ensures values { Answers (λ v. map view v.items) result (all_required (map expression_view expressions.now) (environment_of state.now)) }
+    ensures count { IfOk result (λ v. length v.items ≡ length expressions.now) }
+{
+    let mut values = Vec::with_capacity(alloc, expressions.len())?;
+    for expression in expressions {
+        values.push(expression.evaluate(alloc, state)?.into_owned(alloc)?)?;
+    }
+    Ok(values)
+}
