@@ -21,16 +21,16 @@ use Rattle.liquid_syntax.specs.declared.node.TwoBodies.{TwoBodies}
 use Rattle.liquid_syntax.proofs.Places.{Stands-le, first-within, nothing_left}
 use Rattle.liquid_lib.specs.Choices.{Meant, Chosen, Refused, ComesTo}
 use Rattle.liquid_lib.specs.Engine.{nodes_meant}
-use Rattle.liquid_lib.specs.Meaning.{Setting, node_meaning, nodes_meaning, deeper_meaning}
+use Rattle.liquid_meaning.specs.Meaning.{Setting, node_meaning, nodes_meaning, deeper_meaning}
 use Rattle.liquid_lib.specs.Performs.{Place, MeetsAt, Performs, unit}
-use Rattle.liquid_lib.specs.Runs.{Nothing, Run, evaluate}
-use Rattle.liquid_lib.specs.Within.{Within}
+use Rattle.liquid_meaning.specs.Runs.{Nothing, Run, evaluate}
+use Rattle.liquid_meaning.specs.Within.{Within}
 use Rattle.liquid_lib.proofs.Going.{first, Known, known, known_two}
 use Rattle.liquid_lib.proofs.Joined.{memory_of}
-use Rattle.liquid_lib.proofs.Rules.{if_rule}
+use Rattle.liquid_meaning.proofs.Rules.{if_rule}
 use Rattle.liquid_lib.proofs.Sinks.{Adds-nil, AddsPart-none}
-use Rattle.liquid_lib.proofs.Steps.{alone, bind_ok, bind_fault}
-use Rattle.liquid_lib.proofs.Within.{left, right}
+use Rattle.liquid_meaning.proofs.Steps.{alone, bind_ok, bind_fault}
+use Rattle.liquid_meaning.proofs.Within.{left, right}
 
 -- ---- the rule of `if`, by the truth of its condition
 

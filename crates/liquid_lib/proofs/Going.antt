@@ -16,12 +16,12 @@ use Rattle.liquid_syntax.specs.Laid.{Flat, StandBodies, last_end}
 use Rattle.liquid_syntax.specs.Flats.{Maker, leaf, with_one, with_two, flat_of, flats, nodes_of, bodies_of, StandsAt, IsRange, NodeAt, IsNode}
 use Rattle.liquid_syntax.specs.declared.node.Node.{Node}
 use Rattle.liquid_syntax.proofs.Places.{Stands-le, StandBodies-le, one_body, two_bodies, nothing_left}
-use Rattle.liquid_lib.specs.Within.{Within}
+use Rattle.liquid_meaning.specs.Within.{Within}
 use Rattle.liquid_lib.specs.Kept.{Keeps}
 use Rattle.liquid_lib.specs.Performs.{Place, Performs}
 use Rattle.liquid_lib.specs.Engine.{node_meant, nodes_meant}
-use Rattle.liquid_lib.specs.Meaning.{Setting, deeper_meaning}
-use Rattle.liquid_lib.proofs.Within.{left, right}
+use Rattle.liquid_meaning.specs.Meaning.{Setting, deeper_meaning}
+use Rattle.liquid_meaning.proofs.Within.{left, right}
 use Rattle.liquid_lib.proofs.Joined.{list_on, list_halt, list_fault, list_end}
 
 -- ---- the node at a place

@@ -14,11 +14,11 @@ use Rattle.liquid_core.specs.Environment.{Environment}
 use Rattle.liquid_core.specs.States.{Layers, merged_layers}
 use Rattle.liquid_tree.specs.Tree.{Node, Nodes, no_nodes, node}
 use Rattle.liquid_lib.specs.Sinks.{Sink, AddsPart}
-use Rattle.liquid_lib.specs.Runs.{Nothing, Outcome, Run, done, read, evaluate, change, write, after_text, go_on, ◌>>=◌, with_scope, buffered, ended_with}
-use Rattle.liquid_lib.specs.Effects.{if_none, unless_interrupted}
-use Rattle.liquid_lib.specs.Meaning.{Setting, node_meaning, nodes_meaning}
+use Rattle.liquid_meaning.specs.Runs.{Nothing, Outcome, Run, done, read, evaluate, change, write, after_text, go_on, ◌>>=◌, with_scope, buffered, ended_with}
+use Rattle.liquid_meaning.specs.Effects.{if_none, unless_interrupted}
+use Rattle.liquid_meaning.specs.Meaning.{Setting, node_meaning, nodes_meaning}
 use Rattle.liquid_lib.specs.Performs.{Place, Exact, MeetsAt, Meets, Performs, Writes, IsCut, unit}
-use Rattle.liquid_lib.proofs.Steps.{bind_ok, bind_fault, nodes_meaning-node, nodes_meaning-none}
+use Rattle.liquid_meaning.proofs.Steps.{bind_ok, bind_fault, nodes_meaning-node, nodes_meaning-none}
 use Rattle.liquid_lib.proofs.Sinks.{Adds-nil, Adds-trans, AddsPart-after, AddsPart-longer, AddsPart-none, Around, around-adds, around-text, part-of_none}
 
 -- the same run, as a rule has it

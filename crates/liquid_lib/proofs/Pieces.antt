@@ -7,7 +7,7 @@ use Rattle.liquid_core.specs.Texts.{Text}
 use Rattle.liquid_core.specs.declared.error.Error.{Error}
 use Rattle.liquid_core.specs.declared.error.ErrorKind.{ErrorKind}
 use Rattle.liquid_core.specs.Environment.{Environment}
-use Rattle.liquid_lib.specs.Runs.{Nothing, Outcome}
+use Rattle.liquid_meaning.specs.Runs.{Nothing, Outcome}
 use Rattle.liquid_lib.specs.Sinks.{Sink}
 use Rattle.liquid_lib.specs.Performs.{MeetsAt, Writes, unit}
 use Rattle.liquid_lib.proofs.Sinks.{Adds-nil, AddsPart-longer}

@@ -13,12 +13,12 @@ use Rattle.liquid_tree.specs.Tree.{Nodes}
 use Rattle.liquid_syntax.specs.Templates.{partials_of}
 use Rattle.liquid_syntax.specs.declared.partials.Partials.{Partials}
 use Rattle.liquid_lib.specs.Engine.{setting_of}
-use Rattle.liquid_lib.specs.Isolation.{names_of_run}
+use Rattle.liquid_meaning.specs.Isolation.{names_of_run}
 use Rattle.liquid_lib.specs.Kept.{LayersKept}
-use Rattle.liquid_lib.specs.Meaning.{Setting, meaning}
+use Rattle.liquid_meaning.specs.Meaning.{Setting, meaning}
 use Rattle.liquid_lib.specs.Performs.{Place, Meets, Performs}
 use Rattle.liquid_lib.specs.Rendered.{run_in, names_in}
-use Rattle.liquid_lib.specs.Runs.{Run, Nothing, buffered, ended_with}
+use Rattle.liquid_meaning.specs.Runs.{Run, Nothing, buffered, ended_with}
 use Rattle.liquid_lib.specs.RuntimeView.{trees_of, setting_in, depth_in}
 use Rattle.liquid_lib.specs.declared.runtime.Runtime.{Runtime}
 

@@ -13,8 +13,8 @@ use Rattle.liquid_lib.specs.Failures.{SomeFailed}
 use Rattle.liquid_core.specs.Answer.{Answers, Faulted}
 use Rattle.liquid_lib.proofs.Joined.{memory_of}
 use Rattle.liquid_lib.specs.Sinks.{Sink, Adds, AddsPart}
-use Rattle.liquid_lib.specs.Runs.{Nothing, Outcome, Run}
-use Rattle.liquid_lib.specs.Isolation.{IsAsCut, changes}
+use Rattle.liquid_meaning.specs.Runs.{Nothing, Outcome, Run}
+use Rattle.liquid_meaning.specs.Isolation.{IsAsCut, changes}
 use Rattle.liquid_lib.specs.Performs.{Place, Exact, IsCut, MeetsAt, Meets, Performs, is_refused, writer_sink}
 use Rattle.liquid_lib.specs.Rendered.{PerformsForCut, nowhere}
 

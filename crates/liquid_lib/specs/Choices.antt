@@ -12,9 +12,9 @@ use Rattle.liquid_syntax.specs.Forest.{Forest}
 use Rattle.liquid_tree.specs.Names.{node_names, nodes_names}
 use Rattle.liquid_tree.specs.Tree as tree
 use Rattle.liquid_syntax.specs.declared.node.Node.{Node}
-use Rattle.liquid_lib.specs.Meaning.{Setting, node_meaning, nodes_meaning}
-use Rattle.liquid_lib.specs.Runs.{Nothing, Run}
-use Rattle.liquid_lib.specs.Within.{Within}
+use Rattle.liquid_meaning.specs.Meaning.{Setting, node_meaning, nodes_meaning}
+use Rattle.liquid_meaning.specs.Runs.{Nothing, Run}
+use Rattle.liquid_meaning.specs.Within.{Within}
 
 -- a meaning, whatever the setting and the meaning of partials
 abbrev pub Meant : Type 0

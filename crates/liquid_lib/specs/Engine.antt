@@ -4,8 +4,8 @@ use Rattle.liquid_filters.specs.Kinds.{kind_answer}
 use Rattle.liquid_tree.specs.Tree as tree
 use Rattle.liquid_syntax.specs.Templates.{partials_of}
 use Rattle.liquid_syntax.specs.declared.partials.Partials.{Partials}
-use Rattle.liquid_lib.specs.Runs.{Nothing, Run}
-use Rattle.liquid_lib.specs.Meaning.{Setting, node_meaning, nodes_meaning, deeper_meaning}
+use Rattle.liquid_meaning.specs.Runs.{Nothing, Run}
+use Rattle.liquid_meaning.specs.Meaning.{Setting, node_meaning, nodes_meaning, deeper_meaning}
 
 -- the filters that exist, and these partials
 abbrev pub setting_of : Partials → Setting

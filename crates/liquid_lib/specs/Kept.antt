@@ -5,9 +5,9 @@ use Rattle.liquid_core.specs.Environment.{Names}
 use Rattle.liquid_core.specs.States.{Layers, layers_of}
 use Rattle.liquid_core.specs.declared.state.State.{State}
 use Rattle.liquid_tree.specs.Names.{partials_names}
-use Rattle.liquid_lib.specs.Isolation.{HoldsOutside}
-use Rattle.liquid_lib.specs.Meaning.{Setting}
-use Rattle.liquid_lib.specs.Within.{Within}
+use Rattle.liquid_meaning.specs.Isolation.{HoldsOutside}
+use Rattle.liquid_meaning.specs.Meaning.{Setting}
+use Rattle.liquid_meaning.specs.Within.{Within}
 
 -- the scopes and the data as they were, and the assigned variables and the counters under each name that is not in N
 pub record LayersKept (N : Names) (old new : Layers) : Type 0 where

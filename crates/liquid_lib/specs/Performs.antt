@@ -14,7 +14,7 @@ use Rattle.liquid_core.specs.declared.state.State.{State}
 use Rattle.liquid_lib.specs.Failures.{SomeFailed}
 use Rattle.liquid_lib.specs.Sinks.{Sink, sink_of, Adds, AddsPart}
 use Rattle.liquid_lib.specs.declared.output.Output.{Output}
-use Rattle.liquid_lib.specs.Runs.{Nothing, Outcome, Run}
+use Rattle.liquid_meaning.specs.Runs.{Nothing, Outcome, Run}
 
 -- where a run stands: what it writes to, and its environment
 pub record Place : Type 0 where

@@ -4,9 +4,9 @@ use Rattle.liquid_core.specs.declared.error.Error.{Error}
 use Rattle.liquid_core.specs.Environment.{Names, Environment, cut}
 use Rattle.liquid_tree.specs.Tree.{Nodes}
 use Rattle.liquid_lib.specs.Sinks.{Adds}
-use Rattle.liquid_lib.specs.Runs.{Nothing, Outcome, Run}
-use Rattle.liquid_lib.specs.Meaning.{meaning}
-use Rattle.liquid_lib.specs.Isolation.{changes, names_of_run}
+use Rattle.liquid_meaning.specs.Runs.{Nothing, Outcome, Run}
+use Rattle.liquid_meaning.specs.Meaning.{meaning}
+use Rattle.liquid_meaning.specs.Isolation.{changes, names_of_run}
 use Rattle.liquid_lib.specs.Performs.{Place, Cut, answer_of, unit, writer_sink}
 use Rattle.liquid_lib.specs.RuntimeView.{environment_in, setting_in, depth_in}
 use Rattle.liquid_lib.specs.declared.runtime.Runtime.{Runtime}

@@ -12,7 +12,7 @@ use Rattle.liquid_filters.specs.Kinds.{kind_answer}
 use Rattle.liquid_tree.specs.Tree.{Nodes}
 use Rattle.liquid_syntax.specs.Templates.{partials_of}
 use Rattle.liquid_syntax.specs.declared.partials.Partials.{Partials}
-use Rattle.liquid_lib.specs.Meaning.{Setting}
+use Rattle.liquid_meaning.specs.Meaning.{Setting}
 use Rattle.liquid_lib.specs.declared.runtime.Runtime.{Runtime}
 use Rattle.liquid_lib.specs.declared.runtime.RuntimeBuilder.{RuntimeBuilder}
 

@@ -9,12 +9,12 @@ ghost use Rattle.liquid_tree.specs.Tree.{Nodes};
 ghost use Rattle.liquid_lib.specs.Added.{AppendsPart};
 ghost use Rattle.liquid_lib.specs.Engine.{setting_of};
 ghost use Rattle.liquid_lib.specs.Failures.{SomeFailed};
-ghost use Rattle.liquid_lib.specs.Isolation.{changes, names_of_run};
+ghost use Rattle.liquid_meaning.specs.Isolation.{changes, names_of_run};
 ghost use Rattle.liquid_lib.specs.Kept.{LayersKept};
-ghost use Rattle.liquid_lib.specs.Meaning.{meaning};
+ghost use Rattle.liquid_meaning.specs.Meaning.{meaning};
 ghost use Rattle.liquid_lib.specs.Performs.{Meets, Performs, answer_of, is_refused, unit};
 ghost use Rattle.liquid_lib.specs.Rendered.{PerformsForCut, run_in, outcome_in, names_in, at_writer, nowhere};
-ghost use Rattle.liquid_lib.specs.Runs.{buffered, ended_with};
+ghost use Rattle.liquid_meaning.specs.Runs.{buffered, ended_with};
 ghost use Rattle.liquid_lib.specs.RuntimeView.{SettingKept, layers_in, environment_in};
 
 use crate::counted::{CountedWrite, NoWriter};

@@ -12,8 +12,8 @@ use Rattle.liquid_tree.specs.Tree.{Nodes}
 use Rattle.liquid_syntax.specs.Parsing.{IsOnlyTree, HasNoTree, IsOfSource}
 use Rattle.liquid_syntax.specs.Entries.{put}
 use Rattle.liquid_syntax.specs.declared.language.Language.{Language}
-use Rattle.liquid_lib.specs.Runs.{Nothing, Outcome}
-use Rattle.liquid_lib.specs.Meaning.{meaning}
+use Rattle.liquid_meaning.specs.Runs.{Nothing, Outcome}
+use Rattle.liquid_meaning.specs.Meaning.{meaning}
 use Rattle.liquid_lib.specs.Standard.{IsStandard}
 use Rattle.liquid_site.specs.Json.{data_of}
 

@@ -13,7 +13,7 @@ use Rattle.liquid_syntax.specs.declared.language.Language.{Language}
 use Rattle.liquid_syntax.specs.declared.partials.Partials.{Partials}
 use Rattle.liquid_lib.specs.Added.{AppendsPart}
 use Rattle.liquid_lib.specs.Performs.{answer_of, is_refused, unit}
-use Rattle.liquid_lib.specs.Runs.{Nothing}
+use Rattle.liquid_meaning.specs.Runs.{Nothing}
 use Rattle.liquid_site.specs.Page.{Sources, Texts, Trees, ArePartials, HasBadPartial, Read, IsRead, Refused, IsPage}
 use Rattle.liquid_site.specs.declared.page.ReadTexts.{ReadTexts}
 

@@ -8,14 +8,14 @@ use Rattle.liquid_tree.specs.Tree as tree
 use Rattle.liquid_syntax.proofs.Places.{Stands-le}
 use Rattle.liquid_lib.specs.Engine.{setting_of, node_meant}
 use Rattle.liquid_lib.specs.Kept.{Keeps}
-use Rattle.liquid_lib.specs.Meaning.{node_meaning}
+use Rattle.liquid_meaning.specs.Meaning.{node_meaning}
 use Rattle.liquid_lib.specs.Performs.{Performs, place_of}
 use Rattle.liquid_lib.proofs.Choices.{refused_performs}
 use Rattle.liquid_lib.proofs.Going.{leaf_performs, leaf_keeps, two, two_performs, two_keeps, going_fault, going_halt, going_node, going_on, going_end, going_past, kept_step}
 use Rattle.std.specs.Prelude.{Ok}
 use Rattle.liquid_lib.proofs.Joined.{by_rule, done_met}
 use Rattle.liquid_lib.proofs.Kept.{kept_same}
-use Rattle.liquid_lib.proofs.Rules.{comment_rule}
+use Rattle.liquid_meaning.proofs.Rules.{comment_rule}
 use Rattle.liquid_lib.proofs.Interrupts.{interrupt_of, some_of, none_of}
 use Rattle.liquid_lib.proofs.engine.+run.Goals as goal
 

@@ -8,12 +8,12 @@ use Rattle.liquid_filters.specs.Kinds.{kind_answer}
 use Rattle.liquid_tree.specs.ChainView.{chain_view}
 use Rattle.liquid_tree.specs.Evaluation.{chain_value}
 use Rattle.liquid_tree.specs.Names.{node_names}
-use Rattle.liquid_lib.specs.Runs.{change}
-use Rattle.liquid_lib.specs.Effects.{assigned_to}
+use Rattle.liquid_meaning.specs.Runs.{change}
+use Rattle.liquid_meaning.specs.Effects.{assigned_to}
 use Rattle.liquid_lib.specs.Performs.{unit, place_of}
 use Rattle.liquid_lib.proofs.Joined.{by_rule, given_met, refused_met, memory_at, change_met, gives_merged}
 use Rattle.liquid_lib.proofs.Kept.{kept_assigned}
-use Rattle.liquid_lib.proofs.Rules.{assign_rule}
+use Rattle.liquid_meaning.proofs.Rules.{assign_rule}
 use Rattle.liquid_lib.proofs.engine.run_assign.Goals as goal
 
 pub returns-in_err-value-clause-performs : goal.returns-in_err-value-clause-performs

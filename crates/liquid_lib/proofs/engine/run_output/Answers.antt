@@ -7,11 +7,11 @@ use Rattle.liquid_core.specs.declared.cow.ValueCow.{ValueCow}
 use Rattle.liquid_filters.specs.Kinds.{kind_answer}
 use Rattle.liquid_tree.specs.ChainView.{chain_view}
 use Rattle.liquid_tree.specs.Evaluation.{chain_value}
-use Rattle.liquid_lib.specs.Runs.{write}
+use Rattle.liquid_meaning.specs.Runs.{write}
 use Rattle.liquid_lib.specs.Performs.{unit, place_of}
 use Rattle.liquid_lib.proofs.Joined.{by_rule, write_met, given_met, refused_met}
 use Rattle.liquid_lib.proofs.Pieces.{writes_as}
-use Rattle.liquid_lib.proofs.Rules.{output_rule}
+use Rattle.liquid_meaning.proofs.Rules.{output_rule}
 use Rattle.liquid_lib.proofs.engine.run_output.Goals as goal
 
 pub returns-in_err-value-clause-performs : goal.returns-in_err-value-clause-performs

@@ -1,5 +1,5 @@
 use Rattle.liquid_lib.proofs.Joined.{by_rule, write_met}
-use Rattle.liquid_lib.proofs.Rules.{raw_rule}
+use Rattle.liquid_meaning.proofs.Rules.{raw_rule}
 use Rattle.liquid_lib.proofs.engine.run_raw.Goals as goal
 
 pub returns-clause-performs : goal.returns-clause-performs

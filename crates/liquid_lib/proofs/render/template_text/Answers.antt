@@ -5,16 +5,16 @@ use Rattle.liquid_core.specs.States.{environment_of}
 use Rattle.liquid_tree.specs.Names.{nodes_names, run_names}
 use Rattle.liquid_syntax.specs.Templates.{forest_of, partials_of, tree_of}
 use Rattle.liquid_lib.specs.Engine.{setting_of}
-use Rattle.liquid_lib.specs.Isolation.{names_of_run}
-use Rattle.liquid_lib.specs.Meaning.{meaning}
+use Rattle.liquid_meaning.specs.Isolation.{names_of_run}
+use Rattle.liquid_meaning.specs.Meaning.{meaning}
 use Rattle.liquid_lib.specs.Performs.{unit, writer_sink}
-use Rattle.liquid_lib.specs.Runs.{buffered}
+use Rattle.liquid_meaning.specs.Runs.{buffered}
 use Rattle.liquid_lib.specs.Sinks.{sink_of}
 use Rattle.liquid_lib.specs.declared.counted.NoWriter.{NoWriter}
 use Rattle.liquid_lib.proofs.Joined.{buffered_met, buffered_faulted, text_met}
 use Rattle.liquid_lib.proofs.Sinks.{Around}
 use Rattle.liquid_lib.proofs.Whole.{stood_in}
-use Rattle.liquid_lib.proofs.Within.{left, right, within_mentioned}
+use Rattle.liquid_meaning.proofs.Within.{left, right, within_mentioned}
 use Rattle.liquid_lib.proofs.Written.{still_open}
 use Rattle.liquid_lib.proofs.render.template_text.Goals as goal
 

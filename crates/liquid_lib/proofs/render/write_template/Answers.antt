@@ -2,11 +2,11 @@ use Rattle.std.proofs.Common.{rules}
 use Rattle.liquid_tree.specs.Names.{nodes_names, run_names}
 use Rattle.liquid_syntax.specs.Templates.{forest_of, partials_of, tree_of}
 use Rattle.liquid_lib.specs.Engine.{setting_of}
-use Rattle.liquid_lib.specs.Isolation.{names_of_run}
-use Rattle.liquid_lib.specs.Meaning.{meaning}
+use Rattle.liquid_meaning.specs.Isolation.{names_of_run}
+use Rattle.liquid_meaning.specs.Meaning.{meaning}
 use Rattle.liquid_lib.specs.Performs.{unit}
 use Rattle.liquid_lib.proofs.Whole.{stood_in}
-use Rattle.liquid_lib.proofs.Within.{left, right, within_mentioned}
+use Rattle.liquid_meaning.proofs.Within.{left, right, within_mentioned}
 use Rattle.liquid_lib.proofs.Written.{at_caller}
 use Rattle.liquid_lib.proofs.render.write_template.Goals as goal
 

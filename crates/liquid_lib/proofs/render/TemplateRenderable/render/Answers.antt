@@ -4,11 +4,11 @@ use Rattle.liquid_core.specs.Environment.{cut}
 use Rattle.liquid_core.specs.States.{environment_of}
 use Rattle.liquid_syntax.specs.Templates.{tree_of}
 use Rattle.liquid_lib.specs.Engine.{setting_of}
-use Rattle.liquid_lib.specs.Isolation.{changes}
+use Rattle.liquid_meaning.specs.Isolation.{changes}
 use Rattle.liquid_lib.specs.Rendered.{run_in, names_in, nowhere}
-use Rattle.liquid_lib.specs.Runs.{buffered, ended_with}
+use Rattle.liquid_meaning.specs.Runs.{buffered, ended_with}
 use Rattle.liquid_lib.specs.RuntimeView.{setting_in, depth_in, environment_in}
-use Rattle.liquid_lib.proofs.Changes.{headline}
+use Rattle.liquid_meaning.proofs.Changes.{headline}
 use Rattle.liquid_lib.proofs.Renderings.{lent_setting, no_setting, read_out, buffered_end, buffered_environment}
 use Rattle.liquid_lib.proofs.Written.{answered, exact}
 use Rattle.liquid_lib.proofs.render.TemplateRenderable.render.Goals as goal

@@ -2,7 +2,7 @@ use Rattle.liquid_syntax.specs.Templates.{tree_of}
 use Rattle.liquid_lib.specs.Engine.{setting_of}
 use Rattle.liquid_lib.specs.Rendered.{run_in, names_in}
 use Rattle.liquid_lib.specs.RuntimeView.{setting_in, depth_in, environment_in}
-use Rattle.liquid_lib.proofs.Changes.{headline}
+use Rattle.liquid_meaning.proofs.Changes.{headline}
 use Rattle.liquid_lib.proofs.Renderings.{lent_setting, no_setting, rendered}
 use Rattle.liquid_lib.proofs.Written.{for_cut}
 use Rattle.liquid_lib.proofs.render.TemplateRenderable.render_to.Goals as goal

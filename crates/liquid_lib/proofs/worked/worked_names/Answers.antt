@@ -1,5 +1,0 @@
-use Rattle.liquid_lib.proofs.worked.worked_names.Goals as goal
-use Rattle.liquid_lib.proofs.Computed.{worked_names}
-
-pub returns : goal.returns
-returns c = worked_names

@@ -1,0 +1,16 @@
+pub mod Apart
+pub mod Cells
+pub mod Changes
+pub mod Computed
+pub mod Further
+pub mod Items
+pub mod Law
+pub mod Maps
+pub mod Nodes
+pub mod Rules
+pub mod RunKinds
+pub mod Runs
+pub mod Stays
+pub mod Steps
+pub mod Values
+pub mod Within

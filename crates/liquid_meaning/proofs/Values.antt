@@ -1,0 +1,98 @@
+-- What is evaluated in two environments that agree on the mentioned names is the same.
+use Rattle.std.specs.Prelude.{◌≡◌, true, false, cond, T, List, [], ◌∷◌, Option, Some, None, Result, Ok, Err}
+use mathlib.Core.Path.{refl, ap, ◌∙◌}
+use Rattle.std.specs.Option.{option_and_then, ok_or}
+use Rattle.liquid_core.specs.Texts.{Text, ◌else◌}
+use Rattle.liquid_core.specs.Data.{Datum, scalar}
+use Rattle.liquid_core.specs.declared.error.ErrorKind.{ErrorKind}
+use Rattle.liquid_core.specs.declared.error.ErrorKind.TheVariants.{UnknownVariable}
+use Rattle.liquid_core.specs.Find.{find}
+use Rattle.liquid_core.specs.Expression.{Expression, literal, variable, Steps, no_steps, step}
+use Rattle.liquid_tree.specs.Calls.{applied}
+use Rattle.liquid_tree.specs.Tree.{FilterCall, Chain, Atom, bare, compared, Condition, Source, each_of, counted, Window, Bindings}
+use Rattle.liquid_core.specs.Environment.{Names, Environment, lookup}
+use Rattle.liquid_core.specs.Fallible.{◌>>=◌}
+use Rattle.liquid_core.specs.Expressions.{value_of, path_of, required, all_required, needed_whole}
+use Rattle.liquid_tree.specs.Evaluation.{FilterAnswers, entry_value, calls_by, chain_value, bare_truth, atom_truth, all_true, truth_of, source_items, amount, asked_for, bound_values}
+use Rattle.liquid_tree.specs.Names.{expression_names, steps_names, all_names, optional_names, filters_names, chain_names, atom_names, atoms_names, condition_names, source_names, window_names, bound_names}
+use Rattle.liquid_meaning.proofs.Runs.{AgreeOn}
+use Rattle.liquid_meaning.specs.Within.{Within}
+use Rattle.liquid_meaning.proofs.Within.{left, right}
+
+-- first the same, and then the same of each value
+bind_same : {A B : Type 0} {x y : Result A ErrorKind} {k l : A → Result B ErrorKind} → x ≡ y → ((a : A) → k a ≡ l a) → (x >>= k) ≡ (y >>= l)
+bind_same {x = x} {k = k} {l = l} e h = on x ∙ ap (λ z. z >>= l) e
+  where
+    on : (z : Result _ ErrorKind) → (z >>= k) ≡ (z >>= l)
+    on (Ok a) = h a
+    on (Err kind) = refl
+
+module _ (N : Names) (e f : Environment) (agree : AgreeOn N e f) where
+  pub lookup_same : (name : Text) → T (N name) → lookup e name ≡ lookup f name
+  lookup_same name h i = ((agree.local name h i else agree.assigned name h i) else agree.counters name h i) else agree.globals name h i
+
+  mutual
+    unfolding value_of expression_names
+
+    pub value_same : (x : Expression) → Within N (expression_names x) → value_of x e ≡ value_of x f
+    value_same (literal d) h = refl
+    value_same (variable name steps) h = λ i. option_and_then (λ path. option_and_then (λ found. find found path) (lookup_same name h.0 i)) (path_same steps h.1 i)
+
+    pub path_same : (steps : Steps) → Within N (steps_names steps) → path_of steps e ≡ path_of steps f
+    path_same no_steps h = refl
+    path_same (step x more) h = λ i. option_and_then (λ d. cond (scalar d) (option_and_then (λ ds. Some (d ∷ ds)) (path_same more (right N (expression_names x) (steps_names more) h) i)) None) (value_same x (left N (expression_names x) (steps_names more) h) i)
+
+  pub required_same : (x : Expression) → Within N (expression_names x) → required x e ≡ required x f
+  required_same x h = ap (λ o. ok_or o UnknownVariable) (value_same x h)
+
+  pub whole_same : (x : Expression) → Within N (expression_names x) → needed_whole x e ≡ needed_whole x f
+  unfolding needed_whole
+  whole_same x h = bind_same (required_same x h) (λ d. refl)
+
+  pub all_required_same : (xs : List Expression) → Within N (all_names xs) → all_required xs e ≡ all_required xs f
+  unfolding all_required all_names
+  all_required_same [] h = refl
+  all_required_same (x ∷ xs) h = bind_same (required_same x (left N (expression_names x) _ h)) (λ d. bind_same (all_required_same xs (right N (expression_names x) _ h)) (λ ds. refl))
+
+  calls_same : (answers : FilterAnswers) (calls : List FilterCall) → Within N (filters_names calls) → (d : Datum) → applied (calls_by answers calls) d e ≡ applied (calls_by answers calls) d f
+  unfolding applied filters_names
+  calls_same answers [] h d = refl
+  calls_same answers (call ∷ calls) h d = bind_same (all_required_same call.arguments (left N (all_names call.arguments) _ h)) (λ arguments. bind_same refl (λ answer. calls_same answers calls (right N (all_names call.arguments) _ h) answer))
+
+  pub chain_same : (answers : FilterAnswers) (chain : Chain) → Within N (chain_names chain) → chain_value answers chain e ≡ chain_value answers chain f
+  unfolding chain_value chain_names
+  chain_same answers chain h = bind_same (ap (λ o. entry_value o chain.filters) (value_same chain.entry (left N (expression_names chain.entry) _ h))) (λ entry. calls_same answers chain.filters (right N (expression_names chain.entry) _ h) entry)
+
+  atom_same : (atom : Atom) → Within N (atom_names atom) → atom_truth atom e ≡ atom_truth atom f
+  unfolding atom_truth atom_names
+  atom_same (bare x) h = ap (λ o. Ok (bare_truth o)) (value_same x h)
+  atom_same (compared x comparison y) h = bind_same (required_same x (left N (expression_names x) _ h)) (λ l. bind_same (required_same y (right N (expression_names x) _ h)) (λ r. refl))
+
+  all_true_same : (atoms : List Atom) → Within N (atoms_names atoms) → all_true atoms e ≡ all_true atoms f
+  unfolding all_true atoms_names
+  all_true_same [] h = refl
+  all_true_same (atom ∷ atoms) h = bind_same (atom_same atom (left N (atom_names atom) _ h)) (λ holds. ap (λ z. cond holds z (Ok false)) (all_true_same atoms (right N (atom_names atom) _ h)))
+
+  pub truth_same : (condition : Condition) → Within N (condition_names condition) → truth_of condition e ≡ truth_of condition f
+  unfolding truth_of condition_names
+  truth_same [] h = refl
+  truth_same (conjunction ∷ more) h = bind_same (all_true_same conjunction (left N (atoms_names conjunction) _ h)) (λ holds. ap (λ z. cond holds (Ok true) z) (truth_same more (right N (atoms_names conjunction) _ h)))
+
+  pub source_same : (source : Source) → Within N (source_names source) → source_items source e ≡ source_items source f
+  unfolding source_items source_names
+  source_same (each_of x) h = bind_same (required_same x h) (λ d. refl)
+  source_same (counted x y) h = bind_same (whole_same x (left N (expression_names x) _ h)) (λ a. bind_same (whole_same y (right N (expression_names x) _ h)) (λ b. refl))
+
+  pub amount_same : (x : Option Expression) → Within N (optional_names x) → amount x e ≡ amount x f
+  unfolding amount optional_names
+  amount_same None h = refl
+  amount_same (Some x) h = bind_same (whole_same x h) (λ n. refl)
+
+  pub asked_same : (window : Window) (ds : List Datum) → Within N (window_names window) → asked_for window ds e ≡ asked_for window ds f
+  unfolding asked_for window_names
+  asked_same window ds h = bind_same (amount_same window.limit (left N (optional_names window.limit) _ h)) (λ limit. bind_same (amount_same window.offset (right N (optional_names window.limit) _ h)) (λ offset. refl))
+
+  pub bound_same : (bindings : Bindings) → Within N (bound_names bindings) → bound_values bindings e ≡ bound_values bindings f
+  unfolding bound_values bound_names
+  bound_same [] h = refl
+  bound_same (b ∷ bs) h = bind_same (required_same b.1 (left N (expression_names b.1) _ h)) (λ d. bind_same (bound_same bs (right N (expression_names b.1) _ h)) (λ ds. refl))

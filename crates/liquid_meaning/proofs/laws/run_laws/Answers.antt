@@ -1,0 +1,18 @@
+use Rattle.liquid_meaning.proofs.laws.run_laws.Goals as goal
+use Rattle.liquid_meaning.proofs.Further.{text_is_itself, assigned_stay, assigned_in_loop, forloop_counts}
+use Rattle.liquid_meaning.proofs.RunKinds.{kinds_of_runs}
+
+pub returns-clause-text : goal.returns-clause-text
+returns-clause-text c = text_is_itself
+
+pub returns-clause-stays : goal.returns-clause-stays
+returns-clause-stays c = assigned_stay
+
+pub returns-clause-in_loop : goal.returns-clause-in_loop
+returns-clause-in_loop c = assigned_in_loop
+
+pub returns-clause-forloop : goal.returns-clause-forloop
+returns-clause-forloop c = forloop_counts
+
+pub returns-clause-kinds : goal.returns-clause-kinds
+returns-clause-kinds c = kinds_of_runs

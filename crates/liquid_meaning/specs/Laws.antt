@@ -1,0 +1,64 @@
+-- Laws of runs, beside those of isolation.
+use Rattle.std.specs.Prelude.{◌≡◌, ℕ, ◌+◌, ◌<◌, List, [], ◌∷◌, Some, Ok, IsSome, Bool, T, nat_le, Result, Err, pos, codes}
+use Rattle.liquid_core.specs.Texts.{Text}
+use Rattle.liquid_core.specs.Data.{Datum, number, text}
+use Rattle.liquid_core.specs.declared.error.ErrorKind.{ErrorKind}
+use Rattle.liquid_core.specs.Told.{number_of}
+use Rattle.liquid_core.specs.Find.{find}
+use Rattle.liquid_core.specs.Environment.{Environment}
+use Rattle.liquid_filters.specs.declared.kind.FilterKind.{FilterKind}
+use Rattle.liquid_tree.specs.Tree.{Chain, Source, Window, Nodes, no_nodes, node, plain, assign, for_each}
+use Rattle.liquid_tree.specs.Evaluation.{source_items, asked_for}
+use Rattle.liquid_meaning.specs.Loops.{forloop_object}
+use Rattle.liquid_meaning.specs.Meaning.{Setting, meaning}
+
+-- a template of one text is that text: its run writes it, is done and changes nothing
+abbrev pub TextIsItself : Type 0
+TextIsItself = (setting : Setting) (depth : ℕ) (t : Text) (e : Environment)
+    → meaning setting depth (node (plain t) no_nodes) e ≡ record { text = t; environment = e; end = Ok tt }
+
+-- no run takes an assigned variable away
+abbrev pub AssignedStay : Type 0
+AssignedStay = (setting : Setting) (depth : ℕ) (nodes : Nodes) (e : Environment) (name : Text)
+    → IsSome (e.assigned name) → IsSome ((meaning setting depth nodes e).environment.assigned name)
+
+-- an `assign` that ran in a `for`, which has items and is done, is there after it
+abbrev pub AssignedInLoop : Type 0
+AssignedInLoop = (setting : Setting) (depth : ℕ) (name : Text) (source : Source) (window : Window) (target : Text) (chain : Chain) (more otherwise : Nodes) (e : Environment)
+    (all items : List Datum) (d : Datum)
+    → source_items source e ≡ Ok all → asked_for window all e ≡ Ok (d ∷ items)
+    → (let o = meaning setting depth (node (for_each name source window (node (assign target chain) more) otherwise) no_nodes) e in
+    o.end ≡ Ok tt → IsSome (o.environment.assigned target))
+
+-- the object of a loop holds the number n under a name
+abbrev pub Counts : Datum → Text → ℕ → Type 0
+Counts forloop name n = find forloop (text name ∷ []) ≡ Some (number (pos n))
+
+-- at item k of m, `index` is `index0` + 1, and `index` + `rindex0` is `length`
+pub record ForloopCounts (k m : ℕ) (parent : Datum) : Type 0 where
+  pub index0 : ℕ
+  pub index : ℕ
+  pub rindex0 : ℕ
+  pub length : ℕ
+  pub holds_index0 : Counts (forloop_object k m parent) (codes "index0") index0
+  pub holds_index : Counts (forloop_object k m parent) (codes "index") index
+  pub holds_rindex0 : Counts (forloop_object k m parent) (codes "rindex0") rindex0
+  pub holds_length : Counts (forloop_object k m parent) (codes "length") length
+  pub one_more : index ≡ index0 + 1
+  pub together : index + rindex0 ≡ length
+
+abbrev pub ForloopCountsItems : Type 0
+ForloopCountsItems = (k m : ℕ) (parent : Datum) → k < m → ForloopCounts k m parent
+
+-- a kind of fault that a run ends by: the kinds of sources, refused memory and failed writes are none
+abbrev pub is_run_kind : ErrorKind → Bool
+is_run_kind kind = nat_le (number_of kind) 16
+
+-- an end by a value, or by such a kind
+abbrev pub EndsAsRun : {A : Type 0} → Result A ErrorKind → Type 0
+EndsAsRun end = (kind : ErrorKind) → end ≡ Err kind → T (is_run_kind kind)
+
+-- where the filters answer such kinds alone, every run ends so
+abbrev pub KindsOfRuns : Type 0
+KindsOfRuns = (setting : Setting) → ((filter : FilterKind) (input : Datum) (arguments : List Datum) → EndsAsRun (setting.answers filter input arguments))
+    → (depth : ℕ) (nodes : Nodes) (e : Environment) → EndsAsRun (meaning setting depth nodes e).end

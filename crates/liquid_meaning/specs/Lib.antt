@@ -1,0 +1,13 @@
+pub mod Effects
+pub mod Isolation
+pub mod Laws
+pub mod LoopLaws
+pub mod Loops
+pub mod Meaning
+pub mod Runs
+pub mod Within
+pub mod Worked
+pub mod WorkedLoops
+pub mod WorkedNames
+pub mod WorkedPartials
+pub mod WorkedStores

@@ -1,0 +1,32 @@
+//! Laws of what templates mean: each function's contract is the law, and its body does nothing.
+
+ghost use Rattle.liquid_meaning.specs.Isolation.{Isolation, AgreeingRuns, OthersKept, RenderLeavesAll, RenderSeesItsValues, Headline};
+ghost use Rattle.liquid_meaning.specs.LoopLaws.{RangeLaw, RowLaw, WindowLaw};
+ghost use Rattle.liquid_meaning.specs.Laws.{AssignedInLoop, AssignedStay, ForloopCountsItems, KindsOfRuns, TextIsItself};
+
+/// The laws of isolation: a run depends on the names that its template or a partial mentions, and leaves all others alone.
+pub fn isolation_laws()
+    ensures headline { Headline }
+    ensures isolation { Isolation }
+    ensures agreeing { AgreeingRuns }
+    ensures others { OthersKept }
+    ensures render { RenderLeavesAll }
+    ensures render_sees { RenderSeesItsValues }
+{}
+
+/// Further laws of runs. A text is itself; what is assigned stays, also after a loop (a `render` leaves nothing: [isolation_laws]);
+/// the numbers of `forloop` fit together; and every run ends by a kind that is one of runs, where the filters do.
+pub fn run_laws()
+    ensures text { TextIsItself }
+    ensures stays { AssignedStay }
+    ensures in_loop { AssignedInLoop }
+    ensures forloop { ForloopCountsItems }
+    ensures kinds { KindsOfRuns }
+{}
+
+/// Laws of a loop's items: which of them a window asks for, what a range counts, and where the rows of a table end.
+pub fn loop_laws()
+    ensures window { WindowLaw }
+    ensures range { RangeLaw }
+    ensures rows { RowLaw }
+{}

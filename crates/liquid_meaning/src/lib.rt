@@ -1,0 +1,8 @@
+//! What templates mean, apart from any engine, and the laws of it.
+#![tactic(auto)]
+
+mod laws;
+mod worked;
+
+pub use laws::{isolation_laws, loop_laws, run_laws};
+pub use worked::{worked_names, worked_runs};

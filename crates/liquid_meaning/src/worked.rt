@@ -1,0 +1,18 @@
+//! Worked runs and names: templates whose meaning can be told by reading them.
+
+ghost use Rattle.liquid_meaning.specs.WorkedLoops.{WorkedLoops};
+ghost use Rattle.liquid_meaning.specs.WorkedNames.{WorkedNames};
+ghost use Rattle.liquid_meaning.specs.WorkedPartials.{WorkedPartials};
+ghost use Rattle.liquid_meaning.specs.WorkedStores.{WorkedStores};
+
+/// What some templates write, how they end and what they leave: the meaning gives just that.
+pub fn worked_runs()
+    ensures stores { WorkedStores }
+    ensures loops { WorkedLoops }
+    ensures partials { WorkedPartials }
+{}
+
+/// Which names some templates mention.
+pub fn worked_names()
+    ensures { WorkedNames }
+{}
