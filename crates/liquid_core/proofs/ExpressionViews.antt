@@ -1,16 +1,16 @@
 -- An expression's view, level by level.
 use Rattle.std.proofs.Common.{◌≡◌, List, [], ◌∷◌, Option, Some, None, string_bytes, sym, ap, ◌∙◌, rules}
 use Rattle.std.specs.Option.{option_and_then}
-use Rattle.liquid_core.specs.Texts.{Text}
-use Rattle.liquid_core.specs.Data.{Datum}
-use Rattle.liquid_core.specs.Find.{step}
+use Rattle.liquid_model.specs.Texts.{Text}
+use Rattle.liquid_model.specs.Data.{Datum}
+use Rattle.liquid_model.specs.Find.{step}
 use Rattle.liquid_core.specs.Environment.{Environment, lookup}
 use Rattle.liquid_core.specs.Expressions.{value_of}
 use Rattle.liquid_core.proofs.Steps.{led, led_from}
-use Rattle.liquid_core.specs.View.{view}
+use Rattle.liquid_model.specs.View.{view}
 use Rattle.liquid_core.specs.Expression as tree
 use Rattle.liquid_core.specs.ExpressionView.{expression_view, variable_view, steps_view}
-use Rattle.liquid_core.specs.declared.value.Value.{Value}
+use Rattle.liquid_model.specs.declared.value.Value.{Value}
 use Rattle.liquid_core.specs.declared.expression.Expression.{Expression, Literal, the_lemmas}
 use Rattle.liquid_core.specs.declared.expression.Variable as declared
 

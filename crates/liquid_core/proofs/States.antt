@@ -8,11 +8,11 @@ use Rattle.std.specs.String.{string_cmp}
 use Rattle.std.proofs.lemmas.Map.Text.{btree_map_updates_text}
 use Rattle.liquid_core.specs.declared.interrupt.Interrupt.{Interrupt}
 use Rattle.std.proofs.lemmas.List.{map-append}
-use Rattle.liquid_core.specs.declared.value.Value.{Value}
+use Rattle.liquid_model.specs.declared.value.Value.{Value}
 use Rattle.liquid_core.specs.declared.state.State.{State}
-use Rattle.liquid_core.specs.Texts.{◌else◌}
-use Rattle.liquid_core.specs.View.{pairs_view}
-use Rattle.liquid_core.specs.Maps.{merged, empty}
+use Rattle.liquid_model.specs.Texts.{◌else◌}
+use Rattle.liquid_model.specs.View.{pairs_view}
+use Rattle.liquid_model.specs.Maps.{merged, empty}
 use Rattle.liquid_core.specs.Environment.{local_of, lookup}
 use Rattle.std.specs.Map.{lookup as entry_of}
 use Rattle.std.specs.BTreeMap.{is_at}
@@ -21,12 +21,12 @@ use Rattle.std.specs.Ordering.{nat_cmp}
 use Rattle.liquid_core.specs.States.{held, layers_of, environment_of, new_layers, with_scope_popped, scopes_behind, with_interrupt, with_changed, with_cycle}
 use Rattle.std.proofs.lemmas.List.{reverse-append}
 use Rattle.std.proofs.lemmas.Slice.Eq.{bytes_eq-Decides}
-use Rattle.liquid_core.specs.Texts.{Text}
-use Rattle.liquid_core.specs.Data.{Datum, Pairs, put}
-use Rattle.liquid_core.specs.Find.{value_at}
-use Rattle.liquid_core.specs.Maps.{Map, insert}
+use Rattle.liquid_model.specs.Texts.{Text}
+use Rattle.liquid_model.specs.Data.{Datum, Pairs, put}
+use Rattle.liquid_model.specs.Find.{value_at}
+use Rattle.liquid_model.specs.Maps.{Map, insert}
 use Rattle.liquid_core.specs.States.{map_of}
-use Rattle.liquid_core.proofs.Maps.{value_at_put, value_at_put_other}
+use Rattle.liquid_model.proofs.Maps.{value_at_put, value_at_put_other}
 
 at_name : (b : Bool) (k q : Text) (d : Datum) (ps : Pairs) → bytes_eq k q ≡ b → value_at q (put k d ps) ≡ cond b (Some d) (value_at q ps)
 at_name true k q d ps e = let same : k ≡ q = (bytes_eq-Decides k q).0 e in ap (λ x. value_at x (put k d ps)) (sym same) ∙ value_at_put k d ps

@@ -1,10 +1,10 @@
 -- A variable's value, step by step.
 use Rattle.std.proofs.Common.{◌≡◌, List, ◌∷◌, Bool, true, false, cond, Option, Some, None, refl, sym, ap, ◌∙◌}
 use Rattle.std.specs.Option.{option_and_then}
-use Rattle.liquid_core.specs.Texts.{Text}
-use Rattle.liquid_core.specs.Data.{Datum, scalar}
-use Rattle.liquid_core.specs.Find.{find}
-use Rattle.liquid_core.specs.Find as finding
+use Rattle.liquid_model.specs.Texts.{Text}
+use Rattle.liquid_model.specs.Data.{Datum, scalar}
+use Rattle.liquid_model.specs.Find.{find}
+use Rattle.liquid_model.specs.Find as finding
 use Rattle.liquid_core.specs.Environment.{Environment, lookup}
 use Rattle.liquid_core.specs.Expression.{literal, variable, Steps, no_steps, step}
 use Rattle.liquid_core.specs.Expressions.{value_of, path_of}

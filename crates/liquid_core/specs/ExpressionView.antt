@@ -1,6 +1,6 @@
 -- The expression that an `Expression` or a `Variable` stands for.
 use Rattle.std.specs.Prelude.{List, [], ◌∷◌, map, string_bytes}
-use Rattle.liquid_core.specs.View.{view}
+use Rattle.liquid_model.specs.View.{view}
 use Rattle.liquid_core.specs.Expression as tree
 use Rattle.liquid_core.specs.declared.expression.Expression.{Expression, fold-Expression}
 use Rattle.liquid_core.specs.declared.expression.Expression.TheOpen.{Expression-F, Variable-F}

@@ -2,14 +2,14 @@
 --     value_of x e      the value, or `None` where it is missing;   required x e      where missing, UnknownVariable
 use Rattle.std.specs.Prelude.{ℤ, Bool, true, cond, List, [], ◌∷◌, Option, Some, None, Result, Ok}
 use Rattle.std.specs.Option.{option_and_then, ok_or}
-use Rattle.liquid_core.specs.declared.error.ErrorKind.{ErrorKind}
-use Rattle.liquid_core.specs.declared.error.ErrorKind.TheVariants.{UnknownVariable, UnexpectedValue}
-use Rattle.liquid_core.specs.Data.{Datum, scalar, text_of, is_text}
-use Rattle.liquid_core.specs.Whole.{whole}
-use Rattle.liquid_core.specs.Find.{find}
+use Rattle.liquid_model.specs.declared.error.ErrorKind.{ErrorKind}
+use Rattle.liquid_model.specs.declared.error.ErrorKind.TheVariants.{UnknownVariable, UnexpectedValue}
+use Rattle.liquid_model.specs.Data.{Datum, scalar, text_of, is_text}
+use Rattle.liquid_model.specs.Whole.{whole}
+use Rattle.liquid_model.specs.Find.{find}
 use Rattle.liquid_core.specs.Expression.{Expression, literal, variable, Steps, no_steps, step}
 use Rattle.liquid_core.specs.Environment.{Environment, lookup}
-use Rattle.liquid_core.specs.Fallible.{◌>>=◌}
+use Rattle.liquid_model.specs.Fallible.{◌>>=◌}
 
 -- the value of a path: the text of its first step is a name, and the others lead on from that name's value
 abbrev pub value_along : Environment → List Datum → Option Datum

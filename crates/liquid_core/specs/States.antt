@@ -2,16 +2,16 @@
 use Rattle.std.specs.Prelude.{ℕ, List, [], ◌∷◌, map, reverse, Option, String, string_bytes}
 use Rattle.std.specs.Option.{option_map}
 use Rattle.std.specs.BTreeMap.{BTreeMap, get_by_text}
-use Rattle.liquid_core.specs.Texts.{Text}
-use Rattle.liquid_core.specs.Data.{Datum, Pairs}
-use Rattle.liquid_core.specs.Find.{value_at}
-use Rattle.liquid_core.specs.View.{pairs_view}
-use Rattle.liquid_core.specs.Maps.{Map, empty, insert}
+use Rattle.liquid_model.specs.Texts.{Text}
+use Rattle.liquid_model.specs.Data.{Datum, Pairs}
+use Rattle.liquid_model.specs.Find.{value_at}
+use Rattle.liquid_model.specs.View.{pairs_view}
+use Rattle.liquid_model.specs.Maps.{Map, empty, insert}
 use Rattle.liquid_core.specs.Environment.{Environment, Registers, new_registers, local_of}
 use Rattle.liquid_core.specs.declared.state.State.{State}
 use Rattle.liquid_core.specs.declared.interrupt.Interrupt.{Interrupt}
 use Rattle.std.specs.declared.alloc.Global.{Global}
-use Rattle.liquid_core.specs.declared.value.Value.{Value}
+use Rattle.liquid_model.specs.declared.value.Value.{Value}
 
 -- an object as a map
 unfoldable pub map_of : Pairs → Map Datum

@@ -2,8 +2,8 @@
 --     a literal      a text in double quotes, a decimal number, `nil`, `true` or `false` (a list or map has its text)
 --     a variable      its name, then each step in brackets, by its own written form
 use Rattle.std.specs.Prelude.{[], ◌++◌, codes}
-use Rattle.liquid_core.specs.Texts.{Text}
-use Rattle.liquid_core.specs.Data.{Datum, nil, text, text_of}
+use Rattle.liquid_model.specs.Texts.{Text}
+use Rattle.liquid_model.specs.Data.{Datum, nil, text, text_of}
 use Rattle.liquid_core.specs.Expression.{Expression, literal, variable, Steps, no_steps, step}
 
 -- a text in double quotes, `nil`, or the text of any other value

@@ -1,20 +1,17 @@
 //! Expressions: literals, and variables with their steps.
 ghost use Rattle.std.specs.Prelude.{◌≡◌, option_map, map, IsOk, IfSome, IfErr};
-ghost use Rattle.liquid_core.specs.Answer.{Answers, Gives, TakesNoMemory};
-ghost use Rattle.liquid_core.specs.Cow.{cow_view};
-ghost use Rattle.liquid_core.specs.Errors.{HasMessageUnlessMemory, without_value_message};
+ghost use Rattle.liquid_model.specs.Answer.{Answers, Gives, TakesNoMemory};
+ghost use Rattle.liquid_model.specs.Cow.{cow_view};
+ghost use Rattle.liquid_model.specs.Errors.{HasMessageUnlessMemory, without_value_message};
 ghost use Rattle.liquid_core.specs.Expressions.{value_of, required};
 ghost use Rattle.liquid_core.specs.ExpressionView.{expression_view, variable_view, steps_view};
 ghost use Rattle.liquid_core.specs.States.{environment_of};
-ghost use Rattle.liquid_core.specs.Told.{Told};
+ghost use Rattle.liquid_model.specs.Told.{Told};
 ghost use Rattle.liquid_core.specs.Written.{written_form};
-ghost use Rattle.liquid_core.specs.declared.error.ErrorKind.TheVariants.{UnknownVariable};
+ghost use Rattle.liquid_model.specs.declared.error.ErrorKind.TheVariants.{UnknownVariable};
 
-use crate::cow::ValueCow;
-use crate::error::{Error, ErrorKind, Result};
-use crate::find::Found;
 use crate::state::State;
-use crate::value::Value;
+use liquid_model::{Error, ErrorKind, Found, Result, Value, ValueCow};
 use std::alloc::Global;
 use std::fmt::Display;
 

@@ -1,12 +1,11 @@
 //! What a filter is.
 ghost use Rattle.std.specs.Prelude.{◌≡◌, ℕ, List, Bool, IsTrue, length, map, Result};
-ghost use Rattle.liquid_core.specs.Answer.{Answers};
-ghost use Rattle.liquid_core.specs.Data.{Datum};
-ghost use Rattle.liquid_core.specs.View.{view};
-ghost use Rattle.liquid_core.specs.declared.error.ErrorKind.{ErrorKind};
+ghost use Rattle.liquid_model.specs.Answer.{Answers};
+ghost use Rattle.liquid_model.specs.Data.{Datum};
+ghost use Rattle.liquid_model.specs.View.{view};
+ghost use Rattle.liquid_model.specs.declared.error.ErrorKind.{ErrorKind};
 
-use crate::error::Result;
-use crate::value::Value;
+use liquid_model::{Result, Value};
 use std::alloc::Global;
 
 /// A filter: one function of its input and its arguments.

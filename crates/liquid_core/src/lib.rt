@@ -1,29 +1,17 @@
-//! Values, expressions and the state of templates: what all other layers stand on.
+//! Expressions and the state of templates, over the values of `liquid_model`: what all other layers stand on.
 #![tactic(auto)]
 
-mod compare;
-mod cow;
-mod digest;
-mod error;
 mod expression;
 mod filter;
-mod find;
 mod interrupt;
 pub mod laws;
-mod object;
-mod order;
 mod state;
-mod text;
-mod value;
-mod whole;
 mod written;
 
-pub use cow::ValueCow;
-pub use error::{Error, ErrorKind, Result};
 pub use expression::{Expression, Variable};
 pub use filter::Filter;
 pub use interrupt::Interrupt;
-pub use object::{look_up, store};
+pub use liquid_model::{
+    Error, ErrorKind, Object, Result, Value, ValueCow, copy_items, look_up, store, whole_of,
+};
 pub use state::State;
-pub use value::{Object, Value, copy_items};
-pub use whole::whole_of;

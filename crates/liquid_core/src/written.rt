@@ -1,15 +1,13 @@
 //! The written form of an expression: how it stands in a template's source.
 ghost use Rattle.std.specs.Prelude.{◌≡◌, ◌++◌, Some, string_bytes};
 ghost use Rattle.std.specs.Fmt.{WritesOnOk};
-ghost use Rattle.liquid_core.specs.Answer.{Gives};
+ghost use Rattle.liquid_model.specs.Answer.{Gives};
 ghost use Rattle.liquid_core.specs.ExpressionView.{expression_view, variable_view, steps_view};
-ghost use Rattle.liquid_core.specs.View.{view};
+ghost use Rattle.liquid_model.specs.View.{view};
 ghost use Rattle.liquid_core.specs.Written.{written_form, written_literal, written_steps};
 
-use crate::error::Result;
 use crate::expression::{Expression, Variable};
-use crate::text::write_text;
-use crate::value::Value;
+use liquid_model::{Result, Value, write_text};
 use std::fmt;
 use std::fmt::{Formatter, Write};
 

@@ -1,7 +1,7 @@
 -- The filters that exist: how many arguments each takes, what it answers and what Liquid calls it.
 use Rattle.std.specs.Prelude.{ℕ, Bool, ◌&&◌, ◌||◌, List, nat_eq, nat_le, codes}
-use Rattle.liquid_core.specs.Data.{Datum}
-use Rattle.liquid_core.specs.Texts.{Text}
+use Rattle.liquid_model.specs.Data.{Datum}
+use Rattle.liquid_model.specs.Texts.{Text}
 use Rattle.liquid_list_filters.specs.Arguments.{Answer}
 use Rattle.liquid_list_filters.specs.Ends.{first_answer, last_answer}
 use Rattle.liquid_list_filters.specs.Joined.{join_answer}

@@ -14,7 +14,7 @@ struct Suffix {
 
 impl Filter for Suffix {
     ghost use Rattle.std.specs.Prelude.{◌++◌, Ok, nat_eq};
-    ghost use Rattle.liquid_core.specs.Data.{text, text_of};
+    ghost use Rattle.liquid_model.specs.Data.{text, text_of};
 
     ghost counts = { λ _ n. nat_eq n 0 };
 

@@ -2,11 +2,11 @@
 use Rattle.std.proofs.Common.{◌≡◌, ℕ, ◌+◌, ◌<◌, ◌≤◌, List, [], ◌∷◌, length, get_or, Bool, true, false, cond, Result, Ok, Err, inl, inr, refl, sym, ap, subst, ◌∙◌, arith}
 use Rattle.std.specs.Prelude.{MatchBool, ⊤}
 use Rattle.std.proofs.lemmas.List.{length-map}
-use Rattle.liquid_core.specs.Texts.{Text}
-use Rattle.liquid_core.specs.declared.error.Error.{Error}
-use Rattle.liquid_core.specs.declared.error.ErrorKind.{ErrorKind}
-use Rattle.liquid_core.specs.Answer.{Answers}
-use Rattle.liquid_core.specs.Told.{is_memory, is_refusal}
+use Rattle.liquid_model.specs.Texts.{Text}
+use Rattle.liquid_model.specs.declared.error.Error.{Error}
+use Rattle.liquid_model.specs.declared.error.ErrorKind.{ErrorKind}
+use Rattle.liquid_model.specs.Answer.{Answers}
+use Rattle.liquid_model.specs.Told.{is_memory, is_refusal}
 use Rattle.liquid_core.specs.Environment.{Environment, Names}
 use Rattle.liquid_tree.specs.ConditionView.{condition_view}
 use Rattle.liquid_tree.specs.Evaluation.{truth_of}

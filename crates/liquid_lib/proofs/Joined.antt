@@ -1,15 +1,15 @@
 -- How what steps have done is put together.
 use Rattle.std.proofs.Common.{◌≡◌, [], Bool, true, false, Some, None, Result, Ok, Err, inl, inr, refl, sym, ap, subst, ◌∙◌}
 use Rattle.std.specs.Prelude.{MatchBool, ⊤}
-use Rattle.liquid_core.specs.Texts.{Text}
-use Rattle.liquid_core.specs.Data.{Datum}
-use Rattle.liquid_core.specs.Maps.{Map, merged}
-use Rattle.liquid_core.specs.declared.error.Error.{Error}
-use Rattle.liquid_core.specs.declared.error.ErrorKind.{ErrorKind}
-use Rattle.liquid_core.specs.declared.error.ErrorKind.TheVariants.{Memory}
+use Rattle.liquid_model.specs.Texts.{Text}
+use Rattle.liquid_model.specs.Data.{Datum}
+use Rattle.liquid_model.specs.Maps.{Map, merged}
+use Rattle.liquid_model.specs.declared.error.Error.{Error}
+use Rattle.liquid_model.specs.declared.error.ErrorKind.{ErrorKind}
+use Rattle.liquid_model.specs.declared.error.ErrorKind.TheVariants.{Memory}
 use Rattle.liquid_core.specs.declared.interrupt.Interrupt.{Interrupt}
-use Rattle.liquid_core.specs.Told.{is_memory, is_refusal}
-use Rattle.liquid_core.specs.Answer.{Answers, Gives}
+use Rattle.liquid_model.specs.Told.{is_memory, is_refusal}
+use Rattle.liquid_model.specs.Answer.{Answers, Gives}
 use Rattle.liquid_core.specs.Environment.{Environment}
 use Rattle.liquid_core.specs.States.{Layers, merged_layers}
 use Rattle.liquid_tree.specs.Tree.{Node, Nodes, no_nodes, node}

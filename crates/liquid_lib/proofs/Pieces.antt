@@ -1,11 +1,11 @@
 -- Texts that are written piece by piece.
 use Rattle.std.proofs.Common.{◌≡◌, List, [], ◌++◌, Result, Ok, Err, inl, inr, refl, sym, ap, subst, ◌∙◌, ◌∷◌, append_assoc, String, Global, string_bytes}
-use Rattle.liquid_core.specs.Data.{text_of, pairs_text}
-use Rattle.liquid_core.specs.View.{view, pairs_view}
-use Rattle.liquid_core.specs.declared.value.Value.{Value}
-use Rattle.liquid_core.specs.Texts.{Text}
-use Rattle.liquid_core.specs.declared.error.Error.{Error}
-use Rattle.liquid_core.specs.declared.error.ErrorKind.{ErrorKind}
+use Rattle.liquid_model.specs.Data.{text_of, pairs_text}
+use Rattle.liquid_model.specs.View.{view, pairs_view}
+use Rattle.liquid_model.specs.declared.value.Value.{Value}
+use Rattle.liquid_model.specs.Texts.{Text}
+use Rattle.liquid_model.specs.declared.error.Error.{Error}
+use Rattle.liquid_model.specs.declared.error.ErrorKind.{ErrorKind}
 use Rattle.liquid_core.specs.Environment.{Environment}
 use Rattle.liquid_meaning.specs.Runs.{Nothing, Outcome}
 use Rattle.liquid_lib.specs.Sinks.{Sink}

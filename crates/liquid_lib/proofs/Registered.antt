@@ -3,8 +3,8 @@ use Rattle.std.proofs.Common.{◌≡◌, ◌⊎◌, Bool, true, false, cond, T, 
 use Rattle.std.proofs.lemmas.List.Elements.{All-from_recursion, All-map, Contains-append_right, Contains-get_or}
 use Rattle.std.specs.Cmp.Lexicographic.{bytes_decides}
 use Rattle.std.specs.List.{AllByRecursion}
-use Rattle.liquid_core.specs.Maps.{Map, insert, listed}
-use Rattle.liquid_core.specs.Texts.{Text, same_text}
+use Rattle.liquid_model.specs.Maps.{Map, insert, listed}
+use Rattle.liquid_model.specs.Texts.{Text, same_text}
 use Rattle.liquid_filters.specs.Kinds.{kind_name}
 use Rattle.liquid_filters.specs.declared.kind.FilterKind.{FilterKind}
 use Rattle.liquid_lib.specs.Standard.{AreNamed, with_filters}

@@ -1,13 +1,13 @@
 -- Renderings in a runtime.
 use Rattle.std.proofs.Common.{◌≡◌, List, [], Some, None, Result, BTreeMap, String, Global, sym, ap, ◌∙◌, subst}
 use Rattle.std.specs.Borrow.{Bor}
-use Rattle.liquid_core.specs.Texts.{Text}
+use Rattle.liquid_model.specs.Texts.{Text}
 use Rattle.liquid_core.specs.Environment.{Environment}
 use Rattle.liquid_core.specs.States.{Layers, held, map_of}
-use Rattle.liquid_core.specs.Maps.{empty}
-use Rattle.liquid_core.specs.View.{pairs_view}
-use Rattle.liquid_core.specs.declared.value.Value.{Value}
-use Rattle.liquid_core.specs.declared.error.Error.{Error}
+use Rattle.liquid_model.specs.Maps.{empty}
+use Rattle.liquid_model.specs.View.{pairs_view}
+use Rattle.liquid_model.specs.declared.value.Value.{Value}
+use Rattle.liquid_model.specs.declared.error.Error.{Error}
 use Rattle.liquid_filters.specs.Kinds.{kind_answer}
 use Rattle.liquid_tree.specs.Tree.{Nodes}
 use Rattle.liquid_syntax.specs.Templates.{partials_of}

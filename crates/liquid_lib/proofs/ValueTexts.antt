@@ -1,9 +1,9 @@
 -- The text of a value, kind by kind.
 use Rattle.std.proofs.Common.{◌≡◌, ℤ, Bool, Vec, BTreeMap, String, Global, string_bytes, ap, sym, ◌∙◌, rules}
-use Rattle.liquid_core.specs.Data.{truth, number, text_of, items_text, pairs_text}
-use Rattle.liquid_core.specs.View.{view, items_view, pairs_view}
-use Rattle.liquid_core.specs.declared.value.Value.{Value, Bool as Truth, Integer, Text, Array, Object, the_lemmas}
-use Rattle.liquid_core.proofs.Views.{view-Text, view-Array, view-Object}
+use Rattle.liquid_model.specs.Data.{truth, number, text_of, items_text, pairs_text}
+use Rattle.liquid_model.specs.View.{view, items_view, pairs_view}
+use Rattle.liquid_model.specs.declared.value.Value.{Value, Bool as Truth, Integer, Text, Array, Object, the_lemmas}
+use Rattle.liquid_model.proofs.Views.{view-Text, view-Array, view-Object}
 
 view-Bool : (b : Bool) → view (Truth b) ≡ truth b
 view-Bool b = search (rules, the_lemmas)

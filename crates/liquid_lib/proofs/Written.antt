@@ -2,15 +2,15 @@
 use Rattle.std.proofs.lemmas.Bool.{true≢false}
 use Rattle.std.proofs.Common.{arith, ◌<◌, OnOk, IfErr, IsErrAnd, ◌≡◌, ℕ, [], Bool, true, false, Option, Some, None, IsSome, is_some, Result, Ok, Err, ◌⊎◌, inl, inr, refl, sym, ap, subst, ◌∙◌, append-nil, String, Global, string_bytes, option_map}
 use Rattle.std.specs.Io.KnownBytes.{Appends}
-use Rattle.liquid_core.specs.Texts.{Text}
-use Rattle.liquid_core.specs.Told.{is_memory, is_refusal}
+use Rattle.liquid_model.specs.Texts.{Text}
+use Rattle.liquid_model.specs.Told.{is_memory, is_refusal}
 use Rattle.liquid_core.specs.Environment.{Names, Environment}
-use Rattle.liquid_core.specs.declared.error.Error.{Error}
-use Rattle.liquid_core.specs.declared.error.ErrorKind.{ErrorKind}
-use Rattle.liquid_core.specs.declared.error.ErrorKind.TheVariants.{Memory, Write}
+use Rattle.liquid_model.specs.declared.error.Error.{Error}
+use Rattle.liquid_model.specs.declared.error.ErrorKind.{ErrorKind}
+use Rattle.liquid_model.specs.declared.error.ErrorKind.TheVariants.{Memory, Write}
 use Rattle.liquid_lib.specs.Added.{AppendsPart}
 use Rattle.liquid_lib.specs.Failures.{SomeFailed}
-use Rattle.liquid_core.specs.Answer.{Answers, Faulted}
+use Rattle.liquid_model.specs.Answer.{Answers, Faulted}
 use Rattle.liquid_lib.proofs.Joined.{memory_of}
 use Rattle.liquid_lib.specs.Sinks.{Sink, Adds, AddsPart}
 use Rattle.liquid_meaning.specs.Runs.{Nothing, Outcome, Run}

@@ -2,10 +2,10 @@
 --     ListComesTo ns e nodes r      r is a range of ns that does in e what the list of nodes does there, or the kind by which that list ends before anything is done, or `Memory`
 --     NodeComesTo ns e n r      the same of a node
 use Rattle.std.specs.Prelude.{◌≡◌, ℕ, List, [], MatchBool, ⊤, false, Result, Ok, Err}
-use Rattle.liquid_core.specs.Texts.{Text}
-use Rattle.liquid_core.specs.declared.error.Error.{Error}
-use Rattle.liquid_core.specs.declared.error.ErrorKind.{ErrorKind}
-use Rattle.liquid_core.specs.Told.{is_memory, is_refusal}
+use Rattle.liquid_model.specs.Texts.{Text}
+use Rattle.liquid_model.specs.declared.error.Error.{Error}
+use Rattle.liquid_model.specs.declared.error.ErrorKind.{ErrorKind}
+use Rattle.liquid_model.specs.Told.{is_memory, is_refusal}
 use Rattle.liquid_core.specs.Environment.{Environment, Names}
 use Rattle.liquid_syntax.specs.Flats.{Maker, StandsAt, nodes_of}
 use Rattle.liquid_syntax.specs.Forest.{Forest}

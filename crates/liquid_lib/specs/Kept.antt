@@ -1,6 +1,6 @@
 -- What every answer leaves as it was.
 use Rattle.std.specs.Prelude.{◌≡◌, List}
-use Rattle.liquid_core.specs.Texts.{Text}
+use Rattle.liquid_model.specs.Texts.{Text}
 use Rattle.liquid_core.specs.Environment.{Names}
 use Rattle.liquid_core.specs.States.{Layers, layers_of}
 use Rattle.liquid_core.specs.declared.state.State.{State}

@@ -3,11 +3,11 @@
 --     Performs r m before after      the same of a step that gives no value
 --     Writes r t old new      the step writes t and does nothing else
 use Rattle.std.specs.Prelude.{◌≡◌, ℕ, List, Bool, false, Result, Ok, Err, ◌⊎◌, Option, None}
-use Rattle.liquid_core.specs.Texts.{Text}
-use Rattle.liquid_core.specs.declared.error.Error.{Error}
-use Rattle.liquid_core.specs.declared.error.ErrorKind.{ErrorKind}
-use Rattle.liquid_core.specs.declared.error.ErrorKind.TheVariants.{Memory, Write}
-use Rattle.liquid_core.specs.Told.{is_refusal}
+use Rattle.liquid_model.specs.Texts.{Text}
+use Rattle.liquid_model.specs.declared.error.Error.{Error}
+use Rattle.liquid_model.specs.declared.error.ErrorKind.{ErrorKind}
+use Rattle.liquid_model.specs.declared.error.ErrorKind.TheVariants.{Memory, Write}
+use Rattle.liquid_model.specs.Told.{is_refusal}
 use Rattle.liquid_core.specs.Environment.{Environment}
 use Rattle.liquid_core.specs.States.{environment_of}
 use Rattle.liquid_core.specs.declared.state.State.{State}

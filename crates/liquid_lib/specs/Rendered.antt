@@ -1,6 +1,6 @@
 -- What a whole rendering has done.
 use Rattle.std.specs.Prelude.{◌≡◌, ℕ, List, Result, ◌⊎◌, Option, None}
-use Rattle.liquid_core.specs.declared.error.Error.{Error}
+use Rattle.liquid_model.specs.declared.error.Error.{Error}
 use Rattle.liquid_core.specs.Environment.{Names, Environment, cut}
 use Rattle.liquid_tree.specs.Tree.{Nodes}
 use Rattle.liquid_lib.specs.Sinks.{Adds}

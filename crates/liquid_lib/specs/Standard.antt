@@ -1,7 +1,7 @@
 -- The standard library by name.
 use Rattle.std.specs.Prelude.{◌≡◌, List, [], ◌∷◌, All, Contains, IsSome, IsSomeAnd, codes}
-use Rattle.liquid_core.specs.Maps.{Map, insert, listed}
-use Rattle.liquid_core.specs.Texts.{Text}
+use Rattle.liquid_model.specs.Maps.{Map, insert, listed}
+use Rattle.liquid_model.specs.Texts.{Text}
 use Rattle.liquid_filters.specs.Kinds.{kind_name}
 use Rattle.liquid_filters.specs.declared.kind.FilterKind.{FilterKind}
 use Rattle.liquid_syntax.specs.Languages.{kinds_of}

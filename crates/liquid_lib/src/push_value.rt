@@ -1,7 +1,7 @@
 //! The texts of values, written piece by piece.
 ghost use Rattle.std.specs.Prelude.{◌≡◌};
-ghost use Rattle.liquid_core.specs.Data.{truth as truth_datum, number, text_of, items_text, pairs_text};
-ghost use Rattle.liquid_core.specs.View.{view, items_view, pairs_view};
+ghost use Rattle.liquid_model.specs.Data.{truth as truth_datum, number, text_of, items_text, pairs_text};
+ghost use Rattle.liquid_model.specs.View.{view, items_view, pairs_view};
 ghost use Rattle.liquid_lib.specs.Performs.{Writes};
 ghost use Rattle.liquid_lib.specs.Sinks.{sink_of};
 

@@ -1,7 +1,7 @@
 //! Whole renderings.
 ghost use Rattle.std.specs.Prelude.{◌≡◌, ◌<◌, ◌⊎◌, false, IfErr, IsErrAnd, string_bytes};
 ghost use Rattle.std.specs.Io.KnownBytes.{Appends};
-ghost use Rattle.liquid_core.specs.Answer.{Answers};
+ghost use Rattle.liquid_model.specs.Answer.{Answers};
 ghost use Rattle.liquid_core.specs.Environment.{cut};
 ghost use Rattle.liquid_core.specs.States.{environment_of, layers_of};
 ghost use Rattle.liquid_syntax.specs.Templates.{tree_of};

@@ -1,13 +1,13 @@
 //! What a template is run in.
 ghost use Rattle.std.specs.Prelude.{◌≡◌, [], map, option_map, string_bytes, OnErr};
 ghost use Rattle.std.specs.Option.{ok_or};
-ghost use Rattle.liquid_core.specs.Answer.{Answers, Gives};
-ghost use Rattle.liquid_core.specs.Cow.{cow_view};
+ghost use Rattle.liquid_model.specs.Answer.{Answers, Gives};
+ghost use Rattle.liquid_model.specs.Cow.{cow_view};
 ghost use Rattle.liquid_core.specs.Expressions.{value_along};
-ghost use Rattle.liquid_core.specs.Maps.{empty};
+ghost use Rattle.liquid_model.specs.Maps.{empty};
 ghost use Rattle.liquid_core.specs.States.{held, layers_of, new_layers, with_assigned, with_counter, with_scope_pushed, with_scope_popped};
-ghost use Rattle.liquid_core.specs.View.{view};
-ghost use Rattle.liquid_core.specs.declared.error.ErrorKind.TheVariants.{UnknownVariable};
+ghost use Rattle.liquid_model.specs.View.{view};
+ghost use Rattle.liquid_model.specs.declared.error.ErrorKind.TheVariants.{UnknownVariable};
 ghost use Rattle.liquid_syntax.specs.Templates.{partials_of};
 ghost use Rattle.liquid_lib.specs.RuntimeView.{SettingKept, layers_in, environment_in, setting_in, depth_in, globals_for, partials_for, depth_for};
 

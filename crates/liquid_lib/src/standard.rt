@@ -1,7 +1,7 @@
 //! The language of the standard library.
 ghost use Rattle.std.specs.Prelude.{◌≡◌, IfOk, IfErr};
-ghost use Rattle.liquid_core.specs.Answer.{Gives};
-ghost use Rattle.liquid_core.specs.Maps.{insert, listed};
+ghost use Rattle.liquid_model.specs.Answer.{Gives};
+ghost use Rattle.liquid_model.specs.Maps.{insert, listed};
 ghost use Rattle.liquid_lib.specs.Standard.{IsStandard, with_filters};
 ghost use Rattle.liquid_syntax.specs.Languages.{kinds_of};
 

@@ -2,15 +2,15 @@
 use Rattle.std.proofs.Common.{◌≡◌, ◌≢◌, ℕ, zero, suc, ◌-◌, Bool, true, false, not, List, [], ◌∷◌, length, map, slice_get, codes, Option, Some, None, Ok, Err, ap, refl, sym, subst, ◌∙◌, rules, if◌then◌else◌}
 use Rattle.std.specs.Bool.{Decides}
 use Rattle.std.specs.Str.{chars}
-use Rattle.liquid_core.specs.Answer.{IsTheOne}
-use Rattle.liquid_core.specs.Data.{Datum, nil, truth, number, text, array, object, Items, no_items, item, text_of, truthy}
-use Rattle.liquid_core.specs.Digest.{items_len}
-use Rattle.liquid_core.specs.Find.{item_at, item_back}
-use Rattle.liquid_core.specs.Lists.{list_of}
-use Rattle.liquid_core.specs.OrderLaws.{same_Decides}
-use Rattle.liquid_core.specs.Texts.{Text}
-use Rattle.liquid_core.specs.View.{items_of}
-use Rattle.liquid_core.specs.declared.error.ErrorKind.TheVariants.{InvalidInput, InvalidArgument}
+use Rattle.liquid_model.specs.Answer.{IsTheOne}
+use Rattle.liquid_model.specs.Data.{Datum, nil, truth, number, text, array, object, Items, no_items, item, text_of, truthy}
+use Rattle.liquid_model.specs.Digest.{items_len}
+use Rattle.liquid_model.specs.Find.{item_at, item_back}
+use Rattle.liquid_model.specs.Lists.{list_of}
+use Rattle.liquid_model.specs.OrderLaws.{same_Decides}
+use Rattle.liquid_model.specs.Texts.{Text}
+use Rattle.liquid_model.specs.View.{items_of}
+use Rattle.liquid_model.specs.declared.error.ErrorKind.TheVariants.{InvalidInput, InvalidArgument}
 use Rattle.liquid_list_filters.specs.Arguments.{Answer, first_of, text_or}
 use Rattle.liquid_list_filters.specs.Ends.{character, or_nil}
 use Rattle.liquid_list_filters.specs.Keeping.{is_nil, is_given, is_wanted, compact_of, where_of}

@@ -6,10 +6,10 @@ use Rattle.std.proofs.lemmas.Str.{IsUtf8-drop, IsCharBoundary-from_take, chars-a
 use Rattle.std.specs.Char.{encode_utf8}
 use Rattle.std.specs.Str.{chars, IsUtf8}
 use Rattle.liquid_list_filters.specs.Ends.{character, last_character}
-use Rattle.liquid_core.specs.Find.{item_at, item_back}
-use Rattle.liquid_core.specs.View.{view, items_view}
-use Rattle.liquid_core.specs.declared.value.Value.{Value}
-use Rattle.liquid_core.proofs.Views.{items_len_view}
+use Rattle.liquid_model.specs.Find.{item_at, item_back}
+use Rattle.liquid_model.specs.View.{view, items_view}
+use Rattle.liquid_model.specs.declared.value.Value.{Value}
+use Rattle.liquid_model.proofs.Views.{items_len_view}
 
 pub item_at_view : (vs : List Value) (i : ℕ) → option_map view (slice_get vs i) ≡ item_at i (items_view vs)
 item_at_view [] i = refl

@@ -4,9 +4,9 @@ use Rattle.std.specs.Cmp.{IsStrictWeakOrder, IsTotalOrder}
 use Rattle.std.specs.Ordering.{is_lt, ordering_reverse}
 use Rattle.std.specs.declared.cmp.Ordering.TheVariants.{Less, Equal}
 use Rattle.std.proofs.lemmas.List.Sorted.{ranks_by}
-use Rattle.liquid_core.specs.Data.{Datum}
-use Rattle.liquid_core.specs.OrderLaws.{order_total}
-use Rattle.liquid_core.specs.View.{view}
+use Rattle.liquid_model.specs.Data.{Datum}
+use Rattle.liquid_model.specs.OrderLaws.{order_total}
+use Rattle.liquid_model.specs.View.{view}
 use Rattle.liquid_list_filters.specs.Keyed.{key_view, keyed_view, keyed_below}
 use Rattle.liquid_list_filters.specs.Sorting.{Key, key_order, sorted, sort_by}
 use Rattle.liquid_list_filters.specs.declared.stdlib.filters.array.sort.Keyed.{Keyed}

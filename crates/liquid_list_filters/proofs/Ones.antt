@@ -4,11 +4,11 @@ use Rattle.std.specs.Bool.{Decides}
 use Rattle.std.specs.List.{filter, filter_map, cons_option}
 use Rattle.std.proofs.lemmas.List.{append-nil, take-append-drop}
 use Rattle.std.proofs.Math.Seq.{take-append_seam, drop-append_seam}
-use Rattle.liquid_core.specs.Answer.{IsTheOne}
-use Rattle.liquid_core.specs.Data.{Datum}
-use Rattle.liquid_core.specs.Order.{same}
-use Rattle.liquid_core.specs.OrderLaws.{same_Decides}
-use Rattle.liquid_core.specs.Texts.{Text}
+use Rattle.liquid_model.specs.Answer.{IsTheOne}
+use Rattle.liquid_model.specs.Data.{Datum}
+use Rattle.liquid_model.specs.Order.{same}
+use Rattle.liquid_model.specs.OrderLaws.{same_Decides}
+use Rattle.liquid_model.specs.Texts.{Text}
 use Rattle.liquid_list_filters.specs.Joined.{joined}
 use Rattle.liquid_list_filters.specs.Keeping.{has_same, uniq_after}
 use Rattle.liquid_list_filters.specs.Places.{StartsWith, EndsWith, IsFollowed, IsJoined, Keeps, KeepsValues, IsAmong, KeepsFirsts}

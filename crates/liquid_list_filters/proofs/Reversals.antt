@@ -1,8 +1,8 @@
 -- A list turned round, told by places.
 use Rattle.std.proofs.Common.{◌≡◌, ℕ, zero, suc, ◌-◌, ◌<◌, List, [], ◌∷◌, length, slice_get, get_or, reverse, Some, ap, refl, sym, ◌∙◌, arith}
 use Rattle.std.proofs.lemmas.List.{get_or-reverse, length-reverse}
-use Rattle.liquid_core.specs.Answer.{IsTheOne}
-use Rattle.liquid_core.specs.Data.{Datum}
+use Rattle.liquid_model.specs.Answer.{IsTheOne}
+use Rattle.liquid_model.specs.Data.{Datum}
 use Rattle.liquid_list_filters.specs.Places.{IsReversed}
 use Rattle.liquid_list_filters.proofs.Ones.{one}
 

@@ -5,8 +5,8 @@ use Rattle.std.specs.List.Sorted.{ties}
 use Rattle.std.specs.Ordering.{is_eq, is_lt, ordering_reverse}
 use Rattle.std.specs.declared.cmp.Ordering.{Ordering}
 use Rattle.std.specs.declared.cmp.Ordering.TheVariants.{Less, Equal, Greater}
-use Rattle.liquid_core.specs.Answer.{IsTheOne}
-use Rattle.liquid_core.specs.Data.{Datum}
+use Rattle.liquid_model.specs.Answer.{IsTheOne}
+use Rattle.liquid_model.specs.Data.{Datum}
 use Rattle.liquid_list_filters.specs.Sorting.{Key, key_order, sort_by}
 use Rattle.liquid_list_filters.specs.Sorts.{NeverFall, with_key, IsSort}
 use Rattle.liquid_list_filters.proofs.Keys.{key_order_total, keys_order}

@@ -1,13 +1,13 @@
 -- An answer stands in the relation that holds of it alone.
 use Rattle.std.proofs.Common.{◌≡◌, true, false, Bool, List, [], ◌∷◌, refl, subst}
 use Rattle.std.specs.Prelude.{MatchBool, ⊤, Result, Ok, Err}
-use Rattle.liquid_core.specs.Answer.{Answers, IsTheOne}
-use Rattle.liquid_core.specs.Data.{Datum, text_of}
-use Rattle.liquid_core.specs.Told.{is_memory, is_refusal}
-use Rattle.liquid_core.specs.View.{view}
-use Rattle.liquid_core.specs.declared.error.Error.{Error}
-use Rattle.liquid_core.specs.declared.error.ErrorKind.{ErrorKind}
-use Rattle.liquid_core.specs.declared.value.Value.{Value}
+use Rattle.liquid_model.specs.Answer.{Answers, IsTheOne}
+use Rattle.liquid_model.specs.Data.{Datum, text_of}
+use Rattle.liquid_model.specs.Told.{is_memory, is_refusal}
+use Rattle.liquid_model.specs.View.{view}
+use Rattle.liquid_model.specs.declared.error.Error.{Error}
+use Rattle.liquid_model.specs.declared.error.ErrorKind.{ErrorKind}
+use Rattle.liquid_model.specs.declared.value.Value.{Value}
 use Rattle.liquid_list_filters.specs.Arguments.{Answer, first_of}
 use Rattle.liquid_list_filters.specs.Ends.{first_answer, last_answer}
 use Rattle.liquid_list_filters.specs.Joined.{join_answer}

@@ -1,10 +1,10 @@
 -- What filters read their arguments as.
 use Rattle.std.specs.Prelude.{ℤ, List, [], ◌∷◌, Option, Some, None, Result, Ok, Err}
-use Rattle.liquid_core.specs.Data.{Datum, text_of}
-use Rattle.liquid_core.specs.Texts.{Text}
-use Rattle.liquid_core.specs.Whole.{whole}
-use Rattle.liquid_core.specs.declared.error.ErrorKind.{ErrorKind}
-use Rattle.liquid_core.specs.declared.error.ErrorKind.TheVariants.{InvalidArgument}
+use Rattle.liquid_model.specs.Data.{Datum, text_of}
+use Rattle.liquid_model.specs.Texts.{Text}
+use Rattle.liquid_model.specs.Whole.{whole}
+use Rattle.liquid_model.specs.declared.error.ErrorKind.{ErrorKind}
+use Rattle.liquid_model.specs.declared.error.ErrorKind.TheVariants.{InvalidArgument}
 
 -- what a filter answers: a value, or the kind of a fault
 abbrev pub Answer : Type 0

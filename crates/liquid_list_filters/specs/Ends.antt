@@ -2,10 +2,10 @@
 use Rattle.std.specs.Prelude.{ℕ, ◌-◌, List, [], Ok, Err, Option, Some, None, length, slice_get}
 use Rattle.std.specs.Char.{encode_utf8}
 use Rattle.std.specs.Str.{chars}
-use Rattle.liquid_core.specs.Data.{Datum, nil, text, array, object, Items, text_of}
-use Rattle.liquid_core.specs.Find.{item_at, item_back}
-use Rattle.liquid_core.specs.Texts.{Text}
-use Rattle.liquid_core.specs.declared.error.ErrorKind.TheVariants.{InvalidInput}
+use Rattle.liquid_model.specs.Data.{Datum, nil, text, array, object, Items, text_of}
+use Rattle.liquid_model.specs.Find.{item_at, item_back}
+use Rattle.liquid_model.specs.Texts.{Text}
+use Rattle.liquid_model.specs.declared.error.ErrorKind.TheVariants.{InvalidInput}
 use Rattle.liquid_list_filters.specs.Arguments.{Answer}
 
 -- the text of a character, or the empty text

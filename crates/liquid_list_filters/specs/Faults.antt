@@ -1,6 +1,6 @@
 -- The messages of faults: what must be what, and what was found.
 use Rattle.std.specs.Prelude.{ℕ, List, ◌++◌, codes}
-use Rattle.liquid_core.specs.Data.{Datum, nil, truth, number, text, array, object}
+use Rattle.liquid_model.specs.Data.{Datum, nil, truth, number, text, array, object}
 
 abbrev pub kind_name : Datum → List ℕ
 kind_name nil = codes "nil"

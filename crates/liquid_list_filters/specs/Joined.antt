@@ -1,9 +1,9 @@
 -- Texts in a row with a separator between them, and the filter `join`.
 use Rattle.std.specs.Prelude.{List, [], ◌∷◌, ◌++◌, map, codes, Ok, Err}
-use Rattle.liquid_core.specs.Data.{Datum, text, array, text_of}
-use Rattle.liquid_core.specs.Lists.{list_of}
-use Rattle.liquid_core.specs.Texts.{Text}
-use Rattle.liquid_core.specs.declared.error.ErrorKind.TheVariants.{InvalidInput}
+use Rattle.liquid_model.specs.Data.{Datum, text, array, text_of}
+use Rattle.liquid_model.specs.Lists.{list_of}
+use Rattle.liquid_model.specs.Texts.{Text}
+use Rattle.liquid_model.specs.declared.error.ErrorKind.TheVariants.{InvalidInput}
 use Rattle.liquid_list_filters.specs.Arguments.{Answer, text_or}
 
 -- each text with the separator before it

@@ -1,10 +1,10 @@
 -- The filters that keep some of a list's items: `compact`, `where`, `map` and `uniq`.
 use Rattle.std.specs.Prelude.{Bool, true, false, not, ◌||◌, if◌then◌else◌, List, [], ◌∷◌, ◌++◌, Option, Some, None, Ok, Err, filter, filter_map}
-use Rattle.liquid_core.specs.Data.{Datum, nil, array, object, text_of, truthy}
-use Rattle.liquid_core.specs.Lists.{list_of}
-use Rattle.liquid_core.specs.Order.{same}
-use Rattle.liquid_core.specs.Texts.{Text}
-use Rattle.liquid_core.specs.declared.error.ErrorKind.TheVariants.{InvalidInput, InvalidArgument}
+use Rattle.liquid_model.specs.Data.{Datum, nil, array, object, text_of, truthy}
+use Rattle.liquid_model.specs.Lists.{list_of}
+use Rattle.liquid_model.specs.Order.{same}
+use Rattle.liquid_model.specs.Texts.{Text}
+use Rattle.liquid_model.specs.declared.error.ErrorKind.TheVariants.{InvalidInput, InvalidArgument}
 use Rattle.liquid_list_filters.specs.Arguments.{Answer, first_of}
 use Rattle.liquid_list_filters.specs.Sequences.{list, all_maps, property, of_list}
 

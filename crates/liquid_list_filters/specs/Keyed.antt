@@ -1,9 +1,9 @@
 -- Items beside what they are sorted by.
 use Rattle.std.specs.Prelude.{Bool, option_map}
 use Rattle.std.specs.Ordering.{is_lt}
-use Rattle.liquid_core.specs.Cow.{cow_view}
-use Rattle.liquid_core.specs.Data.{Datum}
-use Rattle.liquid_core.specs.View.{view}
+use Rattle.liquid_model.specs.Cow.{cow_view}
+use Rattle.liquid_model.specs.Data.{Datum}
+use Rattle.liquid_model.specs.View.{view}
 use Rattle.liquid_list_filters.specs.Sorting.{Key, key_order}
 use Rattle.liquid_list_filters.specs.declared.stdlib.filters.array.sort.Keyed.{Keyed}
 

@@ -1,11 +1,11 @@
 -- What each list filter's answer is, told without the filter: the relation that holds of it and of nothing else.
 use Rattle.std.specs.Prelude.{◌≡◌, ◌≢◌, ℕ, IsTrue, MatchBool, List, [], ◌∷◌, map, codes, Option, Some, None, Ok, Err}
 use Rattle.std.specs.Str.{chars}
-use Rattle.liquid_core.specs.Answer.{IsTheOne}
-use Rattle.liquid_core.specs.Data.{Datum, nil, text, array, object, text_of, truthy}
-use Rattle.liquid_core.specs.Lists.{list_of}
-use Rattle.liquid_core.specs.Texts.{Text}
-use Rattle.liquid_core.specs.declared.error.ErrorKind.TheVariants.{InvalidInput, InvalidArgument}
+use Rattle.liquid_model.specs.Answer.{IsTheOne}
+use Rattle.liquid_model.specs.Data.{Datum, nil, text, array, object, text_of, truthy}
+use Rattle.liquid_model.specs.Lists.{list_of}
+use Rattle.liquid_model.specs.Texts.{Text}
+use Rattle.liquid_model.specs.declared.error.ErrorKind.TheVariants.{InvalidInput, InvalidArgument}
 use Rattle.liquid_list_filters.specs.Arguments.{Answer, first_of, text_or}
 use Rattle.liquid_list_filters.specs.Ends.{character, or_nil, first_answer, last_answer}
 use Rattle.liquid_list_filters.specs.Joined.{join_answer}

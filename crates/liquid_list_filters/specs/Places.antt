@@ -1,7 +1,7 @@
 -- Lists made from lists, told place by place.
 use Rattle.std.specs.Prelude.{◌≡◌, ℕ, ◌-◌, ◌<◌, ◌⊎◌, List, [], ◌∷◌, ◌++◌, length, take, drop, slice_get, Option, Some, None}
-use Rattle.liquid_core.specs.Data.{Datum}
-use Rattle.liquid_core.specs.Texts.{Text}
+use Rattle.liquid_model.specs.Data.{Datum}
+use Rattle.liquid_model.specs.Texts.{Text}
 
 -- the first item, or none of an empty list
 abbrev pub StartsWith : {X : Type 0} → List X → Option X → Type 0

@@ -1,8 +1,8 @@
 -- The filters that put lists into another row: `reverse` and `concat`.
 use Rattle.std.specs.Prelude.{List, [], ◌∷◌, ◌++◌, reverse, Ok, Err}
-use Rattle.liquid_core.specs.Data.{Datum, array}
-use Rattle.liquid_core.specs.Lists.{list_of}
-use Rattle.liquid_core.specs.declared.error.ErrorKind.TheVariants.{InvalidInput, InvalidArgument}
+use Rattle.liquid_model.specs.Data.{Datum, array}
+use Rattle.liquid_model.specs.Lists.{list_of}
+use Rattle.liquid_model.specs.declared.error.ErrorKind.TheVariants.{InvalidInput, InvalidArgument}
 use Rattle.liquid_list_filters.specs.Arguments.{Answer}
 use Rattle.liquid_list_filters.specs.Sequences.{list, of_list}
 

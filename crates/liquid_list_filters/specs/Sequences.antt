@@ -1,12 +1,12 @@
 -- Values as lists of items, and the properties of maps.
 use Rattle.std.specs.Prelude.{Bool, true, false, List, [], ◌∷◌, Option, None, Ok, Err}
 use Rattle.std.specs.List.{list_all}
-use Rattle.liquid_core.specs.Data.{Datum, nil, array, object}
-use Rattle.liquid_core.specs.Find.{value_at}
-use Rattle.liquid_core.specs.Lists.{list_of}
-use Rattle.liquid_core.specs.Texts.{Text}
-use Rattle.liquid_core.specs.View.{items_of}
-use Rattle.liquid_core.specs.declared.error.ErrorKind.TheVariants.{InvalidInput}
+use Rattle.liquid_model.specs.Data.{Datum, nil, array, object}
+use Rattle.liquid_model.specs.Find.{value_at}
+use Rattle.liquid_model.specs.Lists.{list_of}
+use Rattle.liquid_model.specs.Texts.{Text}
+use Rattle.liquid_model.specs.View.{items_of}
+use Rattle.liquid_model.specs.declared.error.ErrorKind.TheVariants.{InvalidInput}
 use Rattle.liquid_list_filters.specs.Arguments.{Answer}
 
 -- a list of these items

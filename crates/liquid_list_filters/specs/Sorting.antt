@@ -4,10 +4,10 @@ use Rattle.std.specs.Char.{to_ascii_lowercase}
 use Rattle.std.specs.Ordering.{is_lt}
 use Rattle.std.specs.declared.cmp.Ordering.{Ordering}
 use Rattle.std.specs.declared.cmp.Ordering.TheVariants.{Less, Equal, Greater}
-use Rattle.liquid_core.specs.Data.{Datum, nil, text, text_of}
-use Rattle.liquid_core.specs.Order.{order}
-use Rattle.liquid_core.specs.Texts.{Text}
-use Rattle.liquid_core.specs.declared.error.ErrorKind.TheVariants.{InvalidInput}
+use Rattle.liquid_model.specs.Data.{Datum, nil, text, text_of}
+use Rattle.liquid_model.specs.Order.{order}
+use Rattle.liquid_model.specs.Texts.{Text}
+use Rattle.liquid_model.specs.declared.error.ErrorKind.TheVariants.{InvalidInput}
 use Rattle.liquid_list_filters.specs.Arguments.{Answer}
 use Rattle.liquid_list_filters.specs.Sequences.{list, sequence, all_maps, property}
 

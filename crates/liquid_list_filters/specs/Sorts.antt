@@ -2,7 +2,7 @@
 use Rattle.std.specs.Prelude.{◌≡◌, ◌≢◌, ⊤, List, [], ◌∷◌, map, filter}
 use Rattle.std.specs.Ordering.{is_eq}
 use Rattle.std.specs.declared.cmp.Ordering.TheVariants.{Greater}
-use Rattle.liquid_core.specs.Data.{Datum}
+use Rattle.liquid_model.specs.Data.{Datum}
 use Rattle.liquid_list_filters.specs.Sorting.{Key, key_order}
 
 abbrev pub NeverFall : List Key → Type 0

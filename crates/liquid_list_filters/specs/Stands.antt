@@ -1,10 +1,10 @@
 -- What a filter answers, told by the relation that its answer stands in.
 use Rattle.std.specs.Prelude.{MatchBool, ⊤, List, [], ◌∷◌, Result, Ok, Err}
-use Rattle.liquid_core.specs.Data.{Datum}
-use Rattle.liquid_core.specs.Told.{is_memory}
-use Rattle.liquid_core.specs.View.{view}
-use Rattle.liquid_core.specs.declared.error.Error.{Error}
-use Rattle.liquid_core.specs.declared.value.Value.{Value}
+use Rattle.liquid_model.specs.Data.{Datum}
+use Rattle.liquid_model.specs.Told.{is_memory}
+use Rattle.liquid_model.specs.View.{view}
+use Rattle.liquid_model.specs.declared.error.Error.{Error}
+use Rattle.liquid_model.specs.declared.value.Value.{Value}
 use Rattle.liquid_list_filters.specs.Arguments.{Answer}
 
 -- memory aside, R holds of the answer

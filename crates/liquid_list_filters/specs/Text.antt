@@ -1,7 +1,7 @@
 -- Filters that make a text of the input's text, and how their answers are told.
 use Rattle.std.specs.Prelude.{◌≡◌, ℕ, Bool, true, false, ◌&&◌, ◌==◌, List, [], ◌∷◌, Ok}
-use Rattle.liquid_core.specs.Data.{Datum, text, text_of}
-use Rattle.liquid_core.specs.Texts.{Text}
+use Rattle.liquid_model.specs.Data.{Datum, text, text_of}
+use Rattle.liquid_model.specs.Texts.{Text}
 use Rattle.liquid_list_filters.specs.Arguments.{Answer}
 
 -- the answer of a filter that makes f of the input's text, and takes no arguments

@@ -1,9 +1,9 @@
 //! Faults of filters, with what was wanted and what was found.
 ghost use Rattle.std.specs.Prelude.{◌≡◌, codes};
-ghost use Rattle.liquid_core.specs.Errors.{HasMessageUnlessMemory};
-ghost use Rattle.liquid_core.specs.Told.{Told};
-ghost use Rattle.liquid_core.specs.View.{view};
-ghost use Rattle.liquid_core.specs.declared.error.ErrorKind.TheVariants.{InvalidArgument, InvalidInput};
+ghost use Rattle.liquid_model.specs.Errors.{HasMessageUnlessMemory};
+ghost use Rattle.liquid_model.specs.Told.{Told};
+ghost use Rattle.liquid_model.specs.View.{view};
+ghost use Rattle.liquid_model.specs.declared.error.ErrorKind.TheVariants.{InvalidArgument, InvalidInput};
 ghost use Rattle.liquid_list_filters.specs.Faults.{kind_name, must_be};
 
 use liquid_core::{Error, ErrorKind, Value};

@@ -1,12 +1,12 @@
 -- A `render` leaves the environment as it is.
 use Rattle.std.specs.Prelude.{◌≡◌, ℕ, suc, Bool, true, false, cond, List, [], ◌∷◌, ◌++◌, Option, Some, None, Result, Ok, Err}
 use mathlib.Core.Path.{refl, sym, ap, subst₂, ◌∙◌}
-use Rattle.liquid_core.specs.Texts.{Text}
-use Rattle.liquid_core.specs.Data.{Datum}
-use Rattle.liquid_core.specs.declared.error.ErrorKind.{ErrorKind}
+use Rattle.liquid_model.specs.Texts.{Text}
+use Rattle.liquid_model.specs.Data.{Datum}
+use Rattle.liquid_model.specs.declared.error.ErrorKind.{ErrorKind}
 use Rattle.liquid_core.specs.Expression.{Expression}
 use Rattle.liquid_tree.specs.Tree.{Source, Bindings, Nodes, render}
-use Rattle.liquid_core.specs.Maps.{Map}
+use Rattle.liquid_model.specs.Maps.{Map}
 use Rattle.liquid_core.specs.Environment.{Environment}
 use Rattle.liquid_core.specs.declared.interrupt.Interrupt.{Interrupt}
 use Rattle.liquid_meaning.specs.Runs.{Nothing, Outcome, Run, done, evaluate, go_on, ◌>>=◌, apart}

@@ -1,11 +1,11 @@
 -- The changes of a run over an environment are those over its cut.
 use Rattle.std.specs.Prelude.{◌≡◌, Bool, true, false, cond, not, T, Option, Some, None}
 use mathlib.Core.Path.{refl, sym, fun_ext, ap, ◌∙◌}
-use Rattle.liquid_core.specs.OrderLaws.{same_Decides}
-use Rattle.liquid_core.specs.Maps.{Map, retain_keys}
-use Rattle.liquid_core.specs.Texts.{Text}
-use Rattle.liquid_core.specs.Data.{Datum}
-use Rattle.liquid_core.specs.Order.{same}
+use Rattle.liquid_model.specs.OrderLaws.{same_Decides}
+use Rattle.liquid_model.specs.Maps.{Map, retain_keys}
+use Rattle.liquid_model.specs.Texts.{Text}
+use Rattle.liquid_model.specs.Data.{Datum}
+use Rattle.liquid_model.specs.Order.{same}
 use Rattle.liquid_core.specs.Environment.{Names, Environment, cut, cut_map}
 use Rattle.liquid_meaning.specs.Runs.{Run}
 use Rattle.liquid_meaning.specs.Meaning.{meaning}

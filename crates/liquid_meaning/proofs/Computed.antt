@@ -2,7 +2,7 @@
 use Rattle.std.specs.Prelude.{ℕ}
 use mathlib.Core.Path.{refl}
 use Rattle.std.specs.Fmt.{digits}
-use Rattle.liquid_core.specs.Maps.{empty, insert, retain_keys, merged, listed}
+use Rattle.liquid_model.specs.Maps.{empty, insert, retain_keys, merged, listed}
 use Rattle.liquid_core.specs.Expressions.{value_of, path_of, all_required, needed_whole}
 use Rattle.liquid_tree.specs.Calls.{applied}
 use Rattle.liquid_tree.specs.Tree.{Nodes}

@@ -3,7 +3,7 @@ use Rattle.std.specs.Prelude.{◌≡◌, ℕ, zero, suc, ◌+◌, ◌<◌, ℤ, 
 use mathlib.Core.Path.{refl, ap, subst, ◌∙◌}
 use native.Mathlib.Omega.{arith}
 use Rattle.std.proofs.lemmas.Int.{ints}
-use Rattle.liquid_core.specs.Data.{Datum, nil, number}
+use Rattle.liquid_model.specs.Data.{Datum, nil, number}
 use Rattle.liquid_tree.specs.Evaluation.{count_to, numbers_from, items_at}
 use Rattle.liquid_meaning.specs.LoopLaws.{WindowLaw, RangeLaw}
 

@@ -3,8 +3,8 @@ use Rattle.std.specs.Prelude.{◌≡◌, ℕ, zero, suc, Bool, true, false, cond
 use mathlib.Core.Path.{refl, ap, subst}
 use native.Mathlib.Omega.{arith}
 use Rattle.std.specs.Option.{unwrap_or}
-use Rattle.liquid_core.specs.Maps.{listed}
-use Rattle.liquid_core.specs.Texts.{Text, same_text}
+use Rattle.liquid_model.specs.Maps.{listed}
+use Rattle.liquid_model.specs.Texts.{Text, same_text}
 use Rattle.liquid_tree.specs.Tree.{Nodes}
 use Rattle.liquid_core.specs.Environment.{Names, Environment, cut, put_back}
 use Rattle.liquid_meaning.specs.Runs.{Run}

@@ -4,10 +4,10 @@ use mathlib.Core.Path.{refl, sym, ap, subst}
 use Rattle.std.specs.Prelude.{◌+ℤ◌, ◌-ℤ◌}
 use Rattle.std.specs.Fmt.{signed_decimal}
 use Rattle.std.specs.Option.{unwrap_or, option_and_then}
-use Rattle.liquid_core.specs.Maps.{Map, insert, listed}
-use Rattle.liquid_core.specs.Texts.{Text}
-use Rattle.liquid_core.specs.Data.{Datum, nil}
-use Rattle.liquid_core.specs.Whole.{whole}
+use Rattle.liquid_model.specs.Maps.{Map, insert, listed}
+use Rattle.liquid_model.specs.Texts.{Text}
+use Rattle.liquid_model.specs.Data.{Datum, nil}
+use Rattle.liquid_model.specs.Whole.{whole}
 use Rattle.liquid_core.specs.Expression.{Expression}
 use Rattle.liquid_tree.specs.Tree.{Bindings, Node, plain, raw, comment, output, assign, increment, decrement, break_loop, continue_loop, cycle, if_true, unless, case_of, for_each, tablerow, capture, ifchanged, include, jekyll_include, render, Nodes, no_nodes, node, Whens, no_whens, when}
 use Rattle.liquid_core.specs.Environment.{Names, Environment, Registers}

@@ -1,8 +1,8 @@
 -- The rules of nodes, to go by: to unfold `node_meaning` elsewhere shows the rule of every kind.
 use Rattle.std.specs.Prelude.{◌≡◌, cond}
 use mathlib.Core.Path.{refl}
-use Rattle.liquid_core.specs.Texts.{Text}
-use Rattle.liquid_core.specs.Data.{text_of}
+use Rattle.liquid_model.specs.Texts.{Text}
+use Rattle.liquid_model.specs.Data.{text_of}
 use Rattle.liquid_tree.specs.Tree.{Chain, Condition, Nodes, plain, raw, comment, output, assign, if_true}
 use Rattle.liquid_tree.specs.Evaluation.{chain_value, truth_of}
 use Rattle.liquid_meaning.specs.Runs.{Nothing, Run, done, evaluate, change, write, ◌>>=◌}

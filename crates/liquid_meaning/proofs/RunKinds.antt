@@ -2,15 +2,15 @@
 use Rattle.std.specs.Prelude.{ℕ, zero, suc, ◌+ℤ◌, ◌-ℤ◌, pos, ℤ, Bool, true, false, cond, T, List, [], ◌∷◌, slice_get, Option, Some, None, Result, Ok, Err}
 use mathlib.Core.Path.{refl, ap, subst}
 use Rattle.std.specs.Option.{ok_or}
-use Rattle.liquid_core.specs.Texts.{Text}
-use Rattle.liquid_core.specs.Data.{Datum, nil, truth, number, text, array, object}
-use Rattle.liquid_core.specs.declared.error.ErrorKind.{ErrorKind}
-use Rattle.liquid_core.specs.declared.error.ErrorKind.TheVariants.{UnknownVariable}
+use Rattle.liquid_model.specs.Texts.{Text}
+use Rattle.liquid_model.specs.Data.{Datum, nil, truth, number, text, array, object}
+use Rattle.liquid_model.specs.declared.error.ErrorKind.{ErrorKind}
+use Rattle.liquid_model.specs.declared.error.ErrorKind.TheVariants.{UnknownVariable}
 use Rattle.liquid_core.specs.declared.interrupt.Interrupt.{Interrupt}
 use Rattle.liquid_core.specs.Expression.{Expression}
-use Rattle.liquid_core.specs.Fallible as fallible
+use Rattle.liquid_model.specs.Fallible as fallible
 use Rattle.liquid_core.specs.Expressions.{required, all_required, needed_whole, value_of}
-use Rattle.liquid_core.specs.Maps.{Map, merged}
+use Rattle.liquid_model.specs.Maps.{Map, merged}
 use Rattle.liquid_core.specs.Environment.{Environment}
 use Rattle.liquid_filters.specs.declared.kind.FilterKind.{FilterKind}
 use Rattle.liquid_tree.specs.declared.comparison.ComparisonOperator.{ComparisonOperator}

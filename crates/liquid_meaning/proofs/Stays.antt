@@ -1,12 +1,12 @@
 -- What is assigned stays.
 use Rattle.std.specs.Prelude.{◌≡◌, ℕ, zero, suc, ◌+ℤ◌, ◌-ℤ◌, pos, ℤ, Bool, true, false, cond, List, [], ◌∷◌, slice_get, Option, Some, None, Result, Ok, Err, IsSome}
 use mathlib.Core.Path.{refl, sym, subst}
-use Rattle.liquid_core.specs.Texts.{Text, same_text}
-use Rattle.liquid_core.specs.Data.{Datum}
-use Rattle.liquid_core.specs.declared.error.ErrorKind.{ErrorKind}
+use Rattle.liquid_model.specs.Texts.{Text, same_text}
+use Rattle.liquid_model.specs.Data.{Datum}
+use Rattle.liquid_model.specs.declared.error.ErrorKind.{ErrorKind}
 use Rattle.liquid_core.specs.declared.interrupt.Interrupt.{Interrupt}
 use Rattle.liquid_core.specs.Expression.{Expression}
-use Rattle.liquid_core.specs.Maps.{Map, insert, merged}
+use Rattle.liquid_model.specs.Maps.{Map, insert, merged}
 use Rattle.liquid_core.specs.Environment.{Environment}
 use Rattle.liquid_tree.specs.Tree.{Bindings, Node, plain, raw, comment, output, assign, increment, decrement, break_loop, continue_loop, cycle, if_true, unless, case_of, for_each, tablerow, capture, ifchanged, include, jekyll_include, render, Nodes, no_nodes, node, Whens, no_whens, when}
 use Rattle.liquid_meaning.specs.Runs.{Nothing, Run, done, read, evaluate, fault, change, write, go_on, ◌>>=◌, with_scope, buffered, apart}

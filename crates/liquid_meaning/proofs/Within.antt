@@ -2,7 +2,7 @@
 use Rattle.std.specs.Prelude.{Bool, true, false, ◌||◌, T, List, [], ◌∷◌, ◌++◌}
 use mathlib.Core.Path.{sym, subst}
 use Rattle.liquid_meaning.proofs.Maps.{same_text_itself}
-use Rattle.liquid_core.specs.Texts.{Text, same_text}
+use Rattle.liquid_model.specs.Texts.{Text, same_text}
 use Rattle.liquid_meaning.specs.Within.{Within}
 use Rattle.liquid_core.specs.Environment.{Names}
 use Rattle.liquid_tree.specs.Names.{mentioned}

@@ -1,10 +1,10 @@
 -- What nodes change of an environment, and what they read of it.
 use Rattle.std.specs.Prelude.{ℕ, ℤ, pos, Bool, true, false, Option, Some, None}
 use Rattle.std.specs.Option.{unwrap_or, option_and_then}
-use Rattle.liquid_core.specs.Texts.{Text, same_text}
-use Rattle.liquid_core.specs.Data.{Datum, nil, number}
-use Rattle.liquid_core.specs.Whole.{whole}
-use Rattle.liquid_core.specs.Maps.{insert}
+use Rattle.liquid_model.specs.Texts.{Text, same_text}
+use Rattle.liquid_model.specs.Data.{Datum, nil, number}
+use Rattle.liquid_model.specs.Whole.{whole}
+use Rattle.liquid_model.specs.Maps.{insert}
 use Rattle.liquid_core.specs.Environment.{Environment, lookup}
 use Rattle.liquid_core.specs.declared.interrupt.Interrupt.{Interrupt}
 use Rattle.liquid_core.specs.declared.interrupt.Interrupt.TheVariants.{Break}

@@ -5,12 +5,12 @@
 --     restored N e o      o with the pairs of e under all names but those of N put back
 --     IsIsolated m N      m over an environment is m over its cut to N, with the pairs of other names put back
 use Rattle.std.specs.Prelude.{◌≡◌, ℕ, T, not, Bool, false, List, [], Option, Some, None, Result, Ok}
-use Rattle.liquid_core.specs.Texts.{Text}
-use Rattle.liquid_core.specs.Data.{Datum}
-use Rattle.liquid_core.specs.Order.{same}
-use Rattle.liquid_core.specs.declared.error.ErrorKind.{ErrorKind}
+use Rattle.liquid_model.specs.Texts.{Text}
+use Rattle.liquid_model.specs.Data.{Datum}
+use Rattle.liquid_model.specs.Order.{same}
+use Rattle.liquid_model.specs.declared.error.ErrorKind.{ErrorKind}
 use Rattle.liquid_core.specs.Expression.{Expression}
-use Rattle.liquid_core.specs.Maps.{Map, retain_keys}
+use Rattle.liquid_model.specs.Maps.{Map, retain_keys}
 use Rattle.liquid_core.specs.Environment.{Names, Environment, Registers, cut, put_back}
 use Rattle.liquid_tree.specs.Tree.{Source, Bindings, Nodes, no_nodes, node, render}
 use Rattle.liquid_tree.specs.Names.{run_names, mentioned}

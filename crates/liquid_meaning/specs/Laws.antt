@@ -1,10 +1,10 @@
 -- Laws of runs, beside those of isolation.
 use Rattle.std.specs.Prelude.{◌≡◌, ℕ, ◌+◌, ◌<◌, List, [], ◌∷◌, Some, Ok, IsSome, Bool, T, nat_le, Result, Err, pos, codes}
-use Rattle.liquid_core.specs.Texts.{Text}
-use Rattle.liquid_core.specs.Data.{Datum, number, text}
-use Rattle.liquid_core.specs.declared.error.ErrorKind.{ErrorKind}
-use Rattle.liquid_core.specs.Told.{number_of}
-use Rattle.liquid_core.specs.Find.{find}
+use Rattle.liquid_model.specs.Texts.{Text}
+use Rattle.liquid_model.specs.Data.{Datum, number, text}
+use Rattle.liquid_model.specs.declared.error.ErrorKind.{ErrorKind}
+use Rattle.liquid_model.specs.Told.{number_of}
+use Rattle.liquid_model.specs.Find.{find}
 use Rattle.liquid_core.specs.Environment.{Environment}
 use Rattle.liquid_filters.specs.declared.kind.FilterKind.{FilterKind}
 use Rattle.liquid_tree.specs.Tree.{Chain, Source, Window, Nodes, no_nodes, node, plain, assign, for_each}

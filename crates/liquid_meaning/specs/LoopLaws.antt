@@ -1,6 +1,6 @@
 -- Laws of a loop's items.
 use Rattle.std.specs.Prelude.{◌≡◌, ℕ, ◌+◌, ◌%◌, ◌==◌, ◌<◌, ℤ, pos, ◌+ℤ◌, ◌≤ℤ◌, ◌<ℤ◌, true, false, List, [], length, reverse, get_or, slice_get, Option, Some}
-use Rattle.liquid_core.specs.Data.{Datum, nil, number}
+use Rattle.liquid_model.specs.Data.{Datum, nil, number}
 use Rattle.liquid_tree.specs.Evaluation.{count_to, numbers_from, skipped, wanted, window_items}
 use Rattle.liquid_meaning.specs.Loops.{is_last_column}
 

@@ -2,11 +2,11 @@
 --     forloop_object k m parent      what `forloop` is at item k of m;   tablerow_object k m columns      what `tablerow` is
 --     loop name parent items body      the turns of a `for`;   rows name columns items body      the cells of a `tablerow`
 use Rattle.std.specs.Prelude.{ℕ, suc, ◌+◌, ◌-◌, ◌/◌, ◌%◌, ◌==◌, ℤ, pos, Bool, cond, ◌||◌, List, [], ◌∷◌, ◌++◌, length, Option, Some, codes, decimal, if◌then◌else◌}
-use Rattle.liquid_core.specs.Texts.{Text}
-use Rattle.liquid_core.specs.Data.{Datum, truth, number}
-use Rattle.liquid_core.specs.Lists.{object_of}
-use Rattle.liquid_core.specs.declared.error.ErrorKind.TheVariants.{ZeroColumns}
-use Rattle.liquid_core.specs.Maps.{Map, empty, insert}
+use Rattle.liquid_model.specs.Texts.{Text}
+use Rattle.liquid_model.specs.Data.{Datum, truth, number}
+use Rattle.liquid_model.specs.Lists.{object_of}
+use Rattle.liquid_model.specs.declared.error.ErrorKind.TheVariants.{ZeroColumns}
+use Rattle.liquid_model.specs.Maps.{Map, empty, insert}
 use Rattle.liquid_core.specs.declared.interrupt.Interrupt.{Interrupt}
 use Rattle.liquid_meaning.specs.Runs.{Nothing, Run, done, fault, write, ◌>>=◌, ◌>>◌, with_scope}
 use Rattle.liquid_meaning.specs.Effects.{is_break, take_interrupt}

@@ -6,16 +6,16 @@
 use Rattle.std.specs.Prelude.{ℕ, zero, suc, ◌+◌, ◌%◌, ℤ, pos, ◌+ℤ◌, ◌-ℤ◌, Bool, true, false, cond, List, [], ◌∷◌, ◌++◌, length, slice_get, Option, Some, None, Result, Ok, Err, codes}
 use Rattle.std.specs.Option.{ok_or}
 use Rattle.std.specs.Fmt.{signed_decimal}
-use Rattle.liquid_core.specs.Texts.{Text, ◌else◌}
-use Rattle.liquid_core.specs.Data.{Datum, nil, text, text_of, scalar}
-use Rattle.liquid_core.specs.Lists.{object_of}
-use Rattle.liquid_core.specs.declared.error.ErrorKind.{ErrorKind}
-use Rattle.liquid_core.specs.declared.error.ErrorKind.TheVariants.{UnknownPartial, PartialName, TooDeep, CycleBounds, NumberRange}
-use Rattle.liquid_core.specs.Whole.{fits}
-use Rattle.liquid_core.specs.Order.{same}
+use Rattle.liquid_model.specs.Texts.{Text, ◌else◌}
+use Rattle.liquid_model.specs.Data.{Datum, nil, text, text_of, scalar}
+use Rattle.liquid_model.specs.Lists.{object_of}
+use Rattle.liquid_model.specs.declared.error.ErrorKind.{ErrorKind}
+use Rattle.liquid_model.specs.declared.error.ErrorKind.TheVariants.{UnknownPartial, PartialName, TooDeep, CycleBounds, NumberRange}
+use Rattle.liquid_model.specs.Whole.{fits}
+use Rattle.liquid_model.specs.Order.{same}
 use Rattle.liquid_core.specs.Expression.{Expression}
 use Rattle.liquid_core.specs.Expressions.{required}
-use Rattle.liquid_core.specs.Maps.{Map, empty, insert, merged, listed}
+use Rattle.liquid_model.specs.Maps.{Map, empty, insert, merged, listed}
 use Rattle.liquid_core.specs.Environment.{bind_each, Environment}
 use Rattle.liquid_core.specs.declared.interrupt.Interrupt.{Interrupt}
 use Rattle.liquid_core.specs.declared.interrupt.Interrupt.TheVariants.{Break, Continue}

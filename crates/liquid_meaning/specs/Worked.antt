@@ -1,13 +1,13 @@
 -- Short words, to write trees and their runs by hand.
 use Prim.Native.String.{String}
 use Rattle.std.specs.Prelude.{◌≡◌, ℕ, pos, false, List, [], ◌∷◌, Option, None, Ok, Err, codes}
-use Rattle.liquid_core.specs.Texts.{Text}
-use Rattle.liquid_core.specs.Data.{Datum, number, text}
-use Rattle.liquid_core.specs.declared.error.ErrorKind.{ErrorKind}
-use Rattle.liquid_core.specs.declared.error.ErrorKind.TheVariants.{Unsupported}
+use Rattle.liquid_model.specs.Texts.{Text}
+use Rattle.liquid_model.specs.Data.{Datum, number, text}
+use Rattle.liquid_model.specs.declared.error.ErrorKind.{ErrorKind}
+use Rattle.liquid_model.specs.declared.error.ErrorKind.TheVariants.{Unsupported}
 use Rattle.liquid_core.specs.declared.interrupt.Interrupt.{Interrupt}
 use Rattle.liquid_core.specs.Expression.{Expression, literal, variable, no_steps, step}
-use Rattle.liquid_core.specs.Maps.{empty, listed}
+use Rattle.liquid_model.specs.Maps.{empty, listed}
 use Rattle.liquid_core.specs.Environment.{Environment, new_environment}
 use Rattle.liquid_tree.specs.declared.comparison.ComparisonOperator.{ComparisonOperator}
 use Rattle.liquid_tree.specs.Tree.{Chain, compared, Source, counted, Window, Node, output, if_true, for_each, Nodes, no_nodes, node}

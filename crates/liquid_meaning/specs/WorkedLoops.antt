@@ -1,8 +1,8 @@
 -- Worked runs of chains, conditions and loops.
 use Prim.Native.String.{String}
 use Rattle.std.specs.Prelude.{◌≡◌, pos, negsuc, true, false, cond, List, [], ◌∷◌, Some, None, Ok, codes}
-use Rattle.liquid_core.specs.Data.{Datum, nil, truth, number, object, pair, no_pairs, array, item, no_items, is_default_datum}
-use Rattle.liquid_core.specs.declared.error.ErrorKind.TheVariants.{UnknownVariable, UnexpectedValue, ZeroColumns}
+use Rattle.liquid_model.specs.Data.{Datum, nil, truth, number, object, pair, no_pairs, array, item, no_items, is_default_datum}
+use Rattle.liquid_model.specs.declared.error.ErrorKind.TheVariants.{UnknownVariable, UnexpectedValue, ZeroColumns}
 use Rattle.liquid_core.specs.declared.interrupt.Interrupt.TheVariants.{Break}
 use Rattle.liquid_core.specs.Expression.{literal, variable, no_steps, step}
 use Rattle.liquid_filters.specs.declared.kind.FilterKind.{FilterKind}

@@ -1,6 +1,6 @@
 -- Worked names.
 use Rattle.std.specs.Prelude.{false, List, [], ◌∷◌, Some, None, codes}
-use Rattle.liquid_core.specs.Texts.{Text}
+use Rattle.liquid_model.specs.Texts.{Text}
 use Rattle.liquid_core.specs.Expression.{variable, no_steps, step}
 use Rattle.liquid_filters.specs.declared.kind.FilterKind.{FilterKind}
 use Rattle.liquid_tree.specs.declared.comparison.ComparisonOperator.TheVariants.{Equals}

@@ -1,11 +1,11 @@
 -- Worked runs of what stores: variables, counters, groups of `cycle`, and buffers.
 use Rattle.std.specs.Prelude.{◌≡◌, pos, negsuc, List, [], ◌∷◌, Some, None, codes}
-use Rattle.liquid_core.specs.Texts.{Text}
-use Rattle.liquid_core.specs.Data.{Datum, number, text, object, pair, no_pairs, array, item, no_items}
-use Rattle.liquid_core.specs.declared.error.ErrorKind.TheVariants.{UnknownVariable, CycleBounds, NumberRange}
+use Rattle.liquid_model.specs.Texts.{Text}
+use Rattle.liquid_model.specs.Data.{Datum, number, text, object, pair, no_pairs, array, item, no_items}
+use Rattle.liquid_model.specs.declared.error.ErrorKind.TheVariants.{UnknownVariable, CycleBounds, NumberRange}
 use Rattle.liquid_core.specs.declared.interrupt.Interrupt.TheVariants.{Break}
 use Rattle.liquid_core.specs.Expression.{Expression, variable, no_steps, step}
-use Rattle.liquid_core.specs.Maps.{empty, listed}
+use Rattle.liquid_model.specs.Maps.{empty, listed}
 use Rattle.liquid_core.specs.Environment.{Environment, new_environment}
 use Rattle.liquid_tree.specs.declared.comparison.ComparisonOperator.TheVariants.{GreaterThan}
 use Rattle.liquid_tree.specs.Tree.{Node, plain, assign, increment, decrement, break_loop, cycle, capture, ifchanged}

@@ -3,11 +3,11 @@ use Rattle.std.proofs.Common.{◌≡◌, ◌⊎◌, ℕ, zero, suc, ◌+◌, ◌
 use Rattle.std.proofs.lemmas.Int.{ints}
 use Rattle.std.specs.Int.RustNames.{int_le, int_lt, unsigned_abs}
 use Rattle.std.specs.Str.Parse.{digits_value, starts_with_minus}
-use Rattle.liquid_core.specs.Answer.{IsTheOne}
-use Rattle.liquid_core.specs.Data.{Datum, nil, truth, number, text, array, object}
-use Rattle.liquid_core.specs.Whole.{whole}
-use Rattle.liquid_core.specs.declared.error.ErrorKind.TheVariants.{Float, InvalidArgument, InvalidInput}
-use Rattle.liquid_core.specs.Fallible.{◌>>=◌}
+use Rattle.liquid_model.specs.Answer.{IsTheOne}
+use Rattle.liquid_model.specs.Data.{Datum, nil, truth, number, text, array, object}
+use Rattle.liquid_model.specs.Whole.{whole}
+use Rattle.liquid_model.specs.declared.error.ErrorKind.TheVariants.{Float, InvalidArgument, InvalidInput}
+use Rattle.liquid_model.specs.Fallible.{◌>>=◌}
 use Rattle.liquid_list_filters.specs.Arguments.{number_or_fault}
 use Rattle.liquid_number_filters.specs.Decimals.{is_decimal, is_decimal_text, whole_digits, fraction_digits}
 use Rattle.liquid_number_filters.specs.Numbers.{in_range}

@@ -14,7 +14,7 @@ use Rattle.std.proofs.Common.{ℤ, Some, None, Err, Option, if◌then◌else◌}
 use mir.Val.{bool_byte}
 use Rattle.std.specs.Prelude.{IsTrue, nat_lt}
 use Rattle.liquid_number_filters.specs.Decimals.{is_numeral, if_fits}
-use Rattle.liquid_core.specs.Whole.{fits}
+use Rattle.liquid_model.specs.Whole.{fits}
 use Rattle.liquid_number_filters.specs.Rounding.{signed, nearest, away, towards, magnitude, size, goes_away}
 use Rattle.liquid_number_filters.specs.declared.stdlib.filters.math.decimal.Rounding.{Rounding}
 use Rattle.liquid_number_filters.specs.declared.stdlib.filters.math.decimal.Rounding.TheVariants.{Nearest, Up, Down}

@@ -3,8 +3,8 @@ use Rattle.std.specs.Prelude.{◌≡◌, ℕ, ℤ, Option, Some, None, Bool, tru
 use Rattle.std.specs.List.{position_or_len, before_first, after_first}
 use Rattle.std.specs.Str.{all_ascii_digits}
 use Rattle.std.specs.Str.Parse.{without_leading_sign, starts_with_minus}
-use Rattle.liquid_core.specs.Data.{Datum, text}
-use Rattle.liquid_core.specs.Whole.{fits}
+use Rattle.liquid_model.specs.Data.{Datum, text}
+use Rattle.liquid_model.specs.Whole.{fits}
 
 -- a number of 64 bits
 abbrev pub if_fits : ℤ → Option ℤ

@@ -1,10 +1,10 @@
 -- What a decimal text is brought to, told by products of whole numbers.
 use Rattle.std.specs.Prelude.{◌≡◌, ◌⊎◌, ℕ, ℤ, pos, ◌+ℤ◌, ◌-ℤ◌, ◌*ℤ◌, ◌≤ℤ◌, ◌<ℤ◌, ◌*◌, ◌^◌, ◌<◌, ◌≤◌, Bool, true, false, List, [], ◌∷◌, ◌++◌, length, Option, Some, None, Ok, Err, MatchBool, MatchOption, unsigned_abs}
 use Rattle.std.specs.Str.Parse.{digits_value, starts_with_minus}
-use Rattle.liquid_core.specs.Answer.{IsTheOne}
-use Rattle.liquid_core.specs.Data.{Datum, number, text}
-use Rattle.liquid_core.specs.Whole.{whole}
-use Rattle.liquid_core.specs.declared.error.ErrorKind.TheVariants.{Float, InvalidArgument, InvalidInput}
+use Rattle.liquid_model.specs.Answer.{IsTheOne}
+use Rattle.liquid_model.specs.Data.{Datum, number, text}
+use Rattle.liquid_model.specs.Whole.{whole}
+use Rattle.liquid_model.specs.declared.error.ErrorKind.TheVariants.{Float, InvalidArgument, InvalidInput}
 use Rattle.liquid_list_filters.specs.Arguments.{Answer}
 use Rattle.liquid_number_filters.specs.Decimals.{is_decimal, is_decimal_text, whole_digits, fraction_digits}
 use Rattle.liquid_number_filters.specs.Numbers.{in_range}

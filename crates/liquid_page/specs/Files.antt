@@ -2,9 +2,9 @@
 use Rattle.std.specs.Prelude.{◌≡◌, ℕ, List, [], ◌∷◌, ◌++◌, Option, Result, Ok, Err, MatchBool, ⊤, string_bytes}
 use Rattle.std.specs.Io.KnownBytes.{Keeps}
 use Rattle.std.specs.Option.{ok_or}
-use Rattle.liquid_core.specs.Texts.{Text}
-use Rattle.liquid_core.specs.Told.{is_refusal}
-use Rattle.liquid_core.specs.declared.error.ErrorKind.TheVariants.{Memory}
+use Rattle.liquid_model.specs.Texts.{Text}
+use Rattle.liquid_model.specs.Told.{is_refusal}
+use Rattle.liquid_model.specs.declared.error.ErrorKind.TheVariants.{Memory}
 use Rattle.liquid_page.specs.Words.{Named, NamedFiles, call_of}
 use Rattle.liquid_page.specs.Written.{IsWritten}
 use Rattle.liquid_page.specs.declared.outcome.Outcome.{Outcome}

@@ -1,8 +1,8 @@
 -- A page that is written to its end.
 use Rattle.std.specs.Prelude.{ℕ, List, Option, Result}
 use Rattle.std.specs.Io.KnownBytes.{Appends}
-use Rattle.liquid_core.specs.Texts.{Text}
-use Rattle.liquid_core.specs.declared.error.Error.{Error}
+use Rattle.liquid_model.specs.Texts.{Text}
+use Rattle.liquid_model.specs.declared.error.Error.{Error}
 use Rattle.liquid_lib.specs.Performs.{answer_of, unit}
 use Rattle.liquid_site.specs.Page.{Texts, IsStandardPage}
 

@@ -1,6 +1,6 @@
 //! The words of a call.
 ghost use Rattle.std.specs.Prelude.{◌≡◌, [], map, option_map, string_bytes, Ok};
-ghost use Rattle.liquid_core.specs.Answer.{Answers};
+ghost use Rattle.liquid_model.specs.Answer.{Answers};
 ghost use Rattle.liquid_page.specs.Words.{pair_of, lent, call_of, call_view};
 
 use liquid_core::Result;

@@ -6,12 +6,12 @@ use Rattle.std.specs.List.{AllByRecursion}
 use Rattle.std.specs.List.Sorted.{IsStrictlySortedBy}
 use Rattle.std.specs.Map.{keys_of}
 use Rattle.std.specs.Ordering.{ordering_reverse}
-use Rattle.liquid_core.specs.Fallible.{◌>>=◌}
-use Rattle.liquid_core.specs.Data.{Datum, Pairs, no_pairs, pair, put}
-use Rattle.liquid_core.specs.declared.error.ErrorKind.{ErrorKind}
-use Rattle.liquid_core.proofs.Views.{pairs_view-insert_entry}
-use Rattle.liquid_core.specs.View.{view, pairs_view}
-use Rattle.liquid_core.specs.declared.value.Value.{Value as CoreValue}
+use Rattle.liquid_model.specs.Fallible.{◌>>=◌}
+use Rattle.liquid_model.specs.Data.{Datum, Pairs, no_pairs, pair, put}
+use Rattle.liquid_model.specs.declared.error.ErrorKind.{ErrorKind}
+use Rattle.liquid_model.proofs.Views.{pairs_view-insert_entry}
+use Rattle.liquid_model.specs.View.{view, pairs_view}
+use Rattle.liquid_model.specs.declared.value.Value.{Value as CoreValue}
 use Rattle.std.specs.BTreeMap.{insert_entry}
 use Rattle.liquid_site.specs.Json.{datum_of, pairs_of}
 use Rattle.serde_json.specs.Data as json

@@ -2,12 +2,12 @@
 use Rattle.std.proofs.Common.{◌≡◌, ℕ, ◌≤◌, List, [], Bool, true, false, MatchBool, Option, Some, None, Ok, Err, Result, inl, inr, refl, sym, arith, append-nil}
 use Rattle.std.specs.Prelude.{⊤, ◌⊎◌}
 use Rattle.std.specs.Io.KnownBytes.{Appends, Keeps}
-use Rattle.liquid_core.specs.Answer.{Faulted}
-use Rattle.liquid_core.specs.Data.{Pairs}
-use Rattle.liquid_core.specs.Told.{is_memory, is_refusal}
-use Rattle.liquid_core.specs.declared.error.Error.{Error}
-use Rattle.liquid_core.specs.declared.error.ErrorKind.{ErrorKind}
-use Rattle.liquid_core.specs.declared.error.ErrorKind.TheVariants.{Memory, Write}
+use Rattle.liquid_model.specs.Answer.{Faulted}
+use Rattle.liquid_model.specs.Data.{Pairs}
+use Rattle.liquid_model.specs.Told.{is_memory, is_refusal}
+use Rattle.liquid_model.specs.declared.error.Error.{Error}
+use Rattle.liquid_model.specs.declared.error.ErrorKind.{ErrorKind}
+use Rattle.liquid_model.specs.declared.error.ErrorKind.TheVariants.{Memory, Write}
 use Rattle.liquid_tree.specs.Tree.{Nodes}
 use Rattle.liquid_syntax.specs.Parsing.{IsOnlyTree, HasNoTree, IsOfSource, ParsesTo}
 use Rattle.liquid_syntax.specs.declared.language.Language.{Language}

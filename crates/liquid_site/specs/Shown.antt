@@ -1,12 +1,12 @@
 -- What reading the texts of a page answers, and what showing the page does.
 use Rattle.std.specs.Prelude.{◌≡◌, ℕ, List, false, MatchBool, ⊤, IsErrAnd, Result, Ok, Err, Option}
 use Rattle.std.specs.Io.KnownBytes.{Appends, Keeps}
-use Rattle.liquid_core.specs.Texts.{Text}
-use Rattle.liquid_core.specs.Told.{is_memory, is_refusal}
-use Rattle.liquid_core.specs.View.{pairs_view}
-use Rattle.liquid_core.specs.declared.error.Error.{Error}
-use Rattle.liquid_core.specs.declared.error.ErrorKind.{ErrorKind}
-use Rattle.liquid_core.specs.declared.error.ErrorKind.TheVariants.{Memory}
+use Rattle.liquid_model.specs.Texts.{Text}
+use Rattle.liquid_model.specs.Told.{is_memory, is_refusal}
+use Rattle.liquid_model.specs.View.{pairs_view}
+use Rattle.liquid_model.specs.declared.error.Error.{Error}
+use Rattle.liquid_model.specs.declared.error.ErrorKind.{ErrorKind}
+use Rattle.liquid_model.specs.declared.error.ErrorKind.TheVariants.{Memory}
 use Rattle.liquid_syntax.specs.Templates.{tree_of, partials_of}
 use Rattle.liquid_syntax.specs.Parsing.{IsOfSource}
 use Rattle.liquid_syntax.specs.declared.language.Language.{Language}

@@ -1,7 +1,7 @@
 //! Data from JSON.
 ghost use Rattle.std.specs.Prelude.{◌≡◌};
-ghost use Rattle.liquid_core.specs.Answer.{Answers};
-ghost use Rattle.liquid_core.specs.View.{view, items_view, pairs_view};
+ghost use Rattle.liquid_model.specs.Answer.{Answers};
+ghost use Rattle.liquid_model.specs.View.{view, items_view, pairs_view};
 ghost use Rattle.liquid_site.specs.Json.{datum_of, items_of, pairs_of, object_of, data_of};
 ghost use Rattle.serde_json.specs.View.{view as json_view, items_view as json_items, members_view as json_members};
 

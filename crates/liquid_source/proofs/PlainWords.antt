@@ -1,6 +1,6 @@
 -- A variable with steps is no word.
 use Rattle.std.proofs.Common.{◌≡◌, ℕ, List, [], ◌∷◌, length, Option, Some, None, string_bytes, refl, sym, ap, ◌∙◌, rules}
-use Rattle.liquid_core.specs.Texts.{Text}
+use Rattle.liquid_model.specs.Texts.{Text}
 use Rattle.liquid_core.specs.Expression as tree
 use Rattle.liquid_core.specs.ExpressionView.{expression_view, steps_view}
 use Rattle.liquid_core.specs.declared.expression.Expression.{Expression, Variable, the_lemmas}

@@ -1,7 +1,7 @@
 -- What is read as a value stands in the grammar, and what stands in the grammar is read.
 use Rattle.std.proofs.Common.{◌≡◌, ℕ, ℤ, zero, suc, ◌+◌, ◌-◌, ◌<◌, ◌≤◌, List, [], ◌∷◌, ◌++◌, length, take, drop, get_or, eqb, Bool, true, false, not, ◌||◌, ◌&&◌, ◌⊎◌, inl, inr, cond, subst, sym, ap, ◌∙◌, arith, rules, refl, Option, Some, None}
 use Rattle.std.specs.Option.{option_and_then, option_map}
-use Rattle.liquid_core.specs.Data.{Datum, text, number}
+use Rattle.liquid_model.specs.Data.{Datum, text, number}
 use Rattle.liquid_core.specs.Expression.{Expression, literal, variable, Steps, no_steps, step}
 use Rattle.liquid_source.specs.Bytes.{is_white, is_letter, is_digit, in_word}
 use Rattle.liquid_source.specs.Words.{passes, Blank, Word, Quoted, Number}

@@ -3,7 +3,7 @@ use Rattle.std.proofs.Common.{◌≡◌, ℕ, ℤ, zero, suc, ◌+◌, ◌-◌, 
 use Rattle.std.specs.Option.{option_and_then, option_map}
 use Rattle.std.specs.Str.{all_ascii_digits}
 use Rattle.std.specs.Str.Parse.{without_leading_sign}
-use Rattle.liquid_core.specs.Whole.{whole_text, is_whole_text}
+use Rattle.liquid_model.specs.Whole.{whole_text, is_whole_text}
 use Rattle.liquid_source.specs.Bytes.{is_white, is_letter, is_digit, in_word, not_quote}
 use Rattle.liquid_source.specs.Words.{passes, IsRun, Blank, Word, Quoted, Number, goes_on, begins_with}
 use Rattle.liquid_source.specs.ValueReading.{run_len, past_white, past_byte, word_at, until_quote, quoted_at, number_at, number_len, with_sign, number_by}

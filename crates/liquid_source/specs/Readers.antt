@@ -1,12 +1,12 @@
 -- What a reader answers.
 use Rattle.std.specs.Prelude.{◌≡◌, ◌⊎◌, Option, Some, None, Result, Ok, Err}
-use Rattle.liquid_core.specs.declared.error.ErrorKind.{ErrorKind}
-use Rattle.liquid_core.specs.declared.error.ErrorKind.TheVariants.{Memory}
+use Rattle.liquid_model.specs.declared.error.ErrorKind.{ErrorKind}
+use Rattle.liquid_model.specs.declared.error.ErrorKind.TheVariants.{Memory}
 use Rattle.liquid_source.specs.declared.fault.FaultKind.{FaultKind}
 use Rattle.liquid_source.specs.declared.fault.FaultKind.TheVariants as faults
 use Rattle.liquid_source.specs.declared.fault.ParseError.{ParseError}
 use Rattle.liquid_source.specs.declared.fault.ParseError.TheVariants as errors
-use Rattle.liquid_core.specs.declared.error.ErrorKind.TheVariants as kinds
+use Rattle.liquid_model.specs.declared.error.ErrorKind.TheVariants as kinds
 
 -- memory aside, nothing is to be read there; which fault it is isn't said
 abbrev pub Fails : {Y : Type 0} → ParseError → Option Y → Type 0

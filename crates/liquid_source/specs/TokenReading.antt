@@ -1,6 +1,6 @@
 -- What it is to take a symbol or a word off the front.
 use Rattle.std.specs.Prelude.{◌≡◌, ◌<◌, Bool, true, false, List, Some, None, length}
-use Rattle.liquid_core.specs.Texts.{Text}
+use Rattle.liquid_model.specs.Texts.{Text}
 use Rattle.liquid_source.specs.Tokens.{tokens_view, past, past_word}
 use Rattle.liquid_source.specs.declared.item.Item.{Item}
 use Rattle.liquid_source.specs.declared.symbol.Symbol.{Symbol}

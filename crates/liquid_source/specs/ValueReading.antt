@@ -2,9 +2,9 @@
 use Rattle.std.specs.Prelude.{ℕ, zero, suc, ◌+◌, ℤ, List, [], ◌∷◌, length, take, drop, Bool, true, false, cond, ◌-◌, ◌==◌, ◌||◌, if◌then◌else◌, slice_index, Option, Some, None}
 use Rattle.std.specs.Option.{option_and_then, option_map}
 use Rattle.std.specs.List.{suffix_len}
-use Rattle.liquid_core.specs.Data.{Datum, text, number}
+use Rattle.liquid_model.specs.Data.{Datum, text, number}
 use Rattle.liquid_core.specs.Expression.{Expression, literal, variable, Steps, no_steps, step}
-use Rattle.liquid_core.specs.Whole.{whole_text}
+use Rattle.liquid_model.specs.Whole.{whole_text}
 use Rattle.liquid_source.specs.Bytes.{is_white, is_digit, is_letter, in_word, not_quote, plain}
 use Rattle.liquid_source.specs.Words.{passes, goes_on}
 use Rattle.liquid_source.specs.Values.{WordKind, name, constant, state, word_kind, dotted}

@@ -1,6 +1,6 @@
 -- The written grammar of values: literals, and variables with their steps. In each relation bs begins with the value, and rest follows it.
 use Rattle.std.specs.Prelude.{◌≡◌, ℕ, suc, ℤ, List, [], ◌∷◌, Bool, true, false, ◌==◌, ◌||◌, ◌&&◌, slice_index, cond, bytes_eq, codes}
-use Rattle.liquid_core.specs.Data.{Datum, nil, truth, number, text}
+use Rattle.liquid_model.specs.Data.{Datum, nil, truth, number, text}
 use Rattle.liquid_core.specs.Expression.{Expression, literal, variable, Steps, no_steps, step}
 use Rattle.liquid_source.specs.Bytes.{is_letter}
 use Rattle.liquid_source.specs.Words.{Blank, Word, Quoted, Number}

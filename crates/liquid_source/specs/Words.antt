@@ -1,6 +1,6 @@
 -- The written grammar of words, quoted texts and numbers. In each relation bs begins with what is named, and rest follows it.
 use Rattle.std.specs.Prelude.{◌≡◌, ℕ, ℤ, ◌⊎◌, List, [], ◌∷◌, ◌++◌, Bool, true, false, not, ◌==◌, ◌||◌, ◌&&◌, slice_index, Some}
-use Rattle.liquid_core.specs.Whole.{whole_text}
+use Rattle.liquid_model.specs.Whole.{whole_text}
 use Rattle.liquid_source.specs.Bytes.{is_white, is_digit, is_letter, in_word, not_quote}
 
 -- the test passes at the front

@@ -1,7 +1,7 @@
 //! Why a source could not be read.
 ghost use Rattle.std.specs.Prelude.{◌≡◌, ◌≤◌};
-ghost use Rattle.liquid_core.specs.Told.{number_of};
-ghost use Rattle.liquid_core.specs.declared.error.ErrorKind.TheVariants.{Memory as MemoryKind};
+ghost use Rattle.liquid_model.specs.Told.{number_of};
+ghost use Rattle.liquid_model.specs.declared.error.ErrorKind.TheVariants.{Memory as MemoryKind};
 ghost use Rattle.liquid_source.specs.Readers.{kind_of, TellsOf};
 ghost use Rattle.liquid_source.specs.declared.fault.ParseError.TheVariants.{Memory};
 

@@ -1,6 +1,6 @@
 //! Values: literals, and variables with their steps.
 ghost use Rattle.std.specs.Prelude.{◌≡◌, length};
-ghost use Rattle.liquid_core.specs.View.{view};
+ghost use Rattle.liquid_model.specs.View.{view};
 ghost use Rattle.liquid_core.specs.ExpressionView.{expression_view, steps_view};
 ghost use Rattle.liquid_source.specs.Values.{word_kind};
 ghost use Rattle.liquid_source.specs.ValueReading.{literal_at, named_by, inner_of, value_at, step_at, steps_at};

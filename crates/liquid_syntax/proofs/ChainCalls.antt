@@ -2,8 +2,8 @@
 use Rattle.std.proofs.Common.{◌≡◌, suc, List, [], ◌∷◌, ◌++◌, length, Bool, true, false, nat_eq, cond, Option, Some, None, refl, sym, ap, ◌∙◌, append_assoc, arith, rules}
 use Rattle.std.proofs.lemmas.List.{append-nil}
 use Rattle.std.specs.Option.{option_and_then, option_map}
-use Rattle.liquid_core.specs.Texts.{Text}
-use Rattle.liquid_core.specs.Maps.{listed}
+use Rattle.liquid_model.specs.Texts.{Text}
+use Rattle.liquid_model.specs.Maps.{listed}
 use Rattle.liquid_core.specs.Expression.{Expression, literal, variable, no_steps, step}
 use Rattle.liquid_tree.specs.Tree.{FilterCall}
 use Rattle.liquid_source.specs.Readers.{Fails, IsFault}

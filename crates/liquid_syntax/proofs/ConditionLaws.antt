@@ -3,7 +3,7 @@ use Rattle.std.proofs.Common.{◌≡◌, List, [], ◌∷◌, ◌++◌, append_a
 use Rattle.std.proofs.lemmas.List.{append-nil}
 use Rattle.std.proofs.lemmas.Slice.Eq.{bytes_eq-Decides}
 use Rattle.std.specs.Option.{option_map}
-use Rattle.liquid_core.specs.Texts.{Text}
+use Rattle.liquid_model.specs.Texts.{Text}
 use Rattle.liquid_core.specs.Expression.{Expression, literal, variable, Steps, no_steps, step}
 use Rattle.liquid_syntax.specs.Conditions.{and_word, or_word, IsOperator, equals, not_equals, less_or_greater, less, greater, less_or_equal, greater_or_equal, contains, IsAtom, bare_value, comparison, IsConjunction, one_atom, and_more, IsCondition, one_conjunction, or_more}
 use Rattle.liquid_syntax.specs.ConditionReading.{operator_of, symbol_operator, with_atom, joined, compared_or, condition_of, behind_value, behind_operator, behind_atom}

@@ -7,8 +7,8 @@ use Rattle.std.specs.Map.{lookup}
 use Rattle.std.specs.Ordering.{match_ordering}
 use Rattle.std.proofs.lemmas.Map.Text.{is_eq-slice_cmp}
 use Rattle.std.proofs.lemmas.Slice.Eq.{bytes_eq-Decides}
-use Rattle.liquid_core.specs.Texts.{Text}
-use Rattle.liquid_core.specs.Maps.{listed, insert}
+use Rattle.liquid_model.specs.Texts.{Text}
+use Rattle.liquid_model.specs.Maps.{listed, insert}
 use Rattle.liquid_syntax.specs.Entries.{seen, put}
 
 abbrev pub Entry : Type 0 → Type 0

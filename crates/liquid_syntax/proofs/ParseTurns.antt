@@ -3,7 +3,7 @@ use Rattle.std.proofs.Common.{◌≡◌, ℕ, ◌-◌, ◌<◌, ◌≤◌, nat_l
 use Rattle.std.proofs.lemmas.Bool.Decides.{nat_tests}
 use Rattle.std.specs.Option.{option_and_then}
 use Rattle.std.specs.Prelude.{Result, Ok, Err}
-use Rattle.liquid_core.specs.Texts.{Text}
+use Rattle.liquid_model.specs.Texts.{Text}
 use Rattle.liquid_syntax.specs.Building.{IsBuilding, Finishes, text_added}
 use Rattle.liquid_syntax.specs.Judges.{Judges}
 use Rattle.liquid_syntax.specs.Judging.{if_of, two_or, tag_label, raw_label, comment_label, reads, is_start, opens}

@@ -2,8 +2,8 @@
 use Rattle.std.proofs.Common.{◌≡◌, List, [], ◌∷◌, ◌++◌, length, Bool, true, false, cond, Option, Some, None, refl, sym, ap, subst, ◌∙◌}
 use Rattle.std.specs.Option.{option_and_then, option_map}
 use Rattle.liquid_core.specs.Expression.{Expression, literal, variable, no_steps, step}
-use Rattle.liquid_core.specs.Maps.{listed}
-use Rattle.liquid_core.specs.Texts.{Text}
+use Rattle.liquid_model.specs.Maps.{listed}
+use Rattle.liquid_model.specs.Texts.{Text}
 use Rattle.liquid_filters.specs.Kinds.{kind_counts}
 use Rattle.liquid_filters.specs.declared.kind.FilterKind.{FilterKind}
 use Rattle.liquid_syntax.specs.ChainReading.{accepted_call, call_with, filters_of, call_of, called_of, arguments_of, further_of, chain_of}

@@ -1,7 +1,7 @@
 -- A source is read as just the tree that the written grammar gives it.
 use Rattle.std.proofs.Common.{◌≡◌, List, [], ◌∷◌, length, false, Option, Some, None, refl, sym, ap, ◌∙◌, arith}
 use Rattle.std.specs.Option.{option_and_then}
-use Rattle.liquid_core.specs.Texts.{Text}
+use Rattle.liquid_model.specs.Texts.{Text}
 use Rattle.liquid_syntax.specs.Judging.{tag_label, raw_label, comment_label, reads}
 use Rattle.liquid_syntax.specs.Roles.{role_of, unread_body}
 use Rattle.liquid_syntax.specs.declared.block.Role.{Role}

@@ -1,6 +1,6 @@
 -- The laws of chains and of `assign`.
 use Rattle.std.specs.Prelude.{◌≡◌, ◌↔◌, List, Some}
-use Rattle.liquid_core.specs.Texts.{Text}
+use Rattle.liquid_model.specs.Texts.{Text}
 use Rattle.liquid_syntax.specs.ChainReading.{chain_of}
 use Rattle.liquid_syntax.specs.Chains.{Filters, IsChain, IsAssign}
 use Rattle.liquid_syntax.specs.Judging.{assign_of}

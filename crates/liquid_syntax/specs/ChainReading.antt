@@ -1,8 +1,8 @@
 -- Reading a chain from tokens, one after another.
 use Rattle.std.specs.Prelude.{List, [], ◌∷◌, length, cond, Option, Some, None}
 use Rattle.std.specs.Option.{option_and_then, option_map}
-use Rattle.liquid_core.specs.Texts.{Text}
-use Rattle.liquid_core.specs.Maps.{listed}
+use Rattle.liquid_model.specs.Texts.{Text}
+use Rattle.liquid_model.specs.Maps.{listed}
 use Rattle.liquid_core.specs.Expression.{Expression}
 use Rattle.liquid_filters.specs.Kinds.{kind_counts}
 use Rattle.liquid_filters.specs.declared.kind.FilterKind.{FilterKind}

@@ -1,7 +1,7 @@
 -- The written grammar of chains: which tokens a chain is.
 use Rattle.std.specs.Prelude.{◌≡◌, List, [], ◌∷◌, ◌++◌, length, IsTrue, Some}
-use Rattle.liquid_core.specs.Texts.{Text}
-use Rattle.liquid_core.specs.Maps.{listed}
+use Rattle.liquid_model.specs.Texts.{Text}
+use Rattle.liquid_model.specs.Maps.{listed}
 use Rattle.liquid_core.specs.Expression.{Expression}
 use Rattle.liquid_filters.specs.Kinds.{kind_counts}
 use Rattle.liquid_filters.specs.declared.kind.FilterKind.{FilterKind}

@@ -1,6 +1,6 @@
 -- The words that a block knows besides those that are registered.
 use Rattle.std.specs.Prelude.{codes, cond, bytes_eq, Option, Some, None}
-use Rattle.liquid_core.specs.Texts.{Text}
+use Rattle.liquid_model.specs.Texts.{Text}
 use Rattle.liquid_syntax.specs.declared.block.Block.{Block}
 use Rattle.liquid_syntax.specs.declared.block.Control.{Control}
 use Rattle.liquid_syntax.specs.declared.block.Control.TheVariants.{Elsif, Else}

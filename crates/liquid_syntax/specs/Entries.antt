@@ -3,7 +3,7 @@ use Rattle.std.specs.Prelude.{List, [], ◌∷◌, map, String, string_bytes}
 use Rattle.std.specs.Cmp.Lexicographic.{slice_cmp}
 use Rattle.std.specs.Ordering.{match_ordering, nat_cmp}
 use Rattle.std.specs.declared.alloc.Global.{Global}
-use Rattle.liquid_core.specs.Texts.{Text}
+use Rattle.liquid_model.specs.Texts.{Text}
 
 -- each entry of the code's map, its value seen by f
 abbrev pub seen : {X Y : Type 0} → (X → Y) → List (String Global × X) → List (Text × Y)

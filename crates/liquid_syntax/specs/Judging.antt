@@ -1,6 +1,6 @@
 -- What a piece is, where it stands, by the names that a language has and by its items.
 use Rattle.std.specs.Prelude.{List, [], ◌∷◌, Bool, true, false, Option, Some, None, option_and_then, option_map}
-use Rattle.liquid_core.specs.Texts.{Text}
+use Rattle.liquid_model.specs.Texts.{Text}
 use Rattle.liquid_source.specs.Pieces as pieces
 use Rattle.liquid_source.specs.Tokens.{Token, tokens_of, word_first, past}
 use Rattle.liquid_source.specs.declared.piece.Body.{Body}

@@ -1,6 +1,6 @@
 -- The written grammar of a single piece: what it is, where it stands.
 use Rattle.std.specs.Prelude.{◌≡◌, List, [], Some}
-use Rattle.liquid_core.specs.Texts.{Text}
+use Rattle.liquid_model.specs.Texts.{Text}
 use Rattle.liquid_source.specs.Items.{Item}
 use Rattle.liquid_source.specs.Pieces as pieces
 use Rattle.liquid_source.specs.Tokens.{tokens_of}

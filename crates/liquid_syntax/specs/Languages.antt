@@ -1,6 +1,6 @@
 -- What is registered under a name.
 use Rattle.std.specs.Prelude.{List}
-use Rattle.liquid_core.specs.Texts.{Text}
+use Rattle.liquid_model.specs.Texts.{Text}
 use Rattle.liquid_syntax.specs.Entries.{seen}
 use Rattle.liquid_syntax.specs.declared.language.Registry.{Registry}
 

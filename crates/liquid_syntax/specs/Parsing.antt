@@ -2,11 +2,11 @@
 --     IsTemplate l t source      the source is the tree t, in a language
 --     template_at l source      the tree, as it is read
 use Rattle.std.specs.Prelude.{◌≤◌, List, [], length, false, Option, option_and_then, Result, Ok, Err, MatchBool, ⊤}
-use Rattle.liquid_core.specs.Answer.{IsTheOne}
-use Rattle.liquid_core.specs.Texts.{Text}
-use Rattle.liquid_core.specs.Told.{is_memory, number_of}
-use Rattle.liquid_core.specs.declared.error.Error.{Error}
-use Rattle.liquid_core.specs.declared.error.ErrorKind.{ErrorKind}
+use Rattle.liquid_model.specs.Answer.{IsTheOne}
+use Rattle.liquid_model.specs.Texts.{Text}
+use Rattle.liquid_model.specs.Told.{is_memory, number_of}
+use Rattle.liquid_model.specs.declared.error.Error.{Error}
+use Rattle.liquid_model.specs.declared.error.ErrorKind.{ErrorKind}
 use Rattle.liquid_syntax.specs.Judging.{reads}
 use Rattle.liquid_syntax.specs.Labels.{IsLabel}
 use Rattle.liquid_syntax.specs.Nesting.{AreNodes}

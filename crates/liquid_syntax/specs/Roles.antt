@@ -2,8 +2,8 @@
 --     role_of l x w      of the name w in a language, at a place
 --     unread_body role      the body behind such a tag, where it is a block's that isn't read
 use Rattle.std.specs.Prelude.{cond, bytes_eq, Option, Some, None, option_map}
-use Rattle.liquid_core.specs.Maps.{listed}
-use Rattle.liquid_core.specs.Texts.{Text}
+use Rattle.liquid_model.specs.Maps.{listed}
+use Rattle.liquid_model.specs.Texts.{Text}
 use Rattle.liquid_source.specs.declared.piece.Body.{Body}
 use Rattle.liquid_source.specs.declared.piece.Body.TheVariants as bodies
 use Rattle.liquid_syntax.specs.Controls.{end_word, control_of}

@@ -3,7 +3,7 @@
 --     node_count_of t      how many nodes a template has, in all depths
 use Rattle.std.specs.Prelude.{ℕ, List, [], ◌∷◌, max, length, String}
 use Rattle.std.specs.declared.alloc.Global.{Global}
-use Rattle.liquid_core.specs.Texts.{Text}
+use Rattle.liquid_model.specs.Texts.{Text}
 use Rattle.liquid_syntax.specs.Entries.{seen}
 use Rattle.liquid_tree.specs.Tree as tree
 use Rattle.liquid_syntax.specs.Forest.{Forest, size}

@@ -1,7 +1,7 @@
 //! Chains, read from the items of a piece.
 ghost use Rattle.std.specs.Prelude.{◌≡◌, ◌≤◌, length, map};
 ghost use Rattle.liquid_core.specs.ExpressionView.{expression_view};
-ghost use Rattle.liquid_core.specs.Maps.{listed};
+ghost use Rattle.liquid_model.specs.Maps.{listed};
 ghost use Rattle.liquid_syntax.specs.Called.{Calls};
 ghost use Rattle.liquid_syntax.specs.ChainReading.{accepted_call, filters_of, chain_of};
 ghost use Rattle.liquid_syntax.specs.Chains.{Filters};

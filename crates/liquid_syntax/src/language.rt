@@ -1,7 +1,7 @@
 //! What tags, blocks and filters are called.
 ghost use Rattle.std.specs.Prelude.{◌≡◌, [], option_map, OnErr, string_bytes};
-ghost use Rattle.liquid_core.specs.Answer.{Gives};
-ghost use Rattle.liquid_core.specs.Maps.{listed, insert};
+ghost use Rattle.liquid_model.specs.Answer.{Gives};
+ghost use Rattle.liquid_model.specs.Maps.{listed, insert};
 ghost use Rattle.liquid_syntax.specs.Languages.{kinds_of};
 
 use liquid_core::Result;

@@ -1,7 +1,7 @@
 //! Templates by name.
 ghost use Rattle.std.specs.Prelude.{◌≡◌, [], option_map, length, ◌≤◌, IfSome, OnErr, string_bytes};
-ghost use Rattle.liquid_core.specs.Answer.{Gives};
-ghost use Rattle.liquid_core.specs.Maps.{listed, insert};
+ghost use Rattle.liquid_model.specs.Answer.{Gives};
+ghost use Rattle.liquid_model.specs.Maps.{listed, insert};
 ghost use Rattle.liquid_syntax.specs.Entries.{put};
 ghost use Rattle.liquid_syntax.specs.Templates.{most_of, list_of, tree_of, partials_of};
 

@@ -5,7 +5,7 @@ use Rattle.std.proofs.lemmas.Str.{chars-encodes, encodes-chars, scalars-chars}
 use Rattle.std.specs.Char.{encode_utf8}
 use Rattle.std.specs.Str.{chars, encode_utf8_all, IsUtf8}
 use Rattle.std.specs.Str.Pattern.{LacksTextAt}
-use Rattle.liquid_core.specs.Answer.{IsTheOne}
+use Rattle.liquid_model.specs.Answer.{IsTheOne}
 use Rattle.liquid_list_filters.specs.Joined.{joined, joined_rest}
 use Rattle.liquid_list_filters.specs.Text.{begins}
 use Rattle.liquid_text_filters.specs.Occurrences.{AreCharacters, ArePieces, Lacks, Splits}

@@ -7,12 +7,12 @@ use Rattle.std.specs.Char.{to_ascii_lowercase, to_ascii_uppercase}
 use Rattle.std.specs.List.{concat}
 use Rattle.std.specs.Str.{chars, encode_utf8_all, IsUtf8}
 use Rattle.unicode_segmentation.specs.Grapheme.{graphemes}
-use Rattle.liquid_core.specs.Answer.{IsTheOne}
-use Rattle.liquid_core.specs.Data.{Datum, nil, truth, number, text, array, object, text_of}
-use Rattle.liquid_core.specs.Fallible.{◌>>=◌}
-use Rattle.liquid_core.specs.Lists.{list_of}
-use Rattle.liquid_core.specs.View.{items_of}
-use Rattle.liquid_core.specs.declared.error.ErrorKind.{ErrorKind}
+use Rattle.liquid_model.specs.Answer.{IsTheOne}
+use Rattle.liquid_model.specs.Data.{Datum, nil, truth, number, text, array, object, text_of}
+use Rattle.liquid_model.specs.Fallible.{◌>>=◌}
+use Rattle.liquid_model.specs.Lists.{list_of}
+use Rattle.liquid_model.specs.View.{items_of}
+use Rattle.liquid_model.specs.declared.error.ErrorKind.{ErrorKind}
 use Rattle.liquid_list_filters.specs.Arguments.{Answer, text_or}
 use Rattle.liquid_list_filters.specs.Joined.{joined}
 use Rattle.liquid_list_filters.specs.Text.{begins, Makes, Texts}

@@ -8,7 +8,7 @@ use Rattle.std.specs.Char.{is_whitespace, to_ascii_lowercase, to_ascii_uppercase
 use Rattle.std.specs.List.{filter}
 use Rattle.std.specs.Str.{all_scalars, chars, drop_trailing_whitespace, encode_utf8_all, IsUtf8, skip_leading_whitespace, trim, trim_end, trim_start}
 use lib.Utf8.{encode, scalar}
-use Rattle.liquid_core.specs.Answer.{IsTheOne}
+use Rattle.liquid_model.specs.Answer.{IsTheOne}
 use Rattle.liquid_text_filters.specs.Case.{capitalized, upper_first}
 use Rattle.liquid_text_filters.specs.Spelling.{AreWhite, Capitalizes, EndsPlain, KeepsLines, MapsCharacters, Spell, StartsPlain, StripsEnd, StripsEnds, StripsNewlines, StripsStart}
 use Rattle.liquid_text_filters.specs.Strip.{is_newline, without_newlines}

@@ -5,10 +5,10 @@ use Rattle.std.proofs.lemmas.Str.{chars-nil, chars_past_char, IsUtf8-past_char}
 use Rattle.std.specs.Char.{encode_utf8}
 use Rattle.std.specs.Str.{chars, IsUtf8}
 use Rattle.std.specs.Str.Pattern.{FindsText, SplitsAroundMatch}
-use Rattle.liquid_core.specs.Data.{Datum, text}
-use Rattle.liquid_core.specs.View.{view}
-use Rattle.liquid_core.specs.declared.value.Value.{Value, Text}
-use Rattle.liquid_core.proofs.Views.{view-Text}
+use Rattle.liquid_model.specs.Data.{Datum, text}
+use Rattle.liquid_model.specs.View.{view}
+use Rattle.liquid_model.specs.declared.value.Value.{Value, Text}
+use Rattle.liquid_model.proofs.Views.{view-Text}
 use Rattle.liquid_text_filters.specs.Pieces.{pieces}
 use Rattle.liquid_text_filters.proofs.Pieces.{pieces_found, pieces_none}
 

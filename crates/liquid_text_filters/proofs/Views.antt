@@ -2,10 +2,10 @@
 use Rattle.std.proofs.Common.{◌≡◌, ℕ, zero, suc, ◌-◌, ◌<◌, min, ℤ, List, [], ◌∷◌, Vec, Global, length, length-drop, get_or, take, take_all, drop, map, Some, ap, sym, ◌∙◌, arith}
 use Rattle.std.proofs.lemmas.List.{drop-map, length-map}
 use Rattle.std.specs.List.{take-map}
-use Rattle.liquid_core.proofs.Views.{list_of_view, view-Array}
-use Rattle.liquid_core.specs.Data.{array}
-use Rattle.liquid_core.specs.View.{view, items_of}
-use Rattle.liquid_core.specs.declared.value.Value.{Value, Array}
+use Rattle.liquid_model.proofs.Views.{list_of_view, view-Array}
+use Rattle.liquid_model.specs.Data.{array}
+use Rattle.liquid_model.specs.View.{view, items_of}
+use Rattle.liquid_model.specs.declared.value.Value.{Value, Array}
 use Rattle.liquid_text_filters.specs.Places.{start, taken}
 use Rattle.liquid_text_filters.specs.Slice.{items_part, part}
 

@@ -1,7 +1,7 @@
 -- Arguments that may be missing.
 use Rattle.std.specs.Prelude.{ℤ, List, [], ◌∷◌, Result, Ok}
-use Rattle.liquid_core.specs.Data.{Datum}
-use Rattle.liquid_core.specs.declared.error.ErrorKind.{ErrorKind}
+use Rattle.liquid_model.specs.Data.{Datum}
+use Rattle.liquid_model.specs.declared.error.ErrorKind.{ErrorKind}
 use Rattle.liquid_list_filters.specs.Arguments.{whole_or_fault}
 
 -- a whole-number argument, or where none is given the number that the filter takes in its place

@@ -2,7 +2,7 @@
 use Rattle.std.specs.Prelude.{ℕ, List, [], ◌∷◌, map}
 use Rattle.std.specs.Char.{to_ascii_lowercase, to_ascii_uppercase}
 use Rattle.std.specs.Str.{chars, encode_utf8_all}
-use Rattle.liquid_core.specs.Data.{Datum}
+use Rattle.liquid_model.specs.Data.{Datum}
 use Rattle.liquid_list_filters.specs.Arguments.{Answer}
 use Rattle.liquid_list_filters.specs.Text.{of_text}
 

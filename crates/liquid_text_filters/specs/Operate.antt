@@ -1,7 +1,7 @@
 -- Filters that join texts, and that replace parts of them. A missing argument counts as the empty text.
 use Rattle.std.specs.Prelude.{List, [], ◌∷◌, ◌++◌, length, drop, Ok, if◌then◌else◌}
-use Rattle.liquid_core.specs.Data.{Datum, text, text_of}
-use Rattle.liquid_core.specs.Texts.{Text}
+use Rattle.liquid_model.specs.Data.{Datum, text, text_of}
+use Rattle.liquid_model.specs.Texts.{Text}
 use Rattle.liquid_list_filters.specs.Arguments.{Answer, text_or}
 use Rattle.liquid_list_filters.specs.Joined.{joined}
 use Rattle.liquid_list_filters.specs.Text.{begins}

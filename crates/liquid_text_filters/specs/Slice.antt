@@ -1,12 +1,12 @@
 -- The filter `slice`. A missing offset, which no call can make, counts as 0.
 use Rattle.std.specs.Prelude.{ℕ, zero, suc, ℤ, pos, negsuc, List, length, drop, Ok, Err}
 use Rattle.std.specs.Str.{chars, encode_utf8_all}
-use Rattle.liquid_core.specs.Data.{Datum, text, array, text_of}
-use Rattle.liquid_core.specs.Fallible.{◌>>=◌}
-use Rattle.liquid_core.specs.Lists.{list_of}
-use Rattle.liquid_core.specs.Texts.{Text}
-use Rattle.liquid_core.specs.View.{items_of}
-use Rattle.liquid_core.specs.declared.error.ErrorKind.TheVariants.{InvalidArgument}
+use Rattle.liquid_model.specs.Data.{Datum, text, array, text_of}
+use Rattle.liquid_model.specs.Fallible.{◌>>=◌}
+use Rattle.liquid_model.specs.Lists.{list_of}
+use Rattle.liquid_model.specs.Texts.{Text}
+use Rattle.liquid_model.specs.View.{items_of}
+use Rattle.liquid_model.specs.declared.error.ErrorKind.TheVariants.{InvalidArgument}
 use Rattle.liquid_list_filters.specs.Arguments.{Answer}
 use Rattle.liquid_text_filters.specs.Arguments.{whole_or}
 use Rattle.liquid_text_filters.specs.Places.{start, taken}

@@ -2,7 +2,7 @@
 use Rattle.std.specs.Prelude.{◌≡◌, ◌≢◌, ℕ, ◌⊎◌, ⊤, true, false, List, [], ◌∷◌, ◌++◌, map}
 use Rattle.std.specs.Char.{encode_utf8, is_whitespace, to_ascii_uppercase}
 use Rattle.std.specs.Str.{all_scalars, encode_utf8_all}
-use Rattle.liquid_core.specs.Texts.{Text}
+use Rattle.liquid_model.specs.Texts.{Text}
 
 -- the characters spell s
 abbrev pub Spell : List ℕ → Text → Type 0

@@ -1,8 +1,8 @@
 -- The filter `split`.
 use Rattle.std.specs.Prelude.{List, [], ◌∷◌, map, Ok}
-use Rattle.liquid_core.specs.Data.{Datum, text, array, text_of}
-use Rattle.liquid_core.specs.Texts.{Text}
-use Rattle.liquid_core.specs.View.{items_of}
+use Rattle.liquid_model.specs.Data.{Datum, text, array, text_of}
+use Rattle.liquid_model.specs.Texts.{Text}
+use Rattle.liquid_model.specs.View.{items_of}
 use Rattle.liquid_list_filters.specs.Arguments.{Answer, text_or}
 use Rattle.liquid_text_filters.specs.Pieces.{split_by}
 

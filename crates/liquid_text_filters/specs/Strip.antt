@@ -1,7 +1,7 @@
 -- Filters that cut white space, which is Unicode's White_Space, and newlines.
 use Rattle.std.specs.Prelude.{ℕ, List, Bool, ◌==◌, ◌||◌, not, filter}
 use Rattle.std.specs.Str.{chars, encode_utf8_all, trim, trim_start, trim_end}
-use Rattle.liquid_core.specs.Data.{Datum}
+use Rattle.liquid_model.specs.Data.{Datum}
 use Rattle.liquid_list_filters.specs.Arguments.{Answer}
 use Rattle.liquid_list_filters.specs.Text.{of_text}
 

@@ -1,8 +1,8 @@
 //! Arguments that may be missing.
 ghost use Rattle.std.specs.Prelude.{drop, map};
 ghost use Rattle.std.specs.Cow.{cow_str_bytes};
-ghost use Rattle.liquid_core.specs.Answer.{Answers, Gives};
-ghost use Rattle.liquid_core.specs.View.{view};
+ghost use Rattle.liquid_model.specs.Answer.{Answers, Gives};
+ghost use Rattle.liquid_model.specs.View.{view};
 ghost use Rattle.liquid_list_filters.specs.Arguments.{text_or};
 ghost use Rattle.liquid_text_filters.specs.Arguments.{whole_or};
 

@@ -1,7 +1,7 @@
 //! Parts of texts.
 ghost use Rattle.std.specs.Prelude.{◌≡◌, ◌++◌, List, ℕ, drop, string_bytes, take};
 ghost use Rattle.std.specs.Str.{chars, encode_utf8_all};
-ghost use Rattle.liquid_core.specs.Answer.{Gives};
+ghost use Rattle.liquid_model.specs.Answer.{Gives};
 
 use liquid_core::Result;
 use std::alloc::Global;

@@ -2,15 +2,15 @@
 use Rattle.std.proofs.Common.{◌≡◌, ℕ, List, [], ◌∷◌, ◌++◌, Bool, true, false, nat_eq, ◌||◌, length, drop, ◌↔◌, refl, sym, ap, ◌∙◌, Ok, Vec, Global}
 use Rattle.std.specs.List.{starts_with, list_any}
 use Rattle.std.specs.Str.Iter.{HasSubslice}
-use Rattle.liquid_core.specs.Data.{Datum}
-use Rattle.liquid_core.specs.Lists.{list_of}
-use Rattle.liquid_core.specs.Order.{same}
-use Rattle.liquid_core.specs.View.{view, items_view}
-use Rattle.liquid_core.specs.declared.value.Value.{Value, Array}
-use Rattle.liquid_core.proofs.Views.{view-Array}
+use Rattle.liquid_model.specs.Data.{Datum}
+use Rattle.liquid_model.specs.Lists.{list_of}
+use Rattle.liquid_model.specs.Order.{same}
+use Rattle.liquid_model.specs.View.{view, items_view}
+use Rattle.liquid_model.specs.declared.value.Value.{Value, Array}
+use Rattle.liquid_model.proofs.Views.{view-Array}
 use Rattle.std.proofs.lemmas.Bool.Decides.{Decides-eqb}
 use Rattle.std.proofs.lemmas.Slice.Eq.{starts_is}
-use Rattle.liquid_core.specs.Texts.{Text}
+use Rattle.liquid_model.specs.Texts.{Text}
 use Rattle.liquid_tree.specs.Evaluation.{contains, occurs_in}
 
 begins : (n s : Text) → starts_with nat_eq s n ≡ true → HasSubslice s n

@@ -1,7 +1,7 @@
 -- Texts written one after another with a separator between them, a turn at a time.
 use Rattle.std.proofs.Common.{◌≡◌, ℕ, List, [], ◌∷◌, ◌++◌, ◌+◌, drop, map, refl, sym, ap, ◌∙◌, append_assoc}
 use Rattle.std.specs.List.{flat_map, join_by}
-use Rattle.liquid_core.specs.Texts.{Text}
+use Rattle.liquid_model.specs.Texts.{Text}
 
 -- the values that are left in their written form, the first one with this before it
 abbrev pub joined_from : {X : Type 0} → Text → (X → Text) → Text → List X → Text

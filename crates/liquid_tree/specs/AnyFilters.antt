@@ -1,7 +1,7 @@
 -- The filters by which a stored chain is run: how many arguments each takes, and what it answers.
 use Rattle.std.specs.Prelude.{ℕ, Bool, List, Result}
-use Rattle.liquid_core.specs.Data.{Datum}
-use Rattle.liquid_core.specs.declared.error.ErrorKind.{ErrorKind}
+use Rattle.liquid_model.specs.Data.{Datum}
+use Rattle.liquid_model.specs.declared.error.ErrorKind.{ErrorKind}
 use Rattle.liquid_filters.specs.Kinds.{kind_counts, kind_answer}
 use Rattle.liquid_tree.specs.declared.any_filter.AnyFilter.{AnyFilter}
 use Rattle.liquid_tree.specs.declared.any_filter.AnyFilter.TheVariants.{Kind}

@@ -1,10 +1,10 @@
 -- Filters in order, each known by its answers alone.
 --     applied calls d e      what d becomes through the calls, or the first kind met on the way
 use Rattle.std.specs.Prelude.{List, [], ◌∷◌, map, Result, Ok}
-use Rattle.liquid_core.specs.Data.{Datum}
-use Rattle.liquid_core.specs.declared.error.ErrorKind.{ErrorKind}
+use Rattle.liquid_model.specs.Data.{Datum}
+use Rattle.liquid_model.specs.declared.error.ErrorKind.{ErrorKind}
 use Rattle.liquid_core.specs.declared.expression.Expression.{Expression as StoredExpression}
-use Rattle.liquid_core.specs.Fallible.{◌>>=◌}
+use Rattle.liquid_model.specs.Fallible.{◌>>=◌}
 use Rattle.liquid_core.specs.Expression.{Expression}
 use Rattle.liquid_core.specs.ExpressionView.{expression_view}
 use Rattle.liquid_core.specs.Environment.{Environment}

@@ -5,16 +5,16 @@ use Rattle.std.specs.Prelude.{ℕ, zero, suc, ◌-◌, min, ℤ, pos, negsuc, �
 use Rattle.std.specs.declared.cmp.Ordering.{Ordering}
 use Rattle.std.specs.Ordering.{is_lt, is_gt, is_le, is_ge}
 use Rattle.std.specs.List.{starts_with, list_any}
-use Rattle.liquid_core.specs.Texts.{Text}
-use Rattle.liquid_core.specs.Data.{Datum, Pairs, nil, number, array, object, text_of, truthy, scalar}
-use Rattle.liquid_core.specs.Lists.{list_of, pair_lists}
-use Rattle.liquid_core.specs.Order.{same}
-use Rattle.liquid_core.specs.Compare.{compare}
-use Rattle.liquid_core.specs.Find.{value_at}
-use Rattle.liquid_core.specs.Whole.{whole}
-use Rattle.liquid_core.specs.declared.error.ErrorKind.{ErrorKind}
-use Rattle.liquid_core.specs.declared.error.ErrorKind.TheVariants.{UnknownVariable, UnexpectedValue, RangeTooLong}
-use Rattle.liquid_core.specs.Fallible.{◌>>=◌}
+use Rattle.liquid_model.specs.Texts.{Text}
+use Rattle.liquid_model.specs.Data.{Datum, Pairs, nil, number, array, object, text_of, truthy, scalar}
+use Rattle.liquid_model.specs.Lists.{list_of, pair_lists}
+use Rattle.liquid_model.specs.Order.{same}
+use Rattle.liquid_model.specs.Compare.{compare}
+use Rattle.liquid_model.specs.Find.{value_at}
+use Rattle.liquid_model.specs.Whole.{whole}
+use Rattle.liquid_model.specs.declared.error.ErrorKind.{ErrorKind}
+use Rattle.liquid_model.specs.declared.error.ErrorKind.TheVariants.{UnknownVariable, UnexpectedValue, RangeTooLong}
+use Rattle.liquid_model.specs.Fallible.{◌>>=◌}
 use Rattle.liquid_core.specs.Expression.{Expression}
 use Rattle.liquid_core.specs.Environment.{Environment}
 use Rattle.liquid_core.specs.Expressions.{value_of, required, needed_whole}

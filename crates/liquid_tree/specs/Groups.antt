@@ -1,8 +1,8 @@
 -- The group of a `cycle`, whose index the runs of all tags of that group share.
 use Rattle.std.specs.Prelude.{List, [], ◌∷◌, Option, Some, None, codes}
 use Rattle.std.specs.List.{join_by}
-use Rattle.liquid_core.specs.Texts.{Text}
-use Rattle.liquid_core.specs.Data.{text_of}
+use Rattle.liquid_model.specs.Texts.{Text}
+use Rattle.liquid_model.specs.Data.{text_of}
 use Rattle.liquid_core.specs.Expression.{Expression, literal, variable}
 use Rattle.liquid_core.specs.Written.{written_form}
 

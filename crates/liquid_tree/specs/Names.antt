@@ -4,7 +4,7 @@
 -- Texts are no names: the name of a `cycle` (its group) and that of a jekyll `include` give none.
 use Rattle.std.specs.Prelude.{List, [], ◌∷◌, ◌++◌, Option, Some, None, codes}
 use Rattle.std.specs.List.{list_any}
-use Rattle.liquid_core.specs.Texts.{Text, same_text}
+use Rattle.liquid_model.specs.Texts.{Text, same_text}
 use Rattle.liquid_core.specs.Expression.{Expression, literal, variable, Steps, no_steps, step}
 use Rattle.liquid_tree.specs.Tree.{FilterCall, Chain, Atom, bare, compared, Condition, Source, each_of, counted, Window, Bindings, Node, output, assign, increment, decrement, cycle, if_true, unless, case_of, for_each, tablerow, capture, ifchanged, include, jekyll_include, render, Nodes, no_nodes, node, Whens, no_whens, when}
 use Rattle.liquid_core.specs.Environment.{Names}

@@ -1,6 +1,6 @@
 -- Templates as trees: what a source says, without its spelling.
 use Rattle.std.specs.Prelude.{Bool, List, Option}
-use Rattle.liquid_core.specs.Texts.{Text}
+use Rattle.liquid_model.specs.Texts.{Text}
 use Rattle.liquid_core.specs.Expression.{Expression}
 use Rattle.liquid_filters.specs.declared.kind.FilterKind.{FilterKind}
 use Rattle.liquid_tree.specs.declared.comparison.ComparisonOperator.{ComparisonOperator}

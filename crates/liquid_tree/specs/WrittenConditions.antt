@@ -1,7 +1,7 @@
 -- The written form of a condition: how it stands in a template's source.
 use Rattle.std.specs.Prelude.{List, ◌++◌, codes}
 use Rattle.std.specs.List.{join_by}
-use Rattle.liquid_core.specs.Texts.{Text}
+use Rattle.liquid_model.specs.Texts.{Text}
 use Rattle.liquid_core.specs.Written.{written_form}
 use Rattle.liquid_tree.specs.Tree.{Atom, bare, compared, Condition}
 use Rattle.liquid_tree.specs.declared.comparison.ComparisonOperator.{ComparisonOperator}

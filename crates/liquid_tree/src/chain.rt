@@ -43,11 +43,11 @@ pub struct FilterChain {
 }
 
 impl FilterChain {
-    ghost use Rattle.liquid_core.specs.Answer.{Answers};
-    ghost use Rattle.liquid_core.specs.Cow.{cow_view};
+    ghost use Rattle.liquid_model.specs.Answer.{Answers};
+    ghost use Rattle.liquid_model.specs.Cow.{cow_view};
     ghost use Rattle.liquid_core.specs.Expressions.{value_of};
     ghost use Rattle.liquid_core.specs.States.{environment_of};
-    ghost use Rattle.liquid_core.specs.View.{view};
+    ghost use Rattle.liquid_model.specs.View.{view};
     ghost use Rattle.liquid_filters.specs.Kinds.{kind_answer};
     ghost use Rattle.liquid_tree.specs.ChainView.{chain_view};
     ghost use Rattle.liquid_tree.specs.Evaluation.{chain_value, entry_value};

@@ -1,8 +1,8 @@
 //! How two values are compared.
 ghost use Rattle.std.specs.Prelude.{◌≡◌, Ok, Some, List, string_bytes, ℕ};
-ghost use Rattle.liquid_core.specs.Answer.{Answers, Gives};
-ghost use Rattle.liquid_core.specs.Data.{text_of, scalar};
-ghost use Rattle.liquid_core.specs.View.{view, pairs_view};
+ghost use Rattle.liquid_model.specs.Answer.{Answers, Gives};
+ghost use Rattle.liquid_model.specs.Data.{text_of, scalar};
+ghost use Rattle.liquid_model.specs.View.{view, pairs_view};
 ghost use Rattle.liquid_tree.specs.Evaluation.{comparison_truth, contains, has_key, occurs_in};
 ghost use Rattle.liquid_tree.specs.WrittenConditions.{written_operator};
 
@@ -86,7 +86,7 @@ impl fmt::Display for ComparisonOperator {
 }
 
 /// Whether the left value has the right one in it: a list as an item, a map as a key, a scalar in its text.
-#[tactic(auto, using(liquid_core::proofs::Views::list_of_view))]
+#[tactic(auto, using(liquid_model::proofs::Views::list_of_view))]
 fn contains(alloc: Global, left: &Value, right: &Value) -> Result<bool>
     ensures { Answers (λ b. b) result (contains (view left.now) (view right.now)) }
 {

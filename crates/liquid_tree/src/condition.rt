@@ -1,7 +1,7 @@
 //! Conditions of `if`, `elsif` and `unless`.
 ghost use Rattle.std.specs.Prelude.{◌≡◌, Some, map};
 ghost use Rattle.std.specs.Fmt.{WritesOnOk};
-ghost use Rattle.liquid_core.specs.Answer.{Answers};
+ghost use Rattle.liquid_model.specs.Answer.{Answers};
 ghost use Rattle.liquid_core.specs.States.{environment_of};
 ghost use Rattle.liquid_tree.specs.ConditionView.{atom_view, atoms_view, condition_view};
 ghost use Rattle.liquid_tree.specs.Evaluation.{atom_truth, all_true, truth_of};

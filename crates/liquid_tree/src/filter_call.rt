@@ -1,11 +1,11 @@
 //! Filters in order, for filters of any type.
 ghost use Rattle.std.specs.Prelude.{◌≡◌, length, map, All, IsTrue, IfOk};
-ghost use Rattle.liquid_core.specs.Answer.{Answers};
-ghost use Rattle.liquid_core.specs.Cow.{cow_view};
+ghost use Rattle.liquid_model.specs.Answer.{Answers};
+ghost use Rattle.liquid_model.specs.Cow.{cow_view};
 ghost use Rattle.liquid_core.specs.Expressions.{all_required};
 ghost use Rattle.liquid_core.specs.ExpressionView.{expression_view};
 ghost use Rattle.liquid_core.specs.States.{environment_of};
-ghost use Rattle.liquid_core.specs.View.{view};
+ghost use Rattle.liquid_model.specs.View.{view};
 ghost use Rattle.liquid_tree.specs.Calls.{applied, call_of};
 
 use liquid_core::{Expression, Filter, Result, State, Value, ValueCow};

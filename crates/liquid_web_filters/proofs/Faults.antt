@@ -1,9 +1,9 @@
 -- A fault that was told is the wanted one.
 use Rattle.std.proofs.Common.{◌≡◌, Bool, true, false, MatchBool, Result, Err, sym, ap, ◌∙◌}
 use Rattle.std.specs.Bool.{⊤}
-use Rattle.liquid_core.specs.Answer.{Faulted}
-use Rattle.liquid_core.specs.Told.{Told, is_memory, is_refusal}
-use Rattle.liquid_core.specs.declared.error.ErrorKind.{ErrorKind}
+use Rattle.liquid_model.specs.Answer.{Faulted}
+use Rattle.liquid_model.specs.Told.{Told, is_memory, is_refusal}
+use Rattle.liquid_model.specs.declared.error.ErrorKind.{ErrorKind}
 
 told_at : {Y : Type 0} (b : Bool) (wanted : Result Y ErrorKind) (kind told : ErrorKind) → MatchBool b ⊤ (kind ≡ told) → wanted ≡ Err kind → is_refusal kind ≡ false
     → MatchBool b ⊤ ((wanted ≡ Err told) × (is_refusal told ≡ false))

@@ -6,10 +6,10 @@ use Rattle.std.proofs.lemmas.Str.{encode_ascii, encodes-chars, chars-encodes, sc
 use Rattle.std.specs.List.{flat_map}
 use Rattle.std.specs.Str.{chars, encode_utf8_all, IsUtf8}
 use lib.Utf8.{encode, encodes, scalar, scalars}
-use Rattle.liquid_core.specs.Answer.{IsTheOne}
-use Rattle.liquid_core.specs.Data.{Datum, nil, truth, number, text, array, object, text_of}
-use Rattle.liquid_core.specs.Fallible.{◌>>=◌}
-use Rattle.liquid_core.specs.Texts.{Text}
+use Rattle.liquid_model.specs.Answer.{IsTheOne}
+use Rattle.liquid_model.specs.Data.{Datum, nil, truth, number, text, array, object, text_of}
+use Rattle.liquid_model.specs.Fallible.{◌>>=◌}
+use Rattle.liquid_model.specs.Texts.{Text}
 use Rattle.liquid_list_filters.specs.Arguments.{Answer}
 use Rattle.liquid_list_filters.specs.Text.{Texts}
 use Rattle.liquid_web_filters.specs.Escapes.{escape_answer, escape_once_answer, escaped, escaped_byte, escaped_letter, escaped_once, once_letter}

@@ -2,9 +2,9 @@
 use Rattle.std.proofs.Common.{◌≡◌, ℕ, zero, suc, ◌+◌, ◌-◌, ◌<◌, ◌≤◌, Bool, true, false, ltb, List, [], ◌∷◌, ◌++◌, codes, length, take, drop, Option, Some, None, option_map, Ok, refl, ap, subst, sym, ◌∙◌, arith, if◌then◌else◌}
 use Rattle.std.proofs.lemmas.Bool.Decides.{nat_tests}
 use Rattle.std.specs.Str.{chars, encode_utf8_all}
-use Rattle.liquid_core.specs.Answer.{IsTheOne}
-use Rattle.liquid_core.specs.Data.{Datum, text, text_of}
-use Rattle.liquid_core.specs.Texts.{Text}
+use Rattle.liquid_model.specs.Answer.{IsTheOne}
+use Rattle.liquid_model.specs.Data.{Datum, text, text_of}
+use Rattle.liquid_model.specs.Texts.{Text}
 use Rattle.liquid_list_filters.specs.Text.{Texts}
 use Rattle.liquid_web_filters.specs.HtmlLaws.{CutsPairs, IsFirstPair, OpensPair, Passes, StripsHtml}
 use Rattle.liquid_web_filters.specs.Tags.{begins_mark, first_mark, is_opener, strip_html, strip_html_answer, without_pairs}

@@ -10,7 +10,7 @@ use Rattle.liquid_web_filters.specs.Urls.{text_of_bytes, is_kept, url_escaped, u
 use Rattle.std.proofs.lemmas.Bool.Decides.{nat_tests}
 use Rattle.std.specs.Str.{IsUtf8, is_utf8}
 use Rattle.std.proofs.lemmas.Str.{IsUtf8-from_is_utf8, is_utf8-from_IsUtf8}
-use Rattle.liquid_core.specs.declared.error.ErrorKind.TheVariants.{InvalidInput}
+use Rattle.liquid_model.specs.declared.error.ErrorKind.TheVariants.{InvalidInput}
 use Rattle.liquid_web_filters.specs.declared.stdlib.filters.url.TheConstants.{ESCAPED}
 
 abbrev same_bool : Bool → Bool → Bool

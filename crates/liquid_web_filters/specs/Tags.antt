@@ -3,8 +3,8 @@ use Rattle.std.specs.Prelude.{◌≡◌, ℕ, zero, suc, ◌-◌, ◌+◌, Bool,
 use Rattle.std.specs.Char.{to_ascii_lowercase}
 use Rattle.std.specs.List.{list_all}
 use Rattle.std.specs.Str.{chars, encode_utf8_all}
-use Rattle.liquid_core.specs.Data.{Datum}
-use Rattle.liquid_core.specs.Texts.{Text}
+use Rattle.liquid_model.specs.Data.{Datum}
+use Rattle.liquid_model.specs.Texts.{Text}
 use Rattle.liquid_list_filters.specs.Arguments.{Answer}
 use Rattle.liquid_list_filters.specs.Text.{of_text}
 

@@ -1,9 +1,9 @@
 use Rattle.std.proofs.Common.{rules, ◌≡◌, ◌∷◌, ◌+◌, Some, None, get_or, drop, refl, sym, ap, ◌∙◌, arith}
 use Rattle.std.specs.Option.{option_map}
 use Rattle.std.proofs.lemmas.List.{drop_more, drop_all}
-use Rattle.liquid_core.specs.Cow.{cow_view}
+use Rattle.liquid_model.specs.Cow.{cow_view}
 use Rattle.liquid_core.specs.States.{environment_of}
-use Rattle.liquid_core.specs.Found.{found_view}
+use Rattle.liquid_model.specs.Found.{found_view}
 use Rattle.liquid_core.proofs.ExpressionViews.{literal_is, value_from, no_part, no_step, no_more}
 use Rattle.liquid_core.proofs.Steps.{literal_value}
 use Rattle.liquid_core.proofs.expression.+value.Goals as goal

@@ -1,5 +1,5 @@
 use Rattle.std.proofs.Common.{◌≡◌, drop}
-use Rattle.liquid_core.specs.Found.{found_view}
+use Rattle.liquid_model.specs.Found.{found_view}
 use Rattle.liquid_core.specs.ExpressionView.{steps_view}
 use Rattle.liquid_core.specs.States.{environment_of}
 use Rattle.liquid_core.proofs.Steps.{led}

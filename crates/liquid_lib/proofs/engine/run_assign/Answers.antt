@@ -1,9 +1,9 @@
 use Rattle.std.proofs.Common.{rules}
 use Rattle.std.proofs.lemmas.Result.{err_from_is_err_and}
-use Rattle.liquid_core.specs.Answer.{Gives}
-use Rattle.liquid_core.specs.View.{view}
+use Rattle.liquid_model.specs.Answer.{Gives}
+use Rattle.liquid_model.specs.View.{view}
 use Rattle.liquid_core.specs.States.{environment_of, layers_of, with_assigned}
-use Rattle.liquid_core.specs.declared.value.Value.{Value}
+use Rattle.liquid_model.specs.declared.value.Value.{Value}
 use Rattle.liquid_filters.specs.Kinds.{kind_answer}
 use Rattle.liquid_tree.specs.ChainView.{chain_view}
 use Rattle.liquid_tree.specs.Evaluation.{chain_value}

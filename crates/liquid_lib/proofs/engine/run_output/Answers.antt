@@ -1,9 +1,9 @@
 use Rattle.std.proofs.Common.{ap}
 use Rattle.std.proofs.lemmas.Result.{err_from_is_err_and}
-use Rattle.liquid_core.specs.Cow.{cow_view}
-use Rattle.liquid_core.specs.Data.{text_of}
+use Rattle.liquid_model.specs.Cow.{cow_view}
+use Rattle.liquid_model.specs.Data.{text_of}
 use Rattle.liquid_core.specs.States.{environment_of}
-use Rattle.liquid_core.specs.declared.cow.ValueCow.{ValueCow}
+use Rattle.liquid_model.specs.declared.cow.ValueCow.{ValueCow}
 use Rattle.liquid_filters.specs.Kinds.{kind_answer}
 use Rattle.liquid_tree.specs.ChainView.{chain_view}
 use Rattle.liquid_tree.specs.Evaluation.{chain_value}

@@ -4,8 +4,8 @@ use mir.Val.{to_z, of_z}
 use mir.Syntax.{w64}
 use Rattle.std.proofs.lemmas.List.{drop_more, drop_all}
 use Rattle.std.proofs.lemmas.Result.{err_from_is_err_and}
-use Rattle.liquid_core.specs.Data.{number, text_of, items_text, pairs_text}
-use Rattle.liquid_core.specs.View.{view, items_view, pairs_view}
+use Rattle.liquid_model.specs.Data.{number, text_of, items_text, pairs_text}
+use Rattle.liquid_model.specs.View.{view, items_view, pairs_view}
 use Rattle.liquid_lib.specs.Performs.{Writes}
 use Rattle.liquid_lib.specs.Sinks.{sink_of}
 use Rattle.liquid_lib.proofs.Pieces.{GoesOn, writes_as, goes_on, goes_wrong, goes_to_end, next_pair}

@@ -1,6 +1,6 @@
 use Rattle.std.proofs.Common.{◌≡◌, drop}
-use Rattle.liquid_core.specs.Data.{items_text, pairs_text}
-use Rattle.liquid_core.specs.View.{items_view, pairs_view}
+use Rattle.liquid_model.specs.Data.{items_text, pairs_text}
+use Rattle.liquid_model.specs.View.{items_view, pairs_view}
 use Rattle.liquid_lib.specs.Sinks.{sink_of}
 use Rattle.liquid_lib.proofs.Pieces.{GoesOn}
 use Rattle.liquid_lib.proofs.push_value.+push_value.Given as goal

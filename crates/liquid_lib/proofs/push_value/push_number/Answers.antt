@@ -1,5 +1,5 @@
 use Rattle.std.proofs.Common.{◌≡◌, rules}
-use Rattle.liquid_core.specs.Data.{number, text_of}
+use Rattle.liquid_model.specs.Data.{number, text_of}
 use Rattle.liquid_lib.proofs.Pieces.{writes_as}
 use Rattle.liquid_lib.proofs.push_value.push_number.Goals as goal
 

@@ -1,5 +1,5 @@
 use Rattle.std.proofs.Common.{[], rules, sym, subst}
-use Rattle.liquid_core.specs.Maps.{listed}
+use Rattle.liquid_model.specs.Maps.{listed}
 use Rattle.liquid_lib.specs.Standard.{AreNamed, standard_filters, with_filters}
 use Rattle.liquid_lib.specs.declared.standard.TheConstants.{STANDARD_FILTERS}
 use Rattle.liquid_lib.proofs.Registered.{registered_named}

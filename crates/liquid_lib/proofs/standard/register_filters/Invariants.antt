@@ -1,5 +1,5 @@
 use Rattle.std.proofs.Common.{◌≡◌, drop}
-use Rattle.liquid_core.specs.Maps.{listed}
+use Rattle.liquid_model.specs.Maps.{listed}
 use Rattle.liquid_syntax.specs.Languages.{kinds_of}
 use Rattle.liquid_lib.specs.Standard.{with_filters}
 use Rattle.liquid_lib.proofs.standard.register_filters.Given as goal

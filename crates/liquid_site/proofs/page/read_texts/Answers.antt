@@ -1,5 +1,5 @@
 use Rattle.std.proofs.lemmas.Result.{err_from_is_err_and}
-use Rattle.liquid_core.specs.View.{pairs_view}
+use Rattle.liquid_model.specs.View.{pairs_view}
 use Rattle.liquid_syntax.specs.Templates.{tree_of}
 use Rattle.liquid_site.specs.Page.{Texts, sources_of}
 use Rattle.liquid_site.proofs.Reading.{template_refused, facts_refused, partials_refused}

@@ -2,7 +2,7 @@ use Rattle.std.proofs.Common.{◌≡◌, sym, ap, ◌∙◌, map, string_bytes, 
 use Rattle.std.proofs.lemmas.List.{map-append}
 use Rattle.std.proofs.lemmas.Result.{err_from_is_err_and}
 use Rattle.liquid_core.specs.ExpressionView.{expression_view}
-use Rattle.liquid_core.specs.Maps.{listed}
+use Rattle.liquid_model.specs.Maps.{listed}
 use Rattle.liquid_source.specs.Readers.{Fails}
 use Rattle.liquid_source.specs.Tokens.{tokens_view}
 use Rattle.liquid_tree.specs.ChainView.{chain_filter_view}

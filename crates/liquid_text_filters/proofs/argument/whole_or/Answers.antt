@@ -1,7 +1,7 @@
 use Rattle.std.proofs.Common.{ℤ, ◌<◌, List, length, subst, sym, arith}
 use Rattle.std.proofs.lemmas.Bool.Decides.{nat_tests}
-use Rattle.liquid_core.specs.Answer.{Answers}
-use Rattle.liquid_core.specs.Data.{Datum}
+use Rattle.liquid_model.specs.Answer.{Answers}
+use Rattle.liquid_model.specs.Data.{Datum}
 use Rattle.liquid_text_filters.specs.Arguments.{whole_or}
 use Rattle.liquid_text_filters.proofs.Views.{drop_at}
 use Rattle.liquid_text_filters.proofs.argument.whole_or.Goals as goal

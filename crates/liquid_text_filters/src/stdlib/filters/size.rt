@@ -1,8 +1,8 @@
 //! The filter that measures a value.
 ghost use Rattle.std.specs.Prelude.{◌≡◌, length, nat_eq};
-ghost use Rattle.liquid_core.specs.Data.{text_of, truth, number};
-ghost use Rattle.liquid_core.specs.Find.{counted};
-ghost use Rattle.liquid_core.specs.View.{view};
+ghost use Rattle.liquid_model.specs.Data.{text_of, truth, number};
+ghost use Rattle.liquid_model.specs.Find.{counted};
+ghost use Rattle.liquid_model.specs.View.{view};
 ghost use Rattle.liquid_text_filters.specs.Size.{size_answer, size_of};
 
 use itoa::Buffer;

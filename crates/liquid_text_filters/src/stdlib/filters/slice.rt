@@ -1,7 +1,7 @@
 //! The filter that takes a part of a list or a text.
 ghost use Rattle.std.specs.Prelude.{◌&&◌, ◌≡◌, ◌≤◌, IfSome, length, map, nat_le};
-ghost use Rattle.liquid_core.specs.Answer.{Gives};
-ghost use Rattle.liquid_core.specs.View.{view};
+ghost use Rattle.liquid_model.specs.Answer.{Gives};
+ghost use Rattle.liquid_model.specs.View.{view};
 ghost use Rattle.liquid_text_filters.specs.Places.{start};
 ghost use Rattle.liquid_text_filters.specs.Slice.{items_part, part, slice_answer, text_part};
 

@@ -1,8 +1,8 @@
 use Rattle.std.proofs.Common.{map, ap, sym, ◌∙◌}
 use Rattle.std.proofs.lemmas.Result.{err_from_is_err_and}
-use Rattle.liquid_core.specs.Cow.{cow_view}
+use Rattle.liquid_model.specs.Cow.{cow_view}
 use Rattle.liquid_core.specs.States.{environment_of}
-use Rattle.liquid_core.specs.View.{view}
+use Rattle.liquid_model.specs.View.{view}
 use Rattle.liquid_tree.specs.Calls.{Call, call_of}
 use Rattle.liquid_tree.specs.declared.filter_call.FilterCall.{FilterCall}
 use Rattle.liquid_tree.proofs.Calls.{faulted_as, calls_more, calls_stop_at_argument, calls_stop, calls_end}

@@ -1,5 +1,5 @@
 use Rattle.std.proofs.Common.{◌≡◌, map, drop}
-use Rattle.liquid_core.specs.Cow.{cow_view}
+use Rattle.liquid_model.specs.Cow.{cow_view}
 use Rattle.liquid_core.specs.States.{environment_of}
 use Rattle.liquid_tree.specs.Calls.{applied, call_of}
 use Rattle.liquid_tree.proofs.filter_call.apply_to.Given as goal

@@ -1,11 +1,11 @@
 use Rattle.std.proofs.Common.{◌≡◌, [], ◌∷◌, ◌++◌, drop, map, ◌+◌, Ok, ap, sym, ◌∙◌, subst, rules}
 use Rattle.std.proofs.lemmas.List.{map-append}
 use Rattle.std.proofs.lemmas.Result.{err_from_is_err_and}
-use Rattle.liquid_core.specs.Cow.{cow_view}
-use Rattle.liquid_core.specs.View.{view}
+use Rattle.liquid_model.specs.Cow.{cow_view}
+use Rattle.liquid_model.specs.View.{view}
 use Rattle.liquid_core.specs.ExpressionView.{expression_view}
 use Rattle.liquid_core.specs.Expressions.{all_required}
-use Rattle.liquid_core.specs.Fallible.{◌>>=◌}
+use Rattle.liquid_model.specs.Fallible.{◌>>=◌}
 use Rattle.liquid_core.specs.States.{environment_of}
 use Rattle.liquid_tree.proofs.Calls.{arguments_more, arguments_stop, arguments_end}
 use Rattle.liquid_tree.proofs.filter_call.evaluate_all.Goals as goal

@@ -1,9 +1,9 @@
 use Rattle.std.proofs.Common.{◌≡◌, ◌++◌, length, map, drop, Ok}
 use Rattle.liquid_core.specs.Expressions.{all_required}
 use Rattle.liquid_core.specs.ExpressionView.{expression_view}
-use Rattle.liquid_core.specs.Fallible.{◌>>=◌}
+use Rattle.liquid_model.specs.Fallible.{◌>>=◌}
 use Rattle.liquid_core.specs.States.{environment_of}
-use Rattle.liquid_core.specs.View.{view}
+use Rattle.liquid_model.specs.View.{view}
 use Rattle.liquid_tree.proofs.filter_call.evaluate_all.Given as goal
 
 abbrev pub invariant-loop-expression : goal.invariant-loop-expression

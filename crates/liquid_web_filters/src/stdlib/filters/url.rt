@@ -1,6 +1,6 @@
 //! Filters over URLs.
 ghost use Rattle.std.specs.Prelude.{◌≡◌, ◌==◌, if◌then◌else◌, map, nat_eq, string_bytes};
-ghost use Rattle.liquid_core.specs.Answer.{Answers, Gives};
+ghost use Rattle.liquid_model.specs.Answer.{Answers, Gives};
 ghost use Rattle.liquid_web_filters.specs.Urls.{plus_to_space, text_of_bytes, unescaped, url_decode_answer, url_encode_answer, url_escaped};
 
 use liquid_core::{Error, ErrorKind, Filter, Result, Value};

@@ -1,5 +1,5 @@
 use Rattle.std.proofs.Common.{string_bytes, ap, ◌∙◌, subst}
-use Rattle.liquid_core.specs.Answer.{Answers}
+use Rattle.liquid_model.specs.Answer.{Answers}
 use Rattle.liquid_core.specs.Environment.{cut}
 use Rattle.liquid_core.specs.States.{environment_of}
 use Rattle.liquid_syntax.specs.Templates.{tree_of}

@@ -1,8 +1,8 @@
 //! The filters that take an end of a list or a text.
 ghost use Rattle.std.specs.Prelude.{◌≡◌, ◌++◌, ◌∷◌, [], MatchOption, map, nat_eq, option_map, string_bytes, IsTrue, length};
 ghost use Rattle.std.specs.Str.{chars};
-ghost use Rattle.liquid_core.specs.Answer.{Answers, Gives};
-ghost use Rattle.liquid_core.specs.View.{view, items_view};
+ghost use Rattle.liquid_model.specs.Answer.{Answers, Gives};
+ghost use Rattle.liquid_model.specs.View.{view, items_view};
 ghost use Rattle.liquid_list_filters.specs.Laws.{OfEnds};
 ghost use Rattle.liquid_list_filters.specs.Places.{EndsWith, StartsWith};
 ghost use Rattle.liquid_list_filters.specs.Stands.{Stands};

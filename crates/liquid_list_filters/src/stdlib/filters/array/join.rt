@@ -1,9 +1,9 @@
 //! The filter that joins a list into a text.
 ghost use Rattle.std.specs.Prelude.{map, nat_le, string_bytes, IsTrue, length};
-ghost use Rattle.liquid_core.specs.Answer.{Answers, Gives};
-ghost use Rattle.liquid_core.specs.Data.{text_of};
-ghost use Rattle.liquid_core.specs.Lists.{list_of};
-ghost use Rattle.liquid_core.specs.View.{view, items_view};
+ghost use Rattle.liquid_model.specs.Answer.{Answers, Gives};
+ghost use Rattle.liquid_model.specs.Data.{text_of};
+ghost use Rattle.liquid_model.specs.Lists.{list_of};
+ghost use Rattle.liquid_model.specs.View.{view, items_view};
 ghost use Rattle.liquid_list_filters.specs.Laws.{Joins};
 ghost use Rattle.liquid_list_filters.specs.Stands.{Stands};
 ghost use Rattle.liquid_list_filters.specs.Joined.{join_answer, join_by, joined};

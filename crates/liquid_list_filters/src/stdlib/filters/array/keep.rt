@@ -1,9 +1,9 @@
 //! The filters that keep some of a list's items.
 ghost use Rattle.std.specs.Prelude.{◌≡◌, IsTrue, ◌&&◌, nat_eq, nat_le, map, option_map, length};
-ghost use Rattle.liquid_core.specs.Answer.{Answers, Gives};
-ghost use Rattle.liquid_core.specs.Data.{text_of};
-ghost use Rattle.liquid_core.specs.Lists.{list_of};
-ghost use Rattle.liquid_core.specs.View.{view, items_view};
+ghost use Rattle.liquid_model.specs.Answer.{Answers, Gives};
+ghost use Rattle.liquid_model.specs.Data.{text_of};
+ghost use Rattle.liquid_model.specs.Lists.{list_of};
+ghost use Rattle.liquid_model.specs.View.{view, items_view};
 ghost use Rattle.liquid_list_filters.specs.Arguments.{first_of};
 ghost use Rattle.liquid_list_filters.specs.Laws.{Compacts, Maps, Uniqs, Wheres};
 ghost use Rattle.liquid_list_filters.specs.Stands.{Stands, WithFirst};

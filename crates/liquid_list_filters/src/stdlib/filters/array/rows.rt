@@ -1,8 +1,8 @@
 //! The filters that put lists into another row.
 ghost use Rattle.std.specs.Prelude.{◌++◌, nat_eq, map, reverse, IsTrue, length};
-ghost use Rattle.liquid_core.specs.Answer.{Answers, Gives};
-ghost use Rattle.liquid_core.specs.Lists.{list_of};
-ghost use Rattle.liquid_core.specs.View.{view, items_view};
+ghost use Rattle.liquid_model.specs.Answer.{Answers, Gives};
+ghost use Rattle.liquid_model.specs.Lists.{list_of};
+ghost use Rattle.liquid_model.specs.View.{view, items_view};
 ghost use Rattle.liquid_list_filters.specs.Laws.{Concats, Reverses};
 ghost use Rattle.liquid_list_filters.specs.Stands.{Stands, WithFirst};
 ghost use Rattle.liquid_list_filters.specs.Rows.{concat_by, concat_answer, reverse_answer};

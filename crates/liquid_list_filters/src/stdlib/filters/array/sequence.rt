@@ -1,7 +1,7 @@
 //! Values as lists of items, and the properties of maps.
 ghost use Rattle.std.specs.Prelude.{◌≡◌, option_map};
-ghost use Rattle.liquid_core.specs.Lists.{list_of};
-ghost use Rattle.liquid_core.specs.View.{view, items_view};
+ghost use Rattle.liquid_model.specs.Lists.{list_of};
+ghost use Rattle.liquid_model.specs.View.{view, items_view};
 ghost use Rattle.liquid_list_filters.specs.Sequences.{all_maps, property, sequence};
 
 use liquid_core::{Value, look_up};

@@ -1,9 +1,9 @@
 //! The filters that sort.
 ghost use Rattle.std.specs.Prelude.{◌≡◌, nat_le, map, option_map, IsTrue, length};
-ghost use Rattle.liquid_core.specs.Answer.{Answers, Gives};
-ghost use Rattle.liquid_core.specs.Cow.{cow_view};
-ghost use Rattle.liquid_core.specs.Lists.{list_of};
-ghost use Rattle.liquid_core.specs.View.{view, items_view};
+ghost use Rattle.liquid_model.specs.Answer.{Answers, Gives};
+ghost use Rattle.liquid_model.specs.Cow.{cow_view};
+ghost use Rattle.liquid_model.specs.Lists.{list_of};
+ghost use Rattle.liquid_model.specs.View.{view, items_view};
 ghost use Rattle.liquid_list_filters.specs.Laws.{Sorts};
 ghost use Rattle.liquid_list_filters.specs.Stands.{Stands};
 ghost use Rattle.liquid_list_filters.specs.Keyed.{key_view, keyed_view, keyed_below};

@@ -1,7 +1,7 @@
 //! Sums, differences, products, quotients and remainders.
 ghost use Rattle.std.specs.Prelude.{◌≡◌, ◌≢◌, IsTrue, length, map, nat_eq, pos, int_div};
-ghost use Rattle.liquid_core.specs.Answer.{Answers, TakesNoMemory};
-ghost use Rattle.liquid_core.specs.View.{view};
+ghost use Rattle.liquid_model.specs.Answer.{Answers, TakesNoMemory};
+ghost use Rattle.liquid_model.specs.View.{view};
 ghost use Rattle.liquid_number_filters.specs.Decimals.{if_fits};
 ghost use Rattle.liquid_number_filters.specs.Numbers.{of_one, plus, minus, times, divided_by, modulo};
 

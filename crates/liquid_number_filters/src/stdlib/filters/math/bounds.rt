@@ -1,7 +1,7 @@
 //! The greater and the lesser of two numbers, and the absolute value of one.
 ghost use Rattle.std.specs.Prelude.{IsTrue, length, map, nat_eq};
-ghost use Rattle.liquid_core.specs.Answer.{Answers, TakesNoMemory};
-ghost use Rattle.liquid_core.specs.View.{view};
+ghost use Rattle.liquid_model.specs.Answer.{Answers, TakesNoMemory};
+ghost use Rattle.liquid_model.specs.View.{view};
 ghost use Rattle.liquid_number_filters.specs.Numbers.{of_none, of_one, at_least, at_most, abs};
 
 use super::operands::{decimal_refused, is_decimal_text, operands, within_range};

@@ -4,7 +4,7 @@ ghost use Rattle.std.specs.Char.{is_ascii_digit};
 ghost use Rattle.std.specs.List.{list_all, list_any};
 ghost use Rattle.std.specs.Str.{all_ascii_digits};
 ghost use Rattle.std.specs.Str.Parse.{without_leading_sign, digits_value};
-ghost use Rattle.liquid_core.specs.Whole.{fits};
+ghost use Rattle.liquid_model.specs.Whole.{fits};
 ghost use Rattle.liquid_number_filters.specs.Decimals.{is_decimal, is_numeral, if_fits, IsReadFrom};
 ghost use Rattle.liquid_number_filters.specs.Rounding.{goes_away, signed, size};
 

@@ -1,9 +1,9 @@
 //! The whole numbers that a filter over numbers computes with.
 ghost use Rattle.std.specs.Prelude.{MatchOption, ⊤, false, true, ◌≡◌};
-ghost use Rattle.liquid_core.specs.Answer.{Answers, TakesNoMemory};
-ghost use Rattle.liquid_core.specs.Told.{Told};
-ghost use Rattle.liquid_core.specs.View.{view};
-ghost use Rattle.liquid_core.specs.declared.error.ErrorKind.TheVariants.{Float};
+ghost use Rattle.liquid_model.specs.Answer.{Answers, TakesNoMemory};
+ghost use Rattle.liquid_model.specs.Told.{Told};
+ghost use Rattle.liquid_model.specs.View.{view};
+ghost use Rattle.liquid_model.specs.declared.error.ErrorKind.TheVariants.{Float};
 ghost use Rattle.liquid_number_filters.specs.Decimals.{is_decimal_text};
 ghost use Rattle.liquid_number_filters.specs.Numbers.{operands, is_numeric, unlike, or_range};
 

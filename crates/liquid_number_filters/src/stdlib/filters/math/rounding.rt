@@ -1,7 +1,7 @@
 //! Decimal texts brought to whole numbers.
 ghost use Rattle.std.specs.Prelude.{IsTrue, ◌||◌, length, map, nat_eq};
-ghost use Rattle.liquid_core.specs.Answer.{Answers, TakesNoMemory};
-ghost use Rattle.liquid_core.specs.View.{view};
+ghost use Rattle.liquid_model.specs.Answer.{Answers, TakesNoMemory};
+ghost use Rattle.liquid_model.specs.View.{view};
 ghost use Rattle.liquid_number_filters.specs.Numbers.{of_none};
 ghost use Rattle.liquid_number_filters.specs.declared.stdlib.filters.math.decimal.Rounding.TheVariants.{Nearest, Up, Down};
 ghost use Rattle.liquid_number_filters.specs.Rounding.{round, rounded, rounded_to};

@@ -1,6 +1,6 @@
 //! Filters that change the case of letters, `A` to `Z` and `a` to `z` alone.
 ghost use Rattle.std.specs.Prelude.{nat_eq, string_bytes};
-ghost use Rattle.liquid_core.specs.Answer.{Gives};
+ghost use Rattle.liquid_model.specs.Answer.{Gives};
 ghost use Rattle.liquid_text_filters.specs.Case.{capitalize_answer, capitalized, downcase_answer, upcase_answer};
 
 use liquid_core::{Filter, Result, Value};

@@ -1,6 +1,6 @@
 //! Filters that join texts, and that replace parts of them.
 ghost use Rattle.std.specs.Prelude.{◌&&◌, ◌++◌, nat_eq, nat_le, string_bytes};
-ghost use Rattle.liquid_core.specs.Answer.{Gives};
+ghost use Rattle.liquid_model.specs.Answer.{Gives};
 ghost use Rattle.liquid_text_filters.specs.Operate.{append_answer, prepend_answer, remove_answer, remove_first_answer, replace_answer, replace_first_answer, replaced, replaced_first};
 
 use crate::argument::text_or;

@@ -1,8 +1,8 @@
 //! The filter that divides a text.
 ghost use Rattle.std.specs.Prelude.{◌<◌, length, map, nat_eq};
-ghost use Rattle.liquid_core.specs.Answer.{Gives};
-ghost use Rattle.liquid_core.specs.Data.{text as text_datum};
-ghost use Rattle.liquid_core.specs.View.{view};
+ghost use Rattle.liquid_model.specs.Answer.{Gives};
+ghost use Rattle.liquid_model.specs.Data.{text as text_datum};
+ghost use Rattle.liquid_model.specs.View.{view};
 ghost use Rattle.liquid_text_filters.specs.Pieces.{pieces, single_characters, split_by};
 ghost use Rattle.liquid_text_filters.specs.Split.{divided, split_answer};
 

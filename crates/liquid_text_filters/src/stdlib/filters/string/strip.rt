@@ -1,7 +1,7 @@
 //! Filters that cut white space, which is Unicode's White_Space, and newlines.
 ghost use Rattle.std.specs.Prelude.{[], ◌++◌, if◌then◌else◌, nat_eq, string_bytes};
 ghost use Rattle.std.specs.Char.{encode_utf8};
-ghost use Rattle.liquid_core.specs.Answer.{Gives};
+ghost use Rattle.liquid_model.specs.Answer.{Gives};
 ghost use Rattle.liquid_text_filters.specs.Strip.{is_newline, lstrip_answer, rstrip_answer, strip_answer, strip_newlines_answer, without_newlines};
 
 use liquid_core::{Filter, Result, Value};

@@ -1,9 +1,9 @@
 use Rattle.std.proofs.Common.{[], ◌∷◌, map, Result, ap, sym, ◌∙◌, subst}
 use Rattle.std.proofs.lemmas.Result.{err_from_is_err_and}
-use Rattle.liquid_core.specs.Answer.{Faulted}
-use Rattle.liquid_core.specs.Cow.{cow_view}
-use Rattle.liquid_core.specs.Data.{Datum}
-use Rattle.liquid_core.specs.declared.error.ErrorKind.{ErrorKind}
+use Rattle.liquid_model.specs.Answer.{Faulted}
+use Rattle.liquid_model.specs.Cow.{cow_view}
+use Rattle.liquid_model.specs.Data.{Datum}
+use Rattle.liquid_model.specs.declared.error.ErrorKind.{ErrorKind}
 use Rattle.liquid_core.specs.States.{environment_of}
 use Rattle.liquid_filters.specs.Kinds.{kind_answer}
 use Rattle.liquid_tree.specs.Calls.{Call, applied}

@@ -1,6 +1,6 @@
 //! Filters that write the letters with a meaning in HTML by their escapes.
 ghost use Rattle.std.specs.Prelude.{◌≡◌, ◌++◌, nat_eq, option_map, string_bytes};
-ghost use Rattle.liquid_core.specs.Answer.{Gives};
+ghost use Rattle.liquid_model.specs.Answer.{Gives};
 ghost use Rattle.liquid_web_filters.specs.Escapes.{ends_escape, escape_answer, escape_of, escape_once_answer, escaped, escaped_letter, escaped_once, once_letter};
 
 use liquid_core::{Filter, Result, Value};

@@ -1,6 +1,6 @@
 //! The filter that breaks lines.
 ghost use Rattle.std.specs.Prelude.{◌++◌, nat_eq, string_bytes};
-ghost use Rattle.liquid_core.specs.Answer.{Gives};
+ghost use Rattle.liquid_model.specs.Answer.{Gives};
 ghost use Rattle.liquid_web_filters.specs.LineBreaks.{broken, broken_letter, newline_to_br_answer};
 
 use liquid_core::{Filter, Result, Value};

@@ -1,6 +1,6 @@
 //! Marks of HTML, which open and close what is cut: found in characters, in either case.
 ghost use Rattle.std.specs.Prelude.{◌≡◌, ◌++◌, ◌<◌, IsTrue, MatchOption, drop, false, length, option_map, true};
-ghost use Rattle.liquid_core.specs.Answer.{Gives};
+ghost use Rattle.liquid_model.specs.Answer.{Gives};
 ghost use Rattle.liquid_web_filters.specs.Tags.{SplitsAtFirst, begins_mark, is_opener, stands_for, without_pairs, without_tags};
 
 use liquid_core::Result;

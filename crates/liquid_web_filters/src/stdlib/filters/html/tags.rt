@@ -1,7 +1,7 @@
 //! The filter that cuts tags.
 ghost use Rattle.std.specs.Prelude.{nat_eq, string_bytes};
 ghost use Rattle.std.specs.Str.{chars, encode_utf8_all};
-ghost use Rattle.liquid_core.specs.Answer.{Gives};
+ghost use Rattle.liquid_model.specs.Answer.{Gives};
 ghost use Rattle.liquid_web_filters.specs.Tags.{strip_html, strip_html_answer};
 
 use super::marks::without_tags;

@@ -1,6 +1,6 @@
 use Rattle.std.proofs.Common.{sym, ap, ◌∙◌}
-use Rattle.liquid_core.specs.View.{view}
-use Rattle.liquid_core.proofs.Views.{items_len_view, pairs_len_view, view-Array, view-Object}
+use Rattle.liquid_model.specs.View.{view}
+use Rattle.liquid_model.proofs.Views.{items_len_view, pairs_len_view, view-Array, view-Object}
 use Rattle.liquid_text_filters.specs.Size.{size_of}
 use Rattle.liquid_text_filters.proofs.stdlib.filters.size.len.Goals as goal
 

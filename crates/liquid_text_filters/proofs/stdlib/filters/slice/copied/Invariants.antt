@@ -1,5 +1,5 @@
 use Rattle.std.proofs.Common.{◌≡◌, ◌++◌, map, drop}
-use Rattle.liquid_core.specs.View.{view}
+use Rattle.liquid_model.specs.View.{view}
 use Rattle.liquid_text_filters.proofs.stdlib.filters.slice.copied.Given as goal
 
 abbrev pub invariant-loop-item : goal.invariant-loop-item

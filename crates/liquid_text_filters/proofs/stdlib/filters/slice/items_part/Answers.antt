@@ -1,9 +1,9 @@
 use Rattle.std.proofs.Common.{List, length, map, Vec, Global, w64, refl, subst, ap, ◌∙◌}
 use Rattle.std.proofs.lemmas.Int.{to_z-of_z}
-use Rattle.liquid_core.specs.Answer.{Gives}
-use Rattle.liquid_core.specs.Data.{Datum}
-use Rattle.liquid_core.specs.View.{view}
-use Rattle.liquid_core.specs.declared.value.Value.{Value}
+use Rattle.liquid_model.specs.Answer.{Gives}
+use Rattle.liquid_model.specs.Data.{Datum}
+use Rattle.liquid_model.specs.View.{view}
+use Rattle.liquid_model.specs.declared.value.Value.{Value}
 use Rattle.liquid_text_filters.specs.Places.{start}
 use Rattle.liquid_text_filters.proofs.Views.{items_part_is}
 use Rattle.liquid_text_filters.proofs.stdlib.filters.slice.items_part.Goals as goal

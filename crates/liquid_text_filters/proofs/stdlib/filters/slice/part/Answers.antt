@@ -1,6 +1,6 @@
 use Rattle.std.proofs.Common.{map, w64, ap, ◌∙◌}
 use Rattle.std.proofs.lemmas.Int.{to_z-of_z}
-use Rattle.liquid_core.specs.View.{view}
+use Rattle.liquid_model.specs.View.{view}
 use Rattle.liquid_text_filters.specs.Slice.{items_part}
 use Rattle.liquid_text_filters.proofs.Views.{view_part}
 use Rattle.liquid_text_filters.proofs.stdlib.filters.slice.part.Goals as goal

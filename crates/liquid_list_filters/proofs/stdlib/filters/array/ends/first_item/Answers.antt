@@ -1,7 +1,7 @@
 use Rattle.std.proofs.Common.{◌∙◌, ap, subst, option_map}
-use Rattle.liquid_core.proofs.Views.{view_of_ref}
-use Rattle.liquid_core.specs.Answer.{Gives}
-use Rattle.liquid_core.specs.View.{view}
+use Rattle.liquid_model.proofs.Views.{view_of_ref}
+use Rattle.liquid_model.specs.Answer.{Gives}
+use Rattle.liquid_model.specs.View.{view}
 use Rattle.liquid_list_filters.specs.Ends.{or_nil}
 use Rattle.liquid_list_filters.proofs.Ends.{item_at_view}
 use Rattle.liquid_list_filters.proofs.stdlib.filters.array.ends.first_item.Goals as goal

@@ -1,6 +1,6 @@
 use Rattle.std.proofs.Common.{◌≡◌, ◌++◌, map, drop}
-use Rattle.liquid_core.specs.Lists.{list_of}
-use Rattle.liquid_core.specs.View.{view, items_view}
+use Rattle.liquid_model.specs.Lists.{list_of}
+use Rattle.liquid_model.specs.View.{view, items_view}
 use Rattle.liquid_list_filters.specs.Keeping.{map_of}
 use Rattle.liquid_list_filters.proofs.stdlib.filters.array.keep.map_of.Given as goal
 

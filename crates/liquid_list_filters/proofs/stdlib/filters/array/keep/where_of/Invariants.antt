@@ -1,6 +1,6 @@
 use Rattle.std.proofs.Common.{◌≡◌, ◌++◌, map, drop, option_map}
-use Rattle.liquid_core.specs.Lists.{list_of}
-use Rattle.liquid_core.specs.View.{view, items_view}
+use Rattle.liquid_model.specs.Lists.{list_of}
+use Rattle.liquid_model.specs.View.{view, items_view}
 use Rattle.liquid_list_filters.specs.Keeping.{where_of}
 use Rattle.liquid_list_filters.proofs.stdlib.filters.array.keep.where_of.Given as goal
 

@@ -1,6 +1,6 @@
 use Rattle.std.proofs.Common.{◌≡◌, ◌++◌, map, drop}
-use Rattle.liquid_core.specs.Lists.{list_of}
-use Rattle.liquid_core.specs.View.{view, items_view}
+use Rattle.liquid_model.specs.Lists.{list_of}
+use Rattle.liquid_model.specs.View.{view, items_view}
 use Rattle.liquid_list_filters.proofs.stdlib.filters.array.rows.push_copies.Given as goal
 
 abbrev pub invariant-loop-item : goal.invariant-loop-item

@@ -1,5 +1,5 @@
 use Rattle.std.proofs.Common.{◌∙◌, ap, map, reverse}
-use Rattle.liquid_core.specs.View.{view}
+use Rattle.liquid_model.specs.View.{view}
 use Rattle.liquid_list_filters.proofs.Rows.{map_reverse}
 use Rattle.liquid_list_filters.proofs.stdlib.filters.array.rows.reversed.Goals as goal
 

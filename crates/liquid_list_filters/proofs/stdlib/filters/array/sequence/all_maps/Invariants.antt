@@ -1,6 +1,6 @@
 use Rattle.std.proofs.Common.{◌≡◌, drop}
-use Rattle.liquid_core.specs.Lists.{list_of}
-use Rattle.liquid_core.specs.View.{items_view}
+use Rattle.liquid_model.specs.Lists.{list_of}
+use Rattle.liquid_model.specs.View.{items_view}
 use Rattle.liquid_list_filters.specs.Sequences.{all_maps}
 use Rattle.liquid_list_filters.proofs.stdlib.filters.array.sequence.all_maps.Given as goal
 

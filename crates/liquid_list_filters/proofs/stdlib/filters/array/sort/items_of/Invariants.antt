@@ -1,5 +1,5 @@
 use Rattle.std.proofs.Common.{◌≡◌, ◌++◌, map, drop}
-use Rattle.liquid_core.specs.View.{view}
+use Rattle.liquid_model.specs.View.{view}
 use Rattle.liquid_list_filters.proofs.stdlib.filters.array.sort.items_of.Given as goal
 
 abbrev pub invariant-loop-entry : goal.invariant-loop-entry

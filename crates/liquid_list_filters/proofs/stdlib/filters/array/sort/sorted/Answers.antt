@@ -1,7 +1,7 @@
 use Rattle.std.proofs.Common.{Vec, Global, map, subst}
-use Rattle.liquid_core.specs.Answer.{Gives}
-use Rattle.liquid_core.specs.View.{view}
-use Rattle.liquid_core.specs.declared.value.Value.{Value}
+use Rattle.liquid_model.specs.Answer.{Gives}
+use Rattle.liquid_model.specs.View.{view}
+use Rattle.liquid_model.specs.declared.value.Value.{Value}
 use Rattle.liquid_list_filters.proofs.Keys.{sorted_items}
 use Rattle.liquid_list_filters.proofs.stdlib.filters.array.sort.sorted.Goals as goal
 

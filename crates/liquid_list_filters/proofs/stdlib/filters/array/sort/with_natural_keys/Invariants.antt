@@ -1,6 +1,6 @@
 use Rattle.std.proofs.Common.{◌≡◌, ◌++◌, map, drop, option_map}
-use Rattle.liquid_core.specs.Lists.{list_of}
-use Rattle.liquid_core.specs.View.{items_view}
+use Rattle.liquid_model.specs.Lists.{list_of}
+use Rattle.liquid_model.specs.View.{items_view}
 use Rattle.liquid_list_filters.specs.Keyed.{keyed_view}
 use Rattle.liquid_list_filters.specs.Sorting.{natural_key_of}
 use Rattle.liquid_list_filters.proofs.stdlib.filters.array.sort.with_natural_keys.Given as goal

@@ -1,7 +1,7 @@
 use Rattle.std.proofs.Common.{◌≡◌, ◌++◌, length, map}
 use denote.Text.{Utf8}
 use denote.Shadow.{shadow}
-use Rattle.liquid_core.specs.View.{view}
+use Rattle.liquid_model.specs.View.{view}
 use Rattle.liquid_text_filters.specs.Pieces.{pieces}
 use Rattle.liquid_text_filters.proofs.Splits.{text_data}
 use Rattle.liquid_text_filters.proofs.stdlib.filters.string.split.pieces.Given as goal

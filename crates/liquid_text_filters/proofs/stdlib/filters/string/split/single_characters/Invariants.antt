@@ -1,6 +1,6 @@
 use Rattle.std.proofs.Common.{◌≡◌, ◌++◌, map}
 use Rattle.std.specs.Str.{IsUtf8}
-use Rattle.liquid_core.specs.View.{view}
+use Rattle.liquid_model.specs.View.{view}
 use Rattle.liquid_text_filters.specs.Pieces.{single_characters}
 use Rattle.liquid_text_filters.proofs.Splits.{text_data, tail_of}
 use Rattle.liquid_text_filters.proofs.stdlib.filters.string.split.single_characters.Given as goal

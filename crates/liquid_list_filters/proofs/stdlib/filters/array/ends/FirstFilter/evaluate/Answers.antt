@@ -1,5 +1,5 @@
 use Rattle.std.proofs.Common.{map}
-use Rattle.liquid_core.specs.View.{view}
+use Rattle.liquid_model.specs.View.{view}
 use Rattle.liquid_list_filters.proofs.Standing.{firsts}
 use Rattle.liquid_list_filters.proofs.stdlib.filters.array.ends.FirstFilter.evaluate.Goals as goal
 

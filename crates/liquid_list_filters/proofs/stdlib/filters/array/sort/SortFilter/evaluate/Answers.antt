@@ -1,5 +1,5 @@
 use Rattle.std.proofs.Common.{map}
-use Rattle.liquid_core.specs.View.{view}
+use Rattle.liquid_model.specs.View.{view}
 use Rattle.liquid_list_filters.proofs.Standing.{sorts}
 use Rattle.liquid_list_filters.proofs.stdlib.filters.array.sort.SortFilter.evaluate.Goals as goal
 

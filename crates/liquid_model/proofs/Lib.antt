@@ -1,0 +1,5 @@
+pub mod Compares
+pub mod Lawful
+pub mod Maps
+pub mod Sizes
+pub mod Views

@@ -1,0 +1,239 @@
+//! Faults: what kind one is, and a message for who reads it.
+ghost use Rattle.std.specs.Prelude.{◌≡◌, Some, IfSome};
+ghost use Rattle.liquid_model.specs.Errors.{HasMessageUnlessMemory, error_text};
+ghost use Rattle.liquid_model.specs.Told.{Told, number_of, name_of};
+ghost use Rattle.liquid_model.specs.declared.error.ErrorKind.TheVariants.{Memory};
+
+use std::alloc::{AllocError, AllocFailed, Global};
+use std::fmt;
+
+/// What a call answers that can meet a fault.
+pub type Result<T> = std::result::Result<T, Error>;
+
+/// What kind of fault an `Error` is.
+#[derive(Clone, Copy, Debug, PartialEq, Eq, Drop)]
+pub enum ErrorKind {
+    /// A variable has no value where one is needed.
+    UnknownVariable,
+    /// The input of a filter, or the data, isn't of the kind that is needed.
+    InvalidInput,
+    /// An argument of a filter isn't of the kind that is needed.
+    InvalidArgument,
+    /// A value of another kind is needed, as a whole number or a list.
+    UnexpectedValue,
+    /// A whole number is beyond 64 bits.
+    NumberRange,
+    /// A division by 0.
+    DivideByZero,
+    /// A decimal number, which templates do not compute with.
+    Float,
+    /// A `cycle` without the value that its group stands at.
+    CycleBounds,
+    /// A `tablerow` with items and 0 columns.
+    ZeroColumns,
+    /// A loop's source with more than 9223372036854775807 items.
+    RangeTooLong,
+    /// No partial has the name.
+    UnknownPartial,
+    /// The name of a partial is no scalar.
+    PartialName,
+    /// Partials are nested beyond the runtime's depth.
+    TooDeep,
+    /// A pattern that `date` can't print.
+    DateFormat,
+    /// A time zone beyond 23 hours.
+    TimezoneRange,
+    /// What this library leaves out.
+    Unsupported,
+    /// No memory was to be had.
+    Memory,
+    /// The writer refused what was written.
+    Write,
+    /// The source ends inside an output, a tag or a quote.
+    Unclosed,
+    /// What stands where an item is wanted is none.
+    BadItem,
+    /// A number in the source is beyond 64 bits.
+    NumberLiteral,
+    /// A decimal number in the source.
+    FloatLiteral,
+    /// The words `empty` and `blank`, which this library leaves out.
+    StateWord,
+    /// No tag or block of the name.
+    UnknownTag,
+    /// No filter of the name.
+    UnknownFilter,
+    /// A filter with more or fewer arguments than it takes.
+    FilterArguments,
+    /// Another item is wanted, or none.
+    Expected,
+    /// The source ends inside a block.
+    MissingEnd,
+    /// Blocks or brackets are nested more than 200 deep.
+    TooNested,
+}
+
+impl ErrorKind {
+    /// The number of the kind: 1 to 18 of a run, 21 to 31 of a source.
+    pub fn number(self) -> u8
+        ensures { result ≡ number_of self }
+    {
+        match self {
+            ErrorKind::UnknownVariable => 1,
+            ErrorKind::InvalidInput => 2,
+            ErrorKind::InvalidArgument => 3,
+            ErrorKind::UnexpectedValue => 4,
+            ErrorKind::NumberRange => 5,
+            ErrorKind::DivideByZero => 6,
+            ErrorKind::Float => 7,
+            ErrorKind::CycleBounds => 8,
+            ErrorKind::ZeroColumns => 9,
+            ErrorKind::RangeTooLong => 10,
+            ErrorKind::UnknownPartial => 11,
+            ErrorKind::PartialName => 12,
+            ErrorKind::TooDeep => 13,
+            ErrorKind::DateFormat => 14,
+            ErrorKind::TimezoneRange => 15,
+            ErrorKind::Unsupported => 16,
+            ErrorKind::Memory => 17,
+            ErrorKind::Write => 18,
+            ErrorKind::Unclosed => 21,
+            ErrorKind::BadItem => 22,
+            ErrorKind::NumberLiteral => 23,
+            ErrorKind::FloatLiteral => 24,
+            ErrorKind::StateWord => 25,
+            ErrorKind::UnknownTag => 26,
+            ErrorKind::UnknownFilter => 27,
+            ErrorKind::FilterArguments => 28,
+            ErrorKind::Expected => 29,
+            ErrorKind::MissingEnd => 30,
+            ErrorKind::TooNested => 31,
+        }
+    }
+
+    /// The name of the kind, as it is written here.
+    pub fn name(self) -> &'static str
+        ensures { result.now ≡ name_of self }
+    {
+        match self {
+            ErrorKind::UnknownVariable => "UnknownVariable",
+            ErrorKind::InvalidInput => "InvalidInput",
+            ErrorKind::InvalidArgument => "InvalidArgument",
+            ErrorKind::UnexpectedValue => "UnexpectedValue",
+            ErrorKind::NumberRange => "NumberRange",
+            ErrorKind::DivideByZero => "DivideByZero",
+            ErrorKind::Float => "Float",
+            ErrorKind::CycleBounds => "CycleBounds",
+            ErrorKind::ZeroColumns => "ZeroColumns",
+            ErrorKind::RangeTooLong => "RangeTooLong",
+            ErrorKind::UnknownPartial => "UnknownPartial",
+            ErrorKind::PartialName => "PartialName",
+            ErrorKind::TooDeep => "TooDeep",
+            ErrorKind::DateFormat => "DateFormat",
+            ErrorKind::TimezoneRange => "TimezoneRange",
+            ErrorKind::Unsupported => "Unsupported",
+            ErrorKind::Memory => "Memory",
+            ErrorKind::Write => "Write",
+            ErrorKind::Unclosed => "Unclosed",
+            ErrorKind::BadItem => "BadItem",
+            ErrorKind::NumberLiteral => "NumberLiteral",
+            ErrorKind::FloatLiteral => "FloatLiteral",
+            ErrorKind::StateWord => "StateWord",
+            ErrorKind::UnknownTag => "UnknownTag",
+            ErrorKind::UnknownFilter => "UnknownFilter",
+            ErrorKind::FilterArguments => "FilterArguments",
+            ErrorKind::Expected => "Expected",
+            ErrorKind::MissingEnd => "MissingEnd",
+            ErrorKind::TooNested => "TooNested",
+        }
+    }
+}
+
+/// A fault: its kind, and a message that says what was found and what is wanted (none for `Memory` alone).
+#[derive(Debug, Drop)]
+pub struct Error {
+    pub kind: ErrorKind,
+    pub message: Option<String>,
+}
+
+impl Error {
+    /// A fault of this kind with this message, or `Memory` where there is no room for the message.
+    pub fn new(alloc: Global, kind: ErrorKind, message: &str) -> Error
+        ensures told { Told kind result.kind }
+        ensures message { HasMessageUnlessMemory message.now result }
+    {
+        match String::from_str(alloc, message) {
+            Ok(text) => Error::with_message(kind, text),
+            Err(refused) => Error::from(refused),
+        }
+    }
+
+    /// A fault of this kind with this message.
+    pub fn with_message(kind: ErrorKind, message: String) -> Error
+        ensures kind { result.kind ≡ kind }
+        ensures message { result.message ≡ Some message }
+    {
+        Error {
+            kind,
+            message: Some(message),
+        }
+    }
+
+    /// A fault of this kind with a message that is written out, as a `format_args!` is, or `Memory` where
+    /// there is no room for the message.
+    pub fn formatted<M: fmt::Display + Drop>(alloc: Global, kind: ErrorKind, message: M) -> Error
+        ensures told { Told kind result.kind }
+        ensures message { IfSome (M.output message) (λ written. HasMessageUnlessMemory written result) }
+    {
+        match message.to_string(alloc) {
+            Ok(written) => Error::with_message(kind, written),
+            Err(refused) => Error::from(refused),
+        }
+    }
+}
+
+/// The name of the kind.
+impl fmt::Display for ErrorKind {
+    ghost output = { λ kind. Some (name_of kind) };
+
+    fn fmt<W: fmt::Write>(&self, f: &mut fmt::Formatter<W>) -> fmt::Result {
+        f.write_str(self.name())
+    }
+}
+
+/// `KIND: MESSAGE`, or the kind alone where there is no message.
+impl fmt::Display for Error {
+    ghost output = { λ e. Some (error_text e) };
+
+    fn fmt<W: fmt::Write>(&self, f: &mut fmt::Formatter<W>) -> fmt::Result {
+        let kind = self.kind;
+        match &self.message {
+            Some(message) => write!(f, "{kind}: {message}"),
+            None => write!(f, "{kind}"),
+        }
+    }
+}
+
+impl std::error::Error for Error {}
+
+impl From<AllocError> for Error {
+    ghost from_gives = { λ _ e. e.kind ≡ Memory };
+
+    fn from(_refused: AllocError) -> Error {
+        Error {
+            kind: ErrorKind::Memory,
+            message: None,
+        }
+    }
+}
+
+impl<T: Drop> From<AllocFailed<T>> for Error {
+    ghost from_gives = { λ _ e. e.kind ≡ Memory };
+
+    fn from(_refused: AllocFailed<T>) -> Error {
+        Error {
+            kind: ErrorKind::Memory,
+            message: None,
+        }
+    }
+}

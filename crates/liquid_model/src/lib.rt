@@ -1,0 +1,22 @@
+//! Values and faults: what values are, how they are ordered, what is found in them, and what a fault says.
+#![tactic(auto)]
+
+mod compare;
+mod cow;
+mod digest;
+mod error;
+mod find;
+pub mod laws;
+mod object;
+mod order;
+mod text;
+mod value;
+mod whole;
+
+pub use cow::ValueCow;
+pub use error::{Error, ErrorKind, Result};
+pub use find::Found;
+pub use object::{look_up, store};
+pub use text::write_text;
+pub use value::{Object, Value, copy_items};
+pub use whole::whole_of;
