@@ -11,7 +11,6 @@ use Rattle.liquid_model.specs.Lists.{list_of, pair_lists}
 use Rattle.liquid_model.specs.Order.{same}
 use Rattle.liquid_model.specs.Compare.{compare}
 use Rattle.liquid_model.specs.Find.{value_at}
-use Rattle.liquid_model.specs.Whole.{whole}
 use Rattle.liquid_model.specs.declared.error.ErrorKind.{ErrorKind}
 use Rattle.liquid_model.specs.declared.error.ErrorKind.TheVariants.{UnknownVariable, UnexpectedValue, RangeTooLong}
 use Rattle.liquid_model.specs.Fallible.{◌>>=◌}
