@@ -23,7 +23,7 @@ faulted : (R : Answer → Type 0) (a : Answer) (k : ErrorKind) (m : Bool) → R 
 faulted R a k true h w = tt
 faulted R a k false h w = subst R w.0 h
 
-stands : (R : Answer → Type 0) (a : Answer) (r : Result Value Error) → IsTheOne R a → Answers view r a → Stands R r
+pub stands : (R : Answer → Type 0) (a : Answer) (r : Result Value Error) → IsTheOne R a → Answers view r a → Stands R r
 stands R a (Ok v) one w = subst R w ((one a).1 refl)
 stands R a (Err e) one w = faulted R a e.kind (is_memory e.kind) ((one a).1 refl) w
 
@@ -32,7 +32,7 @@ unsaid : (m : Bool) → MatchBool m ⊤ (Unit {0})
 unsaid true = tt
 unsaid false = tt
 
-none_given : (R : Datum → List Datum → Answer → Type 0) (r : Result Value Error) → Stands (WithFirst R []) r
+pub none_given : (R : Datum → List Datum → Answer → Type 0) (r : Result Value Error) → Stands (WithFirst R []) r
 none_given R (Ok v) = tt
 none_given R (Err e) = unsaid (is_memory e.kind)
 

@@ -3,3 +3,4 @@ pub mod Divisions
 pub mod Operations
 pub mod RoundingRelation
 pub mod Roundings
+pub mod Standing

@@ -1,5 +1,5 @@
 -- What the filters over numbers answer, in the words of arithmetic; each relation holds of one answer alone.
-use Rattle.std.specs.Prelude.{◌≡◌, ◌≢◌, ◌⊎◌, ℤ, pos, neg_ℤ, ◌+ℤ◌, ◌*ℤ◌, ◌≤ℤ◌, Bool, true, false, ◌&&◌, MatchBool, MatchOption, Ok, Err, Option, Some, None}
+use Rattle.std.specs.Prelude.{◌≡◌, ◌≢◌, ◌⊎◌, ℤ, pos, neg_ℤ, ◌+ℤ◌, ◌*ℤ◌, ◌≤ℤ◌, Bool, true, false, ◌&&◌, MatchBool, MatchOption, List, Ok, Err, Option, Some, None}
 use Rattle.std.specs.Ordering.{int_eq}
 use Rattle.liquid_model.specs.Answer.{IsTheOne}
 use Rattle.liquid_model.specs.Data.{Datum, number, scalar}
@@ -7,6 +7,7 @@ use Rattle.liquid_model.specs.Whole.{whole}
 use Rattle.liquid_model.specs.declared.error.ErrorKind.{ErrorKind}
 use Rattle.liquid_model.specs.declared.error.ErrorKind.TheVariants.{InvalidInput, InvalidArgument, DivideByZero, Float}
 use Rattle.liquid_list_filters.specs.Arguments.{Answer}
+use Rattle.liquid_list_filters.specs.Stands.{WithFirst}
 use Rattle.liquid_number_filters.specs.Decimals.{is_decimal_text}
 use Rattle.liquid_number_filters.specs.Division.{IsDivision}
 use Rattle.liquid_number_filters.specs.Numbers.{in_range, unlike, plus, minus, times, divided_by, modulo, at_least, at_most, abs}
@@ -45,6 +46,10 @@ StepsOf R divides true true kind a (Some b) x = MatchBool (divides && int_eq b (
 
 abbrev pub Steps : (ℤ → ℤ → Answer → Type 0) → Bool → Datum → Datum → Answer → Type 0
 Steps R divides d e x = StepsOf R divides (scalar d) (scalar e) (unlike d e) (whole d) (whole e) x
+
+-- with the first argument as the operand, where there is one
+abbrev pub StepsWith : (ℤ → ℤ → Answer → Type 0) → Bool → Datum → List Datum → Answer → Type 0
+StepsWith R divides d = WithFirst (λ e rest. Steps R divides d e)
 
 abbrev pub PlusIsOne : Type 0
 PlusIsOne = (d e : Datum) → IsTheOne (Steps IsSum false d e) (plus d e)

@@ -1,8 +1,10 @@
 //! Sums, differences, products, quotients and remainders.
-ghost use Rattle.std.specs.Prelude.{◌≡◌, ◌≢◌, IsTrue, length, map, nat_eq, pos, int_div};
+ghost use Rattle.std.specs.Prelude.{◌≡◌, ◌≢◌, IsTrue, false, length, map, nat_eq, pos, int_div, true};
 ghost use Rattle.liquid_model.specs.Answer.{Answers, TakesNoMemory};
 ghost use Rattle.liquid_model.specs.View.{view};
+ghost use Rattle.liquid_list_filters.specs.Stands.{Stands};
 ghost use Rattle.liquid_number_filters.specs.Decimals.{if_fits};
+ghost use Rattle.liquid_number_filters.specs.NumberLaws.{IsDifference, IsProduct, IsQuotient, IsRemainder, IsSum, StepsWith};
 ghost use Rattle.liquid_number_filters.specs.Numbers.{of_one, plus, minus, times, divided_by, modulo};
 
 use super::operands::{operands, within_range};
@@ -26,11 +28,20 @@ impl Filter for Plus {
     fn evaluate(&self, alloc: Global, input: &Value, args: &[Value]) -> Result<Value>
         requires { IsTrue (nat_eq (length args.now) 1) }
         ensures answer { Answers view result (of_one plus (view input.now) (map view args.now)) }
+        ensures relation { Stands (StepsWith IsSum false (view input.now) (map view args.now)) result }
         ensures no_memory { TakesNoMemory result (of_one plus (view input.now) (map view args.now)) }
     {
-        let (a, b) = operands(alloc, input, &args[0], false)?;
-        within_range(alloc, a.checked_add(b))
+        plus_answer(alloc, input, args)
     }
+}
+
+fn plus_answer(alloc: Global, input: &Value, args: &[Value]) -> Result<Value>
+    requires { IsTrue (nat_eq (length args.now) 1) }
+    ensures answer { Answers view result (of_one plus (view input.now) (map view args.now)) }
+    ensures no_memory { TakesNoMemory result (of_one plus (view input.now) (map view args.now)) }
+{
+    let (a, b) = operands(alloc, input, &args[0], false)?;
+    within_range(alloc, a.checked_add(b))
 }
 
 /// `minus`: the whole number less the other.
@@ -50,11 +61,20 @@ impl Filter for Minus {
     fn evaluate(&self, alloc: Global, input: &Value, args: &[Value]) -> Result<Value>
         requires { IsTrue (nat_eq (length args.now) 1) }
         ensures answer { Answers view result (of_one minus (view input.now) (map view args.now)) }
+        ensures relation { Stands (StepsWith IsDifference false (view input.now) (map view args.now)) result }
         ensures no_memory { TakesNoMemory result (of_one minus (view input.now) (map view args.now)) }
     {
-        let (a, b) = operands(alloc, input, &args[0], false)?;
-        within_range(alloc, a.checked_sub(b))
+        minus_answer(alloc, input, args)
     }
+}
+
+fn minus_answer(alloc: Global, input: &Value, args: &[Value]) -> Result<Value>
+    requires { IsTrue (nat_eq (length args.now) 1) }
+    ensures answer { Answers view result (of_one minus (view input.now) (map view args.now)) }
+    ensures no_memory { TakesNoMemory result (of_one minus (view input.now) (map view args.now)) }
+{
+    let (a, b) = operands(alloc, input, &args[0], false)?;
+    within_range(alloc, a.checked_sub(b))
 }
 
 /// `times`: the product of two whole numbers.
@@ -74,11 +94,20 @@ impl Filter for Times {
     fn evaluate(&self, alloc: Global, input: &Value, args: &[Value]) -> Result<Value>
         requires { IsTrue (nat_eq (length args.now) 1) }
         ensures answer { Answers view result (of_one times (view input.now) (map view args.now)) }
+        ensures relation { Stands (StepsWith IsProduct false (view input.now) (map view args.now)) result }
         ensures no_memory { TakesNoMemory result (of_one times (view input.now) (map view args.now)) }
     {
-        let (a, b) = operands(alloc, input, &args[0], false)?;
-        within_range(alloc, a.checked_mul(b))
+        times_answer(alloc, input, args)
     }
+}
+
+fn times_answer(alloc: Global, input: &Value, args: &[Value]) -> Result<Value>
+    requires { IsTrue (nat_eq (length args.now) 1) }
+    ensures answer { Answers view result (of_one times (view input.now) (map view args.now)) }
+    ensures no_memory { TakesNoMemory result (of_one times (view input.now) (map view args.now)) }
+{
+    let (a, b) = operands(alloc, input, &args[0], false)?;
+    within_range(alloc, a.checked_mul(b))
 }
 
 /// `divided_by`: the quotient of two whole numbers, cut off towards 0.
@@ -99,11 +128,20 @@ impl Filter for DividedBy {
     fn evaluate(&self, alloc: Global, input: &Value, args: &[Value]) -> Result<Value>
         requires { IsTrue (nat_eq (length args.now) 1) }
         ensures answer { Answers view result (of_one divided_by (view input.now) (map view args.now)) }
+        ensures relation { Stands (StepsWith IsQuotient true (view input.now) (map view args.now)) result }
         ensures no_memory { TakesNoMemory result (of_one divided_by (view input.now) (map view args.now)) }
     {
-        let (a, b) = operands(alloc, input, &args[0], true)?;
-        within_range(alloc, quotient(a, b))
+        divided_by_answer(alloc, input, args)
     }
+}
+
+fn divided_by_answer(alloc: Global, input: &Value, args: &[Value]) -> Result<Value>
+    requires { IsTrue (nat_eq (length args.now) 1) }
+    ensures answer { Answers view result (of_one divided_by (view input.now) (map view args.now)) }
+    ensures no_memory { TakesNoMemory result (of_one divided_by (view input.now) (map view args.now)) }
+{
+    let (a, b) = operands(alloc, input, &args[0], true)?;
+    within_range(alloc, quotient(a, b))
 }
 
 /// `modulo`: the remainder of a quotient that is cut off towards 0; it has the input's sign.
@@ -123,12 +161,21 @@ impl Filter for Modulo {
     fn evaluate(&self, alloc: Global, input: &Value, args: &[Value]) -> Result<Value>
         requires { IsTrue (nat_eq (length args.now) 1) }
         ensures answer { Answers view result (of_one modulo (view input.now) (map view args.now)) }
+        ensures relation { Stands (StepsWith IsRemainder true (view input.now) (map view args.now)) result }
         ensures no_memory { TakesNoMemory result (of_one modulo (view input.now) (map view args.now)) }
     {
-        let (a, b) = operands(alloc, input, &args[0], true)?;
-        // The least number by -1 leaves 0, though their quotient is beyond 64 bits.
-        Ok(Value::Integer(a.wrapping_rem(b)))
+        modulo_answer(alloc, input, args)
     }
+}
+
+fn modulo_answer(alloc: Global, input: &Value, args: &[Value]) -> Result<Value>
+    requires { IsTrue (nat_eq (length args.now) 1) }
+    ensures answer { Answers view result (of_one modulo (view input.now) (map view args.now)) }
+    ensures no_memory { TakesNoMemory result (of_one modulo (view input.now) (map view args.now)) }
+{
+    let (a, b) = operands(alloc, input, &args[0], true)?;
+    // The least number by -1 leaves 0, though their quotient is beyond 64 bits.
+    Ok(Value::Integer(a.wrapping_rem(b)))
 }
 
 /// The quotient, cut off towards 0, or none where it is beyond 64 bits.

@@ -1,7 +1,12 @@
 //! The greater and the lesser of two numbers, and the absolute value of one.
-ghost use Rattle.std.specs.Prelude.{IsTrue, length, map, nat_eq};
+ghost use Rattle.std.specs.Prelude.{IsTrue, false, length, map, nat_eq};
 ghost use Rattle.liquid_model.specs.Answer.{Answers, TakesNoMemory};
+ghost use Rattle.liquid_model.specs.Data.{scalar};
 ghost use Rattle.liquid_model.specs.View.{view};
+ghost use Rattle.liquid_model.specs.Whole.{whole};
+ghost use Rattle.liquid_list_filters.specs.Stands.{Stands};
+ghost use Rattle.liquid_number_filters.specs.Decimals.{is_decimal_text};
+ghost use Rattle.liquid_number_filters.specs.NumberLaws.{AbsoluteOf, IsGreater, IsLesser, StepsWith};
 ghost use Rattle.liquid_number_filters.specs.Numbers.{of_none, of_one, at_least, at_most, abs};
 
 use super::operands::{decimal_refused, is_decimal_text, operands, within_range};
@@ -26,11 +31,20 @@ impl Filter for AtLeast {
     fn evaluate(&self, alloc: Global, input: &Value, args: &[Value]) -> Result<Value>
         requires { IsTrue (nat_eq (length args.now) 1) }
         ensures answer { Answers view result (of_one at_least (view input.now) (map view args.now)) }
+        ensures relation { Stands (StepsWith IsGreater false (view input.now) (map view args.now)) result }
         ensures no_memory { TakesNoMemory result (of_one at_least (view input.now) (map view args.now)) }
     {
-        let (a, b) = operands(alloc, input, &args[0], false)?;
-        Ok(Value::Integer(a.max(b)))
+        at_least_answer(alloc, input, args)
     }
+}
+
+fn at_least_answer(alloc: Global, input: &Value, args: &[Value]) -> Result<Value>
+    requires { IsTrue (nat_eq (length args.now) 1) }
+    ensures answer { Answers view result (of_one at_least (view input.now) (map view args.now)) }
+    ensures no_memory { TakesNoMemory result (of_one at_least (view input.now) (map view args.now)) }
+{
+    let (a, b) = operands(alloc, input, &args[0], false)?;
+    Ok(Value::Integer(a.max(b)))
 }
 
 /// `at_most`: the lesser of two whole numbers.
@@ -50,11 +64,20 @@ impl Filter for AtMost {
     fn evaluate(&self, alloc: Global, input: &Value, args: &[Value]) -> Result<Value>
         requires { IsTrue (nat_eq (length args.now) 1) }
         ensures answer { Answers view result (of_one at_most (view input.now) (map view args.now)) }
+        ensures relation { Stands (StepsWith IsLesser false (view input.now) (map view args.now)) result }
         ensures no_memory { TakesNoMemory result (of_one at_most (view input.now) (map view args.now)) }
     {
-        let (a, b) = operands(alloc, input, &args[0], false)?;
-        Ok(Value::Integer(a.min(b)))
+        at_most_answer(alloc, input, args)
     }
+}
+
+fn at_most_answer(alloc: Global, input: &Value, args: &[Value]) -> Result<Value>
+    requires { IsTrue (nat_eq (length args.now) 1) }
+    ensures answer { Answers view result (of_one at_most (view input.now) (map view args.now)) }
+    ensures no_memory { TakesNoMemory result (of_one at_most (view input.now) (map view args.now)) }
+{
+    let (a, b) = operands(alloc, input, &args[0], false)?;
+    Ok(Value::Integer(a.min(b)))
 }
 
 /// `abs`: the absolute value of a whole number.
@@ -72,22 +95,31 @@ impl Filter for Abs {
 
     /// Faults: `InvalidInput` where the input is no scalar, `NumberRange` at the least number, `Float` where the input is
     /// a decimal text, and else `InvalidInput`.
-    fn evaluate(&self, alloc: Global, input: &Value, _args: &[Value]) -> Result<Value>
-        requires { IsTrue (nat_eq (length _args.now) 0) }
-        ensures answer { Answers view result (of_none abs (view input.now) (map view _args.now)) }
-        ensures no_memory { TakesNoMemory result (of_none abs (view input.now) (map view _args.now)) }
+    fn evaluate(&self, alloc: Global, input: &Value, args: &[Value]) -> Result<Value>
+        requires { IsTrue (nat_eq (length args.now) 0) }
+        ensures answer { Answers view result (of_none abs (view input.now) (map view args.now)) }
+        ensures relation { Stands (AbsoluteOf (scalar (view input.now)) (whole (view input.now)) (is_decimal_text (view input.now))) result }
+        ensures no_memory { TakesNoMemory result (of_none abs (view input.now) (map view args.now)) }
     {
-        if !input.is_scalar() {
-            return Err(invalid_input(alloc, "a number", input));
-        }
-        match input.to_integer() {
-            Some(number) => within_range(alloc, number.checked_abs()),
-            None => {
-                if is_decimal_text(input) {
-                    return Err(decimal_refused(alloc));
-                }
-                Err(invalid_input(alloc, "a whole number", input))
+        abs_answer(alloc, input, args)
+    }
+}
+
+fn abs_answer(alloc: Global, input: &Value, _args: &[Value]) -> Result<Value>
+    requires { IsTrue (nat_eq (length _args.now) 0) }
+    ensures answer { Answers view result (of_none abs (view input.now) (map view _args.now)) }
+    ensures no_memory { TakesNoMemory result (of_none abs (view input.now) (map view _args.now)) }
+{
+    if !input.is_scalar() {
+        return Err(invalid_input(alloc, "a number", input));
+    }
+    match input.to_integer() {
+        Some(number) => within_range(alloc, number.checked_abs()),
+        None => {
+            if is_decimal_text(input) {
+                return Err(decimal_refused(alloc));
             }
+            Err(invalid_input(alloc, "a whole number", input))
         }
     }
 }

@@ -2,9 +2,12 @@
 ghost use Rattle.std.specs.Prelude.{IsTrue, ◌||◌, length, map, nat_eq};
 ghost use Rattle.liquid_model.specs.Answer.{Answers, TakesNoMemory};
 ghost use Rattle.liquid_model.specs.View.{view};
+ghost use Rattle.liquid_model.specs.Whole.{whole};
+ghost use Rattle.liquid_list_filters.specs.Stands.{Stands};
 ghost use Rattle.liquid_number_filters.specs.Numbers.{of_none};
 ghost use Rattle.liquid_number_filters.specs.declared.stdlib.filters.math.decimal.Rounding.TheVariants.{Nearest, Up, Down};
 ghost use Rattle.liquid_number_filters.specs.Rounding.{round, rounded, rounded_to};
+ghost use Rattle.liquid_number_filters.specs.RoundingLaws.{IsRounded, Rounds};
 
 use super::decimal::{Decimal, Rounding};
 use super::operands::{decimal_refused, is_decimal_text, within_range};
@@ -32,11 +35,22 @@ impl Filter for Round {
     /// Faults: `InvalidArgument` where the argument has no whole number, `InvalidInput` where it is above
     /// 2147483647 or the input is neither a whole number nor a decimal text, `Float` where the input is a decimal
     /// text and places are asked for, and `NumberRange` where the result is beyond 64 bits.
-    fn evaluate(&self, alloc: Global, input: &Value, args: &[Value]) -> Result<Value> {
-        match args.first() {
-            Some(places) => rounded_to(alloc, input, whole_argument(alloc, places)?),
-            None => rounded(alloc, input, Rounding::Nearest),
-        }
+    fn evaluate(&self, alloc: Global, input: &Value, args: &[Value]) -> Result<Value>
+        requires { IsTrue (nat_eq (length args.now) 0 || nat_eq (length args.now) 1) }
+        ensures answer { Answers view result (round (view input.now) (map view args.now)) }
+        ensures relation { Stands (Rounds (map view args.now) (view input.now)) result }
+    {
+        round_answer(alloc, input, args)
+    }
+}
+
+fn round_answer(alloc: Global, input: &Value, args: &[Value]) -> Result<Value>
+    requires { IsTrue (nat_eq (length args.now) 0 || nat_eq (length args.now) 1) }
+    ensures answer { Answers view result (round (view input.now) (map view args.now)) }
+{
+    match args.first() {
+        Some(places) => rounded_to(alloc, input, whole_argument(alloc, places)?),
+        None => rounded(alloc, input, Rounding::Nearest),
     }
 }
 
@@ -55,13 +69,22 @@ impl Filter for Ceil {
 
     /// Faults: `InvalidInput` where the input is neither a whole number nor a decimal text, and `NumberRange` where
     /// the result is beyond 64 bits.
-    fn evaluate(&self, alloc: Global, input: &Value, _args: &[Value]) -> Result<Value>
-        requires { IsTrue (nat_eq (length _args.now) 0) }
-        ensures answer { Answers view result (of_none (rounded Up) (view input.now) (map view _args.now)) }
-        ensures no_memory { TakesNoMemory result (of_none (rounded Up) (view input.now) (map view _args.now)) }
+    fn evaluate(&self, alloc: Global, input: &Value, args: &[Value]) -> Result<Value>
+        requires { IsTrue (nat_eq (length args.now) 0) }
+        ensures answer { Answers view result (of_none (rounded Up) (view input.now) (map view args.now)) }
+        ensures relation { Stands (IsRounded Up (whole (view input.now)) (view input.now)) result }
+        ensures no_memory { TakesNoMemory result (of_none (rounded Up) (view input.now) (map view args.now)) }
     {
-        rounded(alloc, input, Rounding::Up)
+        ceil_answer(alloc, input, args)
     }
+}
+
+fn ceil_answer(alloc: Global, input: &Value, _args: &[Value]) -> Result<Value>
+    requires { IsTrue (nat_eq (length _args.now) 0) }
+    ensures answer { Answers view result (of_none (rounded Up) (view input.now) (map view _args.now)) }
+    ensures no_memory { TakesNoMemory result (of_none (rounded Up) (view input.now) (map view _args.now)) }
+{
+    rounded(alloc, input, Rounding::Up)
 }
 
 /// `floor`: a decimal text brought to the greatest whole number that isn't above; a whole number stays.
@@ -79,13 +102,22 @@ impl Filter for Floor {
 
     /// Faults: `InvalidInput` where the input is neither a whole number nor a decimal text, and `NumberRange` where
     /// the result is beyond 64 bits.
-    fn evaluate(&self, alloc: Global, input: &Value, _args: &[Value]) -> Result<Value>
-        requires { IsTrue (nat_eq (length _args.now) 0) }
-        ensures answer { Answers view result (of_none (rounded Down) (view input.now) (map view _args.now)) }
-        ensures no_memory { TakesNoMemory result (of_none (rounded Down) (view input.now) (map view _args.now)) }
+    fn evaluate(&self, alloc: Global, input: &Value, args: &[Value]) -> Result<Value>
+        requires { IsTrue (nat_eq (length args.now) 0) }
+        ensures answer { Answers view result (of_none (rounded Down) (view input.now) (map view args.now)) }
+        ensures relation { Stands (IsRounded Down (whole (view input.now)) (view input.now)) result }
+        ensures no_memory { TakesNoMemory result (of_none (rounded Down) (view input.now) (map view args.now)) }
     {
-        rounded(alloc, input, Rounding::Down)
+        floor_answer(alloc, input, args)
     }
+}
+
+fn floor_answer(alloc: Global, input: &Value, _args: &[Value]) -> Result<Value>
+    requires { IsTrue (nat_eq (length _args.now) 0) }
+    ensures answer { Answers view result (of_none (rounded Down) (view input.now) (map view _args.now)) }
+    ensures no_memory { TakesNoMemory result (of_none (rounded Down) (view input.now) (map view _args.now)) }
+{
+    rounded(alloc, input, Rounding::Down)
 }
 
 /// The input brought to a whole number.
