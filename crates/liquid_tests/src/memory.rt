@@ -81,7 +81,11 @@ fn number(state: &State, name: &str) -> Option<i64> {
     state.look_up(name)?.to_integer()
 }
 
-/// The names under which things are put, so many that a map of them grows more than once.
-const NAMES: [&str; 16] = [
-    "a", "p", "b", "o", "c", "n", "d", "m", "e", "l", "f", "k", "g", "j", "h", "i",
+/// The names under which things are put, so many that a map of them grows more than once; the empty name and a long one too.
+const NAMES: [&str; 18] = [
+    "a", "p", "b", "o", "c", "n", "d", "m", "e", "l", "f", "k", "g", "j", "h", "i", "", LONG,
 ];
+
+/// A text that is longer than any room which is kept for short ones.
+const LONG: &str =
+    "a text of more than a hundred bytes, which a call must take as it takes any other, since the length of what it is given is no reason to give up";

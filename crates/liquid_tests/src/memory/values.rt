@@ -1,5 +1,5 @@
 //! Values, expressions and faults.
-use super::{begin, end, is_refused, number, value};
+use super::{LONG, begin, end, is_refused, number, value};
 use liquid_core::{
     Error, ErrorKind, Expression, Result, State, Value, ValueCow, Variable, copy_items,
 };
@@ -146,15 +146,17 @@ fn is_told(rt: &impl Abort, answer: &Result<()>, wanted: &str) {
 
 fn faults(rt: &(impl Abort + Print), alloc: Global) {
     let kind = ErrorKind::InvalidInput;
+    for wanted in &["a message", "", LONG] {
+        let answer = asked!(
+            rt,
+            "Error::new",
+            wanted,
+            Some(kind),
+            Err(Error::new(alloc, kind, wanted))
+        );
+        is_told(rt, &answer, wanted);
+    }
     let wanted = "a message, and the number -1";
-    let answer = asked!(
-        rt,
-        "Error::new",
-        wanted,
-        Some(kind),
-        Err(Error::new(alloc, kind, wanted))
-    );
-    is_told(rt, &answer, wanted);
     let number = -1;
     let answer = asked!(
         rt,
