@@ -22,8 +22,6 @@ mod pieces;
 #[cfg(test)]
 mod rows;
 #[cfg(test)]
-mod runtimes;
-#[cfg(test)]
 mod samples;
 #[cfg(test)]
 mod states;
@@ -37,5 +35,3 @@ mod urls;
 mod values;
 #[cfg(test)]
 mod words;
-#[cfg(test)]
-mod writers;

@@ -1,5 +1,5 @@
-//! Values that tests are made with, and how a call ended.
-use liquid_core::{ErrorKind, Object, Result, Value, store};
+//! Values that tests are made with.
+use liquid_core::{Object, Result, Value, store};
 use std::alloc::Global;
 use std::collections::BTreeMap;
 
@@ -25,12 +25,4 @@ pub(crate) fn with(alloc: Global, mut object: Object, key: &str, value: Value) -
 /// The map of one value.
 pub(crate) fn one(alloc: Global, key: &str, value: Value) -> Result<Object> {
     with(alloc, BTreeMap::new(alloc), key, value)
-}
-
-/// The kind of the fault, or none where there is no fault.
-pub(crate) fn kind_of<T>(answer: &Result<T>) -> Option<ErrorKind> {
-    match answer {
-        Ok(_) => None,
-        Err(fault) => Some(fault.kind),
-    }
 }

@@ -1,4 +1,4 @@
-//! Tests across the crates: worked pages and sources that are refused. Each expected value comes from outside.
+//! Tests across the crates: worked pages, sources that are refused, writers that fail, and a runtime's calls. Each expected value comes from outside.
 #![tactic(auto)]
 
 #[cfg(test)]
@@ -13,6 +13,8 @@ mod pages;
 mod refused;
 #[cfg(test)]
 mod rows;
+#[cfg(test)]
+mod runtimes;
 #[cfg(test)]
 mod texts;
 #[cfg(test)]

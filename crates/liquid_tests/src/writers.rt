@@ -1,4 +1,4 @@
-//! One page by writers that take little, fail or take nothing.
+//! Pages by writers that take little, fail or take nothing.
 use crate::answers::kind_of;
 use liquid_core::{ErrorKind, Result};
 use liquid_lib::{Counted, CountedWrite};
@@ -12,6 +12,10 @@ const SOURCE: &str = "Hello {{ name }}!{% assign x = 2 %} {{ x }}";
 const DATA: &str = "{\"name\":\"Ada\"}";
 
 const PAGE: &str = "Hello Ada! 2";
+
+const LIST: &str = r#"{"v": ["Hello ", true, -7, null, {"a": [false]}]}"#;
+
+const LIST_TEXT: &str = "Hello true-7afalse";
 
 /// Takes at most so many bytes at each write, and fails once no write is left.
 #[derive(Drop)]
@@ -57,12 +61,27 @@ impl Write for Room {
     }
 }
 
-/// Writes the page: how that ended, how many writes failed, and the writer.
-fn written<W: Write>(alloc: Global, writer: W) -> (Result<()>, u64, W) {
+/// Writes a page: how that ended, how many writes failed, and the writer.
+fn written_from<W: Write>(
+    alloc: Global,
+    source: &str,
+    data: &str,
+    writer: W,
+) -> (Result<()>, u64, W) {
     let mut counted = Counted::new(writer);
-    let answer = run(alloc, SOURCE, DATA, &[], &mut counted);
+    let answer = run(alloc, source, data, &[], &mut counted);
     let failures = counted.failures();
     (answer, failures, counted.into_inner())
+}
+
+/// Writes the page of the constants.
+fn written<W: Write>(alloc: Global, writer: W) -> (Result<()>, u64, W) {
+    written_from(alloc, SOURCE, DATA, writer)
+}
+
+/// Writes the text of one list, which takes 5 writes.
+fn written_list<W: Write>(alloc: Global, writer: W) -> (Result<()>, u64, W) {
+    written_from(alloc, "{{ v }}", LIST, writer)
 }
 
 #[test]
@@ -141,4 +160,80 @@ fn five_bytes_and_then_none(rt: HostRuntime) {
     assert_eq!(rt; kind_of(&answer), Some(ErrorKind::Write));
     assert_eq!(rt; failures, 1);
     assert!(rt; writer.bytes.as_slice() == b"Hello".as_slice());
+}
+
+#[test]
+fn a_list_byte_by_byte(rt: HostRuntime) {
+    let alloc = rt.alloc();
+    let (answer, failures, writer) = written_list(
+        alloc,
+        Failing {
+            bytes: Vec::new(alloc),
+            most: 1,
+            writes_left: LIST_TEXT.len(),
+        },
+    );
+    assert_eq!(rt; kind_of(&answer), None);
+    assert_eq!(rt; failures, 0);
+    assert!(rt; writer.bytes.as_slice() == LIST_TEXT.as_bytes());
+}
+
+#[test]
+fn room_for_some_of_a_list(rt: HostRuntime) {
+    let alloc = rt.alloc();
+    for (left, written) in [(0, ""), (3, "Hel"), (8, "Hello tr"), (12, "Hello true-7")] {
+        let (answer, failures, writer) = written_list(
+            alloc,
+            Room {
+                bytes: Vec::new(alloc),
+                left,
+            },
+        );
+        assert_eq!(rt; kind_of(&answer), Some(ErrorKind::Write), "{left}");
+        assert_eq!(rt; failures, 1, "{left}");
+        assert!(rt; writer.bytes.as_slice() == written.as_bytes(), "{left}");
+    }
+}
+
+#[test]
+fn each_write_of_a_list_fails(rt: HostRuntime) {
+    let alloc = rt.alloc();
+    for writes_left in 0..8 {
+        let (answer, failures, writer) = written_list(
+            alloc,
+            Failing {
+                bytes: Vec::new(alloc),
+                most: LIST_TEXT.len(),
+                writes_left,
+            },
+        );
+        let bytes = writer.bytes.as_slice();
+        if writes_left < 5 {
+            assert_eq!(rt; kind_of(&answer), Some(ErrorKind::Write), "{writes_left}");
+            assert_eq!(rt; failures, 1, "{writes_left}");
+            assert!(rt; LIST_TEXT.as_bytes().starts_with(bytes), "{writes_left}");
+        } else {
+            assert_eq!(rt; kind_of(&answer), None, "{writes_left}");
+            assert_eq!(rt; failures, 0, "{writes_left}");
+            assert!(rt; bytes == LIST_TEXT.as_bytes(), "{writes_left}");
+        }
+    }
+}
+
+#[test]
+fn what_was_written_before_a_fault_stays(rt: HostRuntime) {
+    let alloc = rt.alloc();
+    let (answer, failures, writer) = written_from(
+        alloc,
+        "{% assign b = a %}b={{ b }}{{ c }}",
+        r#"{"a": 1}"#,
+        Failing {
+            bytes: Vec::new(alloc),
+            most: 1,
+            writes_left: 4,
+        },
+    );
+    assert_eq!(rt; kind_of(&answer), Some(ErrorKind::UnknownVariable));
+    assert_eq!(rt; failures, 0);
+    assert!(rt; writer.bytes.as_slice() == b"b=1".as_slice());
 }
