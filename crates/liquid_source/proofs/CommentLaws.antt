@@ -1,12 +1,12 @@
 -- The body of `comment`: what is read stands in the grammar, and what stands in the grammar is read.
 use Rattle.std.proofs.Common.{◌≡◌, ℕ, zero, suc, ◌<◌, ◌≤◌, List, [], ◌∷◌, length, drop, Bool, true, false, cond, not, ◌&&◌, codes, bytes_eq, Option, Some, None, refl, ap, subst, ◌∙◌, sym, arith}
-use Rattle.std.specs.Option.{option_and_then, option_map}
+use Rattle.std.specs.Option.{option_and_then}
 use Rattle.liquid_source.specs.Words.{passes}
 use Rattle.liquid_source.specs.ValueReading.{run_len}
-use Rattle.liquid_source.specs.Verbatim.{IsMark, NoMark, IsRaw, IsComment, skipped, inner, raw_inside, inner_ends, ends}
+use Rattle.liquid_source.specs.Verbatim.{IsMark, NoMark, IsComment, skipped, inner, raw_inside, inner_ends, ends}
 use Rattle.liquid_source.specs.SourceReading.{Mark, mark_at, is_named, raw_at, in_comment, Skips, comment_ends, past_mark, comment_at}
 use Rattle.liquid_source.proofs.WordLaws.{bind_some, from_some, none_some, and_parts, run_stops}
-use Rattle.liquid_source.proofs.MarkLaws.{un_not, nothing_marked, mark_takes, mark_again, mark_shorter, mark_named, named_again, no_mark_takes, no_mark_again, raw_takes, raw_again, raw_shorter}
+use Rattle.liquid_source.proofs.MarkLaws.{un_not, nothing_marked, mark_again, mark_shorter, mark_named, no_mark_takes, no_mark_again, raw_takes, raw_again, raw_shorter}
 
 -- ---- what is read stands in the grammar
 

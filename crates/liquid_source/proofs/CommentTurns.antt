@@ -1,5 +1,5 @@
 -- The loops over bodies that aren't read, a turn at a time.
-use Rattle.std.proofs.Common.{◌≡◌, ℕ, zero, suc, ◌+◌, ◌-◌, ◌<◌, ◌≤◌, List, [], ◌∷◌, length, drop, get_or, Bool, true, false, cond, codes, bytes_eq, Option, Some, None, refl, ap, sym, subst, ◌∙◌, arith, length-drop, drop-cons}
+use Rattle.std.proofs.Common.{◌≡◌, ℕ, zero, suc, ◌+◌, ◌-◌, ◌<◌, ◌≤◌, List, length, drop, get_or, Bool, true, false, cond, codes, bytes_eq, Option, Some, None, refl, ap, sym, ◌∙◌, arith, length-drop, drop-cons}
 use Rattle.std.specs.Option.{option_and_then}
 use Rattle.liquid_source.specs.ValueReading.{run_len}
 use Rattle.liquid_source.specs.SourceReading.{Mark, mark_at, raw_at, in_comment, Skips, comment_ends, past_mark, comment_at}

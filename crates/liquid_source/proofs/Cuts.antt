@@ -1,5 +1,5 @@
 -- Where a text may be cut: beside an ASCII byte, and before its rest.
-use Rattle.std.proofs.Common.{◌≡◌, ℕ, zero, suc, ◌+◌, ◌-◌, ◌<◌, ◌≤◌, List, [], ◌∷◌, ◌++◌, length, drop, get_or, Bool, true, false, not, ◌&&◌, ◌||◌, subst, sym, arith, rules, refl, cond, eqb, reverse, ap, ◌∙◌}
+use Rattle.std.proofs.Common.{◌≡◌, ℕ, zero, suc, ◌+◌, ◌-◌, ◌<◌, ◌≤◌, List, [], ◌∷◌, ◌++◌, length, drop, get_or, Bool, true, false, not, ◌&&◌, ◌||◌, subst, arith, refl, cond, eqb, reverse, ap, ◌∙◌}
 use Rattle.std.specs.List.{suffix_len}
 use Rattle.std.proofs.lemmas.List.{get_or-reverse, get_or-drop, length-append, length-drop}
 use Rattle.std.proofs.lemmas.List.Sums.{suffix_len-le-length, prefix_len_passes}
@@ -8,7 +8,7 @@ use Rattle.std.proofs.lemmas.Bool.{eqb-true}
 use Rattle.std.proofs.lemmas.Bool.Decides.{nat_tests}
 use Rattle.liquid_source.specs.Bytes.{is_white, is_letter, is_digit, in_word, not_quote, closes, plain, opens}
 use Rattle.liquid_source.specs.ValueReading.{run_len, with_sign, sign_len, number_len}
-use Rattle.std.proofs.lemmas.Str.{IsCharBoundary-start, IsCharBoundary-end, IsCharBoundary-after_ascii, IsCharBoundary-before_ascii, IsCharBoundary-at_seam}
+use Rattle.std.proofs.lemmas.Str.{IsCharBoundary-start, IsCharBoundary-after_ascii, IsCharBoundary-at_seam}
 
 -- a cut after a byte below 128
 pub after_ascii : (bs : List ℕ) (n : ℕ) → IsUtf8 bs → n ≤ length bs → (0 < n → get_or bs (n - 1) 0 < 128) → IsCharBoundary bs n

@@ -1,5 +1,5 @@
 -- An expression, level by level.
-use Rattle.std.proofs.Common.{◌≡◌, List, Vec, String, Global, string_bytes, rules}
+use Rattle.std.proofs.Common.{◌≡◌, Vec, String, Global, string_bytes, rules}
 use Rattle.liquid_core.specs.Expression as tree
 use Rattle.liquid_core.specs.ExpressionView.{expression_view, steps_view}
 use Rattle.liquid_core.specs.declared.expression.Expression.{Expression, Variable, the_lemmas}

@@ -1,17 +1,16 @@
 -- What is read between an opener and a closer stands in the grammar, and what stands in the grammar is read.
-use Rattle.std.proofs.Common.{◌≡◌, ℕ, zero, suc, ◌-◌, ◌<◌, ◌≤◌, List, [], ◌∷◌, ◌++◌, length, take, get_or, Bool, true, false, cond, eqb, not, ◌||◌, ◌&&◌, ◌⊎◌, inl, inr, Option, Some, None, refl, ap, subst, ◌∙◌, sym, arith}
+use Rattle.std.proofs.Common.{◌≡◌, ℕ, zero, suc, ◌<◌, ◌≤◌, List, [], ◌∷◌, ◌++◌, length, take, get_or, Bool, true, false, eqb, ◌⊎◌, inl, inr, Option, Some, None, refl, ap, subst, ◌∙◌, sym, arith}
 use Rattle.std.specs.Option.{option_and_then, option_map, option_or}
 use Rattle.liquid_core.specs.Expression.{Expression}
 use Rattle.liquid_source.specs.Words.{Blank}
-use Rattle.liquid_source.specs.Values.{IsValue}
 use Rattle.liquid_source.specs.ValueReading.{past_white, past_byte, value_at, word_at, literal_at, quoted_at, number_at}
-use Rattle.liquid_source.specs.Items.{Item, value, range, symbol, spelling_of, IsSymbol, IsRange, is_range, mark, dash, IsItem, is_symbol, is_interval, is_value, IsCloser, NoCloser, AreItems, closed, item}
+use Rattle.liquid_source.specs.Items.{Item, value, range, spelling_of, IsSymbol, IsRange, is_range, mark, dash, IsItem, is_symbol, is_interval, is_value, NoCloser, AreItems, closed, item}
 use Rattle.liquid_source.specs.ItemReading.{two_at, closer_by, closer_at, two_bytes, one_byte, long_symbol_at, short_symbol_at, symbol_at, range_at, before, range_or_value, item_by, item_at, ReadItems, items_by, items_at}
 use Rattle.liquid_source.specs.declared.symbol.Symbol.{Symbol}
 use Rattle.liquid_source.specs.declared.symbol.Symbol.TheVariants.{Equals, NotEquals, LessOrGreater, LessThanEquals, GreaterThanEquals, LessThan, GreaterThan, Assign, Colon, Comma, Bar}
 use Rattle.liquid_source.specs.declared.item.Delimiter.{Delimiter}
 use Rattle.liquid_source.specs.declared.item.Delimiter.TheVariants.{Output, Tag}
-use Rattle.liquid_source.proofs.WordLaws.{none_some, bind_some, map_some, from_some, byte_some, byte_again, blank_takes, blank_again, blank_shorter, opens_value}
+use Rattle.liquid_source.proofs.WordLaws.{none_some, bind_some, map_some, from_some, byte_some, blank_takes, blank_again, blank_shorter, opens_value}
 use Rattle.liquid_source.proofs.ValueLaws.{value_takes, value_again, value_shrinks, value_opens, value_at_front, apart}
 use Rattle.std.proofs.lemmas.Bool.{ne_eqb}
 use Rattle.std.proofs.lemmas.List.{length-append}

@@ -1,10 +1,9 @@
 -- A text may be cut where a body ends; a mark begins with `{`.
-use Rattle.std.proofs.Common.{◌≡◌, ℕ, suc, ◌+◌, ◌<◌, ◌≤◌, List, [], ◌∷◌, length, drop, get_or, Bool, true, false, not, ◌&&◌, cond, eqb, codes, Option, Some, None, refl, ap, sym, ◌∙◌, arith}
+use Rattle.std.proofs.Common.{◌≡◌, ℕ, suc, ◌<◌, List, [], ◌∷◌, length, get_or, Bool, true, false, cond, eqb, None, refl, ap, sym, ◌∙◌, arith}
 use Rattle.std.specs.Str.{IsUtf8, IsCharBoundary}
-use Rattle.std.specs.Option.{option_and_then}
 use Rattle.std.proofs.lemmas.Bool.{eqb-true}
-use Rattle.liquid_source.specs.ValueReading.{run_len, past_byte}
-use Rattle.liquid_source.specs.SourceReading.{mark_at, is_named, in_raw, in_comment, in_body, goes_on}
+use Rattle.liquid_source.specs.ValueReading.{run_len}
+use Rattle.liquid_source.specs.SourceReading.{mark_at, in_raw, in_comment, in_body, goes_on}
 use Rattle.liquid_source.specs.declared.piece.Body.{Body}
 use Rattle.liquid_source.specs.declared.piece.Body.TheVariants.{Raw, Comment}
 use Rattle.liquid_source.proofs.Cuts.{run_within}

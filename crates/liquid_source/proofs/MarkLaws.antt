@@ -1,19 +1,18 @@
 -- Marks and the bodies that run up to them: what is read stands in the grammar, and what stands in the grammar is read.
-use Rattle.std.proofs.Common.{◌≡◌, ℕ, zero, suc, ◌<◌, ◌≤◌, List, [], ◌∷◌, ◌++◌, length, take, drop, Bool, true, false, cond, eqb, not, ◌&&◌, codes, bytes_eq, Option, Some, None, refl, ap, subst, ◌∙◌, sym, arith}
-use Rattle.std.specs.Option.{option_and_then, option_map}
+use Rattle.std.proofs.Common.{◌≡◌, ℕ, suc, ◌<◌, ◌≤◌, List, [], ◌∷◌, length, take, drop, Bool, true, false, cond, eqb, not, codes, bytes_eq, Option, Some, None, refl, ap, subst, ◌∙◌, sym, arith}
+use Rattle.std.specs.Option.{option_map}
 use Rattle.std.proofs.lemmas.Slice.Eq.{bytes_eq-Decides}
 use Rattle.std.proofs.lemmas.List.{length-append}
-use Rattle.liquid_source.specs.Words.{begins_with, passes, Blank, Word}
+use Rattle.liquid_source.specs.Words.{begins_with}
 use Rattle.liquid_source.specs.ValueReading.{run_len, past_white, past_byte, word_at}
-use Rattle.liquid_source.specs.Items.{dash, IsCloser}
+use Rattle.liquid_source.specs.Items.{dash}
 use Rattle.liquid_source.specs.ItemReading.{closer_at}
 use Rattle.liquid_source.specs.Openers.{opener, IsOpener, with_dash, no_dash}
-use Rattle.liquid_source.specs.Verbatim.{IsMark, is_mark, NoMark, IsRaw, ends, goes_on, IsComment, skipped, inner, raw_inside, inner_ends}
-use Rattle.liquid_source.specs.Verbatim as verbatim
-use Rattle.liquid_source.specs.SourceReading.{dashed, Mark, mark_behind, mark_at, is_named, in_raw, raw_at, in_comment, Skips, comment_ends, past_mark, comment_at}
+use Rattle.liquid_source.specs.Verbatim.{IsMark, is_mark, NoMark, IsRaw, ends, goes_on}
+use Rattle.liquid_source.specs.SourceReading.{dashed, Mark, mark_behind, mark_at, is_named, in_raw, raw_at}
 use Rattle.liquid_source.specs.declared.item.Delimiter.{Delimiter}
 use Rattle.liquid_source.specs.declared.item.Delimiter.TheVariants.{Tag}
-use Rattle.liquid_source.proofs.WordLaws.{bind_some, map_some, from_some, none_some, byte_some, and_parts, blank_takes, blank_again, blank_shorter, word_takes, word_again, word_shorter}
+use Rattle.liquid_source.proofs.WordLaws.{bind_some, map_some, from_some, none_some, byte_some, blank_takes, blank_again, blank_shorter, word_takes, word_again, word_shorter}
 use Rattle.liquid_source.proofs.ValueLaws.{not_true}
 use Rattle.liquid_source.proofs.ItemLaws.{closer_takes, closer_again}
 

@@ -1,18 +1,17 @@
 -- What is read as a source stands in the grammar, and what stands in the grammar is read.
-use Rattle.std.proofs.Common.{◌≡◌, ℕ, zero, suc, ◌<◌, ◌≤◌, List, [], ◌∷◌, ◌++◌, length, take, drop, Bool, true, false, cond, eqb, not, ◌&&◌, append-nil, Option, Some, None, refl, ap, subst, ◌∙◌, sym, arith}
-use Rattle.std.specs.Option.{option_and_then, option_map}
+use Rattle.std.proofs.Common.{◌≡◌, ℕ, zero, suc, ◌≤◌, List, [], ◌∷◌, ◌++◌, length, take, drop, Bool, true, false, eqb, not, ◌&&◌, append-nil, Option, Some, None, refl, ap, subst, ◌∙◌, sym, arith}
+use Rattle.std.specs.Option.{option_and_then}
 use Rattle.std.proofs.lemmas.Bool.{eqb-true}
 use Rattle.std.proofs.lemmas.List.{take-append-drop, length-append}
 use Rattle.std.proofs.Math.Seq.{take-append_seam, drop-append_seam}
 use Rattle.liquid_source.specs.Bytes.{plain, opens}
-use Rattle.liquid_source.specs.Words.{IsRun, passes, Blank, Word}
+use Rattle.liquid_source.specs.Words.{IsRun, passes}
 use Rattle.liquid_source.specs.ValueReading.{run_len, past_byte, past_white, word_at, text_at}
 use Rattle.liquid_source.specs.Items.{Item, AreItems}
-use Rattle.liquid_source.specs.ItemReading.{ReadItems, items_at}
+use Rattle.liquid_source.specs.ItemReading.{items_at}
 use Rattle.liquid_source.specs.Openers.{opener, IsOpener}
-use Rattle.liquid_source.specs.Verbatim.{IsRaw, IsComment}
 use Rattle.liquid_source.specs.Pieces.{Piece, text, output, tag, raw, comment, stripped, IsTag, is_tag, IsMarkup, is_output, is_plain_tag, is_raw, is_comment, content, IsSource, last, more}
-use Rattle.liquid_source.specs.SourceReading.{dashed, Mark, raw_at, comment_at, opener_by, opener_at, Markup, inside_of, markup_at, tag_name, body_at, wanted_body, all_steps, text_step, Goes, marked, turn, source_at, Wanted, TakesWanted}
+use Rattle.liquid_source.specs.SourceReading.{dashed, raw_at, comment_at, opener_by, opener_at, Markup, inside_of, markup_at, body_at, wanted_body, all_steps, text_step, Goes, marked, turn, source_at, Wanted, TakesWanted}
 use Rattle.liquid_source.specs.declared.item.Delimiter.{Delimiter}
 use Rattle.liquid_source.specs.declared.item.Delimiter.TheVariants.{Output, Tag}
 use Rattle.liquid_source.specs.declared.piece.Body.{Body}

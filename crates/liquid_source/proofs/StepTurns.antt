@@ -1,8 +1,8 @@
 -- The loop over a variable's steps, a turn at a time.
-use Rattle.std.proofs.Common.{◌≡◌, ℕ, zero, suc, ◌+◌, ◌-◌, ◌<◌, ◌≤◌, List, [], ◌∷◌, ◌++◌, length, refl, ap, ◌∙◌, Option, Some, None, arith, map, sym}
+use Rattle.std.proofs.Common.{◌≡◌, ℕ, zero, suc, ◌-◌, ◌<◌, List, [], ◌∷◌, ◌++◌, refl, ap, ◌∙◌, Option, Some, None, arith, sym}
 use Rattle.std.specs.Option.{option_and_then, option_map}
 use Rattle.liquid_core.specs.Expression.{Expression, Steps, no_steps, step}
-use Rattle.liquid_source.specs.ValueReading.{Reads, step_at, steps_at, more_steps, inner_of}
+use Rattle.liquid_source.specs.ValueReading.{Reads, step_at, steps_at, more_steps}
 use Rattle.liquid_core.specs.ExpressionView.{steps_of}
 use Rattle.liquid_source.specs.Readers.{Fails}
 use Rattle.liquid_source.specs.declared.fault.ParseError.{ParseError}

@@ -1,13 +1,13 @@
 -- What is read as a value stands in the grammar, and what stands in the grammar is read.
-use Rattle.std.proofs.Common.{◌≡◌, ℕ, ℤ, zero, suc, ◌+◌, ◌-◌, ◌<◌, ◌≤◌, List, [], ◌∷◌, ◌++◌, length, take, drop, get_or, eqb, Bool, true, false, not, ◌||◌, ◌&&◌, ◌⊎◌, inl, inr, cond, subst, sym, ap, ◌∙◌, arith, rules, refl, Option, Some, None}
-use Rattle.std.specs.Option.{option_and_then, option_map}
-use Rattle.liquid_model.specs.Data.{Datum, text, number}
-use Rattle.liquid_core.specs.Expression.{Expression, literal, variable, Steps, no_steps, step}
-use Rattle.liquid_source.specs.Bytes.{is_white, is_letter, is_digit, in_word}
+use Rattle.std.proofs.Common.{◌≡◌, ℕ, ℤ, zero, suc, ◌-◌, ◌<◌, ◌≤◌, List, [], ◌∷◌, ◌++◌, length, get_or, eqb, Bool, true, false, ◌||◌, ◌&&◌, ◌⊎◌, inl, inr, cond, subst, sym, ap, ◌∙◌, arith, refl, Option, Some, None}
+use Rattle.std.specs.Option.{option_map}
+use Rattle.liquid_model.specs.Data.{Datum, text}
+use Rattle.liquid_core.specs.Expression.{Expression, literal, Steps, step}
+use Rattle.liquid_source.specs.Bytes.{is_letter, is_digit, in_word}
 use Rattle.liquid_source.specs.Words.{passes, Blank, Word, Quoted, Number}
 use Rattle.liquid_source.specs.Values.{WordKind, name, constant, state, word_kind, dotted, step_begins, IsValue, is_text, is_number, is_constant, is_variable, AreSteps, no_step, is_member, is_index}
 use Rattle.liquid_source.specs.ValueReading.{Reads, past_white, past_byte, word_at, quoted_at, number_at, literal_by, literal_at, member_at, index_at, step_by, step_at, more_steps, steps_at, named_by, value_by, value_at, inner_of}
-use Rattle.liquid_source.proofs.WordLaws.{opens_value, bind_some, map_some, guard_some, guard_none, guard_opt, from_some, blank_takes, blank_again, word_takes, word_again, quoted_takes, quoted_again, number_takes, number_again, number_front, byte_some, blank_shorter, word_shorter, quoted_shorter, number_shorter, either, or_left, or_right}
+use Rattle.liquid_source.proofs.WordLaws.{opens_value, bind_some, map_some, guard_none, from_some, blank_takes, blank_again, word_takes, word_again, quoted_takes, quoted_again, number_takes, number_again, number_front, byte_some, blank_shorter, word_shorter, quoted_shorter, number_shorter, either, or_left, or_right}
 use Rattle.std.proofs.lemmas.List.{length-append}
 use Rattle.std.proofs.lemmas.Bool.{eqb-true, ne_eqb}
 use Rattle.std.proofs.Common.{append_assoc}

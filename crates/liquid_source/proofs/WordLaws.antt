@@ -1,15 +1,14 @@
 -- What is read as a word, a blank, a quoted text or a number stands in the grammar, and what stands in the grammar is read.
-use Rattle.std.proofs.Common.{◌≡◌, ℕ, ℤ, zero, suc, ◌+◌, ◌-◌, ◌<◌, ◌≤◌, List, [], ◌∷◌, ◌++◌, length, take, drop, get_or, eqb, Bool, true, false, not, ◌||◌, ◌&&◌, ◌⊎◌, inl, inr, cond, subst, sym, ap, ◌∙◌, arith, rules, refl, Option, Some, None, nat_lt}
+use Rattle.std.proofs.Common.{◌≡◌, ℕ, ℤ, zero, suc, ◌+◌, ◌<◌, ◌≤◌, List, [], ◌∷◌, ◌++◌, length, take, drop, get_or, eqb, Bool, true, false, ◌||◌, ◌&&◌, ◌⊎◌, inl, inr, cond, subst, sym, ap, ◌∙◌, arith, rules, refl, Option, Some, None, nat_lt}
 use Rattle.std.specs.Option.{option_and_then, option_map}
 use Rattle.std.specs.Str.{all_ascii_digits}
-use Rattle.std.specs.Str.Parse.{without_leading_sign}
 use Rattle.liquid_model.specs.Whole.{whole_text, is_whole_text}
 use Rattle.liquid_source.specs.Bytes.{is_white, is_letter, is_digit, in_word, not_quote}
-use Rattle.liquid_source.specs.Words.{passes, IsRun, Blank, Word, Quoted, Number, goes_on, begins_with}
-use Rattle.liquid_source.specs.ValueReading.{run_len, past_white, past_byte, word_at, until_quote, quoted_at, number_at, number_len, with_sign, number_by}
+use Rattle.liquid_source.specs.Words.{passes, IsRun, Blank, Word, Quoted, Number, goes_on}
+use Rattle.liquid_source.specs.ValueReading.{run_len, past_white, past_byte, word_at, until_quote, quoted_at, number_at, number_len, with_sign}
 use Rattle.std.proofs.lemmas.List.{take-append-drop, length-append}
 use Rattle.std.proofs.Math.Seq.{take-append_seam, drop-append_seam}
-use Rattle.std.proofs.lemmas.Bool.{eqb-true, eq-eqb, ne_eqb}
+use Rattle.std.proofs.lemmas.Bool.{eqb-true, eq-eqb}
 use Rattle.std.proofs.lemmas.Bool.Decides.{nat_tests}
 
 -- ---- tools

@@ -1,7 +1,6 @@
 -- What is read between an opener and a closer, as functions.
 use Rattle.std.specs.Prelude.{ℕ, zero, suc, List, [], ◌∷◌, length, take, ◌-◌, Bool, true, false, Option, Some, None}
 use Rattle.std.specs.Option.{option_and_then, option_map, option_or}
-use Rattle.liquid_core.specs.Expression.{Expression}
 use Rattle.liquid_source.specs.ValueReading.{◌>>=◌, Reads, past_white, past_byte, value_at}
 use Rattle.liquid_source.specs.Items.{Item, value, range, symbol, mark}
 use Rattle.liquid_source.specs.declared.symbol.Symbol.{Symbol}

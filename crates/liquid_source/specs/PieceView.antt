@@ -1,7 +1,5 @@
 -- What the code's items and pieces are seen as.
 use Rattle.std.specs.Prelude.{ℕ, List, map}
-use Rattle.std.specs.Option.{option_map}
-use Rattle.std.specs.Prelude.{Option}
 use Rattle.std.specs.Borrow.{Bor}
 use Rattle.liquid_model.specs.View.{view}
 use Rattle.liquid_core.specs.Expression as tree

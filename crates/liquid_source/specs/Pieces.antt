@@ -1,5 +1,5 @@
 -- The written grammar of a source: texts and, between them, outputs and tags.
-use Rattle.std.specs.Prelude.{◌≡◌, ℕ, List, [], ◌∷◌, ◌++◌, Bool, true, false}
+use Rattle.std.specs.Prelude.{ℕ, List, [], ◌∷◌, ◌++◌, Bool, true, false}
 use Rattle.liquid_source.specs.Bytes.{plain}
 use Rattle.liquid_source.specs.Words.{IsRun, Blank, Word}
 use Rattle.liquid_source.specs.ValueReading.{past_white, trimmed}

@@ -1,5 +1,5 @@
 -- What is read as a source, as functions. What is read next may depend on the language: it tells where a tag has a verbatim body.
-use Rattle.std.specs.Prelude.{◌≡◌, ℕ, zero, suc, List, [], ◌∷◌, length, take, drop, Bool, true, false, not, cond, ◌&&◌, codes, bytes_eq, is_some, Option, Some, None}
+use Rattle.std.specs.Prelude.{◌≡◌, ℕ, zero, suc, List, [], ◌∷◌, length, take, drop, Bool, true, false, not, cond, ◌&&◌, codes, bytes_eq, Option, Some, None}
 use Rattle.std.specs.Option.{option_and_then, option_map}
 use Rattle.liquid_source.specs.ValueReading.{◌>>=◌, Reads, run_len, past_white, past_byte, word_at, text_at}
 use Rattle.liquid_source.specs.ItemReading.{closer_at, items_at}

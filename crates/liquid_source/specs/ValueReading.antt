@@ -1,5 +1,5 @@
 -- What is read at the front of a text, as functions: words, quoted texts, numbers and values.
-use Rattle.std.specs.Prelude.{ℕ, zero, suc, ◌+◌, ℤ, List, [], ◌∷◌, length, take, drop, Bool, true, false, cond, ◌-◌, ◌==◌, ◌||◌, if◌then◌else◌, slice_index, Option, Some, None}
+use Rattle.std.specs.Prelude.{ℕ, zero, suc, ◌+◌, ℤ, List, [], ◌∷◌, length, take, drop, Bool, ◌-◌, ◌==◌, ◌||◌, if◌then◌else◌, slice_index, Option, Some, None}
 use Rattle.std.specs.Option.{option_and_then, option_map}
 use Rattle.std.specs.List.{suffix_len}
 use Rattle.liquid_model.specs.Data.{Datum, text, number}

@@ -1,5 +1,5 @@
 -- The written grammar of bodies that aren't read: those of `raw` and of `comment`, by the marks that end them.
-use Rattle.std.specs.Prelude.{◌≡◌, codes, ℕ, suc, List, [], ◌∷◌, Bool}
+use Rattle.std.specs.Prelude.{codes, ℕ, suc, List, [], ◌∷◌, Bool}
 use Rattle.liquid_source.specs.Words.{Blank, Word}
 use Rattle.liquid_source.specs.Items.{IsCloser}
 use Rattle.liquid_source.specs.Openers.{IsOpener}

@@ -130,6 +130,11 @@ fn tag_name<'s>(piece: Piece<'s>) -> &'s str
     }
 }
 
+/// The fault of a body that doesn't end.
+fn without_end(end: &'static str) -> Fault {
+    Fault::new(FaultKind::MissingEnd, "", end)
+}
+
 /// A tag with the verbatim body behind it, where it is to have one.
 pub fn read_body<'s>(
     body: Option<Body>,
@@ -145,11 +150,7 @@ pub fn read_body<'s>(
     match kind {
         Body::Raw => {
             let Some((inside, end, rest)) = read_raw(text) else {
-                return Err(ParseError::Fault(Fault::new(
-                    FaultKind::MissingEnd,
-                    "",
-                    "`{% endraw %}`",
-                )));
+                return Err(ParseError::Fault(without_end("`{% endraw %}`")));
             };
             let inside = stripped(markup.after, inside, end.before);
             let piece = Piece::Raw(tag_name(markup.piece), inside);
@@ -164,11 +165,7 @@ pub fn read_body<'s>(
         }
         Body::Comment => {
             let Some((after, rest)) = read_comment(text) else {
-                return Err(ParseError::Fault(Fault::new(
-                    FaultKind::MissingEnd,
-                    "",
-                    "`{% endcomment %}`",
-                )));
+                return Err(ParseError::Fault(without_end("`{% endcomment %}`")));
             };
             let piece = Piece::Comment(tag_name(markup.piece));
             Ok((

@@ -1,12 +1,10 @@
-use Rattle.std.proofs.Common.{rules, ◌≡◌, length, ℕ, ◌+◌, ◌-◌, ◌<◌, ◌≤◌, List, [], ◌∷◌, ◌++◌, Some, None, map, sym, ap, ◌∙◌, arith, refl}
+use Rattle.std.proofs.Common.{rules, ◌≡◌, length, ◌-◌, ◌<◌, sym, ap, ◌∙◌, arith}
 use Rattle.std.proofs.lemmas.Result.{err_from_is_err_and}
 use Rattle.std.proofs.lemmas.Bool.{eqb-true}
 use Rattle.std.proofs.lemmas.List.{map-append}
 use Rattle.liquid_source.specs.declared.fault.ParseError.TheVariants as errors
-use Rattle.liquid_source.specs.ValueReading.{past_white}
 use Rattle.liquid_source.specs.ItemReading.{item_at, items_at, closer_at}
-use Rattle.liquid_source.specs.Readers.{Fails}
-use Rattle.liquid_source.specs.PieceView.{item_view, items_view}
+use Rattle.liquid_source.specs.PieceView.{items_view}
 use Rattle.liquid_source.proofs.ItemTurns.{behind, behind_nothing, one_more, no_more, item_refused}
 use Rattle.liquid_source.proofs.ItemLaws.{turn_shorter, nothing_read}
 use Rattle.liquid_source.proofs.item.read_items.Goals as goal

@@ -1,4 +1,4 @@
-use Rattle.std.proofs.Common.{◌≡◌, length, ℕ, ◌+◌, ◌<◌, ◌≤◌, List, ◌∷◌, suc, drop, get_or, true, false, not, sym, ap, ◌∙◌, arith, drop-cons}
+use Rattle.std.proofs.Common.{◌≡◌, length, ℕ, ◌<◌, List, suc, drop, get_or, true, false, not, sym, ap, ◌∙◌, arith, drop-cons}
 use Rattle.std.proofs.lemmas.Bool.{ne_eqb}
 use Rattle.liquid_source.specs.SourceReading.{in_body, goes_on}
 use Rattle.liquid_source.proofs.MarkCuts.{goes_over, in_body_is}

@@ -1,6 +1,6 @@
-use Rattle.std.proofs.Common.{◌≡◌, length, ℕ, ◌+◌, ◌-◌, ◌<◌, ◌≤◌, List, codes, bytes_eq, Some, None, true, false, sym, ap, ◌∙◌, arith, rules}
+use Rattle.std.proofs.Common.{◌≡◌, length, ℕ, ◌-◌, ◌<◌, List, None, sym, ap, ◌∙◌, arith, rules}
 use Rattle.std.specs.Option.{option_map}
-use Rattle.liquid_source.specs.SourceReading.{Mark, mark_at, raw_at, comment_at}
+use Rattle.liquid_source.specs.SourceReading.{Mark, mark_at, raw_at}
 use Rattle.liquid_source.specs.PieceView.{mark_view}
 use Rattle.liquid_source.proofs.CommentTurns.{none_left, found_shorter, to_inner, raw_open, past_raw, raw_found_shorter, closed, inner_closed}
 use Rattle.liquid_source.proofs.mark.read_comment.Goals as goal

@@ -1,5 +1,5 @@
 use Rattle.std.proofs.Common.{length, drop, ◌-◌, ◌+◌, ◌≡◌, ◌≤◌}
-use Rattle.liquid_source.specs.Bytes.{is_white, in_word, not_quote}
+use Rattle.liquid_source.specs.Bytes.{is_white}
 use Rattle.liquid_source.specs.ValueReading.{run_len}
 use Rattle.liquid_source.proofs.scan.white_len.Given as goal
 

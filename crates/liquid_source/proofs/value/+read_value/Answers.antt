@@ -1,5 +1,5 @@
-use Rattle.std.proofs.Common.{rules, ◌≡◌, length, ℕ, ◌+◌, ◌-◌, ◌<◌, ◌≤◌, List, [], ◌∷◌, ◌++◌, Some, None, map, sym, ap, ◌∙◌, arith, refl}
-use Rattle.liquid_source.specs.ValueReading.{named_by, value_at, steps_at, step_at, inner_of}
+use Rattle.std.proofs.Common.{rules, ◌≡◌, length, ℕ, ◌-◌, List, [], ◌∷◌, ◌++◌, Some, map, sym, ap, ◌∙◌, arith}
+use Rattle.liquid_source.specs.ValueReading.{named_by, steps_at, step_at, inner_of}
 use Rattle.liquid_core.specs.Expression as tree
 use Rattle.liquid_core.specs.ExpressionView.{expression_view, steps_view}
 use Rattle.liquid_source.proofs.Expressions.{view-Variable}

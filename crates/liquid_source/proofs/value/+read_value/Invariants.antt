@@ -1,4 +1,4 @@
-use Rattle.std.proofs.Common.{length, drop, ◌-◌, ◌+◌, ◌*◌, ◌≡◌, ◌≤◌, ℕ, map}
+use Rattle.std.proofs.Common.{length, ◌+◌, ◌*◌, ◌≡◌, ◌≤◌, ℕ, map}
 use denote.Shadow.{shadow}
 use denote.Text.{Utf8}
 use Rattle.liquid_core.specs.ExpressionView.{expression_view}
