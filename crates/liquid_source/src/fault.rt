@@ -1,5 +1,5 @@
 //! Why a source could not be read.
-ghost use Rattle.std.specs.Prelude.{◌≡◌, ◌≤◌};
+ghost use Rattle.std.specs.Prelude.{◌≡◌, ◌≤◌, length};
 ghost use Rattle.liquid_model.specs.Told.{number_of};
 ghost use Rattle.liquid_model.specs.declared.error.ErrorKind.TheVariants.{Memory as MemoryKind};
 ghost use Rattle.liquid_source.specs.Readers.{kind_of, TellsOf};
@@ -69,7 +69,10 @@ pub struct Fault {
 
 impl Fault {
     /// A fault where the rest of the source is `text`.
-    pub fn new(kind: FaultKind, text: &str, wanted: &'static str) -> Fault {
+    pub fn new(kind: FaultKind, text: &str, wanted: &'static str) -> Fault
+        ensures kind { result.kind ≡ kind }
+        ensures place { result.left ≡ length text.now }
+    {
         Fault {
             kind,
             left: text.len(),

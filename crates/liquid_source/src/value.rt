@@ -1,5 +1,5 @@
 //! Values: literals, and variables with their steps.
-ghost use Rattle.std.specs.Prelude.{◌≡◌, length};
+ghost use Rattle.std.specs.Prelude.{◌≡◌, [], length};
 ghost use Rattle.liquid_model.specs.View.{view};
 ghost use Rattle.liquid_core.specs.ExpressionView.{expression_view, steps_view};
 ghost use Rattle.liquid_source.specs.Values.{word_kind};
@@ -192,8 +192,12 @@ fn read_step(
     Ok(Some((Expression::Literal(Value::Text(name)), rest)))
 }
 
-/// The fault of a text that doesn't begin as it must.
-pub fn missing(text: &str, wanted: &'static str) -> Fault {
+/// The fault of a text that doesn't begin as it must: `Unclosed` where nothing is left, else `BadItem`.
+pub fn missing(text: &str, wanted: &'static str) -> Fault
+    ensures unclosed { text.now ≡ [] → result.kind ≡ FaultKind.Unclosed }
+    ensures bad_item { (text.now ≡ [] → ⊥) → result.kind ≡ FaultKind.BadItem }
+    ensures place { result.left ≡ length text.now }
+{
     if text.is_empty() {
         Fault::new(FaultKind::Unclosed, text, wanted)
     } else {
