@@ -1,5 +1,5 @@
 //! Rows of a filter: its input, its arguments, and its answer or its fault.
-use crate::samples::one;
+use crate::words::{value, values};
 use liquid_core::{ErrorKind, Filter, Value};
 use std::alloc::Global;
 use std::process::Abort;
@@ -26,10 +26,14 @@ impl<R: Abort> Rows<'_, R> {
         Value::Array(items)
     }
 
-    /// The map of one value.
-    pub(crate) fn map(&self, key: &str, value: Value) -> Value {
-        let pairs = one(self.alloc, key, value).expect(self.rt, "ample memory");
-        Value::Object(pairs)
+    /// The value that the words stand for.
+    pub(crate) fn value(&self, words: &str) -> Value {
+        value(self.alloc, words).expect(self.rt, "ample memory")
+    }
+
+    /// The values that the words stand for.
+    pub(crate) fn values(&self, words: &str) -> Vec<Value> {
+        values(self.alloc, words).expect(self.rt, "ample memory")
     }
 
     /// The filter accepts so many arguments and answers the value.
@@ -48,6 +52,12 @@ impl<R: Abort> Rows<'_, R> {
             }
             Err(fault) => assert_eq!(self.rt; fault.kind.name(), "none"),
         }
+    }
+
+    /// The filter gives the value that the words stand for, of an input and arguments in words.
+    pub(crate) fn words<F: Filter>(&self, filter: &F, input: &str, args: &str, wanted: &str) {
+        let args = self.values(args);
+        self.gives(filter, &self.value(input), &args, &self.value(wanted));
     }
 
     /// The filter accepts so many arguments and answers a fault of the kind.
