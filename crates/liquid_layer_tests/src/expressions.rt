@@ -69,7 +69,10 @@ fn has_value(alloc: Global, variable: &Variable, state: &State) -> Result<bool, 
 fn variables_by_their_steps(rt: HostRuntime) -> Result<(), Fail> {
     let alloc = rt.alloc();
     let by_last = steps(alloc, name(alloc, "key")?, literal(alloc, "-1")?)?;
-    assert_eq!(rt; shown(alloc, &Expression::Variable(by_last))?.as_str(), "five");
+    assert_eq!(rt;
+        shown(alloc, &Expression::Variable(by_last))?.as_str(),
+        "five"
+    );
     let by_nil = Expression::Variable(by_names(alloc, "key", "n")?);
     assert!(rt; !leads(alloc, &by_nil)?);
     assert!(rt; leads(alloc, &name(alloc, "n")?)?);

@@ -75,8 +75,13 @@ impl<R: Abort> Rows<'_, R> {
         }
     }
 
-    /// The filter gives the second text for the first.
-    pub(crate) fn texts<F: Filter>(&self, filter: &F, args: &[Value], rows: &[(&str, &str)]) {
+    /// The filter gives the second text for the first, with arguments in words.
+    pub(crate) fn texts<F: Filter>(&self, filter: &F, args: &str, rows: &[(&str, &str)]) {
+        self.texts_by(filter, &self.values(args), rows);
+    }
+
+    /// The filter gives the second text for the first, with these arguments.
+    pub(crate) fn texts_by<F: Filter>(&self, filter: &F, args: &[Value], rows: &[(&str, &str)]) {
         for (input, wanted) in rows {
             self.gives(filter, &self.text(input), args, &self.text(wanted));
         }

@@ -168,7 +168,10 @@ fn faults_of_a_message(rt: HostRuntime) -> Result<(), Fail> {
 fn faults_of_a_format(rt: HostRuntime) -> Result<(), Fail> {
     let message = format_args!("{} is decimal", "1.5");
     let fault = Error::formatted(rt.alloc(), ErrorKind::Float, message);
-    assert_eq!(rt; fault.to_string(rt.alloc())?.as_str(), "Float: 1.5 is decimal");
+    assert_eq!(rt;
+        fault.to_string(rt.alloc())?.as_str(),
+        "Float: 1.5 is decimal"
+    );
     Ok(())
 }
 
