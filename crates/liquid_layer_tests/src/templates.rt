@@ -173,10 +173,19 @@ fn message(alloc: Global, language: &Language, source: &str) -> Option<String> {
     }
 }
 
+/// The faults of the sources have these messages.
+fn tell(rt: &impl Abort, alloc: Global, rows: &[(&str, &str)]) -> Result<(), Fail> {
+    let language = small_language(alloc)?;
+    for (source, wanted) in rows {
+        let told = message(alloc, &language, source);
+        assert_eq!(rt; told.as_deref(), Some(*wanted), "{source}");
+    }
+    Ok(())
+}
+
 #[test]
 fn a_fault_tells_its_place(rt: HostRuntime) -> Result<(), Fail> {
-    let language = small_language(rt.alloc())?;
-    for (source, wanted) in [
+    let rows: &[(&str, &str)] = &[
         (
             "a\né {{ a | nosuch }}b",
             "line 2, column 3: found `{{ a | nosuch }}` where a registered filter is wanted; `nosuch` is unknown",
@@ -189,6 +198,17 @@ fn a_fault_tells_its_place(rt: HostRuntime) -> Result<(), Fail> {
             "{{ a | first | join: 1, b }}",
             "line 1, column 1: found `{{ a | first | join: 1, b }}` where a number of arguments that the filter takes is wanted; `join` doesn't take 2",
         ),
+        (
+            "x{{ a",
+            "line 1, column 6: the source ends where an item or `}}` is wanted",
+        ),
+    ];
+    tell(&rt, rt.alloc(), rows)
+}
+
+#[test]
+fn a_fault_of_a_tag_tells_its_place(rt: HostRuntime) -> Result<(), Fail> {
+    let rows: &[(&str, &str)] = &[
         (
             "{% asign a = 1 %}",
             "line 1, column 1: found `{% asign a = 1 %}` where a registered tag is wanted; `asign` is unknown, did you mean `assign`?",
@@ -205,15 +225,8 @@ fn a_fault_tells_its_place(rt: HostRuntime) -> Result<(), Fail> {
             "{% nosuch -%}",
             "line 1, column 1: found `{% nosuch -%}` where a registered tag is wanted; `nosuch` is unknown",
         ),
-        (
-            "x{{ a",
-            "line 1, column 6: the source ends where an item or `}}` is wanted",
-        ),
-    ] {
-        let told = message(rt.alloc(), &language, source);
-        assert_eq!(rt; told.as_deref(), Some(wanted), "{source}");
-    }
-    Ok(())
+    ];
+    tell(&rt, rt.alloc(), rows)
 }
 
 #[test]
