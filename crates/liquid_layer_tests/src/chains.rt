@@ -1,4 +1,5 @@
 //! Filters in order, of one type and of another, at examples.
+use crate::words::value;
 use liquid_core::{Expression, Filter, Result, State, Value, Variable};
 use liquid_filters::{FilterKind, stdlib};
 use liquid_syntax::{AnyFilter, FilterCall, apply_filters};
@@ -52,9 +53,8 @@ fn sorted_and_joined(alloc: Global, separator: Expression) -> Result<Value> {
     apply_filters(alloc, two_and_one(alloc)?, &calls, &state)
 }
 
-#[test]
-fn filters_of_any_type(rt: HostRuntime) -> std::result::Result<(), Fail> {
-    let alloc = rt.alloc();
+/// The text of the numbers 2 and 1 behind two filters of a type of ours.
+fn suffixed(alloc: Global) -> Result<String> {
     let state = State::new(alloc, BTreeMap::new(alloc));
     let calls = [
         FilterCall {
@@ -66,24 +66,30 @@ fn filters_of_any_type(rt: HostRuntime) -> std::result::Result<(), Fail> {
             args: &[],
         },
     ];
-    let answer = apply_filters(alloc, two_and_one(alloc)?, &calls, &state)?;
-    assert_eq!(rt; answer.text(alloc)?.as_str(), "21!?");
+    apply_filters(alloc, two_and_one(alloc)?, &calls, &state)?.text(alloc)
+}
+
+#[test]
+fn filters_of_any_type(rt: HostRuntime) -> std::result::Result<(), Fail> {
+    assert_eq!(rt; suffixed(rt.alloc())?.as_str(), "21!?");
     Ok(())
 }
 
 #[test]
 fn filters_of_a_chain(rt: HostRuntime) -> std::result::Result<(), Fail> {
-    let alloc = rt.alloc();
-    let dash = Expression::Literal(Value::Text(String::from_str(alloc, "-")?));
-    assert_eq!(rt;
-        sorted_and_joined(alloc, dash)?.text(alloc)?.as_str(),
-        "1-2"
-    );
+    let dash = Expression::Literal(value(rt.alloc(), "-")?);
+    let joined = sorted_and_joined(rt.alloc(), dash)?;
+    assert_eq!(rt; joined.text(rt.alloc())?.as_str(), "1-2");
+    Ok(())
+}
+
+#[test]
+fn a_missing_argument(rt: HostRuntime) -> std::result::Result<(), Fail> {
     let missing = Expression::Variable(Variable {
-        name: String::from_str(alloc, "nope")?,
-        indexes: Vec::new(alloc),
+        name: String::from_str(rt.alloc(), "nope")?,
+        indexes: Vec::new(rt.alloc()),
     });
-    match sorted_and_joined(alloc, missing) {
+    match sorted_and_joined(rt.alloc(), missing) {
         Ok(_) => assert!(rt; false, "a missing argument"),
         Err(fault) => assert_eq!(rt; fault.kind.name(), "UnknownVariable"),
     }

@@ -1,11 +1,12 @@
 //! What stands at a path in a value.
-use crate::samples::{one, pair, text, with};
-use liquid_core::Value;
+use crate::samples::text;
+use crate::words::value;
+use liquid_core::{Error, Value};
 use std::alloc::Global;
 use std::test::Fail;
 
 /// The steps between dots: `#7` is the number 7, `?` is true, and all else is a text.
-fn path(alloc: Global, written: &str) -> liquid_core::Result<Vec<Value>> {
+fn path(alloc: Global, written: &str) -> Result<Vec<Value>, Error> {
     let mut steps = Vec::new(alloc);
     for part in written.split('.') {
         let step = match part.strip_prefix("#") {
@@ -21,31 +22,25 @@ fn path(alloc: Global, written: &str) -> liquid_core::Result<Vec<Value>> {
     Ok(steps)
 }
 
-fn sample(alloc: Global) -> liquid_core::Result<Value> {
-    let keyed = with(
+fn sample(alloc: Global) -> Result<Value, Error> {
+    value(
         alloc,
-        one(alloc, "size", Value::Integer(7))?,
-        "true",
-        Value::Integer(1),
-    )?;
-    let keyed = with(alloc, keyed, "3", text(alloc, "three")?)?;
-    let list = pair(alloc, Value::Integer(10), Value::Integer(20))?;
-    let all = with(
-        alloc,
-        one(alloc, "list", list)?,
-        "map",
-        Value::Object(keyed),
-    )?;
-    let all = with(alloc, all, "text", text(alloc, "h\u{e9}llo")?)?;
-    let all = with(alloc, all, "number", Value::Integer(-12))?;
-    let all = with(alloc, all, "truth", Value::Bool(false))?;
-    Ok(Value::Object(with(alloc, all, "nil", Value::Nil)?))
+        "{ list [ 10 20 ] map { size 7 true 1 3 three } text h\u{e9}llo number -12 truth false 'nil nil }",
+    )
+}
+
+/// The text of what stands at the path.
+fn found(alloc: Global, value: &Value, written: &str) -> Result<Option<String>, Error> {
+    let steps = path(alloc, written)?;
+    match value.find(alloc, steps.as_slice())? {
+        Some(found) => Ok(Some(found.as_value().text(alloc)?)),
+        None => Ok(None),
+    }
 }
 
 #[test]
 fn along_a_path(rt: HostRuntime) -> Result<(), Fail> {
-    let alloc = rt.alloc();
-    let value = sample(alloc)?;
+    let value = sample(rt.alloc())?;
     for (written, wanted) in [
         ("list.#0", Some("10")),
         ("list.#-1", Some("20")),
@@ -71,29 +66,30 @@ fn along_a_path(rt: HostRuntime) -> Result<(), Fail> {
         ("nil.size", None),
         ("nope", None),
     ] {
-        let steps = path(alloc, written)?;
-        match value.find(alloc, steps.as_slice())? {
-            Some(found) => {
-                let shown = found.as_value().text(alloc)?;
-                assert_eq!(rt; Some(shown.as_str()), wanted, "at {written}");
-            }
-            None => assert_eq!(rt; None, wanted, "at {written}"),
-        }
+        let text = found(rt.alloc(), &value, written)?;
+        assert_eq!(rt; text.as_deref(), wanted, "at {written}");
     }
     Ok(())
 }
 
+/// Whether something stands at these steps.
+fn leads(alloc: Global, value: &Value, steps: &[Value]) -> Result<bool, Error> {
+    Ok(value.find(alloc, steps)?.is_some())
+}
+
 #[test]
-fn the_empty_path_and_steps_that_are_no_scalars(rt: HostRuntime) -> Result<(), Fail> {
-    let alloc = rt.alloc();
-    let value = sample(alloc)?;
-    let found = value.find(alloc, &[])?.ok_or("the value itself")?;
-    assert!(rt; found.into_owned(alloc)? == value);
-    assert!(rt; value.find(alloc, &[Value::Nil])?.is_none());
-    assert!(rt;
-        value
-            .find(alloc, &[Value::Array(Vec::new(alloc))])?
-            .is_none()
-    );
+fn the_empty_path(rt: HostRuntime) -> Result<(), Fail> {
+    let value = sample(rt.alloc())?;
+    let found = value.find(rt.alloc(), &[])?.ok_or("the value itself")?;
+    assert!(rt; found.into_owned(rt.alloc())? == value);
+    Ok(())
+}
+
+#[test]
+fn steps_that_are_no_scalars(rt: HostRuntime) -> Result<(), Fail> {
+    let value = sample(rt.alloc())?;
+    assert!(rt; !leads(rt.alloc(), &value, &[Value::Nil])?);
+    let list = [Value::Array(Vec::new(rt.alloc()))];
+    assert!(rt; !leads(rt.alloc(), &value, &list)?);
     Ok(())
 }

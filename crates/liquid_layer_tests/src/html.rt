@@ -11,12 +11,12 @@ fn escapes(rt: HostRuntime) {
     };
     rows.texts(
         &Escape,
-        &[],
+        "",
         &[("a<é>'\"&", "a&lt;é&gt;&#39;&quot;&amp;"), ("", "")],
     );
     rows.texts(
         &EscapeOnce,
-        &[],
+        "",
         &[
             (
                 "&lt;&gt;&amp;&#39;&quot;&xyz;",
@@ -39,12 +39,12 @@ fn lines_and_tags(rt: HostRuntime) {
     };
     rows.texts(
         &NewlineToBr,
-        &[],
+        "",
         &[("a\nb", "a<br />\nb"), ("é\r\n", "é\r<br />\n")],
     );
     rows.texts(
         &StripHtml,
-        &[],
+        "",
         &[
             ("a<b>c</b", "ac</b"),
             ("<script>x", "x"),

@@ -45,7 +45,7 @@ const LEAST: i64 = i64::MIN;
 const MOST: i64 = i64::MAX;
 
 #[test]
-fn whole_numbers(rt: HostRuntime) {
+fn sums_and_products(rt: HostRuntime) {
     let rows = Rows {
         rt: &rt,
         alloc: rt.alloc(),
@@ -70,6 +70,14 @@ fn whole_numbers(rt: HostRuntime) {
             (LEAST, -1, "NumberRange"),
         ],
     );
+}
+
+#[test]
+fn quotients_and_bounds(rt: HostRuntime) {
+    let rows = Rows {
+        rt: &rt,
+        alloc: rt.alloc(),
+    };
     rows.of_numbers(
         &DividedBy,
         &[
@@ -159,6 +167,14 @@ fn decimals(rt: HostRuntime) {
             ("5.", "InvalidInput"),
         ],
     );
+}
+
+#[test]
+fn rounded_to_digits(rt: HostRuntime) {
+    let rows = Rows {
+        rt: &rt,
+        alloc: rt.alloc(),
+    };
     let half = rows.text("2.5");
     rows.row(&Round, &half, &[Value::Integer(1)], "Float");
     rows.row(&Round, &half, &[Value::Integer(-1)], "3");

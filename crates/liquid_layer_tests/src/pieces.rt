@@ -6,6 +6,7 @@ use liquid_source::{
 use std::alloc::Global;
 use std::collections::VecDeque;
 use std::fmt::Write;
+use std::process::Abort;
 use std::test::Fail;
 
 fn show_text(out: &mut String, text: &str) -> Result<(), ParseError> {
@@ -94,9 +95,17 @@ fn shown(alloc: Global, source: &str) -> Result<String, Fail> {
     }
 }
 
+/// Each source is shown as wanted.
+fn all_shown(rt: &impl Abort, alloc: Global, rows: &[(&str, &str)]) -> Result<(), Fail> {
+    for (source, want) in rows {
+        assert_eq!(rt; shown(alloc, source)?.as_str(), *want, "{source}");
+    }
+    Ok(())
+}
+
 #[test]
 fn texts_and_marks(rt: HostRuntime) -> Result<(), Fail> {
-    let rows = [
+    let rows: &[(&str, &str)] = &[
         ("", ""),
         ("a }} %} { b", "'a }} %} { b'"),
         ("a {{- -5 -}} b", "'a'[ -5<-5> ]'b'"),
@@ -113,15 +122,12 @@ fn texts_and_marks(rt: HostRuntime) -> Result<(), Fail> {
             "[ \"it's\"<\"it's\"> ][ \"\"\"<'\"'> ]",
         ),
     ];
-    for (source, want) in rows {
-        assert_eq!(rt; shown(rt.alloc(), source)?.as_str(), want, "{source}");
-    }
-    Ok(())
+    all_shown(&rt, rt.alloc(), rows)
 }
 
 #[test]
-fn items(rt: HostRuntime) -> Result<(), Fail> {
-    let rows = [
+fn literals(rt: HostRuntime) -> Result<(), Fail> {
+    let rows: &[(&str, &str)] = &[
         (
             "{{ nil null true false }}",
             "[ nil<nil> nil<null> true<true> false<false> ]",
@@ -140,6 +146,13 @@ fn items(rt: HostRuntime) -> Result<(), Fail> {
         ("{{ 1a }}", "BadItem"),
         ("{{ 1_ }}", "BadItem"),
         ("{{ 1. }}", "BadItem"),
+    ];
+    all_shown(&rt, rt.alloc(), rows)
+}
+
+#[test]
+fn variables(rt: HostRuntime) -> Result<(), Fail> {
+    let rows: &[(&str, &str)] = &[
         (
             "{{ a.b[1].c-d[ 'x' ][e.f] }}",
             "[ a[\"b\"][1][\"c-d\"][\"x\"][e[\"f\"]]<a.b[1].c-d[ 'x' ][e.f]> ]",
@@ -150,6 +163,13 @@ fn items(rt: HostRuntime) -> Result<(), Fail> {
         ("{{ a [b] }}", "BadItem"),
         ("{{ nil.a }}", "BadItem"),
         ("{{ true[0] }}", "BadItem"),
+    ];
+    all_shown(&rt, rt.alloc(), rows)
+}
+
+#[test]
+fn words_of_state(rt: HostRuntime) -> Result<(), Fail> {
+    let rows: &[(&str, &str)] = &[
         ("{{ empty }}", "StateWord"),
         ("{{ a[blank] }}", "StateWord"),
         (
@@ -157,6 +177,13 @@ fn items(rt: HostRuntime) -> Result<(), Fail> {
             "[ a[\"empty\"]<a.empty> emptyx<emptyx> ]",
         ),
         ("{% empty %}", "[empty:]"),
+    ];
+    all_shown(&rt, rt.alloc(), rows)
+}
+
+#[test]
+fn ranges(rt: HostRuntime) -> Result<(), Fail> {
+    let rows: &[(&str, &str)] = &[
         (
             "{{ (1..a.b) ( 'x' .. -2 ) }}",
             "[ (1..a[\"b\"]) (\"x\"..-2) ]",
@@ -165,6 +192,13 @@ fn items(rt: HostRuntime) -> Result<(), Fail> {
         ("{{ (nil ..3) }}", "[ (nil..3) ]"),
         ("{{ (blank..2) }}", "StateWord"),
         ("{{ (1...2) }}", "BadItem"),
+    ];
+    all_shown(&rt, rt.alloc(), rows)
+}
+
+#[test]
+fn symbols(rt: HostRuntime) -> Result<(), Fail> {
+    let rows: &[(&str, &str)] = &[
         (
             "{% t ==!=<><=>=<>:,|= %}",
             "[t: Equals NotEquals LessOrGreater LessThanEquals GreaterThanEquals LessOrGreater Colon Comma Bar Assign]",
@@ -174,6 +208,13 @@ fn items(rt: HostRuntime) -> Result<(), Fail> {
             "[t: a<a> LessThan b<b> GreaterThan c<c> Equals Assign d<d>]",
         ),
         ("{{ a ! b }}", "BadItem"),
+    ];
+    all_shown(&rt, rt.alloc(), rows)
+}
+
+#[test]
+fn items_cut_short(rt: HostRuntime) -> Result<(), Fail> {
+    let rows: &[(&str, &str)] = &[
         ("{% %}", "Expected"),
         ("{% 'a' %}", "Expected"),
         ("a{{ x", "Unclosed"),
@@ -187,15 +228,12 @@ fn items(rt: HostRuntime) -> Result<(), Fail> {
         ("{%", "Unclosed"),
         ("{% a %", "BadItem"),
     ];
-    for (source, want) in rows {
-        assert_eq!(rt; shown(rt.alloc(), source)?.as_str(), want, "{source}");
-    }
-    Ok(())
+    all_shown(&rt, rt.alloc(), rows)
 }
 
 #[test]
 fn bodies(rt: HostRuntime) -> Result<(), Fail> {
-    let rows = [
+    let rows: &[(&str, &str)] = &[
         (
             "{%raw%}hello{%if%}world{%endraw%}",
             "[raw=hello{%if%}world]",
@@ -228,10 +266,7 @@ fn bodies(rt: HostRuntime) -> Result<(), Fail> {
         ("{% comment %}é{% endcomment %}é", "[comment]'é'"),
         ("{% comment x %}", "[comment: x<x>]"),
     ];
-    for (source, want) in rows {
-        assert_eq!(rt; shown(rt.alloc(), source)?.as_str(), want, "{source}");
-    }
-    Ok(())
+    all_shown(&rt, rt.alloc(), rows)
 }
 
 /// The text `before` so many times, `inside`, and the text `after` as often.

@@ -1,5 +1,5 @@
 //! Rows of a filter: its input, its arguments, and its answer or its fault.
-use crate::samples::one;
+use crate::words::{value, values};
 use liquid_core::{ErrorKind, Filter, Value};
 use std::alloc::Global;
 use std::process::Abort;
@@ -26,10 +26,14 @@ impl<R: Abort> Rows<'_, R> {
         Value::Array(items)
     }
 
-    /// The map of one value.
-    pub(crate) fn map(&self, key: &str, value: Value) -> Value {
-        let pairs = one(self.alloc, key, value).expect(self.rt, "ample memory");
-        Value::Object(pairs)
+    /// The value that the words stand for.
+    pub(crate) fn value(&self, words: &str) -> Value {
+        value(self.alloc, words).expect(self.rt, "ample memory")
+    }
+
+    /// The values that the words stand for.
+    pub(crate) fn values(&self, words: &str) -> Vec<Value> {
+        values(self.alloc, words).expect(self.rt, "ample memory")
     }
 
     /// The filter accepts so many arguments and answers the value.
@@ -50,6 +54,12 @@ impl<R: Abort> Rows<'_, R> {
         }
     }
 
+    /// The filter gives the value that the words stand for, of an input and arguments in words.
+    pub(crate) fn words<F: Filter>(&self, filter: &F, input: &str, args: &str, wanted: &str) {
+        let args = self.values(args);
+        self.gives(filter, &self.value(input), &args, &self.value(wanted));
+    }
+
     /// The filter accepts so many arguments and answers a fault of the kind.
     pub(crate) fn refuses<F: Filter>(
         &self,
@@ -65,8 +75,13 @@ impl<R: Abort> Rows<'_, R> {
         }
     }
 
-    /// The filter gives the second text for the first.
-    pub(crate) fn texts<F: Filter>(&self, filter: &F, args: &[Value], rows: &[(&str, &str)]) {
+    /// The filter gives the second text for the first, with arguments in words.
+    pub(crate) fn texts<F: Filter>(&self, filter: &F, args: &str, rows: &[(&str, &str)]) {
+        self.texts_by(filter, &self.values(args), rows);
+    }
+
+    /// The filter gives the second text for the first, with these arguments.
+    pub(crate) fn texts_by<F: Filter>(&self, filter: &F, args: &[Value], rows: &[(&str, &str)]) {
         for (input, wanted) in rows {
             self.gives(filter, &self.text(input), args, &self.text(wanted));
         }

@@ -1,8 +1,9 @@
 //! Sources that are parsed, and sources that are refused, at examples.
 use liquid_core::{Error, ErrorKind};
 use liquid_filters::{FilterKind, stdlib};
-use liquid_syntax::{BlockKind, Language, Node, Partials, TagKind, parse};
+use liquid_syntax::{BlockKind, Language, Node, Partials, TagKind, Template, parse};
 use std::alloc::Global;
+use std::process::Abort;
 use std::test::Fail;
 
 /// `assign`, and the filters `join` and `first`.
@@ -45,10 +46,24 @@ fn read(alloc: Global, language: &Language, source: &str) -> std::result::Result
     }
 }
 
+/// Each source has so many nodes.
+fn have_nodes(rt: &impl Abort, alloc: Global, language: &Language, rows: &[(&str, usize)]) {
+    for (source, nodes) in rows {
+        assert_eq!(rt; read(alloc, language, source), Ok(*nodes), "{source}");
+    }
+}
+
+/// Each source is refused, by a fault of the kind.
+fn are_refused(rt: &impl Abort, alloc: Global, language: &Language, rows: &[(&str, ErrorKind)]) {
+    for (source, kind) in rows {
+        assert_eq!(rt; read(alloc, language, source), Err(*kind), "{source}");
+    }
+}
+
 #[test]
 fn sources_have_nodes(rt: HostRuntime) -> Result<(), Fail> {
     let language = small_language(rt.alloc())?;
-    for (source, nodes) in [
+    let rows: &[(&str, usize)] = &[
         ("", 0),
         ("a }} b %} { % } {", 1),
         ("Hello {{ name }}!{% assign x = 2 %} {{ x }}", 6),
@@ -65,16 +80,15 @@ fn sources_have_nodes(rt: HostRuntime) -> Result<(), Fail> {
             "{{ l | join: '-' | first }}{{l|join|first|join:a[b[0]].c}}",
             2,
         ),
-    ] {
-        assert_eq!(rt; read(rt.alloc(), &language, source), Ok(nodes), "{source}");
-    }
+    ];
+    have_nodes(&rt, rt.alloc(), &language, rows);
     Ok(())
 }
 
 #[test]
 fn sources_are_refused(rt: HostRuntime) -> Result<(), Fail> {
     let language = small_language(rt.alloc())?;
-    for (source, kind) in [
+    let rows: &[(&str, ErrorKind)] = &[
         ("a{{ x", ErrorKind::Unclosed),
         ("{{ 'a }}", ErrorKind::Unclosed),
         ("{{ a.", ErrorKind::BadItem),
@@ -90,6 +104,15 @@ fn sources_are_refused(rt: HostRuntime) -> Result<(), Fail> {
         ("{% if x %}{% endif %}", ErrorKind::UnknownTag),
         ("{% else %}", ErrorKind::UnknownTag),
         ("{% %}", ErrorKind::Expected),
+    ];
+    are_refused(&rt, rt.alloc(), &language, rows);
+    Ok(())
+}
+
+#[test]
+fn outputs_and_tags_are_refused(rt: HostRuntime) -> Result<(), Fail> {
+    let language = small_language(rt.alloc())?;
+    let rows: &[(&str, ErrorKind)] = &[
         ("{{ a | nosuch }}", ErrorKind::UnknownFilter),
         ("{{ a | nosuch: 1, 2 }}", ErrorKind::UnknownFilter),
         ("{{ a | join: 1, 2 }}", ErrorKind::FilterArguments),
@@ -110,9 +133,8 @@ fn sources_are_refused(rt: HostRuntime) -> Result<(), Fail> {
         ("{% assign a == 1 %}", ErrorKind::Expected),
         ("{% assign a = 1 2 %}", ErrorKind::Expected),
         ("{{ a | nosuch }}{{ 1.5 }}", ErrorKind::UnknownFilter),
-    ] {
-        assert_eq!(rt; read(rt.alloc(), &language, source), Err(kind), "{source}");
-    }
+    ];
+    are_refused(&rt, rt.alloc(), &language, rows);
     Ok(())
 }
 
@@ -143,10 +165,27 @@ fn a_source_is_cut_at_every_byte(rt: HostRuntime) -> Result<(), Fail> {
     Ok(())
 }
 
+/// The message of the source's fault, where it has one.
+fn message(alloc: Global, language: &Language, source: &str) -> Option<String> {
+    match parse(alloc, source, language) {
+        Ok(_) => None,
+        Err(error) => error.message,
+    }
+}
+
+/// The faults of the sources have these messages.
+fn tell(rt: &impl Abort, alloc: Global, rows: &[(&str, &str)]) -> Result<(), Fail> {
+    let language = small_language(alloc)?;
+    for (source, wanted) in rows {
+        let told = message(alloc, &language, source);
+        assert_eq!(rt; told.as_deref(), Some(*wanted), "{source}");
+    }
+    Ok(())
+}
+
 #[test]
 fn a_fault_tells_its_place(rt: HostRuntime) -> Result<(), Fail> {
-    let language = small_language(rt.alloc())?;
-    for (source, message) in [
+    let rows: &[(&str, &str)] = &[
         (
             "a\né {{ a | nosuch }}b",
             "line 2, column 3: found `{{ a | nosuch }}` where a registered filter is wanted; `nosuch` is unknown",
@@ -159,6 +198,17 @@ fn a_fault_tells_its_place(rt: HostRuntime) -> Result<(), Fail> {
             "{{ a | first | join: 1, b }}",
             "line 1, column 1: found `{{ a | first | join: 1, b }}` where a number of arguments that the filter takes is wanted; `join` doesn't take 2",
         ),
+        (
+            "x{{ a",
+            "line 1, column 6: the source ends where an item or `}}` is wanted",
+        ),
+    ];
+    tell(&rt, rt.alloc(), rows)
+}
+
+#[test]
+fn a_fault_of_a_tag_tells_its_place(rt: HostRuntime) -> Result<(), Fail> {
+    let rows: &[(&str, &str)] = &[
         (
             "{% asign a = 1 %}",
             "line 1, column 1: found `{% asign a = 1 %}` where a registered tag is wanted; `asign` is unknown, did you mean `assign`?",
@@ -175,24 +225,12 @@ fn a_fault_tells_its_place(rt: HostRuntime) -> Result<(), Fail> {
             "{% nosuch -%}",
             "line 1, column 1: found `{% nosuch -%}` where a registered tag is wanted; `nosuch` is unknown",
         ),
-        (
-            "x{{ a",
-            "line 1, column 6: the source ends where an item or `}}` is wanted",
-        ),
-    ] {
-        match parse(rt.alloc(), source, &language) {
-            Ok(_) => assert!(rt; false, "{source}"),
-            Err(error) => match &error.message {
-                Some(told) => assert_eq!(rt; told.as_str(), message),
-                None => assert!(rt; false, "{source}"),
-            },
-        }
-    }
-    Ok(())
+    ];
+    tell(&rt, rt.alloc(), rows)
 }
 
 #[test]
-fn a_later_name_replaces(rt: HostRuntime) -> Result<(), Fail> {
+fn a_later_filter_replaces(rt: HostRuntime) -> Result<(), Fail> {
     let mut language = small_language(rt.alloc())?;
     language.filters.register(
         String::from_str(rt.alloc(), "join")?,
@@ -202,18 +240,30 @@ fn a_later_name_replaces(rt: HostRuntime) -> Result<(), Fail> {
         read(rt.alloc(), &language, "{{ a | join: 1 }}"),
         Err(ErrorKind::FilterArguments)
     );
-    let mut partials = Partials::new(rt.alloc());
-    for source in ["a", "{{ a }}{{ b }}"] {
-        let template = parse(rt.alloc(), source, &language)?;
-        partials.insert(String::from_str(rt.alloc(), "p")?, template)?;
+    Ok(())
+}
+
+/// Partials with `p` of the first source, and then of the second.
+fn inserted(alloc: Global, first: &str, second: &str) -> Result<Partials, Error> {
+    let language = small_language(alloc)?;
+    let mut partials = Partials::new(alloc);
+    for source in [first, second] {
+        let template = parse(alloc, source, &language)?;
+        partials.insert(String::from_str(alloc, "p")?, template)?;
     }
-    match partials.get("p") {
-        Some(template) => match template.nodes() {
-            [Node::Output(_), Node::Output(_)] => {}
-            _ => assert!(rt; false, "two outputs"),
-        },
-        None => assert!(rt; false, "the partial"),
-    }
+    Ok(partials)
+}
+
+/// Whether the template is two outputs.
+fn is_two_outputs(template: &Template) -> bool {
+    matches!(template.nodes(), [Node::Output(_), Node::Output(_)])
+}
+
+#[test]
+fn a_later_partial_replaces(rt: HostRuntime) -> Result<(), Fail> {
+    let partials = inserted(rt.alloc(), "a", "{{ a }}{{ b }}")?;
+    let template = partials.get("p").ok_or("the partial")?;
+    assert!(rt; is_two_outputs(template), "two outputs");
     assert!(rt; partials.get("q").is_none());
     Ok(())
 }
@@ -221,7 +271,7 @@ fn a_later_name_replaces(rt: HostRuntime) -> Result<(), Fail> {
 #[test]
 fn blocks_are_nodes(rt: HostRuntime) -> Result<(), Fail> {
     let language = language_with_blocks(rt.alloc())?;
-    for (source, nodes) in [
+    let rows: &[(&str, usize)] = &[
         ("{% if a %}{% endif %}", 1),
         ("{% if a %}b{% endif %}c", 3),
         ("{% if a %}b{% elsif c %}d{% else %}e{% endif %}f", 6),
@@ -246,16 +296,15 @@ fn blocks_are_nodes(rt: HostRuntime) -> Result<(), Fail> {
             "{% comment %}{% comment %}{% endcomment %}{{ {% endcomment %}",
             1,
         ),
-    ] {
-        assert_eq!(rt; read(rt.alloc(), &language, source), Ok(nodes), "{source}");
-    }
+    ];
+    have_nodes(&rt, rt.alloc(), &language, rows);
     Ok(())
 }
 
 #[test]
 fn blocks_are_refused(rt: HostRuntime) -> Result<(), Fail> {
     let language = language_with_blocks(rt.alloc())?;
-    for (source, kind) in [
+    let rows: &[(&str, ErrorKind)] = &[
         ("{% if a %}", ErrorKind::MissingEnd),
         ("{% if a %}{% else %}", ErrorKind::MissingEnd),
         ("{% if a %}{% if b %}{% endif %}", ErrorKind::MissingEnd),
@@ -284,9 +333,8 @@ fn blocks_are_refused(rt: HostRuntime) -> Result<(), Fail> {
         ("{% raw x %}{% endraw %}", ErrorKind::Expected),
         ("{% comment 1 %}{% endcomment %}", ErrorKind::Expected),
         ("{% if a | first %}{% endif %}", ErrorKind::Expected),
-    ] {
-        assert_eq!(rt; read(rt.alloc(), &language, source), Err(kind), "{source}");
-    }
+    ];
+    are_refused(&rt, rt.alloc(), &language, rows);
     Ok(())
 }
 
@@ -340,15 +388,14 @@ fn blocks_nest_at_most_200_deep(rt: HostRuntime) -> Result<(), Fail> {
 fn a_name_is_a_tag_before_a_block(rt: HostRuntime) -> Result<(), Fail> {
     let mut language = language_with_blocks(rt.alloc())?;
     for name in ["raw", "else", "endif"] {
-        language
-            .tags
-            .register(String::from_str(rt.alloc(), name)?, TagKind::Assign)?;
+        let name = String::from_str(rt.alloc(), name)?;
+        language.tags.register(name, TagKind::Assign)?;
     }
-    assert_eq!(rt; read(rt.alloc(), &language, "{% raw a = 1 %}"), Ok(1));
-    assert_eq!(rt;
-        read(rt.alloc(), &language, "{% if a %}{% else = 1 %}{% endif %}"),
-        Ok(1)
-    );
-    assert_eq!(rt; read(rt.alloc(), &language, "{% endif a = 1 %}"), Ok(1));
+    let rows: &[(&str, usize)] = &[
+        ("{% raw a = 1 %}", 1),
+        ("{% if a %}{% else = 1 %}{% endif %}", 1),
+        ("{% endif a = 1 %}", 1),
+    ];
+    have_nodes(&rt, rt.alloc(), &language, rows);
     Ok(())
 }

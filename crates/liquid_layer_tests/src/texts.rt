@@ -16,18 +16,12 @@ fn sizes_and_defaults(rt: HostRuntime) {
     for (text, size) in [("", 0), ("é!", 3), ("this has 22 characters", 22)] {
         rows.gives(&Size, &rows.text(text), &[], &Value::Integer(size));
     }
-    rows.gives(&Size, &Value::Bool(false), &[], &Value::Integer(5));
-    rows.gives(&Size, &Value::Integer(i64::MIN), &[], &Value::Integer(20));
-    rows.texts(&Default, &[rows.text("d")], &[("", "d"), ("a", "a")]);
-    let one = Value::Integer(1);
-    rows.gives(&Default, &Value::Bool(false), &[Value::Integer(1)], &one);
-    rows.gives(&Default, &rows.list(&[]), &[Value::Integer(1)], &one);
-    rows.gives(
-        &Default,
-        &rows.list(&[""]),
-        &[Value::Integer(1)],
-        &rows.list(&[""]),
-    );
+    rows.words(&Size, "false", "", "5");
+    rows.words(&Size, "-9223372036854775808", "", "20");
+    rows.texts(&Default, "d", &[("", "d"), ("a", "a")]);
+    rows.words(&Default, "false", "1", "1");
+    rows.words(&Default, "[ ]", "1", "1");
+    rows.words(&Default, "[ ' ]", "1", "[ ' ]");
 }
 
 #[test]
@@ -36,31 +30,27 @@ fn cases_and_strips(rt: HostRuntime) {
         rt: &rt,
         alloc: rt.alloc(),
     };
-    rows.texts(
-        &Downcase,
-        &[],
-        &[("Hello 2020", "hello 2020"), ("ÉA", "Éa")],
-    );
-    rows.texts(&Upcase, &[], &[("abc", "ABC"), ("éa", "éA")]);
+    rows.texts(&Downcase, "", &[("Hello 2020", "hello 2020"), ("ÉA", "Éa")]);
+    rows.texts(&Upcase, "", &[("abc", "ABC"), ("éa", "éA")]);
     rows.texts(
         &Capitalize,
-        &[],
+        "",
         &[("", ""), ("aBC dE", "ABC dE"), ("éa", "éa")],
     );
     rows.texts(
         &Strip,
-        &[],
+        "",
         &[(" \n \r\t\u{a0}a b\u{85} ", "a b"), (" \u{3000}", "")],
     );
     rows.texts(
         &Lstrip,
-        &[],
+        "",
         &[(" \n \r\u{2003}a b ", "a b "), ("\u{200b}a", "\u{200b}a")],
     );
-    rows.texts(&Rstrip, &[], &[(" a b \u{2028}\t", " a b")]);
+    rows.texts(&Rstrip, "", &[(" a b \u{2028}\t", " a b")]);
     rows.texts(
         &StripNewlines,
-        &[],
+        "",
         &[("a\nb\r\nc", "abc"), ("\n", ""), ("\u{85}\t", "\u{85}\t")],
     );
 }
@@ -71,38 +61,22 @@ fn joined_and_replaced(rt: HostRuntime) {
         rt: &rt,
         alloc: rt.alloc(),
     };
-    rows.texts(&Append, &[rows.text("f")], &[("sam", "samf"), ("", "f")]);
-    rows.texts(&Prepend, &[rows.text("f")], &[("barbar", "fbarbar")]);
-    rows.texts(&Append, &[Value::Integer(-1)], &[("a", "a-1")]);
-    rows.texts(
-        &Replace,
-        &[rows.text("bar"), rows.text("foo")],
-        &[("barbar", "foofoo"), ("", "")],
-    );
-    rows.texts(
-        &Replace,
-        &[rows.text(""), rows.text("-")],
-        &[("ab", "-a-b-"), ("é", "-é-"), ("", "-")],
-    );
-    rows.texts(
-        &Replace,
-        &[rows.text("aa"), rows.text("b")],
-        &[("aaa", "ba")],
-    );
-    rows.texts(&Replace, &[rows.text("bar")], &[("barbar", "")]);
+    rows.texts(&Append, "f", &[("sam", "samf"), ("", "f")]);
+    rows.texts(&Prepend, "f", &[("barbar", "fbarbar")]);
+    rows.texts(&Append, "-1", &[("a", "a-1")]);
+    rows.texts(&Replace, "bar foo", &[("barbar", "foofoo"), ("", "")]);
+    rows.texts(&Replace, "' -", &[("ab", "-a-b-"), ("é", "-é-"), ("", "-")]);
+    rows.texts(&Replace, "aa b", &[("aaa", "ba")]);
+    rows.texts(&Replace, "bar", &[("barbar", "")]);
     rows.texts(
         &ReplaceFirst,
-        &[rows.text("xo"), rows.text("foo")],
+        "xo foo",
         &[("barxoxo", "barfooxo"), ("ox", "ox")],
     );
-    rows.texts(
-        &ReplaceFirst,
-        &[rows.text(""), rows.text("-")],
-        &[("ab", "-ab"), ("", "-")],
-    );
-    rows.texts(&Remove, &[rows.text("a")], &[("barbar", "brbr")]);
-    rows.texts(&RemoveFirst, &[rows.text("a")], &[("barbar", "brbar")]);
-    rows.texts(&Remove, &[rows.text("")], &[("ab", "ab")]);
+    rows.texts(&ReplaceFirst, "' -", &[("ab", "-ab"), ("", "-")]);
+    rows.texts(&Remove, "a", &[("barbar", "brbr")]);
+    rows.texts(&RemoveFirst, "a", &[("barbar", "brbar")]);
+    rows.texts(&Remove, "'", &[("ab", "ab")]);
 }
 
 #[test]
@@ -148,9 +122,9 @@ fn slices(rt: HostRuntime) {
         ("", 0, 1, ""),
     ] {
         let args = [Value::Integer(offset), Value::Integer(length)];
-        rows.texts(&Slice, &args, &[(text, part)]);
+        rows.texts_by(&Slice, &args, &[(text, part)]);
     }
-    rows.texts(&Slice, &[rows.text("1")], &[("abc", "b")]);
+    rows.texts(&Slice, "'1", &[("abc", "b")]);
     for arg in [rows.text("a"), Value::Nil, Value::Bool(true)] {
         rows.refuses(&Slice, &Value::Nil, &[arg], ErrorKind::InvalidArgument);
     }
@@ -176,27 +150,22 @@ fn truncated(rt: HostRuntime) {
         (1, "é", "..."),
         (4, "ééé", "é..."),
     ] {
-        rows.texts(&Truncate, &[Value::Integer(length)], &[(text, shortened)]);
+        rows.texts_by(&Truncate, &[Value::Integer(length)], &[(text, shortened)]);
     }
     rows.texts(
         &Truncate,
-        &[Value::Integer(25), rows.text(", and so on")],
+        "25 ,~and~so~on",
         &[("Ground control to Major Tom.", "Ground control, and so on")],
     );
     rows.texts(
         &Truncate,
-        &[],
+        "",
         &[(
             "0123456789 0123456789 0123456789 0123456789 0123456789",
             "0123456789 0123456789 0123456789 0123456789 012...",
         )],
     );
-    rows.gives(
-        &Truncate,
-        &Value::Integer(10000000),
-        &[Value::Integer(5)],
-        &rows.text("10..."),
-    );
+    rows.words(&Truncate, "10000000", "5", "10...");
     rows.refuses(
         &Truncate,
         &Value::Nil,
@@ -222,18 +191,14 @@ fn words(rt: HostRuntime) {
         (-1, "a b", "a b"),
         (i64::MAX, "a b", "a b"),
     ] {
-        rows.texts(
+        rows.texts_by(
             &TruncateWords,
             &[Value::Integer(count)],
             &[(text, shortened)],
         );
     }
-    rows.texts(
-        &TruncateWords,
-        &[Value::Integer(2), Value::Integer(1)],
-        &[("one two three", "one two1")],
-    );
-    rows.texts(&TruncateWords, &[], &[("a b", "a b")]);
+    rows.texts(&TruncateWords, "2 1", &[("one two three", "one two1")]);
+    rows.texts(&TruncateWords, "", &[("a b", "a b")]);
     rows.refuses(
         &TruncateWords,
         &Value::Nil,

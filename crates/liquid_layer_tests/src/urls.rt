@@ -11,7 +11,7 @@ fn urls(rt: HostRuntime) {
     };
     rows.texts(
         &UrlEncode,
-        &[],
+        "",
         &[
             ("foo+1@example.com", "foo%2B1%40example.com"),
             ("foo bar", "foo%20bar"),
@@ -21,7 +21,7 @@ fn urls(rt: HostRuntime) {
     );
     rows.texts(
         &UrlDecode,
-        &[],
+        "",
         &[
             ("foo%2B1%40example.com", "foo+1@example.com"),
             ("a+b%2Bc", "a b+c"),

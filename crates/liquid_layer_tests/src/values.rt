@@ -1,8 +1,9 @@
 //! Values: their texts, tests and orders; and faults.
-use crate::samples::{one, pair, text, with};
+use crate::samples::text;
+use crate::words::{object, value, values};
 use liquid_core::{Error, ErrorKind, Value, ValueCow, copy_items, look_up};
+use std::alloc::Global;
 use std::cmp::Ordering;
-use std::collections::BTreeMap;
 use std::hash::{DefaultHasher, Hash, Hasher};
 use std::test::Fail;
 
@@ -12,16 +13,26 @@ fn hash_of(value: &Value) -> u64 {
     state.finish()
 }
 
+/// The text of the value behind a text.
+fn behind(alloc: Global, front: &str, value: &Value) -> Result<String, Error> {
+    let mut out = String::from_str(alloc, front)?;
+    value.append_text(&mut out)?;
+    Ok(out)
+}
+
 #[test]
 fn texts(rt: HostRuntime) -> Result<(), Fail> {
-    let alloc = rt.alloc();
-    let items = pair(alloc, Value::Integer(-7), text(alloc, "x")?)?;
-    let value = Value::Object(with(alloc, one(alloc, "b", items)?, "a", Value::Bool(true))?);
-    assert_eq!(rt; value.text(alloc)?.as_str(), "atrueb-7x");
-    let mut appended = String::from_str(alloc, "a ")?;
-    Value::Integer(i64::MIN).append_text(&mut appended)?;
+    let value = value(rt.alloc(), "{ b [ -7 x ] a true }")?;
+    assert_eq!(rt; value.text(rt.alloc())?.as_str(), "atrueb-7x");
+    let appended = behind(rt.alloc(), "a ", &Value::Integer(i64::MIN))?;
     assert_eq!(rt; appended.as_str(), "a -9223372036854775808");
-    let copy = value.copy(alloc)?;
+    Ok(())
+}
+
+#[test]
+fn copies(rt: HostRuntime) -> Result<(), Fail> {
+    let value = value(rt.alloc(), "{ b [ -7 x ] a true }")?;
+    let copy = value.copy(rt.alloc())?;
     assert!(rt; copy == value && hash_of(&copy) == hash_of(&value));
     assert!(rt; value.is_truthy() && !value.is_default() && !value.is_scalar());
     Ok(())
@@ -29,42 +40,49 @@ fn texts(rt: HostRuntime) -> Result<(), Fail> {
 
 #[test]
 fn kinds_by_their_tests(rt: HostRuntime) -> Result<(), Fail> {
-    let alloc = rt.alloc();
-    for (value, is_truthy, is_default, is_scalar) in [
-        (Value::Nil, false, true, false),
-        (Value::Bool(false), false, true, true),
-        (Value::Bool(true), true, false, true),
-        (Value::Integer(0), true, false, true),
-        (text(alloc, "")?, true, true, true),
-        (text(alloc, "a")?, true, false, true),
-        (Value::Array(Vec::new(alloc)), true, true, false),
-        (Value::Object(BTreeMap::new(alloc)), true, true, false),
+    for (words, is_truthy, is_default, is_scalar) in [
+        ("nil", false, true, false),
+        ("false", false, true, true),
+        ("true", true, false, true),
+        ("0", true, false, true),
+        ("'", true, true, true),
+        ("a", true, false, true),
+        ("[ ]", true, true, false),
+        ("{ }", true, true, false),
     ] {
-        assert_eq!(rt; value.is_truthy(), is_truthy, "of {value}");
-        assert_eq!(rt; value.is_default(), is_default, "of {value}");
-        assert_eq!(rt; value.is_scalar(), is_scalar, "of {value}");
+        let value = value(rt.alloc(), words)?;
+        assert_eq!(rt; value.is_truthy(), is_truthy, "of {words}");
+        assert_eq!(rt; value.is_default(), is_default, "of {words}");
+        assert_eq!(rt; value.is_scalar(), is_scalar, "of {words}");
     }
     Ok(())
 }
 
 #[test]
-fn values_that_are_lent_or_owned(rt: HostRuntime) -> Result<(), Fail> {
-    let alloc = rt.alloc();
-    let object = one(alloc, "a", text(alloc, "b")?)?;
+fn values_at_keys(rt: HostRuntime) -> Result<(), Fail> {
+    let object = object(rt.alloc(), "{ a b }")?;
     let held = look_up(&object, "a").ok_or("the value at a key")?;
+    assert_eq!(rt; held.text(rt.alloc())?.as_str(), "b");
     assert!(rt; look_up(&object, "b").is_none());
-    assert_eq!(rt;
-        ValueCow::Borrowed(held).as_value().text(alloc)?.as_str(),
-        "b"
-    );
-    assert!(rt; ValueCow::Borrowed(held).into_owned(alloc)? == *held);
-    let owned = ValueCow::Owned(Value::Integer(2)).into_owned(alloc)?;
+    Ok(())
+}
+
+#[test]
+fn values_that_are_lent_or_owned(rt: HostRuntime) -> Result<(), Fail> {
+    let held = value(rt.alloc(), "b")?;
+    let lent = ValueCow::Borrowed(&held);
+    assert_eq!(rt; lent.as_value().text(rt.alloc())?.as_str(), "b");
+    assert!(rt; lent.into_owned(rt.alloc())? == held);
+    let owned = ValueCow::Owned(Value::Integer(2)).into_owned(rt.alloc())?;
     assert_eq!(rt; owned.to_integer(), Some(2));
-    let mut items = Vec::new(alloc);
-    items.push(Value::Integer(1))?;
-    items.push(held.copy(alloc)?)?;
-    let copies = copy_items(alloc, &items)?;
-    assert_eq!(rt; Value::Array(copies).text(alloc)?.as_str(), "1b");
+    Ok(())
+}
+
+#[test]
+fn copies_of_items(rt: HostRuntime) -> Result<(), Fail> {
+    let items = values(rt.alloc(), "1 b")?;
+    let copies = Value::Array(copy_items(rt.alloc(), &items)?);
+    assert_eq!(rt; copies.text(rt.alloc())?.as_str(), "1b");
     Ok(())
 }
 
@@ -83,47 +101,29 @@ fn whole_numbers(rt: HostRuntime) -> Result<(), Fail> {
         ("1.0", None),
         (" 1", None),
     ] {
-        assert_eq!(rt;
-            text(rt.alloc(), written)?.to_integer(),
-            wanted,
-            "of {written}"
-        );
+        let number = text(rt.alloc(), written)?.to_integer();
+        assert_eq!(rt; number, wanted, "of {written}");
     }
     assert_eq!(rt; Value::Bool(true).to_integer(), None);
     Ok(())
 }
 
+/// Whether the values at two places are ordered as the places are.
+fn ordered_as(i: usize, lesser: &Value, j: usize, greater: &Value) -> bool {
+    lesser.cmp(greater) == i.cmp(&j)
+        && (lesser < greater) == (i < j)
+        && (lesser == greater) == (i == j)
+}
+
 #[test]
 fn kinds_and_values_in_order(rt: HostRuntime) -> Result<(), Fail> {
-    let alloc = rt.alloc();
-    let mut ascending = Vec::new(alloc);
-    ascending.push(Value::Nil)?;
-    ascending.push(Value::Bool(false))?;
-    ascending.push(Value::Bool(true))?;
-    ascending.push(Value::Integer(-2))?;
-    ascending.push(Value::Integer(10))?;
-    ascending.push(text(alloc, "10")?)?;
-    ascending.push(text(alloc, "9")?)?;
-    ascending.push(Value::Array(Vec::new(alloc)))?;
-    ascending.push(pair(alloc, Value::Nil, Value::Integer(1))?)?;
-    ascending.push(pair(alloc, Value::Nil, text(alloc, "a")?)?)?;
-    ascending.push(Value::Object(BTreeMap::new(alloc)))?;
-    ascending.push(Value::Object(one(alloc, "a", Value::Integer(2))?))?;
-    ascending.push(Value::Object(one(alloc, "b", Value::Integer(1))?))?;
+    let words = "nil false true -2 10 '10 '9 [ ] [ nil 1 ] [ nil a ] { } { a 2 } { b 1 }";
+    let ascending = values(rt.alloc(), words)?;
+    assert_eq!(rt; ascending.len(), 13);
     for (i, lesser) in ascending.iter().enumerate() {
         for (j, greater) in ascending.iter().enumerate() {
             assert!(rt;
-                lesser.cmp(greater) == i.cmp(&j),
-                "{lesser} at {i} and {greater} at {j}"
-            );
-            assert_eq!(rt;
-                lesser < greater,
-                i < j,
-                "{lesser} at {i} and {greater} at {j}"
-            );
-            assert_eq!(rt;
-                lesser == greater,
-                i == j,
+                ordered_as(i, lesser, j, greater),
                 "{lesser} at {i} and {greater} at {j}"
             );
         }
@@ -131,41 +131,52 @@ fn kinds_and_values_in_order(rt: HostRuntime) -> Result<(), Fail> {
     Ok(())
 }
 
+/// What a condition compares two values to.
+fn compared(alloc: Global, left: &str, right: &str) -> Result<Option<Ordering>, Error> {
+    Ok(value(alloc, left)?.compare(&value(alloc, right)?))
+}
+
 #[test]
 fn order_of_conditions(rt: HostRuntime) -> Result<(), Fail> {
-    let alloc = rt.alloc();
-    let one = Value::Integer(1);
-    assert_eq!(rt; one.compare(&Value::Integer(2)), Some(Ordering::Less));
-    assert_eq!(rt; one.compare(&text(alloc, "1")?), None);
-    assert_eq!(rt; Value::Nil.compare(&Value::Nil), None);
-    let low = pair(alloc, Value::Nil, Value::Integer(1))?;
-    let high = pair(alloc, Value::Nil, Value::Integer(2))?;
-    let other = pair(alloc, Value::Nil, text(alloc, "2")?)?;
-    assert_eq!(rt; low.compare(&low), Some(Ordering::Equal));
-    assert_eq!(rt; high.compare(&low), Some(Ordering::Greater));
-    assert_eq!(rt; high.compare(&other), None);
-    let empty = Value::Array(Vec::new(alloc));
-    assert_eq!(rt; empty.compare(&low), Some(Ordering::Less));
+    for (left, right, wanted) in [
+        ("1", "2", Some(Ordering::Less)),
+        ("1", "'1", None),
+        ("nil", "nil", None),
+        ("[ nil 1 ]", "[ nil 1 ]", Some(Ordering::Equal)),
+        ("[ nil 2 ]", "[ nil 1 ]", Some(Ordering::Greater)),
+        ("[ nil 2 ]", "[ nil '2 ]", None),
+        ("[ ]", "[ nil 1 ]", Some(Ordering::Less)),
+    ] {
+        let order = compared(rt.alloc(), left, right)?;
+        assert_eq!(rt; order, wanted, "{left} and {right}");
+    }
     Ok(())
 }
 
 #[test]
-fn faults(rt: HostRuntime) -> Result<(), Fail> {
-    let alloc = rt.alloc();
-    let fault = Error::new(alloc, ErrorKind::DivideByZero, "7 divided by 0");
+fn faults_of_a_message(rt: HostRuntime) -> Result<(), Fail> {
+    let fault = Error::new(rt.alloc(), ErrorKind::DivideByZero, "7 divided by 0");
+    let told = fault.to_string(rt.alloc())?;
+    assert_eq!(rt; told.as_str(), "DivideByZero: 7 divided by 0");
+    let message = String::from_str(rt.alloc(), "a message")?;
+    let told = Error::with_message(ErrorKind::TooDeep, message).to_string(rt.alloc())?;
+    assert_eq!(rt; told.as_str(), "TooDeep: a message");
+    Ok(())
+}
+
+#[test]
+fn faults_of_a_format(rt: HostRuntime) -> Result<(), Fail> {
+    let message = format_args!("{} is decimal", "1.5");
+    let fault = Error::formatted(rt.alloc(), ErrorKind::Float, message);
     assert_eq!(rt;
-        fault.to_string(alloc)?.as_str(),
-        "DivideByZero: 7 divided by 0"
+        fault.to_string(rt.alloc())?.as_str(),
+        "Float: 1.5 is decimal"
     );
-    let fault = Error::formatted(
-        alloc,
-        ErrorKind::Float,
-        format_args!("{} is decimal", "1.5"),
-    );
-    assert_eq!(rt; fault.to_string(alloc)?.as_str(), "Float: 1.5 is decimal");
-    let message = String::from_str(alloc, "a message")?;
-    let fault = Error::with_message(ErrorKind::TooDeep, message);
-    assert_eq!(rt; fault.to_string(alloc)?.as_str(), "TooDeep: a message");
+    Ok(())
+}
+
+#[test]
+fn kinds_of_faults(rt: HostRuntime) -> Result<(), Fail> {
     for (kind, number, name) in [
         (ErrorKind::UnknownVariable, 1, "UnknownVariable"),
         (ErrorKind::Memory, 17, "Memory"),
@@ -174,7 +185,7 @@ fn faults(rt: HostRuntime) -> Result<(), Fail> {
     ] {
         assert_eq!(rt; kind.number(), number);
         assert_eq!(rt; kind.name(), name);
-        assert_eq!(rt; kind.to_string(alloc)?.as_str(), name);
+        assert_eq!(rt; kind.to_string(rt.alloc())?.as_str(), name);
     }
     Ok(())
 }

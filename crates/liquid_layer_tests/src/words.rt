@@ -1,4 +1,4 @@
-//! Filters at values from outside.
+//! Values that are written in words, and filters at them.
 //!
 //! Values are written in words: `nil`, `true`, `12`, `[ 1 2 ]` for a list and `{ key 1 }` for a map.
 //! A quote begins a text that would be read otherwise: `'1`, `'` for the empty one; any other word is a text.
@@ -43,7 +43,7 @@ fn map_of(alloc: Global, items: Vec<Value>) -> Result<Value> {
 }
 
 /// The values that the words stand for.
-fn values(alloc: Global, words: &str) -> Result<Vec<Value>> {
+pub(crate) fn values(alloc: Global, words: &str) -> Result<Vec<Value>> {
     let mut open: Vec<Vec<Value>> = Vec::new(alloc);
     let mut current = Vec::new(alloc);
     for word in words.split(' ') {
@@ -69,8 +69,16 @@ fn values(alloc: Global, words: &str) -> Result<Vec<Value>> {
 }
 
 /// The one value that the words stand for, or nil.
-fn value(alloc: Global, words: &str) -> Result<Value> {
+pub(crate) fn value(alloc: Global, words: &str) -> Result<Value> {
     Ok(values(alloc, words)?.pop().unwrap_or(Value::Nil))
+}
+
+/// The map that the words stand for, or the empty one.
+pub(crate) fn object(alloc: Global, words: &str) -> Result<Object> {
+    match value(alloc, words)? {
+        Value::Object(pairs) => Ok(pairs),
+        _ => Ok(BTreeMap::new(alloc)),
+    }
 }
 
 /// Asserts that the filter answers the wanted value, or a fault of the wanted name.
