@@ -1,5 +1,5 @@
 //! Pieces: texts and, between them, outputs and tags.
-ghost use Rattle.std.specs.Prelude.{◌≡◌};
+ghost use Rattle.std.specs.Prelude.{◌≡◌, [], length};
 ghost use Rattle.std.specs.Option.{option_map};
 ghost use Rattle.liquid_source.specs.SourceReading.{opener_at, markup_at, bare_name, tag_name, body_at};
 ghost use Rattle.liquid_source.specs.Readers.{Parses};
@@ -95,8 +95,12 @@ pub fn read_markup<'s>(alloc: Global, text: &'s str) -> Result<(Markup<'s>, &'s 
     }
 }
 
-/// The fault of a tag without a name.
-fn no_name(text: &str) -> Fault {
+/// The fault of a tag without a name: `Unclosed` where nothing is left, else `Expected`.
+fn no_name(text: &str) -> Fault
+    ensures unclosed { text.now ≡ [] → result.kind ≡ FaultKind.Unclosed }
+    ensures expected { (text.now ≡ [] → ⊥) → result.kind ≡ FaultKind.Expected }
+    ensures place { result.left ≡ length text.now }
+{
     if text.is_empty() {
         Fault::new(FaultKind::Unclosed, text, "the name of a tag")
     } else {
@@ -130,8 +134,11 @@ fn tag_name<'s>(piece: Piece<'s>) -> &'s str
     }
 }
 
-/// The fault of a body that doesn't end.
-fn without_end(end: &'static str) -> Fault {
+/// The fault of a body that doesn't end, at the end of the source.
+fn without_end(end: &'static str) -> Fault
+    ensures kind { result.kind ≡ FaultKind.MissingEnd }
+    ensures place { result.left ≡ 0 }
+{
     Fault::new(FaultKind::MissingEnd, "", end)
 }
 
