@@ -1,4 +1,4 @@
-//! Pieces: texts and, between them, outputs and tags.
+//! Outputs and tags, and the bodies behind tags that aren't read.
 ghost use Rattle.std.specs.Prelude.{◌≡◌, [], length};
 ghost use Rattle.std.specs.Option.{option_map};
 ghost use Rattle.liquid_source.specs.SourceReading.{opener_at, markup_at, bare_name, tag_name, body_at};
@@ -13,11 +13,9 @@ use crate::value::missing;
 use std::alloc::Global;
 use std::collections::VecDeque;
 
-/// A part of a source.
+/// A part of a source between its texts.
 #[derive(Drop)]
 pub enum Piece<'s> {
-    /// Text outside of outputs and tags, stripped.
-    Text(&'s str),
     /// An output and its items.
     Output(VecDeque<Item<'s>>),
     /// A tag's name and its items.
@@ -114,7 +112,6 @@ pub fn bare_name<'s>(piece: &Piece<'s>) -> Option<&'s str>
 {
     match piece {
         Piece::Tag(name, items) => { if items.is_empty() { Some(*name) } else { None } }
-        Piece::Text(_) => None,
         Piece::Output(_) => None,
         Piece::Raw(_, _) => None,
         Piece::Comment(_) => None,
@@ -127,7 +124,6 @@ fn tag_name<'s>(piece: Piece<'s>) -> &'s str
 {
     match piece {
         Piece::Tag(name, _) => name,
-        Piece::Text(_) => "",
         Piece::Output(_) => "",
         Piece::Raw(_, _) => "",
         Piece::Comment(_) => "",

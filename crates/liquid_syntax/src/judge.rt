@@ -32,7 +32,7 @@ pub fn opens(language: &Language, place: Place, piece: &Piece<'_>) -> bool
     ensures { result ≡ opens language.now place (piece_view piece.now) }
 {
     match piece {
-        Piece::Text(_) | Piece::Output(_) => false,
+        Piece::Output(_) => false,
         Piece::Tag(name, _) | Piece::Raw(name, _) | Piece::Comment(name) => {
             matches!(role_of(language, place, name), Some(Role::Block(_)))
         }
@@ -51,7 +51,6 @@ pub fn judge(
     ensures { Judges (reads language.now place (piece_view piece.entry)) result }
 {
     match piece {
-        Piece::Text(text) => Ok(Label::Leaf(Node::Text(String::from_str(alloc, text)?))),
         Piece::Output(items) => Ok(Label::Leaf(Node::Output(read_chain(
             alloc,
             &language.filters,
