@@ -39,7 +39,6 @@ fn show_items(
 
 fn show_piece(alloc: Global, out: &mut String, piece: &Piece<'_>) -> Result<(), ParseError> {
     match piece {
-        Piece::Text(text) => show_text(out, text)?,
         Piece::Output(items) => {
             out.push_str("[")?;
             show_items(alloc, out, items)?;

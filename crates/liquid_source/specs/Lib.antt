@@ -9,6 +9,7 @@ pub mod ReadingLaws
 pub mod SourceReading
 pub mod TokenReading
 pub mod Tokens
+pub mod ValueFaults
 pub mod ValueReading
 pub mod Values
 pub mod Verbatim

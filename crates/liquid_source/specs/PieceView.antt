@@ -34,8 +34,8 @@ item_view (item.Symbol s) = items.symbol s
 abbrev pub items_view : List Item → List items.Item
 items_view is = map item_view is
 
+-- none is seen as a text: the code cuts texts off apart from what stands between them
 abbrev pub piece_view : Piece → pieces.Piece
-piece_view (piece.Text t) = pieces.text t.now
 piece_view (piece.Output is) = pieces.output (items_view is.items)
 piece_view (piece.Tag w is) = pieces.tag w.now (items_view is.items)
 piece_view (piece.Raw w t) = pieces.raw w.now t.now

@@ -1,5 +1,5 @@
 -- What a reader answers.
-use Rattle.std.specs.Prelude.{◌≡◌, ◌⊎◌, Option, Some, None, Result, Ok, Err}
+use Rattle.std.specs.Prelude.{◌≡◌, ◌⊎◌, ℕ, Option, Some, None, Result, Ok, Err}
 use Rattle.liquid_model.specs.declared.error.ErrorKind.{ErrorKind}
 use Rattle.liquid_model.specs.declared.error.ErrorKind.TheVariants.{Memory}
 use Rattle.liquid_source.specs.declared.fault.FaultKind.{FaultKind}
@@ -36,7 +36,12 @@ abbrev pub TellsOf : ParseError → ErrorKind → Type 0
 TellsOf errors.Memory told = told ≡ Memory
 TellsOf (errors.Fault f) told = (told ≡ kind_of f.kind) ⊎ (told ≡ Memory)
 
--- a fault of the source, and no want of memory
-abbrev pub IsFault : ParseError → Type 0
-IsFault errors.Memory = ⊥
-IsFault (errors.Fault f) = Unit {0}
+-- a fault of this kind, and no want of memory
+abbrev pub IsOfKind : FaultKind → ParseError → Type 0
+IsOfKind kind errors.Memory = ⊥
+IsOfKind kind (errors.Fault f) = f.kind ≡ kind
+
+-- a fault at the place with so many bytes of the source left, and no want of memory
+abbrev pub IsAt : ℕ → ParseError → Type 0
+IsAt left errors.Memory = ⊥
+IsAt left (errors.Fault f) = f.left ≡ left

@@ -101,7 +101,10 @@ pub fn closer(text: &str, kind: Delimiter) -> Option<(bool, &str)>
 }
 
 /// The fault of a source that ends where an item or the closer is wanted.
-fn unclosed(kind: Delimiter) -> Fault {
+fn unclosed(kind: Delimiter) -> Fault
+    ensures kind { result.kind ≡ FaultKind.Unclosed }
+    ensures place { result.left ≡ 0 }
+{
     match kind {
         Delimiter::Output => Fault::new(FaultKind::Unclosed, "", "an item or `}}`"),
         Delimiter::Tag => Fault::new(FaultKind::Unclosed, "", "an item or `%}`"),

@@ -1,5 +1,5 @@
-//! Pieces: texts and, between them, outputs and tags.
-ghost use Rattle.std.specs.Prelude.{◌≡◌};
+//! Outputs and tags, and the bodies behind tags that aren't read.
+ghost use Rattle.std.specs.Prelude.{◌≡◌, [], length};
 ghost use Rattle.std.specs.Option.{option_map};
 ghost use Rattle.liquid_source.specs.SourceReading.{opener_at, markup_at, bare_name, tag_name, body_at};
 ghost use Rattle.liquid_source.specs.Readers.{Parses};
@@ -13,11 +13,9 @@ use crate::value::missing;
 use std::alloc::Global;
 use std::collections::VecDeque;
 
-/// A part of a source.
+/// A part of a source between its texts.
 #[derive(Drop)]
 pub enum Piece<'s> {
-    /// Text outside of outputs and tags, stripped.
-    Text(&'s str),
     /// An output and its items.
     Output(VecDeque<Item<'s>>),
     /// A tag's name and its items.
@@ -95,8 +93,12 @@ pub fn read_markup<'s>(alloc: Global, text: &'s str) -> Result<(Markup<'s>, &'s 
     }
 }
 
-/// The fault of a tag without a name.
-fn no_name(text: &str) -> Fault {
+/// The fault of a tag without a name: `Unclosed` where nothing is left, else `Expected`.
+fn no_name(text: &str) -> Fault
+    ensures unclosed { text.now ≡ [] → result.kind ≡ FaultKind.Unclosed }
+    ensures expected { (text.now ≡ [] → ⊥) → result.kind ≡ FaultKind.Expected }
+    ensures place { result.left ≡ length text.now }
+{
     if text.is_empty() {
         Fault::new(FaultKind::Unclosed, text, "the name of a tag")
     } else {
@@ -110,7 +112,6 @@ pub fn bare_name<'s>(piece: &Piece<'s>) -> Option<&'s str>
 {
     match piece {
         Piece::Tag(name, items) => { if items.is_empty() { Some(*name) } else { None } }
-        Piece::Text(_) => None,
         Piece::Output(_) => None,
         Piece::Raw(_, _) => None,
         Piece::Comment(_) => None,
@@ -123,15 +124,17 @@ fn tag_name<'s>(piece: Piece<'s>) -> &'s str
 {
     match piece {
         Piece::Tag(name, _) => name,
-        Piece::Text(_) => "",
         Piece::Output(_) => "",
         Piece::Raw(_, _) => "",
         Piece::Comment(_) => "",
     }
 }
 
-/// The fault of a body that doesn't end.
-fn without_end(end: &'static str) -> Fault {
+/// The fault of a body that doesn't end, at the end of the source.
+fn without_end(end: &'static str) -> Fault
+    ensures kind { result.kind ≡ FaultKind.MissingEnd }
+    ensures place { result.left ≡ 0 }
+{
     Fault::new(FaultKind::MissingEnd, "", end)
 }
 

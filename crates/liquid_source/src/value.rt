@@ -2,6 +2,8 @@
 ghost use Rattle.std.specs.Prelude.{◌≡◌, [], length};
 ghost use Rattle.liquid_model.specs.View.{view};
 ghost use Rattle.liquid_core.specs.ExpressionView.{expression_view, steps_view};
+ghost use Rattle.liquid_model.specs.Whole.{whole_text};
+ghost use Rattle.liquid_source.specs.ValueFaults.{number_fault, value_fault};
 ghost use Rattle.liquid_source.specs.Values.{word_kind};
 ghost use Rattle.liquid_source.specs.ValueReading.{literal_at, named_by, inner_of, value_at, step_at, steps_at};
 ghost use Rattle.liquid_source.specs.Readers.{Parses};
@@ -12,7 +14,7 @@ use crate::cut::{past_byte, past_white, quoted, word};
 use crate::fault::{Fault, FaultKind, ParseError};
 use crate::number::number;
 use crate::scan::{is_dotted, is_letter, number_len};
-use liquid_core::{Expression, Value, Variable};
+use liquid_core::{Expression, Value, Variable, whole_of};
 use std::alloc::Global;
 
 /// What a word is where it opens a value.
@@ -47,7 +49,10 @@ fn word_kind(word: &str) -> WordKind
 
 /// The fault of a text that no value begins.
 #[tactic(auto, using(crate::proofs::Cuts::number_cut))]
-fn no_value(text: &str) -> Fault {
+fn no_value(text: &str) -> Fault
+    ensures kind { result.kind ≡ value_fault text.now }
+    ensures place { result.left ≡ length text.now }
+{
     let (digits, after) = text.split_at(number_len(text.as_bytes()));
     match text.as_bytes() {
         [] => Fault::new(FaultKind::Unclosed, text, "a value"),
@@ -62,9 +67,12 @@ fn no_value(text: &str) -> Fault {
 }
 
 /// The fault of a number that isn't taken; `digits` are its bytes, and `after` is what follows it.
-fn no_number(text: &str, digits: &str, after: &[u8]) -> Fault {
+fn no_number(text: &str, digits: &str, after: &[u8]) -> Fault
+    ensures kind { result.kind ≡ number_fault (whole_text digits.now) after.now }
+    ensures place { result.left ≡ length text.now }
+{
     match after {
-        _ if digits.parse::<i64>().is_err() => Fault::new(
+        _ if whole_of(digits).is_none() => Fault::new(
             FaultKind::NumberLiteral,
             text,
             "a number within 64 bits",

@@ -6,7 +6,7 @@ use Rattle.liquid_model.specs.Texts.{Text}
 use Rattle.liquid_model.specs.Maps.{listed}
 use Rattle.liquid_core.specs.Expression.{Expression, literal, variable, no_steps, step}
 use Rattle.liquid_tree.specs.Tree.{FilterCall}
-use Rattle.liquid_source.specs.Readers.{Fails, IsFault}
+use Rattle.liquid_source.specs.Readers.{Fails}
 use Rattle.liquid_source.specs.Tokens.{Token, value, range, symbol, tokens_view, value_first, word_first, is_symbol, past}
 use Rattle.liquid_syntax.specs.Chains.{Filters}
 use Rattle.liquid_syntax.specs.ChainReading.{Called, accepted_call, call_with, filters_of, call_of, called_of, arguments_of, further_of, no_arguments, one_argument}
@@ -191,7 +191,7 @@ module _ (known : Filters) where
       acceptance_refused xs o errors.Memory whole g h r = tt
       acceptance_refused xs o (errors.Fault f) whole g h r = g ∙ unaccepted xs o r h
 
--- a fault tells that there is nothing to read
-pub faulted : {Y : Type 0} (e : ParseError) (read : Option Y) → IsFault e → read ≡ None → Fails e read
-faulted errors.Memory read fault none = absurd fault
-faulted (errors.Fault f) read fault none = none
+-- what is answered where nothing is to be read
+pub faulted : {Y : Type 0} (e : ParseError) (read : Option Y) → read ≡ None → Fails e read
+faulted errors.Memory read none = tt
+faulted (errors.Fault f) read none = none

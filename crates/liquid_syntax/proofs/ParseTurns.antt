@@ -43,10 +43,6 @@ pub fails_by : {X Y : Type 0} (e : ParseError) (o : Option X) (p : Option Y) →
 fails_by errors.Memory o p f h = tt
 fails_by (errors.Fault g) o p f h = f h
 
-pub fails_at : {Y : Type 0} (e : ParseError) (o : Option Y) → o ≡ None → Fails e o
-fails_at errors.Memory o h = tt
-fails_at (errors.Fault g) o h = h
-
 pub after_text : (b : Builder) (ls : List Level) (now : Nodes) → ((s : State) × (Some (ls, now) ≡ Some s) × IsBuilding b s.0 s.1) → IsBuilding b ls now
 after_text b ls now (s, e, h) = let same : (ls, now) ≡ s = cc in subst (λ (s : State). IsBuilding b s.0 s.1) (sym same) h
 

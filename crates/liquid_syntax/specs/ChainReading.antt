@@ -9,6 +9,8 @@ use Rattle.liquid_filters.specs.declared.kind.FilterKind.{FilterKind}
 use Rattle.liquid_tree.specs.Tree.{FilterCall, Chain}
 use Rattle.liquid_source.specs.Tokens.{Token, if_value, word_of, is_symbol}
 use Rattle.liquid_syntax.specs.Chains.{Filters}
+use Rattle.liquid_source.specs.declared.fault.FaultKind.{FaultKind}
+use Rattle.liquid_source.specs.declared.fault.FaultKind.TheVariants.{UnknownFilter, FilterArguments}
 use Rattle.liquid_source.specs.declared.symbol.Symbol.TheVariants.{Colon, Comma, Bar}
 
 -- arguments, and the filters behind them
@@ -19,6 +21,11 @@ Called = List Expression × List FilterCall
 abbrev pub accepted_call : Option FilterKind → List Expression → Option FilterCall
 accepted_call None xs = None
 accepted_call (Some kind) xs = cond (kind_counts kind (length xs)) (Some (record { filter = kind; arguments = xs })) None
+
+-- why a call isn't accepted: no filter is registered, or it doesn't take so many arguments
+abbrev pub call_fault : Option FilterKind → FaultKind
+call_fault None = UnknownFilter
+call_fault (Some kind) = FilterArguments
 
 abbrev pub no_arguments : Option (List FilterCall) → Option Called
 no_arguments o = option_map (λ calls. ([], calls)) o

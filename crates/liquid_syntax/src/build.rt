@@ -1,8 +1,9 @@
 //! Building the list of nodes with a stack of open blocks: where a body ends is written into its block's node as it ends.
 
 ghost use Rattle.std.specs.Prelude.{◌≡◌, ◌<◌, ◌-◌, IfSome, List, [], ◌∷◌, length, slice_get, Some, OnOk, true};
-ghost use Rattle.liquid_source.specs.Readers.{IsFault};
+ghost use Rattle.liquid_source.specs.Readers.{IsAt, IsOfKind};
 ghost use Rattle.liquid_syntax.specs.Building.{Begins, Closes, Elses, Finishes, IsBuilding, IsBuilt, IsMemory, IsPrepared, IsSound, IsStack, Steps, block_ended, is_full, first_ended, label_view, last_ended, of_bodies, place_at, text_added};
+ghost use Rattle.liquid_syntax.specs.Controls.{end_word};
 ghost use Rattle.liquid_syntax.specs.Flats.{flat_of};
 ghost use Rattle.liquid_syntax.specs.OpenBlocks.{Level, at_end, close, step, to_elsif, with_node};
 ghost use Rattle.liquid_tree.specs.Tree.{Nodes, no_nodes};
@@ -275,7 +276,10 @@ fn end_last(node: &mut Node, end: usize)
 }
 
 /// The fault of an end, an `else` or an `elsif` that stands where no body is to end.
-fn no_body() -> Fault {
+fn no_body() -> Fault
+    ensures kind { result.kind ≡ FaultKind.UnknownTag }
+    ensures place { result.left ≡ 0 }
+{
     Fault {
         kind: FaultKind::UnknownTag,
         left: 0,
@@ -285,7 +289,8 @@ fn no_body() -> Fault {
 
 /// The fault of a block that nests too deep; so many bytes of the source are left from it on.
 pub fn too_nested(left: usize) -> ParseError
-    ensures { IsFault result }
+    ensures kind { IsOfKind FaultKind.TooNested result }
+    ensures place { IsAt left result }
 {
     ParseError::Fault(Fault {
         kind: FaultKind::TooNested,
@@ -295,7 +300,11 @@ pub fn too_nested(left: usize) -> ParseError
 }
 
 /// The fault of a source that ends in a block.
-fn missing_end(block: Block) -> Fault {
+fn missing_end(block: Block) -> Fault
+    ensures kind { result.kind ≡ FaultKind.MissingEnd }
+    ensures place { result.left ≡ 0 }
+    ensures wanted { result.wanted.now ≡ end_word block }
+{
     Fault {
         kind: FaultKind::MissingEnd,
         left: 0,

@@ -1,13 +1,13 @@
 //! Chains, read from the items of a piece.
-ghost use Rattle.std.specs.Prelude.{◌≡◌, ◌≤◌, length, map};
+ghost use Rattle.std.specs.Prelude.{◌≡◌, ◌≤◌, IfErr, length, map};
 ghost use Rattle.liquid_core.specs.ExpressionView.{expression_view};
 ghost use Rattle.liquid_model.specs.Maps.{listed};
 ghost use Rattle.liquid_syntax.specs.Called.{Calls};
-ghost use Rattle.liquid_syntax.specs.ChainReading.{accepted_call, filters_of, chain_of};
+ghost use Rattle.liquid_syntax.specs.ChainReading.{accepted_call, call_fault, filters_of, chain_of};
 ghost use Rattle.liquid_syntax.specs.Chains.{Filters};
 ghost use Rattle.liquid_tree.specs.ChainView.{chain_view, chain_filter_view};
 ghost use Rattle.liquid_syntax.specs.Languages.{kinds_of};
-ghost use Rattle.liquid_source.specs.Readers.{Parses, IsFault};
+ghost use Rattle.liquid_source.specs.Readers.{Parses, IsOfKind, IsAt};
 ghost use Rattle.liquid_source.specs.Tokens.{tokens_view};
 
 use crate::language::Registry;
@@ -61,14 +61,17 @@ fn read_filters(
     Ok(filters)
 }
 
-/// The filter of the name with these arguments, where one is registered and takes their number.
+/// The filter of the name with these arguments. `UnknownFilter` where none is registered, and `FilterArguments` where it
+/// doesn't take their number.
 fn accepted(
     known: &Registry<FilterKind>,
     name: &str,
     arguments: Vec<Expression>,
     at: &str,
 ) -> Result<ChainFilter, ParseError>
-    ensures { Parses chain_filter_view result (accepted_call (listed (kinds_of known.now) name.now) (map expression_view arguments.items)) }
+    ensures call { Parses chain_filter_view result (accepted_call (listed (kinds_of known.now) name.now) (map expression_view arguments.items)) }
+    ensures kind { IfErr result (λ e. IsOfKind (call_fault (listed (kinds_of known.now) name.now)) e) }
+    ensures place { IfErr result (λ e. IsAt (length at.now) e) }
 {
     let Some(filter) = known.get(name) else {
         return Err(ParseError::Fault(Fault::new(
@@ -113,7 +116,8 @@ fn read_arguments(
 
 /// The fault that another item is wanted in the piece.
 pub fn expected(at: &str, wanted: &'static str) -> ParseError
-    ensures { IsFault result }
+    ensures kind { IsOfKind FaultKind.Expected result }
+    ensures place { IsAt (length at.now) result }
 {
     ParseError::Fault(Fault::new(FaultKind::Expected, at, wanted))
 }

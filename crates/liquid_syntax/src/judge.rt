@@ -1,7 +1,7 @@
 //! What a piece is, where it stands: the label of an output or a tag, by the language and by its items.
-ghost use Rattle.std.specs.Prelude.{◌≡◌};
+ghost use Rattle.std.specs.Prelude.{◌≡◌, length};
 ghost use Rattle.liquid_source.specs.PieceView.{piece_view};
-ghost use Rattle.liquid_source.specs.Readers.{IsFault};
+ghost use Rattle.liquid_source.specs.Readers.{IsAt, IsOfKind};
 ghost use Rattle.liquid_source.specs.SourceReading.{wanted_body};
 ghost use Rattle.liquid_source.specs.Tokens.{tokens_view};
 ghost use Rattle.liquid_syntax.specs.Judges.{Judges, ReadsTwo};
@@ -32,7 +32,7 @@ pub fn opens(language: &Language, place: Place, piece: &Piece<'_>) -> bool
     ensures { result ≡ opens language.now place (piece_view piece.now) }
 {
     match piece {
-        Piece::Text(_) | Piece::Output(_) => false,
+        Piece::Output(_) => false,
         Piece::Tag(name, _) | Piece::Raw(name, _) | Piece::Comment(name) => {
             matches!(role_of(language, place, name), Some(Role::Block(_)))
         }
@@ -51,7 +51,6 @@ pub fn judge(
     ensures { Judges (reads language.now place (piece_view piece.entry)) result }
 {
     match piece {
-        Piece::Text(text) => Ok(Label::Leaf(Node::Text(String::from_str(alloc, text)?))),
         Piece::Output(items) => Ok(Label::Leaf(Node::Output(read_chain(
             alloc,
             &language.filters,
@@ -133,7 +132,8 @@ fn read_if(alloc: Global, items: VecDeque<Item<'_>>, at: &str) -> Result<Node, P
 }
 
 fn unknown_tag(at: &str) -> ParseError
-    ensures { IsFault result }
+    ensures kind { IsOfKind FaultKind.UnknownTag result }
+    ensures place { IsAt (length at.now) result }
 {
     ParseError::Fault(Fault::new(FaultKind::UnknownTag, at, "a registered tag"))
 }

@@ -22,7 +22,7 @@ returns-then-not-skip-clause-called c known =
 
 pub returns-in_default-clause-called : goal.returns-in_default-clause-called
 returns-in_default-clause-called c known =
-    faulted c.expected.result _ c.expected.ensures (
+    faulted c.expected.result _ (
     colon known _ _ c.if-not-skip.ensures.0 ∙ c.arguments.invariant.called known ∙ no_value known (map expression_view c.arguments.arguments.items) _ (sym c.in_default.ensures.value))
 
 pub returns-then-not-skip-2-clause-called : goal.returns-then-not-skip-2-clause-called

@@ -22,12 +22,12 @@ returns c = c.filters.invariant ∙ no_filter (kinds_of c.args.known.now) (map c
 pub returns-then-not-skip : goal.returns-then-not-skip
 returns-then-not-skip c =
     let some = left_over c.filters.items.items (sym c.is_over.ensures ∙ c.filters-test.true) in
-    faulted c.expected.result _ c.expected.ensures (c.filters.invariant ∙ no_bar (kinds_of c.args.known.now) (map chain_filter_view c.filters.filters.items) (tokens_view c.filters.items.items) some c.if-not-skip.ensures.0)
+    faulted c.expected.result _ (c.filters.invariant ∙ no_bar (kinds_of c.args.known.now) (map chain_filter_view c.filters.filters.items) (tokens_view c.filters.items.items) some c.if-not-skip.ensures.0)
 
 pub returns-in_default : goal.returns-in_default
 returns-in_default c =
     let some = left_over c.filters.items.items (sym c.is_over.ensures ∙ c.filters-test.true) in
-    faulted c.expected-in_default.result _ c.expected-in_default.ensures (
+    faulted c.expected-in_default.result _ (
     c.filters.invariant ∙ no_name (kinds_of c.args.known.now) (map chain_filter_view c.filters.filters.items) (tokens_view c.filters.items.items) _ some c.if-not-skip.ensures.0 (sym c.in_default.ensures.value))
 
 pub returns-in_err-arguments : goal.returns-in_err-arguments
@@ -43,7 +43,7 @@ returns-in_err-accepted c =
     let known = kinds_of c.args.known.now in
     let some = left_over c.filters.items.items (sym c.is_over.ensures ∙ c.filters-test.true) in
     let xs = map expression_view c.in_ok-arguments.arguments.items in
-    let refused = subst (λ name. Fails c.in_err-accepted.field-0.0 (accepted_call (listed known name) xs)) c.as_str.ensures.value c.in_err-accepted.ensures in
+    let refused = subst (λ name. Fails c.in_err-accepted.field-0.0 (accepted_call (listed known name) xs)) c.as_str.ensures.value c.in_err-accepted.ensures.call in
     let p = err_from_is_err_and c.from_residual-in_err-accepted.result c.from_residual-in_err-accepted.ensures.1 in
     rw (p.1, p.2) (acceptance_refused known (map chain_filter_view c.filters.filters.items) (tokens_view c.filters.items.items) _ some c.if-not-skip.ensures.0 (string_bytes c.in-Some.name) _ (sym c.in-Some.ensures.value)
     xs _ c.in_err-accepted.field-0.0 _ c.filters.invariant (c.in_ok-arguments.ensures.called known) refused)
@@ -54,7 +54,7 @@ filters-preserved c =
     let some = left_over c.filters.items.items (sym c.is_over.ensures ∙ c.filters-test.true) in
     let xs = map expression_view c.in_ok-arguments.arguments.items in
     let call = chain_filter_view c.in_ok-accepted.field-0 in
-    let taken = subst (λ name. accepted_call (listed known name) xs ≡ Some call) c.as_str.ensures.value c.in_ok-accepted.ensures in
+    let taken = subst (λ name. accepted_call (listed known name) xs ≡ Some call) c.as_str.ensures.value c.in_ok-accepted.ensures.call in
     c.filters.invariant
     ∙ one_filter known (map chain_filter_view c.filters.filters.items) (tokens_view c.filters.items.items) _ some c.if-not-skip.ensures.0 (string_bytes c.in-Some.name) _ (sym c.in-Some.ensures.value) xs _ call taken (c.in_ok-arguments.ensures.called known)
     ∙ ap (λ fs. filters_behind known fs (filters_of known (tokens_view c.read_arguments.new.items.items))) (sym (ap (map chain_filter_view) c.in_ok-push.ensures.items ∙ map-append _ _ _))

@@ -8,7 +8,7 @@ use Rattle.liquid_syntax.proofs.ConditionTurns.{no_left, bare_atom, no_right, co
 use Rattle.liquid_syntax.proofs.condition_items.read_atom.Goals as goal
 
 pub returns-in_default-clause-taken : goal.returns-in_default-clause-taken
-returns-in_default-clause-taken c = faulted c.expected.result _ c.expected.ensures (no_left (tokens_view c.args.items.now.items) (sym c.in_default.ensures.value))
+returns-in_default-clause-taken c = faulted c.expected.result _ (no_left (tokens_view c.args.items.now.items) (sym c.in_default.ensures.value))
 
 pub returns-in_default-next_operator-clause-taken : goal.returns-in_default-next_operator-clause-taken
 returns-in_default-next_operator-clause-taken c =
@@ -20,7 +20,7 @@ returns-in_default-next_operator-clause-taken c =
 pub returns-in_default-next_value-clause-taken : goal.returns-in_default-next_value-clause-taken
 returns-in_default-next_value-clause-taken c =
     let e = c.in-Some-next_operator.ensures in
-    faulted c.expected-in_default-next_value.result _ c.expected-in_default-next_value.ensures (
+    faulted c.expected-in_default-next_value.result _ (
     no_right (tokens_view c.args.items.now.items) (tokens_view c.next_value.new.items.items) (expression_view c.in-Some.left) (sym c.in-Some.ensures.value) (tokens_view c.next_operator.new.items.items) c.in-Some-next_operator.operator e.0
     (sym c.in_default-next_value.ensures.value))
 

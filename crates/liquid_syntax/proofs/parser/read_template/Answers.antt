@@ -15,8 +15,9 @@ use Rattle.liquid_syntax.specs.Parsing.{template_at}
 use Rattle.liquid_syntax.specs.Roles.{body_behind}
 use Rattle.liquid_tree.specs.Tree.{no_nodes}
 use Rattle.liquid_syntax.specs.declared.block.Place.{Place}
+use Rattle.liquid_syntax.proofs.ChainCalls.{faulted}
 use Rattle.liquid_syntax.proofs.Grow.{place_is}
-use Rattle.liquid_syntax.proofs.ParseTurns.{after_text, label_refused, ended, markup_refused, body_refused, piece_refused, went_on, went_shorter, fails_at, no_room}
+use Rattle.liquid_syntax.proofs.ParseTurns.{after_text, label_refused, ended, markup_refused, body_refused, piece_refused, went_on, went_shorter, no_room}
 use Rattle.liquid_syntax.proofs.parser.read_template.Goals as goal
 
 pub pieces-init : goal.pieces-init
@@ -61,7 +62,7 @@ returns-then-opens c =
     let none = no_room c.args.language.now (place_of v.1) (piece_view c.in_ok-markup-2.markup.piece) v.1 (text_added c.stripped-in-pieces.result.now v.2) begins full in
     piece_refused c.args.language.now c.args.source.now c.pieces.rest.now c.text_before.result.0.now c.text_before.result.1.now v.0 c.pieces.front v.1 v.2 v.5 c.text_before.ensures
     c.in-Some.inside.now c.in-Some.ensures (markup_view c.in_ok-markup.markup, c.in_ok-markup.after.now) c.in_ok-markup.ensures c.stripped-in-pieces.result.now c.stripped-in-pieces.ensures
-    (markup_view c.in_ok-markup-2.markup, c.in_ok-markup-2.after.now) closed c.too_nested.result (fails_at c.too_nested.result _ none)
+    (markup_view c.in_ok-markup-2.markup, c.in_ok-markup-2.after.now) closed c.too_nested.result (faulted c.too_nested.result _ none)
 
 pub returns-in_err-label : goal.returns-in_err-label
 returns-in_err-label c =
