@@ -20,6 +20,8 @@ mod numbers;
 #[cfg(test)]
 mod pieces;
 #[cfg(test)]
+mod readers;
+#[cfg(test)]
 mod rows;
 #[cfg(test)]
 mod samples;

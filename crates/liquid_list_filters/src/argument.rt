@@ -1,5 +1,7 @@
 //! What filters read their arguments by.
+ghost use Rattle.std.specs.Prelude.{map, string_bytes};
 ghost use Rattle.std.specs.Cow.{cow_str_bytes};
+ghost use Rattle.std.specs.Char.{to_ascii_lowercase};
 ghost use Rattle.liquid_model.specs.Answer.{Answers, Gives};
 ghost use Rattle.liquid_model.specs.Data.{text_of};
 ghost use Rattle.liquid_model.specs.View.{view};
@@ -9,6 +11,13 @@ use crate::fault::invalid_argument;
 use liquid_core::{Result, Value};
 use std::alloc::Global;
 use std::borrow::CowStr;
+
+/// A text argument: the text of whatever value is given. `Memory` alone where it can't be made.
+pub fn text_argument(alloc: Global, value: &Value) -> Result<String>
+    ensures { Gives (λ s. string_bytes s) result (text_of (view value.now)) }
+{
+    value.text(alloc)
+}
 
 /// The text of a value, lent where the value is a text already.
 pub fn text_of<'a>(alloc: Global, value: &'a Value) -> Result<CowStr<'a>>
@@ -28,4 +37,11 @@ pub fn whole_argument(alloc: Global, value: &Value) -> Result<i64>
         Some(number) => Ok(number),
         None => Err(invalid_argument(alloc, "a whole number", value)),
     }
+}
+
+/// A text with `A` to `Z` as `a` to `z`; other characters stay. `Memory` alone where it can't be made.
+pub fn lower_case(alloc: Global, text: &str) -> Result<String>
+    ensures { Gives (λ s. string_bytes s) result (map to_ascii_lowercase text.now) }
+{
+    Ok(text.to_ascii_lowercase(alloc)?)
 }

@@ -15,6 +15,7 @@ macro_rules! asked {
 mod filters;
 mod none;
 mod pages;
+mod readers;
 mod states;
 mod templates;
 mod texts;
