@@ -1,9 +1,10 @@
 //! What a template is run in.
-ghost use Rattle.std.specs.Prelude.{◌≡◌, [], map, option_map, string_bytes, OnErr};
+ghost use Rattle.std.specs.Prelude.{◌≡◌, [], map, option_map, string_bytes, IfErr, IsOk, IsTrue, OnErr};
 ghost use Rattle.std.specs.Option.{ok_or};
-ghost use Rattle.liquid_model.specs.Answer.{Answers, Gives};
+ghost use Rattle.liquid_model.specs.Answer.{Answers, Gives, TakesNoMemory};
 ghost use Rattle.liquid_model.specs.Cow.{cow_view};
-ghost use Rattle.liquid_core.specs.Expressions.{value_along};
+ghost use Rattle.liquid_model.specs.Errors.{HasMessageUnlessMemory, nowhere_message};
+ghost use Rattle.liquid_core.specs.Expressions.{value_along, begins_with_text};
 ghost use Rattle.liquid_model.specs.Maps.{empty};
 ghost use Rattle.liquid_core.specs.States.{held, layers_of, new_layers, with_assigned, with_counter, with_scope_pushed, with_scope_popped};
 ghost use Rattle.liquid_model.specs.View.{view};
@@ -109,16 +110,20 @@ impl<'p> Runtime<'p> {
         &self.state
     }
 
-    /// What a path leads to, as `State::try_get`.
+    /// What a path leads to, as `State::try_get`. It refuses for `Memory` alone, and takes memory only for the text of a
+    /// first step that is no text itself.
     pub fn try_get<'a>(&'a self, alloc: Global, path: &[Value]) -> Result<Option<ValueCow<'a>>>
-        ensures { Gives (λ r. option_map cow_view r) result (value_along (environment_in self.now) (map view path.now)) }
+        ensures value { Gives (λ r. option_map cow_view r) result (value_along (environment_in self.now) (map view path.now)) }
+        ensures no_memory { IsTrue (begins_with_text (map view path.now)) → IsOk result }
     {
         self.state.try_get(alloc, path)
     }
 
-    /// The same, or `UnknownVariable` where the path leads to nothing.
+    /// The same, or `UnknownVariable` where the path leads to nothing: that fault's message takes memory too.
     pub fn get<'a>(&'a self, alloc: Global, path: &[Value]) -> Result<ValueCow<'a>>
-        ensures { Answers cow_view result (ok_or (value_along (environment_in self.now) (map view path.now)) UnknownVariable) }
+        ensures value { Answers cow_view result (ok_or (value_along (environment_in self.now) (map view path.now)) UnknownVariable) }
+        ensures no_memory { IsTrue (begins_with_text (map view path.now)) → TakesNoMemory result (ok_or (value_along (environment_in self.now) (map view path.now)) UnknownVariable) }
+        ensures message { IfErr result (λ e. HasMessageUnlessMemory (nowhere_message (map view path.now)) e) }
     {
         self.state.get(alloc, path)
     }
