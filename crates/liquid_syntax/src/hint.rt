@@ -1,6 +1,7 @@
 //! What a fault's message adds for a name that isn't known: the name itself, and the registered one nearest to it.
 use crate::language::{Language, Registry};
 use liquid_core::Filter;
+use liquid_filters::FilterKind;
 use liquid_source::{Fault, FaultKind, Item, ParseError, Piece, Symbol, past_byte, read_markup};
 use std::alloc::{AllocError, Global};
 use std::collections::VecDeque;
@@ -76,13 +77,23 @@ fn of_filter(
     items: &VecDeque<Item<'_>>,
 ) -> Result<String, AllocError> {
     let calls = calls(alloc, items)?;
-    for call in &calls {
-        if language.filters.get(call.name).is_none() {
+    match unregistered(&language.filters, &calls) {
+        Some(call) => {
             let near = nearest(alloc, &language.filters, call.name, None)?;
-            return unknown(alloc, call.name, near);
+            unknown(alloc, call.name, near)
+        }
+        None => Ok(String::new(alloc)),
+    }
+}
+
+/// The first call of a filter that no registered one has the name of.
+fn unregistered<'s>(filters: &Registry<FilterKind>, calls: &[Call<'s>]) -> Option<Call<'s>> {
+    for call in calls {
+        if filters.get(call.name).is_none() {
+            return Some(*call);
         }
     }
-    Ok(String::new(alloc))
+    None
 }
 
 fn of_arguments(
@@ -91,16 +102,26 @@ fn of_arguments(
     items: &VecDeque<Item<'_>>,
 ) -> Result<String, AllocError> {
     let calls = calls(alloc, items)?;
-    for call in &calls {
-        if let Some(filter) = language.filters.get(call.name) {
+    match miscounted(&language.filters, &calls) {
+        Some(call) => {
+            let name = call.name;
+            let count = call.arguments;
+            format!(in alloc; "; `{name}` doesn't take {count}")
+        }
+        None => Ok(String::new(alloc)),
+    }
+}
+
+/// The first call of a filter that doesn't accept so many arguments.
+fn miscounted<'s>(filters: &Registry<FilterKind>, calls: &[Call<'s>]) -> Option<Call<'s>> {
+    for call in calls {
+        if let Some(filter) = filters.get(call.name) {
             if !filter.accepts(call.arguments) {
-                let name = call.name;
-                let count = call.arguments;
-                return format!(in alloc; "; `{name}` doesn't take {count}");
+                return Some(*call);
             }
         }
     }
-    Ok(String::new(alloc))
+    None
 }
 
 fn unknown(alloc: Global, name: &str, near: Option<Near<'_>>) -> Result<String, AllocError> {
