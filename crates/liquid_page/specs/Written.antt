@@ -3,10 +3,8 @@ use Rattle.std.specs.Prelude.{◌≡◌, ℕ, List, [], ◌++◌, Option, Some, 
 use Rattle.std.specs.Io.KnownBytes.{Appends}
 use Rattle.liquid_model.specs.Texts.{Text}
 use Rattle.liquid_model.specs.declared.error.Error.{Error}
-use Rattle.liquid_model.specs.declared.error.ErrorKind.{ErrorKind}
 use Rattle.liquid_lib.specs.Performs.{answer_of, unit}
-use Rattle.liquid_meaning.specs.Runs.{Nothing}
-use Rattle.liquid_site.specs.Page.{Texts, IsStandardPage}
+use Rattle.liquid_site.specs.Page.{Texts, IsStandardPage, IsStandardText}
 
 -- the page of these texts was written, all of it, and the answer is its end
 pub record IsWritten (texts : Texts) (r : Result (Unit {0}) Error) (old new : Option (List ℕ)) : Type 0 where
@@ -22,5 +20,5 @@ HoldsBeginning (Some xs) (Some ys) text = (rest : List ℕ) × (ys ++ rest ≡ x
 
 -- the page of these texts was begun, and nothing else was written; or memory ran out before there was a page, and nothing was written
 pub data IsBegun (texts : Texts) (old new : Option (List ℕ)) : Type 0 where
-  a_page : {text : Text} {end : Result Nothing ErrorKind} → IsStandardPage texts text end → HoldsBeginning old new text → IsBegun texts old new
+  a_page : {text : Text} → IsStandardText texts text → HoldsBeginning old new text → IsBegun texts old new
   no_page : HoldsBeginning old new [] → IsBegun texts old new
