@@ -6,7 +6,7 @@ use Rattle.liquid_model.specs.Texts.{Text}
 use Rattle.liquid_model.specs.Told.{is_refusal}
 use Rattle.liquid_model.specs.declared.error.ErrorKind.TheVariants.{Memory}
 use Rattle.liquid_page.specs.Words.{Named, NamedFiles, call_of}
-use Rattle.liquid_page.specs.Written.{IsWritten}
+use Rattle.liquid_page.specs.Written.{IsBegun, IsWritten}
 use Rattle.liquid_page.specs.declared.outcome.Outcome.{Outcome}
 use Rattle.liquid_page.specs.declared.outcome.Outcome.TheVariants.{Done, Usage, Unread, Fault}
 use Rattle.liquid_site.specs.Page.{Sources, Texts}
@@ -54,3 +54,8 @@ Ends wanted Done old new = (texts : Texts) × (wanted ≡ Ok texts) × IsWritten
 Ends wanted Usage old new = (wanted ≡ Err no_call) × Keeps old new
 Ends wanted (Unread file) old new = (wanted ≡ Err (unread (string_bytes file))) × Keeps old new
 Ends wanted (Fault e) old new = MatchBool (is_refusal e.kind) ⊤ ((texts : Texts) × (wanted ≡ Ok texts) × IsWritten texts (Err e) old new)
+
+-- what a call leaves at its writer, however it ends: a beginning of the page of the texts that it is to read, or, where it is to begin no page, what was there
+abbrev pub Leaves : Result Texts Stop → Option (List ℕ) → Option (List ℕ) → Type 0
+Leaves (Ok texts) old new = IsBegun texts old new
+Leaves (Err stop) old new = Keeps old new

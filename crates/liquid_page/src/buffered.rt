@@ -1,5 +1,5 @@
 //! The writer of the program: standard output behind a buffer.
-ghost use Rattle.std.specs.Prelude.{◌≡◌, ◌≤◌, [], length, take, drop, true, is_err, IfOk, OnOk, vec_len};
+ghost use Rattle.std.specs.Prelude.{◌≡◌, ◌≤◌, [], length, take, drop, true, is_err, IfErr, IfOk, OnOk, vec_len};
 ghost use Rattle.std.specs.Io.{WritesAtMost};
 ghost use Rattle.std.specs.Io.KnownBytes.{Keeps, Appends, WriteAppends};
 
@@ -24,7 +24,8 @@ impl<W: Write> Buffered<W> {
 
     /// A buffer in front of the writer, or the writer where there is no memory for a buffer.
     pub fn new(alloc: Global, writer: W) -> Result<Buffered<W>, W>
-        ensures { IfOk result (λ b. Keeps (W.contents writer) (behind W.contents b)) }
+        ensures held { IfOk result (λ b. Keeps (W.contents writer) (behind W.contents b)) }
+        ensures back { IfErr result (λ w. w ≡ writer) }
     {
         match Vec::with_capacity(alloc, ROOM) {
             Ok(held) => Ok(Buffered {

@@ -1,10 +1,10 @@
 //! From the words of a call to its page.
 ghost use Rattle.std.specs.Prelude.{◌≡◌, [], None, Option, false, IfSome, map, string_bytes};
 ghost use Rattle.liquid_lib.specs.Performs.{is_refused};
-ghost use Rattle.liquid_page.specs.Files.{Files, Ends, Finds, sources_from, text_at, texts_at, texts_of};
+ghost use Rattle.liquid_page.specs.Files.{Files, Ends, Finds, Leaves, sources_from, text_at, texts_at, texts_of};
 ghost use Rattle.liquid_page.specs.Read.{IsTextOf, read_view};
 ghost use Rattle.liquid_page.specs.Words.{call_view, lent};
-ghost use Rattle.liquid_page.specs.Written.{IsWritten};
+ghost use Rattle.liquid_page.specs.Written.{IsBegun, IsWritten};
 ghost use Rattle.liquid_site.specs.Page.{sources_of};
 
 use crate::buffered::Buffered;
@@ -44,7 +44,9 @@ struct ReadTexts {
     partials: Vec<(String, String)>,
 }
 
-/// Judges the words, then reads the files in order, and then writes the page. It gives the writer back.
+/// Judges the words, then reads the files in order, and then writes the page. It gives the writer back, which holds what it
+/// held and the page behind it. Where the writer refuses it holds a beginning of that, and where memory runs out too; no
+/// more than it held, where no page is begun.
 pub fn page<T: Texts, W: Write + Drop>(
     alloc: Global,
     words: &[String],
@@ -52,6 +54,7 @@ pub fn page<T: Texts, W: Write + Drop>(
     writer: W,
 ) -> (W, Outcome)
     ensures page { IfSome (T.known texts.old) (λ files. Ends (texts_of files (map string_bytes words.now)) result.1 (W.contents writer) (W.contents result.0)) }
+    ensures begun { IfSome (T.known texts.old) (λ files. Leaves (texts_of files (map string_bytes words.now)) (W.contents writer) (W.contents result.0)) }
 {
     match read_call(alloc, words, texts) {
         Ok(read) => {
@@ -132,7 +135,8 @@ fn text_of<T: Texts>(
 }
 
 /// Writes the page through a buffer, and gives the writer back. Where the run is done the writer is flushed, once; after a
-/// fault what the page had written is handed on too. A writer that refuses is `Write`.
+/// fault what the page had written is handed on too. A writer that refuses is `Write`. On every answer what the writer
+/// holds is a beginning of what it held and of the page's text behind that.
 pub fn write_page<W: Write + Drop>(
     alloc: Global,
     template: &str,
@@ -142,6 +146,7 @@ pub fn write_page<W: Write + Drop>(
 ) -> (W, Result<()>)
     ensures page { is_refused result.1 ≡ false →
         IsWritten (record { template = template.now; facts = «data».now; partials = sources_of partials.now }) result.1 (W.contents writer) (W.contents result.0) }
+    ensures begun { IsBegun (record { template = template.now; facts = «data».now; partials = sources_of partials.now }) (W.contents writer) (W.contents result.0) }
 {
     let buffered = match Buffered::new(alloc, writer) {
         Ok(buffered) => buffered,

@@ -71,3 +71,7 @@ pub data IsPage (l : Language) (texts : Texts) : Text → Result Nothing ErrorKi
 -- the page in the standard language
 abbrev pub IsStandardPage : Texts → Text → Result Nothing ErrorKind → Type 0
 IsStandardPage texts text end = (l : Language) × IsStandard l × IsPage l texts text end
+
+-- the text of that page, however it ends
+abbrev pub IsStandardText : Texts → Text → Type 0
+IsStandardText texts text = (end : Result Nothing ErrorKind) × IsStandardPage texts text end

@@ -13,6 +13,7 @@ use Rattle.liquid_syntax.specs.declared.language.Language.{Language}
 use Rattle.liquid_syntax.specs.declared.partials.Partials.{Partials}
 use Rattle.liquid_lib.specs.Added.{AppendsPart}
 use Rattle.liquid_lib.specs.Performs.{answer_of, is_refused, unit}
+use Rattle.liquid_lib.specs.Standard.{IsStandard}
 use Rattle.liquid_meaning.specs.Runs.{Nothing}
 use Rattle.liquid_site.specs.Page.{Sources, Texts, Trees, ArePartials, HasBadPartial, Read, IsRead, Refused, IsPage}
 use Rattle.liquid_site.specs.declared.page.ReadTexts.{ReadTexts}
@@ -38,6 +39,10 @@ pub record Shows (l : Language) (texts : Texts) (r : Result (Unit {0}) Error) (o
   pub begun : AppendsPart old new text
   pub whole : is_refused r ≡ false → Appends old new text
   pub ended : is_refused r ≡ false → answer_of unit r ≡ end
+
+-- the page in the standard language is shown
+abbrev pub ShowsStandard : Texts → Result (Unit {0}) Error → Option (List ℕ) → Option (List ℕ) → Type 0
+ShowsStandard texts r old new = (l : Language) × IsStandard l × Shows l texts r old new
 
 -- before anything was written, memory ran out
 pub record RanOut (r : Result (Unit {0}) Error) (old new : Option (List ℕ)) : Type 0 where

@@ -4,10 +4,8 @@ ghost use Rattle.std.specs.Io.KnownBytes.{Appends};
 ghost use Rattle.liquid_lib.specs.Added.{AppendsPart};
 ghost use Rattle.liquid_lib.specs.Failures.{SomeFailed};
 ghost use Rattle.liquid_lib.specs.Performs.{answer_of, is_refused, unit};
-ghost use Rattle.liquid_lib.specs.Standard.{IsStandard};
 ghost use Rattle.liquid_site.specs.Page.{page_outcome, sources_of};
-ghost use Rattle.liquid_site.specs.Shown.{RanOut, Reads, ReadsPartials, Shows, read_view};
-ghost use Rattle.liquid_syntax.specs.declared.language.Language.{Language};
+ghost use Rattle.liquid_site.specs.Shown.{RanOut, Reads, ReadsPartials, ShowsStandard, read_view};
 
 use crate::json::data_from_json;
 use liquid_core::{ErrorKind, Object, Result};
@@ -41,7 +39,7 @@ pub fn run<W: CountedWrite>(
     writer: &mut W,
 ) -> Result<()>
     ensures page { RanOut result (W.contents writer.old) (W.contents writer.new)
-        ⊎ ((l : Language) × IsStandard l × Shows l (record { template = template.now; facts = «data».now; partials = sources_of partials.now }) result (W.contents writer.old) (W.contents writer.new)) }
+        ⊎ ShowsStandard (record { template = template.now; facts = «data».now; partials = sources_of partials.now }) result (W.contents writer.old) (W.contents writer.new) }
     ensures write { IfErr result (λ e. e.kind ≡ ErrorKind.Write → SomeFailed (W.failure_count writer.old) (W.failure_count writer.new)) }
     ensures failed { W.failure_count writer.old < W.failure_count writer.new → IsErrAnd result (λ e. (e.kind ≡ ErrorKind.Memory) ⊎ (e.kind ≡ ErrorKind.Write)) }
 {
