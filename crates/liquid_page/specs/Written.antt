@@ -18,7 +18,7 @@ HoldsBeginning None new text = ⊤
 HoldsBeginning (Some xs) None text = ⊥
 HoldsBeginning (Some xs) (Some ys) text = (rest : List ℕ) × (ys ++ rest ≡ xs ++ text)
 
--- the page of these texts was begun, and nothing else was written; or memory ran out before there was a page, and nothing was written
+-- what a writer holds now is a beginning of what it held and of the page of these texts behind that; or, of a call that ended before there was a page, a beginning of what it held
 pub data IsBegun (texts : Texts) (old new : Option (List ℕ)) : Type 0 where
   a_page : {text : Text} → IsStandardText texts text → HoldsBeginning old new text → IsBegun texts old new
   no_page : HoldsBeginning old new [] → IsBegun texts old new
