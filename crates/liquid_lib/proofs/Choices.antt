@@ -192,6 +192,6 @@ refused_performs ns names meant depth setting x p h = on (is_memory x.kind) refl
   where
     on : (memory : Bool) → is_memory x.kind ≡ memory → MatchBool memory ⊤ (Refused p.environment meant x.kind × (is_refusal x.kind ≡ false))
         → Performs (Err x) (meant setting (deeper_meaning setting depth)) p p
-    on true is k = inr (record { cause = inl (memory_of x.kind is); adds = AddsPart-none p.sink _ })
+    on true is k = inr (record { cause = inl (memory_of x.kind is, inl refl); adds = AddsPart-none p.sink _ })
     on false is k = subst (λ o. MeetsAt unit (Err x) o p.sink p.sink p.environment) (sym (k.0 setting (deeper_meaning setting depth)))
         (inl (record { end = refl; within = k.1; adds = Adds-nil p.sink; none_failed = refl; same = refl }))

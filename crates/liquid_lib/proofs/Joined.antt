@@ -69,11 +69,11 @@ bind_faulted va vb e m k p q (inr x) = inr (record { cause = x.cause; adds = par
 -- ---- want of memory
 
 pub memory_met : {V A : Type 0} (view : V → A) (e : Error) (m : Run A) (s : Sink) (g h : Environment) → e.kind ≡ Memory → Meets view (Err e) m (record { sink = s; environment = g }) (record { sink = s; environment = h })
-memory_met view e m s g h is = inr (record { cause = inl is; adds = AddsPart-none s _ })
+memory_met view e m s g h is = inr (record { cause = inl (is, inl refl); adds = AddsPart-none s _ })
 
 -- the same, with every argument told by the goal
 pub memory_at : {V A : Type 0} {view : V → A} {o : Outcome A} {s : Sink} {h : Environment} (e : Error) → e.kind ≡ Memory → MeetsAt view (Err e) o s s h
-memory_at e is = inr (record { cause = inl is; adds = AddsPart-none _ _ })
+memory_at e is = inr (record { cause = inl (is, inl refl); adds = AddsPart-none _ _ })
 
 pub memory_of : (k : ErrorKind) → is_memory k ≡ true → k ≡ Memory
 memory_of Memory h = refl
@@ -90,7 +90,7 @@ unfolding evaluate
 no_value_met view e f p h = on (is_memory e.kind) refl h
   where
     on : (b : Bool) → is_memory e.kind ≡ b → MatchBool b ⊤ ((f p.environment ≡ Err e.kind) × (is_refusal e.kind ≡ false)) → Meets view (Err e) (evaluate f) p p
-    on true is h = inr (record { cause = inl (memory_of e.kind is); adds = AddsPart-none p.sink _ })
+    on true is h = inr (record { cause = inl (memory_of e.kind is, inl refl); adds = AddsPart-none p.sink _ })
     on false is h = inl (record { end = sym h.0; within = h.1; adds = Adds-nil p.sink; none_failed = refl; same = refl })
 
 -- a value, and what followed it
@@ -116,7 +116,7 @@ write_met r t s u e h = h e
 pub change_met : (r : Result (Unit {0}) Error) (f : Environment → Environment) (s : Sink) (e g : Environment) → Gives (λ _. g) r (f e) → Performs r (change f) (record { sink = s; environment = e }) (record { sink = s; environment = g })
 unfolding change
 change_met (Ok value) f s e g h = inl (record { end = refl; within = refl; adds = Adds-nil s; none_failed = refl; same = h })
-change_met (Err x) f s e g h = inr (record { cause = inl h; adds = AddsPart-none s [] })
+change_met (Err x) f s e g h = inr (record { cause = inl (h, inl refl); adds = AddsPart-none s [] })
 
 pub gives_merged : (r : Result (Unit {0}) Error) (l m : Layers) → Gives (λ _. l) r m → Gives (λ _. merged_layers l) r (merged_layers m)
 gives_merged (Ok value) l m h = ap merged_layers h
@@ -174,7 +174,10 @@ buffered_faulted {V = V} view vb x m s p q u text e g around (inr y) = inr (reco
 -- want of memory after a buffered run
 pub buffered_memory : {V A U B : Type 0} (view : V → A) (vb : U → B) (value : V) (x : Error) (m : Run A) (o : Outcome B) (s p q u : Sink) (text : Text) (e g h : Environment)
     → Around s p q u text → Meets view (Ok value) m (record { sink = p; environment = e }) (record { sink = q; environment = g }) → x.kind ≡ Memory → MeetsAt vb (Err x) o s u h
-buffered_memory view vb value x m o s p q u text e g h around (inl y) is = inr (record { cause = inl is; adds = part-of_none s u _ (around-adds s p q u text (m e).text around y.adds) })
+buffered_memory view vb value x m o s p q u text e g h around (inl y) is = inr (record {
+  cause = inl (is, inl (around.failures_out ∙ y.none_failed ∙ around.failures_in));
+  adds = part-of_none s u _ (around-adds s p q u text (m e).text around y.adds);
+})
 buffered_memory view vb value x m o s p q u text e g h around (inr y) is = absurd y.cause
 
 -- ---- lists

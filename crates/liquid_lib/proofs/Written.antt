@@ -9,7 +9,7 @@ use Rattle.liquid_model.specs.declared.error.Error.{Error}
 use Rattle.liquid_model.specs.declared.error.ErrorKind.{ErrorKind}
 use Rattle.liquid_model.specs.declared.error.ErrorKind.TheVariants.{Memory, Write}
 use Rattle.liquid_lib.specs.Added.{AppendsPart}
-use Rattle.liquid_lib.specs.Failures.{SomeFailed}
+use Rattle.liquid_lib.specs.Failures.{OneFailed, AtMostOneFailed, raised}
 use Rattle.liquid_model.specs.Answer.{Answers, Faulted}
 use Rattle.liquid_lib.proofs.Joined.{memory_of}
 use Rattle.liquid_lib.specs.Sinks.{Sink, Adds, AddsPart}
@@ -35,13 +35,16 @@ writer_begun view r o old new n m g p =
 write-is_refusal : (kind : ErrorKind) → kind ≡ Write → is_refusal kind ≡ false → ⊥
 write-is_refusal kind e f = true≢false (sym (ap is_refusal e) ∙ f)
 
-pub writer_write : {V A : Type 0} (view : V → A) (r : Result V Error) (o : Outcome A) (s t : Sink) (g : Environment) → MeetsAt view r o s t g → IfErr r (λ e. e.kind ≡ Write → SomeFailed s.failures t.failures)
+memory-is_write : (kind : ErrorKind) → kind ≡ Memory → kind ≡ Write → ⊥
+memory-is_write kind memory write = cc
+
+pub writer_write : {V A : Type 0} (view : V → A) (r : Result V Error) (o : Outcome A) (s t : Sink) (g : Environment) → MeetsAt view r o s t g → IfErr r (λ e. e.kind ≡ Write → OneFailed s.failures t.failures)
 writer_write view (Ok value) o s t g p = tt
 writer_write view (Err e) o s t g (inl p) = λ write. absurd (write-is_refusal e.kind write p.within)
 writer_write view (Err e) o s t g (inr p) = λ write. failed p.cause write
   where
-    failed : ((e.kind ≡ Memory) ⊎ ((e.kind ≡ Write) × SomeFailed s.failures t.failures)) → e.kind ≡ Write → SomeFailed s.failures t.failures
-    failed (inl memory) write = cc
+    failed : (((e.kind ≡ Memory) × AtMostOneFailed s.failures t.failures) ⊎ ((e.kind ≡ Write) × OneFailed s.failures t.failures)) → e.kind ≡ Write → OneFailed s.failures t.failures
+    failed (inl both) write = absurd (memory-is_write e.kind both.0 write)
     failed (inr both) write = both.1
 
 pub writer_failed : {V A : Type 0} (view : V → A) (r : Result V Error) (o : Outcome A) (s t : Sink) (g : Environment) → MeetsAt view r o s t g → s.failures < t.failures → IsErrAnd r (λ e. (e.kind ≡ Memory) ⊎ (e.kind ≡ Write))
@@ -49,9 +52,19 @@ writer_failed view r o s t g (inl p) rose = absurd (omega (arith, p.none_failed)
 writer_failed view (Ok value) o s t g (inr p) rose = absurd p.cause
 writer_failed view (Err e) o s t g (inr p) rose = kinds p.cause
   where
-    kinds : ((e.kind ≡ Memory) ⊎ ((e.kind ≡ Write) × SomeFailed s.failures t.failures)) → (e.kind ≡ Memory) ⊎ (e.kind ≡ Write)
-    kinds (inl memory) = inl memory
+    kinds : (((e.kind ≡ Memory) × AtMostOneFailed s.failures t.failures) ⊎ ((e.kind ≡ Write) × OneFailed s.failures t.failures)) → (e.kind ≡ Memory) ⊎ (e.kind ≡ Write)
+    kinds (inl both) = inl both.0
     kinds (inr both) = inr both.0
+
+-- no failed write was tried again
+pub writer_once : {V A : Type 0} (view : V → A) (r : Result V Error) (o : Outcome A) (s t : Sink) (g : Environment) → MeetsAt view r o s t g → AtMostOneFailed s.failures t.failures
+writer_once view r o s t g (inl p) = inl p.none_failed
+writer_once view (Ok value) o s t g (inr p) = absurd p.cause
+writer_once view (Err e) o s t g (inr p) = at_most p.cause
+  where
+    at_most : (((e.kind ≡ Memory) × AtMostOneFailed s.failures t.failures) ⊎ ((e.kind ≡ Write) × OneFailed s.failures t.failures)) → AtMostOneFailed s.failures t.failures
+    at_most (inl both) = both.1
+    at_most (inr both) = inr both.1
 
 is_none-same : (a b : Option Text) → is_some b ≡ is_some a → a ≡ None → b ≡ None
 is_none-same a None e none = refl
@@ -95,7 +108,7 @@ for_cut N r m p q law (inr x) = inr (record { cause = x.cause; adds = subst (Add
 
 is_refused_of : {V : Type 0} (r : Result V Error) (old new : ℕ) → IsCut r old new → is_refused r ≡ true
 is_refused_of (Ok value) old new cause = absurd cause
-is_refused_of (Err e) old new (inl memory) = ap is_refusal memory
+is_refused_of (Err e) old new (inl both) = ap is_refusal both.0
 is_refused_of (Err e) old new (inr both) = ap is_refusal both.0
 
 -- where the answer is neither `Memory` nor `Write`
@@ -105,9 +118,8 @@ exact view r o s t g (inr p) within = absurd (true≢false (sym (is_refused_of r
 
 -- ---- a text in place of writing
 
-never_failed : SomeFailed 0 0 → ⊥
-never_failed (inl rose) = absurd (omega arith)
-never_failed (inr stood) = absurd (omega arith)
+never_failed : OneFailed 0 0 → ⊥
+never_failed is = absurd (omega (arith, is))
 
 memory_is : (kind : ErrorKind) → kind ≡ Memory → is_memory kind ≡ true
 memory_is kind is = ap is_memory is
@@ -126,6 +138,6 @@ answered view (Ok value) m e g (inr p) = absurd p.cause
 answered view (Err x) m e g (inl p) = rw (no_memory x.kind p.within) (sym p.end, p.within)
 answered view (Err x) m e g (inr p) = on p.cause
   where
-    on : ((x.kind ≡ Memory) ⊎ ((x.kind ≡ Write) × SomeFailed 0 0)) → Faulted x.kind (m e).end
-    on (inl memory) = rw (memory_is x.kind memory) tt
+    on : (((x.kind ≡ Memory) × AtMostOneFailed 0 0) ⊎ ((x.kind ≡ Write) × OneFailed 0 0)) → Faulted x.kind (m e).end
+    on (inl both) = rw (memory_is x.kind both.0) tt
     on (inr both) = absurd (never_failed both.1)

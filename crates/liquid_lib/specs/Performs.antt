@@ -11,7 +11,7 @@ use Rattle.liquid_model.specs.Told.{is_refusal}
 use Rattle.liquid_core.specs.Environment.{Environment}
 use Rattle.liquid_core.specs.States.{environment_of}
 use Rattle.liquid_core.specs.declared.state.State.{State}
-use Rattle.liquid_lib.specs.Failures.{SomeFailed}
+use Rattle.liquid_lib.specs.Failures.{OneFailed, AtMostOneFailed}
 use Rattle.liquid_lib.specs.Sinks.{Sink, sink_of, Adds, AddsPart}
 use Rattle.liquid_lib.specs.declared.output.Output.{Output}
 use Rattle.liquid_meaning.specs.Runs.{Nothing, Outcome, Run}
@@ -32,10 +32,10 @@ abbrev pub is_refused : {V : Type 0} → Result V Error → Bool
 is_refused (Ok value) = false
 is_refused (Err e) = is_refusal e.kind
 
--- the answer is `Memory`, or it is `Write` and a write failed
+-- the answer is `Memory` and at most one write failed, or it is `Write` and just one did
 abbrev pub IsCut : {V : Type 0} → Result V Error → ℕ → ℕ → Type 0
 IsCut (Ok value) old new = ⊥
-IsCut (Err e) old new = (e.kind ≡ Memory) ⊎ ((e.kind ≡ Write) × SomeFailed old new)
+IsCut (Err e) old new = ((e.kind ≡ Memory) × AtMostOneFailed old new) ⊎ ((e.kind ≡ Write) × OneFailed old new)
 
 -- the answer is the meaning's end, all of its text was added, no write failed, and the environment is the meaning's
 pub record Exact {V A : Type 0} (view : V → A) (r : Result V Error) (meant : Outcome A) (old new : Sink) (environment : Environment) : Type 0 where

@@ -8,7 +8,7 @@ ghost use Rattle.liquid_syntax.specs.Templates.{tree_of};
 ghost use Rattle.liquid_tree.specs.Tree.{Nodes};
 ghost use Rattle.liquid_lib.specs.Added.{AppendsPart};
 ghost use Rattle.liquid_lib.specs.Engine.{setting_of};
-ghost use Rattle.liquid_lib.specs.Failures.{SomeFailed};
+ghost use Rattle.liquid_lib.specs.Failures.{OneFailed, AtMostOneFailed};
 ghost use Rattle.liquid_meaning.specs.Isolation.{changes, names_of_run};
 ghost use Rattle.liquid_lib.specs.Kept.{LayersKept};
 ghost use Rattle.liquid_meaning.specs.Meaning.{meaning};
@@ -33,7 +33,7 @@ pub trait Renderable {
     /// Writes the text, up to the first fault.
     ///
     /// `Memory` where a growth was refused, and `Write` where the writer failed or took nothing of what was left; then a
-    /// beginning of the text is written. Any other kind is the first fault's. After any answer the scopes, the data, the
+    /// beginning of the text is written, and no failed write is tried again. Any other kind is the first fault's. After any answer the scopes, the data, the
     /// partials and the depth are as before, and so is each name that neither the template nor a partial mentions.
     fn render_to<W: CountedWrite>(
         &self,
@@ -64,9 +64,10 @@ pub trait Renderable {
         ensures kept { LayersKept (names_in runtime.old (nodes self.now)) (layers_in runtime.old) (layers_in runtime.new) }
         ensures same { SettingKept runtime.old runtime.new }
         ensures write { IfErr result (λ e. e.kind ≡ ErrorKind.Write →
-            SomeFailed (W.failure_count writer.old) (W.failure_count writer.new)) }
+            OneFailed (W.failure_count writer.old) (W.failure_count writer.new)) }
         ensures failed { W.failure_count writer.old < W.failure_count writer.new →
-            IsErrAnd result (λ e. (e.kind ≡ ErrorKind.Memory) ⊎ (e.kind ≡ ErrorKind.Write)) };
+            IsErrAnd result (λ e. (e.kind ≡ ErrorKind.Memory) ⊎ (e.kind ≡ ErrorKind.Write)) }
+        ensures once { AtMostOneFailed (W.failure_count writer.old) (W.failure_count writer.new) };
 
     /// The text, or the first fault; `Memory` where a growth was refused. Else as `render_to`.
     fn render(&self, alloc: Global, runtime: &mut Runtime<'_>) -> Result<String>

@@ -2,7 +2,7 @@
 ghost use Rattle.std.specs.Prelude.{◌≡◌, OnOk, OnErr};
 ghost use Rattle.std.specs.Io.KnownBytes.{Appends};
 ghost use Rattle.liquid_lib.specs.Added.{AppendsPart};
-ghost use Rattle.liquid_lib.specs.Failures.{SomeFailed};
+ghost use Rattle.liquid_lib.specs.Failures.{OneFailed};
 
 use crate::counted::CountedWrite;
 
@@ -15,7 +15,7 @@ pub fn write_all<W: CountedWrite>(writer: &mut W, bytes: &[u8]) -> Result<(), Wr
     ensures all { OnOk result (Appends (W.contents writer.old) (W.contents writer.new) bytes.now) }
     ensures none_failed { OnOk result (W.failure_count writer.new ≡ W.failure_count writer.old) }
     ensures part { OnErr result (AppendsPart (W.contents writer.old) (W.contents writer.new) bytes.now) }
-    ensures failed { OnErr result (SomeFailed (W.failure_count writer.old) (W.failure_count writer.new)) }
+    ensures failed { OnErr result (OneFailed (W.failure_count writer.old) (W.failure_count writer.new)) }
 {
     let mut rest = bytes;
     while !rest.is_empty() {

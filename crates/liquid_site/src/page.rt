@@ -2,7 +2,7 @@
 ghost use Rattle.std.specs.Prelude.{◌≡◌, ◌<◌, ◌⊎◌, [], false, IfErr, IsErrAnd, string_bytes};
 ghost use Rattle.std.specs.Io.KnownBytes.{Appends};
 ghost use Rattle.liquid_lib.specs.Added.{AppendsPart};
-ghost use Rattle.liquid_lib.specs.Failures.{SomeFailed};
+ghost use Rattle.liquid_lib.specs.Failures.{OneFailed, AtMostOneFailed};
 ghost use Rattle.liquid_lib.specs.Performs.{answer_of, is_refused, unit};
 ghost use Rattle.liquid_site.specs.Page.{page_outcome, sources_of};
 ghost use Rattle.liquid_site.specs.Shown.{RanOut, Reads, ReadsPartials, ShowsStandard, read_view};
@@ -30,7 +30,7 @@ struct ReadTexts {
 /// the answer, and nothing is written: a kind of a source, or `InvalidInput` or `Float` of the data. Then the page is
 /// rendered in a new runtime, with at most 32 nested partials: the answer is its first fault, and what was written is the
 /// text up to there. `Memory` where a growth was refused, and `Write` where a write failed or took nothing: then a
-/// beginning of the text is written.
+/// beginning of the text is written, and no failed write is tried again.
 pub fn run<W: CountedWrite>(
     alloc: Global,
     template: &str,
@@ -40,8 +40,9 @@ pub fn run<W: CountedWrite>(
 ) -> Result<()>
     ensures page { RanOut result (W.contents writer.old) (W.contents writer.new)
         ⊎ ShowsStandard (record { template = template.now; facts = «data».now; partials = sources_of partials.now }) result (W.contents writer.old) (W.contents writer.new) }
-    ensures write { IfErr result (λ e. e.kind ≡ ErrorKind.Write → SomeFailed (W.failure_count writer.old) (W.failure_count writer.new)) }
+    ensures write { IfErr result (λ e. e.kind ≡ ErrorKind.Write → OneFailed (W.failure_count writer.old) (W.failure_count writer.new)) }
     ensures failed { W.failure_count writer.old < W.failure_count writer.new → IsErrAnd result (λ e. (e.kind ≡ ErrorKind.Memory) ⊎ (e.kind ≡ ErrorKind.Write)) }
+    ensures once { AtMostOneFailed (W.failure_count writer.old) (W.failure_count writer.new) }
 {
     let language = language(alloc)?;
     let read = read_texts(alloc, &language, template, data, partials)?;
@@ -88,8 +89,9 @@ fn show<W: CountedWrite>(alloc: Global, read: ReadTexts, writer: &mut W) -> Resu
     ensures whole { is_refused result ≡ false → Appends (W.contents writer.old) (W.contents writer.new) (page_outcome (read_view read)).text }
     ensures end { is_refused result ≡ false → answer_of unit result ≡ (page_outcome (read_view read)).end }
     ensures begun { AppendsPart (W.contents writer.old) (W.contents writer.new) (page_outcome (read_view read)).text }
-    ensures write { IfErr result (λ e. e.kind ≡ ErrorKind.Write → SomeFailed (W.failure_count writer.old) (W.failure_count writer.new)) }
+    ensures write { IfErr result (λ e. e.kind ≡ ErrorKind.Write → OneFailed (W.failure_count writer.old) (W.failure_count writer.new)) }
     ensures failed { W.failure_count writer.old < W.failure_count writer.new → IsErrAnd result (λ e. (e.kind ≡ ErrorKind.Memory) ⊎ (e.kind ≡ ErrorKind.Write)) }
+    ensures once { AtMostOneFailed (W.failure_count writer.old) (W.failure_count writer.new) }
 {
     let ReadTexts {
         template,
