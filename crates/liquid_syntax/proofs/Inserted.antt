@@ -1,5 +1,5 @@
 -- Entries by name, in the code's map and as a list.
-use Rattle.std.proofs.Common.{◌≡◌, List, [], ◌∷◌, Ordering, Less, Equal, Greater, Bool, true, false, Option, Some, None, option_map, Bor, String, Global, string_bytes, string_cmp, bytes_eq, is_eq, cond, nat_cmp, refl, sym, ap, ◌∙◌}
+use Rattle.std.proofs.Common.{◌≡◌, List, [], ◌∷◌, Ordering, Less, Equal, Greater, Bool, true, false, Option, Some, None, option_map, Bor, String, Global, string_bytes, string_cmp, bytes_eq, is_eq, cond, nat_cmp, map, refl, sym, ap, ◌∙◌}
 use mathlib.Core.Path.{fun_ext}
 use Rattle.std.specs.BTreeMap.{insert_entry, is_at}
 use Rattle.std.specs.Cmp.Lexicographic.{slice_cmp}
@@ -95,3 +95,8 @@ listed_put name t es = fun_ext (λ other. put_found name other t es)
 
 pub listed_inserted : {X Y : Type 0} (f : X → Y) (new es : List (Entry X)) (k : String Global) (x : X) → new ≡ insert_entry string_cmp es k x → listed (seen f new) ≡ insert (listed (seen f es)) (string_bytes k) (f x)
 listed_inserted f new es k x e = ap (λ l. listed (seen f l)) e ∙ ap listed (seen_inserted f es k x) ∙ listed_put (string_bytes k) (f x) (seen f es)
+
+-- the names of entries, however they are seen
+pub names_seen : {X Y : Type 0} (f : X → Y) (es : List (Entry X)) → map string_bytes (map (λ e. e.0) es) ≡ map (λ e. e.0) (seen f es)
+names_seen f [] = refl
+names_seen f (e ∷ es) = ap (λ l. string_bytes e.0 ∷ l) (names_seen f es)

@@ -1,5 +1,5 @@
 //! What tags, blocks and filters are called.
-ghost use Rattle.std.specs.Prelude.{◌≡◌, [], option_map, OnErr, string_bytes};
+ghost use Rattle.std.specs.Prelude.{◌≡◌, [], map, option_map, OnErr, string_bytes};
 ghost use Rattle.liquid_model.specs.Answer.{Gives};
 ghost use Rattle.liquid_model.specs.Maps.{listed, insert};
 ghost use Rattle.liquid_syntax.specs.Languages.{kinds_of};
@@ -54,7 +54,9 @@ impl<K: Copy + Drop> Registry<K> {
     }
 
     /// The registered names, in order.
-    pub fn names(&self) -> Keys<'_, String, K> {
+    pub fn names(&self) -> Keys<'_, String, K>
+        ensures { map string_bytes result ≡ map (λ e. e.0) (kinds_of self.now) }
+    {
         self.kinds.keys()
     }
 
