@@ -16,9 +16,9 @@ holds_same None = tt
 holds_same (Some xs) = ([], refl)
 
 -- of a text's beginning behind what was there, the writer has what isn't held back
-holds_front : (before start done now : Option (List ℕ)) (held text : List ℕ) → Keeps before start → AppendsPart start done text → Keeps done (append_known now held) → HoldsBeginning before now text
-holds_front None start done now held text p q k = tt
-holds_front (Some x) None done now held text p q k = absurd p
+holds_front : (before start after now : Option (List ℕ)) (held text : List ℕ) → Keeps before start → AppendsPart start after text → Keeps after (append_known now held) → HoldsBeginning before now text
+holds_front None start after now held text p q k = tt
+holds_front (Some x) None after now held text p q k = absurd p
 holds_front (Some x) (Some y) None now held text p q k = absurd q.appended
 holds_front (Some x) (Some y) (Some z) None held text p q k = absurd k
 holds_front (Some x) (Some y) (Some z) (Some w) held text p q k =
