@@ -9,7 +9,7 @@ use Rattle.liquid_model.specs.declared.error.Error.{Error}
 use Rattle.liquid_model.specs.declared.error.ErrorKind.{ErrorKind}
 use Rattle.liquid_model.specs.declared.error.ErrorKind.TheVariants.{Memory, Write}
 use Rattle.liquid_lib.specs.Added.{AppendsPart}
-use Rattle.liquid_lib.specs.Failures.{OneFailed, AtMostOneFailed, raised}
+use Rattle.liquid_lib.specs.Failures.{OneFailed, AtMostOneFailed}
 use Rattle.liquid_model.specs.Answer.{Answers, Faulted}
 use Rattle.liquid_lib.proofs.Joined.{memory_of}
 use Rattle.liquid_lib.specs.Sinks.{Sink, Adds, AddsPart}
