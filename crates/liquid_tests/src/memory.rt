@@ -13,6 +13,7 @@ macro_rules! asked {
 }
 
 mod filters;
+mod names;
 mod none;
 mod pages;
 mod readers;

@@ -56,7 +56,7 @@ fn row_data(rt: &impl Abort, alloc: Global, row: &Row<'_>) -> Option<Object> {
     data.ok()
 }
 
-fn by_run(rt: &(impl Abort + Print), alloc: Global, row: &Row<'_>) -> Result<()> {
+pub(super) fn by_run(rt: &(impl Abort + Print), alloc: Global, row: &Row<'_>) -> Result<()> {
     let mut counted = Counted::new(Vec::with_capacity(alloc, row.page.len())?);
     let answer = asked!(
         rt,
