@@ -107,6 +107,16 @@ fn where_by_a_property(rt: HostRuntime) -> Result<(), Fail> {
 fn uniq(rt: HostRuntime) -> Result<(), Fail> {
     for (input, args, wanted) in [
         ("[ 1 '1 1 [ 1 ] [ 1 ] ]", "", "[ 1 '1 [ 1 ] ]"),
+        (
+            "[ 5 3 { a 2 } 5 nil 9 { a 1 } 3 nil { a 2 } 1 9 ]",
+            "",
+            "[ 5 3 { a 2 } nil 9 { a 1 } 1 ]",
+        ),
+        (
+            "[ 7 2 12 4 9 1 14 3 11 6 13 5 10 8 1 14 7 0 8 ]",
+            "",
+            "[ 7 2 12 4 9 1 14 3 11 6 13 5 10 8 0 ]",
+        ),
         ("[ ]", "", "[ ]"),
         ("nil", "", "InvalidInput"),
         ("x", "", "InvalidInput"),

@@ -7,7 +7,7 @@ ghost use Rattle.liquid_model.specs.View.{view, items_view};
 ghost use Rattle.liquid_list_filters.specs.Arguments.{first_of};
 ghost use Rattle.liquid_list_filters.specs.Laws.{Compacts, Maps, Uniqs, Wheres};
 ghost use Rattle.liquid_list_filters.specs.Stands.{Stands, WithFirst};
-ghost use Rattle.liquid_list_filters.specs.Keeping.{compact, compact_of, compact_by, compact_answer, is_given, is_wanted, where_of, where_by, where_answer, map_of, map_answer, has_same, uniq, uniq_answer};
+ghost use Rattle.liquid_list_filters.specs.Keeping.{compact, compact_of, compact_by, compact_answer, is_given, is_wanted, where_of, where_by, where_answer, map_of, map_answer, uniq, uniq_answer};
 ghost use Rattle.liquid_list_filters.specs.Sequences.{of_list};
 
 use super::sequence::{all_maps, property};
@@ -15,6 +15,7 @@ use crate::argument::text_of;
 use crate::fault::invalid_input;
 use liquid_core::{Filter, Result, Value};
 use std::alloc::Global;
+use std::collections::BTreeSet;
 use std::slice;
 
 /// `compact`: the items of a list that aren't nil; with a property, the maps that have it and not nil.
@@ -242,7 +243,7 @@ fn map_of(alloc: Global, items: &[Value], name: &str) -> Result<Vec<Value>>
 
 /// `uniq`: the items of a list that equal no kept one before.
 ///
-/// Each item is compared with each kept one, so the work grows with the square of the kept items.
+/// The kept items are in an ordered set too, so an item is compared with few of them, and the work grows as a sort's.
 #[derive(Clone, Copy, Drop)]
 pub struct Uniq;
 
@@ -278,22 +279,12 @@ fn uniq_answer(alloc: Global, input: &Value, _args: &[Value]) -> Result<Value>
 fn unique(alloc: Global, items: &[Value]) -> Result<Vec<Value>>
     ensures { Gives (λ v. map view v.items) result (uniq (list_of (items_view items.now))) }
 {
+    let mut seen = BTreeSet::new(alloc);
     let mut kept = Vec::new(alloc);
     for item in items {
-        if !has_same(&kept, item) {
+        if seen.insert(item)? {
             kept.push(item.copy(alloc)?)?;
         }
     }
     Ok(kept)
-}
-
-fn has_same(items: &[Value], wanted: &Value) -> bool
-    ensures { result ≡ has_same (view wanted.now) (map view items.now) }
-{
-    for item in items {
-        if item == wanted {
-            return true;
-        }
-    }
-    false
 }
