@@ -9,6 +9,7 @@ pub mod ConditionReading
 pub mod Conditions
 pub mod Controls
 pub mod Entries
+pub mod Faults
 pub mod Flats
 pub mod Forest
 pub mod Judges

@@ -5,6 +5,7 @@ ghost use Rattle.liquid_model.specs.Maps.{listed};
 ghost use Rattle.liquid_syntax.specs.Called.{Calls};
 ghost use Rattle.liquid_syntax.specs.ChainReading.{accepted_call, call_fault, filters_of, chain_of};
 ghost use Rattle.liquid_syntax.specs.Chains.{Filters};
+ghost use Rattle.liquid_syntax.specs.Faults.{FaultsAs, FaultsAt};
 ghost use Rattle.liquid_tree.specs.ChainView.{chain_view, chain_filter_view};
 ghost use Rattle.liquid_syntax.specs.Languages.{kinds_of};
 ghost use Rattle.liquid_source.specs.Readers.{Parses, IsOfKind, IsAt};
@@ -28,7 +29,8 @@ pub fn read_chain(
     items: VecDeque<Item<'_>>,
     at: &str,
 ) -> Result<FilterChain, ParseError>
-    ensures { Parses chain_view result (chain_of (kinds_of filters.now) (tokens_view items.entry.items)) }
+    ensures chain { Parses chain_view result (chain_of (kinds_of filters.now) (tokens_view items.entry.items)) }
+    ensures place { FaultsAt (length at.now) result }
 {
     let mut items = items;
     let Some(entry) = next_value(&mut items) else {
@@ -45,7 +47,8 @@ fn read_filters(
     items: &mut VecDeque<Item<'_>>,
     at: &str,
 ) -> Result<Vec<ChainFilter>, ParseError>
-    ensures { Parses (λ fs. map chain_filter_view fs.items) result (filters_of (kinds_of known.now) (tokens_view items.old.items)) }
+    ensures filters { Parses (λ fs. map chain_filter_view fs.items) result (filters_of (kinds_of known.now) (tokens_view items.old.items)) }
+    ensures place { FaultsAt (length at.now) result }
 {
     let mut filters = Vec::new(alloc);
     'filters: while !is_over(items) {
@@ -98,6 +101,8 @@ fn read_arguments(
 ) -> Result<Vec<Expression>, ParseError>
     ensures called { (known : Filters) → Calls known (tokens_view items.old.items) (tokens_view items.new.items) result }
     ensures shorter { length items.new.items ≤ length items.old.items }
+    ensures kind { FaultsAs FaultKind.Expected result }
+    ensures place { FaultsAt (length at.now) result }
 {
     let mut arguments = Vec::new(alloc);
     if !skip(items, Symbol::Colon) {

@@ -3,12 +3,13 @@ ghost use Rattle.std.specs.Prelude.{◌≡◌, ◌≤◌, length};
 ghost use Rattle.liquid_syntax.specs.ConditionAnswers.{TakesOperator, TakesAtom, TakesConjunction};
 ghost use Rattle.liquid_syntax.specs.ConditionReading.{symbol_operator, operator_of, condition_of};
 ghost use Rattle.liquid_tree.specs.ConditionView.{condition_view};
+ghost use Rattle.liquid_syntax.specs.Faults.{FaultsAs, FaultsAt};
 ghost use Rattle.liquid_source.specs.PieceView.{item_view};
 ghost use Rattle.liquid_source.specs.Readers.{Parses};
 ghost use Rattle.liquid_source.specs.Tokens.{tokens_view, token_of};
 
 use crate::chain_items::expected;
-use liquid_source::{Item, ParseError, Symbol, is_over, is_word, next_value, skip_word};
+use liquid_source::{FaultKind, Item, ParseError, Symbol, is_over, is_word, next_value, skip_word};
 use liquid_tree::{Atom, ComparisonOperator, Condition};
 use std::alloc::Global;
 use std::collections::VecDeque;
@@ -20,7 +21,9 @@ pub fn read_condition(
     items: VecDeque<Item<'_>>,
     at: &str,
 ) -> Result<Condition, ParseError>
-    ensures { Parses condition_view result (condition_of (tokens_view items.entry.items)) }
+    ensures condition { Parses condition_view result (condition_of (tokens_view items.entry.items)) }
+    ensures kind { FaultsAs FaultKind.Expected result }
+    ensures place { FaultsAt (length at.now) result }
 {
     let mut items = items;
     let mut conjunctions = Vec::new(alloc);
@@ -44,6 +47,8 @@ fn read_conjunction(
 ) -> Result<Vec<Atom>, ParseError>
     ensures taken { TakesConjunction (tokens_view items.old.items) (tokens_view items.new.items) result }
     ensures shorter { length items.new.items ≤ length items.old.items }
+    ensures kind { FaultsAs FaultKind.Expected result }
+    ensures place { FaultsAt (length at.now) result }
 {
     let mut atoms = Vec::new(alloc);
     'atoms: loop {
@@ -59,6 +64,8 @@ fn read_conjunction(
 fn read_atom(items: &mut VecDeque<Item<'_>>, at: &str) -> Result<Atom, ParseError>
     ensures taken { TakesAtom (tokens_view items.old.items) (tokens_view items.new.items) result }
     ensures shorter { length items.new.items ≤ length items.old.items }
+    ensures kind { FaultsAs FaultKind.Expected result }
+    ensures place { FaultsAt (length at.now) result }
 {
     let Some(left) = next_value(items) else {
         return Err(expected(at, "a value"));

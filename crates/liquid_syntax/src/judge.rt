@@ -4,6 +4,7 @@ ghost use Rattle.liquid_source.specs.PieceView.{piece_view};
 ghost use Rattle.liquid_source.specs.Readers.{IsAt, IsOfKind};
 ghost use Rattle.liquid_source.specs.SourceReading.{wanted_body};
 ghost use Rattle.liquid_source.specs.Tokens.{tokens_view};
+ghost use Rattle.liquid_syntax.specs.Faults.{FaultsAs, FaultsAt};
 ghost use Rattle.liquid_syntax.specs.Judges.{Judges, ReadsTwo};
 ghost use Rattle.liquid_syntax.specs.Judging.{assign_of, comment_label, ends_or, if_of, leaf_or, opens, raw_label, reads, tag_label};
 ghost use Rattle.liquid_syntax.specs.Roles.{body_behind, role_of};
@@ -48,7 +49,8 @@ pub fn judge(
     piece: Piece<'_>,
     at: &str,
 ) -> Result<Label, ParseError>
-    ensures { Judges (reads language.now place (piece_view piece.entry)) result }
+    ensures label { Judges (reads language.now place (piece_view piece.entry)) result }
+    ensures place { FaultsAt (length at.now) result }
 {
     match piece {
         Piece::Output(items) => Ok(Label::Leaf(Node::Output(read_chain(
@@ -70,7 +72,9 @@ pub fn judge(
 }
 
 fn raw_block(alloc: Global, wanted: Option<Body>, body: &str, at: &str) -> Result<Label, ParseError>
-    ensures { Judges (raw_label body.now wanted) result }
+    ensures label { Judges (raw_label body.now wanted) result }
+    ensures kind { FaultsAs FaultKind.UnknownTag result }
+    ensures place { FaultsAt (length at.now) result }
 {
     match wanted {
         Some(Body::Raw) => Ok(Label::Closed(Node::Raw(String::from_str(alloc, body)?))),
@@ -79,7 +83,9 @@ fn raw_block(alloc: Global, wanted: Option<Body>, body: &str, at: &str) -> Resul
 }
 
 fn comment_block(wanted: Option<Body>, at: &str) -> Result<Label, ParseError>
-    ensures { Judges (comment_label wanted) result }
+    ensures label { Judges (comment_label wanted) result }
+    ensures kind { FaultsAs FaultKind.UnknownTag result }
+    ensures place { FaultsAt (length at.now) result }
 {
     match wanted {
         Some(Body::Comment) => Ok(Label::Closed(Node::Comment)),
@@ -95,7 +101,8 @@ fn read_tag(
     items: VecDeque<Item<'_>>,
     at: &str,
 ) -> Result<Label, ParseError>
-    ensures { Judges (tag_label language.now (tokens_view items.entry.items) (role_of language.now place name.now)) result }
+    ensures label { Judges (tag_label language.now (tokens_view items.entry.items) (role_of language.now place name.now)) result }
+    ensures place { FaultsAt (length at.now) result }
 {
     match role_of(language, place, name) {
         None => Err(unknown_tag(at)),
@@ -114,7 +121,9 @@ fn read_tag(
 }
 
 fn read_end(items: VecDeque<Item<'_>>, at: &str) -> Result<Label, ParseError>
-    ensures { Judges (ends_or (tokens_view items.entry.items)) result }
+    ensures label { Judges (ends_or (tokens_view items.entry.items)) result }
+    ensures kind { FaultsAs FaultKind.Expected result }
+    ensures place { FaultsAt (length at.now) result }
 {
     if items.is_empty() {
         Ok(Label::Ends)
@@ -125,7 +134,9 @@ fn read_end(items: VecDeque<Item<'_>>, at: &str) -> Result<Label, ParseError>
 
 /// The node of an `if` or an `elsif`: a condition, before its bodies are read.
 fn read_if(alloc: Global, items: VecDeque<Item<'_>>, at: &str) -> Result<Node, ParseError>
-    ensures { ReadsTwo (if_of (tokens_view items.entry.items)) result }
+    ensures node { ReadsTwo (if_of (tokens_view items.entry.items)) result }
+    ensures kind { FaultsAs FaultKind.Expected result }
+    ensures place { FaultsAt (length at.now) result }
 {
     let condition = read_condition(alloc, items, at)?;
     Ok(Node::If(condition, TwoBodies::open()))
@@ -145,7 +156,8 @@ fn read_assign(
     items: VecDeque<Item<'_>>,
     at: &str,
 ) -> Result<Label, ParseError>
-    ensures { Judges (leaf_or (assign_of language.now (tokens_view items.entry.items))) result }
+    ensures label { Judges (leaf_or (assign_of language.now (tokens_view items.entry.items))) result }
+    ensures place { FaultsAt (length at.now) result }
 {
     let mut items = items;
     let Some(name) = next_word(&mut items) else {

@@ -16,30 +16,30 @@ filters-init c =
     let known = kinds_of c.args.known.now in
     filters_nothing known _ ∙ ap (λ fs. filters_behind known (map chain_filter_view fs) (filters_of known (tokens_view c.args.items.now.items))) (sym c.new-filters.ensures.items)
 
-pub returns : goal.returns
-returns c = c.filters.invariant ∙ no_filter (kinds_of c.args.known.now) (map chain_filter_view c.filters.filters.items) _ (none_left c.filters.items.items (sym c.is_over.ensures ∙ c.filters-test.false))
+pub returns-clause-filters : goal.returns-clause-filters
+returns-clause-filters c = c.filters.invariant ∙ no_filter (kinds_of c.args.known.now) (map chain_filter_view c.filters.filters.items) _ (none_left c.filters.items.items (sym c.is_over.ensures ∙ c.filters-test.false))
 
-pub returns-then-not-skip : goal.returns-then-not-skip
-returns-then-not-skip c =
+pub returns-then-not-skip-clause-filters : goal.returns-then-not-skip-clause-filters
+returns-then-not-skip-clause-filters c =
     let some = left_over c.filters.items.items (sym c.is_over.ensures ∙ c.filters-test.true) in
     faulted c.expected.result _ (c.filters.invariant ∙ no_bar (kinds_of c.args.known.now) (map chain_filter_view c.filters.filters.items) (tokens_view c.filters.items.items) some c.if-not-skip.ensures.0)
 
-pub returns-in_default : goal.returns-in_default
-returns-in_default c =
+pub returns-in_default-clause-filters : goal.returns-in_default-clause-filters
+returns-in_default-clause-filters c =
     let some = left_over c.filters.items.items (sym c.is_over.ensures ∙ c.filters-test.true) in
     faulted c.expected-in_default.result _ (
     c.filters.invariant ∙ no_name (kinds_of c.args.known.now) (map chain_filter_view c.filters.filters.items) (tokens_view c.filters.items.items) _ some c.if-not-skip.ensures.0 (sym c.in_default.ensures.value))
 
-pub returns-in_err-arguments : goal.returns-in_err-arguments
-returns-in_err-arguments c =
+pub returns-in_err-arguments-clause-filters : goal.returns-in_err-arguments-clause-filters
+returns-in_err-arguments-clause-filters c =
     let known = kinds_of c.args.known.now in
     let some = left_over c.filters.items.items (sym c.is_over.ensures ∙ c.filters-test.true) in
     let p = err_from_is_err_and c.from_residual.result c.from_residual.ensures.1 in
     rw (p.1, p.2) (call_refused known (map chain_filter_view c.filters.filters.items) (tokens_view c.filters.items.items) _ some c.if-not-skip.ensures.0 _ _ (sym c.in-Some.ensures.value) c.in_err-arguments.field-0.0 _ c.filters.invariant
     (c.in_err-arguments.ensures.called known))
 
-pub returns-in_err-accepted : goal.returns-in_err-accepted
-returns-in_err-accepted c =
+pub returns-in_err-accepted-clause-filters : goal.returns-in_err-accepted-clause-filters
+returns-in_err-accepted-clause-filters c =
     let known = kinds_of c.args.known.now in
     let some = left_over c.filters.items.items (sym c.is_over.ensures ∙ c.filters-test.true) in
     let xs = map expression_view c.in_ok-arguments.arguments.items in

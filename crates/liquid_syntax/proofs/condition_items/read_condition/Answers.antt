@@ -7,15 +7,15 @@ use Rattle.liquid_syntax.proofs.ChainCalls.{left_over, none_left, faulted}
 use Rattle.liquid_syntax.proofs.ConditionTurns.{conjunctions_then, one_conjunction_more, no_or, last_conjunction}
 use Rattle.liquid_syntax.proofs.condition_items.read_condition.Goals as goal
 
-pub returns-then-is_over : goal.returns-then-is_over
-returns-then-is_over c =
+pub returns-then-is_over-clause-condition : goal.returns-then-is_over-clause-condition
+returns-then-is_over-clause-condition c =
     c.conjunctions.invariant
     ∙ last_conjunction (map atoms_view c.conjunctions.conjunctions.items) (atoms_view c.in_ok-conjunction.conjunction) (tokens_view c.conjunctions.items.items) (tokens_view c.read_conjunction.new.items.items) c.in_ok-conjunction.ensures.taken
     (none_left c.read_conjunction.new.items.items (sym c.is_over.ensures ∙ c.if-is_over.true))
     ∙ ap Some (sym (ap (map atoms_view) c.in_ok-push.ensures.items ∙ map-append _ _ _))
 
-pub returns-then-not-skip_word : goal.returns-then-not-skip_word
-returns-then-not-skip_word c =
+pub returns-then-not-skip_word-clause-condition : goal.returns-then-not-skip_word-clause-condition
+returns-then-not-skip_word-clause-condition c =
     let some = left_over c.read_conjunction.new.items.items (sym c.is_over.ensures ∙ c.if-is_over.false) in
     faulted c.expected.result _ (
     c.conjunctions.invariant

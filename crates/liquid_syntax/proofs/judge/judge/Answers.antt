@@ -8,8 +8,8 @@ use Rattle.liquid_syntax.specs.Judging.{reads, tag_label}
 use Rattle.liquid_syntax.specs.Roles.{role_of}
 use Rattle.liquid_syntax.proofs.judge.judge.Goals as goal
 
-pub returns-in-Tag : goal.returns-in-Tag
-returns-in-Tag c =
+pub returns-in-Tag-clause-label : goal.returns-in-Tag-clause-label
+returns-in-Tag-clause-label c =
     let role = role_of c.args.language.now c.args.place c.in-Tag.name.now in
-    let judged = subst (λ (ts : List Token). Judges (tag_label c.args.language.now ts role) c.read_tag.result) (sym (seen_tokens c.in-Tag.items.items)) c.read_tag.ensures in
+    let judged = subst (λ (ts : List Token). Judges (tag_label c.args.language.now ts role) c.read_tag.result) (sym (seen_tokens c.in-Tag.items.items)) c.read_tag.ensures.label in
     subst (λ (p : Piece). Judges (reads c.args.language.now c.args.place (piece_view p)) c.read_tag.result) (sym c.in-Tag.is) judged

@@ -72,7 +72,7 @@ returns-in_err-label c =
     let wanted = c.body_behind-body.ensures ∙ ap (λ (x : Place). wanted_body (body_behind c.args.language.now x) (piece_view c.in_ok-markup.markup.piece)) at in
     let closed = ap (λ (o : Option Body). body_at o (markup_view c.in_ok-markup.markup) c.in_ok-markup.after.now) (sym wanted) ∙ c.in_ok-markup-2.ensures in
     let p = err_from_is_err_and c.from_residual-in_err-label.result c.from_residual-in_err-label.ensures.1 in
-    let judged = subst (λ (x : Place). Judges (reads c.args.language.now x (piece_view c.in_ok-markup-2.markup.piece)) (Err c.in_err-label.field-0.0)) at c.in_err-label.ensures in
+    let judged = subst (λ (x : Place). Judges (reads c.args.language.now x (piece_view c.in_ok-markup-2.markup.piece)) (Err c.in_err-label.field-0.0)) at c.in_err-label.ensures.label in
     rw (p.1, p.2) (piece_refused c.args.language.now c.args.source.now c.pieces.rest.now c.text_before.result.0.now c.text_before.result.1.now v.0 c.pieces.front v.1 v.2 v.5 c.text_before.ensures
     c.in-Some.inside.now c.in-Some.ensures (markup_view c.in_ok-markup.markup, c.in_ok-markup.after.now) c.in_ok-markup.ensures c.stripped-in-pieces.result.now c.stripped-in-pieces.ensures
     (markup_view c.in_ok-markup-2.markup, c.in_ok-markup-2.after.now) closed c.in_err-label.field-0.0 (label_refused c.in_err-label.field-0.0 _ v.1 _ judged))
@@ -86,7 +86,7 @@ returns-in_err-add c =
     let closed = ap (λ (o : Option Body). body_at o (markup_view c.in_ok-markup.markup) c.in_ok-markup.after.now) (sym wanted) ∙ c.in_ok-markup-2.ensures in
     let p = err_from_is_err_and c.from_residual-in_err-add.result c.from_residual-in_err-add.ensures.1 in
     let now = text_added c.stripped-in-pieces.result.now v.2 in
-    let label : reads c.args.language.now (place_of v.1) (piece_view c.in_ok-markup-2.markup.piece) ≡ label_view c.in_ok-label.label = ap (λ (x : Place). reads c.args.language.now x (piece_view c.in_ok-markup-2.markup.piece)) (sym at) ∙ c.in_ok-label.ensures.0 in
+    let label : reads c.args.language.now (place_of v.1) (piece_view c.in_ok-markup-2.markup.piece) ≡ label_view c.in_ok-label.label = ap (λ (x : Place). reads c.args.language.now x (piece_view c.in_ok-markup-2.markup.piece)) (sym at) ∙ c.in_ok-label.ensures.label.0 in
     rw (p.1, p.2) (piece_refused c.args.language.now c.args.source.now c.pieces.rest.now c.text_before.result.0.now c.text_before.result.1.now v.0 c.pieces.front v.1 v.2 v.5 c.text_before.ensures
     c.in-Some.inside.now c.in-Some.ensures (markup_view c.in_ok-markup.markup, c.in_ok-markup.after.now) c.in_ok-markup.ensures c.stripped-in-pieces.result.now c.stripped-in-pieces.ensures
     (markup_view c.in_ok-markup-2.markup, c.in_ok-markup-2.after.now) closed c.in_err-add.field-0.0 (subst (λ (l : Label). Fails c.in_err-add.field-0.0 (step l v.1 now)) (sym label) (c.in_err-add.ensures v.1 now b)))
@@ -111,7 +111,7 @@ pieces-preserved c =
     let wanted = c.body_behind-body.ensures ∙ ap (λ (x : Place). wanted_body (body_behind c.args.language.now x) (piece_view c.in_ok-markup.markup.piece)) at in
     let closed = ap (λ (o : Option Body). body_at o (markup_view c.in_ok-markup.markup) c.in_ok-markup.after.now) (sym wanted) ∙ c.in_ok-markup-2.ensures in
     let now = text_added c.stripped-in-pieces.result.now v.2 in
-    let label : reads c.args.language.now (place_of v.1) (piece_view c.in_ok-markup-2.markup.piece) ≡ label_view c.in_ok-label.label = ap (λ (x : Place). reads c.args.language.now x (piece_view c.in_ok-markup-2.markup.piece)) (sym at) ∙ c.in_ok-label.ensures.0 in
+    let label : reads c.args.language.now (place_of v.1) (piece_view c.in_ok-markup-2.markup.piece) ≡ label_view c.in_ok-label.label = ap (λ (x : Place). reads c.args.language.now x (piece_view c.in_ok-markup-2.markup.piece)) (sym at) ∙ c.in_ok-label.ensures.label.0 in
     let added = c.in_ok-add.ensures v.1 now b in
     let less = went_shorter c.args.language.now c.args.source.now c.pieces.rest.now c.text_before.result.0.now c.text_before.result.1.now v.0 c.pieces.front v.1 v.2 v.5 c.text_before.ensures
     c.in-Some.inside.now c.in-Some.ensures (markup_view c.in_ok-markup.markup, c.in_ok-markup.after.now) c.in_ok-markup.ensures c.stripped-in-pieces.result.now c.stripped-in-pieces.ensures

@@ -1,0 +1,17 @@
+-- What a fault of a piece says: where it stands, and of which kind it is. Want of memory is no fault of a piece.
+use Rattle.std.specs.Prelude.{◌≡◌, ℕ, Result, Ok, Err}
+use Rattle.liquid_source.specs.declared.fault.FaultKind.{FaultKind}
+use Rattle.liquid_source.specs.declared.fault.ParseError.{ParseError}
+use Rattle.liquid_source.specs.declared.fault.ParseError.TheVariants as errors
+
+-- a fault stands at the place with so many bytes of the source left
+abbrev pub FaultsAt : {X : Type 0} → ℕ → Result X ParseError → Type 0
+FaultsAt left (Ok x) = Unit {0}
+FaultsAt left (Err errors.Memory) = Unit {0}
+FaultsAt left (Err (errors.Fault f)) = f.left ≡ left
+
+-- a fault is of this kind, and of no other
+abbrev pub FaultsAs : {X : Type 0} → FaultKind → Result X ParseError → Type 0
+FaultsAs kind (Ok x) = Unit {0}
+FaultsAs kind (Err errors.Memory) = Unit {0}
+FaultsAs kind (Err (errors.Fault f)) = f.kind ≡ kind
