@@ -4,6 +4,7 @@ ghost use Rattle.std.specs.Prelude.{◌≡◌, ◌<◌, ◌-◌, IfSome, List, [
 ghost use Rattle.liquid_source.specs.Readers.{IsAt, IsOfKind};
 ghost use Rattle.liquid_syntax.specs.Building.{Begins, Closes, Elses, Finishes, IsBuilding, IsBuilt, IsMemory, IsPrepared, IsSound, IsStack, Steps, block_ended, is_full, first_ended, label_view, last_ended, of_bodies, place_at, text_added};
 ghost use Rattle.liquid_syntax.specs.Controls.{end_word};
+ghost use Rattle.liquid_syntax.specs.Faults.{FaultsAt};
 ghost use Rattle.liquid_syntax.specs.Flats.{flat_of};
 ghost use Rattle.liquid_syntax.specs.OpenBlocks.{Level, at_end, close, step, to_elsif, with_node};
 ghost use Rattle.liquid_tree.specs.Tree.{Nodes, no_nodes};
@@ -98,7 +99,8 @@ impl Builder {
 
     fn leaf(&mut self, node: Node) -> Result<(), ParseError>
         requires { (flat_of node).ends ≡ [] }
-        ensures { (ls : List Level) (cur : Nodes) → IsBuilding self.old ls cur → Steps (Some (ls, with_node cur ((flat_of node).head []))) self.new result }
+        ensures stack { (ls : List Level) (cur : Nodes) → IsBuilding self.old ls cur → Steps (Some (ls, with_node cur ((flat_of node).head []))) self.new result }
+        ensures fails { IsMemory result }
     {
         self.nodes.push(node)?;
         Ok(())
@@ -137,16 +139,18 @@ impl Builder {
         Ok(())
     }
 
-    /// The end of a first body, and the start of the last: the block that goes on.
-    fn otherwise(&mut self) -> Result<Block, ParseError>
+    /// The end of a first body, and the start of the last: the block that goes on. So many bytes of the source are left
+    /// from the piece on.
+    fn otherwise(&mut self, left: usize) -> Result<Block, ParseError>
         requires { IsBuilt self.old }
-        ensures { (ls : List Level) (cur : Nodes) → IsBuilding self.old ls cur → Elses ls cur self.new result }
+        ensures stack { (ls : List Level) (cur : Nodes) → IsBuilding self.old ls cur → Elses ls cur self.new result }
+        ensures place { FaultsAt left result }
     {
         let end = self.nodes.len();
         match self.blocks.pop() {
-            None => Err(ParseError::Fault(no_body())),
+            None => Err(ParseError::Fault(no_body(left))),
             Some(open) => match open.stage {
-                Stage::Last => Err(ParseError::Fault(no_body())),
+                Stage::Last => Err(ParseError::Fault(no_body(left))),
                 Stage::First => {
                     end_first(&mut self.nodes[open.place], end);
                     self.blocks.push(Open {
@@ -162,11 +166,12 @@ impl Builder {
     }
 
     /// `elsif`: the last body begins, and in it a block that ends with the one around it.
-    fn elsif(&mut self, node: Node) -> Result<(), ParseError>
+    fn elsif(&mut self, node: Node, left: usize) -> Result<(), ParseError>
         requires { IsBuilt self.old }
-        ensures { IsPrepared stages.First node → (ls : List Level) (cur : Nodes) → IsBuilding self.old ls cur → Steps (to_elsif (of_bodies (flat_of node)) ls cur) self.new result }
+        ensures stack { IsPrepared stages.First node → (ls : List Level) (cur : Nodes) → IsBuilding self.old ls cur → Steps (to_elsif (of_bodies (flat_of node)) ls cur) self.new result }
+        ensures place { FaultsAt left result }
     {
-        let block = self.otherwise()?;
+        let block = self.otherwise(left)?;
         self.open(block, Stage::First, true, node)
     }
 
@@ -184,15 +189,16 @@ impl Builder {
     }
 
     /// The end of a block. Where an `elsif` opened it, the block around it ends too.
-    fn close(&mut self) -> Result<(), ParseError>
+    fn close(&mut self, left: usize) -> Result<(), ParseError>
         requires { IsBuilt self.old }
-        ensures { (ls : List Level) (cur : Nodes) → IsBuilding self.old ls cur → Steps (close true ls cur) self.new result }
+        ensures stack { (ls : List Level) (cur : Nodes) → IsBuilding self.old ls cur → Steps (close true ls cur) self.new result }
+        ensures place { FaultsAt left result }
     {
         let mut chained = true;
         'chain: while chained {
             match self.close_one() {
                 Some(around) => chained = around,
-                None => return Err(ParseError::Fault(no_body())),
+                None => return Err(ParseError::Fault(no_body(left))),
             }
         }
         self.depth -= 1;
@@ -203,7 +209,8 @@ impl Builder {
     pub fn add(&mut self, label: Label, left: usize) -> Result<(), ParseError>
         requires built { IsBuilt self.old }
         requires sound { IsSound label }
-        ensures { (ls : List Level) (cur : Nodes) → IsBuilding self.old ls cur → Steps (step (label_view label) ls cur) self.new result }
+        ensures stack { (ls : List Level) (cur : Nodes) → IsBuilding self.old ls cur → Steps (step (label_view label) ls cur) self.new result }
+        ensures place { FaultsAt left result }
     {
         match label {
             Label::Leaf(node) => self.leaf(node),
@@ -221,12 +228,12 @@ impl Builder {
                 self.depth += 1;
                 Ok(())
             }
-            Label::Elsif(node) => self.elsif(node),
+            Label::Elsif(node) => self.elsif(node, left),
             Label::Otherwise => {
-                self.otherwise()?;
+                self.otherwise(left)?;
                 Ok(())
             }
-            Label::Ends => self.close(),
+            Label::Ends => self.close(left),
         }
     }
 
@@ -275,14 +282,15 @@ fn end_last(node: &mut Node, end: usize)
     }
 }
 
-/// The fault of an end, an `else` or an `elsif` that stands where no body is to end.
-fn no_body() -> Fault
+/// The fault of an end, an `else` or an `elsif` that stands where no body is to end; so many bytes of the source are left
+/// from it on.
+fn no_body(left: usize) -> Fault
     ensures kind { result.kind ≡ FaultKind.UnknownTag }
-    ensures place { result.left ≡ 0 }
+    ensures place { result.left ≡ left }
 {
     Fault {
         kind: FaultKind::UnknownTag,
-        left: 0,
+        left,
         wanted: "the start of a block",
     }
 }

@@ -89,7 +89,7 @@ returns-in_err-add c =
     let label : reads c.args.language.now (place_of v.1) (piece_view c.in_ok-markup-2.markup.piece) ≡ label_view c.in_ok-label.label = ap (λ (x : Place). reads c.args.language.now x (piece_view c.in_ok-markup-2.markup.piece)) (sym at) ∙ c.in_ok-label.ensures.label.0 in
     rw (p.1, p.2) (piece_refused c.args.language.now c.args.source.now c.pieces.rest.now c.text_before.result.0.now c.text_before.result.1.now v.0 c.pieces.front v.1 v.2 v.5 c.text_before.ensures
     c.in-Some.inside.now c.in-Some.ensures (markup_view c.in_ok-markup.markup, c.in_ok-markup.after.now) c.in_ok-markup.ensures c.stripped-in-pieces.result.now c.stripped-in-pieces.ensures
-    (markup_view c.in_ok-markup-2.markup, c.in_ok-markup-2.after.now) closed c.in_err-add.field-0.0 (subst (λ (l : Label). Fails c.in_err-add.field-0.0 (step l v.1 now)) (sym label) (c.in_err-add.ensures v.1 now b)))
+    (markup_view c.in_ok-markup-2.markup, c.in_ok-markup-2.after.now) closed c.in_err-add.field-0.0 (subst (λ (l : Label). Fails c.in_err-add.field-0.0 (step l v.1 now)) (sym label) (c.in_err-add.ensures.stack v.1 now b)))
 
 pub pieces-smaller : goal.pieces-smaller
 pieces-smaller c =
@@ -112,7 +112,7 @@ pieces-preserved c =
     let closed = ap (λ (o : Option Body). body_at o (markup_view c.in_ok-markup.markup) c.in_ok-markup.after.now) (sym wanted) ∙ c.in_ok-markup-2.ensures in
     let now = text_added c.stripped-in-pieces.result.now v.2 in
     let label : reads c.args.language.now (place_of v.1) (piece_view c.in_ok-markup-2.markup.piece) ≡ label_view c.in_ok-label.label = ap (λ (x : Place). reads c.args.language.now x (piece_view c.in_ok-markup-2.markup.piece)) (sym at) ∙ c.in_ok-label.ensures.label.0 in
-    let added = c.in_ok-add.ensures v.1 now b in
+    let added = c.in_ok-add.ensures.stack v.1 now b in
     let less = went_shorter c.args.language.now c.args.source.now c.pieces.rest.now c.text_before.result.0.now c.text_before.result.1.now v.0 c.pieces.front v.1 v.2 v.5 c.text_before.ensures
     c.in-Some.inside.now c.in-Some.ensures (markup_view c.in_ok-markup.markup, c.in_ok-markup.after.now) c.in_ok-markup.ensures c.stripped-in-pieces.result.now c.stripped-in-pieces.ensures
     (markup_view c.in_ok-markup-2.markup, c.in_ok-markup-2.after.now) closed in (

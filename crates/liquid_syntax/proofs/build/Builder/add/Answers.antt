@@ -6,8 +6,8 @@ use Rattle.liquid_syntax.specs.Building.{opening}
 use Rattle.liquid_syntax.proofs.Adding.{begins_step, has_room, prepared_begins}
 use Rattle.liquid_syntax.proofs.build.Builder.add.Goals as goal
 
-pub returns-in_ok-open-in-Begins : goal.returns-in_ok-open-in-Begins
-returns-in_ok-open-in-Begins c ls cur b =
+pub returns-in_ok-open-in-Begins-clause-stack : goal.returns-in_ok-open-in-Begins-clause-stack
+returns-in_ok-open-in-Begins-clause-stack c ls cur b =
     let d = b.1 in
     let i = c.in-Begins in
     let same = c.in_ok-open-in-Begins.ensures.depth in

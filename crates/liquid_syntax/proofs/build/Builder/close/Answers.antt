@@ -13,7 +13,7 @@ chain-preserved c = (
   c.close_one.ensures.depth ∙ c.chain.invariant.1,
 )
 
-pub returns-in-None : goal.returns-in-None
-returns-in-None c ls cur b =
+pub returns-in-None-clause-stack : goal.returns-in-None-clause-stack
+returns-in-None-clause-stack c ls cur b =
     let x = c.chain.invariant.0 ls cur b.0 in
     chain_none c.close_one.new.self c.chain.chained ls x.0 cur x.1 c.chain-test.true x.3 (c.in-None.ensures.closes x.0 x.1 x.2)

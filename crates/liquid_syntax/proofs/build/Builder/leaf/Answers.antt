@@ -5,8 +5,8 @@ use Rattle.liquid_syntax.specs.Flats.{flat_of, flats}
 use Rattle.liquid_syntax.proofs.Grow as grow
 use Rattle.liquid_syntax.proofs.build.Builder.leaf.Goals as goal
 
-pub returns : goal.returns
-returns c ls cur b =
+pub returns-clause-stack : goal.returns-clause-stack
+returns-clause-stack c ls cur b =
     let s = c.args.self.now in (
       (ls, with_node cur ((flat_of c.args.node).head [])),
       refl,

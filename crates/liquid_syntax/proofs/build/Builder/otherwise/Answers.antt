@@ -6,8 +6,8 @@ use Rattle.liquid_syntax.specs.declared.build.Stage.TheVariants.{Last}
 use Rattle.liquid_syntax.proofs.Grow.{else_on}
 use Rattle.liquid_syntax.proofs.build.Builder.otherwise.Goals as goal
 
-pub returns-in_ok-push-in-First : goal.returns-in_ok-push-in-First
-returns-in_ok-push-in-First c ls cur b =
+pub returns-in_ok-push-in-First-clause-stack : goal.returns-in_ok-push-in-First-clause-stack
+returns-in_ok-push-in-First-clause-stack c ls cur b =
     let ns = c.args.self.now.nodes in
     let o = c.in-Some.open in
     let long = c.len-end.ensures ∙ ns.ok.0 ∙ sym (length-map ns.items flat_of) in
