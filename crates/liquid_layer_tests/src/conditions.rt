@@ -3,7 +3,7 @@ use crate::templates::language_with_blocks;
 use liquid_core::Result;
 use liquid_syntax::{Node, Template, parse};
 use std::alloc::Global;
-use std::test::Fail;
+use std::process::Abort;
 
 /// The template of an `if` whose tag goes on so behind its name, with no body.
 fn read(alloc: Global, source: &str) -> Result<Template> {
@@ -24,9 +24,17 @@ fn shown(alloc: Global, source: &str) -> Result<String> {
     }
 }
 
+/// Each source is shown as wanted.
+fn all_shown(rt: &impl Abort, alloc: Global, rows: &[(&str, &str)]) -> Result<()> {
+    for (source, wanted) in rows {
+        assert_eq!(rt; shown(alloc, source)?.as_str(), *wanted, "{source}");
+    }
+    Ok(())
+}
+
 #[test]
-fn conditions(rt: HostRuntime) -> std::result::Result<(), Fail> {
-    for (source, want) in [
+fn conditions(rt: HostRuntime) -> Result<()> {
+    let rows: &[(&str, &str)] = &[
         ("a == nil %}", "a == nil"),
         (
             "true or nope == 1 and false %}",
@@ -45,15 +53,13 @@ fn conditions(rt: HostRuntime) -> std::result::Result<(), Fail> {
             "and and or or contains contains contains %}",
             "and and or or contains contains contains",
         ),
-    ] {
-        assert_eq!(rt; shown(rt.alloc(), source)?.as_str(), want, "{source}");
-    }
-    Ok(())
+    ];
+    all_shown(&rt, rt.alloc(), rows)
 }
 
 #[test]
-fn no_conditions(rt: HostRuntime) -> std::result::Result<(), Fail> {
-    for source in [
+fn no_conditions(rt: HostRuntime) -> Result<()> {
+    let sources: &[&str] = &[
         "%}",
         "a and %}",
         "a or %}",
@@ -68,7 +74,8 @@ fn no_conditions(rt: HostRuntime) -> std::result::Result<(), Fail> {
         "a contains.b c %}",
         "(1..2) %}",
         "a == (1..2) %}",
-    ] {
+    ];
+    for source in sources {
         assert_eq!(rt; shown(rt.alloc(), source)?.as_str(), "Expected", "{source}");
     }
     Ok(())

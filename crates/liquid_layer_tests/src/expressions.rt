@@ -34,9 +34,11 @@ fn by_literals(alloc: Global, first: &str, second: &str) -> Result<Variable, Err
     steps(alloc, literal(alloc, first)?, literal(alloc, second)?)
 }
 
+/// The data of the sample.
+const SAMPLE: &str = "{ a { b [ 4 five ] } key b n nil }";
+
 fn sample(alloc: Global) -> Result<State, Error> {
-    let data = object(alloc, "{ a { b [ 4 five ] } key b n nil }")?;
-    Ok(State::new(alloc, data))
+    Ok(State::new(alloc, object(alloc, SAMPLE)?))
 }
 
 /// The text of the value that the expression has in the sample.
@@ -60,22 +62,30 @@ fn leads(alloc: Global, expression: &Expression) -> Result<bool, Error> {
     Ok(expression.try_evaluate(alloc, &state)?.is_some())
 }
 
-/// Whether the variable has a value in the state.
-fn has_value(alloc: Global, variable: &Variable, state: &State) -> Result<bool, Error> {
-    Ok(variable.try_evaluate(alloc, state)?.is_some())
+/// The variable `a` with the value of a variable and a literal as steps.
+fn by_name_and_literal(alloc: Global, first: &str, second: &str) -> Result<Expression, Error> {
+    let variable = steps(alloc, name(alloc, first)?, literal(alloc, second)?)?;
+    Ok(Expression::Variable(variable))
 }
 
 #[test]
 fn variables_by_their_steps(rt: HostRuntime) -> Result<(), Fail> {
-    let alloc = rt.alloc();
-    let by_last = steps(alloc, name(alloc, "key")?, literal(alloc, "-1")?)?;
-    assert_eq!(rt;
-        shown(alloc, &Expression::Variable(by_last))?.as_str(),
-        "five"
-    );
-    let by_nil = Expression::Variable(by_names(alloc, "key", "n")?);
-    assert!(rt; !leads(alloc, &by_nil)?);
-    assert!(rt; leads(alloc, &name(alloc, "n")?)?);
+    let by_last = by_name_and_literal(rt.alloc(), "key", "-1")?;
+    assert_eq!(rt; shown(rt.alloc(), &by_last)?.as_str(), "five");
+    Ok(())
+}
+
+#[test]
+fn steps_to_nil(rt: HostRuntime) -> Result<(), Fail> {
+    let by_nil = Expression::Variable(by_names(rt.alloc(), "key", "n")?);
+    assert!(rt; !leads(rt.alloc(), &by_nil)?);
+    Ok(())
+}
+
+#[test]
+fn a_name_of_nil(rt: HostRuntime) -> Result<(), Fail> {
+    let nil = name(rt.alloc(), "n")?;
+    assert!(rt; leads(rt.alloc(), &nil)?);
     Ok(())
 }
 
@@ -94,23 +104,40 @@ fn number(alloc: Global, variable: &Variable) -> Result<Option<i64>, Error> {
     Ok(variable.evaluate(alloc, &state)?.as_value().to_integer())
 }
 
+/// A copy of the variable `a` with two literals as steps.
+fn copied(alloc: Global, first: &str, second: &str) -> Result<Variable, Error> {
+    by_literals(alloc, first, second)?.copy(alloc)
+}
+
 #[test]
 fn variables_by_themselves(rt: HostRuntime) -> Result<(), Fail> {
-    let alloc = rt.alloc();
-    let variable = by_literals(alloc, "b", "first")?.copy(alloc)?;
-    assert_eq!(rt; variable.to_string(alloc)?.as_str(), "a[\"b\"][\"first\"]");
-    assert_eq!(rt; number(alloc, &variable)?, Some(4));
-    assert!(rt; has_value(alloc, &variable, &sample(alloc)?)?);
-    let nothing = State::new(alloc, object(alloc, "{ }")?);
-    assert!(rt; !has_value(alloc, &variable, &nothing)?);
+    let variable = copied(rt.alloc(), "b", "first")?;
+    assert_eq!(rt; number(rt.alloc(), &variable)?, Some(4));
+    let written = variable.to_string(rt.alloc())?;
+    assert_eq!(rt; written.as_str(), "a[\"b\"][\"first\"]");
+    Ok(())
+}
+
+/// Whether the variable has a value over the data that the words stand for.
+fn has_value_over(alloc: Global, variable: &Variable, words: &str) -> Result<bool, Error> {
+    let state = State::new(alloc, object(alloc, words)?);
+    Ok(variable.try_evaluate(alloc, &state)?.is_some())
+}
+
+#[test]
+fn variables_with_a_value_or_none(rt: HostRuntime) -> Result<(), Fail> {
+    let variable = copied(rt.alloc(), "b", "first")?;
+    assert!(rt; has_value_over(rt.alloc(), &variable, SAMPLE)?);
+    assert!(rt; !has_value_over(rt.alloc(), &variable, "{ }")?);
     Ok(())
 }
 
 #[test]
 fn literals_as_written(rt: HostRuntime) -> Result<(), Fail> {
-    for (words, written) in [("b", "\"b\""), ("nil", "nil"), ("false", "false")] {
+    let rows: &[(&str, &str)] = &[("b", "\"b\""), ("nil", "nil"), ("false", "false")];
+    for (words, written) in rows {
         let form = literal(rt.alloc(), words)?.to_string(rt.alloc())?;
-        assert_eq!(rt; form.as_str(), written);
+        assert_eq!(rt; form.as_str(), *written);
     }
     Ok(())
 }
@@ -122,13 +149,18 @@ fn behind(alloc: Global, text: &str, expression: &Expression) -> Result<String, 
     Ok(out)
 }
 
+/// The written form of a copy.
+fn copy_written(alloc: Global, expression: &Expression) -> Result<String, Error> {
+    let copy = expression.copy(alloc)?;
+    Ok(copy.to_string(alloc)?)
+}
+
 #[test]
 fn variables_as_written(rt: HostRuntime) -> Result<(), Fail> {
-    let alloc = rt.alloc();
-    let nested = Expression::Variable(by_literals(alloc, "b", "0")?);
-    let written = behind(alloc, "cycle ", &nested)?;
+    let nested = Expression::Variable(by_literals(rt.alloc(), "b", "0")?);
+    let written = behind(rt.alloc(), "cycle ", &nested)?;
     assert_eq!(rt; written.as_str(), "cycle a[\"b\"][0]");
-    let copy = nested.copy(alloc)?.to_string(alloc)?;
+    let copy = copy_written(rt.alloc(), &nested)?;
     assert_eq!(rt; copy.as_str(), "a[\"b\"][0]");
     Ok(())
 }

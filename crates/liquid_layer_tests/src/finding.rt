@@ -41,7 +41,7 @@ fn found(alloc: Global, value: &Value, written: &str) -> Result<Option<String>, 
 #[test]
 fn along_a_path(rt: HostRuntime) -> Result<(), Fail> {
     let value = sample(rt.alloc())?;
-    for (written, wanted) in [
+    let rows: &[(&str, Option<&str>)] = &[
         ("list.#0", Some("10")),
         ("list.#-1", Some("20")),
         ("list.#-2", Some("10")),
@@ -65,9 +65,10 @@ fn along_a_path(rt: HostRuntime) -> Result<(), Fail> {
         ("truth.size", Some("5")),
         ("nil.size", None),
         ("nope", None),
-    ] {
+    ];
+    for (written, wanted) in rows {
         let text = found(rt.alloc(), &value, written)?;
-        assert_eq!(rt; text.as_deref(), wanted, "at {written}");
+        assert_eq!(rt; text.as_deref(), *wanted, "at {written}");
     }
     Ok(())
 }

@@ -8,9 +8,12 @@ use liquid_filters::stdlib::{
 };
 use std::process::Abort;
 
+/// Nil, a list with the text `Ab`, a map with the text `K1`, and a number.
+const KINDS: [&str; 4] = ["nil", "[ A b ]", "{ K 1 }", "-12"];
+
 /// The filter's texts for nil, for a list with the text `Ab`, for a map with the text `K1`, and for -12.
-fn texts<F: Filter>(rows: &Rows<impl Abort>, filter: &F, args: &str, wanted: [&str; 4]) {
-    for (input, text) in ["nil", "[ A b ]", "{ K 1 }", "-12"].iter().zip(wanted) {
+fn texts<F: Filter>(rows: &Rows<impl Abort>, filter: &F, args: &str, wanted: &[&str; 4]) {
+    for (input, text) in KINDS.iter().zip(wanted) {
         let args = rows.values(args);
         rows.gives(filter, &rows.value(input), &args, &rows.text(text));
     }
@@ -22,13 +25,13 @@ fn texts_of_values(rt: HostRuntime) {
         rt: &rt,
         alloc: rt.alloc(),
     };
-    texts(&rows, &Downcase, "", ["", "ab", "k1", "-12"]);
-    texts(&rows, &Upcase, "", ["", "AB", "K1", "-12"]);
-    texts(&rows, &Capitalize, "", ["", "Ab", "K1", "-12"]);
-    texts(&rows, &Strip, "", ["", "Ab", "K1", "-12"]);
-    texts(&rows, &Lstrip, "", ["", "Ab", "K1", "-12"]);
-    texts(&rows, &Rstrip, "", ["", "Ab", "K1", "-12"]);
-    texts(&rows, &StripNewlines, "", ["", "Ab", "K1", "-12"]);
+    texts(&rows, &Downcase, "", &["", "ab", "k1", "-12"]);
+    texts(&rows, &Upcase, "", &["", "AB", "K1", "-12"]);
+    texts(&rows, &Capitalize, "", &["", "Ab", "K1", "-12"]);
+    texts(&rows, &Strip, "", &["", "Ab", "K1", "-12"]);
+    texts(&rows, &Lstrip, "", &["", "Ab", "K1", "-12"]);
+    texts(&rows, &Rstrip, "", &["", "Ab", "K1", "-12"]);
+    texts(&rows, &StripNewlines, "", &["", "Ab", "K1", "-12"]);
 }
 
 #[test]
@@ -37,12 +40,12 @@ fn texts_of_values_with_arguments(rt: HostRuntime) {
         rt: &rt,
         alloc: rt.alloc(),
     };
-    texts(&rows, &Append, "1", ["1", "Ab1", "K11", "-121"]);
-    texts(&rows, &Prepend, "1", ["1", "1Ab", "1K1", "1-12"]);
-    texts(&rows, &Remove, "1", ["", "Ab", "K", "-2"]);
-    texts(&rows, &RemoveFirst, "1", ["", "Ab", "K", "-2"]);
-    texts(&rows, &Replace, "1", ["", "Ab", "K", "-2"]);
-    texts(&rows, &ReplaceFirst, "1", ["", "Ab", "K", "-2"]);
+    texts(&rows, &Append, "1", &["1", "Ab1", "K11", "-121"]);
+    texts(&rows, &Prepend, "1", &["1", "1Ab", "1K1", "1-12"]);
+    texts(&rows, &Remove, "1", &["", "Ab", "K", "-2"]);
+    texts(&rows, &RemoveFirst, "1", &["", "Ab", "K", "-2"]);
+    texts(&rows, &Replace, "1", &["", "Ab", "K", "-2"]);
+    texts(&rows, &ReplaceFirst, "1", &["", "Ab", "K", "-2"]);
 }
 
 #[test]
@@ -51,12 +54,13 @@ fn sizes_and_defaults(rt: HostRuntime) {
         rt: &rt,
         alloc: rt.alloc(),
     };
-    for (input, size, stays) in [
+    let cases: &[(&str, &str, &str)] = &[
         ("nil", "0", "-12"),
         ("[ A b ]", "2", "[ A b ]"),
         ("{ K 1 }", "1", "{ K 1 }"),
         ("-12", "3", "-12"),
-    ] {
+    ];
+    for (input, size, stays) in cases {
         rows.words(&Size, input, "", size);
         rows.words(&Default, input, "-12", stays);
     }

@@ -1,11 +1,26 @@
 //! Filters at lists.
 use crate::words::answers;
-use liquid_filters::stdlib;
+use liquid_filters::{FilterKind, stdlib};
+use std::alloc::Global;
+use std::process::Abort;
 use std::test::Fail;
+
+/// Each row is answered as wanted: its input, its arguments, and its answer or the name of its fault.
+fn all_answered(
+    rt: &impl Abort,
+    alloc: Global,
+    filter: FilterKind,
+    rows: &[(&str, &str, &str)],
+) -> Result<(), Fail> {
+    for (input, args, wanted) in rows {
+        answers(rt, alloc, filter, input, args, wanted)?;
+    }
+    Ok(())
+}
 
 #[test]
 fn join(rt: HostRuntime) -> Result<(), Fail> {
-    for (input, args, wanted) in [
+    let rows: &[(&str, &str, &str)] = &[
         ("[ 1 2 a b nil ]", "-", "1-2-a-b-"),
         ("[ a nil b ]", "", "a~~b"),
         ("[ 1 2 ]", "nil", "'12"),
@@ -15,15 +30,13 @@ fn join(rt: HostRuntime) -> Result<(), Fail> {
         ("nil", "", "InvalidInput"),
         ("x", "", "InvalidInput"),
         ("{ a 1 }", "", "InvalidInput"),
-    ] {
-        answers(&rt, rt.alloc(), stdlib::Join.into(), input, args, wanted)?;
-    }
-    Ok(())
+    ];
+    all_answered(&rt, rt.alloc(), stdlib::Join.into(), rows)
 }
 
 #[test]
 fn sort(rt: HostRuntime) -> Result<(), Fail> {
-    for (input, args, wanted) in [
+    let rows: &[(&str, &str, &str)] = &[
         ("[ b 2 nil a 1 ]", "", "[ 1 2 a b nil ]"),
         ("[ [ 1 a ] [ 1 2 ] [ 1 ] ]", "", "[ [ 1 ] [ 1 2 ] [ 1 a ] ]"),
         ("[ [ 1 ] [ nil ] ]", "", "[ [ nil ] [ 1 ] ]"),
@@ -31,15 +44,13 @@ fn sort(rt: HostRuntime) -> Result<(), Fail> {
         ("nil", "", "[ ]"),
         ("7", "", "[ 7 ]"),
         ("{ a 1 }", "", "[ { a 1 } ]"),
-    ] {
-        answers(&rt, rt.alloc(), stdlib::Sort.into(), input, args, wanted)?;
-    }
-    Ok(())
+    ];
+    all_answered(&rt, rt.alloc(), stdlib::Sort.into(), rows)
 }
 
 #[test]
 fn sort_by_a_property(rt: HostRuntime) -> Result<(), Fail> {
-    for (input, args, wanted) in [
+    let rows: &[(&str, &str, &str)] = &[
         (
             "[ { a 2 n x } { a 1 } { n y } { a 2 n b } { a nil } ]",
             "a",
@@ -51,15 +62,13 @@ fn sort_by_a_property(rt: HostRuntime) -> Result<(), Fail> {
         ("nil", "a", "[ ]"),
         ("[ { a 1 } 1 ]", "a", "InvalidInput"),
         ("x", "a", "InvalidInput"),
-    ] {
-        answers(&rt, rt.alloc(), stdlib::Sort.into(), input, args, wanted)?;
-    }
-    Ok(())
+    ];
+    all_answered(&rt, rt.alloc(), stdlib::Sort.into(), rows)
 }
 
 #[test]
 fn sort_natural(rt: HostRuntime) -> Result<(), Fail> {
-    for (input, args, wanted) in [
+    let rows: &[(&str, &str, &str)] = &[
         ("[ b A a B ]", "", "[ A a b B ]"),
         ("[ nil b A 1 ]", "", "[ 1 A b nil ]"),
         ("[ 10 9 ]", "", "[ 10 9 ]"),
@@ -72,22 +81,13 @@ fn sort_natural(rt: HostRuntime) -> Result<(), Fail> {
             "[ { a A } { a B } { a c } { } ]",
         ),
         ("[ 1 ]", "a", "InvalidInput"),
-    ] {
-        answers(
-            &rt,
-            rt.alloc(),
-            stdlib::SortNatural.into(),
-            input,
-            args,
-            wanted,
-        )?;
-    }
-    Ok(())
+    ];
+    all_answered(&rt, rt.alloc(), stdlib::SortNatural.into(), rows)
 }
 
 #[test]
 fn where_by_a_property(rt: HostRuntime) -> Result<(), Fail> {
-    for (input, args, wanted) in [
+    let rows: &[(&str, &str, &str)] = &[
         ("[ { a 1 } { a false } { b 2 } ]", "a", "[ { a 1 } ]"),
         ("[ { a '1 } { a 1 } ]", "a 1", "[ { a 1 } ]"),
         ("[ { a 1 } { a nil } { b 2 } ]", "a nil", "[ { a nil } ]"),
@@ -97,15 +97,13 @@ fn where_by_a_property(rt: HostRuntime) -> Result<(), Fail> {
         ("[ ]", "a", "[ ]"),
         ("nil", "a", "InvalidInput"),
         ("x", "a", "InvalidInput"),
-    ] {
-        answers(&rt, rt.alloc(), stdlib::Where.into(), input, args, wanted)?;
-    }
-    Ok(())
+    ];
+    all_answered(&rt, rt.alloc(), stdlib::Where.into(), rows)
 }
 
 #[test]
 fn uniq(rt: HostRuntime) -> Result<(), Fail> {
-    for (input, args, wanted) in [
+    let rows: &[(&str, &str, &str)] = &[
         ("[ 1 '1 1 [ 1 ] [ 1 ] ]", "", "[ 1 '1 [ 1 ] ]"),
         (
             "[ 5 3 { a 2 } 5 nil 9 { a 1 } 3 nil { a 2 } 1 9 ]",
@@ -121,72 +119,62 @@ fn uniq(rt: HostRuntime) -> Result<(), Fail> {
         ("nil", "", "InvalidInput"),
         ("x", "", "InvalidInput"),
         ("{ a 1 }", "", "InvalidInput"),
-    ] {
-        answers(&rt, rt.alloc(), stdlib::Uniq.into(), input, args, wanted)?;
-    }
-    Ok(())
+    ];
+    all_answered(&rt, rt.alloc(), stdlib::Uniq.into(), rows)
 }
 
 #[test]
 fn reverse(rt: HostRuntime) -> Result<(), Fail> {
-    for (input, args, wanted) in [
+    let rows: &[(&str, &str, &str)] = &[
         ("[ 1 2 [ 3 4 ] ]", "", "[ [ 3 4 ] 2 1 ]"),
         ("nil", "", "InvalidInput"),
         ("xy", "", "InvalidInput"),
         ("{ a 1 }", "", "InvalidInput"),
-    ] {
-        answers(&rt, rt.alloc(), stdlib::Reverse.into(), input, args, wanted)?;
-    }
-    Ok(())
+    ];
+    all_answered(&rt, rt.alloc(), stdlib::Reverse.into(), rows)
 }
 
 #[test]
 fn map(rt: HostRuntime) -> Result<(), Fail> {
-    for (input, args, wanted) in [
+    let rows: &[(&str, &str, &str)] = &[
         ("[ { a 1 } 5 { b 2 } { a nil } ]", "a", "[ 1 nil ]"),
         ("[ { a 1 } ]", "nil", "[ ]"),
         ("nil", "a", "InvalidInput"),
         ("x", "a", "InvalidInput"),
         ("{ a 1 }", "a", "InvalidInput"),
-    ] {
-        answers(&rt, rt.alloc(), stdlib::Map.into(), input, args, wanted)?;
-    }
-    Ok(())
+    ];
+    all_answered(&rt, rt.alloc(), stdlib::Map.into(), rows)
 }
 
 #[test]
 fn compact(rt: HostRuntime) -> Result<(), Fail> {
-    for (input, args, wanted) in [
+    let rows: &[(&str, &str, &str)] = &[
         ("[ nil 1 false nil ]", "", "[ 1 false ]"),
         ("[ { a nil } { a 1 } { } ]", "a", "[ { a 1 } ]"),
         ("[ { a 1 } nil ]", "a", "InvalidInput"),
         ("nil", "", "InvalidInput"),
         ("x", "a", "InvalidInput"),
         ("{ a 1 }", "", "InvalidInput"),
-    ] {
-        answers(&rt, rt.alloc(), stdlib::Compact.into(), input, args, wanted)?;
-    }
-    Ok(())
+    ];
+    all_answered(&rt, rt.alloc(), stdlib::Compact.into(), rows)
 }
 
 #[test]
 fn concat(rt: HostRuntime) -> Result<(), Fail> {
-    for (input, args, wanted) in [
+    let rows: &[(&str, &str, &str)] = &[
         ("[ 1 2 ]", "[ 2 nil ]", "[ 1 2 2 nil ]"),
         ("[ ]", "1", "InvalidArgument"),
         ("1", "[ ]", "InvalidInput"),
         ("1", "1", "InvalidInput"),
         ("nil", "[ ]", "InvalidInput"),
         ("{ a 1 }", "[ ]", "InvalidInput"),
-    ] {
-        answers(&rt, rt.alloc(), stdlib::Concat.into(), input, args, wanted)?;
-    }
-    Ok(())
+    ];
+    all_answered(&rt, rt.alloc(), stdlib::Concat.into(), rows)
 }
 
 #[test]
 fn first(rt: HostRuntime) -> Result<(), Fail> {
-    for (input, args, wanted) in [
+    let rows: &[(&str, &str, &str)] = &[
         ("[ 1 2 ]", "", "1"),
         ("[ ]", "", "nil"),
         ("\u{e9}a", "", "\u{e9}"),
@@ -195,15 +183,13 @@ fn first(rt: HostRuntime) -> Result<(), Fail> {
         ("true", "", "t"),
         ("nil", "", "InvalidInput"),
         ("{ a 1 }", "", "InvalidInput"),
-    ] {
-        answers(&rt, rt.alloc(), stdlib::First.into(), input, args, wanted)?;
-    }
-    Ok(())
+    ];
+    all_answered(&rt, rt.alloc(), stdlib::First.into(), rows)
 }
 
 #[test]
 fn last(rt: HostRuntime) -> Result<(), Fail> {
-    for (input, args, wanted) in [
+    let rows: &[(&str, &str, &str)] = &[
         ("[ 1 2 ]", "", "2"),
         ("[ ]", "", "nil"),
         ("a\u{1f1f7}", "", "\u{1f1f7}"),
@@ -212,8 +198,6 @@ fn last(rt: HostRuntime) -> Result<(), Fail> {
         ("false", "", "e"),
         ("nil", "", "InvalidInput"),
         ("{ a 1 }", "", "InvalidInput"),
-    ] {
-        answers(&rt, rt.alloc(), stdlib::Last.into(), input, args, wanted)?;
-    }
-    Ok(())
+    ];
+    all_answered(&rt, rt.alloc(), stdlib::Last.into(), rows)
 }

@@ -20,6 +20,12 @@ impl<R: Abort> Rows<'_, R> {
         }
     }
 
+    /// A row whose input and arguments are in words.
+    fn row_of_words<F: Filter>(&self, filter: &F, input: &str, args: &str, wanted: &str) {
+        let args = self.values(args);
+        self.row(filter, &self.value(input), &args, wanted);
+    }
+
     /// A row for each text.
     fn of_texts<F: Filter>(&self, filter: &F, rows: &[(&str, &str)]) {
         for (input, wanted) in rows {
@@ -108,25 +114,14 @@ fn texts(rt: HostRuntime) {
         rt: &rt,
         alloc: rt.alloc(),
     };
-    let one = Value::Integer(1);
-    rows.row(&Plus, &rows.text("+5"), &[rows.text("-2")], "3");
-    rows.row(&Plus, &rows.text("1.5"), &[Value::Integer(1)], "Float");
-    rows.row(
-        &Plus,
-        &rows.text("x"),
-        &[Value::Integer(1)],
-        "InvalidArgument",
-    );
-    rows.row(&Plus, &Value::Nil, &[Value::Integer(1)], "InvalidInput");
-    rows.row(&Plus, &one, &[Value::Nil], "InvalidArgument");
-    rows.row(&DividedBy, &one, &[rows.text("0.0")], "Float");
-    rows.row(
-        &DividedBy,
-        &rows.text("x"),
-        &[Value::Integer(0)],
-        "DivideByZero",
-    );
-    rows.row(&Modulo, &Value::Nil, &[Value::Integer(0)], "InvalidInput");
+    rows.row_of_words(&Plus, "'+5", "'-2", "3");
+    rows.row_of_words(&Plus, "'1.5", "1", "Float");
+    rows.row_of_words(&Plus, "x", "1", "InvalidArgument");
+    rows.row_of_words(&Plus, "nil", "1", "InvalidInput");
+    rows.row_of_words(&Plus, "1", "nil", "InvalidArgument");
+    rows.row_of_words(&DividedBy, "1", "'0.0", "Float");
+    rows.row_of_words(&DividedBy, "x", "0", "DivideByZero");
+    rows.row_of_words(&Modulo, "nil", "0", "InvalidInput");
     rows.of_texts(
         &Abs,
         &[("-007", "7"), ("-1.5", "Float"), ("x", "InvalidInput")],
@@ -175,17 +170,12 @@ fn rounded_to_digits(rt: HostRuntime) {
         rt: &rt,
         alloc: rt.alloc(),
     };
-    let half = rows.text("2.5");
-    rows.row(&Round, &half, &[Value::Integer(1)], "Float");
-    rows.row(&Round, &half, &[Value::Integer(-1)], "3");
-    rows.row(&Round, &half, &[Value::Integer(2147483648)], "InvalidInput");
-    rows.row(&Round, &half, &[Value::Nil], "InvalidArgument");
-    rows.row(
-        &Round,
-        &Value::Integer(MOST),
-        &[Value::Integer(2147483647)],
-        "9223372036854775807",
-    );
+    rows.row_of_words(&Round, "'2.5", "1", "Float");
+    rows.row_of_words(&Round, "'2.5", "-1", "3");
+    rows.row_of_words(&Round, "'2.5", "2147483648", "InvalidInput");
+    rows.row_of_words(&Round, "'2.5", "nil", "InvalidArgument");
+    let most = "9223372036854775807";
+    rows.row_of_words(&Round, most, "2147483647", most);
 }
 
 /// The digits are looked at a fixed number of times, so this ends at once.

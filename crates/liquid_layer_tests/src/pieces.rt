@@ -340,7 +340,7 @@ fn fronts(rt: HostRuntime) -> Result<(), Fail> {
 
 #[test]
 fn messages(rt: HostRuntime) -> Result<(), Fail> {
-    let rows = [
+    let rows: &[(&str, &str)] = &[
         (
             "é\né {{ 1a }}",
             "line 2, column 6: found `1a` where a whole number is wanted",
@@ -364,7 +364,7 @@ fn messages(rt: HostRuntime) -> Result<(), Fail> {
             Err(error) => error.tell(alloc, source, "").message,
             Ok(_) => None,
         };
-        assert_eq!(rt; message.as_deref(), Some(want), "{source}");
+        assert_eq!(rt; message.as_deref(), Some(*want), "{source}");
     }
     Ok(())
 }

@@ -26,10 +26,10 @@ fn whole(alloc: Global, words: &str) -> Result<String> {
 #[test]
 fn readers_of_arguments(rt: HostRuntime) -> std::result::Result<(), Fail> {
     let alloc = rt.alloc();
-    for (words, text, number) in ROWS {
+    for (words, text, number) in &ROWS {
         let read = text_argument(alloc, &value(alloc, words)?)?;
-        assert_eq!(rt; read.as_str(), text, "{words}");
-        assert_eq!(rt; whole(alloc, words)?.as_str(), number, "{words}");
+        assert_eq!(rt; read.as_str(), *text, "{words}");
+        assert_eq!(rt; whole(alloc, words)?.as_str(), *number, "{words}");
     }
     Ok(())
 }

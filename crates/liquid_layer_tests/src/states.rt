@@ -65,7 +65,8 @@ fn a_global_hides_an_index(rt: HostRuntime) -> Result<(), Fail> {
 #[test]
 fn the_innermost_scope_decides(rt: HostRuntime) -> Result<(), Fail> {
     let mut state = over(rt.alloc(), "{ }")?;
-    for scope in ["{ a 4 }", "{ a 5 }", "{ c 6 }"] {
+    let scopes: &[&str] = &["{ a 4 }", "{ a 5 }", "{ c 6 }"];
+    for scope in scopes {
         state.push_scope(object(rt.alloc(), scope)?)?;
     }
     assert_eq!(rt; number(&state, "a"), Some(5));

@@ -359,8 +359,7 @@ fn nested(
 #[test]
 fn blocks_nest_at_most_200_deep(rt: HostRuntime) -> Result<(), Fail> {
     let language = language_with_blocks(rt.alloc())?;
-    let too_nested = Err(ErrorKind::TooNested);
-    for (count, inside, outcome) in [
+    let rows: &[(usize, &str, std::result::Result<usize, ErrorKind>)] = &[
         (200, "x", Ok(201)),
         (199, "{% raw %}{% endraw %}", Ok(200)),
         (
@@ -369,15 +368,20 @@ fn blocks_nest_at_most_200_deep(rt: HostRuntime) -> Result<(), Fail> {
             Ok(200),
         ),
         (200, "{% elsif a %}{% elsif b %}x", Ok(203)),
-        (201, "x", too_nested),
-        (200, "{% raw %}{% endraw %}", too_nested),
-        (200, "{% comment %}{% endcomment %}", too_nested),
-        (200, "{% if %}{% endif %}", too_nested),
+        (201, "x", Err(ErrorKind::TooNested)),
+        (200, "{% raw %}{% endraw %}", Err(ErrorKind::TooNested)),
+        (
+            200,
+            "{% comment %}{% endcomment %}",
+            Err(ErrorKind::TooNested),
+        ),
+        (200, "{% if %}{% endif %}", Err(ErrorKind::TooNested)),
         (199, "{% if %}{% endif %}", Err(ErrorKind::Expected)),
-    ] {
+    ];
+    for (count, inside, outcome) in rows {
         assert_eq!(rt;
-            nested(rt.alloc(), &language, count, inside)?,
-            outcome,
+            nested(rt.alloc(), &language, *count, inside)?,
+            *outcome,
             "{inside}"
         );
     }

@@ -13,8 +13,9 @@ fn sizes_and_defaults(rt: HostRuntime) {
         rt: &rt,
         alloc: rt.alloc(),
     };
-    for (text, size) in [("", 0), ("é!", 3), ("this has 22 characters", 22)] {
-        rows.gives(&Size, &rows.text(text), &[], &Value::Integer(size));
+    let sizes: &[(&str, i64)] = &[("", 0), ("é!", 3), ("this has 22 characters", 22)];
+    for (text, size) in sizes {
+        rows.gives(&Size, &rows.text(text), &[], &Value::Integer(*size));
     }
     rows.words(&Size, "false", "", "5");
     rows.words(&Size, "-9223372036854775808", "", "20");
@@ -85,15 +86,16 @@ fn split(rt: HostRuntime) {
         rt: &rt,
         alloc: rt.alloc(),
     };
-    for (text, separator, pieces) in [
-        ("a, b, c", ", ", &["a", "b", "c"] as &[&str]),
+    let cases: &[(&str, &str, &[&str])] = &[
+        ("a, b, c", ", ", &["a", "b", "c"]),
         ("a~b", "~~", &["a~b"]),
         ("~~~", "~~", &["", "~"]),
         ("ab", "", &["", "a", "b", ""]),
         ("é", "", &["", "é", ""]),
         ("", "a", &[]),
         ("", "", &[]),
-    ] {
+    ];
+    for (text, separator, pieces) in cases {
         rows.gives(
             &Split,
             &rows.text(text),
@@ -109,9 +111,13 @@ fn slices(rt: HostRuntime) {
         rt: &rt,
         alloc: rt.alloc(),
     };
-    let quote = "I often quote myself.  It adds spice to my conversation.";
-    for (text, offset, length, part) in [
-        (quote, -10, 3, "ver"),
+    let cases: &[(&str, i64, i64, &str)] = &[
+        (
+            "I often quote myself.  It adds spice to my conversation.",
+            -10,
+            3,
+            "ver",
+        ),
         ("abc", -5, 1, ""),
         ("abc", 1, i64::MAX, "bc"),
         ("abc", i64::MIN, i64::MAX, ""),
@@ -120,8 +126,9 @@ fn slices(rt: HostRuntime) {
         ("é!", 2, 5, ""),
         ("é!", -3, 1, "é"),
         ("", 0, 1, ""),
-    ] {
-        let args = [Value::Integer(offset), Value::Integer(length)];
+    ];
+    for (text, offset, length, part) in cases {
+        let args = [Value::Integer(*offset), Value::Integer(*length)];
         rows.texts_by(&Slice, &args, &[(text, part)]);
     }
     rows.texts(&Slice, "'1", &[("abc", "b")]);
@@ -140,7 +147,7 @@ fn truncated(rt: HostRuntime) {
         rt: &rt,
         alloc: rt.alloc(),
     };
-    for (length, text, shortened) in [
+    let cases: &[(i64, &str, &str)] = &[
         (20, "Here is a RUST: 🇷🇺🇸🇹.", "Here is a RUST: 🇷🇺..."),
         (2, "abcdef", "..."),
         (2, "ab", "ab"),
@@ -149,8 +156,9 @@ fn truncated(rt: HostRuntime) {
         (i64::MAX, "ab", "ab"),
         (1, "é", "..."),
         (4, "ééé", "é..."),
-    ] {
-        rows.texts_by(&Truncate, &[Value::Integer(length)], &[(text, shortened)]);
+    ];
+    for (length, text, shortened) in cases {
+        rows.texts_by(&Truncate, &[Value::Integer(*length)], &[(text, shortened)]);
     }
     rows.texts(
         &Truncate,
@@ -180,7 +188,7 @@ fn words(rt: HostRuntime) {
         rt: &rt,
         alloc: rt.alloc(),
     };
-    for (count, text, shortened) in [
+    let cases: &[(i64, &str, &str)] = &[
         (2, "one two three", "one two..."),
         (3, "one two three", "one two three"),
         (1, "a  b", "a..."),
@@ -190,10 +198,11 @@ fn words(rt: HostRuntime) {
         (1, "", ""),
         (-1, "a b", "a b"),
         (i64::MAX, "a b", "a b"),
-    ] {
+    ];
+    for (count, text, shortened) in cases {
         rows.texts_by(
             &TruncateWords,
-            &[Value::Integer(count)],
+            &[Value::Integer(*count)],
             &[(text, shortened)],
         );
     }

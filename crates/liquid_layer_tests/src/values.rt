@@ -40,7 +40,7 @@ fn copies(rt: HostRuntime) -> Result<(), Fail> {
 
 #[test]
 fn kinds_by_their_tests(rt: HostRuntime) -> Result<(), Fail> {
-    for (words, is_truthy, is_default, is_scalar) in [
+    let rows: &[(&str, bool, bool, bool)] = &[
         ("nil", false, true, false),
         ("false", false, true, true),
         ("true", true, false, true),
@@ -49,11 +49,12 @@ fn kinds_by_their_tests(rt: HostRuntime) -> Result<(), Fail> {
         ("a", true, false, true),
         ("[ ]", true, true, false),
         ("{ }", true, true, false),
-    ] {
+    ];
+    for (words, is_truthy, is_default, is_scalar) in rows {
         let value = value(rt.alloc(), words)?;
-        assert_eq!(rt; value.is_truthy(), is_truthy, "of {words}");
-        assert_eq!(rt; value.is_default(), is_default, "of {words}");
-        assert_eq!(rt; value.is_scalar(), is_scalar, "of {words}");
+        assert_eq!(rt; value.is_truthy(), *is_truthy, "of {words}");
+        assert_eq!(rt; value.is_default(), *is_default, "of {words}");
+        assert_eq!(rt; value.is_scalar(), *is_scalar, "of {words}");
     }
     Ok(())
 }
@@ -88,7 +89,7 @@ fn copies_of_items(rt: HostRuntime) -> Result<(), Fail> {
 
 #[test]
 fn whole_numbers(rt: HostRuntime) -> Result<(), Fail> {
-    for (written, wanted) in [
+    let rows: &[(&str, Option<i64>)] = &[
         ("-12", Some(-12)),
         ("+12", Some(12)),
         ("007", Some(7)),
@@ -100,9 +101,10 @@ fn whole_numbers(rt: HostRuntime) -> Result<(), Fail> {
         ("-", None),
         ("1.0", None),
         (" 1", None),
-    ] {
+    ];
+    for (written, wanted) in rows {
         let number = text(rt.alloc(), written)?.to_integer();
-        assert_eq!(rt; number, wanted, "of {written}");
+        assert_eq!(rt; number, *wanted, "of {written}");
     }
     assert_eq!(rt; Value::Bool(true).to_integer(), None);
     Ok(())
@@ -138,7 +140,7 @@ fn compared(alloc: Global, left: &str, right: &str) -> Result<Option<Ordering>, 
 
 #[test]
 fn order_of_conditions(rt: HostRuntime) -> Result<(), Fail> {
-    for (left, right, wanted) in [
+    let rows: &[(&str, &str, Option<Ordering>)] = &[
         ("1", "2", Some(Ordering::Less)),
         ("1", "'1", None),
         ("nil", "nil", None),
@@ -146,9 +148,10 @@ fn order_of_conditions(rt: HostRuntime) -> Result<(), Fail> {
         ("[ nil 2 ]", "[ nil 1 ]", Some(Ordering::Greater)),
         ("[ nil 2 ]", "[ nil '2 ]", None),
         ("[ ]", "[ nil 1 ]", Some(Ordering::Less)),
-    ] {
+    ];
+    for (left, right, wanted) in rows {
         let order = compared(rt.alloc(), left, right)?;
-        assert_eq!(rt; order, wanted, "{left} and {right}");
+        assert_eq!(rt; order, *wanted, "{left} and {right}");
     }
     Ok(())
 }
@@ -177,15 +180,16 @@ fn faults_of_a_format(rt: HostRuntime) -> Result<(), Fail> {
 
 #[test]
 fn kinds_of_faults(rt: HostRuntime) -> Result<(), Fail> {
-    for (kind, number, name) in [
+    let rows: &[(ErrorKind, u8, &str)] = &[
         (ErrorKind::UnknownVariable, 1, "UnknownVariable"),
         (ErrorKind::Memory, 17, "Memory"),
         (ErrorKind::Unclosed, 21, "Unclosed"),
         (ErrorKind::TooNested, 31, "TooNested"),
-    ] {
-        assert_eq!(rt; kind.number(), number);
-        assert_eq!(rt; kind.name(), name);
-        assert_eq!(rt; kind.to_string(rt.alloc())?.as_str(), name);
+    ];
+    for (kind, number, name) in rows {
+        assert_eq!(rt; kind.number(), *number);
+        assert_eq!(rt; kind.name(), *name);
+        assert_eq!(rt; kind.to_string(rt.alloc())?.as_str(), *name);
     }
     Ok(())
 }

@@ -355,14 +355,15 @@ fn contains_of_every_pair_of_kinds(rt: HostRuntime) {
 /// Nil contains nothing, and it is a fault to ask.
 #[test]
 fn nil_is_not_asked_what_it_contains(rt: HostRuntime) {
-    for data in [
+    let rows: &[&str] = &[
         "{\"l\": null, \"r\": null}",
         "{\"l\": null, \"r\": false}",
         "{\"l\": null, \"r\": 1}",
         "{\"l\": null, \"r\": \"\"}",
         "{\"l\": null, \"r\": []}",
         "{\"l\": null, \"r\": {}}",
-    ] {
+    ];
+    for data in rows {
         let row = Row {
             source: "a{% if l contains r %}y{% else %}n{% endif %}",
             data,
@@ -438,13 +439,14 @@ fn five_thousand_elsifs(rt: HostRuntime) -> Result<()> {
 fn an_if_is_one_node_with_its_bodies(rt: HostRuntime) -> Result<()> {
     let alloc = rt.alloc();
     let language = language(alloc)?;
-    for (source, nodes) in [
+    let rows: &[(&str, usize)] = &[
         ("a{% if x %}b{% else %}c{% endif %}d", 5),
         ("{% if a %}{% elsif b %}x{% endif %}", 3),
         ("{% if a %}{% endif %}", 1),
-    ] {
+    ];
+    for (source, nodes) in rows {
         let template = parse(alloc, source, &language)?;
-        assert!(&rt; template.node_count() == nodes, "the nodes of {source}");
+        assert!(&rt; template.node_count() == *nodes, "the nodes of {source}");
     }
     Ok(())
 }

@@ -141,7 +141,8 @@ fn the_later_partial_of_one_name_wins(rt: HostRuntime) -> Result<()> {
     let alloc = rt.alloc();
     let language = language(alloc)?;
     let mut partials = Partials::new(alloc);
-    for (name, source) in [("p", "first"), ("q", "other"), ("p", "later")] {
+    let sources: &[(&str, &str)] = &[("p", "first"), ("q", "other"), ("p", "later")];
+    for (name, source) in sources {
         let template = parse(alloc, source, &language)?;
         partials.insert(String::from_str(alloc, name)?, template)?;
     }

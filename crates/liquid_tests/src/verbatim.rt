@@ -29,7 +29,7 @@ pub(crate) const PAGES: [(&str, &str); 9] = [
 
 #[test]
 fn pages_with_bodies_that_are_not_read(rt: HostRuntime) -> Result<()> {
-    for (source, page) in PAGES {
+    for (source, page) in &PAGES {
         let row = Row {
             source,
             data: "{}",
@@ -70,12 +70,16 @@ fn comments_in_comments_are_no_deeper(rt: HostRuntime) -> Result<()> {
 
 #[test]
 fn a_raw_in_200_blocks_is_too_deep(rt: HostRuntime) -> Result<()> {
-    for (blocks, outcome) in [(200, Err(ErrorKind::TooNested)), (199, Ok(200))] {
+    let rows: &[(usize, std::result::Result<usize, ErrorKind>)] = &[
+        (200, Err(ErrorKind::TooNested)),
+        (199, Ok(200)),
+    ];
+    for (blocks, outcome) in rows {
         let mut source = String::new(rt.alloc());
-        push_times(&mut source, "{% if true %}", blocks)?;
+        push_times(&mut source, "{% if true %}", *blocks)?;
         source.push_str("{% raw %}{% endraw %}")?;
-        push_times(&mut source, "{% endif %}", blocks)?;
-        assert_eq!(rt; nodes(rt.alloc(), source.as_str())?, outcome);
+        push_times(&mut source, "{% endif %}", *blocks)?;
+        assert_eq!(rt; nodes(rt.alloc(), source.as_str())?, *outcome);
     }
     Ok(())
 }

@@ -6,6 +6,7 @@ use liquid_site::run;
 use std::alloc::Global;
 use std::io;
 use std::io::Write;
+use std::process::Abort;
 
 const SOURCE: &str = "Hello {{ name }}!{% assign x = 2 %} {{ x }}";
 
@@ -61,179 +62,157 @@ impl Write for Room {
     }
 }
 
+/// How a page ended whose writer had so much left, how many writes failed, and what the writer took.
+#[derive(Drop)]
+struct Written {
+    left: usize,
+    end: Option<ErrorKind>,
+    failures: u64,
+    bytes: Vec<u8>,
+}
+
+/// A source and its data.
+type Texts = (&'static str, &'static str);
+
+/// A page that takes 5 writes of whole texts, or 12 of a byte.
+const GREETING: Texts = (SOURCE, DATA);
+
+/// The text of one list, which takes 5 writes.
+const OF_LIST: Texts = ("{{ v }}", LIST);
+
 /// Writes a page: how that ended, how many writes failed, and the writer.
-fn written_from<W: Write>(
-    alloc: Global,
-    source: &str,
-    data: &str,
-    writer: W,
-) -> (Result<()>, u64, W) {
+fn write_page<W: Write>(alloc: Global, texts: Texts, writer: W) -> (Option<ErrorKind>, u64, W) {
+    let (source, data) = texts;
     let mut counted = Counted::new(writer);
     let answer = run(alloc, source, data, &[], &mut counted);
     let failures = counted.failures();
-    (answer, failures, counted.into_inner())
+    (kind_of(&answer), failures, counted.into_inner())
 }
 
-/// Writes the page of the constants.
-fn written<W: Write>(alloc: Global, writer: W) -> (Result<()>, u64, W) {
-    written_from(alloc, SOURCE, DATA, writer)
+/// Writes a page, at most so many bytes at a time, until no write is left.
+fn by_writes(alloc: Global, texts: Texts, most: usize, writes_left: usize) -> Written {
+    let writer = Failing {
+        bytes: Vec::new(alloc),
+        most,
+        writes_left,
+    };
+    let (end, failures, writer) = write_page(alloc, texts, writer);
+    Written {
+        left: writes_left,
+        end,
+        failures,
+        bytes: writer.bytes,
+    }
 }
 
-/// Writes the text of one list, which takes 5 writes.
-fn written_list<W: Write>(alloc: Global, writer: W) -> (Result<()>, u64, W) {
-    written_from(alloc, "{{ v }}", LIST, writer)
+/// Writes a page into so much room.
+fn into_room(alloc: Global, texts: Texts, left: usize) -> Written {
+    let writer = Room {
+        bytes: Vec::new(alloc),
+        left,
+    };
+    let (end, failures, writer) = write_page(alloc, texts, writer);
+    Written {
+        left,
+        end,
+        failures,
+        bytes: writer.bytes,
+    }
+}
+
+/// The page is all that was written, and no write failed.
+fn is_whole(rt: &impl Abort, written: &Written, page: &str) {
+    let left = written.left;
+    assert_eq!(rt; written.end, None, "{left}");
+    assert_eq!(rt; written.failures, 0, "{left}");
+    assert!(rt; written.bytes.as_slice() == page.as_bytes(), "{left}");
+}
+
+/// One write failed, which ended the page: nothing is written after it.
+fn is_cut(rt: &impl Abort, written: &Written, page: &str) {
+    let left = written.left;
+    assert_eq!(rt; written.end, Some(ErrorKind::Write), "{left}");
+    assert_eq!(rt; written.failures, 1, "{left}");
+    assert!(rt; page.as_bytes().starts_with(&written.bytes), "{left}");
 }
 
 #[test]
 fn a_page_byte_by_byte(rt: HostRuntime) {
-    let alloc = rt.alloc();
-    let (answer, failures, writer) = written(
-        alloc,
-        Failing {
-            bytes: Vec::new(alloc),
-            most: 1,
-            writes_left: PAGE.len(),
-        },
-    );
-    assert_eq!(rt; kind_of(&answer), None);
-    assert_eq!(rt; failures, 0);
-    assert!(rt; writer.bytes.as_slice() == PAGE.as_bytes());
+    let written = by_writes(rt.alloc(), GREETING, 1, PAGE.len());
+    is_whole(&rt, &written, PAGE);
 }
 
-/// The page takes 5 writes of whole texts, or 12 of a byte. Nothing is written after the one that failed.
 #[test]
 fn each_write_of_a_page_fails(rt: HostRuntime) {
-    let alloc = rt.alloc();
-    for (most, writes) in [(PAGE.len(), 5), (1, 12)] {
-        for writes_left in 0..writes {
-            let (answer, failures, writer) = written(
-                alloc,
-                Failing {
-                    bytes: Vec::new(alloc),
-                    most,
-                    writes_left,
-                },
-            );
-            let bytes = writer.bytes.as_slice();
-            assert_eq!(rt;
-                kind_of(&answer),
-                Some(ErrorKind::Write),
-                "write {writes_left}"
-            );
-            assert_eq!(rt; failures, 1, "write {writes_left}");
-            assert!(rt; PAGE.as_bytes().starts_with(bytes), "write {writes_left}");
-            assert!(rt; bytes.len() < PAGE.len(), "write {writes_left}");
-            assert!(rt;
-                most > 1 || bytes.len() == writes_left,
-                "write {writes_left}"
-            );
-        }
+    for writes_left in 0..5 {
+        let written = by_writes(rt.alloc(), GREETING, PAGE.len(), writes_left);
+        is_cut(&rt, &written, PAGE);
+        assert!(rt; written.bytes.len() < PAGE.len(), "write {writes_left}");
+    }
+}
+
+#[test]
+fn each_byte_of_a_page_fails(rt: HostRuntime) {
+    for writes_left in 0..12 {
+        let written = by_writes(rt.alloc(), GREETING, 1, writes_left);
+        is_cut(&rt, &written, PAGE);
+        assert!(rt; written.bytes.len() < PAGE.len(), "write {writes_left}");
+        assert_eq!(rt; written.bytes.len(), writes_left);
     }
 }
 
 #[test]
 fn a_page_of_five_writes(rt: HostRuntime) {
-    let alloc = rt.alloc();
-    let (answer, failures, writer) = written(
-        alloc,
-        Failing {
-            bytes: Vec::new(alloc),
-            most: PAGE.len(),
-            writes_left: 5,
-        },
-    );
-    assert_eq!(rt; kind_of(&answer), None);
-    assert_eq!(rt; failures, 0);
-    assert!(rt; writer.bytes.as_slice() == PAGE.as_bytes());
+    let written = by_writes(rt.alloc(), GREETING, PAGE.len(), 5);
+    is_whole(&rt, &written, PAGE);
+}
+
+/// The writer took as much as there was room for, and then the page ended by its fault.
+fn has_filled(rt: &impl Abort, written: &Written, page: &str) {
+    let left = written.left;
+    assert_eq!(rt; written.end, Some(ErrorKind::Write), "{left}");
+    assert_eq!(rt; written.failures, 1, "{left}");
+    assert!(rt; written.bytes.as_slice() == page.as_bytes(), "{left}");
 }
 
 #[test]
 fn five_bytes_and_then_none(rt: HostRuntime) {
-    let alloc = rt.alloc();
-    let (answer, failures, writer) = written(
-        alloc,
-        Room {
-            bytes: Vec::new(alloc),
-            left: 5,
-        },
-    );
-    assert_eq!(rt; kind_of(&answer), Some(ErrorKind::Write));
-    assert_eq!(rt; failures, 1);
-    assert!(rt; writer.bytes.as_slice() == b"Hello".as_slice());
+    let written = into_room(rt.alloc(), GREETING, 5);
+    has_filled(&rt, &written, "Hello");
 }
 
 #[test]
 fn a_list_byte_by_byte(rt: HostRuntime) {
-    let alloc = rt.alloc();
-    let (answer, failures, writer) = written_list(
-        alloc,
-        Failing {
-            bytes: Vec::new(alloc),
-            most: 1,
-            writes_left: LIST_TEXT.len(),
-        },
-    );
-    assert_eq!(rt; kind_of(&answer), None);
-    assert_eq!(rt; failures, 0);
-    assert!(rt; writer.bytes.as_slice() == LIST_TEXT.as_bytes());
+    let written = by_writes(rt.alloc(), OF_LIST, 1, LIST_TEXT.len());
+    is_whole(&rt, &written, LIST_TEXT);
 }
 
 #[test]
 fn room_for_some_of_a_list(rt: HostRuntime) {
-    let alloc = rt.alloc();
-    for (left, written) in [(0, ""), (3, "Hel"), (8, "Hello tr"), (12, "Hello true-7")] {
-        let (answer, failures, writer) = written_list(
-            alloc,
-            Room {
-                bytes: Vec::new(alloc),
-                left,
-            },
-        );
-        assert_eq!(rt; kind_of(&answer), Some(ErrorKind::Write), "{left}");
-        assert_eq!(rt; failures, 1, "{left}");
-        assert!(rt; writer.bytes.as_slice() == written.as_bytes(), "{left}");
+    let rows: &[(usize, &str)] = &[(0, ""), (3, "Hel"), (8, "Hello tr"), (12, "Hello true-7")];
+    for (left, page) in rows {
+        let written = into_room(rt.alloc(), OF_LIST, *left);
+        has_filled(&rt, &written, page);
     }
 }
 
 #[test]
 fn each_write_of_a_list_fails(rt: HostRuntime) {
-    let alloc = rt.alloc();
     for writes_left in 0..8 {
-        let (answer, failures, writer) = written_list(
-            alloc,
-            Failing {
-                bytes: Vec::new(alloc),
-                most: LIST_TEXT.len(),
-                writes_left,
-            },
-        );
-        let bytes = writer.bytes.as_slice();
+        let written = by_writes(rt.alloc(), OF_LIST, LIST_TEXT.len(), writes_left);
         if writes_left < 5 {
-            assert_eq!(rt; kind_of(&answer), Some(ErrorKind::Write), "{writes_left}");
-            assert_eq!(rt; failures, 1, "{writes_left}");
-            assert!(rt; LIST_TEXT.as_bytes().starts_with(bytes), "{writes_left}");
+            is_cut(&rt, &written, LIST_TEXT);
         } else {
-            assert_eq!(rt; kind_of(&answer), None, "{writes_left}");
-            assert_eq!(rt; failures, 0, "{writes_left}");
-            assert!(rt; bytes == LIST_TEXT.as_bytes(), "{writes_left}");
+            is_whole(&rt, &written, LIST_TEXT);
         }
     }
 }
 
 #[test]
 fn what_was_written_before_a_fault_stays(rt: HostRuntime) {
-    let alloc = rt.alloc();
-    let (answer, failures, writer) = written_from(
-        alloc,
-        "{% assign b = a %}b={{ b }}{{ c }}",
-        r#"{"a": 1}"#,
-        Failing {
-            bytes: Vec::new(alloc),
-            most: 1,
-            writes_left: 4,
-        },
-    );
-    assert_eq!(rt; kind_of(&answer), Some(ErrorKind::UnknownVariable));
-    assert_eq!(rt; failures, 0);
-    assert!(rt; writer.bytes.as_slice() == b"b=1".as_slice());
+    let texts = ("{% assign b = a %}b={{ b }}{{ c }}", r#"{"a": 1}"#);
+    let written = by_writes(rt.alloc(), texts, 1, 4);
+    assert_eq!(rt; written.end, Some(ErrorKind::UnknownVariable));
+    assert_eq!(rt; written.failures, 0);
+    assert!(rt; written.bytes.as_slice() == b"b=1".as_slice());
 }

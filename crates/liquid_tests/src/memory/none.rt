@@ -37,20 +37,18 @@ fn hashed(value: &Value) -> u64 {
     hasher.finish()
 }
 
-/// Two values whose places in the order are these.
-fn compared(
-    rt: &(impl Abort + Print),
-    alloc: Global,
-    (a_place, a): (usize, &Value),
-    (b_place, b): (usize, &Value),
-) {
-    let wanted = a_place.cmp(&b_place);
-    let equal = asked!(rt, "Value::eq", "", None, Ok(*a == *b));
-    assert!(rt; equal.ok() == Some(wanted == Ordering::Equal));
+/// Two values, which are ordered so.
+fn ordered(rt: &(impl Abort + Print), a: &Value, b: &Value, wanted: Ordering) {
     let order = asked!(rt, "Value::cmp", "", None, Ok(a.cmp(b)));
     assert!(rt; order.ok() == Some(wanted));
     let order = asked!(rt, "Value::compare", "", None, Ok(a.compare(b)));
     assert!(rt; order.is_ok_and(|order| order.is_none_or(|order| order == wanted)));
+}
+
+/// Two values, which are equal or not.
+fn equated(rt: &(impl Abort + Print), alloc: Global, a: &Value, b: &Value, are_equal: bool) {
+    let equal = asked!(rt, "Value::eq", "", None, Ok(*a == *b));
+    assert!(rt; equal.ok() == Some(are_equal));
     let differ = asked!(
         rt,
         "ComparisonOperator::holds",
@@ -58,13 +56,11 @@ fn compared(
         None,
         ComparisonOperator::NotEquals.holds(alloc, a, b)
     );
-    assert!(rt; differ.ok() == Some(wanted != Ordering::Equal));
+    assert!(rt; differ.ok() == Some(!are_equal));
 }
 
-/// What a value says of itself.
-fn asked_of_itself(rt: &(impl Abort + Print), value: &Value) {
-    let hash = asked!(rt, "Value::hash", "", None, Ok(hashed(value)));
-    assert!(rt; hash.ok() == Some(hashed(value)));
+/// What a value says of itself by its tests.
+fn tested(rt: &(impl Abort + Print), value: &Value) {
     let truth = asked!(rt, "Value::is_truthy", "", None, Ok(value.is_truthy()));
     assert!(rt; truth.ok() == Some(!matches!(value, Value::Nil | Value::Bool(false))));
     let default = asked!(rt, "Value::is_default", "", None, Ok(value.is_default()));
@@ -72,6 +68,12 @@ fn asked_of_itself(rt: &(impl Abort + Print), value: &Value) {
     let nested = matches!(value, Value::Nil | Value::Array(_) | Value::Object(_));
     let scalar = asked!(rt, "Value::is_scalar", "", None, Ok(value.is_scalar()));
     assert!(rt; scalar.ok() == Some(!nested));
+}
+
+/// What is read from a value.
+fn read(rt: &(impl Abort + Print), value: &Value) {
+    let hash = asked!(rt, "Value::hash", "", None, Ok(hashed(value)));
+    assert!(rt; hash.ok() == Some(hashed(value)));
     let whole = asked!(rt, "Value::to_integer", "", None, Ok(value.to_integer()));
     assert!(rt; whole.is_ok_and(|whole| whole.is_some() == matches!(value, Value::Integer(_))));
     let lent = ValueCow::Borrowed(value);
@@ -88,27 +90,36 @@ fn memory_none_of_values(rt: HostRuntime) -> Result<()> {
     }
     for (a_place, a) in all.iter().enumerate() {
         for (b_place, b) in all.iter().enumerate() {
-            compared(&rt, alloc, (a_place, a), (b_place, b));
+            equated(&rt, alloc, a, b, a_place == b_place);
+            ordered(&rt, a, b, a_place.cmp(&b_place));
         }
-        asked_of_itself(&rt, a);
+        tested(&rt, a);
+        read(&rt, a);
     }
+    found(&rt, alloc)?;
+    owned(&rt, alloc)?;
+    faults(&rt, alloc)
+}
+
+/// What stands at paths in a value.
+fn found(rt: &(impl Abort + Print), alloc: Global) -> Result<()> {
     let list = value(alloc, r#"{"a": [1, {"b": "found"}]}"#)?;
     let wanted = value(alloc, r#""found""#)?;
     let path = items(alloc, r#"["a", 1, "b"]"#)?;
-    let found = asked!(&rt, "Value::find", "a[1].b", None, list.find(alloc, &path));
-    assert!(&rt; leads_to(&found?, &wanted));
+    let found = asked!(rt, "Value::find", "a[1].b", None, list.find(alloc, &path));
+    assert!(rt; leads_to(&found?, &wanted));
     let path = items(alloc, r#"["a", "size"]"#)?;
-    let found = asked!(&rt, "Value::find", "a.size", None, list.find(alloc, &path));
-    assert!(&rt; leads_to(&found?, &Value::Integer(2)));
-    let owned = asked!(
-        &rt,
-        "ValueCow::into_owned",
-        "",
-        None,
-        ValueCow::Owned(wanted).into_owned(alloc)
-    );
-    assert!(&rt; owned.is_ok());
-    faults(&rt, alloc)
+    let found = asked!(rt, "Value::find", "a.size", None, list.find(alloc, &path));
+    assert!(rt; leads_to(&found?, &Value::Integer(2)));
+    Ok(())
+}
+
+/// A value that is owned already.
+fn owned(rt: &(impl Abort + Print), alloc: Global) -> Result<()> {
+    let held = ValueCow::Owned(value(alloc, r#""found""#)?);
+    let owned = asked!(rt, "ValueCow::into_owned", "", None, held.into_owned(alloc));
+    assert!(rt; owned.is_ok());
+    Ok(())
 }
 
 fn faults(rt: &(impl Abort + Print), alloc: Global) -> Result<()> {
@@ -180,12 +191,19 @@ fn looked_up(rt: &(impl Abort + Print), alloc: Global, state: &State) -> Result<
     assert!(rt; found?.is_some());
     let found = asked!(rt, "State::get_index", "a", None, Ok(state.get_index("a")));
     assert!(rt; found?.is_none());
+    led(rt, alloc, state, &path)?;
+    evaluated(rt, alloc, state)?;
+    tried(rt, alloc, state)
+}
+
+/// What stands at a path of a state, and at none.
+fn led(rt: &(impl Abort + Print), alloc: Global, state: &State, path: &[Value]) -> Result<()> {
     let found = asked!(
         rt,
         "State::try_get",
         "a[0]",
         None,
-        state.try_get(alloc, &path)
+        state.try_get(alloc, path)
     );
     assert!(rt; found?.is_some());
     let found = asked!(
@@ -196,12 +214,12 @@ fn looked_up(rt: &(impl Abort + Print), alloc: Global, state: &State) -> Result<
         state.try_get(alloc, &[])
     );
     assert!(rt; found?.is_none());
-    let found = asked!(rt, "State::get", "a[0]", None, state.get(alloc, &path));
+    let found = asked!(rt, "State::get", "a[0]", None, state.get(alloc, path));
     assert!(rt; found?.as_value().to_integer() == Some(7));
-    evaluated(rt, alloc, state)
+    Ok(())
 }
 
-/// A variable with a value, and one without.
+/// A variable with a value.
 fn evaluated(rt: &(impl Abort + Print), alloc: Global, state: &State) -> Result<()> {
     let known = variable(alloc, "a")?;
     let found = asked!(
@@ -221,6 +239,11 @@ fn evaluated(rt: &(impl Abort + Print), alloc: Global, state: &State) -> Result<
         known.evaluate(alloc, state)
     );
     assert!(rt; found?.as_value().is_truthy());
+    Ok(())
+}
+
+/// A variable without a value.
+fn tried(rt: &(impl Abort + Print), alloc: Global, state: &State) -> Result<()> {
     let unknown = variable(alloc, "b")?;
     let found = asked!(
         rt,
@@ -309,6 +332,11 @@ fn made(rt: &(impl Abort + Print), alloc: Global) -> Result<()> {
         Ok(IfBlock::new().start_tag())
     );
     assert!(rt; tag.ok() == Some("if"));
+    written(rt, alloc)
+}
+
+/// A writer that counts, as it is made and used.
+fn written(rt: &(impl Abort + Print), alloc: Global) -> Result<()> {
     let room = Vec::with_capacity(alloc, 3)?;
     let mut counted = asked!(rt, "Counted::new", "", None, Ok(Counted::new(room)))?;
     let taken = asked!(
@@ -350,21 +378,26 @@ fn memory_none_of_templates(rt: HostRuntime) -> Result<()> {
         Ok(language.filters.names().count())
     );
     assert!(&rt; count.ok() == Some(STANDARD_FILTERS.len()));
+    parsed(&rt, alloc, &language)?;
+    made(&rt, alloc)
+}
 
-    let template = parse(alloc, "{% if a %}b{{ c }}{% endif %}", &language)?;
+/// A template and partials, as they are read.
+fn parsed(rt: &(impl Abort + Print), alloc: Global, language: &Language) -> Result<()> {
+    let template = parse(alloc, "{% if a %}b{{ c }}{% endif %}", language)?;
     let count = asked!(
-        &rt,
+        rt,
         "Template::node_count",
         "",
         None,
         Ok(template.node_count())
     );
-    assert!(&rt; count.ok() == Some(3));
-    let nodes = asked!(&rt, "Template::nodes", "", None, Ok(template.nodes()));
-    assert!(&rt; matches!(nodes?.first(), Some(Node::If(_, _))));
+    assert!(rt; count.ok() == Some(3));
+    let nodes = asked!(rt, "Template::nodes", "", None, Ok(template.nodes()));
+    assert!(rt; matches!(nodes?.first(), Some(Node::If(_, _))));
     let mut partials = Partials::new(alloc);
     partials.insert(String::from_str(alloc, "p")?, template)?;
-    let found = asked!(&rt, "Partials::get", "p", None, Ok(partials.get("p")));
-    assert!(&rt; found?.is_some_and(|partial| partial.node_count() == 3));
-    made(&rt, alloc)
+    let found = asked!(rt, "Partials::get", "p", None, Ok(partials.get("p")));
+    assert!(rt; found?.is_some_and(|partial| partial.node_count() == 3));
+    Ok(())
 }

@@ -190,7 +190,7 @@ fn memory_pages(rt: HostRuntime) -> Result<()> {
     for row in &conditions::ROWS {
         page(&rt, rt.alloc(), &language, row)?;
     }
-    for (source, page_of_it) in verbatim::PAGES {
+    for (source, page_of_it) in &verbatim::PAGES {
         let row = Row {
             source,
             data: "{}",

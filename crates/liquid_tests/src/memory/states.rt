@@ -53,11 +53,10 @@ fn stored(rt: &(impl Abort + Print), alloc: Global) -> Result<()> {
     Ok(())
 }
 
-/// Sets each name of a state, and its counter. A refused call leaves it as it was.
-fn set_in_state(rt: &(impl Abort + Print), alloc: Global) -> Result<()> {
-    let mut state = State::new(alloc, data_from_json(alloc, r#"{"z": 26}"#)?);
+/// Sets each counter of a state. A refused call leaves it as it was.
+fn indexes_set_in_state(rt: &(impl Abort + Print), alloc: Global, state: &mut State) -> Result<()> {
     for name in &NAMES {
-        let before = counted(&state);
+        let before = counted(state);
         let key = key(alloc, name)?;
         let answer = asked!(
             rt,
@@ -67,9 +66,16 @@ fn set_in_state(rt: &(impl Abort + Print), alloc: Global) -> Result<()> {
             state.set_index(key, Value::Integer(1))
         );
         let now = before.saturating_add(usize::from(answer.is_ok()));
-        assert!(rt; counted(&state) == now && known(&state) == now, "{name}");
+        assert!(rt; counted(state) == now && known(state) == now, "{name}");
         assert!(rt; state.get_index(name).is_some() == answer.is_ok(), "{name}");
     }
+    Ok(())
+}
+
+/// Sets each counter of a state, and then each name. A refused call leaves it as it was.
+fn set_in_state(rt: &(impl Abort + Print), alloc: Global) -> Result<()> {
+    let mut state = State::new(alloc, data_from_json(alloc, r#"{"z": 26}"#)?);
+    indexes_set_in_state(rt, alloc, &mut state)?;
     for name in &NAMES {
         let before = number(&state, name);
         let key = key(alloc, name)?;
@@ -87,10 +93,12 @@ fn set_in_state(rt: &(impl Abort + Print), alloc: Global) -> Result<()> {
     Ok(())
 }
 
-/// Sets the names of a runtime. A refused call leaves it as it was.
-fn set_in_runtime(rt: &(impl Abort + Print), alloc: Global) -> Result<()> {
-    let data = data_from_json(alloc, r#"{"z": 26}"#)?;
-    let mut runtime = RuntimeBuilder::new(alloc).set_globals(data).build(alloc);
+/// Sets the counters of a runtime. A refused call leaves it as it was.
+fn indexes_set_in_runtime(
+    rt: &(impl Abort + Print),
+    alloc: Global,
+    runtime: &mut Runtime<'_>,
+) -> Result<()> {
     for name in &NAMES {
         let before = counted(runtime.state());
         let key = key(alloc, name)?;
@@ -107,6 +115,14 @@ fn set_in_runtime(rt: &(impl Abort + Print), alloc: Global) -> Result<()> {
             "{name}"
         );
     }
+    Ok(())
+}
+
+/// Sets the counters of a runtime, and then the names. A refused call leaves it as it was.
+fn set_in_runtime(rt: &(impl Abort + Print), alloc: Global) -> Result<()> {
+    let data = data_from_json(alloc, r#"{"z": 26}"#)?;
+    let mut runtime = RuntimeBuilder::new(alloc).set_globals(data).build(alloc);
+    indexes_set_in_runtime(rt, alloc, &mut runtime)?;
     for name in &NAMES {
         let before = number(runtime.state(), name);
         let key = key(alloc, name)?;
@@ -190,6 +206,12 @@ fn looked_up(rt: &(impl Abort + Print), alloc: Global) -> Result<()> {
     }
     let answer = asked!(rt, "State::get", "7[0]", None, state.get(alloc, &path));
     assert!(rt; is_refused(&answer) || *answer?.as_value() == wanted);
+    looked_up_nowhere(rt, alloc, &state);
+    looked_up_in_runtime(rt, alloc)
+}
+
+/// Look-ups that lead to no value.
+fn looked_up_nowhere(rt: &(impl Abort + Print), alloc: Global, state: &State) {
     let nowhere = [Value::Integer(7), Value::Integer(1)];
     let unknown = Some(ErrorKind::UnknownVariable);
     let answer = asked!(
@@ -202,7 +224,6 @@ fn looked_up(rt: &(impl Abort + Print), alloc: Global) -> Result<()> {
     assert!(rt; answer.is_err());
     let answer = asked!(rt, "State::get", "nothing", unknown, state.get(alloc, &[]));
     assert!(rt; answer.is_err());
-    looked_up_in_runtime(rt, alloc)
 }
 
 fn looked_up_in_runtime(rt: &(impl Abort + Print), alloc: Global) -> Result<()> {

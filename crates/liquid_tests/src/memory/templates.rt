@@ -191,11 +191,11 @@ fn memory_templates(rt: HostRuntime) -> Result<()> {
     let language = language(alloc)?;
     inserted(&rt, alloc, &language)?;
     let state = State::new(alloc, data_from_json(alloc, DATA)?);
-    for row in CHAINS {
-        chained(&rt, alloc, &language, &state, row)?;
+    for row in &CHAINS {
+        chained(&rt, alloc, &language, &state, *row)?;
     }
-    for row in CONDITIONS {
-        decided(&rt, alloc, &language, &state, row)?;
+    for row in &CONDITIONS {
+        decided(&rt, alloc, &language, &state, *row)?;
     }
     let contains = ComparisonOperator::Contains;
     let answer = asked!(

@@ -85,8 +85,8 @@ fn memory_texts(rt: HostRuntime) -> Result<()> {
         assert!(&rt; standard.tags.get("assign").is_some());
         assert!(&rt; standard.blocks.get("if").is_some());
     }
-    for row in DATA {
-        read(&rt, alloc, row)?;
+    for row in &DATA {
+        read(&rt, alloc, *row)?;
     }
     with_partials(&rt, alloc, "{{ z }}", None)?;
     with_partials(&rt, alloc, "{% nosuch %}", Some(ErrorKind::UnknownTag))

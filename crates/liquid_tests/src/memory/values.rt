@@ -77,34 +77,48 @@ fn variable(alloc: Global) -> Result<Variable> {
     })
 }
 
-fn expressions(rt: &(impl Abort + Print), alloc: Global) -> Result<()> {
-    let form = r#"a[b["c"]][1]"#;
-    let expression = Expression::Variable(variable(alloc)?);
+/// The written form of the variable.
+const FORM: &str = r#"a[b["c"]][1]"#;
+
+/// Copies an expression with this written form.
+fn expression_copied(
+    rt: &(impl Abort + Print),
+    alloc: Global,
+    expression: &Expression,
+    form: &str,
+) -> Result<()> {
     let copy = asked!(rt, "Expression::copy", form, None, expression.copy(alloc));
     assert!(rt; is_refused(&copy) || copy?.to_string(alloc)?.as_str() == form);
-    let literal = Expression::Literal(value(alloc, r#"["x"]"#)?);
-    let copy = asked!(
-        rt,
-        "Expression::copy",
-        "a literal",
-        None,
-        literal.copy(alloc)
-    );
-    assert!(rt; is_refused(&copy) || copy?.to_string(alloc)?.as_str() == "x");
+    Ok(())
+}
+
+fn variable_copied(rt: &(impl Abort + Print), alloc: Global) -> Result<()> {
     let lone = variable(alloc)?;
-    let copy = asked!(rt, "Variable::copy", form, None, lone.copy(alloc));
-    assert!(rt; is_refused(&copy) || copy?.to_string(alloc)?.as_str() == form);
+    let copy = asked!(rt, "Variable::copy", FORM, None, lone.copy(alloc));
+    assert!(rt; is_refused(&copy) || copy?.to_string(alloc)?.as_str() == FORM);
+    Ok(())
+}
+
+fn form_written(rt: &(impl Abort + Print), alloc: Global, expression: &Expression) {
     let mut out = String::new(alloc);
     let answer = asked!(
         rt,
         "Expression::append_written_form",
-        form,
+        FORM,
         None,
         expression.append_written_form(&mut out)
     );
-    assert!(rt; is_refused(&answer) || out.as_str() == form);
-    assert!(rt; form.starts_with(out.as_str()));
-    Ok(())
+    assert!(rt; is_refused(&answer) || out.as_str() == FORM);
+    assert!(rt; FORM.starts_with(out.as_str()));
+}
+
+fn expressions(rt: &(impl Abort + Print), alloc: Global) -> Result<()> {
+    let expression = Expression::Variable(variable(alloc)?);
+    expression_copied(rt, alloc, &expression, FORM)?;
+    form_written(rt, alloc, &expression);
+    let literal = Expression::Literal(value(alloc, r#"["x"]"#)?);
+    expression_copied(rt, alloc, &literal, "x")?;
+    variable_copied(rt, alloc)
 }
 
 fn without_value(rt: &(impl Abort + Print), alloc: Global) -> Result<()> {
@@ -119,16 +133,22 @@ fn without_value(rt: &(impl Abort + Print), alloc: Global) -> Result<()> {
         lone.evaluate(alloc, &state)
     );
     assert!(rt; answer.is_err());
+    assert!(rt; number(&state, "b") == Some(2));
+    expression_without_value(rt, alloc, &state)
+}
+
+fn expression_without_value(rt: &(impl Abort + Print), alloc: Global, state: &State) -> Result<()> {
+    let wanted = Some(ErrorKind::UnknownVariable);
     let expression = Expression::Variable(variable(alloc)?);
     let answer = asked!(
         rt,
         "Expression::evaluate",
         "no value",
         wanted,
-        expression.evaluate(alloc, &state)
+        expression.evaluate(alloc, state)
     );
     assert!(rt; answer.is_err());
-    assert!(rt; number(&state, "b") == Some(2));
+    assert!(rt; number(state, "b") == Some(2));
     Ok(())
 }
 
