@@ -1,0 +1,213 @@
+//! Languages, partials, and the parts of templates that are evaluated.
+use crate::calls::{NAMES, begin, end, is_refused, value};
+use liquid_core::{ErrorKind, Result, State, Value};
+use liquid_filters::FilterKind;
+use liquid_filters::stdlib::{Join, Sort};
+use liquid_lib::language;
+use liquid_lib::stdlib::{AssignTag, IfBlock};
+use liquid_site::data_from_json;
+use liquid_syntax::{
+    BlockKind, ComparisonOperator, Language, Node, Partials, Registry, TagKind, parse,
+};
+use std::alloc::Global;
+use std::process::Abort;
+
+/// Registers the kind under each name. A refused call leaves the registry as it was.
+fn registered<K: Copy + Drop>(
+    rt: &(impl Abort + Print),
+    alloc: Global,
+    what: &str,
+    kinds: &mut Registry<K>,
+    kind: K,
+) -> Result<()> {
+    for name in &NAMES {
+        let before = kinds.names().count();
+        let key = String::from_str(alloc, name)?;
+        let answer = asked!(rt, what, name, None, kinds.register(key, kind));
+        assert!(rt; kinds.get(name).is_some() == answer.is_ok(), "{name}");
+        assert!(rt;
+            kinds.names().count() == before.saturating_add(usize::from(answer.is_ok())),
+            "{name}"
+        );
+    }
+    Ok(())
+}
+
+/// How many of the names have a template.
+fn held(partials: &Partials) -> usize {
+    let mut held = 0_usize;
+    for name in &NAMES {
+        if partials.get(name).is_some() {
+            held = held.saturating_add(1);
+        }
+    }
+    held
+}
+
+/// Puts a template in under each name. A refused call leaves the partials as they were.
+fn inserted(rt: &(impl Abort + Print), alloc: Global, language: &Language) -> Result<()> {
+    let mut partials = Partials::new(alloc);
+    for name in &NAMES {
+        let before = held(&partials);
+        let template = parse(alloc, "x{{ y }}", language)?;
+        let key = String::from_str(alloc, name)?;
+        let answer = asked!(
+            rt,
+            "Partials::insert",
+            name,
+            None,
+            partials.insert(key, template)
+        );
+        let is_there = partials
+            .get(name)
+            .is_some_and(|template| template.node_count() == 2);
+        assert!(rt; is_there == answer.is_ok(), "{name}");
+        assert!(rt;
+            held(&partials) == before.saturating_add(usize::from(is_there)),
+            "{name}"
+        );
+    }
+    Ok(())
+}
+
+/// Outputs with the values of their chains, or the kinds of their faults.
+const CHAINS: [(&str, std::result::Result<&str, ErrorKind>); 6] = [
+    ("{{ l }}", Ok(r#"["b", 2, "a"]"#)),
+    ("{{ 'a text' }}", Ok(r#""a text""#)),
+    ("{{ l | sort | join: t }}", Ok(r#""2-a-b""#)),
+    ("{{ nope | default: l }}", Ok(r#"["b", 2, "a"]"#)),
+    ("{{ nope }}", Err(ErrorKind::UnknownVariable)),
+    (
+        "{{ l | join: '-' | join: nope }}",
+        Err(ErrorKind::UnknownVariable),
+    ),
+];
+
+fn chained(
+    rt: &(impl Abort + Print),
+    alloc: Global,
+    language: &Language,
+    state: &State,
+    (source, wanted): (&str, std::result::Result<&str, ErrorKind>),
+) -> Result<()> {
+    let template = parse(alloc, source, language)?;
+    let Some(Node::Output(chain)) = template.nodes().first() else {
+        assert!(rt; false, "no output: {source}");
+        return Ok(());
+    };
+    let answer = asked!(
+        rt,
+        "FilterChain::evaluate",
+        source,
+        wanted.err(),
+        chain.evaluate(alloc, state)
+    );
+    if let Ok(answer) = answer {
+        let wanted = wanted.ok().unwrap_or("null");
+        assert!(rt; answer == value(alloc, wanted)?, "{source}");
+    }
+    Ok(())
+}
+
+/// Conditions that take memory, and whether they hold, or the kinds of their faults.
+const CONDITIONS: [(&str, std::result::Result<bool, ErrorKind>); 6] = [
+    ("{% if 123 contains 2 %}{% endif %}", Ok(true)),
+    (
+        "{% if t contains 1 or 123 contains '4' %}{% endif %}",
+        Ok(false),
+    ),
+    (
+        "{% if m contains 7 and m contains true %}{% endif %}",
+        Ok(true),
+    ),
+    ("{% if nope or m contains 8 %}{% endif %}", Ok(false)),
+    (
+        "{% if nil contains 1 %}{% endif %}",
+        Err(ErrorKind::UnexpectedValue),
+    ),
+    (
+        "{% if 1 == nope %}{% endif %}",
+        Err(ErrorKind::UnknownVariable),
+    ),
+];
+
+fn decided(
+    rt: &(impl Abort + Print),
+    alloc: Global,
+    language: &Language,
+    state: &State,
+    (source, wanted): (&str, std::result::Result<bool, ErrorKind>),
+) -> Result<()> {
+    let template = parse(alloc, source, language)?;
+    let Some(Node::If(condition, _)) = template.nodes().first() else {
+        assert!(rt; false, "no condition: {source}");
+        return Ok(());
+    };
+    let answer = asked!(
+        rt,
+        "Condition::holds",
+        source,
+        wanted.err(),
+        condition.holds(alloc, state)
+    );
+    assert!(rt;
+        is_refused(&answer) || answer.ok() == wanted.ok(),
+        "{source}"
+    );
+    Ok(())
+}
+
+/// Tags, blocks and filters that are registered.
+fn registries(rt: &(impl Abort + Print), alloc: Global) -> Result<()> {
+    let mut made = Language::new(alloc);
+    registered(
+        rt,
+        alloc,
+        "tags.register",
+        &mut made.tags,
+        TagKind::from(AssignTag::new()),
+    )?;
+    registered(
+        rt,
+        alloc,
+        "blocks.register",
+        &mut made.blocks,
+        BlockKind::from(IfBlock::new()),
+    )?;
+    registered(
+        rt,
+        alloc,
+        "filters.register",
+        &mut made.filters,
+        FilterKind::Sort(Sort),
+    )?;
+    Ok(())
+}
+
+#[test]
+fn memory_templates(rt: HostRuntime) -> Result<()> {
+    let alloc = rt.alloc();
+    registries(&rt, alloc)?;
+    let language = language(alloc)?;
+    inserted(&rt, alloc, &language)?;
+    let state = State::new(alloc, data_from_json(alloc, DATA)?);
+    for row in &CHAINS {
+        chained(&rt, alloc, &language, &state, *row)?;
+    }
+    for row in &CONDITIONS {
+        decided(&rt, alloc, &language, &state, *row)?;
+    }
+    let contains = ComparisonOperator::Contains;
+    let answer = asked!(
+        &rt,
+        "ComparisonOperator::holds",
+        "12 contains 2",
+        None,
+        contains.holds(alloc, &Value::Integer(12), &Value::Integer(2))
+    );
+    assert!(&rt; is_refused(&answer) || answer?);
+    Ok(())
+}
+
+/// What the chains and the conditions are evaluated over.
+const DATA: &str = r#"{"l": ["b", 2, "a"], "t": "-", "m": {"7": 1, "true": 2}}"#;

@@ -1,0 +1,20 @@
+//! What the crates of tests share: values that are written in words, and the worked rows of pages. Each expected value comes from outside.
+#![tactic(auto)]
+
+mod answers;
+mod conditions;
+mod pages;
+mod refused;
+mod row;
+mod texts;
+mod verbatim;
+mod words;
+
+pub use answers::kind_of;
+pub use conditions::IF_PAGES;
+pub use pages::PAGES;
+pub use refused::REFUSED_SOURCES;
+pub use row::Row;
+pub use texts::repeated;
+pub use verbatim::VERBATIM_PAGES;
+pub use words::{object, value, values};
