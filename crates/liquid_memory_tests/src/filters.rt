@@ -9,7 +9,7 @@ use std::collections::BTreeMap;
 use std::process::Abort;
 
 /// Name, input, arguments and answer, the last three in JSON.
-const ROWS: [(&str, &str, &str, &str); 51] = [
+const ROWS: [(&str, &str, &str, &str); 66] = [
     ("join", r#"[1, 2, "a", null]"#, r#"["-"]"#, r#""1-2-a-""#),
     (
         "sort",
@@ -22,6 +22,12 @@ const ROWS: [(&str, &str, &str, &str); 51] = [
         r#"[{"a": 2}, {"a": 1}, {}]"#,
         r#"["a"]"#,
         r#"[{"a": 1}, {"a": 2}, {}]"#,
+    ),
+    (
+        "sort",
+        r#"[[1, "a"], [1, 2], [1]]"#,
+        "[]",
+        r#"[[1], [1, 2], [1, "a"]]"#,
     ),
     (
         "sort_natural",
@@ -47,12 +53,14 @@ const ROWS: [(&str, &str, &str, &str); 51] = [
         r#"["a", "x"]"#,
         r#"[{"a": "x"}]"#,
     ),
+    ("where", r#"[1, {"a": 1}]"#, r#"["a"]"#, "null"),
     (
         "uniq",
         r#"["a", 1, "a", [1], [1]]"#,
         "[]",
         r#"["a", 1, [1]]"#,
     ),
+    ("uniq", r#"[1, "1", 1, [1], [1]]"#, "[]", r#"[1, "1", [1]]"#),
     (
         "reverse",
         r#"[1, "b", [3, 4]]"#,
@@ -66,6 +74,12 @@ const ROWS: [(&str, &str, &str, &str); 51] = [
         r#"["x"]"#,
     ),
     ("compact", r#"[null, "a", null]"#, "[]", r#"["a"]"#),
+    (
+        "compact",
+        r#"[{"a": null}, {"a": 1}, {}]"#,
+        r#"["a"]"#,
+        r#"[{"a": 1}]"#,
+    ),
     (
         "concat",
         r#"[1, "a"]"#,
@@ -87,11 +101,18 @@ const ROWS: [(&str, &str, &str, &str); 51] = [
     ("floor", r#""-0.5""#, "[]", "-1"),
     ("size", r#""this has 22 characters""#, "[]", "22"),
     ("default", r#""""#, r#"["none given"]"#, r#""none given""#),
+    ("default", r#"[""]"#, "[1]", r#"[""]"#),
     (
         "slice",
         r#""I often quote myself.""#,
         "[-7, 6]",
         r#""myself""#,
+    ),
+    (
+        "slice",
+        r#""I often quote myself.  It adds spice to my conversation.""#,
+        "[-10, 3]",
+        r#""ver""#,
     ),
     ("split", r#""a, b, c""#, r#"[", "]"#, r#"["a", "b", "c"]"#),
     ("split", r#""ab""#, r#"[""]"#, r#"["", "a", "b", ""]"#),
@@ -120,6 +141,13 @@ const ROWS: [(&str, &str, &str, &str); 51] = [
         r#""Ground control, and so on""#,
     ),
     (
+        "truncate",
+        r#""Here is a RUST: 🇷🇺🇸🇹.""#,
+        "[20]",
+        r#""Here is a RUST: 🇷🇺...""#,
+    ),
+    ("truncate", "10000000", "[5]", r#""10...""#),
+    (
         "truncatewords",
         r#""one two three""#,
         r#"[2, 1]"#,
@@ -128,11 +156,22 @@ const ROWS: [(&str, &str, &str, &str); 51] = [
     ("escape", r#""<a & b>""#, "[]", r#""&lt;a &amp; b&gt;""#),
     ("escape_once", r#""&lt;&xyz;""#, "[]", r#""&lt;&amp;xyz;""#),
     (
+        "escape_once",
+        r#""&lt;&gt;&amp;&#39;&quot;&xyz;""#,
+        "[]",
+        r#""&lt;&gt;&amp;&#39;&quot;&amp;xyz;""#,
+    ),
+    (
         "strip_html",
         r#""<p\nclass='loooong'>test</p>""#,
         "[]",
         r#""test""#,
     ),
+    ("strip_html", r#""a<b>c</b""#, "[]", r#""ac</b""#),
+    ("strip_html", r#""<script>x""#, "[]", r#""x""#),
+    ("strip_html", r#""<<a>b>c""#, "[]", r#""b>c""#),
+    ("strip_html", r#""<!--->y-->z""#, "[]", r#""z""#),
+    ("strip_html", r#""<ſcript>x</script>y""#, "[]", r#""y""#),
     ("newline_to_br", r#""a\nb""#, "[]", r#""a<br />\nb""#),
     (
         "url_encode",
@@ -140,6 +179,7 @@ const ROWS: [(&str, &str, &str, &str); 51] = [
         "[]",
         r#""foo%2B1%40example.com""#,
     ),
+    ("url_encode", r#""foo bar""#, "[]", r#""foo%20bar""#),
     (
         "url_decode",
         r#""foo%2B1%40example.com""#,

@@ -2,7 +2,9 @@
 use crate::calls::{begin, end, is_refused, number};
 use liquid_core::{Object, Result, State};
 use liquid_lib::{Counted, Renderable, Runtime, RuntimeBuilder, language};
-use liquid_samples::{IF_PAGES, PAGES, REFUSED_SOURCES, Row, VERBATIM_PAGES, kind_of, repeated};
+use liquid_samples::{
+    IF_PAGES, PAGES, REFUSED_SOURCES, Row, VERBATIM_PAGES, kind_of, nested, repeated,
+};
 use liquid_site::{data_from_json, run};
 use liquid_syntax::{Language, Template, parse};
 use std::alloc::Global;
@@ -233,6 +235,27 @@ fn memory_long_page(rt: HostRuntime) -> Result<()> {
         end: None,
     };
     page(&rt, alloc, &language(alloc)?, &row)
+}
+
+/// Blocks and brackets that nest as deep as they may.
+#[test]
+fn memory_deep_pages(rt: HostRuntime) -> Result<()> {
+    let alloc = rt.alloc();
+    let language = language(alloc)?;
+    let blocks = nested(alloc, "{% if true %}", 200, "x", "{% endif %}")?;
+    let value = nested(alloc, "a[", 200, "0", "]")?;
+    let brackets = format!(in alloc; "{{{{ {value} }}}}")?;
+    let rows: &[(&str, &str)] = &[(blocks.as_str(), "x"), (brackets.as_str(), "0")];
+    for (source, page_of_it) in rows {
+        let row = Row {
+            source,
+            data: "{\"a\": [0]}",
+            page: page_of_it,
+            end: None,
+        };
+        page(&rt, alloc, &language, &row)?;
+    }
+    Ok(())
 }
 
 #[test]

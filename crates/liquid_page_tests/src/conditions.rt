@@ -1,10 +1,9 @@
 //! Pages of `if`.
 use crate::rows::{by_parts, by_run};
 use liquid_core::{ErrorKind, Result};
-use liquid_lib::{Renderable, RuntimeBuilder, language};
-use liquid_samples::{IF_PAGES, Row, repeated};
+use liquid_lib::language;
+use liquid_samples::{IF_PAGES, Row};
 use liquid_syntax::parse;
-use std::alloc::Global;
 
 #[test]
 fn pages_of_if_by_run(rt: HostRuntime) {
@@ -206,51 +205,6 @@ fn nil_is_not_asked_what_it_contains(rt: HostRuntime) {
         };
         by_run(&rt, rt.alloc(), &row);
     }
-}
-
-/// `if` in `if`, so deep, around an x.
-fn nested(alloc: Global, depth: usize) -> Result<String> {
-    let front = repeated(alloc, "", "{% if true %}", depth, "x")?;
-    repeated(alloc, front.as_str(), "{% endif %}", depth, "")
-}
-
-/// The number of nodes, and the page of a source without data.
-fn nodes_and_page(alloc: Global, source: &str) -> Result<(usize, String)> {
-    let template = parse(alloc, source, &language(alloc)?)?;
-    let mut runtime = RuntimeBuilder::new(alloc).build(alloc);
-    let page = template.render(alloc, &mut runtime)?;
-    Ok((template.node_count(), page))
-}
-
-#[test]
-fn blocks_nest_two_hundred_deep(rt: HostRuntime) -> Result<()> {
-    let alloc = rt.alloc();
-    let (nodes, page) = nodes_and_page(alloc, nested(alloc, 200)?.as_str())?;
-    assert!(&rt; nodes == 201, "the nodes");
-    assert!(&rt; page.as_str() == "x", "the page");
-    let Err(fault) = nodes_and_page(alloc, nested(alloc, 201)?.as_str()) else {
-        assert!(&rt; false, "a template 201 deep");
-        return Ok(());
-    };
-    assert!(&rt; fault.kind == ErrorKind::TooNested, "the fault");
-    Ok(())
-}
-
-/// Neither parsing, running nor dropping goes a step deeper for each `elsif`.
-#[test]
-fn five_thousand_elsifs(rt: HostRuntime) -> Result<()> {
-    let alloc = rt.alloc();
-    let source = repeated(
-        alloc,
-        "{% if false %}a",
-        "{% elsif false %}b",
-        5000,
-        "{% else %}c{% endif %}",
-    )?;
-    let (nodes, page) = nodes_and_page(alloc, source.as_str())?;
-    assert!(&rt; nodes == 10003, "the nodes");
-    assert!(&rt; page.as_str() == "c", "the page");
-    Ok(())
 }
 
 #[test]

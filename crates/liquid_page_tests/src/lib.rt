@@ -4,6 +4,8 @@
 #[cfg(test)]
 mod conditions;
 #[cfg(test)]
+mod deep;
+#[cfg(test)]
 mod pages;
 #[cfg(test)]
 mod refused;

@@ -3,7 +3,7 @@ use crate::row::Row;
 use liquid_core::ErrorKind;
 
 /// Pages of `if`, with `elsif` and `else`.
-pub const IF_PAGES: [Row; 26] = [
+pub const IF_PAGES: [Row; 27] = [
     Row {
         source: "{% if a == nil %}y{% else junk, | %}n{% endif %}",
         data: "{\"a\": null}",
@@ -166,6 +166,12 @@ pub const IF_PAGES: [Row; 26] = [
         source: "{% if true %}{% if false %}a{% elsif true %}b{% endif %}c{% else %}d{% endif %}{% if false %}{% endif %}",
         data: "{}",
         page: "bc",
+        end: None,
+    },
+    Row {
+        source: "a{% if x %}{{ b }}{% endif %}",
+        data: "{\"x\": true, \"b\": \"c\"}",
+        page: "ac",
         end: None,
     },
 ];

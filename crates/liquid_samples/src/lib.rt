@@ -15,6 +15,6 @@ pub use conditions::IF_PAGES;
 pub use pages::PAGES;
 pub use refused::REFUSED_SOURCES;
 pub use row::Row;
-pub use texts::repeated;
+pub use texts::{nested, repeated};
 pub use verbatim::VERBATIM_PAGES;
 pub use words::{object, value, values};

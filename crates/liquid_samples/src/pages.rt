@@ -3,7 +3,7 @@ use crate::row::Row;
 use liquid_core::ErrorKind;
 
 /// Pages of every feature but `if`.
-pub const PAGES: [Row; 50] = [
+pub const PAGES: [Row; 51] = [
     Row {
         source: "",
         data: "{}",
@@ -290,6 +290,12 @@ pub const PAGES: [Row; 50] = [
         source: "é{{- 'ü' -}} ß",
         data: "{}",
         page: "éüß",
+        end: None,
+    },
+    Row {
+        source: "a{",
+        data: "{}",
+        page: "a{",
         end: None,
     },
     Row {

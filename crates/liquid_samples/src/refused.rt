@@ -2,7 +2,7 @@
 use liquid_core::ErrorKind;
 
 /// Sources that are no templates, and the kind of the fault.
-pub const REFUSED_SOURCES: [(&str, ErrorKind); 50] = [
+pub const REFUSED_SOURCES: [(&str, ErrorKind); 62] = [
     ("{{ 1.5 }}", ErrorKind::FloatLiteral),
     ("a{{ x", ErrorKind::Unclosed),
     ("{% nosuch %}", ErrorKind::UnknownTag),
@@ -30,11 +30,26 @@ pub const REFUSED_SOURCES: [(&str, ErrorKind); 50] = [
     ("a{% if x %}b", ErrorKind::MissingEnd),
     ("a{% if x %}{", ErrorKind::MissingEnd),
     ("a{% if x %}{{", ErrorKind::Unclosed),
+    ("a{% if x %}{{ ", ErrorKind::Unclosed),
+    ("a{% if x %}{{ b", ErrorKind::Unclosed),
+    ("a{% if x %}{{ b ", ErrorKind::Unclosed),
     ("a{% if x %}{{ b }", ErrorKind::BadItem),
     ("a{% if x %}{{ b }}", ErrorKind::MissingEnd),
+    ("a{% if x %}{{ b }}{", ErrorKind::MissingEnd),
     ("a{% if x %}{{ b }}{%", ErrorKind::Unclosed),
+    ("a{% if x %}{{ b }}{% ", ErrorKind::Unclosed),
+    ("a{% if x %}{{ b }}{% e", ErrorKind::Unclosed),
+    ("a{% if x %}{{ b }}{% en", ErrorKind::Unclosed),
+    ("a{% if x %}{{ b }}{% end", ErrorKind::Unclosed),
+    ("a{% if x %}{{ b }}{% endi", ErrorKind::Unclosed),
     ("a{% if x %}{{ b }}{% endif", ErrorKind::Unclosed),
+    ("a{% if x %}{{ b }}{% endif ", ErrorKind::Unclosed),
     ("a{% if x %}{{ b }}{% endif %", ErrorKind::BadItem),
+    ("{% comment x %}{% endcomment %}", ErrorKind::Expected),
+    (
+        "{% comment %}{% raw %}{% endcomment %}",
+        ErrorKind::MissingEnd,
+    ),
     (
         "{% if x %}a{% elsif y %}b{% else %}c",
         ErrorKind::MissingEnd,

@@ -17,3 +17,15 @@ pub fn repeated(
     text.push_str(last)?;
     Ok(text)
 }
+
+/// A text between openers and as many closers.
+pub fn nested(
+    alloc: Global,
+    opener: &str,
+    depth: usize,
+    text: &str,
+    closer: &str,
+) -> Result<String> {
+    let front = repeated(alloc, "", opener, depth, text)?;
+    repeated(alloc, front.as_str(), closer, depth, "")
+}
