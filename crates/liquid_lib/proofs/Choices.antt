@@ -27,7 +27,7 @@ use Rattle.liquid_meaning.specs.Runs.{Nothing, Run, evaluate}
 use Rattle.liquid_meaning.specs.Within.{Within}
 use Rattle.liquid_lib.proofs.Going.{first, Known, known, known_two}
 use Rattle.liquid_lib.proofs.Joined.{memory_of}
-use Rattle.liquid_meaning.proofs.Rules.{if_rule}
+use Rattle.liquid_meaning.proofs.Rules.{if_rule, unless_rule}
 use Rattle.liquid_lib.proofs.Sinks.{Adds-nil, AddsPart-none}
 use Rattle.liquid_meaning.proofs.Steps.{alone, bind_ok, bind_fault}
 use Rattle.liquid_meaning.proofs.Within.{left, right}
@@ -50,6 +50,24 @@ module _ (setting : Setting) (deeper : tree.Nodes → Run Nothing) (c : tree.Con
   unfolding evaluate
   if_refused kind is = (λ i. if_rule setting deeper c b d i e) ∙ bind_fault (evaluate (truth_of c)) by_truth e kind is
 
+-- ---- the rule of `unless`, likewise
+
+module _ (setting : Setting) (deeper : tree.Nodes → Run Nothing) (c : tree.Condition) (b d : tree.Nodes) (e : Environment) where
+  abbrev by_untruth : Bool → Run Nothing
+  by_untruth holds = cond holds (nodes_meaning setting deeper d) (nodes_meaning setting deeper b)
+
+  unless_holds : truth_of c e ≡ Ok true → node_meaning setting deeper (tree.unless c b d) e ≡ nodes_meaning setting deeper d e
+  unfolding evaluate
+  unless_holds is = (λ i. unless_rule setting deeper c b d i e) ∙ bind_ok (evaluate (truth_of c)) by_untruth e true is
+
+  unless_fails : truth_of c e ≡ Ok false → node_meaning setting deeper (tree.unless c b d) e ≡ nodes_meaning setting deeper b e
+  unfolding evaluate
+  unless_fails is = (λ i. unless_rule setting deeper c b d i e) ∙ bind_ok (evaluate (truth_of c)) by_untruth e false is
+
+  unless_refused : (kind : ErrorKind) → truth_of c e ≡ Err kind → node_meaning setting deeper (tree.unless c b d) e ≡ record { text = []; environment = e; end = Err kind }
+  unfolding evaluate
+  unless_refused kind is = (λ i. unless_rule setting deeper c b d i e) ∙ bind_fault (evaluate (truth_of c)) by_untruth e kind is
+
 -- ---- the names of its parts
 
 body_names : (c : tree.Condition) (b d : tree.Nodes) (N : Names) → Within N (node_names (tree.if_true c b d)) → Within N (nodes_names b)
@@ -59,6 +77,14 @@ body_names c b d N h = left N (nodes_names b) (nodes_names d) (right N (conditio
 else_names : (c : tree.Condition) (b d : tree.Nodes) (N : Names) → Within N (node_names (tree.if_true c b d)) → Within N (nodes_names d)
 unfolding node_names
 else_names c b d N h = right N (nodes_names b) (nodes_names d) (right N (condition_names c) _ h)
+
+unless_body_names : (c : tree.Condition) (b d : tree.Nodes) (N : Names) → Within N (node_names (tree.unless c b d)) → Within N (nodes_names b)
+unfolding node_names
+unless_body_names c b d N h = left N (nodes_names b) (nodes_names d) (right N (condition_names c) _ h)
+
+unless_else_names : (c : tree.Condition) (b d : tree.Nodes) (N : Names) → Within N (node_names (tree.unless c b d)) → Within N (nodes_names d)
+unfolding node_names
+unless_else_names c b d N h = right N (nodes_names b) (nodes_names d) (right N (condition_names c) _ h)
 
 alone_names : (n : tree.Node) (N : Names) → Within N (nodes_names (tree.node n tree.no_nodes)) → Within N (node_names n)
 unfolding nodes_names
@@ -94,6 +120,15 @@ Comes ns e nodes at to = Chosen ns e (nodes_names nodes) (list_meant nodes) at t
 pub comes_itself : (ns : List Node) (e : Environment) (f : Forest Maker) (from to : ℕ) → StandsAt ns from f to → Comes ns e (nodes_of f) from to
 comes_itself ns e f from to stands = record { nodes = f; stands = stands; within = λ N h. h; same = λ setting deeper. refl }
 
+-- a node that ends by its condition's fault comes to that fault
+faulted : (ns : List Node) (c : tree.Condition) (n : tree.Node) (e : Environment) (x : Error) → ((kind : ErrorKind) → truth_of c e ≡ Err kind → Refused e (node_meant n) kind)
+    → Answers (λ (v : Bool). v) (Err x) (truth_of c e) → ComesTo ns e (node_names n) (node_meant n) (Err x)
+faulted ns c n e x refused h = on (is_memory x.kind) h
+  where
+    on : (memory : Bool) → MatchBool memory ⊤ ((truth_of c e ≡ Err x.kind) × (is_refusal x.kind ≡ false)) → MatchBool memory ⊤ (Refused e (node_meant n) x.kind × (is_refusal x.kind ≡ false))
+    on true k = k
+    on false k = (refused x.kind k.0, k.1)
+
 -- ---- an `if`
 
 module _ (ns : List Node) (c : tree.Condition) (b d : tree.Nodes) (e : Environment) where
@@ -107,11 +142,22 @@ module _ (ns : List Node) (c : tree.Condition) (b d : tree.Nodes) (e : Environme
 
   -- the condition's fault
   pub takes_fault : (x : Error) → Answers (λ (v : Bool). v) (Err x) (truth_of c e) → ComesTo ns e (node_names (tree.if_true c b d)) (node_meant (tree.if_true c b d)) (Err x)
-  takes_fault x h = on (is_memory x.kind) h
-    where
-      on : (memory : Bool) → MatchBool memory ⊤ ((truth_of c e ≡ Err x.kind) × (is_refusal x.kind ≡ false)) → MatchBool memory ⊤ (Refused e (node_meant (tree.if_true c b d)) x.kind × (is_refusal x.kind ≡ false))
-      on true k = k
-      on false k = ((λ setting deeper. if_refused setting deeper c b d e x.kind k.0), k.1)
+  takes_fault x h = faulted ns c (tree.if_true c b d) e x (λ kind is setting deeper. if_refused setting deeper c b d e kind is) h
+
+-- ---- an `unless`
+
+module _ (ns : List Node) (c : tree.Condition) (b d : tree.Nodes) (e : Environment) where
+  -- its body, where the condition doesn't hold
+  pub takes_unless_body : (r : Result (ℕ × ℕ) Error) → truth_of c e ≡ Ok false → ComesTo ns e (nodes_names b) (list_meant b) r → ComesTo ns e (node_names (tree.unless c b d)) (node_meant (tree.unless c b d)) r
+  takes_unless_body r is h = comes_as ns e _ _ (list_meant b) (node_meant (tree.unless c b d)) r (unless_body_names c b d) (λ setting deeper. unless_fails setting deeper c b d e is) h
+
+  -- its `else`, where it does
+  pub takes_unless_else : (r : Result (ℕ × ℕ) Error) → truth_of c e ≡ Ok true → ComesTo ns e (nodes_names d) (list_meant d) r → ComesTo ns e (node_names (tree.unless c b d)) (node_meant (tree.unless c b d)) r
+  takes_unless_else r is h = comes_as ns e _ _ (list_meant d) (node_meant (tree.unless c b d)) r (unless_else_names c b d) (λ setting deeper. unless_holds setting deeper c b d e is) h
+
+  -- the condition's fault
+  pub takes_unless_fault : (x : Error) → Answers (λ (v : Bool). v) (Err x) (truth_of c e) → ComesTo ns e (node_names (tree.unless c b d)) (node_meant (tree.unless c b d)) (Err x)
+  takes_unless_fault x h = faulted ns c (tree.unless c b d) e x (λ kind is setting deeper. unless_refused setting deeper c b d e kind is) h
 
 -- ---- a range that is one `if`
 

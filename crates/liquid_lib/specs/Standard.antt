@@ -5,7 +5,7 @@ use Rattle.liquid_model.specs.Texts.{Text}
 use Rattle.liquid_filters.specs.Kinds.{kind_name}
 use Rattle.liquid_filters.specs.declared.kind.FilterKind.{FilterKind}
 use Rattle.liquid_syntax.specs.Languages.{kinds_of}
-use Rattle.liquid_syntax.specs.declared.language.BlockKind.TheVariants.{Raw, Comment, If}
+use Rattle.liquid_syntax.specs.declared.language.BlockKind.TheVariants.{Raw, Comment, If, Unless}
 use Rattle.liquid_syntax.specs.declared.language.Language.{Language}
 use Rattle.liquid_syntax.specs.declared.language.TagKind.TheVariants.{Assign}
 
@@ -31,7 +31,7 @@ pub record AreNamed (names : List Text) (filters : Map FilterKind) : Type 0 wher
 -- the language of the standard library, as far as it exists
 pub record IsStandard (l : Language) : Type 0 where
   pub tags : listed (kinds_of l.tags) ≡ insert (listed []) (codes "assign") Assign
-  pub blocks : listed (kinds_of l.blocks) ≡ insert (insert (insert (listed []) (codes "raw") Raw) (codes "comment") Comment) (codes "if") If
+  pub blocks : listed (kinds_of l.blocks) ≡ insert (insert (insert (insert (listed []) (codes "raw") Raw) (codes "comment") Comment) (codes "if") If) (codes "unless") Unless
   pub filters : AreNamed standard_filters (listed (kinds_of l.filters))
 
 -- each filter at its own name, the later of one name winning

@@ -1,4 +1,4 @@
-//! Which nodes an `if` comes to.
+//! Which nodes an `if` or an `unless` comes to.
 ghost use Rattle.std.specs.Prelude.{◌≡◌, ◌+◌, ◌<◌, ◌≤◌, IfOk};
 ghost use Rattle.liquid_core.specs.States.{environment_of};
 ghost use Rattle.liquid_tree.specs.ConditionView.{condition_view};
@@ -30,6 +30,30 @@ pub(crate) fn chosen_range(
         Ok((at + 1, bodies.first_end))
     } else {
         else_range(alloc, nodes, bodies.first_end, bodies.last_end, state)
+    }
+}
+
+/// The range that the `unless` at `at` comes to: its body, where the condition doesn't hold, else the nodes of `else`.
+pub(crate) fn unless_range(
+    alloc: Global,
+    nodes: &[Node],
+    at: usize,
+    condition: &Condition,
+    bodies: TwoBodies,
+    state: &State,
+) -> Result<(usize, usize)>
+    requires body { IsRange nodes.now (at + 1) bodies.first_end }
+    requires otherwise { IsRange nodes.now bodies.first_end bodies.last_end }
+    ensures inside { IfOk result (λ range. (at < range.0) × (range.1 ≤ bodies.last_end)) }
+    ensures chosen { (b d : Forest Maker) → StandsAt nodes.now (at + 1) b bodies.first_end → StandsAt nodes.now bodies.first_end d bodies.last_end →
+        NodeComesTo nodes.now (environment_of state.now) (tree.unless (condition_view condition.now) (nodes_of b) (nodes_of d)) result }
+{
+    let body = (at + 1, bodies.first_end);
+    let otherwise = (bodies.first_end, bodies.last_end);
+    if condition.holds(alloc, state)? {
+        Ok(otherwise)
+    } else {
+        Ok(body)
     }
 }
 

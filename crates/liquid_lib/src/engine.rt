@@ -10,7 +10,7 @@ ghost use Rattle.liquid_lib.specs.Engine.{setting_of, node_meant, nodes_meant};
 ghost use Rattle.liquid_lib.specs.Kept.{Keeps};
 ghost use Rattle.liquid_lib.specs.Performs.{Performs, place_of};
 
-use crate::choice::chosen_range;
+use crate::choice::{chosen_range, unless_range};
 use crate::counted::CountedWrite;
 use crate::output::Output;
 use crate::push_value::push_value;
@@ -102,6 +102,7 @@ fn next_after(nodes: &[Node], at: usize, to: usize) -> usize
         Node::Text(_) | Node::Output(_) | Node::Assign(_, _) | Node::Raw(_) | Node::Comment => at
             + 1,
         Node::If(_, bodies) => bodies.last_end,
+        Node::Unless(_, bodies) => bodies.last_end,
     }
 }
 
@@ -175,6 +176,11 @@ fn run_node<W: CountedWrite>(
                 alloc, partials, depth, nodes, at, condition, *bodies, out, state,
             )
         }
+        Node::Unless(condition, bodies) => {
+            run_unless(
+                alloc, partials, depth, nodes, at, condition, *bodies, out, state,
+            )
+        }
     }
 }
 
@@ -202,5 +208,32 @@ fn run_if<W: CountedWrite>(
         Keeps (node_names (tree.if_true (condition_view condition.now) (nodes_of b) (nodes_of d))) (setting_of partials.now) state.old state.new }
 {
     let (from, to) = chosen_range(alloc, nodes, at, condition, bodies, state)?;
+    run_range(alloc, partials, depth, nodes, from, to, out, state)
+}
+
+/// Runs the body where the condition doesn't hold, and else that of `else`.
+#[cycle(run)]
+fn run_unless<W: CountedWrite>(
+    alloc: Global,
+    partials: &Partials,
+    depth: u32,
+    nodes: &[Node],
+    at: usize,
+    condition: &Condition,
+    bodies: TwoBodies,
+    out: &mut Output<'_, W>,
+    state: &mut State,
+) -> Result<()>
+    requires body { IsRange nodes.now (at + 1) bodies.first_end }
+    requires otherwise { IsRange nodes.now bodies.first_end bodies.last_end }
+    ensures performs { (b d : Forest Maker) → StandsAt nodes.now (at + 1) b bodies.first_end → StandsAt nodes.now bodies.first_end d bodies.last_end →
+        Performs result (node_meant (setting_of partials.now) depth (tree.unless (condition_view condition.now) (nodes_of b) (nodes_of d)))
+        (place_of W.contents W.failure_count out.old state.old)
+        (place_of W.contents W.failure_count out.new state.new) }
+    ensures same_writer { out.new.writer.ghost_name ≡ out.old.writer.ghost_name }
+    ensures kept { (b d : Forest Maker) → StandsAt nodes.now (at + 1) b bodies.first_end → StandsAt nodes.now bodies.first_end d bodies.last_end →
+        Keeps (node_names (tree.unless (condition_view condition.now) (nodes_of b) (nodes_of d))) (setting_of partials.now) state.old state.new }
+{
+    let (from, to) = unless_range(alloc, nodes, at, condition, bodies, state)?;
     run_range(alloc, partials, depth, nodes, from, to, out, state)
 }

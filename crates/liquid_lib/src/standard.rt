@@ -8,7 +8,7 @@ ghost use Rattle.liquid_syntax.specs.Languages.{kinds_of};
 use liquid_core::{ErrorKind, Result};
 use liquid_filters::{FilterKind, stdlib};
 use liquid_syntax::{BlockKind, Language, Registry, TagKind};
-use liquid_tags::stdlib::{AssignTag, CommentBlock, IfBlock, RawBlock};
+use liquid_tags::stdlib::{AssignTag, CommentBlock, IfBlock, RawBlock, UnlessBlock};
 use liquid_tags::{BlockReflection, TagReflection};
 use std::alloc::Global;
 
@@ -85,6 +85,8 @@ pub fn language(alloc: Global) -> Result<Language>
         if_block.start_tag(),
         BlockKind::from(if_block),
     )?;
+    let unless = UnlessBlock::new();
+    register(alloc, blocks, unless.start_tag(), BlockKind::from(unless))?;
     register_filters(alloc, &mut language.filters, &STANDARD_FILTERS)?;
     Ok(language)
 }

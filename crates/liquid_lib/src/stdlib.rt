@@ -1,3 +1,3 @@
 //! The tags and blocks of Liquid's standard library.
 
-pub use liquid_tags::stdlib::{AssignTag, CommentBlock, IfBlock, RawBlock};
+pub use liquid_tags::stdlib::{AssignTag, CommentBlock, IfBlock, RawBlock, UnlessBlock};

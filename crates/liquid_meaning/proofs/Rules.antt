@@ -3,7 +3,7 @@ use Rattle.std.specs.Prelude.{◌≡◌, cond}
 use mathlib.Core.Path.{refl}
 use Rattle.liquid_model.specs.Texts.{Text}
 use Rattle.liquid_model.specs.Data.{text_of}
-use Rattle.liquid_tree.specs.Tree.{Chain, Condition, Nodes, plain, raw, comment, output, assign, if_true}
+use Rattle.liquid_tree.specs.Tree.{Chain, Condition, Nodes, plain, raw, comment, output, assign, if_true, unless}
 use Rattle.liquid_tree.specs.Evaluation.{chain_value, truth_of}
 use Rattle.liquid_meaning.specs.Runs.{Nothing, Run, done, evaluate, change, write, ◌>>=◌}
 use Rattle.liquid_meaning.specs.Effects.{assigned_to}
@@ -34,3 +34,8 @@ module _ (setting : Setting) (deeper : Nodes → Run Nothing) where
       ≡ (evaluate (truth_of condition) >>= (λ holds. cond holds (nodes_meaning setting deeper body) (nodes_meaning setting deeper otherwise)))
   unfolding node_meaning
   if_rule condition body otherwise = refl
+
+  pub unless_rule : (condition : Condition) (body otherwise : Nodes) → node_meaning setting deeper (unless condition body otherwise)
+      ≡ (evaluate (truth_of condition) >>= (λ holds. cond holds (nodes_meaning setting deeper otherwise) (nodes_meaning setting deeper body)))
+  unfolding node_meaning
+  unless_rule condition body otherwise = refl

@@ -3,7 +3,7 @@ use crate::calls::{begin, end, items, leads_to, value};
 use liquid_core::{
     Error, ErrorKind, Expression, Filter, Object, Result, State, Value, ValueCow, Variable, look_up,
 };
-use liquid_lib::stdlib::{AssignTag, IfBlock};
+use liquid_lib::stdlib::{AssignTag, IfBlock, UnlessBlock};
 use liquid_lib::{
     BlockReflection, Counted, CountedWrite, RuntimeBuilder, STANDARD_FILTERS, TagReflection,
     language,
@@ -332,6 +332,14 @@ fn made(rt: &(impl Abort + Print), alloc: Global) -> Result<()> {
         Ok(IfBlock::new().start_tag())
     );
     assert!(rt; tag.ok() == Some("if"));
+    let tag = asked!(
+        rt,
+        "BlockReflection::end_tag",
+        "",
+        None,
+        Ok(UnlessBlock::new().end_tag())
+    );
+    assert!(rt; tag.ok() == Some("endunless"));
     written(rt, alloc)
 }
 

@@ -3,7 +3,7 @@ use crate::calls::{begin, end, is_refused, number};
 use liquid_core::{Object, Result, State};
 use liquid_lib::{Counted, Renderable, Runtime, RuntimeBuilder, language};
 use liquid_samples::{
-    IF_PAGES, PAGES, REFUSED_SOURCES, Row, VERBATIM_PAGES, kind_of, nested, repeated,
+    CHOICE_PAGES, PAGES, REFUSED_SOURCES, Row, VERBATIM_PAGES, kind_of, nested, repeated,
 };
 use liquid_site::{data_from_json, run};
 use liquid_syntax::{Language, Template, parse};
@@ -186,7 +186,7 @@ fn memory_pages(rt: HostRuntime) -> Result<()> {
     for row in &PAGES {
         page(&rt, rt.alloc(), &language, row)?;
     }
-    for row in &IF_PAGES {
+    for row in &CHOICE_PAGES {
         page(&rt, rt.alloc(), &language, row)?;
     }
     for (source, page_of_it) in &VERBATIM_PAGES {

@@ -1,20 +1,20 @@
-//! Pages of `if`.
+//! Pages of `if` and `unless`.
 use crate::rows::{by_parts, by_run};
 use liquid_core::{ErrorKind, Result};
 use liquid_lib::language;
-use liquid_samples::{IF_PAGES, Row};
+use liquid_samples::{CHOICE_PAGES, Row};
 use liquid_syntax::parse;
 
 #[test]
-fn pages_of_if_by_run(rt: HostRuntime) {
-    for row in &IF_PAGES {
+fn pages_of_choices_by_run(rt: HostRuntime) {
+    for row in &CHOICE_PAGES {
         by_run(&rt, rt.alloc(), row);
     }
 }
 
 #[test]
-fn pages_of_if_by_parse_and_render_to(rt: HostRuntime) -> Result<()> {
-    for row in &IF_PAGES {
+fn pages_of_choices_by_parse_and_render_to(rt: HostRuntime) -> Result<()> {
+    for row in &CHOICE_PAGES {
         by_parts(&rt, rt.alloc(), row)?;
     }
     Ok(())

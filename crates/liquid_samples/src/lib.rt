@@ -2,7 +2,7 @@
 #![tactic(auto)]
 
 mod answers;
-mod conditions;
+mod choices;
 mod pages;
 mod refused;
 mod row;
@@ -11,7 +11,7 @@ mod verbatim;
 mod words;
 
 pub use answers::kind_of;
-pub use conditions::IF_PAGES;
+pub use choices::CHOICE_PAGES;
 pub use pages::PAGES;
 pub use refused::REFUSED_SOURCES;
 pub use row::Row;

@@ -2,7 +2,7 @@
 use liquid_core::ErrorKind;
 
 /// Sources that are no templates, and the kind of the fault.
-pub const REFUSED_SOURCES: [(&str, ErrorKind); 62] = [
+pub const REFUSED_SOURCES: [(&str, ErrorKind); 67] = [
     ("{{ 1.5 }}", ErrorKind::FloatLiteral),
     ("a{{ x", ErrorKind::Unclosed),
     ("{% nosuch %}", ErrorKind::UnknownTag),
@@ -80,4 +80,12 @@ pub const REFUSED_SOURCES: [(&str, ErrorKind); 62] = [
     ("{% if x == y == z %}a{% endif %}", ErrorKind::Expected),
     ("{% if x, y %}a{% endif %}", ErrorKind::Expected),
     ("{% if (1..2) %}a{% endif %}", ErrorKind::Expected),
+    (
+        "{% unless x %}{% elsif y %}{% endunless %}",
+        ErrorKind::UnknownTag,
+    ),
+    ("{% unless x %}{% endif %}", ErrorKind::UnknownTag),
+    ("{% unless x %}a{% else %}b", ErrorKind::MissingEnd),
+    ("{% unless %}a{% endunless %}", ErrorKind::Expected),
+    ("{% unless x, y %}a{% endunless %}", ErrorKind::Expected),
 ];

@@ -10,13 +10,13 @@ use Rattle.liquid_source.specs.declared.piece.Body.TheVariants as bodies
 use Rattle.liquid_source.specs.declared.symbol.Symbol.TheVariants.{Assign}
 use Rattle.liquid_syntax.specs.ChainReading.{chain_of}
 use Rattle.liquid_syntax.specs.ConditionReading.{condition_of}
-use Rattle.liquid_syntax.specs.Judging.{leaf_or, assign_of, if_node, two_or, elsif_or, ends_or, tag_label, raw_label, comment_label, reads}
-use Rattle.liquid_syntax.specs.Labels.{IsLabel, is_text, is_output, is_end, is_elsif, is_else, is_assign, is_if, is_raw, is_comment}
+use Rattle.liquid_syntax.specs.Judging.{leaf_or, assign_of, if_node, unless_node, two_or, elsif_or, ends_or, tag_label, raw_label, comment_label, reads}
+use Rattle.liquid_syntax.specs.Labels.{IsLabel, is_text, is_output, is_end, is_elsif, is_else, is_assign, is_if, is_unless, is_raw, is_comment}
 use Rattle.liquid_syntax.specs.Languages.{kinds_of}
 use Rattle.liquid_syntax.specs.Nesting.{Label, leaf, closed, begins, elsif, arm, otherwise, ends, refused}
 use Rattle.liquid_syntax.specs.Roles.{role_of, unread_body}
 use Rattle.liquid_tree.specs.Tree.{Node, Chain, Condition, output, assign}
-use Rattle.liquid_syntax.specs.declared.block.Block.TheVariants.{If}
+use Rattle.liquid_syntax.specs.declared.block.Block.TheVariants.{If, Unless}
 use Rattle.liquid_syntax.specs.declared.block.Control.TheVariants.{Elsif, Else}
 use Rattle.liquid_syntax.specs.declared.block.Place.{Place}
 use Rattle.liquid_syntax.specs.declared.block.Role.{Role}
@@ -36,6 +36,7 @@ label_says l x p label (is_elsif {is = is} r h) = ap (tag_label l (tokens_of is)
 label_says l x p label (is_else {is = is} r) = ap (tag_label l (tokens_of is)) r
 label_says l x p label (is_assign {name = name} {c = c} {is = is} r h) = ap (tag_label l (tokens_of is)) r ∙ ap leaf_or (assign_again l name c (tokens_of is) h)
 label_says l x p label (is_if {is = is} r h) = ap (tag_label l (tokens_of is)) r ∙ ap (λ (o : Option Condition). two_or If (option_map if_node o)) (condition_again h)
+label_says l x p label (is_unless {is = is} r h) = ap (tag_label l (tokens_of is)) r ∙ ap (λ (o : Option Condition). two_or Unless (option_map unless_node o)) (condition_again h)
 label_says l x p label (is_raw {t = t} h) = ap (raw_label t) h
 label_says l x p label (is_comment h) = ap comment_label h
 
@@ -66,6 +67,10 @@ module _ (l : Language) (x : Place) (label : Label) (stands : Stands label) wher
   if_stands w is None r e h = never label h stands
   if_stands w is (Some c) r e h = subst (IsLabel l x (pieces.tag w is)) h (is_if r (condition_takes (tokens_of is) c e))
 
+  unless_stands : (w : Text) (is : List Item) (o : Option Condition) → role_of l x w ≡ Some (Start blocks.Unless) → condition_of (tokens_of is) ≡ o → two_or Unless (option_map unless_node o) ≡ label → IsLabel l x (pieces.tag w is) label
+  unless_stands w is None r e h = never label h stands
+  unless_stands w is (Some c) r e h = subst (IsLabel l x (pieces.tag w is)) h (is_unless r (condition_takes (tokens_of is) c e))
+
   assign_stands : (w : Text) (is : List Item) (o : Option Node) → role_of l x w ≡ Some (Tag tags.Assign) → assign_of l (tokens_of is) ≡ o → leaf_or o ≡ label → IsLabel l x (pieces.tag w is) label
   assign_stands w is None r e h = never label h stands
   assign_stands w is (Some n) r e h =
@@ -79,6 +84,7 @@ module _ (l : Language) (x : Place) (label : Label) (stands : Stands label) wher
   tag_stands w is (Some (Word Else)) r h = subst (IsLabel l x (pieces.tag w is)) h (is_else r)
   tag_stands w is (Some (Tag tags.Assign)) r h = assign_stands w is (assign_of l (tokens_of is)) r refl h
   tag_stands w is (Some (Start blocks.If)) r h = if_stands w is (condition_of (tokens_of is)) r refl h
+  tag_stands w is (Some (Start blocks.Unless)) r h = unless_stands w is (condition_of (tokens_of is)) r refl h
   tag_stands w is (Some (Start blocks.Raw)) r h = never label h stands
   tag_stands w is (Some (Start blocks.Comment)) r h = never label h stands
 

@@ -6,11 +6,11 @@ use Rattle.std.specs.Prelude.{Result, Ok, Err}
 use Rattle.liquid_model.specs.Texts.{Text}
 use Rattle.liquid_syntax.specs.Building.{IsBuilding, Finishes, text_added}
 use Rattle.liquid_syntax.specs.Judges.{Judges}
-use Rattle.liquid_syntax.specs.Judging.{if_of, two_or, tag_label, raw_label, comment_label, reads, is_start, opens}
+use Rattle.liquid_syntax.specs.Judging.{if_of, unless_of, two_or, tag_label, raw_label, comment_label, reads, is_start, opens}
 use Rattle.liquid_syntax.specs.Roles.{role_of, unread_body}
 use Rattle.liquid_source.specs.Tokens.{Token, tokens_of}
 use Rattle.liquid_syntax.specs.declared.block.Block.{Block}
-use Rattle.liquid_syntax.specs.declared.block.Block.TheVariants.{If}
+use Rattle.liquid_syntax.specs.declared.block.Block.TheVariants.{If, Unless}
 use Rattle.liquid_syntax.specs.declared.block.Place.{Place}
 use Rattle.liquid_syntax.specs.declared.block.Role.{Role}
 use Rattle.liquid_syntax.specs.declared.block.Role.TheVariants.{End, Control as Word, Tag, Block as Start}
@@ -91,6 +91,7 @@ tag_starts l ts (Some End) h = absurd cc
 tag_starts l ts (Some (Word word)) h = absurd cc
 tag_starts l ts (Some (Tag kind)) h = absurd cc
 tag_starts l ts (Some (Start blocks.If)) h = two_starts If (if_of ts)
+tag_starts l ts (Some (Start blocks.Unless)) h = two_starts Unless (unless_of ts)
 tag_starts l ts (Some (Start blocks.Raw)) h = tt
 tag_starts l ts (Some (Start blocks.Comment)) h = tt
 

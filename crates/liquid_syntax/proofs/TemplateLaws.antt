@@ -34,6 +34,7 @@ module _ (l : Language) where
   bare_tag (Some (Word word)) s next h = refl
   bare_tag (Some (Tag kind)) s next h = refl
   bare_tag (Some (Start blocks.If)) s next h = refl
+  bare_tag (Some (Start blocks.Unless)) s next h = refl
   bare_tag (Some (Start blocks.Raw)) s next h = absurd cc
   bare_tag (Some (Start blocks.Comment)) s next h = absurd cc
 

@@ -11,7 +11,7 @@ use Rattle.liquid_syntax.specs.Forest.{Forest, Bodies, empty, node, no_bodies, b
 use Rattle.liquid_syntax.specs.Laid.{Flat, Stands, StandBodies, last_end}
 use Rattle.liquid_syntax.specs.declared.node.Node.{Node}
 use Rattle.liquid_syntax.specs.declared.node.TwoBodies.{TwoBodies}
-use Rattle.liquid_syntax.specs.declared.node.Node.TheVariants.{Text as Plain, Output, Assign, Raw, Comment, If}
+use Rattle.liquid_syntax.specs.declared.node.Node.TheVariants.{Text as Plain, Output, Assign, Raw, Comment, If, Unless}
 
 -- a node of the tree, from the trees of its bodies
 abbrev pub Maker : Type 0
@@ -39,6 +39,7 @@ flat_of (Assign name chain) = leaf (tree.assign (string_bytes name) (chain_view 
 flat_of (Raw t) = leaf (tree.raw (string_bytes t))
 flat_of Comment = leaf tree.comment
 flat_of (If condition bodies) = two_bodies (tree.if_true (condition_view condition)) bodies
+flat_of (Unless condition bodies) = two_bodies (tree.unless (condition_view condition)) bodies
 
 abbrev pub flats : List Node → List (Flat Maker)
 flats ns = map flat_of ns

@@ -11,9 +11,9 @@ use Rattle.liquid_syntax.specs.ConditionReading.{condition_of}
 use Rattle.liquid_syntax.specs.Languages.{kinds_of}
 use Rattle.liquid_syntax.specs.Nesting.{of_two, Label, leaf, closed, begins, elsif, otherwise, ends, refused}
 use Rattle.liquid_syntax.specs.Roles.{role_of, unread_body}
-use Rattle.liquid_tree.specs.Tree.{Condition, Node, Nodes, plain, raw, comment, output, assign, if_true}
+use Rattle.liquid_tree.specs.Tree.{Condition, Node, Nodes, plain, raw, comment, output, assign, if_true, unless}
 use Rattle.liquid_syntax.specs.declared.block.Block.{Block}
-use Rattle.liquid_syntax.specs.declared.block.Block.TheVariants.{If}
+use Rattle.liquid_syntax.specs.declared.block.Block.TheVariants.{If, Unless}
 use Rattle.liquid_syntax.specs.declared.block.Control.TheVariants.{Elsif, Else}
 use Rattle.liquid_syntax.specs.declared.block.Place.{Place}
 use Rattle.liquid_syntax.specs.declared.block.Role.{Role}
@@ -42,6 +42,13 @@ if_node condition f g = if_true condition f g
 abbrev pub if_of : List Token → Option (Nodes → Nodes → Node)
 if_of ts = option_map if_node (condition_of ts)
 
+-- the node that an `unless` with the items makes of its bodies
+abbrev pub unless_node : Condition → Nodes → Nodes → Node
+unless_node condition f g = unless condition f g
+
+abbrev pub unless_of : List Token → Option (Nodes → Nodes → Node)
+unless_of ts = option_map unless_node (condition_of ts)
+
 abbrev pub two_or : Block → Option (Nodes → Nodes → Node) → Label
 two_or b None = refused
 two_or b (Some make) = begins (of_two b make)
@@ -59,6 +66,7 @@ tag_label l ts (Some (Word Elsif)) = elsif_or (if_of ts)
 tag_label l ts (Some (Word Else)) = otherwise
 tag_label l ts (Some (Tag tags.Assign)) = leaf_or (assign_of l ts)
 tag_label l ts (Some (Start blocks.If)) = two_or If (if_of ts)
+tag_label l ts (Some (Start blocks.Unless)) = two_or Unless (unless_of ts)
 tag_label l ts (Some (Start blocks.Raw)) = refused
 tag_label l ts (Some (Start blocks.Comment)) = refused
 

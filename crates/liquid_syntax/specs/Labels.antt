@@ -10,8 +10,8 @@ use Rattle.liquid_syntax.specs.Conditions.{IsCondition}
 use Rattle.liquid_syntax.specs.Languages.{kinds_of}
 use Rattle.liquid_syntax.specs.Nesting.{of_two, Label, leaf, closed, begins, elsif, otherwise, ends}
 use Rattle.liquid_syntax.specs.Roles.{role_of, unread_body}
-use Rattle.liquid_tree.specs.Tree.{Chain, Condition, plain, raw, comment, output, assign, if_true}
-use Rattle.liquid_syntax.specs.declared.block.Block.TheVariants.{If}
+use Rattle.liquid_tree.specs.Tree.{Chain, Condition, plain, raw, comment, output, assign, if_true, unless}
+use Rattle.liquid_syntax.specs.declared.block.Block.TheVariants.{If, Unless}
 use Rattle.liquid_syntax.specs.declared.block.Control.TheVariants.{Elsif, Else}
 use Rattle.liquid_syntax.specs.declared.block.Place.{Place}
 use Rattle.liquid_syntax.specs.declared.block.Role.TheVariants.{End, Control as Word, Tag, Block as Start}
@@ -29,6 +29,7 @@ pub data IsLabel (l : Language) (x : Place) : pieces.Piece → Label → Type 0 
   is_else : {w : Text} {is : List Item} → role_of l x w ≡ Some (Word Else) → IsLabel l x (pieces.tag w is) otherwise
   is_assign : {w name : Text} {c : Chain} {is : List Item} → role_of l x w ≡ Some (Tag tags.Assign) → IsAssign (kinds_of l.filters) name c (tokens_of is) → IsLabel l x (pieces.tag w is) (leaf (assign name c))
   is_if : {w : Text} {c : Condition} {is : List Item} → role_of l x w ≡ Some (Start blocks.If) → IsCondition c (tokens_of is) → IsLabel l x (pieces.tag w is) (begins (of_two If (λ f g. if_true c f g)))
+  is_unless : {w : Text} {c : Condition} {is : List Item} → role_of l x w ≡ Some (Start blocks.Unless) → IsCondition c (tokens_of is) → IsLabel l x (pieces.tag w is) (begins (of_two Unless (λ f g. unless c f g)))
   -- a block whose body isn't read has no items, and with its body it is a piece of its own
   is_raw : {w t : Text} → unread_body (role_of l x w) ≡ Some Raw → IsLabel l x (pieces.raw w t) (closed (raw t))
   is_comment : {w : Text} → unread_body (role_of l x w) ≡ Some Comment → IsLabel l x (pieces.comment w) (closed comment)

@@ -41,6 +41,7 @@ abbrev pub unread : BlockKind → Option Body
 unread blocks.Raw = Some bodies.Raw
 unread blocks.Comment = Some bodies.Comment
 unread blocks.If = None
+unread blocks.Unless = None
 
 abbrev pub unread_body : Option Role → Option Body
 unread_body None = None

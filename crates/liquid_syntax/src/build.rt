@@ -268,6 +268,7 @@ fn end_first(node: &mut Node, end: usize)
 {
     match node {
         Node::If(_, bodies) => bodies.first_end = end,
+        Node::Unless(_, bodies) => bodies.first_end = end,
         Node::Text(_) | Node::Output(_) | Node::Assign(..) | Node::Raw(_) | Node::Comment => {}
     }
 }
@@ -278,6 +279,7 @@ fn end_last(node: &mut Node, end: usize)
 {
     match node {
         Node::If(_, bodies) => bodies.last_end = end,
+        Node::Unless(_, bodies) => bodies.last_end = end,
         Node::Text(_) | Node::Output(_) | Node::Assign(..) | Node::Raw(_) | Node::Comment => {}
     }
 }

@@ -6,7 +6,7 @@ ghost use Rattle.liquid_source.specs.SourceReading.{wanted_body};
 ghost use Rattle.liquid_source.specs.Tokens.{tokens_view};
 ghost use Rattle.liquid_syntax.specs.Faults.{FaultsAs, FaultsAt};
 ghost use Rattle.liquid_syntax.specs.Judges.{Judges, ReadsTwo};
-ghost use Rattle.liquid_syntax.specs.Judging.{assign_of, comment_label, ends_or, if_of, leaf_or, opens, raw_label, reads, tag_label};
+ghost use Rattle.liquid_syntax.specs.Judging.{assign_of, comment_label, ends_or, if_of, leaf_or, opens, raw_label, reads, tag_label, unless_of};
 ghost use Rattle.liquid_syntax.specs.Roles.{body_behind, role_of};
 
 use crate::block::{Block, Control, Place, Role, role_of, unread_body};
@@ -114,6 +114,10 @@ fn read_tag(
             let node = read_if(alloc, items, at)?;
             Ok(Label::Begins(Block::If, Stage::First, node))
         }
+        Some(Role::Block(BlockKind::Unless)) => {
+            let node = read_unless(alloc, items, at)?;
+            Ok(Label::Begins(Block::Unless, Stage::First, node))
+        }
         Some(Role::Block(BlockKind::Raw | BlockKind::Comment)) => {
             Err(expected(at, "a tag without items"))
         }
@@ -140,6 +144,16 @@ fn read_if(alloc: Global, items: VecDeque<Item<'_>>, at: &str) -> Result<Node, P
 {
     let condition = read_condition(alloc, items, at)?;
     Ok(Node::If(condition, TwoBodies::open()))
+}
+
+/// The node of an `unless`, before its bodies are read.
+fn read_unless(alloc: Global, items: VecDeque<Item<'_>>, at: &str) -> Result<Node, ParseError>
+    ensures node { ReadsTwo (unless_of (tokens_view items.entry.items)) result }
+    ensures kind { FaultsAs FaultKind.Expected result }
+    ensures place { FaultsAt (length at.now) result }
+{
+    let condition = read_condition(alloc, items, at)?;
+    Ok(Node::Unless(condition, TwoBodies::open()))
 }
 
 fn unknown_tag(at: &str) -> ParseError

@@ -26,6 +26,8 @@ pub enum BlockKind {
     Comment,
     /// `{% if condition %}`, with `elsif` and `else`
     If,
+    /// `{% unless condition %}`, with `else`
+    Unless,
 }
 
 /// Kinds by the names that they are registered under.

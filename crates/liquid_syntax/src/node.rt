@@ -39,4 +39,6 @@ pub enum Node {
     /// `{% if condition %}`, with the body that runs where the condition holds, and that of `else`.
     /// An `elsif` is an `If` alone in the body of `else`.
     If(Condition, TwoBodies),
+    /// `{% unless condition %}`, with the body that runs where the condition doesn't hold, and that of `else`.
+    Unless(Condition, TwoBodies),
 }

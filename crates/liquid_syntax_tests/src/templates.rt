@@ -23,11 +23,12 @@ fn small_language(alloc: Global) -> Result<Language, Error> {
     Ok(language)
 }
 
-/// The small language, with the blocks `if`, `raw` and `comment`.
+/// The small language, with the blocks `if`, `unless`, `raw` and `comment`.
 pub(crate) fn language_with_blocks(alloc: Global) -> Result<Language, Error> {
     let mut language = small_language(alloc)?;
     for (name, kind) in [
         ("if", BlockKind::If),
+        ("unless", BlockKind::Unless),
         ("raw", BlockKind::Raw),
         ("comment", BlockKind::Comment),
     ] {
@@ -284,6 +285,12 @@ fn blocks_are_nodes(rt: HostRuntime) -> Result<(), Fail> {
             "{% if a %}{% if b %}{% endif %}{% else %}{% if c %}{% else %}x{% endif %}{% endif %}",
             4,
         ),
+        ("{% unless a %}b{% endunless %}c", 3),
+        ("{% unless a %}b{% else c %}d{% endunless %}", 3),
+        (
+            "{% if a %}{% else %}{% unless b %}x{% endunless %}{% endif %}",
+            3,
+        ),
         ("a{% raw %}{{ b }}{% if %}{% endraw %}c", 3),
         ("{%raw%}hello{%if%}world{%endraw%}", 1),
         ("{%- raw -%}{% endraw %}", 1),
@@ -325,6 +332,19 @@ fn blocks_are_refused(rt: HostRuntime) -> Result<(), Fail> {
             "{% if x %}a{% else %}b{% else %}c{% endif %}",
             ErrorKind::UnknownTag,
         ),
+        ("{% unless a %}b", ErrorKind::MissingEnd),
+        ("{% unless a %}{% endif %}", ErrorKind::UnknownTag),
+        ("{% if a %}{% endunless %}", ErrorKind::UnknownTag),
+        (
+            "{% unless x %}{% elsif y %}{% endunless %}",
+            ErrorKind::UnknownTag,
+        ),
+        (
+            "{% unless x %}a{% else %}b{% else %}c{% endunless %}",
+            ErrorKind::UnknownTag,
+        ),
+        ("{% unless %}{% endunless %}", ErrorKind::Expected),
+        ("{% unless a %}{% endunless x %}", ErrorKind::Expected),
         ("{% if true %}a{% endif x %}", ErrorKind::Expected),
         ("{% if %}{% endif %}", ErrorKind::Expected),
         ("{% if a and %}{% endif %}", ErrorKind::Expected),

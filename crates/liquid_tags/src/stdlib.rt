@@ -3,5 +3,5 @@
 mod blocks;
 mod tags;
 
-pub use blocks::{CommentBlock, IfBlock, RawBlock};
+pub use blocks::{CommentBlock, IfBlock, RawBlock, UnlessBlock};
 pub use tags::AssignTag;

@@ -146,6 +146,22 @@ run_node-returns-in-If-clause-kept g t c =
     two_keeps (setting_of c.args.partials.now) c.args.nodes.now c.args.at c.in-If.bodies.first_end c.in-If.bodies.last_end c.args.to c.index-nodes-at.result _ (tree.if_true (condition_view c.in-If.condition)) c.args.state.now c.run_if.new.state c.requires c.index-nodes-at.is c.in-If.is refl
     c.run_if.ensures.kept
 
+pub run_node-run_unless-requires : goal.run_node-run_unless-requires
+run_node-run_unless-requires g t c κs within =
+    let (body, otherwise, past, ordered, inside) = two c.args.nodes.now c.args.at c.in-Unless.bodies.first_end c.in-Unless.bodies.last_end c.args.to c.index-nodes-at.result _ (tree.unless (condition_view c.in-Unless.condition)) c.requires c.index-nodes-at.is c.in-Unless.is refl in
+    (let lt : 3 * (c.in-Unless.bodies.last_end - c.args.at) - 1 < t = omega arith in lt, (within, (body, otherwise)))
+
+pub run_node-returns-in-Unless-clause-performs : goal.run_node-returns-in-Unless-clause-performs
+run_node-returns-in-Unless-clause-performs g t c =
+    let place = place_of g.W.CountedWrite.contents g.W.CountedWrite.failure_count in
+    two_performs (setting_of c.args.partials.now) c.args.depth c.args.nodes.now c.args.at c.in-Unless.bodies.first_end c.in-Unless.bodies.last_end c.args.to c.index-nodes-at.result _ (tree.unless (condition_view c.in-Unless.condition)) c.run_unless.result (place c.args.out.now c.args.state.now) (place c.run_unless.new.out c.run_unless.new.state) c.requires c.index-nodes-at.is c.in-Unless.is refl
+    c.run_unless.ensures.performs
+
+pub run_node-returns-in-Unless-clause-kept : goal.run_node-returns-in-Unless-clause-kept
+run_node-returns-in-Unless-clause-kept g t c =
+    two_keeps (setting_of c.args.partials.now) c.args.nodes.now c.args.at c.in-Unless.bodies.first_end c.in-Unless.bodies.last_end c.args.to c.index-nodes-at.result _ (tree.unless (condition_view c.in-Unless.condition)) c.args.state.now c.run_unless.new.state c.requires c.index-nodes-at.is c.in-Unless.is refl
+    c.run_unless.ensures.kept
+
 pub run_if-returns-in_err-from-clause-performs : goal.run_if-returns-in_err-from-clause-performs
 run_if-returns-in_err-from-clause-performs g t c b d here after =
     let place = place_of g.W.CountedWrite.contents g.W.CountedWrite.failure_count in
@@ -165,5 +181,27 @@ run_if-run_range-requires g t c κs within =
 
 pub run_if-returns-clause-kept : goal.run_if-returns-clause-kept
 run_if-returns-clause-kept g t c b d here after N names inside =
+    let x = c.in_ok-from.ensures.chosen b d here after in
+    c.run_range.ensures.kept x.nodes x.stands N (x.within N names) inside
+
+pub run_unless-returns-in_err-from-clause-performs : goal.run_unless-returns-in_err-from-clause-performs
+run_unless-returns-in_err-from-clause-performs g t c b d here after =
+    let place = place_of g.W.CountedWrite.contents g.W.CountedWrite.failure_count in
+    let p = err_from_is_err_and c.from_residual.result c.from_residual.ensures.1 in
+    let n = tree.unless (condition_view c.args.condition.now) (nodes_of b) (nodes_of d) in
+    rw (p.1, p.2) (refused_performs c.args.nodes.now (node_names n) (λ setting deeper. node_meaning setting deeper n) c.args.depth (setting_of c.args.partials.now) c.in_err-from.field-0.0 (place c.args.out.now c.args.state.now) (c.in_err-from.ensures.chosen b d here after))
+
+pub run_unless-run_range-requires : goal.run_unless-run_range-requires
+run_unless-run_range-requires g t c κs within =
+    let (b, here) = c.requires.body in
+    let (d, after) = c.requires.otherwise in
+    let x = c.in_ok-from.ensures.chosen b d here after in
+    let first : c.args.at < c.in_ok-from.from = c.in_ok-from.ensures.inside.0 in
+    let last : c.in_ok-from.to ≤ c.args.bodies.last_end = c.in_ok-from.ensures.inside.1 in
+    let order : c.in_ok-from.from ≤ c.in_ok-from.to = Stands-le (flats c.args.nodes.now) c.in_ok-from.from x.nodes c.in_ok-from.to x.stands in
+    (let lt : 3 * (c.in_ok-from.to - c.in_ok-from.from) + 1 < t = omega arith in lt, (within, (x.nodes, x.stands)))
+
+pub run_unless-returns-clause-kept : goal.run_unless-returns-clause-kept
+run_unless-returns-clause-kept g t c b d here after N names inside =
     let x = c.in_ok-from.ensures.chosen b d here after in
     c.run_range.ensures.kept x.nodes x.stands N (x.within N names) inside

@@ -17,6 +17,9 @@ decreases-run_node g l = 3 * (l.to - l.at)
 abbrev pub decreases-run_if : goal.decreases-run_if
 decreases-run_if g l = 3 * (l.bodies.last_end - l.at) - 1
 
+abbrev pub decreases-run_unless : goal.decreases-run_unless
+decreases-run_unless g l = 3 * (l.bodies.last_end - l.at) - 1
+
 abbrev pub invariant-run_range-loop-at : goal.invariant-run_range-loop-at
 invariant-run_range-loop-at g l =
     let place = place_of g.W.CountedWrite.contents g.W.CountedWrite.failure_count in

@@ -1,9 +1,9 @@
-//! Pages of `if`, and how they end.
+//! Pages of `if` and `unless`, and how they end.
 use crate::row::Row;
 use liquid_core::ErrorKind;
 
-/// Pages of `if`, with `elsif` and `else`.
-pub const IF_PAGES: [Row; 27] = [
+/// Pages of `if` with `elsif` and `else`, and of `unless`.
+pub const CHOICE_PAGES: [Row; 36] = [
     Row {
         source: "{% if a == nil %}y{% else junk, | %}n{% endif %}",
         data: "{\"a\": null}",
@@ -172,6 +172,60 @@ pub const IF_PAGES: [Row; 27] = [
         source: "a{% if x %}{{ b }}{% endif %}",
         data: "{\"x\": true, \"b\": \"c\"}",
         page: "ac",
+        end: None,
+    },
+    Row {
+        source: "{% unless x %}a{% else y %}b{% endunless %}",
+        data: "{}",
+        page: "a",
+        end: None,
+    },
+    Row {
+        source: "{% unless x %}a{% else y %}b{% endunless %}",
+        data: "{\"x\": 0}",
+        page: "b",
+        end: None,
+    },
+    Row {
+        source: "{% unless false %}a{% endunless %}{% unless true %}b{% endunless %}c",
+        data: "{}",
+        page: "ac",
+        end: None,
+    },
+    Row {
+        source: "{% unless a or b and c %}y{% endunless %}",
+        data: "{\"b\": true, \"c\": false}",
+        page: "y",
+        end: None,
+    },
+    Row {
+        source: "x{% unless a == nil %}y{% endunless %}",
+        data: "{}",
+        page: "x",
+        end: Some(ErrorKind::UnknownVariable),
+    },
+    Row {
+        source: "{% unless nil contains 'a' %}y{% endunless %}",
+        data: "{}",
+        page: "",
+        end: Some(ErrorKind::UnexpectedValue),
+    },
+    Row {
+        source: "{% unless a %}{% if b %}1{% else %}2{% endif %}{% else %}{% unless b %}3{% else %}4{% endunless %}{% endunless %}",
+        data: "{\"a\": false, \"b\": true}",
+        page: "1",
+        end: None,
+    },
+    Row {
+        source: "{% unless a %}{% if b %}1{% else %}2{% endif %}{% else %}{% unless b %}3{% else %}4{% endunless %}{% endunless %}",
+        data: "{\"a\": true, \"b\": false}",
+        page: "3",
+        end: None,
+    },
+    Row {
+        source: "{% if a %}{% else %}{% unless b %}x{% endunless %}{% endif %}y",
+        data: "{}",
+        page: "xy",
         end: None,
     },
 ];
