@@ -2,6 +2,13 @@ pub mod Environment
 pub mod Expression
 pub mod ExpressionView
 pub mod Expressions
+pub mod FilterAnswers
+pub mod Held
+pub mod Hosts
 pub mod Laws
+pub mod Loops
+pub mod Places
+pub mod Seen
 pub mod States
+pub mod Turns
 pub mod Written

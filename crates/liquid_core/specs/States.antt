@@ -1,24 +1,24 @@
 -- A state, as its list of scopes beside the rest of an environment.
-use Rattle.std.specs.Prelude.{ℕ, List, [], ◌∷◌, map, reverse, Option, String, string_bytes}
+use Rattle.std.specs.Prelude.{◌≡◌, ℕ, List, [], ◌∷◌, map, reverse, Option, string_bytes}
 use Rattle.std.specs.Option.{option_map}
-use Rattle.std.specs.BTreeMap.{BTreeMap, get_by_text}
-use Rattle.liquid_model.specs.Texts.{Text}
-use Rattle.liquid_model.specs.Data.{Datum, Pairs}
-use Rattle.liquid_model.specs.Find.{value_at}
-use Rattle.liquid_model.specs.View.{pairs_view}
+use Rattle.std.specs.BTreeMap.{get_by_text}
+use Rattle.liquid_model.specs.Texts.{Text, ◌else◌}
+use Rattle.liquid_model.specs.Data.{Datum}
 use Rattle.liquid_model.specs.Maps.{Map, empty, insert}
 use Rattle.liquid_core.specs.Environment.{Environment, Registers, new_registers, local_of}
+use Rattle.liquid_core.specs.Held.{held}
+use Rattle.liquid_core.specs.Turns.{standing, turn_map_at}
+use Rattle.liquid_core.specs.declared.turn.Scope.{Scope}
+use Rattle.liquid_core.specs.declared.turn.Turn.{Turn}
 use Rattle.liquid_core.specs.declared.state.State.{State}
+use Rattle.liquid_core.specs.declared.state.Parts.{Parts}
+use Rattle.liquid_core.specs.declared.state.Data.{Data}
+use Rattle.liquid_core.specs.declared.state.Data.TheVariants.{Own, Lent}
 use Rattle.liquid_core.specs.declared.interrupt.Interrupt.{Interrupt}
-use Rattle.std.specs.declared.alloc.Global.{Global}
-use Rattle.liquid_model.specs.declared.value.Value.{Value}
 
--- an object as a map
-unfoldable pub map_of : Pairs → Map Datum
-map_of ps name = value_at name ps
-
-abbrev pub held : BTreeMap (String Global) Value → Map Datum
-held object = map_of (pairs_view object.entries)
+abbrev pub data_held : Data → Map Datum
+data_held (Own object) = held object
+data_held (Lent object) = held object.now
 
 pub record Layers : Type 0 where
   -- the innermost first
@@ -31,10 +31,10 @@ pub record Layers : Type 0 where
 
 unfoldable pub layers_of : State → Layers
 layers_of s = record {
-  scopes = reverse (map held s.scopes.items);
+  scopes = standing s.turns.items (reverse (map held s.scopes.items));
   assigned = held s.assigned;
   counters = held s.counters;
-  globals = held s.data;
+  globals = data_held s.data;
   registers = record { interrupt = s.interrupt; cycles = (λ group. get_by_text s.cycles group); changed = option_map string_bytes s.changed };
 }
 
@@ -75,3 +75,35 @@ with_changed shown l = record l { registers = record (l.registers) { changed = s
 
 abbrev pub with_cycle : Text → ℕ → Layers → Layers
 with_cycle group index l = record l { registers = record (l.registers) { cycles = insert l.registers.cycles group index } }
+
+-- the innermost loop at its item k
+abbrev pub with_turn_at : Turn → ℕ → Layers → Layers
+with_turn_at t k l = with_scope_pushed (turn_map_at t k (local_of (scopes_behind l.scopes))) (with_scope_popped l)
+
+-- ---- loops
+
+-- the loops that are under way, and the scopes that stand over one; the innermost last
+abbrev pub loops_of : State → List Scope
+loops_of s = s.turns.items
+
+-- no loop is among the scopes
+abbrev pub IsPlain : State → Type 0
+IsPlain s = loops_of s ≡ []
+
+-- what is held beside the loops and the scopes over them
+abbrev pub held_beside : State → Text → Option Datum
+held_beside s name =
+    let e = environment_of s in
+    ((local_of (reverse (map held s.scopes.items)) name else e.assigned name) else e.counters name) else e.globals name
+
+-- ---- parts
+
+-- the layers of what a state holds beside its data, over this data
+abbrev pub layers_with : Parts → Map Datum → Layers
+layers_with p globals = record {
+  scopes = reverse (map held p.scopes.items);
+  assigned = held p.assigned;
+  counters = held p.counters;
+  globals = globals;
+  registers = record { interrupt = p.interrupt; cycles = (λ group. get_by_text p.cycles group); changed = option_map string_bytes p.changed };
+}

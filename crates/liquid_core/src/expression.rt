@@ -5,11 +5,13 @@ ghost use Rattle.liquid_model.specs.Cow.{cow_view};
 ghost use Rattle.liquid_model.specs.Errors.{HasMessageUnlessMemory, without_value_message};
 ghost use Rattle.liquid_core.specs.Expressions.{value_of, required};
 ghost use Rattle.liquid_core.specs.ExpressionView.{expression_view, variable_view, steps_view};
-ghost use Rattle.liquid_core.specs.States.{environment_of};
+ghost use Rattle.liquid_core.specs.States.{environment_of, IsPlain};
+ghost use Rattle.liquid_core.specs.Seen.{seen_view, IsHeld};
 ghost use Rattle.liquid_model.specs.Told.{Told};
 ghost use Rattle.liquid_core.specs.Written.{written_form};
 ghost use Rattle.liquid_model.specs.declared.error.ErrorKind.TheVariants.{UnknownVariable};
 
+use crate::seen::Seen;
 use crate::state::State;
 use liquid_model::{Error, ErrorKind, Found, Result, Value, ValueCow};
 use std::alloc::Global;
@@ -39,27 +41,39 @@ impl Expression {
     /// The value of the expression, where it has one. A variable has none where its name has none, where a
     /// step's value is missing or no scalar, and where the steps lead to nothing.
     ///
-    /// The value is lent by the state or the expression, and a length is owned. It takes no memory and is never
-    /// refused.
+    /// The value is lent by the state or the expression, and a length is owned. It takes no memory and refuses for `Memory` alone, and only
+    /// for the whole object of a loop.
     pub fn try_evaluate<'a>(
         &'a self,
-        _alloc: Global,
-        state: &'a State,
+        alloc: Global,
+        state: &'a State<'_>,
     ) -> Result<Option<ValueCow<'a>>>
         ensures value { Gives (λ r. option_map cow_view r) result (value_of (expression_view self.now) (environment_of state.now)) }
-        ensures no_memory { IsOk result }
+        ensures no_memory { IsPlain state.now → IsOk result }
     {
-        Ok(expression_value(self, state))
+        valued(alloc, expression_value(self, state))
     }
 
     /// The same, or `UnknownVariable` where the expression has no value. Only that fault takes memory.
-    pub fn evaluate<'a>(&'a self, alloc: Global, state: &'a State) -> Result<ValueCow<'a>>
+    pub fn evaluate<'a>(&'a self, alloc: Global, state: &'a State<'_>) -> Result<ValueCow<'a>>
         ensures value { Answers cow_view result (required (expression_view self.now) (environment_of state.now)) }
-        ensures no_memory { TakesNoMemory result (required (expression_view self.now) (environment_of state.now)) }
+        ensures no_memory { IsPlain state.now → TakesNoMemory result (required (expression_view self.now) (environment_of state.now)) }
         ensures message { IfErr result (λ e. HasMessageUnlessMemory (without_value_message (written_form (expression_view self.now))) e) }
     {
-        match expression_value(self, state) {
+        match valued(alloc, expression_value(self, state))? {
             Some(value) => Ok(value),
+            None => Err(without_value(alloc, self)),
+        }
+    }
+
+    /// What the expression leads to, as it is lent: for the whole run where the data lends it. Else as `evaluate`. Only the
+    /// fault takes memory.
+    pub fn see<'a, 'd>(&'a self, alloc: Global, state: &'a State<'d>) -> Result<Seen<'a, 'd>>
+        ensures value { Answers seen_view result (required (expression_view self.now) (environment_of state.now)) }
+        ensures no_memory { TakesNoMemory result (required (expression_view self.now) (environment_of state.now)) }
+    {
+        match expression_value(self, state) {
+            Some(seen) => Ok(seen),
             None => Err(without_value(alloc, self)),
         }
     }
@@ -76,22 +90,22 @@ impl Variable {
     /// The value of the variable, where it has one. It takes no memory and is never refused.
     pub fn try_evaluate<'a>(
         &'a self,
-        _alloc: Global,
-        state: &'a State,
+        alloc: Global,
+        state: &'a State<'_>,
     ) -> Result<Option<ValueCow<'a>>>
         ensures value { Gives (λ r. option_map cow_view r) result (value_of (variable_view self.now) (environment_of state.now)) }
-        ensures no_memory { IsOk result }
+        ensures no_memory { IsPlain state.now → IsOk result }
     {
-        Ok(variable_value(self, state))
+        valued(alloc, variable_value(self, state))
     }
 
     /// The same, or `UnknownVariable` where the variable has no value. Only that fault takes memory.
-    pub fn evaluate<'a>(&'a self, alloc: Global, state: &'a State) -> Result<ValueCow<'a>>
+    pub fn evaluate<'a>(&'a self, alloc: Global, state: &'a State<'_>) -> Result<ValueCow<'a>>
         ensures value { Answers cow_view result (required (variable_view self.now) (environment_of state.now)) }
-        ensures no_memory { TakesNoMemory result (required (variable_view self.now) (environment_of state.now)) }
+        ensures no_memory { IsPlain state.now → TakesNoMemory result (required (variable_view self.now) (environment_of state.now)) }
         ensures message { IfErr result (λ e. HasMessageUnlessMemory (without_value_message (written_form (variable_view self.now))) e) }
     {
-        match variable_value(self, state) {
+        match valued(alloc, variable_value(self, state))? {
             Some(value) => Ok(value),
             None => Err(without_value(alloc, self)),
         }
@@ -118,25 +132,41 @@ fn without_value<D: Display>(alloc: Global, written: &D) -> Error
 }
 
 #[cycle(value)]
-fn expression_value<'a>(expression: &'a Expression, state: &'a State) -> Option<ValueCow<'a>>
-    ensures { option_map cow_view result ≡ value_of (expression_view expression.now) (environment_of state.now) }
+fn expression_value<'a, 'd>(
+    expression: &'a Expression,
+    state: &'a State<'d>,
+) -> Option<Seen<'a, 'd>>
+    ensures value { option_map seen_view result ≡ value_of (expression_view expression.now) (environment_of state.now) }
+    ensures held { IsPlain state.now → IfSome result IsHeld }
 {
     match expression {
-        Expression::Literal(value) => Some(ValueCow::Borrowed(value)),
+        Expression::Literal(value) => Some(Seen::Near(Found::Held(value))),
         Expression::Variable(variable) => variable_value(variable, state),
     }
 }
 
 #[cycle(value)]
-fn variable_value<'a>(variable: &'a Variable, state: &'a State) -> Option<ValueCow<'a>>
-    ensures { option_map cow_view result ≡ value_of (variable_view variable.now) (environment_of state.now) }
+fn variable_value<'a, 'd>(variable: &'a Variable, state: &'a State<'d>) -> Option<Seen<'a, 'd>>
+    ensures value { option_map seen_view result ≡ value_of (variable_view variable.now) (environment_of state.now) }
+    ensures held { IsPlain state.now → IfSome result IsHeld }
 {
-    let mut found = Found::Held(state.look_up(variable.name.as_str())?);
+    let mut found = state.seen(variable.name.as_str())?;
     for index in &variable.indexes {
         let part = expression_value(index, state)?;
-        found = found.stepped(part.as_value())?;
+        found = found.stepped_by(part)?;
     }
-    Some(found.into_value())
+    Some(found)
+}
+
+/// The value of what was found.
+fn valued<'a, 'd>(alloc: Global, found: Option<Seen<'a, 'd>>) -> Result<Option<ValueCow<'a>>>
+    ensures value { Gives (λ r. option_map cow_view r) result (option_map seen_view found.entry) }
+    ensures no_memory { IfSome found.entry IsHeld → IsOk result }
+{
+    match found {
+        Some(seen) => Ok(Some(seen.into_value(alloc)?)),
+        None => Ok(None),
+    }
 }
 
 #[cycle(copied)]

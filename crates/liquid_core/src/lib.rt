@@ -3,15 +3,22 @@
 
 mod expression;
 mod filter;
+mod host_filters;
 mod interrupt;
 pub mod laws;
+mod loop_object;
+mod seen;
 mod state;
+mod turn;
 mod written;
 
 pub use expression::{Expression, Variable};
 pub use filter::Filter;
+pub use host_filters::{HostFilters, NamedFilters};
 pub use interrupt::Interrupt;
 pub use liquid_model::{
-    Error, ErrorKind, Object, Result, Value, ValueCow, copy_items, look_up, store, whole_of,
+    Error, ErrorKind, Found, Object, Result, Value, ValueCow, copy_items, look_up, store, whole_of,
 };
-pub use state::State;
+pub use seen::{Scopes, Seen};
+pub use state::{Data, Parts, State};
+pub use turn::{Columns, Items, LoopKind, Scope, Turn};

@@ -1,36 +1,11 @@
 //! Filters in order, of one type and of another, at examples.
-use liquid_core::{Expression, Filter, Result, State, Value, Variable};
+use liquid_core::{Expression, Result, State, Value, Variable};
 use liquid_filters::{FilterKind, stdlib};
-use liquid_samples::value;
-use liquid_tree::{AnyFilter, FilterCall, apply_filters};
+use liquid_samples::{Suffix, value};
+use liquid_tree::{FilterCall, apply_filters};
 use std::alloc::Global;
 use std::collections::BTreeMap;
 use std::test::Fail;
-
-/// The input's text with this one behind it.
-#[derive(Drop)]
-struct Suffix {
-    text: &'static str,
-}
-
-impl Filter for Suffix {
-    ghost use Rattle.std.specs.Prelude.{◌++◌, Ok, nat_eq};
-    ghost use Rattle.liquid_model.specs.Data.{text, text_of};
-
-    ghost counts = { λ _ n. nat_eq n 0 };
-
-    ghost answer = { λ suffix input args. Ok (text (text_of input ++ suffix.text.now)) };
-
-    fn accepts(&self, count: usize) -> bool {
-        count == 0
-    }
-
-    fn evaluate(&self, alloc: Global, input: &Value, _args: &[Value]) -> Result<Value> {
-        let mut whole = input.text(alloc)?;
-        whole.push_str(self.text)?;
-        Ok(Value::Text(whole))
-    }
-}
 
 /// The numbers 2 and 1.
 fn two_and_one(alloc: Global) -> Result<Value> {
@@ -42,11 +17,11 @@ fn sorted_and_joined(alloc: Global, separator: Expression) -> Result<Value> {
     let state = State::new(alloc, BTreeMap::new(alloc));
     let calls = [
         FilterCall {
-            filter: AnyFilter::Kind(FilterKind::Sort(stdlib::Sort)),
+            filter: FilterKind::Sort(stdlib::Sort),
             args: &[],
         },
         FilterCall {
-            filter: AnyFilter::Kind(FilterKind::Join(stdlib::Join)),
+            filter: FilterKind::Join(stdlib::Join),
             args: &[separator],
         },
     ];

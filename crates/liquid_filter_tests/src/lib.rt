@@ -1,21 +1,11 @@
-//! Filters and chains of them, at the worked rows and at other values from outside.
+//! Calls of filters that no row of `liquid_rows` makes: chains of several, of one type and of another, and the readers of arguments.
 #![tactic(auto)]
 
 #[cfg(test)]
 mod chains;
 #[cfg(test)]
-mod html;
+mod hosts;
 #[cfg(test)]
-mod kinds;
-#[cfg(test)]
-mod lists;
-#[cfg(test)]
-mod numbers;
+mod ranges;
 #[cfg(test)]
 mod readers;
-#[cfg(test)]
-mod rows;
-#[cfg(test)]
-mod texts;
-#[cfg(test)]
-mod urls;

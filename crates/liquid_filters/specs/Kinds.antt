@@ -2,6 +2,12 @@
 use Rattle.std.specs.Prelude.{ℕ, Bool, ◌&&◌, ◌||◌, List, nat_eq, nat_le, codes}
 use Rattle.liquid_model.specs.Data.{Datum}
 use Rattle.liquid_model.specs.Texts.{Text}
+use Rattle.liquid_date_filters.specs.Dates.{date_answer, date_in_tz_answer}
+use Rattle.liquid_jekyll_filters.specs.Ends.{pop_answer, push_answer, shift_answer, unshift_answer}
+use Rattle.liquid_jekyll_filters.specs.Pluralize.{pluralize_answer}
+use Rattle.liquid_jekyll_filters.specs.Sentence.{array_to_sentence_string_answer}
+use Rattle.liquid_jekyll_filters.specs.Slugs.{slugify_answer}
+use Rattle.liquid_jekyll_filters.specs.Sorting as jekyll
 use Rattle.liquid_list_filters.specs.Arguments.{Answer}
 use Rattle.liquid_list_filters.specs.Ends.{first_answer, last_answer}
 use Rattle.liquid_list_filters.specs.Joined.{join_answer}
@@ -24,7 +30,7 @@ use Rattle.liquid_web_filters.specs.Tags.{strip_html_answer}
 use Rattle.liquid_web_filters.specs.Urls.{url_decode_answer, url_encode_answer}
 use Rattle.liquid_number_filters.specs.declared.stdlib.filters.math.decimal.Rounding.TheVariants.{Up, Down}
 use Rattle.liquid_filters.specs.declared.kind.FilterKind.{FilterKind}
-use Rattle.liquid_filters.specs.declared.kind.FilterKind.TheVariants.{Join, Sort, SortNatural, Where, Uniq, Reverse, Map, Compact, Concat, First, Last, Abs, AtLeast, AtMost, Plus, Minus, Times, DividedBy, Modulo, Round, Ceil, Floor, Size, Default, Slice, Split, Replace, ReplaceFirst, Remove, RemoveFirst, Append, Prepend, Strip, Lstrip, Rstrip, StripNewlines, Downcase, Upcase, Capitalize, Truncate, TruncateWords, Escape, EscapeOnce, StripHtml, NewlineToBr, UrlEncode, UrlDecode}
+use Rattle.liquid_filters.specs.declared.kind.FilterKind.TheVariants.{Join, Sort, SortNatural, Where, Uniq, Reverse, Map, Compact, Concat, First, Last, Abs, AtLeast, AtMost, Plus, Minus, Times, DividedBy, Modulo, Round, Ceil, Floor, Size, Default, Slice, Split, Replace, ReplaceFirst, Remove, RemoveFirst, Append, Prepend, Strip, Lstrip, Rstrip, StripNewlines, Downcase, Upcase, Capitalize, Truncate, TruncateWords, Escape, EscapeOnce, StripHtml, NewlineToBr, UrlEncode, UrlDecode, Date, JekyllSort, Push, Unshift, Pop, Shift, ArrayToSentenceString, Slugify, Pluralize, DateInTz}
 
 abbrev pub kind_counts : FilterKind → ℕ → Bool
 kind_counts (Join f) n = nat_le n 1
@@ -74,6 +80,16 @@ kind_counts (StripHtml f) n = nat_eq n 0
 kind_counts (NewlineToBr f) n = nat_eq n 0
 kind_counts (UrlEncode f) n = nat_eq n 0
 kind_counts (UrlDecode f) n = nat_eq n 0
+kind_counts (Date f) n = nat_eq n 1
+kind_counts (JekyllSort f) n = nat_le n 2
+kind_counts (Push f) n = nat_eq n 1
+kind_counts (Unshift f) n = nat_eq n 1
+kind_counts (Pop f) n = nat_eq n 0
+kind_counts (Shift f) n = nat_eq n 0
+kind_counts (ArrayToSentenceString f) n = nat_le n 1
+kind_counts (Slugify f) n = nat_le n 1
+kind_counts (Pluralize f) n = nat_eq n 2
+kind_counts (DateInTz f) n = nat_eq n 2
 
 abbrev pub kind_answer : FilterKind → Datum → List Datum → Answer
 kind_answer (Join f) = join_answer
@@ -123,6 +139,16 @@ kind_answer (StripHtml f) = strip_html_answer
 kind_answer (NewlineToBr f) = newline_to_br_answer
 kind_answer (UrlEncode f) = url_encode_answer
 kind_answer (UrlDecode f) = url_decode_answer
+kind_answer (Date f) = date_answer
+kind_answer (JekyllSort f) = jekyll.sort_answer
+kind_answer (Push f) = push_answer
+kind_answer (Unshift f) = unshift_answer
+kind_answer (Pop f) = pop_answer
+kind_answer (Shift f) = shift_answer
+kind_answer (ArrayToSentenceString f) = array_to_sentence_string_answer
+kind_answer (Slugify f) = slugify_answer
+kind_answer (Pluralize f) = pluralize_answer
+kind_answer (DateInTz f) = date_in_tz_answer
 
 abbrev pub kind_name : FilterKind → Text
 kind_name (Join f) = codes "join"
@@ -172,3 +198,13 @@ kind_name (StripHtml f) = codes "strip_html"
 kind_name (NewlineToBr f) = codes "newline_to_br"
 kind_name (UrlEncode f) = codes "url_encode"
 kind_name (UrlDecode f) = codes "url_decode"
+kind_name (Date f) = codes "date"
+kind_name (JekyllSort f) = codes "sort"
+kind_name (Push f) = codes "push"
+kind_name (Unshift f) = codes "unshift"
+kind_name (Pop f) = codes "pop"
+kind_name (Shift f) = codes "shift"
+kind_name (ArrayToSentenceString f) = codes "array_to_sentence_string"
+kind_name (Slugify f) = codes "slugify"
+kind_name (Pluralize f) = codes "pluralize"
+kind_name (DateInTz f) = codes "date_in_tz"

@@ -1,11 +1,11 @@
-//! Each filter as one of the kinds.
+//! Each filter of the standard set as one of the kinds.
+ghost use Rattle.std.specs.Prelude.{◌≡◌};
+ghost use Rattle.liquid_filters.specs.declared.kind.FilterKind.{FilterKind};
+
 use crate::{FilterKind, stdlib};
 
 impl From<stdlib::Join> for FilterKind {
-    ghost use Rattle.std.specs.Prelude.{◌≡◌};
-    ghost use Rattle.liquid_filters.specs.declared.kind.FilterKind.TheVariants.{Join};
-
-    ghost from_gives = { λ filter kind. kind ≡ Join filter };
+    ghost from_gives = { λ filter kind. kind ≡ FilterKind.Join filter };
 
     fn from(filter: stdlib::Join) -> FilterKind {
         FilterKind::Join(filter)
@@ -13,10 +13,7 @@ impl From<stdlib::Join> for FilterKind {
 }
 
 impl From<stdlib::Sort> for FilterKind {
-    ghost use Rattle.std.specs.Prelude.{◌≡◌};
-    ghost use Rattle.liquid_filters.specs.declared.kind.FilterKind.TheVariants.{Sort};
-
-    ghost from_gives = { λ filter kind. kind ≡ Sort filter };
+    ghost from_gives = { λ filter kind. kind ≡ FilterKind.Sort filter };
 
     fn from(filter: stdlib::Sort) -> FilterKind {
         FilterKind::Sort(filter)
@@ -24,10 +21,7 @@ impl From<stdlib::Sort> for FilterKind {
 }
 
 impl From<stdlib::SortNatural> for FilterKind {
-    ghost use Rattle.std.specs.Prelude.{◌≡◌};
-    ghost use Rattle.liquid_filters.specs.declared.kind.FilterKind.TheVariants.{SortNatural};
-
-    ghost from_gives = { λ filter kind. kind ≡ SortNatural filter };
+    ghost from_gives = { λ filter kind. kind ≡ FilterKind.SortNatural filter };
 
     fn from(filter: stdlib::SortNatural) -> FilterKind {
         FilterKind::SortNatural(filter)
@@ -35,10 +29,7 @@ impl From<stdlib::SortNatural> for FilterKind {
 }
 
 impl From<stdlib::Where> for FilterKind {
-    ghost use Rattle.std.specs.Prelude.{◌≡◌};
-    ghost use Rattle.liquid_filters.specs.declared.kind.FilterKind.TheVariants.{Where};
-
-    ghost from_gives = { λ filter kind. kind ≡ Where filter };
+    ghost from_gives = { λ filter kind. kind ≡ FilterKind.Where filter };
 
     fn from(filter: stdlib::Where) -> FilterKind {
         FilterKind::Where(filter)
@@ -46,10 +37,7 @@ impl From<stdlib::Where> for FilterKind {
 }
 
 impl From<stdlib::Uniq> for FilterKind {
-    ghost use Rattle.std.specs.Prelude.{◌≡◌};
-    ghost use Rattle.liquid_filters.specs.declared.kind.FilterKind.TheVariants.{Uniq};
-
-    ghost from_gives = { λ filter kind. kind ≡ Uniq filter };
+    ghost from_gives = { λ filter kind. kind ≡ FilterKind.Uniq filter };
 
     fn from(filter: stdlib::Uniq) -> FilterKind {
         FilterKind::Uniq(filter)
@@ -57,10 +45,7 @@ impl From<stdlib::Uniq> for FilterKind {
 }
 
 impl From<stdlib::Reverse> for FilterKind {
-    ghost use Rattle.std.specs.Prelude.{◌≡◌};
-    ghost use Rattle.liquid_filters.specs.declared.kind.FilterKind.TheVariants.{Reverse};
-
-    ghost from_gives = { λ filter kind. kind ≡ Reverse filter };
+    ghost from_gives = { λ filter kind. kind ≡ FilterKind.Reverse filter };
 
     fn from(filter: stdlib::Reverse) -> FilterKind {
         FilterKind::Reverse(filter)
@@ -68,10 +53,7 @@ impl From<stdlib::Reverse> for FilterKind {
 }
 
 impl From<stdlib::Map> for FilterKind {
-    ghost use Rattle.std.specs.Prelude.{◌≡◌};
-    ghost use Rattle.liquid_filters.specs.declared.kind.FilterKind.TheVariants.{Map};
-
-    ghost from_gives = { λ filter kind. kind ≡ Map filter };
+    ghost from_gives = { λ filter kind. kind ≡ FilterKind.Map filter };
 
     fn from(filter: stdlib::Map) -> FilterKind {
         FilterKind::Map(filter)
@@ -79,10 +61,7 @@ impl From<stdlib::Map> for FilterKind {
 }
 
 impl From<stdlib::Compact> for FilterKind {
-    ghost use Rattle.std.specs.Prelude.{◌≡◌};
-    ghost use Rattle.liquid_filters.specs.declared.kind.FilterKind.TheVariants.{Compact};
-
-    ghost from_gives = { λ filter kind. kind ≡ Compact filter };
+    ghost from_gives = { λ filter kind. kind ≡ FilterKind.Compact filter };
 
     fn from(filter: stdlib::Compact) -> FilterKind {
         FilterKind::Compact(filter)
@@ -90,10 +69,7 @@ impl From<stdlib::Compact> for FilterKind {
 }
 
 impl From<stdlib::Concat> for FilterKind {
-    ghost use Rattle.std.specs.Prelude.{◌≡◌};
-    ghost use Rattle.liquid_filters.specs.declared.kind.FilterKind.TheVariants.{Concat};
-
-    ghost from_gives = { λ filter kind. kind ≡ Concat filter };
+    ghost from_gives = { λ filter kind. kind ≡ FilterKind.Concat filter };
 
     fn from(filter: stdlib::Concat) -> FilterKind {
         FilterKind::Concat(filter)
@@ -101,10 +77,7 @@ impl From<stdlib::Concat> for FilterKind {
 }
 
 impl From<stdlib::First> for FilterKind {
-    ghost use Rattle.std.specs.Prelude.{◌≡◌};
-    ghost use Rattle.liquid_filters.specs.declared.kind.FilterKind.TheVariants.{First};
-
-    ghost from_gives = { λ filter kind. kind ≡ First filter };
+    ghost from_gives = { λ filter kind. kind ≡ FilterKind.First filter };
 
     fn from(filter: stdlib::First) -> FilterKind {
         FilterKind::First(filter)
@@ -112,10 +85,7 @@ impl From<stdlib::First> for FilterKind {
 }
 
 impl From<stdlib::Last> for FilterKind {
-    ghost use Rattle.std.specs.Prelude.{◌≡◌};
-    ghost use Rattle.liquid_filters.specs.declared.kind.FilterKind.TheVariants.{Last};
-
-    ghost from_gives = { λ filter kind. kind ≡ Last filter };
+    ghost from_gives = { λ filter kind. kind ≡ FilterKind.Last filter };
 
     fn from(filter: stdlib::Last) -> FilterKind {
         FilterKind::Last(filter)
@@ -123,10 +93,7 @@ impl From<stdlib::Last> for FilterKind {
 }
 
 impl From<stdlib::Abs> for FilterKind {
-    ghost use Rattle.std.specs.Prelude.{◌≡◌};
-    ghost use Rattle.liquid_filters.specs.declared.kind.FilterKind.TheVariants.{Abs};
-
-    ghost from_gives = { λ filter kind. kind ≡ Abs filter };
+    ghost from_gives = { λ filter kind. kind ≡ FilterKind.Abs filter };
 
     fn from(filter: stdlib::Abs) -> FilterKind {
         FilterKind::Abs(filter)
@@ -134,10 +101,7 @@ impl From<stdlib::Abs> for FilterKind {
 }
 
 impl From<stdlib::AtLeast> for FilterKind {
-    ghost use Rattle.std.specs.Prelude.{◌≡◌};
-    ghost use Rattle.liquid_filters.specs.declared.kind.FilterKind.TheVariants.{AtLeast};
-
-    ghost from_gives = { λ filter kind. kind ≡ AtLeast filter };
+    ghost from_gives = { λ filter kind. kind ≡ FilterKind.AtLeast filter };
 
     fn from(filter: stdlib::AtLeast) -> FilterKind {
         FilterKind::AtLeast(filter)
@@ -145,10 +109,7 @@ impl From<stdlib::AtLeast> for FilterKind {
 }
 
 impl From<stdlib::AtMost> for FilterKind {
-    ghost use Rattle.std.specs.Prelude.{◌≡◌};
-    ghost use Rattle.liquid_filters.specs.declared.kind.FilterKind.TheVariants.{AtMost};
-
-    ghost from_gives = { λ filter kind. kind ≡ AtMost filter };
+    ghost from_gives = { λ filter kind. kind ≡ FilterKind.AtMost filter };
 
     fn from(filter: stdlib::AtMost) -> FilterKind {
         FilterKind::AtMost(filter)
@@ -156,10 +117,7 @@ impl From<stdlib::AtMost> for FilterKind {
 }
 
 impl From<stdlib::Plus> for FilterKind {
-    ghost use Rattle.std.specs.Prelude.{◌≡◌};
-    ghost use Rattle.liquid_filters.specs.declared.kind.FilterKind.TheVariants.{Plus};
-
-    ghost from_gives = { λ filter kind. kind ≡ Plus filter };
+    ghost from_gives = { λ filter kind. kind ≡ FilterKind.Plus filter };
 
     fn from(filter: stdlib::Plus) -> FilterKind {
         FilterKind::Plus(filter)
@@ -167,10 +125,7 @@ impl From<stdlib::Plus> for FilterKind {
 }
 
 impl From<stdlib::Minus> for FilterKind {
-    ghost use Rattle.std.specs.Prelude.{◌≡◌};
-    ghost use Rattle.liquid_filters.specs.declared.kind.FilterKind.TheVariants.{Minus};
-
-    ghost from_gives = { λ filter kind. kind ≡ Minus filter };
+    ghost from_gives = { λ filter kind. kind ≡ FilterKind.Minus filter };
 
     fn from(filter: stdlib::Minus) -> FilterKind {
         FilterKind::Minus(filter)
@@ -178,10 +133,7 @@ impl From<stdlib::Minus> for FilterKind {
 }
 
 impl From<stdlib::Times> for FilterKind {
-    ghost use Rattle.std.specs.Prelude.{◌≡◌};
-    ghost use Rattle.liquid_filters.specs.declared.kind.FilterKind.TheVariants.{Times};
-
-    ghost from_gives = { λ filter kind. kind ≡ Times filter };
+    ghost from_gives = { λ filter kind. kind ≡ FilterKind.Times filter };
 
     fn from(filter: stdlib::Times) -> FilterKind {
         FilterKind::Times(filter)
@@ -189,10 +141,7 @@ impl From<stdlib::Times> for FilterKind {
 }
 
 impl From<stdlib::DividedBy> for FilterKind {
-    ghost use Rattle.std.specs.Prelude.{◌≡◌};
-    ghost use Rattle.liquid_filters.specs.declared.kind.FilterKind.TheVariants.{DividedBy};
-
-    ghost from_gives = { λ filter kind. kind ≡ DividedBy filter };
+    ghost from_gives = { λ filter kind. kind ≡ FilterKind.DividedBy filter };
 
     fn from(filter: stdlib::DividedBy) -> FilterKind {
         FilterKind::DividedBy(filter)
@@ -200,10 +149,7 @@ impl From<stdlib::DividedBy> for FilterKind {
 }
 
 impl From<stdlib::Modulo> for FilterKind {
-    ghost use Rattle.std.specs.Prelude.{◌≡◌};
-    ghost use Rattle.liquid_filters.specs.declared.kind.FilterKind.TheVariants.{Modulo};
-
-    ghost from_gives = { λ filter kind. kind ≡ Modulo filter };
+    ghost from_gives = { λ filter kind. kind ≡ FilterKind.Modulo filter };
 
     fn from(filter: stdlib::Modulo) -> FilterKind {
         FilterKind::Modulo(filter)
@@ -211,10 +157,7 @@ impl From<stdlib::Modulo> for FilterKind {
 }
 
 impl From<stdlib::Round> for FilterKind {
-    ghost use Rattle.std.specs.Prelude.{◌≡◌};
-    ghost use Rattle.liquid_filters.specs.declared.kind.FilterKind.TheVariants.{Round};
-
-    ghost from_gives = { λ filter kind. kind ≡ Round filter };
+    ghost from_gives = { λ filter kind. kind ≡ FilterKind.Round filter };
 
     fn from(filter: stdlib::Round) -> FilterKind {
         FilterKind::Round(filter)
@@ -222,10 +165,7 @@ impl From<stdlib::Round> for FilterKind {
 }
 
 impl From<stdlib::Ceil> for FilterKind {
-    ghost use Rattle.std.specs.Prelude.{◌≡◌};
-    ghost use Rattle.liquid_filters.specs.declared.kind.FilterKind.TheVariants.{Ceil};
-
-    ghost from_gives = { λ filter kind. kind ≡ Ceil filter };
+    ghost from_gives = { λ filter kind. kind ≡ FilterKind.Ceil filter };
 
     fn from(filter: stdlib::Ceil) -> FilterKind {
         FilterKind::Ceil(filter)
@@ -233,10 +173,7 @@ impl From<stdlib::Ceil> for FilterKind {
 }
 
 impl From<stdlib::Floor> for FilterKind {
-    ghost use Rattle.std.specs.Prelude.{◌≡◌};
-    ghost use Rattle.liquid_filters.specs.declared.kind.FilterKind.TheVariants.{Floor};
-
-    ghost from_gives = { λ filter kind. kind ≡ Floor filter };
+    ghost from_gives = { λ filter kind. kind ≡ FilterKind.Floor filter };
 
     fn from(filter: stdlib::Floor) -> FilterKind {
         FilterKind::Floor(filter)
@@ -244,10 +181,7 @@ impl From<stdlib::Floor> for FilterKind {
 }
 
 impl From<stdlib::Size> for FilterKind {
-    ghost use Rattle.std.specs.Prelude.{◌≡◌};
-    ghost use Rattle.liquid_filters.specs.declared.kind.FilterKind.TheVariants.{Size};
-
-    ghost from_gives = { λ filter kind. kind ≡ Size filter };
+    ghost from_gives = { λ filter kind. kind ≡ FilterKind.Size filter };
 
     fn from(filter: stdlib::Size) -> FilterKind {
         FilterKind::Size(filter)
@@ -255,10 +189,7 @@ impl From<stdlib::Size> for FilterKind {
 }
 
 impl From<stdlib::Default> for FilterKind {
-    ghost use Rattle.std.specs.Prelude.{◌≡◌};
-    ghost use Rattle.liquid_filters.specs.declared.kind.FilterKind.TheVariants.{Default};
-
-    ghost from_gives = { λ filter kind. kind ≡ Default filter };
+    ghost from_gives = { λ filter kind. kind ≡ FilterKind.Default filter };
 
     fn from(filter: stdlib::Default) -> FilterKind {
         FilterKind::Default(filter)
@@ -266,10 +197,7 @@ impl From<stdlib::Default> for FilterKind {
 }
 
 impl From<stdlib::Slice> for FilterKind {
-    ghost use Rattle.std.specs.Prelude.{◌≡◌};
-    ghost use Rattle.liquid_filters.specs.declared.kind.FilterKind.TheVariants.{Slice};
-
-    ghost from_gives = { λ filter kind. kind ≡ Slice filter };
+    ghost from_gives = { λ filter kind. kind ≡ FilterKind.Slice filter };
 
     fn from(filter: stdlib::Slice) -> FilterKind {
         FilterKind::Slice(filter)
@@ -277,10 +205,7 @@ impl From<stdlib::Slice> for FilterKind {
 }
 
 impl From<stdlib::Split> for FilterKind {
-    ghost use Rattle.std.specs.Prelude.{◌≡◌};
-    ghost use Rattle.liquid_filters.specs.declared.kind.FilterKind.TheVariants.{Split};
-
-    ghost from_gives = { λ filter kind. kind ≡ Split filter };
+    ghost from_gives = { λ filter kind. kind ≡ FilterKind.Split filter };
 
     fn from(filter: stdlib::Split) -> FilterKind {
         FilterKind::Split(filter)
@@ -288,10 +213,7 @@ impl From<stdlib::Split> for FilterKind {
 }
 
 impl From<stdlib::Replace> for FilterKind {
-    ghost use Rattle.std.specs.Prelude.{◌≡◌};
-    ghost use Rattle.liquid_filters.specs.declared.kind.FilterKind.TheVariants.{Replace};
-
-    ghost from_gives = { λ filter kind. kind ≡ Replace filter };
+    ghost from_gives = { λ filter kind. kind ≡ FilterKind.Replace filter };
 
     fn from(filter: stdlib::Replace) -> FilterKind {
         FilterKind::Replace(filter)
@@ -299,10 +221,7 @@ impl From<stdlib::Replace> for FilterKind {
 }
 
 impl From<stdlib::ReplaceFirst> for FilterKind {
-    ghost use Rattle.std.specs.Prelude.{◌≡◌};
-    ghost use Rattle.liquid_filters.specs.declared.kind.FilterKind.TheVariants.{ReplaceFirst};
-
-    ghost from_gives = { λ filter kind. kind ≡ ReplaceFirst filter };
+    ghost from_gives = { λ filter kind. kind ≡ FilterKind.ReplaceFirst filter };
 
     fn from(filter: stdlib::ReplaceFirst) -> FilterKind {
         FilterKind::ReplaceFirst(filter)
@@ -310,10 +229,7 @@ impl From<stdlib::ReplaceFirst> for FilterKind {
 }
 
 impl From<stdlib::Remove> for FilterKind {
-    ghost use Rattle.std.specs.Prelude.{◌≡◌};
-    ghost use Rattle.liquid_filters.specs.declared.kind.FilterKind.TheVariants.{Remove};
-
-    ghost from_gives = { λ filter kind. kind ≡ Remove filter };
+    ghost from_gives = { λ filter kind. kind ≡ FilterKind.Remove filter };
 
     fn from(filter: stdlib::Remove) -> FilterKind {
         FilterKind::Remove(filter)
@@ -321,10 +237,7 @@ impl From<stdlib::Remove> for FilterKind {
 }
 
 impl From<stdlib::RemoveFirst> for FilterKind {
-    ghost use Rattle.std.specs.Prelude.{◌≡◌};
-    ghost use Rattle.liquid_filters.specs.declared.kind.FilterKind.TheVariants.{RemoveFirst};
-
-    ghost from_gives = { λ filter kind. kind ≡ RemoveFirst filter };
+    ghost from_gives = { λ filter kind. kind ≡ FilterKind.RemoveFirst filter };
 
     fn from(filter: stdlib::RemoveFirst) -> FilterKind {
         FilterKind::RemoveFirst(filter)
@@ -332,10 +245,7 @@ impl From<stdlib::RemoveFirst> for FilterKind {
 }
 
 impl From<stdlib::Append> for FilterKind {
-    ghost use Rattle.std.specs.Prelude.{◌≡◌};
-    ghost use Rattle.liquid_filters.specs.declared.kind.FilterKind.TheVariants.{Append};
-
-    ghost from_gives = { λ filter kind. kind ≡ Append filter };
+    ghost from_gives = { λ filter kind. kind ≡ FilterKind.Append filter };
 
     fn from(filter: stdlib::Append) -> FilterKind {
         FilterKind::Append(filter)
@@ -343,10 +253,7 @@ impl From<stdlib::Append> for FilterKind {
 }
 
 impl From<stdlib::Prepend> for FilterKind {
-    ghost use Rattle.std.specs.Prelude.{◌≡◌};
-    ghost use Rattle.liquid_filters.specs.declared.kind.FilterKind.TheVariants.{Prepend};
-
-    ghost from_gives = { λ filter kind. kind ≡ Prepend filter };
+    ghost from_gives = { λ filter kind. kind ≡ FilterKind.Prepend filter };
 
     fn from(filter: stdlib::Prepend) -> FilterKind {
         FilterKind::Prepend(filter)
@@ -354,10 +261,7 @@ impl From<stdlib::Prepend> for FilterKind {
 }
 
 impl From<stdlib::Strip> for FilterKind {
-    ghost use Rattle.std.specs.Prelude.{◌≡◌};
-    ghost use Rattle.liquid_filters.specs.declared.kind.FilterKind.TheVariants.{Strip};
-
-    ghost from_gives = { λ filter kind. kind ≡ Strip filter };
+    ghost from_gives = { λ filter kind. kind ≡ FilterKind.Strip filter };
 
     fn from(filter: stdlib::Strip) -> FilterKind {
         FilterKind::Strip(filter)
@@ -365,10 +269,7 @@ impl From<stdlib::Strip> for FilterKind {
 }
 
 impl From<stdlib::Lstrip> for FilterKind {
-    ghost use Rattle.std.specs.Prelude.{◌≡◌};
-    ghost use Rattle.liquid_filters.specs.declared.kind.FilterKind.TheVariants.{Lstrip};
-
-    ghost from_gives = { λ filter kind. kind ≡ Lstrip filter };
+    ghost from_gives = { λ filter kind. kind ≡ FilterKind.Lstrip filter };
 
     fn from(filter: stdlib::Lstrip) -> FilterKind {
         FilterKind::Lstrip(filter)
@@ -376,10 +277,7 @@ impl From<stdlib::Lstrip> for FilterKind {
 }
 
 impl From<stdlib::Rstrip> for FilterKind {
-    ghost use Rattle.std.specs.Prelude.{◌≡◌};
-    ghost use Rattle.liquid_filters.specs.declared.kind.FilterKind.TheVariants.{Rstrip};
-
-    ghost from_gives = { λ filter kind. kind ≡ Rstrip filter };
+    ghost from_gives = { λ filter kind. kind ≡ FilterKind.Rstrip filter };
 
     fn from(filter: stdlib::Rstrip) -> FilterKind {
         FilterKind::Rstrip(filter)
@@ -387,10 +285,7 @@ impl From<stdlib::Rstrip> for FilterKind {
 }
 
 impl From<stdlib::StripNewlines> for FilterKind {
-    ghost use Rattle.std.specs.Prelude.{◌≡◌};
-    ghost use Rattle.liquid_filters.specs.declared.kind.FilterKind.TheVariants.{StripNewlines};
-
-    ghost from_gives = { λ filter kind. kind ≡ StripNewlines filter };
+    ghost from_gives = { λ filter kind. kind ≡ FilterKind.StripNewlines filter };
 
     fn from(filter: stdlib::StripNewlines) -> FilterKind {
         FilterKind::StripNewlines(filter)
@@ -398,10 +293,7 @@ impl From<stdlib::StripNewlines> for FilterKind {
 }
 
 impl From<stdlib::Downcase> for FilterKind {
-    ghost use Rattle.std.specs.Prelude.{◌≡◌};
-    ghost use Rattle.liquid_filters.specs.declared.kind.FilterKind.TheVariants.{Downcase};
-
-    ghost from_gives = { λ filter kind. kind ≡ Downcase filter };
+    ghost from_gives = { λ filter kind. kind ≡ FilterKind.Downcase filter };
 
     fn from(filter: stdlib::Downcase) -> FilterKind {
         FilterKind::Downcase(filter)
@@ -409,10 +301,7 @@ impl From<stdlib::Downcase> for FilterKind {
 }
 
 impl From<stdlib::Upcase> for FilterKind {
-    ghost use Rattle.std.specs.Prelude.{◌≡◌};
-    ghost use Rattle.liquid_filters.specs.declared.kind.FilterKind.TheVariants.{Upcase};
-
-    ghost from_gives = { λ filter kind. kind ≡ Upcase filter };
+    ghost from_gives = { λ filter kind. kind ≡ FilterKind.Upcase filter };
 
     fn from(filter: stdlib::Upcase) -> FilterKind {
         FilterKind::Upcase(filter)
@@ -420,10 +309,7 @@ impl From<stdlib::Upcase> for FilterKind {
 }
 
 impl From<stdlib::Capitalize> for FilterKind {
-    ghost use Rattle.std.specs.Prelude.{◌≡◌};
-    ghost use Rattle.liquid_filters.specs.declared.kind.FilterKind.TheVariants.{Capitalize};
-
-    ghost from_gives = { λ filter kind. kind ≡ Capitalize filter };
+    ghost from_gives = { λ filter kind. kind ≡ FilterKind.Capitalize filter };
 
     fn from(filter: stdlib::Capitalize) -> FilterKind {
         FilterKind::Capitalize(filter)
@@ -431,10 +317,7 @@ impl From<stdlib::Capitalize> for FilterKind {
 }
 
 impl From<stdlib::Truncate> for FilterKind {
-    ghost use Rattle.std.specs.Prelude.{◌≡◌};
-    ghost use Rattle.liquid_filters.specs.declared.kind.FilterKind.TheVariants.{Truncate};
-
-    ghost from_gives = { λ filter kind. kind ≡ Truncate filter };
+    ghost from_gives = { λ filter kind. kind ≡ FilterKind.Truncate filter };
 
     fn from(filter: stdlib::Truncate) -> FilterKind {
         FilterKind::Truncate(filter)
@@ -442,10 +325,7 @@ impl From<stdlib::Truncate> for FilterKind {
 }
 
 impl From<stdlib::TruncateWords> for FilterKind {
-    ghost use Rattle.std.specs.Prelude.{◌≡◌};
-    ghost use Rattle.liquid_filters.specs.declared.kind.FilterKind.TheVariants.{TruncateWords};
-
-    ghost from_gives = { λ filter kind. kind ≡ TruncateWords filter };
+    ghost from_gives = { λ filter kind. kind ≡ FilterKind.TruncateWords filter };
 
     fn from(filter: stdlib::TruncateWords) -> FilterKind {
         FilterKind::TruncateWords(filter)
@@ -453,10 +333,7 @@ impl From<stdlib::TruncateWords> for FilterKind {
 }
 
 impl From<stdlib::Escape> for FilterKind {
-    ghost use Rattle.std.specs.Prelude.{◌≡◌};
-    ghost use Rattle.liquid_filters.specs.declared.kind.FilterKind.TheVariants.{Escape};
-
-    ghost from_gives = { λ filter kind. kind ≡ Escape filter };
+    ghost from_gives = { λ filter kind. kind ≡ FilterKind.Escape filter };
 
     fn from(filter: stdlib::Escape) -> FilterKind {
         FilterKind::Escape(filter)
@@ -464,10 +341,7 @@ impl From<stdlib::Escape> for FilterKind {
 }
 
 impl From<stdlib::EscapeOnce> for FilterKind {
-    ghost use Rattle.std.specs.Prelude.{◌≡◌};
-    ghost use Rattle.liquid_filters.specs.declared.kind.FilterKind.TheVariants.{EscapeOnce};
-
-    ghost from_gives = { λ filter kind. kind ≡ EscapeOnce filter };
+    ghost from_gives = { λ filter kind. kind ≡ FilterKind.EscapeOnce filter };
 
     fn from(filter: stdlib::EscapeOnce) -> FilterKind {
         FilterKind::EscapeOnce(filter)
@@ -475,10 +349,7 @@ impl From<stdlib::EscapeOnce> for FilterKind {
 }
 
 impl From<stdlib::StripHtml> for FilterKind {
-    ghost use Rattle.std.specs.Prelude.{◌≡◌};
-    ghost use Rattle.liquid_filters.specs.declared.kind.FilterKind.TheVariants.{StripHtml};
-
-    ghost from_gives = { λ filter kind. kind ≡ StripHtml filter };
+    ghost from_gives = { λ filter kind. kind ≡ FilterKind.StripHtml filter };
 
     fn from(filter: stdlib::StripHtml) -> FilterKind {
         FilterKind::StripHtml(filter)
@@ -486,10 +357,7 @@ impl From<stdlib::StripHtml> for FilterKind {
 }
 
 impl From<stdlib::NewlineToBr> for FilterKind {
-    ghost use Rattle.std.specs.Prelude.{◌≡◌};
-    ghost use Rattle.liquid_filters.specs.declared.kind.FilterKind.TheVariants.{NewlineToBr};
-
-    ghost from_gives = { λ filter kind. kind ≡ NewlineToBr filter };
+    ghost from_gives = { λ filter kind. kind ≡ FilterKind.NewlineToBr filter };
 
     fn from(filter: stdlib::NewlineToBr) -> FilterKind {
         FilterKind::NewlineToBr(filter)
@@ -497,10 +365,7 @@ impl From<stdlib::NewlineToBr> for FilterKind {
 }
 
 impl From<stdlib::UrlEncode> for FilterKind {
-    ghost use Rattle.std.specs.Prelude.{◌≡◌};
-    ghost use Rattle.liquid_filters.specs.declared.kind.FilterKind.TheVariants.{UrlEncode};
-
-    ghost from_gives = { λ filter kind. kind ≡ UrlEncode filter };
+    ghost from_gives = { λ filter kind. kind ≡ FilterKind.UrlEncode filter };
 
     fn from(filter: stdlib::UrlEncode) -> FilterKind {
         FilterKind::UrlEncode(filter)
@@ -508,12 +373,17 @@ impl From<stdlib::UrlEncode> for FilterKind {
 }
 
 impl From<stdlib::UrlDecode> for FilterKind {
-    ghost use Rattle.std.specs.Prelude.{◌≡◌};
-    ghost use Rattle.liquid_filters.specs.declared.kind.FilterKind.TheVariants.{UrlDecode};
-
-    ghost from_gives = { λ filter kind. kind ≡ UrlDecode filter };
+    ghost from_gives = { λ filter kind. kind ≡ FilterKind.UrlDecode filter };
 
     fn from(filter: stdlib::UrlDecode) -> FilterKind {
         FilterKind::UrlDecode(filter)
+    }
+}
+
+impl From<stdlib::Date> for FilterKind {
+    ghost from_gives = { λ filter kind. kind ≡ FilterKind.Date filter };
+
+    fn from(filter: stdlib::Date) -> FilterKind {
+        FilterKind::Date(filter)
     }
 }

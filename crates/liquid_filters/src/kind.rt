@@ -2,7 +2,7 @@
 ghost use Rattle.std.specs.Prelude.{◌≡◌};
 ghost use Rattle.liquid_filters.specs.Kinds.{kind_name};
 
-use crate::stdlib;
+use crate::{extra, jekyll, shopify, stdlib};
 use liquid_core::{Filter, Result, Value};
 use std::alloc::Global;
 
@@ -56,6 +56,16 @@ pub enum FilterKind {
     NewlineToBr(stdlib::NewlineToBr),
     UrlEncode(stdlib::UrlEncode),
     UrlDecode(stdlib::UrlDecode),
+    Date(stdlib::Date),
+    JekyllSort(jekyll::Sort),
+    Push(jekyll::Push),
+    Unshift(jekyll::Unshift),
+    Pop(jekyll::Pop),
+    Shift(jekyll::Shift),
+    ArrayToSentenceString(jekyll::ArrayToSentenceString),
+    Slugify(jekyll::Slugify),
+    Pluralize(shopify::Pluralize),
+    DateInTz(extra::DateInTz),
 }
 
 impl FilterKind {
@@ -111,6 +121,16 @@ impl FilterKind {
             FilterKind::NewlineToBr(_) => "newline_to_br",
             FilterKind::UrlEncode(_) => "url_encode",
             FilterKind::UrlDecode(_) => "url_decode",
+            FilterKind::Date(_) => "date",
+            FilterKind::JekyllSort(_) => "sort",
+            FilterKind::Push(_) => "push",
+            FilterKind::Unshift(_) => "unshift",
+            FilterKind::Pop(_) => "pop",
+            FilterKind::Shift(_) => "shift",
+            FilterKind::ArrayToSentenceString(_) => "array_to_sentence_string",
+            FilterKind::Slugify(_) => "slugify",
+            FilterKind::Pluralize(_) => "pluralize",
+            FilterKind::DateInTz(_) => "date_in_tz",
         }
     }
 }
@@ -171,6 +191,16 @@ impl Filter for FilterKind {
             FilterKind::NewlineToBr(filter) => filter.accepts(count),
             FilterKind::UrlEncode(filter) => filter.accepts(count),
             FilterKind::UrlDecode(filter) => filter.accepts(count),
+            FilterKind::Date(filter) => filter.accepts(count),
+            FilterKind::JekyllSort(filter) => filter.accepts(count),
+            FilterKind::Push(filter) => filter.accepts(count),
+            FilterKind::Unshift(filter) => filter.accepts(count),
+            FilterKind::Pop(filter) => filter.accepts(count),
+            FilterKind::Shift(filter) => filter.accepts(count),
+            FilterKind::ArrayToSentenceString(filter) => filter.accepts(count),
+            FilterKind::Slugify(filter) => filter.accepts(count),
+            FilterKind::Pluralize(filter) => filter.accepts(count),
+            FilterKind::DateInTz(filter) => filter.accepts(count),
         }
     }
 
@@ -223,6 +253,16 @@ impl Filter for FilterKind {
             FilterKind::NewlineToBr(filter) => filter.evaluate(alloc, input, args),
             FilterKind::UrlEncode(filter) => filter.evaluate(alloc, input, args),
             FilterKind::UrlDecode(filter) => filter.evaluate(alloc, input, args),
+            FilterKind::Date(filter) => filter.evaluate(alloc, input, args),
+            FilterKind::JekyllSort(filter) => filter.evaluate(alloc, input, args),
+            FilterKind::Push(filter) => filter.evaluate(alloc, input, args),
+            FilterKind::Unshift(filter) => filter.evaluate(alloc, input, args),
+            FilterKind::Pop(filter) => filter.evaluate(alloc, input, args),
+            FilterKind::Shift(filter) => filter.evaluate(alloc, input, args),
+            FilterKind::ArrayToSentenceString(filter) => filter.evaluate(alloc, input, args),
+            FilterKind::Slugify(filter) => filter.evaluate(alloc, input, args),
+            FilterKind::Pluralize(filter) => filter.evaluate(alloc, input, args),
+            FilterKind::DateInTz(filter) => filter.evaluate(alloc, input, args),
         }
     }
 }

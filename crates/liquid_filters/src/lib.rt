@@ -2,7 +2,14 @@
 #![tactic(auto)]
 
 mod convert;
+mod convert_sets;
+pub mod extra;
+pub mod jekyll;
 mod kind;
+mod laws;
+pub mod shopify;
 pub mod stdlib;
 
 pub use kind::FilterKind;
+pub use laws::answer_law;
+pub use liquid_date_filters::read_date;

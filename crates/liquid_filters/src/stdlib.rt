@@ -1,4 +1,5 @@
 //! The standard set of filters.
+pub use liquid_date_filters::stdlib::Date;
 pub use liquid_list_filters::stdlib::{
     Compact, Concat, First, Join, Last, Map, Reverse, Sort, SortNatural, Uniq, Where,
 };

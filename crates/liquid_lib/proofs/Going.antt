@@ -17,7 +17,8 @@ use Rattle.liquid_syntax.specs.Flats.{Maker, leaf, with_one, with_two, flat_of, 
 use Rattle.liquid_syntax.specs.declared.node.Node.{Node}
 use Rattle.liquid_syntax.proofs.Places.{Stands-le, StandBodies-le, one_body, two_bodies, nothing_left}
 use Rattle.liquid_meaning.specs.Within.{Within}
-use Rattle.liquid_lib.specs.Kept.{Keeps}
+use Rattle.liquid_core.specs.States.{layers_of}
+use Rattle.liquid_lib.specs.Kept.{Keeps, IsRender, AreRenders}
 use Rattle.liquid_lib.specs.Performs.{Place, Performs}
 use Rattle.liquid_lib.specs.Engine.{node_meant, nodes_meant}
 use Rattle.liquid_meaning.specs.Meaning.{Setting, deeper_meaning}
@@ -61,10 +62,11 @@ node_within ns at to (n, next, (x, bs, is, inner, made, ends), le) = subst (λ k
 abbrev pub Going : Setting → ℕ → List Node → ℕ → ℕ → ℕ → Place → Place → Type 0
 Going setting depth ns from at to start here = (f : Forest Maker) → StandsAt ns from f to → (rest : Forest Maker) × StandsAt ns at rest to
     × ((N : Names) → Within N (nodes_names (nodes_of f)) → Within N (nodes_names (nodes_of rest)))
+    × (AreRenders (nodes_of f) → AreRenders (nodes_of rest))
     × ((r : Result (Unit {0}) Error) (after : Place) → Performs r (nodes_meant setting depth (nodes_of rest)) here after → Performs r (nodes_meant setting depth (nodes_of f)) start after)
 
 pub going_start : (setting : Setting) (depth : ℕ) (ns : List Node) (from to : ℕ) (start : Place) → Going setting depth ns from from to start start
-going_start setting depth ns from to start f s = (f, s, λ N h. h, λ r after h. h)
+going_start setting depth ns from to start f s = (f, s, λ N h. h, λ h. h, λ r after h. h)
 
 -- what a range begins with
 abbrev pub First : List Node → ℕ → Forest Maker → ℕ → Type 0
@@ -78,7 +80,7 @@ first ns at (node h bs rest) to (x, is, eq, inner, after) lt =
 -- the next node is whole
 pub going_node : (setting : Setting) (depth : ℕ) (ns : List Node) (from at to : ℕ) (start here : Place) → IsRange ns from to → Going setting depth ns from at to start here → at < to → IsNode ns at to
 going_node setting depth ns from at to start here (f, s) going lt =
-    let (rest, stands, names, gives) = going f s in
+    let (rest, stands, names, renders, gives) = going f s in
     let (n, next, more, there, is, after, le, past) = first ns at rest to stands lt in
     (n, next, there, le)
 
@@ -96,16 +98,20 @@ names_rest : (N : Names) (n : tree.Node) (more all : tree.Nodes) → all ≡ tre
 unfolding nodes_names
 names_rest N n more all is h = right N (node_names n) (nodes_names more) (subst (λ x. Within N (nodes_names x)) is h)
 
+renders_first : (n : tree.Node) (more all : tree.Nodes) → all ≡ tree.node n more → AreRenders all → IsRender n × AreRenders more
+renders_first n more all is h = subst (λ x. AreRenders x) is h
+
 -- one node on
 pub going_on : (setting : Setting) (depth : ℕ) (ns : List Node) (from at to at2 : ℕ) (value : Unit {0}) (start here there : Place) → Going setting depth ns from at to start here → at < to
     → NodePerforms setting depth ns at (Ok value) here there → there.environment.registers.interrupt ≡ None → ((n : tree.Node) (next : ℕ) → NodeAt ns at n next → at2 ≡ next)
     → Going setting depth ns from at2 to start there
 going_on setting depth ns from at to at2 value start here there going lt ran none ends f s =
-    let (rest, stands, names, gives) = going f s in
+    let (rest, stands, names, renders, gives) = going f s in
     let (n, next, more, is_there, is, after, le, past) = first ns at rest to stands lt in (
       more,
       subst (λ k. StandsAt ns k more to) (sym (ends n next is_there)) after,
       (λ N h. names_rest N n (nodes_of more) (nodes_of rest) is (names N h)),
+      (λ h. (renders_first n (nodes_of more) (nodes_of rest) is (renders h)).1),
       λ r end h. gives r end (subst (λ x. Performs r (nodes_meant setting depth x) here end) (sym is)
           (list_on setting (deeper_meaning setting depth) value r n (nodes_of more) here there end (ran n next is_there) none h)),
     )
@@ -115,7 +121,7 @@ pub going_halt : (setting : Setting) (depth : ℕ) (ns : List Node) (from at to 
     → NodePerforms setting depth ns at (Ok value) here there → there.environment.registers.interrupt ≡ Some i
     → (f : Forest Maker) → StandsAt ns from f to → Performs (Ok other) (nodes_meant setting depth (nodes_of f)) start there
 going_halt setting depth ns from at to value other i start here there going lt ran some f s =
-    let (rest, stands, names, gives) = going f s in
+    let (rest, stands, names, renders, gives) = going f s in
     let (n, next, more, is_there, is, after, le, past) = first ns at rest to stands lt in
     gives (Ok other) there (subst (λ x. Performs (Ok other) (nodes_meant setting depth x) here there) (sym is)
     (list_halt setting (deeper_meaning setting depth) value other n (nodes_of more) here there i (ran n next is_there) some))
@@ -125,7 +131,7 @@ pub going_fault : (setting : Setting) (depth : ℕ) (ns : List Node) (from at to
     → NodePerforms setting depth ns at (Err e) here there
     → (f : Forest Maker) → StandsAt ns from f to → Performs (Err e) (nodes_meant setting depth (nodes_of f)) start there
 going_fault setting depth ns from at to e start here there going lt ran f s =
-    let (rest, stands, names, gives) = going f s in
+    let (rest, stands, names, renders, gives) = going f s in
     let (n, next, more, is_there, is, after, le, past) = first ns at rest to stands lt in
     gives (Err e) there (subst (λ x. Performs (Err e) (nodes_meant setting depth x) here there) (sym is)
     (list_fault setting (deeper_meaning setting depth) e n (nodes_of more) here there (ran n next is_there)))
@@ -134,7 +140,7 @@ going_fault setting depth ns from at to e start here there going lt ran f s =
 pub going_end : (setting : Setting) (depth : ℕ) (ns : List Node) (from at to : ℕ) (value : Unit {0}) (start here : Place) → Going setting depth ns from at to start here → to ≤ at
     → (f : Forest Maker) → StandsAt ns from f to → Performs (Ok value) (nodes_meant setting depth (nodes_of f)) start here
 going_end setting depth ns from at to value start here going le f s =
-    let (rest, stands, names, gives) = going f s in
+    let (rest, stands, names, renders, gives) = going f s in
     let none = nothing_left (flats ns) at rest to stands le in
     gives (Ok value) here (subst (λ x. Performs (Ok value) (nodes_meant setting depth (nodes_of x)) here here) (sym none)
     (list_end setting (deeper_meaning setting depth) value here))
@@ -150,9 +156,21 @@ kept_on names setting s t u h k N within inside =
 pub kept_step : (setting : Setting) (depth : ℕ) (ns : List Node) (from at to : ℕ) (start here : Place) (s t u : State) (f : Forest Maker) → StandsAt ns from f to → Going setting depth ns from at to start here → at < to
     → NodeKeeps setting ns at t u → Keeps (nodes_names (nodes_of f)) setting s t → Keeps (nodes_names (nodes_of f)) setting s u
 kept_step setting depth ns from at to start here s t u f stood going lt keeps before =
-    let (rest, stands, names, gives) = going f stood in
+    let (rest, stands, names, renders, gives) = going f stood in
     let (n, next, more, is_there, is, after, le, past) = first ns at rest to stands lt in
     kept_on (nodes_names (nodes_of f)) setting s t u before (λ N within inside. keeps n next is_there N (names_first N n (nodes_of more) (nodes_of rest) is (names N within)) inside)
+
+-- ---- what renders leave
+
+abbrev pub NodeAlone : List Node → ℕ → State → State → Type 0
+NodeAlone ns at old new = (n : tree.Node) (next : ℕ) → NodeAt ns at n next → IsRender n → layers_of new ≡ layers_of old
+
+pub alone_step : (setting : Setting) (depth : ℕ) (ns : List Node) (from at to : ℕ) (start here : Place) (s t u : State) (f : Forest Maker) → StandsAt ns from f to → Going setting depth ns from at to start here → at < to
+    → NodeAlone ns at t u → (AreRenders (nodes_of f) → layers_of t ≡ layers_of s) → AreRenders (nodes_of f) → layers_of u ≡ layers_of s
+alone_step setting depth ns from at to start here s t u f stood going lt leaves before all =
+    let (rest, stands, names, renders, gives) = going f stood in
+    let (n, next, more, is_there, is, after, le, past) = first ns at rest to stands lt in
+    leaves n next is_there (renders_first n (nodes_of more) (nodes_of rest) is (renders all)).0 ∙ before all
 
 -- ---- by kind
 
@@ -170,6 +188,10 @@ pub leaf_keeps : (setting : Setting) (ns : List Node) (at to : ℕ) (r m : Node)
     → Keeps (node_names x) setting s t → NodeKeeps setting ns at s t
 leaf_keeps setting ns at to r m x s t req read same form h n next there =
     subst (λ y. Keeps (node_names y) setting s t) (sym (leaf_is ns at to r m x req read same form n next there)) h
+
+pub leaf_other : (ns : List Node) (at to : ℕ) (r m : Node) (x : tree.Node) (s t : State) → IsNode ns at to → r ≡ get_or ns at r → r ≡ m → flat_of m ≡ leaf x → (IsRender x → ⊥) → NodeAlone ns at s t
+leaf_other ns at to r m x s t req read same form other n next there h =
+    absurd (other (subst (λ y. IsRender y) (leaf_is ns at to r m x req read same form n next there) h))
 
 -- the two ranges of a node with two bodies
 abbrev pub Two : List Node → ℕ → ℕ → ℕ → ℕ → Type 0
@@ -195,9 +217,15 @@ two_keeps setting ns at t e to r m make s u req read same form h n next there =
     let (b, d, is, here, after, ends) = known_two ns at t e n next make (subst (Known ns at n next) form (known ns at r m n next there (node_within ns at to req) read same)) in
     subst (λ y. Keeps (node_names y) setting s u) (sym is) (h b d here after)
 
+pub two_other : (ns : List Node) (at t e to : ℕ) (r m : Node) (make : tree.Nodes → tree.Nodes → tree.Node) (s u : State) → IsNode ns at to → r ≡ get_or ns at r → r ≡ m → flat_of m ≡ record { head = with_two make; ends = t ∷ e ∷ [] }
+    → ((b d : tree.Nodes) → IsRender (make b d) → ⊥) → NodeAlone ns at s u
+two_other ns at t e to r m make s u req read same form other n next there h =
+    let (b, d, is, here, after, ends) = known_two ns at t e n next make (subst (Known ns at n next) form (known ns at r m n next there (node_within ns at to req) read same)) in
+    absurd (other (nodes_of b) (nodes_of d) (subst (λ y. IsRender y) is h))
+
 pub going_past : (setting : Setting) (depth : ℕ) (ns : List Node) (from at to at2 : ℕ) (start here : Place) → IsRange ns from to → Going setting depth ns from at to start here → at < to → ((n : tree.Node) (next : ℕ) → NodeAt ns at n next → at2 ≡ next) → at < at2
 going_past setting depth ns from at to at2 start here (f, s) going lt ends =
-    let (rest, stands, names, gives) = going f s in
+    let (rest, stands, names, renders, gives) = going f s in
     let (n, next, more, there, is, after, le, past) = first ns at rest to stands lt in
     subst (λ k. at < k) (sym (ends n next there)) past
 
@@ -223,3 +251,12 @@ pub one_keeps : (setting : Setting) (ns : List Node) (at e to : ℕ) (r m : Node
 one_keeps setting ns at e to r m make s u req read same form h n next there =
     let (b, is, here, ends) = known_one ns at e n next make (subst (Known ns at n next) form (known ns at r m n next there (node_within ns at to req) read same)) in
     subst (λ y. Keeps (node_names y) setting s u) (sym is) (h b here)
+
+pub one_other : (ns : List Node) (at e to : ℕ) (r m : Node) (make : tree.Nodes → tree.Node) (s u : State) → IsNode ns at to → r ≡ get_or ns at r → r ≡ m → flat_of m ≡ record { head = with_one make; ends = e ∷ [] }
+    → ((b : tree.Nodes) → IsRender (make b) → ⊥) → NodeAlone ns at s u
+one_other ns at e to r m make s u req read same form other n next there h =
+    let (b, is, here, ends) = known_one ns at e n next make (subst (Known ns at n next) form (known ns at r m n next there (node_within ns at to req) read same)) in
+    absurd (other (nodes_of b) (subst (λ y. IsRender y) is h))
+
+pub node_before : (ns : List Node) (at to : ℕ) → IsNode ns at to → at < to
+node_before ns at to (n, next, (x, bs, is, inner, made, ends), le) = let within = StandBodies-le (flats ns) (at + 1) x.ends bs inner in omega arith

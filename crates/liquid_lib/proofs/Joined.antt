@@ -8,13 +8,13 @@ use Rattle.liquid_model.specs.declared.error.Error.{Error}
 use Rattle.liquid_model.specs.declared.error.ErrorKind.{ErrorKind}
 use Rattle.liquid_model.specs.declared.error.ErrorKind.TheVariants.{Memory}
 use Rattle.liquid_core.specs.declared.interrupt.Interrupt.{Interrupt}
-use Rattle.liquid_model.specs.Told.{is_memory, is_refusal}
+use Rattle.liquid_model.specs.Told.{Told, is_memory, is_refusal}
 use Rattle.liquid_model.specs.Answer.{Answers, Gives}
 use Rattle.liquid_core.specs.Environment.{Environment}
 use Rattle.liquid_core.specs.States.{Layers, merged_layers}
 use Rattle.liquid_tree.specs.Tree.{Node, Nodes, no_nodes, node}
 use Rattle.liquid_lib.specs.Sinks.{Sink, AddsPart}
-use Rattle.liquid_meaning.specs.Runs.{Nothing, Outcome, Run, done, read, evaluate, change, write, after_text, go_on, ◌>>=◌, with_scope, buffered, ended_with}
+use Rattle.liquid_meaning.specs.Runs.{Nothing, Outcome, Run, done, read, evaluate, fault, change, write, after_text, go_on, ◌>>=◌, with_scope, buffered, ended_with}
 use Rattle.liquid_meaning.specs.Effects.{if_none, unless_interrupted}
 use Rattle.liquid_meaning.specs.Meaning.{Setting, node_meaning, nodes_meaning}
 use Rattle.liquid_lib.specs.Performs.{Place, Exact, MeetsAt, Meets, Performs, Writes, IsCut, unit}
@@ -92,6 +92,21 @@ no_value_met view e f p h = on (is_memory e.kind) refl h
     on : (b : Bool) → is_memory e.kind ≡ b → MatchBool b ⊤ ((f p.environment ≡ Err e.kind) × (is_refusal e.kind ≡ false)) → Meets view (Err e) (evaluate f) p p
     on true is h = inr (record { cause = inl (memory_of e.kind is, inl refl); adds = AddsPart-none p.sink _ })
     on false is h = inl (record { end = sym h.0; within = h.1; adds = Adds-nil p.sink; none_failed = refl; same = refl })
+
+-- a fault of this kind
+pub told_as : {X Y : Type 0} (view : X → Y) (wanted : ErrorKind) (e : Error) → is_refusal wanted ≡ false → Told wanted e.kind → Answers view (Err e) (Err wanted)
+told_as {Y = Y} view wanted e within h = on (is_memory e.kind) h
+  where
+    err : ErrorKind → Result Y ErrorKind
+    err k = Err k
+
+    on : (b : Bool) → MatchBool b ⊤ (wanted ≡ e.kind) → MatchBool b ⊤ ((◌≡◌ {A = Result Y ErrorKind} (Err wanted) (Err e.kind)) × (is_refusal e.kind ≡ false))
+    on true k = tt
+    on false k = ((ap (λ x. Err x) k), (sym (ap is_refusal k) ∙ within))
+
+pub fault_met : (wanted : ErrorKind) (e : Error) (p : Place) → is_refusal wanted ≡ false → Told wanted e.kind → Performs (Err e) (fault wanted) p p
+unfolding fault evaluate
+fault_met wanted e p within h = no_value_met {V = Unit {0}} unit e (λ g. Err wanted) p (told_as {X = Unit {0}} unit wanted e within h)
 
 -- a value, and what followed it
 pub given_met : {V A U B : Type 0} (va : V → A) (vb : U → B) (value : V) (r : Result U Error) (f : Environment → Result A ErrorKind) (k : A → Run B) (p u : Place)

@@ -1,9 +1,17 @@
 pub mod Added
+pub mod Apart
+pub mod Bound
+pub mod CaseChoices
+pub mod Cases
 pub mod Choices
+pub mod Counting
+pub mod Cycles
 pub mod Going
 pub mod Interrupts
 pub mod Joined
 pub mod Kept
+pub mod LentData
+pub mod PartialRuns
 pub mod Pieces
 pub mod Registered
 pub mod Renderings

@@ -1,15 +1,17 @@
 -- What the functions of a run do.
 use Rattle.std.specs.Prelude.{ℕ}
-use Rattle.liquid_filters.specs.Kinds.{kind_answer}
+use Rattle.liquid_model.specs.Texts.{Text}
+use Rattle.liquid_core.specs.FilterAnswers.{FilterAnswer}
+use Rattle.liquid_tree.specs.Evaluation.{answers_with}
 use Rattle.liquid_tree.specs.Tree as tree
 use Rattle.liquid_syntax.specs.Templates.{partials_of}
-use Rattle.liquid_syntax.specs.declared.partials.Partials.{Partials}
+use Rattle.liquid_lib.specs.declared.given.Given.{Given}
 use Rattle.liquid_meaning.specs.Runs.{Nothing, Run}
 use Rattle.liquid_meaning.specs.Meaning.{Setting, node_meaning, nodes_meaning, deeper_meaning}
 
--- the filters that exist, and these partials
-abbrev pub setting_of : Partials → Setting
-setting_of partials = record { answers = kind_answer; partials = partials_of partials }
+-- the filters that exist, those of the host by name, and the partials
+abbrev pub setting_of : {H : Type 0} → (H → Text → FilterAnswer) → Given H → Setting
+setting_of named given = record { answers = answers_with (named given.host.now); partials = partials_of given.partials.now }
 
 -- what a node means, and a list of nodes, with so many nested partials left
 abbrev pub node_meant : Setting → ℕ → tree.Node → Run Nothing
@@ -17,3 +19,13 @@ node_meant setting depth n = node_meaning setting (deeper_meaning setting depth)
 
 abbrev pub nodes_meant : Setting → ℕ → tree.Nodes → Run Nothing
 nodes_meant setting depth nodes = nodes_meaning setting (deeper_meaning setting depth) nodes
+
+-- the same with what a run is given
+abbrev pub node_in : {H : Type 0} → (H → Text → FilterAnswer) → Given H → tree.Node → Run Nothing
+node_in named given n = node_meant (setting_of named given) given.depth n
+
+abbrev pub nodes_in : {H : Type 0} → (H → Text → FilterAnswer) → Given H → tree.Nodes → Run Nothing
+nodes_in named given nodes = nodes_meant (setting_of named given) given.depth nodes
+
+abbrev pub partial_in : {H : Type 0} → (H → Text → FilterAnswer) → Given H → tree.Nodes → Run Nothing
+partial_in named given nodes = deeper_meaning (setting_of named given) given.depth nodes

@@ -5,6 +5,7 @@ use Rattle.liquid_core.specs.Environment.{Names}
 use Rattle.liquid_core.specs.States.{Layers, layers_of}
 use Rattle.liquid_core.specs.declared.state.State.{State}
 use Rattle.liquid_tree.specs.Names.{partials_names}
+use Rattle.liquid_tree.specs.Tree.{Node, render, Nodes, no_nodes, node}
 use Rattle.liquid_meaning.specs.Isolation.{HoldsOutside}
 use Rattle.liquid_meaning.specs.Meaning.{Setting}
 use Rattle.liquid_meaning.specs.Within.{Within}
@@ -19,3 +20,12 @@ pub record LayersKept (N : Names) (old new : Layers) : Type 0 where
 -- for every set of names that has these and those of the partials
 abbrev pub Keeps : List Text → Setting → State → State → Type 0
 Keeps names setting old new = (N : Names) → Within N names → Within N (partials_names setting.partials) → LayersKept N (layers_of old) (layers_of new)
+
+-- nodes that leave everything as it was
+abbrev pub IsRender : Node → Type 0
+IsRender (render x each bindings) = Unit {0}
+IsRender _ = ⊥
+
+abbrev pub AreRenders : Nodes → Type 0
+AreRenders no_nodes = Unit {0}
+AreRenders (node n more) = IsRender n × AreRenders more

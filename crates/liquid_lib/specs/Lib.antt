@@ -1,9 +1,13 @@
 pub mod Added
+pub mod Changed
 pub mod Choices
 pub mod CountedParts
+pub mod Counters
 pub mod Engine
 pub mod Failures
+pub mod Forloop
 pub mod Kept
+pub mod Partials
 pub mod Performs
 pub mod Rendered
 pub mod RuntimeView

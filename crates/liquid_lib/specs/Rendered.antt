@@ -1,27 +1,32 @@
 -- What a whole rendering has done.
-use Rattle.std.specs.Prelude.{◌≡◌, ℕ, List, Result, ◌⊎◌, Option, None}
+use Rattle.std.specs.Prelude.{◌≡◌, ℕ, Bool, List, Result, ◌⊎◌, Option, None}
 use Rattle.liquid_model.specs.declared.error.Error.{Error}
 use Rattle.liquid_core.specs.Environment.{Names, Environment, cut}
+use Rattle.liquid_core.specs.FilterAnswers.{FilterAnswer}
+use Rattle.liquid_tree.specs.Names.{run_names, mentioned}
 use Rattle.liquid_tree.specs.Tree.{Nodes}
 use Rattle.liquid_lib.specs.Sinks.{Adds}
 use Rattle.liquid_meaning.specs.Runs.{Nothing, Outcome, Run}
 use Rattle.liquid_meaning.specs.Meaning.{meaning}
-use Rattle.liquid_meaning.specs.Isolation.{changes, names_of_run}
+use Rattle.liquid_meaning.specs.Isolation.{changes}
 use Rattle.liquid_lib.specs.Performs.{Place, Cut, answer_of, unit, writer_sink}
-use Rattle.liquid_lib.specs.RuntimeView.{environment_in, setting_in, depth_in}
+use Rattle.liquid_lib.specs.RuntimeView.{environment_in, partials_in, setting_in, depth_in}
 use Rattle.liquid_lib.specs.declared.runtime.Runtime.{Runtime}
 
--- what the nodes mean, with the runtime's partials and depth
-abbrev pub run_in : Runtime → Nodes → Run Nothing
-run_in runtime nodes = meaning (setting_in runtime) (depth_in runtime) nodes
+module _ {D : Type 0} {P : D → Type 0} where
+  -- the names that the nodes or a partial mention
+  abbrev pub names_in : Runtime D P → Nodes → Names
+  names_in runtime nodes = mentioned (run_names (partials_in runtime) nodes)
 
--- what they come to, from what the runtime holds
-abbrev pub outcome_in : Runtime → Nodes → Outcome Nothing
-outcome_in runtime nodes = run_in runtime nodes (environment_in runtime)
+  -- with what the boxed filters take and answer
+  module _ (counts : (x : D) × P x → ℕ → Bool) (answer : (x : D) × P x → FilterAnswer) where
+    -- what the nodes mean, with the runtime's filters, partials and depth
+    abbrev pub run_in : Runtime D P → Nodes → Run Nothing
+    run_in runtime nodes = meaning (setting_in counts answer runtime) (depth_in runtime) nodes
 
--- the names that the nodes or a partial mention
-abbrev pub names_in : Runtime → Nodes → Names
-names_in runtime nodes = names_of_run (setting_in runtime) nodes
+    -- what they come to, from what the runtime holds
+    abbrev pub outcome_in : Runtime D P → Nodes → Outcome Nothing
+    outcome_in runtime nodes = run_in runtime nodes (environment_in runtime)
 
 -- a run with no buffer open
 abbrev pub at_writer : {W : Type 0} → (W → Option (List ℕ)) → (W → ℕ) → W → Environment → Place

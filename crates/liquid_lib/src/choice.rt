@@ -1,14 +1,18 @@
-//! Which nodes an `if` or an `unless` comes to.
-ghost use Rattle.std.specs.Prelude.{◌≡◌, ◌+◌, ◌<◌, ◌≤◌, IfOk};
+//! Which nodes an `if`, an `unless` or a `case` comes to.
+ghost use Rattle.std.specs.Prelude.{◌≡◌, ◌+◌, ◌<◌, ◌≤◌, IfOk, List, map};
+ghost use Rattle.liquid_model.specs.Answer.{Answers};
+ghost use Rattle.liquid_model.specs.Texts.{Text};
+ghost use Rattle.liquid_model.specs.View.{view};
+ghost use Rattle.liquid_core.specs.ExpressionView.{expression_view};
 ghost use Rattle.liquid_core.specs.States.{environment_of};
 ghost use Rattle.liquid_tree.specs.ConditionView.{condition_view};
 ghost use Rattle.liquid_syntax.specs.Flats.{Maker, StandsAt, IsRange, nodes_of};
 ghost use Rattle.liquid_syntax.specs.Forest.{Forest};
 ghost use Rattle.liquid_tree.specs.Tree as tree;
-ghost use Rattle.liquid_lib.specs.Choices.{NodeComesTo, ListComesTo};
+ghost use Rattle.liquid_lib.specs.Choices.{Meant, ComesTo, NodeComesTo, ListComesTo, CaseStands, IsCase, CaseLeft, equal_among};
 
-use liquid_core::{Result, State};
-use liquid_syntax::{Condition, Node, TwoBodies};
+use liquid_core::{Expression, Result, State, Value};
+use liquid_syntax::{Arm, Condition, Node, TwoBodies};
 use std::alloc::Global;
 
 /// The range that the `if` at `at` comes to: its body, where the condition holds, else what the nodes of `else` come to.
@@ -18,7 +22,7 @@ pub(crate) fn chosen_range(
     at: usize,
     condition: &Condition,
     bodies: TwoBodies,
-    state: &State,
+    state: &State<'_>,
 ) -> Result<(usize, usize)>
     requires body { IsRange nodes.now (at + 1) bodies.first_end }
     requires otherwise { IsRange nodes.now bodies.first_end bodies.last_end }
@@ -40,7 +44,7 @@ pub(crate) fn unless_range(
     at: usize,
     condition: &Condition,
     bodies: TwoBodies,
-    state: &State,
+    state: &State<'_>,
 ) -> Result<(usize, usize)>
     requires body { IsRange nodes.now (at + 1) bodies.first_end }
     requires otherwise { IsRange nodes.now bodies.first_end bodies.last_end }
@@ -57,6 +61,64 @@ pub(crate) fn unless_range(
     }
 }
 
+/// The range that the `case` at `at` comes to: the body of the first `when` that has a value equal to the target, else the
+/// nodes of `else`. Values are evaluated in order, up to the one that is equal.
+pub(crate) fn case_range(
+    alloc: Global,
+    nodes: &[Node],
+    at: usize,
+    target: &Expression,
+    arms: &[Arm],
+    last: usize,
+    state: &State<'_>,
+) -> Result<(usize, usize)>
+    requires { IsCase nodes.now (at + 1) arms.now last }
+    ensures inside { IfOk result (λ range. (at < range.0) × (range.1 ≤ last)) }
+    ensures chosen { (ws : tree.Whens) (o : tree.Nodes) → CaseStands nodes.now (at + 1) arms.now last ws o →
+        NodeComesTo nodes.now (environment_of state.now) (tree.case_of (expression_view target.now) ws o) result }
+{
+    let wanted = target.evaluate(alloc, state)?;
+    arm_range(alloc, nodes, at + 1, wanted.as_value(), arms, last, state)
+}
+
+/// The body of the first `when` that has a value equal to this one, else the nodes of `else`. The first body begins at
+/// `first`.
+fn arm_range(
+    alloc: Global,
+    nodes: &[Node],
+    first: usize,
+    wanted: &Value,
+    arms: &[Arm],
+    last: usize,
+    state: &State<'_>,
+) -> Result<(usize, usize)>
+    requires { IsCase nodes.now first arms.now last }
+    ensures inside { IfOk result (λ range. (first ≤ range.0) × (range.1 ≤ last)) }
+    ensures chosen { (names : List Text) (meant : Meant) → CaseLeft nodes.now (environment_of state.now) names meant (view wanted.now) arms.now first last →
+        ComesTo nodes.now (environment_of state.now) names meant result }
+{
+    let mut from = first;
+    for arm in arms {
+        if is_among(alloc, wanted, &arm.values, state)? {
+            return Ok((from, arm.end));
+        }
+        from = arm.end;
+    }
+    Ok((from, last))
+}
+
+/// Whether one of the values equals the target. They are evaluated in order, up to the first that does.
+fn is_among(alloc: Global, target: &Value, values: &[Expression], state: &State<'_>) -> Result<bool>
+    ensures { Answers (λ b. b) result (equal_among (view target.now) (map expression_view values.now) (environment_of state.now)) }
+{
+    for value in values {
+        if *target == *value.evaluate(alloc, state)?.as_value() {
+            return Ok(true);
+        }
+    }
+    Ok(false)
+}
+
 /// The range that the nodes of an `else` come to. An `elsif` is an `if` that is all of them: then it is its body, where its
 /// condition holds, or else what the nodes of its own `else` come to.
 fn else_range(
@@ -64,7 +126,7 @@ fn else_range(
     nodes: &[Node],
     from: usize,
     to: usize,
-    state: &State,
+    state: &State<'_>,
 ) -> Result<(usize, usize)>
     requires { IsRange nodes.now from to }
     ensures inside { IfOk result (λ range. (from ≤ range.0) × (range.1 ≤ to)) }

@@ -1,134 +1,62 @@
 //! Runs of nodes.
-ghost use Rattle.std.specs.Prelude.{◌≡◌, ℕ, ◌+◌};
-ghost use Rattle.liquid_tree.specs.ChainView.{chain_view};
-ghost use Rattle.liquid_tree.specs.ConditionView.{condition_view};
-ghost use Rattle.liquid_syntax.specs.Flats.{Maker, StandsAt, IsRange, NodeAt, IsNode, nodes_of};
+ghost use Rattle.std.specs.Prelude.{◌≡◌, ℕ, ◌+◌, ◌≤◌, None, length};
+ghost use Rattle.liquid_core.specs.Environment.{Environment};
+ghost use Rattle.liquid_core.specs.ExpressionView.{expression_view};
+ghost use Rattle.liquid_core.specs.Held.{held};
+ghost use Rattle.liquid_core.specs.States.{layers_of, loops_of};
+ghost use Rattle.liquid_syntax.specs.Flats.{Maker, StandsAt, IsRange, NodeAt, IsNode, bindings_view, nodes_of};
 ghost use Rattle.liquid_syntax.specs.Forest.{Forest};
+ghost use Rattle.liquid_syntax.specs.Templates.{list_of, most_of, tree_of};
+ghost use Rattle.liquid_tree.specs.ConditionView.{condition_view};
 ghost use Rattle.liquid_tree.specs.Names.{node_names, nodes_names};
 ghost use Rattle.liquid_tree.specs.Tree as tree;
-ghost use Rattle.liquid_lib.specs.Engine.{setting_of, node_meant, nodes_meant};
-ghost use Rattle.liquid_lib.specs.Kept.{Keeps};
-ghost use Rattle.liquid_lib.specs.Performs.{Performs, place_of};
+ghost use Rattle.liquid_lib.specs.Choices.{CaseStands, IsCase};
+ghost use Rattle.liquid_lib.specs.Engine.{setting_of, node_in, nodes_in, partial_in};
+ghost use Rattle.liquid_lib.specs.Kept.{Keeps, IsRender, AreRenders};
+ghost use Rattle.liquid_lib.specs.Performs.{Meets, Performs, place_of, place_beside};
+ghost use Rattle.liquid_meaning.specs.Runs.{apart, with_scope};
 
-use crate::choice::{chosen_range, unless_range};
+use crate::choice::{case_range, chosen_range, unless_range};
 use crate::counted::CountedWrite;
+use crate::counters::{run_decrement, run_increment};
+use crate::cycle::run_cycle;
+use crate::given::Given;
+use crate::ifchanged::show_if_changed;
+use crate::leaves::{run_assign, run_output, run_raw, run_text};
+use crate::nodes::next_after;
 use crate::output::Output;
-use crate::push_value::push_value;
-use liquid_core::{Result, State};
-use liquid_syntax::{Condition, FilterChain, Node, Partials, TwoBodies};
+use crate::partial::{
+    include_scope, pairs_scope, partial_called, partial_name, partial_rendered, too_deep,
+};
+use liquid_core::{Expression, Interrupt, NamedFilters, Object, Result, State, Value};
+use liquid_syntax::{Arm, Binding, Condition, Node, Template, TwoBodies};
 use std::alloc::Global;
-
-/// Writes a text.
-pub(crate) fn run_text<W: CountedWrite>(
-    alloc: Global,
-    partials: &Partials,
-    depth: u32,
-    text: &str,
-    out: &mut Output<'_, W>,
-    state: &mut State,
-) -> Result<()>
-    ensures performs { Performs result (node_meant (setting_of partials.now) depth (tree.plain text.now))
-        (place_of W.contents W.failure_count out.old state.old)
-        (place_of W.contents W.failure_count out.new state.new) }
-    ensures same_writer { out.new.writer.ghost_name ≡ out.old.writer.ghost_name }
-    ensures kept { Keeps (node_names (tree.plain text.now)) (setting_of partials.now) state.old state.new }
-{
-    out.push_text(alloc, text)
-}
-
-/// Writes the body of a `raw`.
-pub(crate) fn run_raw<W: CountedWrite>(
-    alloc: Global,
-    partials: &Partials,
-    depth: u32,
-    text: &str,
-    out: &mut Output<'_, W>,
-    state: &mut State,
-) -> Result<()>
-    ensures performs { Performs result (node_meant (setting_of partials.now) depth (tree.raw text.now))
-        (place_of W.contents W.failure_count out.old state.old)
-        (place_of W.contents W.failure_count out.new state.new) }
-    ensures same_writer { out.new.writer.ghost_name ≡ out.old.writer.ghost_name }
-    ensures kept { Keeps (node_names (tree.raw text.now)) (setting_of partials.now) state.old state.new }
-{
-    out.push_text(alloc, text)
-}
-
-/// Writes the text of a chain's value.
-pub(crate) fn run_output<W: CountedWrite>(
-    alloc: Global,
-    partials: &Partials,
-    depth: u32,
-    chain: &FilterChain,
-    out: &mut Output<'_, W>,
-    state: &mut State,
-) -> Result<()>
-    ensures performs { Performs result (node_meant (setting_of partials.now) depth (tree.output (chain_view chain.now)))
-        (place_of W.contents W.failure_count out.old state.old)
-        (place_of W.contents W.failure_count out.new state.new) }
-    ensures same_writer { out.new.writer.ghost_name ≡ out.old.writer.ghost_name }
-    ensures kept { Keeps (node_names (tree.output (chain_view chain.now))) (setting_of partials.now) state.old state.new }
-{
-    let value = chain.evaluate_cow(alloc, state)?;
-    push_value(alloc, value.as_value(), out)
-}
-
-/// Sets an assigned variable to a chain's value.
-pub(crate) fn run_assign<W: CountedWrite>(
-    alloc: Global,
-    partials: &Partials,
-    depth: u32,
-    name: &str,
-    chain: &FilterChain,
-    out: &mut Output<'_, W>,
-    state: &mut State,
-) -> Result<()>
-    ensures performs { Performs result (node_meant (setting_of partials.now) depth (tree.assign name.now (chain_view chain.now)))
-        (place_of W.contents W.failure_count out.old state.old)
-        (place_of W.contents W.failure_count out.new state.new) }
-    ensures same_writer { out.new.writer.ghost_name ≡ out.old.writer.ghost_name }
-    ensures kept { Keeps (node_names (tree.assign name.now (chain_view chain.now))) (setting_of partials.now) state.old state.new }
-{
-    let value = chain.evaluate(alloc, state)?;
-    state.set_global(String::from_str(alloc, name)?, value)
-}
-
-/// The index one past the last descendant of a node.
-fn next_after(nodes: &[Node], at: usize, to: usize) -> usize
-    requires { IsNode nodes.now at to }
-    ensures { (n : tree.Node) (next : ℕ) → NodeAt nodes.now at n next → result ≡ next }
-{
-    match &nodes[at] {
-        Node::Text(_) | Node::Output(_) | Node::Assign(_, _) | Node::Raw(_) | Node::Comment => at
-            + 1,
-        Node::If(_, bodies) => bodies.last_end,
-        Node::Unless(_, bodies) => bodies.last_end,
-    }
-}
+use std::collections::BTreeMap;
 
 /// Runs the nodes of a range in order, up to the first fault or interrupt. The first node runs whatever the interrupt was.
 #[cycle(run)]
-pub(crate) fn run_range<W: CountedWrite>(
+pub(crate) fn run_range<'d, W: CountedWrite, H: NamedFilters>(
     alloc: Global,
-    partials: &Partials,
-    depth: u32,
-    nodes: &[Node],
+    given: &Given<'d, H>,
+    nodes: &'d [Node],
     from: usize,
     to: usize,
     out: &mut Output<'_, W>,
-    state: &mut State,
+    state: &mut State<'d>,
 ) -> Result<()>
     requires { IsRange nodes.now from to }
     ensures performs { (f : Forest Maker) → StandsAt nodes.now from f to →
-        Performs result (nodes_meant (setting_of partials.now) depth (nodes_of f))
+        Performs result (nodes_in H.named given.now (nodes_of f))
         (place_of W.contents W.failure_count out.old state.old)
         (place_of W.contents W.failure_count out.new state.new) }
     ensures same_writer { out.new.writer.ghost_name ≡ out.old.writer.ghost_name }
-    ensures kept { (f : Forest Maker) → StandsAt nodes.now from f to → Keeps (nodes_names (nodes_of f)) (setting_of partials.now) state.old state.new }
+    ensures kept { (f : Forest Maker) → StandsAt nodes.now from f to → Keeps (nodes_names (nodes_of f)) (setting_of H.named given.now) state.old state.new }
+    ensures alone { (f : Forest Maker) → StandsAt nodes.now from f to → AreRenders (nodes_of f) → layers_of state.new ≡ layers_of state.old }
+    ensures loops { loops_of state.new ≡ loops_of state.old }
 {
     let mut at = from;
     while at < to {
-        run_node(alloc, partials, depth, nodes, at, to, out, state)?;
+        run_node(alloc, given, nodes, at, to, out, state)?;
         if state.interrupt.is_some() {
             return Ok(());
         }
@@ -139,101 +67,339 @@ pub(crate) fn run_range<W: CountedWrite>(
 
 /// Runs one node.
 #[cycle(run)]
-fn run_node<W: CountedWrite>(
+fn run_node<'d, W: CountedWrite, H: NamedFilters>(
     alloc: Global,
-    partials: &Partials,
-    depth: u32,
-    nodes: &[Node],
+    given: &Given<'d, H>,
+    nodes: &'d [Node],
     at: usize,
     to: usize,
     out: &mut Output<'_, W>,
-    state: &mut State,
+    state: &mut State<'d>,
 ) -> Result<()>
     requires { IsNode nodes.now at to }
     ensures performs { (n : tree.Node) (next : ℕ) → NodeAt nodes.now at n next →
-        Performs result (node_meant (setting_of partials.now) depth n)
+        Performs result (node_in H.named given.now n)
         (place_of W.contents W.failure_count out.old state.old)
         (place_of W.contents W.failure_count out.new state.new) }
     ensures same_writer { out.new.writer.ghost_name ≡ out.old.writer.ghost_name }
-    ensures kept { (n : tree.Node) (next : ℕ) → NodeAt nodes.now at n next → Keeps (node_names n) (setting_of partials.now) state.old state.new }
+    ensures kept { (n : tree.Node) (next : ℕ) → NodeAt nodes.now at n next → Keeps (node_names n) (setting_of H.named given.now) state.old state.new }
+    ensures alone { (n : tree.Node) (next : ℕ) → NodeAt nodes.now at n next → IsRender n → layers_of state.new ≡ layers_of state.old }
+    ensures loops { loops_of state.new ≡ loops_of state.old }
 {
     match &nodes[at] {
-        Node::Text(text) => run_text(alloc, partials, depth, text.as_str(), out, state),
-        Node::Output(chain) => run_output(alloc, partials, depth, chain, out, state),
-        Node::Assign(name, chain) => run_assign(
+        Node::Text(text) => run_text(alloc, given, text.as_str(), out, state),
+        Node::Output(chain) => run_output(alloc, given, chain, out, state),
+        Node::Assign(name, chain) => run_assign(alloc, given, name.as_str(), chain, out, state),
+        Node::Raw(text) => run_raw(alloc, given, text.as_str(), out, state),
+        Node::Comment => Ok(()),
+        Node::If(condition, bodies) => {
+            run_if(alloc, given, nodes, at, condition, *bodies, out, state)
+        }
+        Node::Unless(condition, bodies) => {
+            run_unless(alloc, given, nodes, at, condition, *bodies, out, state)
+        }
+        Node::Break => {
+            state.interrupt = Some(Interrupt::Break);
+            Ok(())
+        }
+        Node::Continue => {
+            state.interrupt = Some(Interrupt::Continue);
+            Ok(())
+        }
+        Node::Increment(name) => run_increment(alloc, given, name.as_str(), out, state),
+        Node::Decrement(name) => run_decrement(alloc, given, name.as_str(), out, state),
+        Node::IfChanged(end) => run_ifchanged(alloc, given, nodes, at, *end, out, state),
+        Node::Capture(name, end) => run_capture(
             alloc,
-            partials,
-            depth,
+            given,
+            nodes,
+            at,
             name.as_str(),
-            chain,
+            *end,
             out,
             state,
         ),
-        Node::Raw(text) => run_raw(alloc, partials, depth, text.as_str(), out, state),
-        Node::Comment => Ok(()),
-        Node::If(condition, bodies) => {
-            run_if(
-                alloc, partials, depth, nodes, at, condition, *bodies, out, state,
-            )
-        }
-        Node::Unless(condition, bodies) => {
-            run_unless(
-                alloc, partials, depth, nodes, at, condition, *bodies, out, state,
-            )
+        Node::Include(name, bindings) => { run_include(alloc, given, name, bindings, out, state) }
+        Node::JekyllInclude(name, bindings) => run_jekyll_include(
+            alloc,
+            given,
+            name.as_str(),
+            bindings,
+            out,
+            state,
+        ),
+        Node::Render(name, bindings) => run_render(alloc, given, name, &*bindings, out, &*state),
+        Node::Cycle(group, values) => run_cycle(alloc, given, group.as_str(), values, out, state),
+        Node::Case(target, arms, last) => {
+            run_case(alloc, given, nodes, at, target, arms, *last, out, state)
         }
     }
 }
 
 /// Runs the body that the conditions choose.
 #[cycle(run)]
-fn run_if<W: CountedWrite>(
+fn run_if<'d, W: CountedWrite, H: NamedFilters>(
     alloc: Global,
-    partials: &Partials,
-    depth: u32,
-    nodes: &[Node],
+    given: &Given<'d, H>,
+    nodes: &'d [Node],
     at: usize,
     condition: &Condition,
     bodies: TwoBodies,
     out: &mut Output<'_, W>,
-    state: &mut State,
+    state: &mut State<'d>,
 ) -> Result<()>
     requires body { IsRange nodes.now (at + 1) bodies.first_end }
     requires otherwise { IsRange nodes.now bodies.first_end bodies.last_end }
     ensures performs { (b d : Forest Maker) → StandsAt nodes.now (at + 1) b bodies.first_end → StandsAt nodes.now bodies.first_end d bodies.last_end →
-        Performs result (node_meant (setting_of partials.now) depth (tree.if_true (condition_view condition.now) (nodes_of b) (nodes_of d)))
+        Performs result (node_in H.named given.now (tree.if_true (condition_view condition.now) (nodes_of b) (nodes_of d)))
         (place_of W.contents W.failure_count out.old state.old)
         (place_of W.contents W.failure_count out.new state.new) }
     ensures same_writer { out.new.writer.ghost_name ≡ out.old.writer.ghost_name }
     ensures kept { (b d : Forest Maker) → StandsAt nodes.now (at + 1) b bodies.first_end → StandsAt nodes.now bodies.first_end d bodies.last_end →
-        Keeps (node_names (tree.if_true (condition_view condition.now) (nodes_of b) (nodes_of d))) (setting_of partials.now) state.old state.new }
+        Keeps (node_names (tree.if_true (condition_view condition.now) (nodes_of b) (nodes_of d))) (setting_of H.named given.now) state.old state.new }
+    ensures loops { loops_of state.new ≡ loops_of state.old }
 {
     let (from, to) = chosen_range(alloc, nodes, at, condition, bodies, state)?;
-    run_range(alloc, partials, depth, nodes, from, to, out, state)
+    run_range(alloc, given, nodes, from, to, out, state)
 }
 
 /// Runs the body where the condition doesn't hold, and else that of `else`.
 #[cycle(run)]
-fn run_unless<W: CountedWrite>(
+fn run_unless<'d, W: CountedWrite, H: NamedFilters>(
     alloc: Global,
-    partials: &Partials,
-    depth: u32,
-    nodes: &[Node],
+    given: &Given<'d, H>,
+    nodes: &'d [Node],
     at: usize,
     condition: &Condition,
     bodies: TwoBodies,
     out: &mut Output<'_, W>,
-    state: &mut State,
+    state: &mut State<'d>,
 ) -> Result<()>
     requires body { IsRange nodes.now (at + 1) bodies.first_end }
     requires otherwise { IsRange nodes.now bodies.first_end bodies.last_end }
     ensures performs { (b d : Forest Maker) → StandsAt nodes.now (at + 1) b bodies.first_end → StandsAt nodes.now bodies.first_end d bodies.last_end →
-        Performs result (node_meant (setting_of partials.now) depth (tree.unless (condition_view condition.now) (nodes_of b) (nodes_of d)))
+        Performs result (node_in H.named given.now (tree.unless (condition_view condition.now) (nodes_of b) (nodes_of d)))
         (place_of W.contents W.failure_count out.old state.old)
         (place_of W.contents W.failure_count out.new state.new) }
     ensures same_writer { out.new.writer.ghost_name ≡ out.old.writer.ghost_name }
     ensures kept { (b d : Forest Maker) → StandsAt nodes.now (at + 1) b bodies.first_end → StandsAt nodes.now bodies.first_end d bodies.last_end →
-        Keeps (node_names (tree.unless (condition_view condition.now) (nodes_of b) (nodes_of d))) (setting_of partials.now) state.old state.new }
+        Keeps (node_names (tree.unless (condition_view condition.now) (nodes_of b) (nodes_of d))) (setting_of H.named given.now) state.old state.new }
+    ensures loops { loops_of state.new ≡ loops_of state.old }
 {
     let (from, to) = unless_range(alloc, nodes, at, condition, bodies, state)?;
-    run_range(alloc, partials, depth, nodes, from, to, out, state)
+    run_range(alloc, given, nodes, from, to, out, state)
+}
+
+/// Runs the body of the `when` that has a value equal to the target, or else that of `else`.
+#[cycle(run)]
+fn run_case<'d, W: CountedWrite, H: NamedFilters>(
+    alloc: Global,
+    given: &Given<'d, H>,
+    nodes: &'d [Node],
+    at: usize,
+    target: &Expression,
+    arms: &Vec<Arm>,
+    last: usize,
+    out: &mut Output<'_, W>,
+    state: &mut State<'d>,
+) -> Result<()>
+    requires { IsCase nodes.now (at + 1) arms.now.items last }
+    ensures performs { (ws : tree.Whens) (o : tree.Nodes) → CaseStands nodes.now (at + 1) arms.now.items last ws o →
+        Performs result (node_in H.named given.now (tree.case_of (expression_view target.now) ws o))
+        (place_of W.contents W.failure_count out.old state.old)
+        (place_of W.contents W.failure_count out.new state.new) }
+    ensures same_writer { out.new.writer.ghost_name ≡ out.old.writer.ghost_name }
+    ensures kept { (ws : tree.Whens) (o : tree.Nodes) → CaseStands nodes.now (at + 1) arms.now.items last ws o →
+        Keeps (node_names (tree.case_of (expression_view target.now) ws o)) (setting_of H.named given.now) state.old state.new }
+    ensures loops { loops_of state.new ≡ loops_of state.old }
+{
+    let (from, to) = case_range(alloc, nodes, at, target, arms, last, state)?;
+    run_range(alloc, given, nodes, from, to, out, state)
+}
+
+/// Runs the body into a buffer, and sets an assigned variable to its text.
+#[cycle(run)]
+fn run_capture<'d, W: CountedWrite, H: NamedFilters>(
+    alloc: Global,
+    given: &Given<'d, H>,
+    nodes: &'d [Node],
+    at: usize,
+    name: &str,
+    end: usize,
+    out: &mut Output<'_, W>,
+    state: &mut State<'d>,
+) -> Result<()>
+    requires body { IsRange nodes.now (at + 1) end }
+    ensures performs { (b : Forest Maker) → StandsAt nodes.now (at + 1) b end →
+        Performs result (node_in H.named given.now (tree.capture name.now (nodes_of b)))
+        (place_of W.contents W.failure_count out.old state.old)
+        (place_of W.contents W.failure_count out.new state.new) }
+    ensures same_writer { out.new.writer.ghost_name ≡ out.old.writer.ghost_name }
+    ensures kept { (b : Forest Maker) → StandsAt nodes.now (at + 1) b end →
+        Keeps (node_names (tree.capture name.now (nodes_of b))) (setting_of H.named given.now) state.old state.new }
+    ensures loops { loops_of state.new ≡ loops_of state.old }
+{
+    let outer = out.open(alloc);
+    let answer = run_range(alloc, given, nodes, at + 1, end, out, state);
+    let text = out.close(outer);
+    answer?;
+    state.set_global(String::from_str(alloc, name)?, Value::Text(text))
+}
+
+/// Runs the body into a buffer, and writes its text where it differs from the last one, as the body left that.
+#[cycle(run)]
+fn run_ifchanged<'d, W: CountedWrite, H: NamedFilters>(
+    alloc: Global,
+    given: &Given<'d, H>,
+    nodes: &'d [Node],
+    at: usize,
+    end: usize,
+    out: &mut Output<'_, W>,
+    state: &mut State<'d>,
+) -> Result<()>
+    requires { IsRange nodes.now (at + 1) end }
+    ensures performs { (b : Forest Maker) → StandsAt nodes.now (at + 1) b end →
+        Performs result (node_in H.named given.now (tree.ifchanged (nodes_of b)))
+        (place_of W.contents W.failure_count out.old state.old)
+        (place_of W.contents W.failure_count out.new state.new) }
+    ensures same_writer { out.new.writer.ghost_name ≡ out.old.writer.ghost_name }
+    ensures kept { (b : Forest Maker) → StandsAt nodes.now (at + 1) b end →
+        Keeps (node_names (tree.ifchanged (nodes_of b))) (setting_of H.named given.now) state.old state.new }
+    ensures loops { loops_of state.new ≡ loops_of state.old }
+{
+    let outer = out.open(alloc);
+    let ended = run_range(alloc, given, nodes, at + 1, end, out, state);
+    let text = out.close(outer);
+    ended?;
+    show_if_changed(alloc, text, out, state)
+}
+
+/// Runs a partial over the caller's names, with the pairs as a scope.
+#[cycle(run)]
+fn run_include<'d, W: CountedWrite, H: NamedFilters>(
+    alloc: Global,
+    given: &Given<'d, H>,
+    name: &Expression,
+    bindings: &[Binding],
+    out: &mut Output<'_, W>,
+    state: &mut State<'d>,
+) -> Result<()>
+    ensures performs { Performs result (node_in H.named given.now (tree.include (expression_view name.now) (bindings_view bindings.now)))
+        (place_of W.contents W.failure_count out.old state.old)
+        (place_of W.contents W.failure_count out.new state.new) }
+    ensures same_writer { out.new.writer.ghost_name ≡ out.old.writer.ghost_name }
+    ensures kept { Keeps (node_names (tree.include (expression_view name.now) (bindings_view bindings.now))) (setting_of H.named given.now) state.old state.new }
+    ensures loops { loops_of state.new ≡ loops_of state.old }
+{
+    let called = partial_name(alloc, name, state)?;
+    let scope = pairs_scope(alloc, bindings, state)?;
+    let partial = partial_called(alloc, given.partials, called.as_str())?;
+    run_partial(alloc, given, partial, scope, out, state)
+}
+
+/// Runs a partial over the caller's names, with the pairs in one object as a scope.
+#[cycle(run)]
+fn run_jekyll_include<'d, W: CountedWrite, H: NamedFilters>(
+    alloc: Global,
+    given: &Given<'d, H>,
+    name: &str,
+    bindings: &[Binding],
+    out: &mut Output<'_, W>,
+    state: &mut State<'d>,
+) -> Result<()>
+    ensures performs { Performs result (node_in H.named given.now (tree.jekyll_include name.now (bindings_view bindings.now)))
+        (place_of W.contents W.failure_count out.old state.old)
+        (place_of W.contents W.failure_count out.new state.new) }
+    ensures same_writer { out.new.writer.ghost_name ≡ out.old.writer.ghost_name }
+    ensures kept { Keeps (node_names (tree.jekyll_include name.now (bindings_view bindings.now))) (setting_of H.named given.now) state.old state.new }
+    ensures loops { loops_of state.new ≡ loops_of state.old }
+{
+    let scope = include_scope(alloc, bindings, state)?;
+    let partial = partial_called(alloc, given.partials, name)?;
+    run_partial(alloc, given, partial, scope, out, state)
+}
+
+/// Enters a partial, with a scope of its own over the caller's names.
+#[cycle(run)]
+fn run_partial<'d, W: CountedWrite, H: NamedFilters>(
+    alloc: Global,
+    given: &Given<'d, H>,
+    partial: &'d Template,
+    scope: Object,
+    out: &mut Output<'_, W>,
+    state: &mut State<'d>,
+) -> Result<()>
+    requires small { length (list_of partial.now) ≤ most_of given.now.partials.now }
+    ensures performs { Performs result (with_scope (held scope) (partial_in H.named given.now (tree_of partial.now)))
+        (place_of W.contents W.failure_count out.old state.old)
+        (place_of W.contents W.failure_count out.new state.new) }
+    ensures same_writer { out.new.writer.ghost_name ≡ out.old.writer.ghost_name }
+    ensures kept { Keeps (nodes_names (tree_of partial.now)) (setting_of H.named given.now) state.old state.new }
+    ensures loops { loops_of state.new ≡ loops_of state.old }
+{
+    if given.depth == 0 {
+        return Err(too_deep(alloc));
+    }
+    let inner = Given {
+        partials: given.partials,
+        host: given.host,
+        depth: given.depth - 1,
+    };
+    state.push_scope(scope)?;
+    let nodes = partial.nodes();
+    let answer = run_range(alloc, &inner, nodes, 0, nodes.len(), out, state);
+    state.pop_scope();
+    answer
+}
+
+/// Runs a partial once, apart: it sees the pairs alone. The caller's state is only read.
+#[cycle(run)]
+fn run_render<'d, W: CountedWrite, H: NamedFilters>(
+    alloc: Global,
+    given: &Given<'d, H>,
+    name: &Expression,
+    bindings: &[Binding],
+    out: &mut Output<'_, W>,
+    state: &State<'d>,
+) -> Result<()>
+    ensures performs { Performs result (node_in H.named given.now (tree.render (expression_view name.now) None (bindings_view bindings.now)))
+        (place_of W.contents W.failure_count out.old state.now)
+        (place_of W.contents W.failure_count out.new state.now) }
+    ensures same_writer { out.new.writer.ghost_name ≡ out.old.writer.ghost_name }
+{
+    let called = partial_name(alloc, name, state)?;
+    let scope = pairs_scope(alloc, bindings, state)?;
+    let partial = partial_rendered(alloc, given.partials, called.as_str())?;
+    run_apart(alloc, given, partial, scope, out)?;
+    Ok(())
+}
+
+/// Enters a partial in a state of its own that holds these names alone: the interrupt that it leaves.
+#[cycle(run)]
+fn run_apart<'d, W: CountedWrite, H: NamedFilters>(
+    alloc: Global,
+    given: &Given<'d, H>,
+    partial: &'d Template,
+    names: Object,
+    out: &mut Output<'_, W>,
+) -> Result<Option<Interrupt>>
+    requires small { length (list_of partial.now) ≤ most_of given.now.partials.now }
+    ensures performs { (e : Environment) → Meets (λ i. i) result (apart (held names) (partial_in H.named given.now (tree_of partial.now)))
+        (place_beside W.contents W.failure_count out.old e)
+        (place_beside W.contents W.failure_count out.new e) }
+    ensures same_writer { out.new.writer.ghost_name ≡ out.old.writer.ghost_name }
+{
+    if given.depth == 0 {
+        return Err(too_deep(alloc));
+    }
+    let mut own = State::new(alloc, BTreeMap::new(alloc));
+    let inner = Given {
+        partials: given.partials,
+        host: given.host,
+        depth: given.depth - 1,
+    };
+    own.push_scope(names)?;
+    let nodes = partial.nodes();
+    run_range(alloc, &inner, nodes, 0, nodes.len(), out, &mut own)?;
+    Ok(own.interrupt)
 }

@@ -1,19 +1,39 @@
 //! Runs of templates.
+//!
+//! What a caller needs is here, also where a lower crate has it: `parse` with its language, templates and partials, values and
+//! faults, and the filters in [stdlib], [jekyll], [shopify] and [extra].
 #![tactic(auto)]
 
 mod choice;
 mod counted;
+mod counters;
+mod cycle;
 mod engine;
+pub mod extra;
+mod given;
+mod ifchanged;
+pub mod jekyll;
+mod leaves;
+mod lent;
+mod nodes;
 mod output;
+mod partial;
 mod push_value;
 mod render;
 mod runtime;
+mod runtime_calls;
+pub mod shopify;
 mod standard;
 pub mod stdlib;
 mod write_all;
 
 pub use counted::{Counted, CountedWrite};
+pub use liquid_core::{
+    Error, ErrorKind, Filter, HostFilters, Object, Result, State, Value, ValueCow,
+};
+pub use liquid_filters::FilterKind;
 pub use liquid_meaning::{isolation_laws, loop_laws, run_laws, worked_names, worked_runs};
+pub use liquid_syntax::{Language, Partials, Template, parse};
 pub use liquid_tags::{BlockReflection, TagReflection};
 pub use render::Renderable;
 pub use runtime::{Runtime, RuntimeBuilder};

@@ -1,16 +1,16 @@
 //! Whole renderings.
-ghost use Rattle.std.specs.Prelude.{◌≡◌, ◌<◌, ◌⊎◌, false, IfErr, IsErrAnd, string_bytes};
+ghost use Rattle.std.specs.Prelude.{◌≡◌, ◌<◌, ◌⊎◌, false, IfErr, IsErrAnd, length, string_bytes};
 ghost use Rattle.std.specs.Io.KnownBytes.{Appends};
 ghost use Rattle.liquid_model.specs.Answer.{Answers};
 ghost use Rattle.liquid_core.specs.Environment.{cut};
-ghost use Rattle.liquid_core.specs.States.{environment_of, layers_of};
+ghost use Rattle.liquid_core.specs.States.{environment_of, layers_of, loops_of};
 ghost use Rattle.liquid_syntax.specs.Templates.{tree_of};
 ghost use Rattle.liquid_tree.specs.Tree.{Nodes};
 ghost use Rattle.liquid_lib.specs.Added.{AppendsPart};
 ghost use Rattle.liquid_lib.specs.Engine.{setting_of};
 ghost use Rattle.liquid_lib.specs.Failures.{OneFailed, AtMostOneFailed};
 ghost use Rattle.liquid_meaning.specs.Isolation.{changes, names_of_run};
-ghost use Rattle.liquid_lib.specs.Kept.{LayersKept};
+ghost use Rattle.liquid_lib.specs.Kept.{LayersKept, AreRenders};
 ghost use Rattle.liquid_meaning.specs.Meaning.{meaning};
 ghost use Rattle.liquid_lib.specs.Performs.{Meets, Performs, answer_of, is_refused, unit};
 ghost use Rattle.liquid_lib.specs.Rendered.{PerformsForCut, run_in, outcome_in, names_in, at_writer, nowhere};
@@ -18,10 +18,11 @@ ghost use Rattle.liquid_meaning.specs.Runs.{buffered, ended_with};
 ghost use Rattle.liquid_lib.specs.RuntimeView.{SettingKept, layers_in, environment_in};
 
 use crate::counted::{CountedWrite, NoWriter};
-use crate::engine::run_range;
+use crate::given::Given;
+use crate::lent::run_template;
 use crate::output::Output;
 use crate::runtime::Runtime;
-use liquid_core::{ErrorKind, Result, State};
+use liquid_core::{ErrorKind, NamedFilters, Result, State};
 use liquid_syntax::{Partials, Template};
 use std::alloc::Global;
 
@@ -43,26 +44,28 @@ pub trait Renderable {
         runtime: &mut Runtime<'_>,
     ) -> Result<()>
         // text, end and environment are those of the meaning
-        ensures meaning { Performs result (run_in runtime.old (nodes self.now))
+        ensures meaning { Performs result (run_in counts answer runtime.old (nodes self.now))
             (at_writer W.contents W.failure_count writer.old (environment_in runtime.old))
             (at_writer W.contents W.failure_count writer.new (environment_in runtime.new)) }
         // text, end and changes are those for what the runtime holds under the mentioned names, layer by layer
         ensures isolated { PerformsForCut (names_in runtime.old (nodes self.now)) result
-            (run_in runtime.old (nodes self.now))
+            (run_in counts answer runtime.old (nodes self.now))
             (at_writer W.contents W.failure_count writer.old (environment_in runtime.old))
             (at_writer W.contents W.failure_count writer.new (environment_in runtime.new)) }
 
         // where the answer is neither `Memory` nor `Write`
         ensures whole { is_refused result ≡ false →
-            Appends (W.contents writer.old) (W.contents writer.new) (outcome_in runtime.old (nodes self.now)).text }
-        ensures end { is_refused result ≡ false → answer_of unit result ≡ (outcome_in runtime.old (nodes self.now)).end }
+            Appends (W.contents writer.old) (W.contents writer.new) (outcome_in counts answer runtime.old (nodes self.now)).text }
+        ensures end { is_refused result ≡ false → answer_of unit result ≡ (outcome_in counts answer runtime.old (nodes self.now)).end }
         ensures environment { is_refused result ≡ false →
-            environment_in runtime.new ≡ (outcome_in runtime.old (nodes self.now)).environment }
+            environment_in runtime.new ≡ (outcome_in counts answer runtime.old (nodes self.now)).environment }
 
         // after every answer
         ensures begun { AppendsPart (W.contents writer.old) (W.contents writer.new)
-            (outcome_in runtime.old (nodes self.now)).text }
+            (outcome_in counts answer runtime.old (nodes self.now)).text }
         ensures kept { LayersKept (names_in runtime.old (nodes self.now)) (layers_in runtime.old) (layers_in runtime.new) }
+        // nodes that are each a `render` leave the scopes, the variables, the counters, the data and the registers
+        ensures alone { AreRenders (nodes self.now) → layers_in runtime.new ≡ layers_in runtime.old }
         ensures same { SettingKept runtime.old runtime.new }
         ensures write { IfErr result (λ e. e.kind ≡ ErrorKind.Write →
             OneFailed (W.failure_count writer.old) (W.failure_count writer.new)) }
@@ -73,20 +76,22 @@ pub trait Renderable {
     /// The text, or the first fault; `Memory` where a growth was refused. Else as `render_to`.
     fn render(&self, alloc: Global, runtime: &mut Runtime<'_>) -> Result<String>
         ensures text { Answers (λ t. string_bytes t) result
-            (ended_with (outcome_in runtime.old (nodes self.now)).text (outcome_in runtime.old (nodes self.now)).end) }
+            (ended_with (outcome_in counts answer runtime.old (nodes self.now)).text (outcome_in counts answer runtime.old (nodes self.now)).end) }
         ensures environment { is_refused result ≡ false →
-            environment_in runtime.new ≡ (outcome_in runtime.old (nodes self.now)).environment }
+            environment_in runtime.new ≡ (outcome_in counts answer runtime.old (nodes self.now)).environment }
 
         // what the runtime holds under the mentioned names decides, layer by layer
         ensures isolated { let N = names_in runtime.old (nodes self.now) in
-            let o = run_in runtime.old (nodes self.now) (cut N (environment_in runtime.old)) in
+            let o = run_in counts answer runtime.old (nodes self.now) (cut N (environment_in runtime.old)) in
             Answers (λ t. string_bytes t) result (ended_with o.text o.end) }
         ensures changed { let N = names_in runtime.old (nodes self.now) in
             let e = environment_in runtime.old in
-            is_refused result ≡ false → changes e (environment_in runtime.new) ≡ changes (cut N e) (run_in runtime.old (nodes self.now) (cut N e)).environment }
+            is_refused result ≡ false → changes e (environment_in runtime.new) ≡ changes (cut N e) (run_in counts answer runtime.old (nodes self.now) (cut N e)).environment }
 
         // after every answer
         ensures kept { LayersKept (names_in runtime.old (nodes self.now)) (layers_in runtime.old) (layers_in runtime.new) }
+        // nodes that are each a `render` leave the scopes, the variables, the counters, the data and the registers
+        ensures alone { AreRenders (nodes self.now) → layers_in runtime.new ≡ layers_in runtime.old }
         ensures same { SettingKept runtime.old runtime.new };
 }
 
@@ -103,16 +108,22 @@ impl Renderable for Template {
             Some(partials) => write_template(
                 alloc,
                 self,
-                partials,
-                runtime.depth,
+                &Given {
+                    partials,
+                    host: &runtime.host,
+                    depth: runtime.depth,
+                },
                 writer,
                 &mut runtime.state,
             ),
             None => write_template(
                 alloc,
                 self,
-                &Partials::new(alloc),
-                runtime.depth,
+                &Given {
+                    partials: &Partials::new(alloc),
+                    host: &runtime.host,
+                    depth: runtime.depth,
+                },
                 writer,
                 &mut runtime.state,
             ),
@@ -124,15 +135,21 @@ impl Renderable for Template {
             Some(partials) => template_text(
                 alloc,
                 self,
-                partials,
-                runtime.depth,
+                &Given {
+                    partials,
+                    host: &runtime.host,
+                    depth: runtime.depth,
+                },
                 &mut runtime.state,
             ),
             None => template_text(
                 alloc,
                 self,
-                &Partials::new(alloc),
-                runtime.depth,
+                &Given {
+                    partials: &Partials::new(alloc),
+                    host: &runtime.host,
+                    depth: runtime.depth,
+                },
                 &mut runtime.state,
             ),
         }
@@ -140,34 +157,26 @@ impl Renderable for Template {
 }
 
 /// Runs the nodes of a template to a writer.
-fn write_template<W: CountedWrite>(
+fn write_template<W: CountedWrite, H: NamedFilters>(
     alloc: Global,
     template: &Template,
-    partials: &Partials,
-    depth: u32,
+    given: &Given<'_, H>,
     writer: &mut W,
-    state: &mut State,
+    state: &mut State<'_>,
 ) -> Result<()>
-    ensures performs { Performs result (meaning (setting_of partials.now) depth (tree_of template.now))
+    requires plain { length (loops_of state.old) ≡ 0 }
+    ensures performs { Performs result (meaning (setting_of H.named given.now) given.now.depth (tree_of template.now))
         (at_writer W.contents W.failure_count writer.old (environment_of state.old))
         (at_writer W.contents W.failure_count writer.new (environment_of state.new)) }
-    ensures kept { LayersKept (names_of_run (setting_of partials.now) (tree_of template.now)) (layers_of state.old) (layers_of state.new) }
+    ensures kept { LayersKept (names_of_run (setting_of H.named given.now) (tree_of template.now)) (layers_of state.old) (layers_of state.new) }
+    ensures alone { AreRenders (tree_of template.now) → layers_of state.new ≡ layers_of state.old }
+    ensures plain { length (loops_of state.new) ≡ 0 }
 {
     let mut out = Output {
         writer,
         buffer: None,
     };
-    let nodes = template.nodes();
-    let answer = run_range(
-        alloc,
-        partials,
-        depth,
-        nodes,
-        0,
-        nodes.len(),
-        &mut out,
-        state,
-    );
+    let answer = run_template(alloc, template, given, &mut out, state);
     let Output {
         writer: written,
         buffer,
@@ -179,17 +188,19 @@ fn write_template<W: CountedWrite>(
 }
 
 /// Runs the nodes of a template into a buffer.
-fn template_text(
+fn template_text<H: NamedFilters>(
     alloc: Global,
     template: &Template,
-    partials: &Partials,
-    depth: u32,
-    state: &mut State,
+    given: &Given<'_, H>,
+    state: &mut State<'_>,
 ) -> Result<String>
-    ensures performs { Meets (λ t. string_bytes t) result (buffered (meaning (setting_of partials.now) depth (tree_of template.now)))
+    requires plain { length (loops_of state.old) ≡ 0 }
+    ensures performs { Meets (λ t. string_bytes t) result (buffered (meaning (setting_of H.named given.now) given.now.depth (tree_of template.now)))
         (nowhere (environment_of state.old))
         (nowhere (environment_of state.new)) }
-    ensures kept { LayersKept (names_of_run (setting_of partials.now) (tree_of template.now)) (layers_of state.old) (layers_of state.new) }
+    ensures kept { LayersKept (names_of_run (setting_of H.named given.now) (tree_of template.now)) (layers_of state.old) (layers_of state.new) }
+    ensures alone { AreRenders (tree_of template.now) → layers_of state.new ≡ layers_of state.old }
+    ensures plain { length (loops_of state.new) ≡ 0 }
 {
     let mut writer = NoWriter;
     let mut out = Output {
@@ -197,17 +208,7 @@ fn template_text(
         buffer: None,
     };
     let outer = out.open(alloc);
-    let nodes = template.nodes();
-    let answer = run_range(
-        alloc,
-        partials,
-        depth,
-        nodes,
-        0,
-        nodes.len(),
-        &mut out,
-        state,
-    );
+    let answer = run_template(alloc, template, given, &mut out, state);
     let text = out.close(outer);
     answer?;
     Ok(text)

@@ -1,172 +1,28 @@
-//! What a template is run in.
-ghost use Rattle.std.specs.Prelude.{◌≡◌, [], map, option_map, string_bytes, IfErr, IsOk, IsTrue, OnErr};
-ghost use Rattle.std.specs.Option.{ok_or};
-ghost use Rattle.liquid_model.specs.Answer.{Answers, Gives, TakesNoMemory};
-ghost use Rattle.liquid_model.specs.Cow.{cow_view};
-ghost use Rattle.liquid_model.specs.Errors.{HasMessageUnlessMemory, nowhere_message};
-ghost use Rattle.liquid_core.specs.Expressions.{value_along, begins_with_text};
-ghost use Rattle.liquid_model.specs.Maps.{empty};
-ghost use Rattle.liquid_core.specs.States.{held, layers_of, new_layers, with_assigned, with_counter, with_scope_pushed, with_scope_popped};
-ghost use Rattle.liquid_model.specs.View.{view};
-ghost use Rattle.liquid_model.specs.declared.error.ErrorKind.TheVariants.{UnknownVariable};
-ghost use Rattle.liquid_syntax.specs.Templates.{partials_of};
-ghost use Rattle.liquid_lib.specs.RuntimeView.{SettingKept, layers_in, environment_in, setting_in, depth_in, globals_for, partials_for, depth_for};
+//! What a template is run in: the types.
+ghost use Rattle.std.specs.Prelude.{◌≡◌, length};
+ghost use Rattle.liquid_core.specs.States.{loops_of};
 
-use liquid_core::{Object, Result, State, Value, ValueCow};
+use liquid_core::{HostFilters, Object, State};
 use liquid_syntax::Partials;
-use std::alloc::Global;
-use std::collections::BTreeMap;
 
 /// Makes a runtime.
 #[derive(Drop)]
 pub struct RuntimeBuilder<'p> {
-    globals: Object,
-    partials: Option<&'p Partials>,
-    depth: u32,
+    pub(crate) globals: Object,
+    pub(crate) partials: Option<&'p Partials>,
+    pub(crate) host: Option<&'p HostFilters>,
+    pub(crate) depth: u32,
 }
 
-impl<'p> RuntimeBuilder<'p> {
-    /// A builder without data and partials, of 32 nested partials. It takes no memory.
-    pub fn new(alloc: Global) -> RuntimeBuilder<'p>
-        ensures globals { globals_for result ≡ empty }
-        ensures partials { partials_for result ≡ [] }
-        ensures depth { depth_for result ≡ 32 }
-    {
-        RuntimeBuilder {
-            globals: BTreeMap::new(alloc),
-            partials: None,
-            depth: 32,
-        }
-    }
-
-    /// Hands in the data.
-    pub fn set_globals(self, globals: Object) -> RuntimeBuilder<'p>
-        ensures globals { globals_for result ≡ held globals }
-        ensures partials { partials_for result ≡ partials_for self.entry }
-        ensures depth { depth_for result ≡ depth_for self.entry }
-    {
-        RuntimeBuilder {
-            globals,
-            partials: self.partials,
-            depth: self.depth,
-        }
-    }
-
-    /// Lends the partials.
-    pub fn set_partials(self, partials: &'p Partials) -> RuntimeBuilder<'p>
-        ensures globals { globals_for result ≡ globals_for self.entry }
-        ensures partials { partials_for result ≡ partials_of partials.now }
-        ensures depth { depth_for result ≡ depth_for self.entry }
-    {
-        RuntimeBuilder {
-            globals: self.globals,
-            partials: Some(partials),
-            depth: self.depth,
-        }
-    }
-
-    /// Says how many partials may be nested.
-    pub fn set_depth(self, depth: u32) -> RuntimeBuilder<'p>
-        ensures globals { globals_for result ≡ globals_for self.entry }
-        ensures partials { partials_for result ≡ partials_for self.entry }
-        ensures depth { depth_for result ≡ depth }
-    {
-        RuntimeBuilder {
-            globals: self.globals,
-            partials: self.partials,
-            depth,
-        }
-    }
-
-    /// The runtime. It takes no memory.
-    pub fn build(self, alloc: Global) -> Runtime<'p>
-        ensures layers { layers_in result ≡ new_layers (globals_for self.entry) }
-        ensures partials { (setting_in result).partials ≡ partials_for self.entry }
-        ensures depth { depth_in result ≡ depth_for self.entry }
-    {
-        Runtime {
-            state: State::new(alloc, self.globals),
-            partials: self.partials,
-            depth: self.depth,
-        }
-    }
-}
-
-/// The names and registers that templates read and change, with the partials and how many of them may be nested.
+/// The names and registers that templates read and change, with the host's filters, the partials and how many of them may
+/// be nested.
 ///
 /// It can be used again after any fault.
 #[derive(Drop)]
 pub struct Runtime<'p> {
-    pub(crate) state: State,
+    pub(crate) state: State<'p>,
     pub(crate) partials: Option<&'p Partials>,
+    pub(crate) host: Option<&'p HostFilters>,
     pub(crate) depth: u32,
-}
-
-impl<'p> Runtime<'p> {
-    /// The state alone, in which expressions are evaluated.
-    pub fn state(&self) -> &State
-        ensures { layers_of result.now ≡ layers_in self.now }
-    {
-        &self.state
-    }
-
-    /// What a path leads to, as `State::try_get`. It refuses for `Memory` alone, and takes memory only for the text of a
-    /// first step that is no text itself.
-    pub fn try_get<'a>(&'a self, alloc: Global, path: &[Value]) -> Result<Option<ValueCow<'a>>>
-        ensures value { Gives (λ r. option_map cow_view r) result (value_along (environment_in self.now) (map view path.now)) }
-        ensures no_memory { IsTrue (begins_with_text (map view path.now)) → IsOk result }
-    {
-        self.state.try_get(alloc, path)
-    }
-
-    /// The same, or `UnknownVariable` where the path leads to nothing: that fault's message takes memory too.
-    pub fn get<'a>(&'a self, alloc: Global, path: &[Value]) -> Result<ValueCow<'a>>
-        ensures value { Answers cow_view result (ok_or (value_along (environment_in self.now) (map view path.now)) UnknownVariable) }
-        ensures no_memory { IsTrue (begins_with_text (map view path.now)) → TakesNoMemory result (ok_or (value_along (environment_in self.now) (map view path.now)) UnknownVariable) }
-        ensures message { IfErr result (λ e. HasMessageUnlessMemory (nowhere_message (map view path.now)) e) }
-    {
-        self.state.get(alloc, path)
-    }
-
-    /// Sets an assigned variable. Without the memory for it nothing changes.
-    pub fn set_global(&mut self, name: String, value: Value) -> Result<()>
-        ensures set { Gives (λ _. layers_in self.new) result (with_assigned (string_bytes name) (view value) (layers_in self.old)) }
-        ensures unchanged { OnErr result (layers_in self.new ≡ layers_in self.old) }
-        ensures same { SettingKept self.old self.new }
-    {
-        self.state.set_global(name, value)
-    }
-
-    /// The counter of the name.
-    pub fn get_index<'a>(&'a self, name: &str) -> Option<&'a Value>
-        ensures { option_map (λ v. view v.now) result ≡ (layers_in self.now).counters name.now }
-    {
-        self.state.get_index(name)
-    }
-
-    /// Sets a counter. Without the memory for it nothing changes.
-    pub fn set_index(&mut self, name: String, value: Value) -> Result<()>
-        ensures set { Gives (λ _. layers_in self.new) result (with_counter (string_bytes name) (view value) (layers_in self.old)) }
-        ensures unchanged { OnErr result (layers_in self.new ≡ layers_in self.old) }
-        ensures same { SettingKept self.old self.new }
-    {
-        self.state.set_index(name, value)
-    }
-
-    /// Adds an innermost scope. Without the memory for it nothing changes.
-    pub fn push_scope(&mut self, scope: Object) -> Result<()>
-        ensures pushed { Gives (λ _. layers_in self.new) result (with_scope_pushed (held scope) (layers_in self.old)) }
-        ensures unchanged { OnErr result (layers_in self.new ≡ layers_in self.old) }
-        ensures same { SettingKept self.old self.new }
-    {
-        self.state.push_scope(scope)
-    }
-
-    /// Takes off the innermost scope.
-    pub fn pop_scope(&mut self)
-        ensures popped { layers_in self.new ≡ with_scope_popped (layers_in self.old) }
-        ensures same { SettingKept self.old self.new }
-    {
-        self.state.pop_scope()
-    }
+    ghost plain: { length (loops_of state) ≡ 0 },
 }

@@ -2,18 +2,25 @@
 ghost use Rattle.std.specs.Prelude.{◌≡◌, IfOk, IfErr};
 ghost use Rattle.liquid_model.specs.Answer.{Gives};
 ghost use Rattle.liquid_model.specs.Maps.{insert, listed};
-ghost use Rattle.liquid_lib.specs.Standard.{IsStandard, with_filters};
+ghost use Rattle.liquid_core.specs.Environment.{bind_each};
+ghost use Rattle.liquid_lib.specs.Standard.{IsStandard, standard_blocks, standard_tags, with_filters};
 ghost use Rattle.liquid_syntax.specs.Languages.{kinds_of};
+ghost use Rattle.liquid_syntax.specs.Registered.{registered_in};
+ghost use Rattle.liquid_syntax.specs.declared.registered_filter.RegisteredFilter.TheVariants.{Kind};
 
 use liquid_core::{ErrorKind, Result};
-use liquid_filters::{FilterKind, stdlib};
-use liquid_syntax::{BlockKind, Language, Registry, TagKind};
-use liquid_tags::stdlib::{AssignTag, CommentBlock, IfBlock, RawBlock, UnlessBlock};
+use liquid_filters::{FilterKind, extra, jekyll, shopify, stdlib};
+use liquid_syntax::{BlockKind, FilterRegistry, Language, Registry, TagKind};
+use liquid_tags::stdlib::{
+    AssignTag, BreakTag, CaptureBlock, CaseBlock, CommentBlock, ContinueTag, CycleTag,
+    DecrementTag, IfBlock, IfChangedBlock, IncludeTag, IncrementTag, RawBlock, RenderTag,
+    UnlessBlock,
+};
 use liquid_tags::{BlockReflection, TagReflection};
 use std::alloc::Global;
 
 /// The filters of the standard library.
-pub const STANDARD_FILTERS: [FilterKind; 47] = [
+pub const STANDARD_FILTERS: [FilterKind; 56] = [
     FilterKind::Join(stdlib::Join),
     FilterKind::Sort(stdlib::Sort),
     FilterKind::SortNatural(stdlib::SortNatural),
@@ -61,6 +68,15 @@ pub const STANDARD_FILTERS: [FilterKind; 47] = [
     FilterKind::NewlineToBr(stdlib::NewlineToBr),
     FilterKind::UrlEncode(stdlib::UrlEncode),
     FilterKind::UrlDecode(stdlib::UrlDecode),
+    FilterKind::Date(stdlib::Date),
+    FilterKind::Push(jekyll::Push),
+    FilterKind::Unshift(jekyll::Unshift),
+    FilterKind::Pop(jekyll::Pop),
+    FilterKind::Shift(jekyll::Shift),
+    FilterKind::ArrayToSentenceString(jekyll::ArrayToSentenceString),
+    FilterKind::Slugify(jekyll::Slugify),
+    FilterKind::Pluralize(shopify::Pluralize),
+    FilterKind::DateInTz(extra::DateInTz),
 ];
 
 /// The language of the standard library, as far as its tags, blocks and filters exist: each under the name that Liquid
@@ -70,10 +86,38 @@ pub fn language(alloc: Global) -> Result<Language>
     ensures memory { IfErr result (λ e. e.kind ≡ ErrorKind.Memory) }
 {
     let mut language = Language::new(alloc);
-    let tags = &mut language.tags;
+    register_tags(alloc, &mut language.tags)?;
+    register_blocks(alloc, &mut language.blocks)?;
+    register_filters(alloc, &mut language.filters, &STANDARD_FILTERS)?;
+    Ok(language)
+}
+
+/// Registers the standard tags.
+fn register_tags(alloc: Global, tags: &mut Registry<TagKind>) -> Result<()>
+    ensures { Gives (λ _. listed (kinds_of tags.new)) result (bind_each standard_tags (listed (kinds_of tags.old))) }
+{
     let assign = AssignTag::new();
     register(alloc, tags, assign.tag(), TagKind::from(assign))?;
-    let blocks = &mut language.blocks;
+    let break_tag = BreakTag::new();
+    register(alloc, tags, break_tag.tag(), TagKind::from(break_tag))?;
+    let continue_tag = ContinueTag::new();
+    register(alloc, tags, continue_tag.tag(), TagKind::from(continue_tag))?;
+    let increment = IncrementTag::new();
+    register(alloc, tags, increment.tag(), TagKind::from(increment))?;
+    let decrement = DecrementTag::new();
+    register(alloc, tags, decrement.tag(), TagKind::from(decrement))?;
+    let include = IncludeTag::new();
+    register(alloc, tags, include.tag(), TagKind::from(include))?;
+    let render = RenderTag::new();
+    register(alloc, tags, render.tag(), TagKind::from(render))?;
+    let cycle = CycleTag::new();
+    register(alloc, tags, cycle.tag(), TagKind::from(cycle))
+}
+
+/// Registers the standard blocks.
+fn register_blocks(alloc: Global, blocks: &mut Registry<BlockKind>) -> Result<()>
+    ensures { Gives (λ _. listed (kinds_of blocks.new)) result (bind_each standard_blocks (listed (kinds_of blocks.old))) }
+{
     let raw = RawBlock::new();
     register(alloc, blocks, raw.start_tag(), BlockKind::from(raw))?;
     let comment = CommentBlock::new();
@@ -87,8 +131,12 @@ pub fn language(alloc: Global) -> Result<Language>
     )?;
     let unless = UnlessBlock::new();
     register(alloc, blocks, unless.start_tag(), BlockKind::from(unless))?;
-    register_filters(alloc, &mut language.filters, &STANDARD_FILTERS)?;
-    Ok(language)
+    let case = CaseBlock::new();
+    register(alloc, blocks, case.start_tag(), BlockKind::from(case))?;
+    let capture = CaptureBlock::new();
+    register(alloc, blocks, capture.start_tag(), BlockKind::from(capture))?;
+    let changed = IfChangedBlock::new();
+    register(alloc, blocks, changed.start_tag(), BlockKind::from(changed))
 }
 
 /// Registers a kind under a name.
@@ -104,15 +152,23 @@ fn register<K: Copy + Drop>(
 }
 
 /// Registers each filter under its own name.
-fn register_filters(
-    alloc: Global,
-    filters: &mut Registry<FilterKind>,
-    kinds: &[FilterKind],
-) -> Result<()>
-    ensures { Gives (λ _. listed (kinds_of filters.new)) result (with_filters (listed (kinds_of filters.old)) kinds.now) }
+fn register_filters(alloc: Global, filters: &mut FilterRegistry, kinds: &[FilterKind]) -> Result<()>
+    ensures { Gives (λ _. listed (registered_in filters.new)) result (with_filters (listed (registered_in filters.old)) kinds.now) }
 {
     for kind in kinds {
-        register(alloc, filters, kind.name(), *kind)?;
+        register_filter(alloc, filters, kind.name(), *kind)?;
     }
     Ok(())
+}
+
+/// Registers a filter under a name.
+fn register_filter(
+    alloc: Global,
+    filters: &mut FilterRegistry,
+    name: &str,
+    kind: FilterKind,
+) -> Result<()>
+    ensures { Gives (λ _. listed (registered_in filters.new)) result (insert (listed (registered_in filters.old)) name.now (Kind kind)) }
+{
+    filters.register(String::from_str(alloc, name)?, kind)
 }

@@ -1,3 +1,18 @@
-//! The tags and blocks of Liquid's standard library.
+//! The tags, blocks and filters of Liquid's standard library.
 
-pub use liquid_tags::stdlib::{AssignTag, CommentBlock, IfBlock, RawBlock, UnlessBlock};
+mod blocks;
+
+pub use blocks::ForloopObject;
+pub use liquid_filters::stdlib::{
+    Abs, Append, AtLeast, AtMost, Capitalize, Ceil, Compact, Concat, Date, Default, DividedBy,
+    Downcase, Escape, EscapeOnce, First, Floor, Join, Last, Lstrip, Map, Minus, Modulo,
+    NewlineToBr, Plus, Prepend, Remove, RemoveFirst, Replace, ReplaceFirst, Reverse, Round, Rstrip,
+    Size, Slice, Sort, SortNatural, Split, Strip, StripHtml, StripNewlines, Times, Truncate,
+    TruncateWords, Uniq, Upcase, UrlDecode, UrlEncode, Where,
+};
+pub use liquid_syntax::{Range, RangeExpression};
+pub use liquid_tags::stdlib::{
+    AssignTag, BreakTag, CaptureBlock, CaseBlock, CommentBlock, ContinueTag, CycleTag,
+    DecrementTag, IfBlock, IfChangedBlock, IncludeTag, IncrementTag, RawBlock, RenderTag,
+    UnlessBlock,
+};

@@ -1,5 +1,5 @@
 //! The standard set of filters.
-mod filters;
+pub(crate) mod filters;
 
 pub use filters::array::ends::{First, Last};
 pub use filters::array::join::Join;

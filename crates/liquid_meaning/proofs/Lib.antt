@@ -1,4 +1,5 @@
 pub mod Apart
+pub mod Assigning
 pub mod Cells
 pub mod Changes
 pub mod Computed

@@ -1,13 +1,18 @@
 -- The rules of nodes, to go by: to unfold `node_meaning` elsewhere shows the rule of every kind.
-use Rattle.std.specs.Prelude.{◌≡◌, cond}
+use Rattle.std.specs.Prelude.{◌≡◌, pos, ◌+ℤ◌, ◌-ℤ◌, cond, List, ◌++◌, Some, None, codes}
+use Rattle.std.specs.Fmt.{signed_decimal}
 use mathlib.Core.Path.{refl}
-use Rattle.liquid_model.specs.Texts.{Text}
-use Rattle.liquid_model.specs.Data.{text_of}
-use Rattle.liquid_tree.specs.Tree.{Chain, Condition, Nodes, plain, raw, comment, output, assign, if_true, unless}
-use Rattle.liquid_tree.specs.Evaluation.{chain_value, truth_of}
-use Rattle.liquid_meaning.specs.Runs.{Nothing, Run, done, evaluate, change, write, ◌>>=◌}
-use Rattle.liquid_meaning.specs.Effects.{assigned_to}
-use Rattle.liquid_meaning.specs.Meaning.{Setting, node_meaning, nodes_meaning}
+use Rattle.liquid_model.specs.Texts.{Text, ◌else◌}
+use Rattle.liquid_model.specs.Data.{Datum, text, text_of}
+use Rattle.liquid_model.specs.Maps.{empty, merged, listed}
+use Rattle.liquid_core.specs.Expression.{Expression}
+use Rattle.liquid_core.specs.Expressions.{required}
+use Rattle.liquid_core.specs.declared.interrupt.Interrupt.TheVariants.{Break, Continue}
+use Rattle.liquid_tree.specs.Tree.{Bindings, Chain, Condition, Nodes, Whens, no_whens, when, plain, raw, comment, output, assign, increment, decrement, break_loop, continue_loop, cycle, if_true, unless, case_of, capture, ifchanged, include, jekyll_include, render}
+use Rattle.liquid_tree.specs.Evaluation.{chain_value, truth_of, bound_values}
+use Rattle.liquid_meaning.specs.Runs.{Nothing, Run, done, read, evaluate, change, write, ◌>>=◌, with_scope, buffered, apart}
+use Rattle.liquid_meaning.specs.Effects.{assigned_to, counted_to, interrupted_by, changed_to, counter_number, is_last_text}
+use Rattle.liquid_meaning.specs.Meaning.{Setting, within_i64, cycle_meaning, has_equal, name_of, found, include_scope, pairs_scope, node_meaning, nodes_meaning, whens_meaning}
 
 module _ (setting : Setting) (deeper : Nodes → Run Nothing) where
   pub plain_rule : (t : Text) → node_meaning setting deeper (plain t) ≡ write t
@@ -39,3 +44,63 @@ module _ (setting : Setting) (deeper : Nodes → Run Nothing) where
       ≡ (evaluate (truth_of condition) >>= (λ holds. cond holds (nodes_meaning setting deeper otherwise) (nodes_meaning setting deeper body)))
   unfolding node_meaning
   unless_rule condition body otherwise = refl
+
+  pub break_rule : node_meaning setting deeper break_loop ≡ change (interrupted_by (Some Break))
+  unfolding node_meaning
+  break_rule = refl
+
+  pub continue_rule : node_meaning setting deeper continue_loop ≡ change (interrupted_by (Some Continue))
+  unfolding node_meaning
+  continue_rule = refl
+
+  pub capture_rule : (name : Text) (body : Nodes) → node_meaning setting deeper (capture name body) ≡ (buffered (nodes_meaning setting deeper body) >>= (λ t. change (assigned_to name (text t))))
+  unfolding node_meaning
+  capture_rule name body = refl
+
+  pub include_rule : (x : Expression) (bindings : Bindings) → node_meaning setting deeper (include x bindings)
+      ≡ (evaluate (name_of x) >>= (λ name. evaluate (bound_values bindings) >>= (λ pairs. evaluate (λ e. found (listed setting.partials name)) >>= (λ partial. with_scope (pairs_scope pairs) (deeper partial)))))
+  unfolding node_meaning
+  include_rule x bindings = refl
+
+  pub jekyll_rule : (name : Text) (bindings : Bindings) → node_meaning setting deeper (jekyll_include name bindings)
+      ≡ (evaluate (bound_values bindings) >>= (λ pairs. evaluate (λ e. found (listed setting.partials name)) >>= (λ partial. with_scope (include_scope pairs) (deeper partial))))
+  unfolding node_meaning
+  jekyll_rule name bindings = refl
+
+  pub render_rule : (x : Expression) (bindings : Bindings) → node_meaning setting deeper (render x None bindings)
+      ≡ (evaluate (name_of x) >>= (λ name. (evaluate (bound_values bindings) >>= (λ pairs. evaluate (λ e. found (listed setting.partials name else listed setting.partials (name ++ codes ".liquid"))) >>= (λ partial. apart (pairs_scope pairs) (deeper partial)))) >>= (λ left. done tt)))
+  unfolding node_meaning merged empty
+  render_rule x bindings = refl
+
+  pub increment_rule : (name : Text) → node_meaning setting deeper (increment name)
+      ≡ (read (counter_number name) >>= (λ n. within_i64 (n +ℤ pos 1) >>= (λ a. write (signed_decimal n) >>= (λ b. change (counted_to name (n +ℤ pos 1))))))
+  unfolding node_meaning
+  increment_rule name = refl
+
+  pub decrement_rule : (name : Text) → node_meaning setting deeper (decrement name)
+      ≡ (read (counter_number name) >>= (λ n. within_i64 (n -ℤ pos 1) >>= (λ a. write (signed_decimal (n -ℤ pos 1)) >>= (λ b. change (counted_to name (n -ℤ pos 1))))))
+  unfolding node_meaning
+  decrement_rule name = refl
+
+  pub cycle_rule : (group : Text) (values : List Expression) → node_meaning setting deeper (cycle group values) ≡ cycle_meaning group values
+  unfolding node_meaning
+  cycle_rule group values = refl
+
+  pub case_rule : (target : Expression) (whens : Whens) (otherwise : Nodes) → node_meaning setting deeper (case_of target whens otherwise)
+      ≡ (evaluate (required target) >>= (λ d. whens_meaning setting deeper whens d (nodes_meaning setting deeper otherwise)))
+  unfolding node_meaning
+  case_rule target whens otherwise = refl
+
+  pub whens_none : (d : Datum) (otherwise : Run Nothing) → whens_meaning setting deeper no_whens d otherwise ≡ otherwise
+  unfolding whens_meaning
+  whens_none d otherwise = refl
+
+  pub whens_more : (values : List Expression) (body : Nodes) (more : Whens) (d : Datum) (otherwise : Run Nothing) → whens_meaning setting deeper (when values body more) d otherwise
+      ≡ (has_equal d values >>= (λ hit. cond hit (nodes_meaning setting deeper body) (whens_meaning setting deeper more d otherwise)))
+  unfolding whens_meaning
+  whens_more values body more d otherwise = refl
+
+  pub ifchanged_rule : (body : Nodes) → node_meaning setting deeper (ifchanged body)
+      ≡ (buffered (nodes_meaning setting deeper body) >>= (λ t. read (λ e. e.registers.changed) >>= (λ last. cond (is_last_text last t) (done tt) (write t) >>= (λ a. change (changed_to t)))))
+  unfolding node_meaning
+  ifchanged_rule body = refl

@@ -1,55 +1,33 @@
 -- Runs end by kinds of runs.
 use Rattle.std.specs.Prelude.{ℕ, zero, suc, ◌+ℤ◌, ◌-ℤ◌, pos, ℤ, Bool, true, false, cond, T, List, [], ◌∷◌, slice_get, Option, Some, None, Result, Ok, Err}
-use mathlib.Core.Path.{refl, ap, subst}
-use Rattle.std.specs.Option.{ok_or}
+use mathlib.Core.Path.{refl}
 use Rattle.liquid_model.specs.Texts.{Text}
 use Rattle.liquid_model.specs.Data.{Datum, nil, truth, number, text, array, object}
 use Rattle.liquid_model.specs.declared.error.ErrorKind.{ErrorKind}
-use Rattle.liquid_model.specs.declared.error.ErrorKind.TheVariants.{UnknownVariable}
+use Rattle.liquid_model.specs.declared.error.ErrorKind.TheVariants.{UnknownVariable, Unsupported}
 use Rattle.liquid_core.specs.declared.interrupt.Interrupt.{Interrupt}
 use Rattle.liquid_core.specs.Expression.{Expression}
-use Rattle.liquid_model.specs.Fallible as fallible
 use Rattle.liquid_core.specs.Expressions.{required, all_required, needed_whole, value_of}
 use Rattle.liquid_model.specs.Maps.{Map, merged}
 use Rattle.liquid_core.specs.Environment.{Environment}
-use Rattle.liquid_filters.specs.declared.kind.FilterKind.{FilterKind}
 use Rattle.liquid_tree.specs.declared.comparison.ComparisonOperator.{ComparisonOperator}
 use Rattle.liquid_tree.specs.declared.comparison.ComparisonOperator.TheVariants.{Equals, NotEquals, LessThan, GreaterThan, LessThanEquals, GreaterThanEquals, Contains}
 use Rattle.liquid_tree.specs.Calls.{applied}
-use Rattle.liquid_tree.specs.Tree.{FilterCall, Chain, Atom, bare, compared, Condition, Source, each_of, counted, Window, Bindings, Node, plain, raw, comment, output, assign, increment, decrement, break_loop, continue_loop, cycle, if_true, unless, case_of, for_each, tablerow, capture, ifchanged, include, jekyll_include, render, Nodes, no_nodes, node, Whens, no_whens, when}
+use Rattle.liquid_tree.specs.Tree.{Filter, FilterCall, Chain, Atom, bare, compared, Condition, Source, each_of, counted, Window, Bindings, Node, plain, raw, comment, output, assign, increment, decrement, break_loop, continue_loop, cycle, if_true, unless, case_of, for_each, tablerow, capture, ifchanged, include, jekyll_include, render, Nodes, no_nodes, node, Whens, no_whens, when}
 use Rattle.liquid_tree.specs.Evaluation.{FilterAnswers, entry_value, calls_by, chain_value, contains, comparison_truth, atom_truth, all_true, truth_of, value_items, not_too_long, source_items, amount, asked_for, bound_values}
 use Rattle.liquid_meaning.specs.Runs.{Nothing, Run, done, read, evaluate, fault, change, write, go_on, ◌>>=◌, with_scope, ended_with, buffered, apart}
 use Rattle.liquid_meaning.specs.Effects.{take_interrupt, if_none, unless_interrupted}
 use Rattle.liquid_meaning.specs.Loops.{until_break, for_all, if_empty, needs_columns, loop, rows}
 use Rattle.liquid_meaning.specs.Meaning.{Setting, write_item, cycle_meaning, has_equal, within_i64, named, name_of, found, render_apart, node_meaning, nodes_meaning, whens_meaning, deeper_meaning, meaning}
-use Rattle.liquid_meaning.specs.Laws.{is_run_kind, EndsAsRun, KindsOfRuns}
+use Rattle.liquid_filters.specs.RunKinds.{is_run_kind, EndsAsRun}
+use Rattle.liquid_filters.proofs.AnswerKinds.{kinds_of_answers}
+use Rattle.liquid_filters.proofs.Ended.{Ended, ended_ok, ended_err, ended_then, ended_cond, ended_ok_or}
+use Rattle.liquid_core.specs.Hosts.{no_host}
+use Rattle.liquid_tree.specs.Evaluation.{answers_with}
+use Rattle.liquid_tree.specs.Tree.{existing, hosted}
+use Rattle.liquid_meaning.specs.Laws.{KindsOfRuns, KindsOfOwnRuns}
 
 -- ---- what is evaluated
-
-record Ended {A : Type 0} (x : Result A ErrorKind) : Type 0 where
-  ended : EndsAsRun x
-
-abbrev kind_in : {A : Type 0} → Result A ErrorKind → ErrorKind
-kind_in (Ok a) = UnknownVariable
-kind_in (Err kind) = kind
-
-ended_ok : {A : Type 0} (a : A) → Ended {A = A} (Ok a)
-ended_ok a = record { ended = λ kind h. cc }
-
-ended_err : {A : Type 0} (kind : ErrorKind) → T (is_run_kind kind) → Ended {A = A} (Err kind)
-ended_err kind ok = record { ended = λ k h. subst (λ x. T (is_run_kind x)) (ap kind_in h) ok }
-
-ended_then : {A B : Type 0} {x : Result A ErrorKind} {k : A → Result B ErrorKind} → Ended x → ((a : A) → Ended (k a)) → Ended (fallible.◌>>=◌ x k)
-ended_then {x = Ok a} ix ik = ik a
-ended_then {x = Err kind} ix ik = ended_err kind (ix.ended kind refl)
-
-ended_cond : {A : Type 0} {x y : Result A ErrorKind} (b : Bool) → Ended x → Ended y → Ended (cond b x y)
-ended_cond true i j = i
-ended_cond false i j = j
-
-ended_ok_or : {A : Type 0} (o : Option A) (kind : ErrorKind) → T (is_run_kind kind) → Ended (ok_or o kind)
-ended_ok_or None kind ok = ended_err kind ok
-ended_ok_or (Some a) kind ok = ended_ok a
 
 ended_required : (x : Expression) (e : Environment) → Ended (required x e)
 ended_required x e = ended_ok_or (value_of x e) UnknownVariable tt
@@ -63,7 +41,7 @@ unfolding all_required
 ended_all_required [] e = ended_ok []
 ended_all_required (x ∷ xs) e = ended_then (ended_required x e) (λ d. ended_then (ended_all_required xs e) (λ ds. ended_ok _))
 
-ended_calls : (answers : FilterAnswers) → ((filter : FilterKind) (d : Datum) (ds : List Datum) → Ended (answers filter d ds)) → (calls : List FilterCall) (d : Datum) (e : Environment) → Ended (applied (calls_by answers calls) d e)
+ended_calls : (answers : FilterAnswers) → ((filter : Filter) (d : Datum) (ds : List Datum) → Ended (answers filter d ds)) → (calls : List FilterCall) (d : Datum) (e : Environment) → Ended (applied (calls_by answers calls) d e)
 unfolding applied
 ended_calls answers i [] d e = ended_ok d
 ended_calls answers i (call ∷ calls) d e = ended_then (ended_all_required call.arguments e) (λ ds. ended_then (i call.filter d ds) (λ answer. ended_calls answers i calls answer e))
@@ -73,7 +51,7 @@ ended_entry (Some d) calls = ended_ok d
 ended_entry None [] = ended_err UnknownVariable tt
 ended_entry None (call ∷ calls) = ended_ok nil
 
-ended_chain : (answers : FilterAnswers) → ((filter : FilterKind) (d : Datum) (ds : List Datum) → Ended (answers filter d ds)) → (chain : Chain) (e : Environment) → Ended (chain_value answers chain e)
+ended_chain : (answers : FilterAnswers) → ((filter : Filter) (d : Datum) (ds : List Datum) → Ended (answers filter d ds)) → (chain : Chain) (e : Environment) → Ended (chain_value answers chain e)
 unfolding chain_value
 ended_chain answers i chain e = ended_then (ended_entry (value_of chain.entry e) chain.filters) (λ d. ended_calls answers i chain.filters d e)
 
@@ -271,7 +249,7 @@ ends_source source = ends_evaluate (ended_source source)
 
 -- ---- the tree
 
-module _ (setting : Setting) (answers_end : (filter : FilterKind) (d : Datum) (ds : List Datum) → Ended (setting.answers filter d ds)) (deeper : Nodes → Run Nothing) (deeper_ends : (nodes : Nodes) → Ends (deeper nodes)) where
+module _ (setting : Setting) (answers_end : (filter : Filter) (d : Datum) (ds : List Datum) → Ended (setting.answers filter d ds)) (deeper : Nodes → Run Nothing) (deeper_ends : (nodes : Nodes) → Ends (deeper nodes)) where
   ends_render_apart : (name : Text) (bindings : Bindings) (over : Map Datum) → Ends (render_apart setting deeper name bindings over)
   ends_render_apart name bindings over = ends_bind (ends_pairs bindings) (λ pairs. ends_bind (ends_found _) (λ partial. ends_apart _ (deeper_ends partial)))
 
@@ -314,7 +292,7 @@ module _ (setting : Setting) (answers_end : (filter : FilterKind) (d : Datum) (d
     whens_end no_whens target otherwise i = i
     whens_end (when values body more) target otherwise i = ends_bind (ends_has_equal target values) (λ hit. ends_cond hit (nodes_end body) (whens_end more target otherwise i))
 
-deeper_end : (setting : Setting) → ((filter : FilterKind) (d : Datum) (ds : List Datum) → Ended (setting.answers filter d ds)) → (depth : ℕ) (nodes : Nodes) → Ends (deeper_meaning setting depth nodes)
+deeper_end : (setting : Setting) → ((filter : Filter) (d : Datum) (ds : List Datum) → Ended (setting.answers filter d ds)) → (depth : ℕ) (nodes : Nodes) → Ends (deeper_meaning setting depth nodes)
 unfolding deeper_meaning
 deeper_end setting i zero nodes = ends_fault _ tt
 deeper_end setting i (suc depth) nodes = nodes_end setting i (deeper_meaning setting depth) (deeper_end setting i depth) nodes
@@ -322,5 +300,12 @@ deeper_end setting i (suc depth) nodes = nodes_end setting i (deeper_meaning set
 pub kinds_of_runs : KindsOfRuns
 unfolding meaning
 kinds_of_runs setting i depth nodes e =
-    let j : (filter : FilterKind) (d : Datum) (ds : List Datum) → Ended (setting.answers filter d ds) = λ filter d ds. record { ended = i filter d ds } in
+    let j : (filter : Filter) (d : Datum) (ds : List Datum) → Ended (setting.answers filter d ds) = λ filter d ds. record { ended = i filter d ds } in
     ((nodes_end setting j (deeper_meaning setting depth) (deeper_end setting j depth) nodes).ends e).ended
+
+own_answers : (filter : Filter) (d : Datum) (ds : List Datum) → EndsAsRun (answers_with no_host filter d ds)
+own_answers (existing kind) d ds = kinds_of_answers kind d ds
+own_answers (hosted name) d ds = (ended_err {A = Datum} Unsupported tt).ended
+
+pub kinds_of_own_runs : KindsOfOwnRuns
+kinds_of_own_runs partials depth nodes e = kinds_of_runs (record { answers = answers_with no_host; partials = partials }) own_answers depth nodes e

@@ -39,11 +39,11 @@ module _ {name : Text} where
   unfolding fault
   stays_fault kind = record { stays = λ e h. h }
 
-  stays_write : (t : Text) → Stays name (write t)
+  pub stays_write : (t : Text) → Stays name (write t)
   unfolding write
   stays_write t = record { stays = λ e h. h }
 
-  stays_read : {A : Type 0} (x : Environment → A) → Stays name (read x)
+  pub stays_read : {A : Type 0} (x : Environment → A) → Stays name (read x)
   unfolding read
   stays_read x = record { stays = λ e h. h }
 
@@ -52,11 +52,11 @@ module _ {name : Text} where
   stays_evaluate x = record { stays = λ e h. h }
 
   -- a change of something else
-  stays_change : (x : Environment → Environment) → ((e : Environment) → (x e).assigned ≡ e.assigned) → Stays name (change x)
+  pub stays_change : (x : Environment → Environment) → ((e : Environment) → (x e).assigned ≡ e.assigned) → Stays name (change x)
   unfolding change
   stays_change x same = record { stays = λ e h. subst (λ m. IsSome (m name)) (sym (same e)) h }
 
-  stays_assign : (target : Text) (d : Datum) → Stays name (change (assigned_to target d))
+  pub stays_assign : (target : Text) (d : Datum) → Stays name (change (assigned_to target d))
   unfolding change
   stays_assign target d = record { stays = λ e h. inserted name e.assigned target d h }
 
@@ -84,7 +84,7 @@ module _ {name : Text} where
   unfolding apart
   stays_apart names m = record { stays = λ e h. h }
 
-  stays_for_all : (one : ℕ → Datum → Run Nothing) → ((k : ℕ) (d : Datum) → Stays name (one k d)) → (k : ℕ) (ds : List Datum) → Stays name (for_all one k ds)
+  pub stays_for_all : (one : ℕ → Datum → Run Nothing) → ((k : ℕ) (d : Datum) → Stays name (one k d)) → (k : ℕ) (ds : List Datum) → Stays name (for_all one k ds)
   unfolding for_all
   stays_for_all one i k [] = stays_done tt
   stays_for_all one i k (d ∷ ds) = stays_bind (i k d) (λ a. stays_for_all one i (suc k) ds)

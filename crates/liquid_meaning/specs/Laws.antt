@@ -1,15 +1,14 @@
 -- Laws of runs, beside those of isolation.
-use Rattle.std.specs.Prelude.{◌≡◌, ℕ, ◌+◌, ◌<◌, List, [], ◌∷◌, Some, Ok, IsSome, Bool, T, nat_le, Result, Err, pos, codes}
+use Rattle.std.specs.Prelude.{◌≡◌, ℕ, ◌+◌, ◌<◌, List, [], ◌∷◌, Some, Ok, IsSome, pos, codes}
 use Rattle.liquid_model.specs.Texts.{Text}
 use Rattle.liquid_model.specs.Data.{Datum, number, text}
-use Rattle.liquid_model.specs.declared.error.ErrorKind.{ErrorKind}
-use Rattle.liquid_model.specs.Told.{number_of}
 use Rattle.liquid_model.specs.Find.{find}
 use Rattle.liquid_core.specs.Environment.{Environment}
-use Rattle.liquid_filters.specs.declared.kind.FilterKind.{FilterKind}
-use Rattle.liquid_tree.specs.Tree.{Chain, Source, Window, Nodes, no_nodes, node, plain, assign, for_each}
-use Rattle.liquid_tree.specs.Evaluation.{source_items, asked_for}
-use Rattle.liquid_meaning.specs.Loops.{forloop_object}
+use Rattle.liquid_core.specs.Hosts.{no_host}
+use Rattle.liquid_filters.specs.RunKinds.{EndsAsRun}
+use Rattle.liquid_tree.specs.Tree.{Filter, Chain, Source, Window, Nodes, no_nodes, node, plain, assign, for_each}
+use Rattle.liquid_tree.specs.Evaluation.{answers_with, source_items, asked_for}
+use Rattle.liquid_core.specs.Loops.{forloop_object}
 use Rattle.liquid_meaning.specs.Meaning.{Setting, meaning}
 
 -- a template of one text is that text: its run writes it, is done and changes nothing
@@ -50,15 +49,12 @@ pub record ForloopCounts (k m : ℕ) (parent : Datum) : Type 0 where
 abbrev pub ForloopCountsItems : Type 0
 ForloopCountsItems = (k m : ℕ) (parent : Datum) → k < m → ForloopCounts k m parent
 
--- a kind of fault that a run ends by: the kinds of sources, refused memory and failed writes are none
-abbrev pub is_run_kind : ErrorKind → Bool
-is_run_kind kind = nat_le (number_of kind) 16
-
--- an end by a value, or by such a kind
-abbrev pub EndsAsRun : {A : Type 0} → Result A ErrorKind → Type 0
-EndsAsRun end = (kind : ErrorKind) → end ≡ Err kind → T (is_run_kind kind)
-
--- where the filters answer such kinds alone, every run ends so
+-- where the filters answer kinds of runs alone, every run ends by such a kind
 abbrev pub KindsOfRuns : Type 0
-KindsOfRuns = (setting : Setting) → ((filter : FilterKind) (input : Datum) (arguments : List Datum) → EndsAsRun (setting.answers filter input arguments))
+KindsOfRuns = (setting : Setting) → ((filter : Filter) (input : Datum) (arguments : List Datum) → EndsAsRun (setting.answers filter input arguments))
     → (depth : ℕ) (nodes : Nodes) (e : Environment) → EndsAsRun (meaning setting depth nodes e).end
+
+-- with the filters that exist, and none of a host, every run ends by a kind of runs
+abbrev pub KindsOfOwnRuns : Type 0
+KindsOfOwnRuns = (partials : List (Text × Nodes)) (depth : ℕ) (nodes : Nodes) (e : Environment)
+    → EndsAsRun (meaning (record { answers = answers_with no_host; partials = partials }) depth nodes e).end

@@ -1,3 +1,4 @@
+pub mod Assigning
 pub mod Effects
 pub mod Isolation
 pub mod Laws

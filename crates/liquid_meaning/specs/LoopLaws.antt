@@ -2,7 +2,7 @@
 use Rattle.std.specs.Prelude.{◌≡◌, ℕ, ◌+◌, ◌%◌, ◌==◌, ◌<◌, ℤ, pos, ◌+ℤ◌, ◌≤ℤ◌, ◌<ℤ◌, true, false, List, [], length, reverse, get_or, slice_get, Option, Some}
 use Rattle.liquid_model.specs.Data.{Datum, nil, number}
 use Rattle.liquid_tree.specs.Evaluation.{count_to, numbers_from, skipped, wanted, window_items}
-use Rattle.liquid_meaning.specs.Loops.{is_last_column}
+use Rattle.liquid_core.specs.Loops.{is_last_column}
 
 -- o of the items are left out and m are asked for: item k of the m is source item o + k, or nil where there is none; `reversed` turns these m round
 pub record WindowOf (ds : List Datum) (limit offset : Option ℤ) (o m : ℕ) : Type 0 where

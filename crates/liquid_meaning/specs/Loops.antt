@@ -1,12 +1,10 @@
 -- Loops over items that are known.
---     forloop_object k m parent      what `forloop` is at item k of m;   tablerow_object k m columns      what `tablerow` is
 --     loop name parent items body      the turns of a `for`;   rows name columns items body      the cells of a `tablerow`
 use Rattle.std.specs.Prelude.{ℕ, suc, ◌+◌, ◌-◌, ◌/◌, ◌%◌, ◌==◌, ℤ, pos, Bool, cond, ◌||◌, List, [], ◌∷◌, ◌++◌, length, Option, Some, codes, decimal, if◌then◌else◌}
 use Rattle.liquid_model.specs.Texts.{Text}
-use Rattle.liquid_model.specs.Data.{Datum, truth, number}
-use Rattle.liquid_model.specs.Lists.{object_of}
+use Rattle.liquid_model.specs.Data.{Datum}
 use Rattle.liquid_model.specs.declared.error.ErrorKind.TheVariants.{ZeroColumns}
-use Rattle.liquid_model.specs.Maps.{Map, empty, insert}
+use Rattle.liquid_core.specs.Loops.{loop_scope, forloop_object, is_last_column, tablerow_object}
 use Rattle.liquid_core.specs.declared.interrupt.Interrupt.{Interrupt}
 use Rattle.liquid_meaning.specs.Runs.{Nothing, Run, done, fault, write, ◌>>=◌, ◌>>◌, with_scope}
 use Rattle.liquid_meaning.specs.Effects.{is_break, take_interrupt}
@@ -32,20 +30,7 @@ abbrev pub if_empty : List Datum → Run Nothing → Run Nothing → Run Nothing
 if_empty [] m n = m
 if_empty (d ∷ ds) m n = n
 
--- a loop's object, and then its variable, which wins where both have one name
-abbrev pub loop_scope : Text → Datum → Text → Datum → Map Datum
-loop_scope loop value name d = insert (insert empty loop value) name d
-
-abbrev pub count : ℕ → Datum
-count n = number (pos n)
-
 -- ---- for
-
-abbrev pub forloop_object : ℕ → ℕ → Datum → Datum
-forloop_object k m parent = object_of (
-    (codes "length", count m) ∷ (codes "parentloop", parent)
-    ∷ (codes "index0", count k) ∷ (codes "index", count (k + 1)) ∷ (codes "rindex0", count (m - k - 1)) ∷ (codes "rindex", count (m - k))
-    ∷ (codes "first", truth (k == 0)) ∷ (codes "last", truth (k + 1 == m)) ∷ [])
 
 -- body for each item, with `forloop` and the variable over the local names; the interrupt is cleared after each, and a break ends the loop
 unfoldable pub loop : Text → Datum → List Datum → Run Nothing → Run Nothing
@@ -64,17 +49,6 @@ columns_of m _ = m
 abbrev pub needs_columns : List Datum → ℕ → Run Nothing
 needs_columns [] columns = done tt
 needs_columns (d ∷ ds) columns = cond (columns == 0) (fault ZeroColumns) (done tt)
-
--- the last column of its row, or the last item
-abbrev pub is_last_column : ℕ → ℕ → ℕ → Bool
-is_last_column k m columns = (k % columns + 1 == columns) || (k + 1 == m)
-
-abbrev pub tablerow_object : ℕ → ℕ → ℕ → Datum
-tablerow_object k m columns = object_of (
-    (codes "length", count m)
-    ∷ (codes "index0", count k) ∷ (codes "index", count (k + 1)) ∷ (codes "rindex0", count (m - k - 1)) ∷ (codes "rindex", count (m - k))
-    ∷ (codes "first", truth (k == 0)) ∷ (codes "last", truth (k + 1 == m))
-    ∷ (codes "col0", count (k % columns)) ∷ (codes "col", count (k % columns + 1)) ∷ (codes "col_first", truth (k % columns == 0)) ∷ (codes "col_last", truth (is_last_column k m columns)) ∷ [])
 
 -- a row begins at its first column; rows and columns are counted from 1
 abbrev pub cell_start : ℕ → ℕ → Text

@@ -23,7 +23,8 @@ use Rattle.liquid_tree.specs.Tree.{Bindings, Node, plain, raw, comment, output, 
 use Rattle.liquid_tree.specs.Evaluation.{FilterAnswers, chain_value, truth_of, source_items, amount, asked_for, bound_values}
 use Rattle.liquid_meaning.specs.Runs.{Nothing, Run, done, read, evaluate, fault, change, write, ◌>>=◌, ◌>>◌, with_scope, buffered, apart}
 use Rattle.liquid_meaning.specs.Effects.{assigned_to, counted_to, interrupted_by, cycled_to, changed_to, counter_number, cycle_index, value_or_nil, is_last_text, unless_interrupted}
-use Rattle.liquid_meaning.specs.Loops.{until_break, if_empty, loop_scope, forloop_object, loop, columns_of, rows}
+use Rattle.liquid_core.specs.Loops.{loop_scope, forloop_object}
+use Rattle.liquid_meaning.specs.Loops.{until_break, if_empty, loop, columns_of, rows}
 
 pub record Setting : Type 0 where
   pub answers : FilterAnswers

@@ -5,9 +5,8 @@ use Rattle.liquid_model.specs.Data.{Datum, nil, truth, number, object, pair, no_
 use Rattle.liquid_model.specs.declared.error.ErrorKind.TheVariants.{UnknownVariable, UnexpectedValue, ZeroColumns}
 use Rattle.liquid_core.specs.declared.interrupt.Interrupt.TheVariants.{Break}
 use Rattle.liquid_core.specs.Expression.{literal, variable, no_steps, step}
-use Rattle.liquid_filters.specs.declared.kind.FilterKind.{FilterKind}
 use Rattle.liquid_tree.specs.declared.comparison.ComparisonOperator.TheVariants.{Equals, LessThan, LessThanEquals, Contains}
-use Rattle.liquid_tree.specs.Tree.{Node, bare, compared, each_of, Window, plain, output, assign, break_loop, continue_loop, if_true, unless, case_of, for_each, tablerow, no_whens, when, no_nodes, counted}
+use Rattle.liquid_tree.specs.Tree.{Filter, Node, bare, compared, each_of, Window, plain, output, assign, break_loop, continue_loop, if_true, unless, case_of, for_each, tablerow, no_whens, when, no_nodes, counted}
 use Rattle.liquid_tree.specs.Evaluation.{FilterAnswers}
 use Rattle.liquid_meaning.specs.Effects.{interrupted_by}
 use Rattle.liquid_meaning.specs.Runs.{Nothing, Outcome}
@@ -38,7 +37,7 @@ show_all s (t ∷ ts) = show (property s t) ∷ plain (codes " ") ∷ show_all s
 
 pub record WorkedLoops : Type 0 where
   -- {{ nope | default: 'd' }}{{ nope }}
-  pub missing_entry : (default : FilterKind) →
+  pub missing_entry : (default : Filter) →
       WritesThen (meaning (record { answers = as_default; partials = [] }) 32
       (tree (output (record { entry = name "nope"; filters = (record { filter = default; arguments = quoted "d" ∷ [] }) ∷ [] }) ∷ show (name "nope") ∷ [])) (with_data []))
       "d" UnknownVariable

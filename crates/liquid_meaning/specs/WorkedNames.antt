@@ -2,9 +2,8 @@
 use Rattle.std.specs.Prelude.{false, List, [], ◌∷◌, Some, None, codes}
 use Rattle.liquid_model.specs.Texts.{Text}
 use Rattle.liquid_core.specs.Expression.{variable, no_steps, step}
-use Rattle.liquid_filters.specs.declared.kind.FilterKind.{FilterKind}
 use Rattle.liquid_tree.specs.declared.comparison.ComparisonOperator.TheVariants.{Equals}
-use Rattle.liquid_tree.specs.Tree.{each_of, counted, Node, comment, raw, assign, increment, cycle, case_of, tablerow, include, jekyll_include, render, Nodes, no_nodes, no_whens, when, bare, compared, Condition, Window, Chain, output, decrement, if_true, unless, for_each, capture, ifchanged}
+use Rattle.liquid_tree.specs.Tree.{Filter, each_of, counted, Node, comment, raw, assign, increment, cycle, case_of, tablerow, include, jekyll_include, render, Nodes, no_nodes, no_whens, when, bare, compared, Condition, Window, Chain, output, decrement, if_true, unless, for_each, capture, ifchanged}
 use Rattle.liquid_tree.specs.Groups.{group_of}
 use Rattle.liquid_tree.specs.Names.{run_names, mentioned}
 use Rattle.liquid_meaning.specs.Within.{Within}
@@ -16,7 +15,7 @@ NamesAre partials nodes names =
     Within (mentioned names) (run_names partials (tree nodes)) × Within (mentioned (run_names partials (tree nodes))) names
 
 -- {{ a | filter: b }}
-abbrev pub filtered_by : FilterKind → Chain
+abbrev pub filtered_by : Filter → Chain
 filtered_by filter = record { entry = name "a"; filters = record { filter = filter; arguments = name "b" ∷ [] } ∷ [] }
 
 -- `a == b and c or d`
@@ -48,9 +47,9 @@ pub record WorkedNames : Type 0 where
   -- of jekyll: {% include e.txt a=b %}
   pub of_include : NamesAre [] (jekyll_include (codes "e.txt") ((codes "a", name "b") ∷ []) ∷ []) (codes "b" ∷ codes "include" ∷ [])
   -- {{ a | filter: b }}
-  pub of_output : (filter : FilterKind) → NamesAre [] (output (filtered_by filter) ∷ []) (codes "a" ∷ codes "b" ∷ [])
+  pub of_output : (filter : Filter) → NamesAre [] (output (filtered_by filter) ∷ []) (codes "a" ∷ codes "b" ∷ [])
   -- {% assign c = a | filter: b %}
-  pub of_assign : (filter : FilterKind) → NamesAre [] (assign (codes "c") (filtered_by filter) ∷ []) (codes "a" ∷ codes "b" ∷ codes "c" ∷ [])
+  pub of_assign : (filter : Filter) → NamesAre [] (assign (codes "c") (filtered_by filter) ∷ []) (codes "a" ∷ codes "b" ∷ codes "c" ∷ [])
   -- {% increment n %} and {% decrement n %}
   pub of_increment : NamesAre [] (increment (codes "n") ∷ []) (codes "n" ∷ [])
   pub of_decrement : NamesAre [] (decrement (codes "n") ∷ []) (codes "n" ∷ [])

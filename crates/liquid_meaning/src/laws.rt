@@ -1,8 +1,10 @@
 //! Laws of what templates mean: each function's contract is the law, and its body does nothing.
 
+ghost use Rattle.liquid_meaning.specs.Assigning.{AssignedAnywhere};
 ghost use Rattle.liquid_meaning.specs.Isolation.{Isolation, AgreeingRuns, OthersKept, RenderLeavesAll, RenderSeesItsValues, Headline};
+ghost use Rattle.liquid_tree.specs.Laws.{CountedWindow};
 ghost use Rattle.liquid_meaning.specs.LoopLaws.{RangeLaw, RowLaw, WindowLaw};
-ghost use Rattle.liquid_meaning.specs.Laws.{AssignedInLoop, AssignedStay, ForloopCountsItems, KindsOfRuns, TextIsItself};
+ghost use Rattle.liquid_meaning.specs.Laws.{AssignedInLoop, AssignedStay, ForloopCountsItems, KindsOfOwnRuns, KindsOfRuns, TextIsItself};
 
 /// The laws of isolation: a run depends on the names that its template or a partial mentions, and leaves all others alone.
 pub fn isolation_laws()
@@ -15,18 +17,22 @@ pub fn isolation_laws()
 {}
 
 /// Further laws of runs. A text is itself; what is assigned stays, also after a loop (a `render` leaves nothing: [isolation_laws]);
-/// the numbers of `forloop` fit together; and every run ends by a kind that is one of runs, where the filters do.
+/// the numbers of `forloop` fit together; and every run ends by a kind that is one of runs, where the filters do, as all that
+/// exist do.
 pub fn run_laws()
     ensures text { TextIsItself }
     ensures stays { AssignedStay }
     ensures in_loop { AssignedInLoop }
+    ensures anywhere { AssignedAnywhere }
     ensures forloop { ForloopCountsItems }
     ensures kinds { KindsOfRuns }
+    ensures own_kinds { KindsOfOwnRuns }
 {}
 
-/// Laws of a loop's items: which of them a window asks for, what a range counts, and where the rows of a table end.
+/// Laws of a loop's items: which of them a window asks for, what a range counts, both together, and where the rows of a table end.
 pub fn loop_laws()
     ensures window { WindowLaw }
     ensures range { RangeLaw }
+    ensures counted { CountedWindow }
     ensures rows { RowLaw }
 {}

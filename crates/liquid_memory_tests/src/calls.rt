@@ -56,7 +56,7 @@ pub(crate) fn leads_to(found: &Option<ValueCow<'_>>, wanted: &Value) -> bool {
 }
 
 /// The whole number that a name has.
-pub(crate) fn number(state: &State, name: &str) -> Option<i64> {
+pub(crate) fn number(state: &State<'_>, name: &str) -> Option<i64> {
     state.look_up(name)?.to_integer()
 }
 

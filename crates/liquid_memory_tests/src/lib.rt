@@ -18,13 +18,17 @@ macro_rules! asked {
 #[cfg(test)]
 mod calls;
 #[cfg(test)]
-mod filters;
+mod hosts;
 #[cfg(test)]
 mod names;
 #[cfg(test)]
 mod none;
 #[cfg(test)]
 mod pages;
+#[cfg(test)]
+mod partials;
+#[cfg(test)]
+mod ranges;
 #[cfg(test)]
 mod readers;
 #[cfg(test)]

@@ -185,7 +185,7 @@ fn variable(alloc: Global, name: &str) -> Result<Variable> {
 }
 
 /// Look-ups of a name that is there, and of one that isn't.
-fn looked_up(rt: &(impl Abort + Print), alloc: Global, state: &State) -> Result<()> {
+fn looked_up(rt: &(impl Abort + Print), alloc: Global, state: &State<'_>) -> Result<()> {
     let path = items(alloc, r#"["a", 0]"#)?;
     let found = asked!(rt, "State::look_up", "a", None, Ok(state.look_up("a")));
     assert!(rt; found?.is_some());
@@ -197,7 +197,7 @@ fn looked_up(rt: &(impl Abort + Print), alloc: Global, state: &State) -> Result<
 }
 
 /// What stands at a path of a state, and at none.
-fn led(rt: &(impl Abort + Print), alloc: Global, state: &State, path: &[Value]) -> Result<()> {
+fn led(rt: &(impl Abort + Print), alloc: Global, state: &State<'_>, path: &[Value]) -> Result<()> {
     let found = asked!(
         rt,
         "State::try_get",
@@ -220,7 +220,7 @@ fn led(rt: &(impl Abort + Print), alloc: Global, state: &State, path: &[Value]) 
 }
 
 /// A variable with a value.
-fn evaluated(rt: &(impl Abort + Print), alloc: Global, state: &State) -> Result<()> {
+fn evaluated(rt: &(impl Abort + Print), alloc: Global, state: &State<'_>) -> Result<()> {
     let known = variable(alloc, "a")?;
     let found = asked!(
         rt,
@@ -243,7 +243,7 @@ fn evaluated(rt: &(impl Abort + Print), alloc: Global, state: &State) -> Result<
 }
 
 /// A variable without a value.
-fn tried(rt: &(impl Abort + Print), alloc: Global, state: &State) -> Result<()> {
+fn tried(rt: &(impl Abort + Print), alloc: Global, state: &State<'_>) -> Result<()> {
     let unknown = variable(alloc, "b")?;
     let found = asked!(
         rt,
@@ -377,7 +377,7 @@ fn memory_none_of_templates(rt: HostRuntime) -> Result<()> {
         None,
         Ok(language.filters.get("sort"))
     );
-    assert!(&rt; kind?.is_some_and(|kind| kind.name() == "sort"));
+    assert!(&rt; kind?.is_some_and(|filter| filter.accepts(0)));
     let count = asked!(
         &rt,
         "Registry::names",
@@ -403,8 +403,24 @@ fn parsed(rt: &(impl Abort + Print), alloc: Global, language: &Language) -> Resu
     assert!(rt; count.ok() == Some(3));
     let nodes = asked!(rt, "Template::nodes", "", None, Ok(template.nodes()));
     assert!(rt; matches!(nodes?.first(), Some(Node::If(_, _))));
+    let mentions = asked!(
+        rt,
+        "Template::mentions",
+        "c",
+        None,
+        Ok(template.mentions("c"))
+    );
+    assert!(rt; mentions.ok() == Some(true));
     let mut partials = Partials::new(alloc);
     partials.insert(String::from_str(alloc, "p")?, template)?;
+    let mention = asked!(
+        rt,
+        "Partials::mention",
+        "b",
+        None,
+        Ok(partials.mention("b"))
+    );
+    assert!(rt; mention.ok() == Some(false));
     let found = asked!(rt, "Partials::get", "p", None, Ok(partials.get("p")));
     assert!(rt; found?.is_some_and(|partial| partial.node_count() == 3));
     Ok(())

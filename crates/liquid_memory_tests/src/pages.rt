@@ -12,7 +12,7 @@ use std::fmt::Write;
 use std::process::Abort;
 
 /// Asserts that the page is written, or a beginning of it where memory was refused.
-fn is_written(rt: &impl Abort, row: &Row<'_>, answer: &Result<()>, written: &[u8]) {
+pub(crate) fn is_written(rt: &impl Abort, row: &Row<'_>, answer: &Result<()>, written: &[u8]) {
     let source = row.source;
     let page = row.page.as_bytes();
     if is_refused(answer) {
@@ -34,7 +34,7 @@ fn is_assigned(source: &str, name: &str) -> bool {
 }
 
 /// Asserts that each name of the data that isn't assigned has its value still.
-fn has_data(rt: &impl Abort, state: &State, data: &Object, source: &str) {
+fn has_data(rt: &impl Abort, state: &State<'_>, data: &Object, source: &str) {
     for (name, value) in data.iter() {
         let name = name.as_str();
         if !is_assigned(source, name) {

@@ -8,7 +8,7 @@ use std::collections::BTreeMap;
 use std::process::Abort;
 
 /// How many of the names the state knows.
-fn known(state: &State) -> usize {
+fn known(state: &State<'_>) -> usize {
     let mut known = 0_usize;
     for name in &NAMES {
         if state.look_up(name).is_some() {
@@ -19,7 +19,7 @@ fn known(state: &State) -> usize {
 }
 
 /// How many of the names have a counter.
-fn counted(state: &State) -> usize {
+fn counted(state: &State<'_>) -> usize {
     let mut counted = 0_usize;
     for name in &NAMES {
         if state.get_index(name).is_some() {
@@ -54,7 +54,11 @@ fn stored(rt: &(impl Abort + Print), alloc: Global) -> Result<()> {
 }
 
 /// Sets each counter of a state. A refused call leaves it as it was.
-fn indexes_set_in_state(rt: &(impl Abort + Print), alloc: Global, state: &mut State) -> Result<()> {
+fn indexes_set_in_state(
+    rt: &(impl Abort + Print),
+    alloc: Global,
+    state: &mut State<'_>,
+) -> Result<()> {
     for name in &NAMES {
         let before = counted(state);
         let key = key(alloc, name)?;
@@ -211,7 +215,7 @@ fn looked_up(rt: &(impl Abort + Print), alloc: Global) -> Result<()> {
 }
 
 /// Look-ups that lead to no value.
-fn looked_up_nowhere(rt: &(impl Abort + Print), alloc: Global, state: &State) {
+fn looked_up_nowhere(rt: &(impl Abort + Print), alloc: Global, state: &State<'_>) {
     let nowhere = [Value::Integer(7), Value::Integer(1)];
     let unknown = Some(ErrorKind::UnknownVariable);
     let answer = asked!(

@@ -7,7 +7,8 @@ use liquid_lib::language;
 use liquid_lib::stdlib::{AssignTag, IfBlock};
 use liquid_site::data_from_json;
 use liquid_syntax::{
-    BlockKind, ComparisonOperator, Language, Node, Partials, Registry, TagKind, parse,
+    BlockKind, ComparisonOperator, FilterRegistry, Language, Node, Partials, RegisteredFilter,
+    Registry, TagKind, parse,
 };
 use std::alloc::Global;
 use std::process::Abort;
@@ -27,6 +28,41 @@ fn registered<K: Copy + Drop>(
         assert!(rt; kinds.get(name).is_some() == answer.is_ok(), "{name}");
         assert!(rt;
             kinds.names().count() == before.saturating_add(usize::from(answer.is_ok())),
+            "{name}"
+        );
+    }
+    Ok(())
+}
+
+/// Registers the filter under each name. A refused call leaves the registry as it was.
+fn filter_registered(
+    rt: &(impl Abort + Print),
+    alloc: Global,
+    filters: &mut FilterRegistry,
+    filter: RegisteredFilter,
+) -> Result<()> {
+    for name in &NAMES {
+        let before = filters.names().count();
+        let key = String::from_str(alloc, name)?;
+        let answer = match filter {
+            RegisteredFilter::Kind(kind) => asked!(
+                rt,
+                "filters.register",
+                name,
+                None,
+                filters.register(key, kind)
+            ),
+            RegisteredFilter::Host { least, most } => asked!(
+                rt,
+                "filters.register_host",
+                name,
+                None,
+                filters.register_host(key, least, most)
+            ),
+        };
+        assert!(rt; filters.get(name).is_some() == answer.is_ok(), "{name}");
+        assert!(rt;
+            filters.names().count() == before.saturating_add(usize::from(answer.is_ok())),
             "{name}"
         );
     }
@@ -70,6 +106,27 @@ fn inserted(rt: &(impl Abort + Print), alloc: Global, language: &Language) -> Re
     Ok(())
 }
 
+/// The names of a template and of a partial, in which one stands twice and one is long.
+fn named(rt: &(impl Abort + Print), alloc: Global, language: &Language) -> Result<()> {
+    let template = parse(alloc, "{% assign a = b[c] %}{{ a }}", language)?;
+    let mut partials = Partials::new(alloc);
+    let partial = parse(alloc, PARTIAL, language)?;
+    partials.insert(String::from_str(alloc, "p")?, partial)?;
+    let answer = asked!(
+        rt,
+        "Template::names",
+        PARTIAL,
+        None,
+        template.names(alloc, &partials)
+    );
+    assert!(rt; is_refused(&answer) || answer?.len() == 4);
+    Ok(())
+}
+
+/// A partial with a name of more than sixty bytes.
+const PARTIAL: &str =
+    "{{ b }}{{ a_name_of_more_than_sixty_bytes_which_a_partial_may_have_as_any_other }}";
+
 /// Outputs with the values of their chains, or the kinds of their faults.
 const CHAINS: [(&str, std::result::Result<&str, ErrorKind>); 6] = [
     ("{{ l }}", Ok(r#"["b", 2, "a"]"#)),
@@ -87,7 +144,7 @@ fn chained(
     rt: &(impl Abort + Print),
     alloc: Global,
     language: &Language,
-    state: &State,
+    state: &State<'_>,
     (source, wanted): (&str, std::result::Result<&str, ErrorKind>),
 ) -> Result<()> {
     let template = parse(alloc, source, language)?;
@@ -100,7 +157,7 @@ fn chained(
         "FilterChain::evaluate",
         source,
         wanted.err(),
-        chain.evaluate(alloc, state)
+        chain.evaluate(alloc, state, None)
     );
     if let Ok(answer) = answer {
         let wanted = wanted.ok().unwrap_or("null");
@@ -135,7 +192,7 @@ fn decided(
     rt: &(impl Abort + Print),
     alloc: Global,
     language: &Language,
-    state: &State,
+    state: &State<'_>,
     (source, wanted): (&str, std::result::Result<bool, ErrorKind>),
 ) -> Result<()> {
     let template = parse(alloc, source, language)?;
@@ -174,14 +231,11 @@ fn registries(rt: &(impl Abort + Print), alloc: Global) -> Result<()> {
         &mut made.blocks,
         BlockKind::from(IfBlock::new()),
     )?;
-    registered(
-        rt,
-        alloc,
-        "filters.register",
-        &mut made.filters,
-        FilterKind::Sort(Sort),
-    )?;
-    Ok(())
+    let sort = RegisteredFilter::Kind(FilterKind::Sort(Sort));
+    filter_registered(rt, alloc, &mut made.filters, sort)?;
+    let mut of_host = Language::new(alloc);
+    let filter = RegisteredFilter::Host { least: 0, most: 2 };
+    filter_registered(rt, alloc, &mut of_host.filters, filter)
 }
 
 #[test]
@@ -190,6 +244,7 @@ fn memory_templates(rt: HostRuntime) -> Result<()> {
     registries(&rt, alloc)?;
     let language = language(alloc)?;
     inserted(&rt, alloc, &language)?;
+    named(&rt, alloc, &language)?;
     let state = State::new(alloc, data_from_json(alloc, DATA)?);
     for row in &CHAINS {
         chained(&rt, alloc, &language, &state, *row)?;

@@ -137,7 +137,11 @@ fn without_value(rt: &(impl Abort + Print), alloc: Global) -> Result<()> {
     expression_without_value(rt, alloc, &state)
 }
 
-fn expression_without_value(rt: &(impl Abort + Print), alloc: Global, state: &State) -> Result<()> {
+fn expression_without_value(
+    rt: &(impl Abort + Print),
+    alloc: Global,
+    state: &State<'_>,
+) -> Result<()> {
     let wanted = Some(ErrorKind::UnknownVariable);
     let expression = Expression::Variable(variable(alloc)?);
     let answer = asked!(

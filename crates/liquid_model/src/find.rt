@@ -16,13 +16,17 @@ use crate::whole::whole_of;
 use itoa::Buffer;
 use std::alloc::Global;
 
-/// Where a path has led: to a value that is held somewhere, or to a length, which no value holds.
+/// Where a path has led: to a value that is held somewhere, or to one that no value holds, as a length.
 #[derive(Drop)]
 pub enum Found<'a> {
     /// A value that is lent.
     Held(&'a Value),
     /// A length, which is a number.
     Length(i64),
+    /// A truth value that was computed.
+    Truth(bool),
+    /// A place without an item.
+    Nil,
 }
 
 impl Value {
@@ -61,6 +65,8 @@ impl<'a> Found<'a> {
         match self {
             Found::Held(value) => stepped(value, part),
             Found::Length(n) => scalar_stepped(part, number_length(n)),
+            Found::Truth(b) => scalar_stepped(part, truth_text(b).len()),
+            Found::Nil => None,
         }
     }
 
@@ -71,6 +77,8 @@ impl<'a> Found<'a> {
         match self {
             Found::Held(value) => ValueCow::Borrowed(value),
             Found::Length(n) => ValueCow::Owned(Value::Integer(n)),
+            Found::Truth(b) => ValueCow::Owned(Value::Bool(b)),
+            Found::Nil => ValueCow::Owned(Value::Nil),
         }
     }
 

@@ -4,8 +4,6 @@
 mod buffered;
 mod outcome;
 mod page;
-#[cfg(test)]
-mod tests;
 mod words;
 
 use crate::outcome::Outcome;

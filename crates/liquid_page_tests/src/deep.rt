@@ -33,6 +33,27 @@ fn blocks_nest_two_hundred_deep(rt: HostRuntime) -> Result<()> {
 }
 
 #[test]
+fn captures_nest_two_hundred_deep(rt: HostRuntime) -> Result<()> {
+    let alloc = rt.alloc();
+    let source = nested(
+        alloc,
+        "{% capture a %}y",
+        200,
+        "x",
+        "{% endcapture %}{{ a }}",
+    )?;
+    let page = repeated(alloc, "", "y", 200, "x")?;
+    let row = Row {
+        source: source.as_str(),
+        data: "{}",
+        page: page.as_str(),
+        end: None,
+    };
+    by_run(&rt, alloc, &row);
+    Ok(())
+}
+
+#[test]
 fn brackets_nest_two_hundred_deep(rt: HostRuntime) -> Result<()> {
     let alloc = rt.alloc();
     let rows: &[(usize, &str, Option<ErrorKind>)] = &[

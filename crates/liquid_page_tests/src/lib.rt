@@ -1,4 +1,4 @@
-//! Whole pages: the worked rows, sources that are refused, writers that fail, and a runtime's calls. Each expected value comes from outside.
+//! Whole pages: the worked rows, sources that are refused, writers that fail, a runtime's calls, and filters of a host. Each expected value comes from outside.
 #![tactic(auto)]
 
 #[cfg(test)]
@@ -6,9 +6,17 @@ mod conditions;
 #[cfg(test)]
 mod deep;
 #[cfg(test)]
+mod host_example;
+#[cfg(test)]
+mod hosts;
+#[cfg(test)]
 mod pages;
 #[cfg(test)]
+mod partials;
+#[cfg(test)]
 mod refused;
+#[cfg(test)]
+mod registers;
 #[cfg(test)]
 mod rows;
 #[cfg(test)]

@@ -20,10 +20,10 @@ const LIST_TEXT: &str = "Hello true-7afalse";
 
 /// Takes at most so many bytes at each write, and fails once no write is left.
 #[derive(Drop)]
-struct Failing {
-    bytes: Vec<u8>,
-    most: usize,
-    writes_left: usize,
+pub(crate) struct Failing {
+    pub(crate) bytes: Vec<u8>,
+    pub(crate) most: usize,
+    pub(crate) writes_left: usize,
 }
 
 impl Write for Failing {
@@ -79,6 +79,11 @@ const GREETING: Texts = (SOURCE, DATA);
 
 /// The text of one list, which takes 5 writes.
 const OF_LIST: Texts = ("{{ v }}", LIST);
+
+/// A page with a buffer inside of it, which takes 4 writes: nothing is written while the buffer is open.
+const BUFFERED: Texts = ("a{% capture t %}b{{ name }}{% endcapture %}c{{ t }}d", DATA);
+
+const BUFFERED_PAGE: &str = "acbAdad";
 
 /// Writes a page: how that ended, how many writes failed, and the writer.
 fn write_page<W: Write>(alloc: Global, texts: Texts, writer: W) -> (Option<ErrorKind>, u64, W) {
@@ -206,6 +211,24 @@ fn each_write_of_a_list_fails(rt: HostRuntime) {
             is_whole(&rt, &written, LIST_TEXT);
         }
     }
+}
+
+#[test]
+fn each_write_before_and_behind_a_buffer_fails(rt: HostRuntime) {
+    for (writes_left, page) in ["", "a", "ac", "acbAda"].iter().enumerate() {
+        let written = by_writes(rt.alloc(), BUFFERED, BUFFERED_PAGE.len(), writes_left);
+        is_cut(&rt, &written, BUFFERED_PAGE);
+        assert!(&rt;
+            written.bytes.as_slice() == page.as_bytes(),
+            "{writes_left}"
+        );
+    }
+}
+
+#[test]
+fn a_page_with_a_buffer(rt: HostRuntime) {
+    let written = by_writes(rt.alloc(), BUFFERED, BUFFERED_PAGE.len(), 4);
+    is_whole(&rt, &written, BUFFERED_PAGE);
 }
 
 #[test]

@@ -3,7 +3,9 @@
 
 mod answers;
 mod choices;
+mod hosts;
 mod pages;
+mod partials;
 mod refused;
 mod row;
 mod texts;
@@ -12,7 +14,9 @@ mod words;
 
 pub use answers::kind_of;
 pub use choices::CHOICE_PAGES;
+pub use hosts::{Bad, HOST_PAGES, HostRow, Suffix, host_filters};
 pub use pages::PAGES;
+pub use partials::{PARTIAL_PAGES, PARTIALS, partial_texts};
 pub use refused::REFUSED_SOURCES;
 pub use row::Row;
 pub use texts::{nested, repeated};

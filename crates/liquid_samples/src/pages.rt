@@ -3,7 +3,7 @@ use crate::row::Row;
 use liquid_core::ErrorKind;
 
 /// Pages of every feature but `if`.
-pub const PAGES: [Row; 51] = [
+pub const PAGES: [Row; 55] = [
     Row {
         source: "",
         data: "{}",
@@ -310,5 +310,29 @@ pub const PAGES: [Row; 51] = [
         data: "{\n  \"customer\": { \"name\": \"ada\", \"address\": \"  1 Engine Row, <London> \" },\n  \"order\": {\n    \"number\": \"A/17\",\n    \"lines\": [{ \"title\": \"Gears\" }, { \"title\": \"crank\" }, { \"title\": \"Axle\" }]\n  },\n  \"shop\": { \"name\": \"Mill & Store\", \"link\": \"https://mill.example/orders\" }\n}\n",
         page: "Dear Ada,\n\nthank you for your order A/17 of 3 things:\nAxle, crank, Gears.\n\nIt is on its way to 1 Engine Row\n&lt;London&gt;.\n\nMILL & STORE\nhttps://mill.example/orders?order=A%2F17\n",
         end: None,
+    },
+    Row {
+        source: "{% assign t = 'old' %}{% capture t %}xyz{{ l | join }}{% endcapture %}{{ t }}",
+        data: "{\"l\":[1,2]}",
+        page: "xyz1 2",
+        end: None,
+    },
+    Row {
+        source: "{% ifchanged %}a{{ l | join }}{% endifchanged %}{% ifchanged %}a1 2{% endifchanged %}",
+        data: "{\"l\":[1,2]}",
+        page: "a1 2",
+        end: None,
+    },
+    Row {
+        source: "{% cycle l, 'b' %}{% cycle l, 'b' %}{% increment n %}{% decrement n %}",
+        data: "{\"l\":[1,2]}",
+        page: "12b00",
+        end: None,
+    },
+    Row {
+        source: "{% case l %}{% when nil, 1 %}a{% when m %}b{{ nope }}{% endcase %}",
+        data: "{\"l\":[1,2],\"m\":[1,2]}",
+        page: "b",
+        end: Some(ErrorKind::UnknownVariable),
     },
 ];

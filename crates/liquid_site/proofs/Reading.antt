@@ -1,15 +1,15 @@
 -- What is known where the texts of a page are read, and where they are not.
-use Rattle.std.proofs.Common.{◌≡◌, ℕ, ◌≤◌, List, [], Bool, true, false, MatchBool, Option, Some, None, Ok, Err, Result, inl, inr, refl, sym, arith, append-nil}
+use Rattle.std.proofs.Common.{◌≡◌, ℕ, ◌≤◌, List, [], Bool, true, false, MatchBool, Option, Some, None, Ok, Err, Result, inl, inr, refl, sym, ap, subst, ◌∙◌, arith, append-nil}
 use Rattle.std.specs.Prelude.{⊤, ◌⊎◌}
 use Rattle.std.specs.Io.KnownBytes.{Appends, Keeps}
 use Rattle.liquid_model.specs.Answer.{Faulted}
 use Rattle.liquid_model.specs.Data.{Pairs}
-use Rattle.liquid_model.specs.Told.{is_memory, is_refusal}
+use Rattle.liquid_model.specs.Told.{Told, is_memory, is_refusal, number_of}
 use Rattle.liquid_model.specs.declared.error.Error.{Error}
 use Rattle.liquid_model.specs.declared.error.ErrorKind.{ErrorKind}
 use Rattle.liquid_model.specs.declared.error.ErrorKind.TheVariants.{Memory, Write}
 use Rattle.liquid_tree.specs.Tree.{Nodes}
-use Rattle.liquid_syntax.specs.Parsing.{IsOnlyTree, HasNoTree, IsOfSource, ParsesTo}
+use Rattle.liquid_syntax.specs.Parsing.{IsOnlyTree, HasNoTree, IsOfSource, MayRefuse, ParsesTo}
 use Rattle.liquid_syntax.specs.declared.language.Language.{Language}
 use Rattle.liquid_lib.specs.Added.{AppendsPart}
 use Rattle.liquid_lib.specs.Performs.{answer_of, is_refused, unit}
@@ -23,23 +23,42 @@ unless_memory : {P R : Type 0} (b : Bool) → MatchBool b ⊤ P → (b ≡ false
 unless_memory true h f = tt
 unless_memory false h f = f refl h
 
--- a kind of a source is no refusal
-of_source : (k : ErrorKind) → IsOfSource k → is_memory k ≡ false → is_refusal k ≡ false
-of_source Memory h not = cc
-of_source Write h not = let low : 21 ≤ 18 = h.0 in absurd (omega arith)
-of_source _ h not = refl
+unless_either : {P Q R : Type 0} (b : Bool) → MatchBool b ⊤ P → MatchBool b ⊤ Q → (P → Q → R) → MatchBool b ⊤ R
+unless_either true p q f = tt
+unless_either false p q f = f p q
 
-pub template_refused : (l : Language) (texts : Texts) (e : Error) → ParsesTo l texts.template (Err e) → IsOfSource e.kind → Reads l texts (Err e)
-template_refused l texts e parses kinds = unless_memory (is_memory e.kind) parses (λ not none. (no_template none kinds, of_source e.kind kinds not))
+-- a kind of a source is no refusal
+of_source : (k : ErrorKind) → IsOfSource k → is_refusal k ≡ false
+of_source Memory h = let low : 21 ≤ 17 = h.0 in absurd (omega arith)
+of_source Write h = let low : 21 ≤ 18 = h.0 in absurd (omega arith)
+of_source _ h = refl
+
+pub template_refused : (l : Language) (texts : Texts) (e : Error) → ParsesTo l texts.template (Err e) → MayRefuse e.kind → Reads l texts (Err e)
+template_refused l texts e parses kinds = unless_either (is_memory e.kind) parses kinds (λ none kind. (no_template none kind, of_source e.kind kind))
 
 pub facts_refused : (l : Language) (texts : Texts) (tree : Nodes) (e : Error) → IsOnlyTree l tree texts.template → Faulted e.kind (data_of texts.facts) → Reads l texts (Err e)
 facts_refused l texts tree e only faulted = unless_memory (is_memory e.kind) faulted (λ not h. (no_facts only h.0, h.1))
 
 pub partials_refused : (l : Language) (texts : Texts) (tree : Nodes) (facts : Pairs) (e : Error) → IsOnlyTree l tree texts.template → data_of texts.facts ≡ Ok facts → ReadsPartials l texts.partials [] (Err e) → Reads l texts (Err e)
-partials_refused l texts tree facts e only read bad = unless_memory (is_memory e.kind) bad (λ not h. (bad_partial only read h.0 h.1, of_source e.kind h.1 not))
+partials_refused l texts tree facts e only read bad = unless_memory (is_memory e.kind) bad (λ not h. (bad_partial only read h.0 h.1, of_source e.kind h.1))
 
-pub partial_refused : (l : Language) (sources left : Sources) (source : List ℕ) (e : Error) → ParsesTo l source (Err e) → IsOfSource e.kind → (HasNoTree l source → HasBadPartial l sources) → ReadsPartials l sources [] (Err e)
-partial_refused l sources left source e parses kinds bad = unless_memory (is_memory e.kind) parses (λ not none. (bad none, kinds))
+pub partial_refused : (l : Language) (sources left : Sources) (source : List ℕ) (e : Error) → ParsesTo l source (Err e) → MayRefuse e.kind → (HasNoTree l source → HasBadPartial l sources) → ReadsPartials l sources [] (Err e)
+partial_refused l sources left source e parses kinds bad = unless_either (is_memory e.kind) parses kinds (λ none kind. (bad none, kind))
+
+-- a fault of the same kind, unless memory ran out for its message
+told_by : (l : Language) (source : List ℕ) (e f : Error) (b : Bool) → is_memory f.kind ≡ b → MatchBool b ⊤ (e.kind ≡ f.kind) → ParsesTo l source (Err e) → MatchBool b ⊤ (HasNoTree l source)
+told_by l source e f true is same h = tt
+told_by l source e f false is same h = subst (λ b. MatchBool b ⊤ (HasNoTree l source)) (ap is_memory same ∙ is) h
+
+pub told_parses : (l : Language) (source : List ℕ) (e f : Error) → Told e.kind f.kind → ParsesTo l source (Err e) → ParsesTo l source (Err f)
+told_parses l source e f same h = told_by l source e f (is_memory f.kind) refl same h
+
+told_source_by : (e f : Error) (b : Bool) → is_memory f.kind ≡ b → MatchBool b ⊤ (e.kind ≡ f.kind) → MayRefuse e.kind → MatchBool b ⊤ (IsOfSource f.kind)
+told_source_by e f true is same h = tt
+told_source_by e f false is same h = subst (λ b. MatchBool b ⊤ (IsOfSource f.kind)) is (subst MayRefuse same h)
+
+pub told_source : (e f : Error) → Told e.kind f.kind → MayRefuse e.kind → MayRefuse f.kind
+told_source e f same h = told_source_by e f (is_memory f.kind) refl same h
 
 -- ---- the page
 
@@ -55,11 +74,11 @@ memory_is : (k : ErrorKind) → is_memory k ≡ true → k ≡ Memory
 memory_is Memory h = refl
 memory_is _ h = absurd cc
 
-Told : Language → Texts → Result (Unit {0}) Error → Option (List ℕ) → Type 0
-Told l texts r o = RanOut r o o ⊎ ((x : Language) × IsStandard x × Shows x texts r o o)
+ToldBy : Language → Texts → Result (Unit {0}) Error → Option (List ℕ) → Type 0
+ToldBy l texts r o = RanOut r o o ⊎ ((x : Language) × IsStandard x × Shows x texts r o o)
 
-refused_by : (l : Language) (texts : Texts) (e : Error) (o : Option (List ℕ)) (b : Bool) → IsStandard l → is_memory e.kind ≡ b → MatchBool b ⊤ (Refused l texts e.kind × (is_refusal e.kind ≡ false)) → Told l texts (Err e) o
-unfolding Told
+refused_by : (l : Language) (texts : Texts) (e : Error) (o : Option (List ℕ)) (b : Bool) → IsStandard l → is_memory e.kind ≡ b → MatchBool b ⊤ (Refused l texts e.kind × (is_refusal e.kind ≡ false)) → ToldBy l texts (Err e) o
+unfolding ToldBy
 refused_by l texts e o true standard is h = inl (record { told = memory_is e.kind is; kept = kept o })
 refused_by l texts e o false standard is h =
     inr (
@@ -76,7 +95,7 @@ refused_by l texts e o false standard is h =
     )
 
 pub refused_shown : (l : Language) (texts : Texts) (e : Error) (o : Option (List ℕ)) → IsStandard l → Reads l texts (Err e) → RanOut (Err e) o o ⊎ ((x : Language) × IsStandard x × Shows x texts (Err e) o o)
-unfolding Told
+unfolding ToldBy
 refused_shown l texts e o standard h = refused_by l texts e o (is_memory e.kind) standard refl h
 
 pub page_shown : (l : Language) (texts : Texts) (read : Read) (r : Result (Unit {0}) Error) (old new : Option (List ℕ)) → IsStandard l → IsRead l texts read

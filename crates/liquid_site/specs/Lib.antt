@@ -1,3 +1,4 @@
 pub mod Json
 pub mod Page
+pub mod PageLaw
 pub mod Shown

@@ -5,9 +5,11 @@ use Rattle.std.specs.Prelude.{◌≡◌, ◌⊎◌, List, [], ◌∷◌, map, Re
 use Rattle.std.specs.declared.alloc.Global.{Global}
 use Rattle.liquid_model.specs.Texts.{Text}
 use Rattle.liquid_model.specs.Data.{Pairs}
-use Rattle.liquid_core.specs.States.{map_of, merged_layers, new_layers}
+use Rattle.liquid_core.specs.Held.{map_of}
+use Rattle.liquid_core.specs.States.{merged_layers, new_layers}
 use Rattle.liquid_model.specs.declared.error.ErrorKind.{ErrorKind}
-use Rattle.liquid_filters.specs.Kinds.{kind_answer}
+use Rattle.liquid_core.specs.Hosts.{no_host}
+use Rattle.liquid_tree.specs.Evaluation.{answers_with}
 use Rattle.liquid_tree.specs.Tree.{Nodes}
 use Rattle.liquid_syntax.specs.Parsing.{IsOnlyTree, HasNoTree, IsOfSource}
 use Rattle.liquid_syntax.specs.Entries.{put}
@@ -62,7 +64,7 @@ pub data Refused (l : Language) (texts : Texts) : ErrorKind → Type 0 where
 
 -- how deep partials may be nested in a page
 abbrev pub page_outcome : Read → Outcome Nothing
-page_outcome read = meaning (record { answers = kind_answer; partials = read.partials }) 32 read.tree (merged_layers (new_layers (map_of read.facts)))
+page_outcome read = meaning (record { answers = answers_with no_host; partials = read.partials }) 32 read.tree (merged_layers (new_layers (map_of read.facts)))
 
 pub data IsPage (l : Language) (texts : Texts) : Text → Result Nothing ErrorKind → Type 0 where
   page : (read : Read) → IsRead l texts read → IsPage l texts (page_outcome read).text (page_outcome read).end

@@ -2,7 +2,9 @@
 #![tactic(auto)]
 
 mod json;
+mod laws;
 mod page;
 
 pub use json::data_from_json;
+pub use laws::page_law;
 pub use page::run;

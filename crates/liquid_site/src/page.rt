@@ -1,6 +1,8 @@
 //! A page of its texts: a template, data and partials.
 ghost use Rattle.std.specs.Prelude.{◌≡◌, ◌<◌, ◌⊎◌, [], false, IfErr, IsErrAnd, string_bytes};
 ghost use Rattle.std.specs.Io.KnownBytes.{Appends};
+ghost use Rattle.liquid_model.specs.Told.{Told};
+ghost use Rattle.liquid_syntax.specs.Parsing.{MayRefuse, ParsesTo};
 ghost use Rattle.liquid_lib.specs.Added.{AppendsPart};
 ghost use Rattle.liquid_lib.specs.Failures.{OneFailed, AtMostOneFailed};
 ghost use Rattle.liquid_lib.specs.Performs.{answer_of, is_refused, unit};
@@ -8,7 +10,7 @@ ghost use Rattle.liquid_site.specs.Page.{page_outcome, sources_of};
 ghost use Rattle.liquid_site.specs.Shown.{RanOut, Reads, ReadsPartials, ShowsStandard, read_view};
 
 use crate::json::data_from_json;
-use liquid_core::{ErrorKind, Object, Result};
+use liquid_core::{Error, ErrorKind, Object, Result};
 use liquid_lib::{CountedWrite, Renderable, RuntimeBuilder, language};
 use liquid_syntax::{Language, Partials, Template, parse};
 use std::alloc::Global;
@@ -27,7 +29,8 @@ struct ReadTexts {
 /// Writes the page of a template, of data in JSON, and of partials by name, of which the later of one name wins.
 ///
 /// The template is parsed, then the data is read, then the partials are parsed in their order; the first that isn't read is
-/// the answer, and nothing is written: a kind of a source, or `InvalidInput` or `Float` of the data. Then the page is
+/// the answer, and nothing is written: a kind of a source, or `InvalidInput` or `Float` of the data. The message of a
+/// partial's fault says which partial it is. Then the page is
 /// rendered in a new runtime, with at most 32 nested partials: the answer is its first fault, and what was written is the
 /// text up to there. `Memory` where a growth was refused, and `Write` where a write failed or took nothing: then a
 /// beginning of the text is written, and no failed write is tried again.
@@ -78,10 +81,41 @@ fn read_partials(
 {
     let mut partials = Partials::new(alloc);
     for (name, source) in sources {
-        let template = parse(alloc, source.as_str(), language)?;
-        partials.insert(String::from_str(alloc, name.as_str())?, template)?;
+        let called = name.as_str();
+        let text = source.as_str();
+        let template = read_partial(alloc, language, called, text)?;
+        partials.insert(String::from_str(alloc, called)?, template)?;
     }
     Ok(partials)
+}
+
+/// The template of a partial. The message of its fault says which partial it is.
+fn read_partial(alloc: Global, language: &Language, name: &str, source: &str) -> Result<Template>
+    ensures parses { ParsesTo language.now source.now result }
+    ensures kinds { IfErr result (λ e. MayRefuse e.kind) }
+{
+    match parse(alloc, source, language) {
+        Ok(template) => Ok(template),
+        Err(error) => Err(told_of(alloc, name, error)),
+    }
+}
+
+/// The fault of a partial, with the partial's name before its message.
+fn told_of(alloc: Global, name: &str, error: Error) -> Error
+    ensures { Told error.kind result.kind }
+{
+    let Error { kind, message } = error;
+    match message {
+        Some(message) => Error::formatted(
+            alloc,
+            kind,
+            format_args!("in the partial `{name}`: {message}"),
+        ),
+        None => Error {
+            kind,
+            message: None,
+        },
+    }
 }
 
 /// Renders what was read, in a new runtime.

@@ -4,7 +4,7 @@ use Rattle.std.specs.Option.{option_and_then, option_map, option_or}
 use Rattle.liquid_core.specs.Expression.{Expression}
 use Rattle.liquid_source.specs.Words.{Blank}
 use Rattle.liquid_source.specs.ValueReading.{past_white, past_byte, value_at, word_at, literal_at, quoted_at, number_at}
-use Rattle.liquid_source.specs.Items.{Item, value, range, spelling_of, IsSymbol, IsRange, is_range, mark, dash, IsItem, is_symbol, is_interval, is_value, NoCloser, AreItems, closed, item}
+use Rattle.liquid_source.specs.Items.{Item, value, range, spelling_of, IsSymbol, IsRange, is_range, mark, dash_if, IsItem, is_symbol, is_interval, is_value, NoCloser, AreItems, closed, item}
 use Rattle.liquid_source.specs.ItemReading.{two_at, closer_by, closer_at, two_bytes, one_byte, long_symbol_at, short_symbol_at, symbol_at, range_at, before, range_or_value, item_by, item_at, ReadItems, items_by, items_at}
 use Rattle.liquid_source.specs.declared.symbol.Symbol.{Symbol}
 use Rattle.liquid_source.specs.declared.symbol.Symbol.TheVariants.{Equals, NotEquals, LessOrGreater, LessThanEquals, GreaterThanEquals, LessThan, GreaterThan, Assign, Colon, Comma, Bar}
@@ -21,15 +21,15 @@ use Rattle.std.proofs.Math.Seq.{take-append_seam}
 two_takes : (k : Delimiter) (bs rest : List ℕ) → two_at k bs ≡ Some rest → bs ≡ mark k ∷ 125 ∷ rest
 two_takes k bs rest h = let a = bind_some (past_byte (mark k) bs) (past_byte 125) rest h in byte_some (mark k) bs a.0 a.1 ∙ ap (λ l. mark k ∷ l) (byte_some 125 a.0 rest a.2)
 
-closer_takes_by : (k : Delimiter) (bs : List ℕ) (o : Option (List ℕ)) (x : Bool × List ℕ) → past_byte 45 bs ≡ o → closer_by k bs o ≡ Some x → bs ≡ dash x.0 ++ (mark k ∷ 125 ∷ x.1)
-closer_takes_by k bs (Some r) x e h = let a = map_some (two_at k r) _ x h in subst (λ (x : Bool × List ℕ). bs ≡ dash x.0 ++ (mark k ∷ 125 ∷ x.1)) a.2 (byte_some 45 bs r e ∙ ap (λ l. 45 ∷ l) (two_takes k r a.0 a.1))
-closer_takes_by k bs None x e h = let a = map_some (two_at k bs) _ x h in subst (λ (x : Bool × List ℕ). bs ≡ dash x.0 ++ (mark k ∷ 125 ∷ x.1)) a.2 (two_takes k bs a.0 a.1)
+closer_takes_by : (k : Delimiter) (bs : List ℕ) (o : Option (List ℕ)) (x : Bool × List ℕ) → past_byte 45 bs ≡ o → closer_by k bs o ≡ Some x → bs ≡ dash_if x.0 ++ (mark k ∷ 125 ∷ x.1)
+closer_takes_by k bs (Some r) x e h = let a = map_some (two_at k r) _ x h in subst (λ (x : Bool × List ℕ). bs ≡ dash_if x.0 ++ (mark k ∷ 125 ∷ x.1)) a.2 (byte_some 45 bs r e ∙ ap (λ l. 45 ∷ l) (two_takes k r a.0 a.1))
+closer_takes_by k bs None x e h = let a = map_some (two_at k bs) _ x h in subst (λ (x : Bool × List ℕ). bs ≡ dash_if x.0 ++ (mark k ∷ 125 ∷ x.1)) a.2 (two_takes k bs a.0 a.1)
 
-pub closer_takes : (k : Delimiter) (bs : List ℕ) (x : Bool × List ℕ) → closer_at k bs ≡ Some x → bs ≡ dash x.0 ++ (mark k ∷ 125 ∷ x.1)
+pub closer_takes : (k : Delimiter) (bs : List ℕ) (x : Bool × List ℕ) → closer_at k bs ≡ Some x → bs ≡ dash_if x.0 ++ (mark k ∷ 125 ∷ x.1)
 unfolding closer_at
 closer_takes k bs x h = closer_takes_by k bs (past_byte 45 bs) x refl h
 
-pub closer_again : (k : Delimiter) (d : Bool) (rest : List ℕ) → closer_at k (dash d ++ (mark k ∷ 125 ∷ rest)) ≡ Some (d, rest)
+pub closer_again : (k : Delimiter) (d : Bool) (rest : List ℕ) → closer_at k (dash_if d ++ (mark k ∷ 125 ∷ rest)) ≡ Some (d, rest)
 unfolding closer_at
 closer_again Output true rest = refl
 closer_again Output false rest = refl
@@ -288,7 +288,7 @@ items_again (item {k = k} {after = after} b c i is) (suc n) l =
     let m : length after ≤ n = omega (arith, blank_shorter b, item_shrinks i) in
     rw (blank_again _ _ b, no_closer k _ c, item_again i, items_again is n m)
 
-dash_shorter : (k : Delimiter) (d : Bool) (from rest : List ℕ) → from ≡ dash d ++ (mark k ∷ 125 ∷ rest) → length rest ≤ length from
+dash_shorter : (k : Delimiter) (d : Bool) (from rest : List ℕ) → from ≡ dash_if d ++ (mark k ∷ 125 ∷ rest) → length rest ≤ length from
 dash_shorter k true from rest e = omega (arith, ap (length {A = ℕ}) e)
 dash_shorter k false from rest e = omega (arith, ap (length {A = ℕ}) e)
 

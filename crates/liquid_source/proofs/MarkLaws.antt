@@ -5,7 +5,7 @@ use Rattle.std.proofs.lemmas.Slice.Eq.{bytes_eq-Decides}
 use Rattle.std.proofs.lemmas.List.{length-append}
 use Rattle.liquid_source.specs.Words.{begins_with}
 use Rattle.liquid_source.specs.ValueReading.{run_len, past_white, past_byte, word_at}
-use Rattle.liquid_source.specs.Items.{dash}
+use Rattle.liquid_source.specs.Items.{dash_if}
 use Rattle.liquid_source.specs.ItemReading.{closer_at}
 use Rattle.liquid_source.specs.Openers.{opener, IsOpener, with_dash, no_dash}
 use Rattle.liquid_source.specs.Verbatim.{IsMark, is_mark, NoMark, IsRaw, ends, goes_on}
@@ -73,7 +73,7 @@ mark_again (is_mark {before = before} {after = after} {w = w} {bs = bs} {inside 
 pub mark_shorter : {w bs rest : List ℕ} {before after : Bool} → IsMark w before after bs rest → length rest < length bs
 mark_shorter (is_mark {after = after} {rest = rest} o a n b c) =
     let l = opener_shorter o in
-    let e = ap (length {A = ℕ}) c ∙ length-append (dash after) (37 ∷ 125 ∷ rest) in
+    let e = ap (length {A = ℕ}) c ∙ length-append (dash_if after) (37 ∷ 125 ∷ rest) in
     omega (arith, l, blank_shorter a, word_shorter n, blank_shorter b, e)
 
 -- ---- marks of a name

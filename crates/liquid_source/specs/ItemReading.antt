@@ -1,6 +1,7 @@
 -- What is read between an opener and a closer, as functions.
 use Rattle.std.specs.Prelude.{ℕ, zero, suc, List, [], ◌∷◌, length, take, ◌-◌, Bool, true, false, Option, Some, None}
 use Rattle.std.specs.Option.{option_and_then, option_map, option_or}
+use Rattle.liquid_source.specs.Bytes.{bar, close_brace, close_parenthesis, colon, comma, dash, dot, equals_sign, exclamation_mark, greater_sign, less_sign, open_parenthesis}
 use Rattle.liquid_source.specs.ValueReading.{◌>>=◌, Reads, past_white, past_byte, value_at}
 use Rattle.liquid_source.specs.Items.{Item, value, range, symbol, mark}
 use Rattle.liquid_source.specs.declared.symbol.Symbol.{Symbol}
@@ -15,11 +16,11 @@ one_byte b s bs = option_map (λ rest. (s, rest)) (past_byte b bs)
 
 unfoldable pub long_symbol_at : Reads Symbol
 long_symbol_at bs =
-    option_or (two_bytes 61 61 Equals bs) (option_or (two_bytes 33 61 NotEquals bs) (option_or (two_bytes 60 62 LessOrGreater bs) (option_or (two_bytes 60 61 LessThanEquals bs) (two_bytes 62 61 GreaterThanEquals bs))))
+    option_or (two_bytes equals_sign equals_sign Equals bs) (option_or (two_bytes exclamation_mark equals_sign NotEquals bs) (option_or (two_bytes less_sign greater_sign LessOrGreater bs) (option_or (two_bytes less_sign equals_sign LessThanEquals bs) (two_bytes greater_sign equals_sign GreaterThanEquals bs))))
 
 unfoldable pub short_symbol_at : Reads Symbol
 short_symbol_at bs =
-    option_or (one_byte 60 LessThan bs) (option_or (one_byte 62 GreaterThan bs) (option_or (one_byte 61 Assign bs) (option_or (one_byte 58 Colon bs) (option_or (one_byte 44 Comma bs) (one_byte 124 Bar bs)))))
+    option_or (one_byte less_sign LessThan bs) (option_or (one_byte greater_sign GreaterThan bs) (option_or (one_byte equals_sign Assign bs) (option_or (one_byte colon Colon bs) (option_or (one_byte comma Comma bs) (one_byte bar Bar bs)))))
 
 -- the longest first
 abbrev pub symbol_at : Reads Symbol
@@ -29,10 +30,10 @@ symbol_at bs = option_or (long_symbol_at bs) (short_symbol_at bs)
 unfoldable pub range_at : Reads Item
 range_at bs = do
   first ← value_at 200 (past_white bs)
-  dot ← past_byte 46 (past_white first.1)
-  after ← past_byte 46 dot
+  one ← past_byte dot (past_white first.1)
+  after ← past_byte dot one
   second ← value_at 200 (past_white after)
-  rest ← past_byte 41 (past_white second.1)
+  rest ← past_byte close_parenthesis (past_white second.1)
   Some (range first.0 second.0, rest)
 
 -- what the text has before its rest
@@ -45,13 +46,13 @@ range_or_value bs None = option_map (λ v. (value v.0 (before bs v.1), v.1)) (va
 
 abbrev pub item_by : List ℕ → Option (Symbol × List ℕ) → Option (Item × List ℕ)
 item_by bs (Some s) = Some (symbol s.0, s.1)
-item_by bs None = range_or_value bs (past_byte 40 bs)
+item_by bs None = range_or_value bs (past_byte open_parenthesis bs)
 
 unfoldable pub item_at : Reads Item
 item_at bs = item_by bs (symbol_at bs)
 
 abbrev pub two_at : Delimiter → List ℕ → Option (List ℕ)
-two_at k bs = option_and_then (past_byte 125) (past_byte (mark k) bs)
+two_at k bs = option_and_then (past_byte close_brace) (past_byte (mark k) bs)
 
 abbrev pub closer_by : Delimiter → List ℕ → Option (List ℕ) → Option (Bool × List ℕ)
 closer_by k bs (Some rest) = option_map (λ r. (true, r)) (two_at k rest)
@@ -59,7 +60,7 @@ closer_by k bs None = option_map (λ r. (false, r)) (two_at k bs)
 
 -- a closer at the front: whether it has a dash, and what follows it
 unfoldable pub closer_at : Delimiter → List ℕ → Option (Bool × List ℕ)
-closer_at k bs = closer_by k bs (past_byte 45 bs)
+closer_at k bs = closer_by k bs (past_byte dash bs)
 
 -- items, whether the closer has a dash, and what follows it
 abbrev pub ReadItems : Type 0

@@ -1,6 +1,7 @@
 -- The written grammar of items: what stands between an opener and a closer. In each relation bs begins with what is named, and rest follows it.
 use Rattle.std.specs.Prelude.{◌≡◌, ℕ, ◌≤◌, List, [], ◌∷◌, ◌++◌, length, Bool, true, false, codes}
 use Rattle.liquid_core.specs.Expression.{Expression}
+use Rattle.liquid_source.specs.Bytes.{close_brace, close_parenthesis, dash, dot, open_parenthesis, percent}
 use Rattle.liquid_source.specs.Words.{Blank}
 use Rattle.liquid_source.specs.Values.{IsValue}
 use Rattle.liquid_source.specs.declared.symbol.Symbol.{Symbol}
@@ -35,26 +36,27 @@ pub record IsSymbol (s : Symbol) (bs rest : List ℕ) : Type 0 where
 -- `(value..value)` behind its `(`, whitespace allowed around each value
 pub data IsRange : Expression → Expression → List ℕ → List ℕ → Type 0 where
   is_range : {first second : Expression} {inside from until after next behind rest : List ℕ}
-      → Blank inside from → IsValue 200 first from until → Blank until (46 ∷ 46 ∷ after)
-      → Blank after next → IsValue 200 second next behind → Blank behind (41 ∷ rest) → IsRange first second inside rest
+      → Blank inside from → IsValue 200 first from until → Blank until (dot ∷ dot ∷ after)
+      → Blank after next → IsValue 200 second next behind → Blank behind (close_parenthesis ∷ rest) → IsRange first second inside rest
 
 pub data IsItem : Item → List ℕ → List ℕ → Type 0 where
   is_symbol : {s : Symbol} {bs rest : List ℕ} → IsSymbol s bs rest → IsItem (symbol s) bs rest
-  is_interval : {first second : Expression} {inside rest : List ℕ} → IsRange first second inside rest → IsItem (range first second) (40 ∷ inside) rest
+  is_interval : {first second : Expression} {inside rest : List ℕ} → IsRange first second inside rest → IsItem (range first second) (open_parenthesis ∷ inside) rest
   is_value : {x : Expression} {spelling bs rest : List ℕ} → IsValue 200 x bs rest → bs ≡ spelling ++ rest → IsItem (value x spelling) bs rest
 
 -- an output closes by `}}`, a tag by `%}`
 abbrev pub mark : Delimiter → ℕ
-mark Output = 125
-mark Tag = 37
+mark Output = close_brace
+mark Tag = percent
 
-abbrev pub dash : Bool → List ℕ
-dash true = 45 ∷ []
-dash false = []
+-- a dash, or nothing
+abbrev pub dash_if : Bool → List ℕ
+dash_if true = dash ∷ []
+dash_if false = []
 
 -- a closer, with a dash where the truth value says so
 abbrev pub IsCloser : Delimiter → Bool → List ℕ → List ℕ → Type 0
-IsCloser k d bs rest = bs ≡ dash d ++ (mark k ∷ 125 ∷ rest)
+IsCloser k d bs rest = bs ≡ dash_if d ++ (mark k ∷ close_brace ∷ rest)
 
 abbrev pub NoCloser : Delimiter → List ℕ → Type 0
 NoCloser k bs = (d : Bool) (rest : List ℕ) → IsCloser k d bs rest → ⊥

@@ -1,6 +1,6 @@
 -- The written grammar of a source: texts and, between them, outputs and tags.
 use Rattle.std.specs.Prelude.{ℕ, List, [], ◌∷◌, ◌++◌, Bool, true, false}
-use Rattle.liquid_source.specs.Bytes.{plain}
+use Rattle.liquid_source.specs.Bytes.{plain, open_brace}
 use Rattle.liquid_source.specs.Words.{IsRun, Blank, Word}
 use Rattle.liquid_source.specs.ValueReading.{past_white, trimmed}
 use Rattle.liquid_source.specs.Items.{Item, AreItems}
@@ -50,4 +50,4 @@ content (b ∷ bs) ps = text (b ∷ bs) ∷ ps
 pub data IsSource : Bool → List Piece → List ℕ → Type 0 where
   last : {front : Bool} {t : List ℕ} → IsRun plain t [] → IsSource front (content (stripped front t false) []) t
   more : {front after : Bool} {bs rest : List ℕ} {p : Piece} {ps : List Piece} (t : List ℕ) (before : Bool)
-      → IsRun plain t (123 ∷ bs) → IsMarkup before p after bs rest → IsSource after ps rest → IsSource front (content (stripped front t before) (p ∷ ps)) (t ++ (123 ∷ bs))
+      → IsRun plain t (open_brace ∷ bs) → IsMarkup before p after bs rest → IsSource after ps rest → IsSource front (content (stripped front t before) (p ∷ ps)) (t ++ (open_brace ∷ bs))

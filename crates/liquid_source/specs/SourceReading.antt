@@ -1,6 +1,7 @@
 -- What is read as a source, as functions. What is read next may depend on the language: it tells where a tag has a verbatim body.
 use Rattle.std.specs.Prelude.{◌≡◌, ℕ, zero, suc, List, [], ◌∷◌, length, take, drop, Bool, true, false, not, cond, ◌&&◌, codes, bytes_eq, Option, Some, None}
 use Rattle.std.specs.Option.{option_and_then, option_map}
+use Rattle.liquid_source.specs.Bytes.{dash, open_brace, percent}
 use Rattle.liquid_source.specs.ValueReading.{◌>>=◌, Reads, run_len, past_white, past_byte, word_at, text_at}
 use Rattle.liquid_source.specs.ItemReading.{closer_at, items_at}
 use Rattle.liquid_source.specs.Pieces.{Piece, text, output, tag, raw, comment, stripped}
@@ -30,9 +31,9 @@ mark_behind d = do
 -- a mark of any name
 unfoldable pub mark_at : Reads Mark
 mark_at bs = do
-  brace ← past_byte 123 bs
-  inside ← past_byte 37 brace
-  mark_behind (dashed inside (past_byte 45 inside))
+  brace ← past_byte open_brace bs
+  inside ← past_byte percent brace
+  mark_behind (dashed inside (past_byte dash inside))
 
 abbrev pub is_named : List ℕ → Option (Mark × List ℕ) → Bool
 is_named w None = false
@@ -82,10 +83,10 @@ comment_at (suc turns) n bs = option_and_then (past_mark (comment_at turns) n) (
 
 abbrev pub opener_by : List ℕ → Option (List ℕ) → Option (Delimiter × List ℕ)
 opener_by bs (Some rest) = Some (Output, rest)
-opener_by bs None = option_map (λ rest. (Tag, rest)) (past_byte 37 bs)
+opener_by bs None = option_map (λ rest. (Tag, rest)) (past_byte percent bs)
 
 abbrev pub opener_at : List ℕ → Option (Delimiter × List ℕ)
-opener_at bs = opener_by bs (past_byte 123 bs)
+opener_at bs = opener_by bs (past_byte open_brace bs)
 
 pub record Markup : Type 0 where
   pub before : Bool
@@ -100,7 +101,7 @@ inside_of Tag x =
 
 -- behind the `{` of an opener
 unfoldable pub markup_at : Reads Markup
-markup_at bs = option_and_then (λ k. inside_of k.0 (dashed k.1 (past_byte 45 k.1))) (opener_at bs)
+markup_at bs = option_and_then (λ k. inside_of k.0 (dashed k.1 (past_byte dash k.1))) (opener_at bs)
 
 abbrev pub tag_name : Piece → List ℕ
 tag_name (tag w is) = w

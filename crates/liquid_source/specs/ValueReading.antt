@@ -5,7 +5,7 @@ use Rattle.std.specs.List.{suffix_len}
 use Rattle.liquid_model.specs.Data.{Datum, text, number}
 use Rattle.liquid_core.specs.Expression.{Expression, literal, variable, Steps, no_steps, step}
 use Rattle.liquid_model.specs.Whole.{whole_text}
-use Rattle.liquid_source.specs.Bytes.{is_white, is_digit, is_letter, in_word, not_quote, plain}
+use Rattle.liquid_source.specs.Bytes.{is_white, is_digit, is_letter, in_word, not_quote, plain, close_bracket, dash, dot, double_quote, open_bracket, plus_sign, single_quote}
 use Rattle.liquid_source.specs.Words.{passes, goes_on}
 use Rattle.liquid_source.specs.Values.{WordKind, name, constant, state, word_kind, dotted}
 
@@ -39,7 +39,7 @@ until_quote q bs = option_map (λ rest. (take (run_len (not_quote q) bs) bs, res
 
 unfoldable pub quoted_at : Reads (List ℕ)
 quoted_at [] = None
-quoted_at (q ∷ bs) = if q == 34 || q == 39 then until_quote q bs else None
+quoted_at (q ∷ bs) = if q == double_quote || q == single_quote then until_quote q bs else None
 
 abbrev pub with_sign : ℕ → ℕ → ℕ
 with_sign sign zero = 0
@@ -47,7 +47,7 @@ with_sign sign (suc n) = sign + suc n
 
 abbrev pub sign_len : List ℕ → ℕ
 sign_len [] = 0
-sign_len (b ∷ bs) = if b == 43 || b == 45 then 1 else 0
+sign_len (b ∷ bs) = if b == plus_sign || b == dash then 1 else 0
 
 -- an optional sign and digits; 0 where no number stands
 abbrev pub number_len : List ℕ → ℕ
@@ -76,16 +76,16 @@ module _ (inner : Reads Expression) where
   unfoldable pub index_at : Reads Expression
   index_at bs = do
     x ← inner (past_white bs)
-    rest ← past_byte 93 (past_white x.1)
+    rest ← past_byte close_bracket (past_white x.1)
     Some (x.0, rest)
 
   abbrev pub step_by : List ℕ → Option (List ℕ) → Option (Option (Expression × List ℕ))
   step_by bs (Some inside) = option_map Some (index_at inside)
-  step_by bs None = Some (member_at (past_byte 46 bs))
+  step_by bs None = Some (member_at (past_byte dot bs))
 
   -- a step, or none
   unfoldable pub step_at : List ℕ → Option (Option (Expression × List ℕ))
-  step_at bs = step_by bs (past_byte 91 bs)
+  step_at bs = step_by bs (past_byte open_bracket bs)
 
   abbrev pub more_steps : Reads Steps → List ℕ → Option (Expression × List ℕ) → Option (Steps × List ℕ)
   more_steps more bs None = Some (no_steps, bs)

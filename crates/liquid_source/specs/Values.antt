@@ -2,7 +2,7 @@
 use Rattle.std.specs.Prelude.{◌≡◌, ℕ, suc, ℤ, List, [], ◌∷◌, Bool, true, false, ◌==◌, ◌||◌, ◌&&◌, slice_index, cond, bytes_eq, codes}
 use Rattle.liquid_model.specs.Data.{Datum, nil, truth, number, text}
 use Rattle.liquid_core.specs.Expression.{Expression, literal, variable, Steps, no_steps, step}
-use Rattle.liquid_source.specs.Bytes.{is_letter}
+use Rattle.liquid_source.specs.Bytes.{is_letter, close_bracket, dot, open_bracket}
 use Rattle.liquid_source.specs.Words.{Blank, Word, Quoted, Number}
 
 -- what a word is where it opens a value: a variable's name, a literal, or one of the two that are refused
@@ -21,12 +21,12 @@ word_kind w =
 -- a `.` or a `[`, which no literal word is followed by
 abbrev pub dotted : List ℕ → Bool
 dotted [] = false
-dotted (b ∷ bs) = b == 46 || b == 91
+dotted (b ∷ bs) = b == dot || b == open_bracket
 
 -- a `.` before a letter, or a `[`
 abbrev pub step_begins : List ℕ → Bool
 step_begins [] = false
-step_begins (b ∷ bs) = b == 91 || (b == 46 && is_letter (slice_index bs 0))
+step_begins (b ∷ bs) = b == open_bracket || (b == dot && is_letter (slice_index bs 0))
 
 -- brackets nest at most d deep
 mutual
@@ -40,7 +40,7 @@ mutual
   pub data AreSteps : ℕ → Steps → List ℕ → List ℕ → Type 0 where
     no_step : {d : ℕ} {rest : List ℕ} → step_begins rest ≡ false → AreSteps d no_steps rest rest
     -- `.word`
-    is_member : {d : ℕ} {w from after rest : List ℕ} {steps : Steps} → Word w from after → AreSteps d steps after rest → AreSteps d (step (literal (text w)) steps) (46 ∷ from) rest
+    is_member : {d : ℕ} {w from after rest : List ℕ} {steps : Steps} → Word w from after → AreSteps d steps after rest → AreSteps d (step (literal (text w)) steps) (dot ∷ from) rest
     -- `[value]`
-    is_index : {d : ℕ} {x : Expression} {steps : Steps} {inside from until after rest : List ℕ} → Blank inside from → IsValue d x from until → Blank until (93 ∷ after)
-        → AreSteps (suc d) steps after rest → AreSteps (suc d) (step x steps) (91 ∷ inside) rest
+    is_index : {d : ℕ} {x : Expression} {steps : Steps} {inside from until after rest : List ℕ} → Blank inside from → IsValue d x from until → Blank until (close_bracket ∷ after)
+        → AreSteps (suc d) steps after rest → AreSteps (suc d) (step x steps) (open_bracket ∷ inside) rest

@@ -1,5 +1,6 @@
 -- The written grammar of bodies that aren't read: those of `raw` and of `comment`, by the marks that end them.
 use Rattle.std.specs.Prelude.{codes, ℕ, suc, List, [], ◌∷◌, Bool}
+use Rattle.liquid_source.specs.Bytes.{open_brace}
 use Rattle.liquid_source.specs.Words.{Blank, Word}
 use Rattle.liquid_source.specs.Items.{IsCloser}
 use Rattle.liquid_source.specs.Openers.{IsOpener}
@@ -8,7 +9,7 @@ use Rattle.liquid_source.specs.declared.item.Delimiter.TheVariants.{Tag}
 -- `{%` or `{%-`, the word w, `-%}` or `%}`, with whitespace between them. The truth values: whether each of the two has a dash
 pub data IsMark : List ℕ → Bool → Bool → List ℕ → List ℕ → Type 0 where
   is_mark : {before after : Bool} {w bs inside from next until rest : List ℕ}
-      → IsOpener Tag before bs inside → Blank inside from → Word w from next → Blank next until → IsCloser Tag after until rest → IsMark w before after (123 ∷ bs) rest
+      → IsOpener Tag before bs inside → Blank inside from → Word w from next → Blank next until → IsCloser Tag after until rest → IsMark w before after (open_brace ∷ bs) rest
 
 abbrev pub NoMark : List ℕ → List ℕ → Type 0
 NoMark w bs = (before after : Bool) (rest : List ℕ) → IsMark w before after bs rest → ⊥

@@ -1,7 +1,7 @@
 -- The written grammar of words, quoted texts and numbers. In each relation bs begins with what is named, and rest follows it.
 use Rattle.std.specs.Prelude.{◌≡◌, ℕ, ℤ, ◌⊎◌, List, [], ◌∷◌, ◌++◌, Bool, true, false, not, ◌==◌, ◌||◌, ◌&&◌, slice_index, Some}
 use Rattle.liquid_model.specs.Whole.{whole_text}
-use Rattle.liquid_source.specs.Bytes.{is_white, is_digit, is_letter, in_word, not_quote}
+use Rattle.liquid_source.specs.Bytes.{is_white, is_digit, is_letter, in_word, not_quote, dot, double_quote, single_quote}
 
 -- the test passes at the front
 abbrev pub passes : (ℕ → List ℕ → Bool) → List ℕ → Bool
@@ -28,7 +28,7 @@ pub record Word (w bs rest : List ℕ) : Type 0 where
 -- in double or single quotes, without escapes
 pub record Quoted (s bs rest : List ℕ) : Type 0 where
   pub quote : ℕ
-  pub double_or_single : (quote ≡ 34) ⊎ (quote ≡ 39)
+  pub double_or_single : (quote ≡ double_quote) ⊎ (quote ≡ single_quote)
   pub joined : bs ≡ quote ∷ (s ++ (quote ∷ rest))
   pub run : IsRun (not_quote quote) s (quote ∷ rest)
 
@@ -38,7 +38,7 @@ begins_with b (c ∷ cs) = c == b
 
 -- a digit, a letter or `_`, or a `.` that begins no `..`
 abbrev pub goes_on : ℕ → List ℕ → Bool
-goes_on b bs = is_digit b bs || (is_letter b || (b == 46 && not (begins_with 46 bs)))
+goes_on b bs = is_digit b bs || (is_letter b || (b == dot && not (begins_with dot bs)))
 
 -- An optional sign and digits, within 64 bits. What follows doesn't make it another thing.
 pub record Number (n : ℤ) (bs rest : List ℕ) : Type 0 where

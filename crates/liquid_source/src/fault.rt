@@ -5,6 +5,7 @@ ghost use Rattle.liquid_model.specs.declared.error.ErrorKind.TheVariants.{Memory
 ghost use Rattle.liquid_source.specs.Readers.{kind_of, TellsOf};
 ghost use Rattle.liquid_source.specs.declared.fault.ParseError.TheVariants.{Memory};
 
+use crate::quotation::excerpt;
 use liquid_core::{Error, ErrorKind};
 use std::alloc::{AllocError, AllocFailed, Global};
 
@@ -106,8 +107,8 @@ impl<T: Drop> From<AllocFailed<T>> for ParseError {
 
 impl ParseError {
     /// The error that tells it: its kind, and a message with the line and the column (in characters, each from 1) of the
-    /// place in `source`, with what is found and what is wanted there, and `more` behind it. `Memory` where there is no
-    /// room for the message.
+    /// place in `source`, with the beginning of what is found and what is wanted there, and `more` behind it. `Memory`
+    /// where there is no room for the message.
     pub fn tell(self, alloc: Global, source: &str, more: &str) -> Error
         ensures { TellsOf self result.kind }
     {
@@ -136,7 +137,7 @@ fn out_of_memory() -> Error
 fn message(alloc: Global, source: &str, fault: Fault, more: &str) -> Result<String, AllocError> {
     let (line, column) = place(source, fault.left);
     let wanted = fault.wanted;
-    let found = found(source, fault.left);
+    let found = excerpt(alloc, found(source, fault.left))?;
     if found.is_empty() {
         return format!(in alloc;
             "line {line}, column {column}: the source ends where {wanted} is wanted{more}"

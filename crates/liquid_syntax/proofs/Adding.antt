@@ -6,8 +6,8 @@ use Rattle.liquid_source.specs.declared.fault.ParseError.{ParseError}
 use Rattle.liquid_source.specs.declared.fault.ParseError.TheVariants as errors
 use Rattle.liquid_tree.specs.Tree.{Node, Nodes, no_nodes}
 use Rattle.liquid_syntax.specs.Flats.{flat_of}
-use Rattle.liquid_syntax.specs.OpenBlocks.{State, begun, ended, Level, level, depth, deeper, with_node, close, step, to_else, to_elsif}
-use Rattle.liquid_syntax.specs.Building.{Begins, Steps, IsBuilding, IsMemory, IsStack, Closes, IsPrepared, IsSound, label_view, opening}
+use Rattle.liquid_syntax.specs.OpenBlocks.{State, last, begun, ended, Level, level, depth, deeper, with_node, close, step, to_else, to_elsif}
+use Rattle.liquid_syntax.specs.Building.{Begins, IsFirst, Steps, IsBuilding, IsMemory, IsStack, Closes, IsPrepared, IsSound, label_view, opening}
 use Rattle.liquid_syntax.specs.declared.block.Block.{Block}
 use Rattle.liquid_syntax.specs.declared.build.Builder.{Builder}
 use Rattle.liquid_syntax.specs.declared.build.Label.{Label}
@@ -15,7 +15,6 @@ use Rattle.liquid_syntax.specs.declared.build.Label.TheVariants as labels
 use Rattle.liquid_syntax.specs.declared.build.Stage.{Stage}
 use Rattle.liquid_syntax.specs.declared.build.Stage.TheVariants.{First}
 use Rattle.liquid_syntax.specs.declared.node.Node as code
-use Rattle.liquid_syntax.proofs.Grow.{no_elsif}
 use Rattle.liquid_syntax.proofs.NestingLaws.{some_room}
 
 -- one block of a chain of `elsif` has ended
@@ -33,25 +32,25 @@ chain_none b chained ls [] cur now t e h = e ∙ ap (λ (x : Bool). close x [] n
 chain_none b chained ls (level r f k ∷ ms) cur now t e h = absurd h
 
 pub begins_step : (b : Block) (stage : Stage) (n : code.Node) (label : Label) (ls : List Level) (cur : Nodes) → label ≡ labels.Begins b stage n → depth ls < 200
-    → step (label_view label) ls cur ≡ Some (level (begun (opening b stage (flat_of n))) cur false ∷ ls, no_nodes)
+    → step (label_view label) ls cur ≡ Some (level (begun (opening b stage n)) cur false ∷ ls, no_nodes)
 begins_step b stage n label ls cur is room =
-    ap (λ (l : Label). step (label_view l) ls cur) is ∙ ap (λ (x : Bool). cond x (Some (level (begun (opening b stage (flat_of n))) cur false ∷ ls, no_nodes)) None) (some_room (depth ls) room)
+    ap (λ (l : Label). step (label_view l) ls cur) is ∙ ap (λ (x : Bool). cond x (Some (level (begun (opening b stage n)) cur false ∷ ls, no_nodes)) None) (some_room (depth ls) room)
 
 -- what is asked of the label of a block is asked of its node
 pub prepared_begins : {b : Block} {stage : Stage} {n : code.Node} {label : Label} → label ≡ labels.Begins b stage n → IsSound label → IsPrepared stage n
 prepared_begins is sound = subst (λ (l : Label). IsSound l) is sound
 
 -- a block that is opened behind an `elsif`
-pub elsif_opens : (r : Result (Unit {0}) ParseError) (b was : Builder) (block : Block) (n : code.Node) (read : Option State) (s : State) → IsMemory r → read ≡ Some (level (begun (opening block First (flat_of n))) s.1 true ∷ s.0, no_nodes)
+pub elsif_opens : (r : Result (Unit {0}) ParseError) (b was : Builder) (block : Block) (n : code.Node) (read : Option State) (s : State) → IsMemory r → read ≡ Some (level (begun (opening block First n)) s.1 true ∷ s.0, no_nodes)
     → OnOk r (b.depth ≡ was.depth) → OnOk r ((ls : List Level) (cur : Nodes) → IsStack was ls cur → Begins block First true n ls cur b) → IsBuilding was s.0 s.1 → Steps read b r
-elsif_opens (Ok u) b was block n read s memory is deep opens built = ((level (begun (opening block First (flat_of n))) s.1 true ∷ s.0, no_nodes), is, (opens s.0 s.1 built.0, deep ∙ built.1))
+elsif_opens (Ok u) b was block n read s memory is deep opens built = ((level (begun (opening block First n)) s.1 true ∷ s.0, no_nodes), is, (opens s.0 s.1 built.0, deep ∙ built.1))
 elsif_opens (Err errors.Memory) b was block n read s memory is deep opens built = tt
 elsif_opens (Err (errors.Fault f)) b was block n read s memory is deep opens built = absurd cc
 
--- where no `else` may stand
-pub elsif_fails : (e : ParseError) (next : Nodes → Nodes → Node) (ls : List Level) (cur : Nodes) → Fails e (to_else ls cur) → Fails e (to_elsif next ls cur)
-elsif_fails errors.Memory next ls cur h = tt
-elsif_fails (errors.Fault f) next ls cur h = no_elsif next ls cur h
+-- where an `elsif` stands in no first body, or no memory is left for the end of one
+pub elsif_fails : (e : ParseError) (next : Nodes → Nodes → Node) (ls : List Level) (cur : Nodes) (b : Block) → IsFirst ls (Some b) → Fails e (to_else ls cur) → Fails e (to_elsif next ls cur)
+elsif_fails errors.Memory next ls cur b is h = tt
+elsif_fails (errors.Fault f) next ls cur b (make, g, k, rest, is) h = let e : to_else ls cur ≡ Some (level (last b (make cur)) g k ∷ rest, no_nodes) = ap (λ ls. to_else ls cur) is in absurd cc
 
 pub closed_step : (n : code.Node) (label : Label) (ls : List Level) (cur : Nodes) → label ≡ labels.Closed n → depth ls < 200 → step (label_view label) ls cur ≡ Some (ls, with_node cur ((flat_of n).head []))
 closed_step n label ls cur is room =

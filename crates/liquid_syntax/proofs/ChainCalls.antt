@@ -160,7 +160,7 @@ module _ (known : Filters) where
       no_call h = ap (filters_behind before) (at_word (Some (name, next)) named ∙ ap (option_and_then (call_with known name)) h)
 
       -- behind a filter with these arguments
-      with_call : (xs : List Expression) (o : Option (List FilterCall)) (call : Option FilterCall) → accepted_call (listed known name) xs ≡ call → called_of known next ≡ option_map (λ calls. (xs, calls)) o
+      with_call : (xs : List Expression) (o : Option (List FilterCall)) (call : Option FilterCall) → accepted_call name (listed known name) xs ≡ call → called_of known next ≡ option_map (λ calls. (xs, calls)) o
           → filters_of known all ≡ option_and_then (λ calls. option_map (λ c. c ∷ calls) call) o
       with_call xs None call e h = at_word (Some (name, next)) named ∙ ap (option_and_then (call_with known name)) h
       with_call xs (Some calls) call e h = at_word (Some (name, next)) named ∙ ap (option_and_then (call_with known name)) h ∙ ap (option_map (λ c. c ∷ calls)) e
@@ -174,11 +174,11 @@ module _ (known : Filters) where
       one_left None c = refl
       one_left (Some calls) c = ap (λ cs. Some cs) (sym (append_assoc before (c ∷ []) calls))
 
-      pub unaccepted : (xs : List Expression) (o : Option (List FilterCall)) → accepted_call (listed known name) xs ≡ None → called_of known next ≡ option_map (λ calls. (xs, calls)) o → filters_behind before (filters_of known all) ≡ None
+      pub unaccepted : (xs : List Expression) (o : Option (List FilterCall)) → accepted_call name (listed known name) xs ≡ None → called_of known next ≡ option_map (λ calls. (xs, calls)) o → filters_behind before (filters_of known all) ≡ None
       unfolding filters_behind
       unaccepted xs o e h = ap (filters_behind before) (with_call xs o None e h ∙ nothing_left o)
 
-      pub one_filter : (xs : List Expression) (o : Option (List FilterCall)) (c : FilterCall) → accepted_call (listed known name) xs ≡ Some c → called_of known next ≡ option_map (λ calls. (xs, calls)) o
+      pub one_filter : (xs : List Expression) (o : Option (List FilterCall)) (c : FilterCall) → accepted_call name (listed known name) xs ≡ Some c → called_of known next ≡ option_map (λ calls. (xs, calls)) o
           → filters_behind before (filters_of known all) ≡ filters_behind (before ++ (c ∷ [])) o
       one_filter xs o c e h = ap (filters_behind before) (with_call xs o (Some c) e h) ∙ one_left o c
 
@@ -187,7 +187,7 @@ module _ (known : Filters) where
       call_refused (errors.Fault f) whole g h = g ∙ no_call h
 
       pub acceptance_refused : (xs : List Expression) (o : Option (List FilterCall)) (e : ParseError) (whole : Option (List FilterCall)) → whole ≡ filters_behind before (filters_of known all)
-          → called_of known next ≡ option_map (λ calls. (xs, calls)) o → Fails e (accepted_call (listed known name) xs) → Fails e whole
+          → called_of known next ≡ option_map (λ calls. (xs, calls)) o → Fails e (accepted_call name (listed known name) xs) → Fails e whole
       acceptance_refused xs o errors.Memory whole g h r = tt
       acceptance_refused xs o (errors.Fault f) whole g h r = g ∙ unaccepted xs o r h
 

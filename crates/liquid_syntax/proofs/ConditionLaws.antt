@@ -90,7 +90,7 @@ variable_is : (w u : Text) (s : Steps) → is_word w (value (variable u s)) ≡ 
 variable_is w u no_steps h = ap (λ (u : Text). word u) ((bytes_eq-Decides u w).0 h)
 variable_is w u (step x more) h = absurd cc
 
-word_is : (w : Text) (t : Token) → is_word w t ≡ true → t ≡ word w
+pub word_is : (w : Text) (t : Token) → is_word w t ≡ true → t ≡ word w
 word_is w (value (literal d)) h = absurd cc
 word_is w (value (variable u s)) h = variable_is w u s h
 word_is w (range x y) h = absurd cc

@@ -3,7 +3,7 @@ use Rattle.std.proofs.Common.{◌≡◌, ℕ, suc, ◌+◌, List, [], ◌∷◌,
 use Rattle.std.proofs.lemmas.List.{map-append}
 use Rattle.liquid_syntax.specs.Forest.{Forest, Bodies, empty, node, no_bodies, body, size, sizes}
 use Rattle.liquid_syntax.specs.Laid.{Flat, ends_of, laid, laid_bodies, tree_of}
-use Rattle.liquid_syntax.specs.Round.{tree_of-laid}
+use Rattle.liquid_syntax.proofs.Round.{tree_of-laid}
 use Rattle.liquid_syntax.specs.Nested.{ends_in, with_ends, AreNested}
 
 undressed : {A : Type 0} → Flat A → Flat (Unit {0})

@@ -7,7 +7,7 @@ use Rattle.liquid_syntax.specs.Forest.{Forest}
 use Rattle.liquid_syntax.specs.Laid as laid
 use Rattle.liquid_syntax.specs.Laid.{laid}
 use Rattle.liquid_syntax.specs.Nested.{AreNested, ends_in}
-use Rattle.liquid_syntax.specs.Round.{tree_of-laid}
+use Rattle.liquid_syntax.proofs.Round.{tree_of-laid}
 use Rattle.liquid_syntax.specs.OpenBlocks.{Level, at_end}
 use Rattle.liquid_syntax.specs.Templates.{tree_of}
 use Rattle.liquid_tree.specs.Tree.{Nodes}

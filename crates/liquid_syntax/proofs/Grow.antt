@@ -1,5 +1,5 @@
 -- Each step of building.
-use Rattle.std.proofs.Common.{◌≡◌, ℕ, suc, ◌+◌, ◌-◌, ◌<◌, List, [], ◌∷◌, ◌++◌, length, get_or, reverse, Bool, true, Some, None, refl, sym, ap, ◌∙◌, subst, arith, append_assoc, length-append}
+use Rattle.std.proofs.Common.{◌≡◌, ℕ, suc, ◌+◌, ◌-◌, ◌<◌, List, [], ◌∷◌, ◌++◌, length, get_or, reverse, Bool, Some, None, refl, sym, ap, ◌∙◌, subst, arith, append_assoc, length-append}
 use Rattle.std.proofs.lemmas.List.{append-nil, reverse-append, reverse-reverse, length-reverse}
 use Rattle.std.specs.Prelude.{slice_set, slice_get}
 use Rattle.std.proofs.Math.Seq.{set-append_seam, get_or-append_seam}
@@ -8,12 +8,15 @@ use Rattle.liquid_syntax.specs.Flats.{Maker, nodes_of, bodies_of}
 use Rattle.liquid_syntax.specs.Forest as forest
 use Rattle.liquid_syntax.specs.Forest.{Forest, Bodies, empty, node, no_bodies, body, size, sizes}
 use Rattle.liquid_syntax.specs.Laid.{Flat, ends_of, laid, laid_bodies}
-use Rattle.liquid_syntax.specs.Round.{length-laid, length-laid_bodies}
-use Rattle.liquid_syntax.specs.OpenBlocks.{append, Reading, last, first, unkept, armed, begun, to_elsif, place_in, ended, Level, level, place_of, depth, State, with_node, to_else, at_end}
+use Rattle.liquid_syntax.proofs.Round as round
+use Rattle.liquid_syntax.proofs.Round.{length-laid, length-laid_bodies}
+use Rattle.liquid_syntax.specs.OpenBlocks.{append, Reading, last, first, unkept, armed, begun, to_elsif, to_when, place_in, ended, Level, level, place_of, depth, State, with_node, to_else, at_end}
 use Rattle.liquid_tree.specs.Tree as tree
-use Rattle.liquid_tree.specs.Tree.{Nodes, no_nodes}
-use Rattle.liquid_syntax.specs.Flats.{flat_of, flats}
-use Rattle.liquid_syntax.specs.Building.{IsPrepared, opening, set_first, set_last, first_ended, last_ended, block_ended, Fits, Builds, Closes, stage_place, place_at}
+use Rattle.liquid_tree.specs.Tree.{Nodes, no_nodes, Whens, no_whens, when}
+use Rattle.liquid_syntax.specs.Flats.{case_flat, flat_of, flats, with_arms}
+use Rattle.liquid_core.specs.Expression.{Expression}
+use Rattle.std.specs.Prelude.{take, true, false}
+use Rattle.liquid_syntax.specs.Building.{IsPrepared, opening, set_before_last, set_last, before_last_ended, last_ended, behind_arms, armed_with, IsCase, IsAdded, IsFirst, EndIsSet, BodyEnded, takes_else, takes_when, Fits, Builds, Closes, stage_place, place_at}
 use Rattle.liquid_syntax.specs.declared.block.Block.{Block}
 use Rattle.liquid_syntax.specs.declared.build.Builder.{Builder}
 use Rattle.liquid_syntax.specs.declared.block.Place.{Place}
@@ -21,7 +24,7 @@ use Rattle.liquid_syntax.specs.declared.block.Place.TheVariants.{Outside, InBody
 use Rattle.liquid_syntax.specs.declared.build.Open.{Open}
 use Rattle.liquid_syntax.specs.declared.node.Node as code
 use Rattle.liquid_syntax.specs.declared.build.Stage.{Stage}
-use Rattle.liquid_syntax.specs.declared.build.Stage.TheVariants.{First, Last}
+use Rattle.liquid_syntax.specs.declared.build.Stage.TheVariants.{First, Last, Unkept, Armed}
 
 -- ---- forests
 
@@ -31,11 +34,11 @@ Trees = Forest Maker
 abbrev pub Flats : Type 0
 Flats = List (Flat Maker)
 
-nodes_append : (f g : Trees) → nodes_of (forest.append f g) ≡ append (nodes_of f) (nodes_of g)
+nodes_append : (f g : Trees) → nodes_of (round.append f g) ≡ append (nodes_of f) (nodes_of g)
 nodes_append empty g = refl
 nodes_append (node make bs rest) g = ap (tree.node (make (bodies_of bs))) (nodes_append rest g)
 
-laid-append : (k : ℕ) (f g : Trees) → laid k (forest.append f g) ≡ laid k f ++ laid (k + size f) g
+laid-append : (k : ℕ) (f g : Trees) → laid k (round.append f g) ≡ laid k f ++ laid (k + size f) g
 laid-append k empty g = let e : k ≡ k + 0 = omega arith in ap (λ n. laid n g) e
 laid-append k (node h bs rest) g =
     let x : Flat Maker = record { head = h; ends = ends_of (k + 1) bs } in
@@ -73,10 +76,39 @@ laid_with k (body g bs) f =
     ap (λ l. laid k g ++ l) (laid_with (k + size g) bs f ∙ ap (λ n. laid_bodies (k + size g) bs ++ laid n f) e)
     ∙ sym (append_assoc (laid k g) (laid_bodies (k + size g) bs) (laid (k + (size g + sizes bs)) f))
 
-set_last_seam : (e : ℕ) (xs : List ℕ) (z : ℕ) → set_last e (xs ++ z ∷ []) ≡ xs ++ e ∷ []
+pub set_last_seam : (e : ℕ) (xs : List ℕ) (z : ℕ) → set_last e (xs ++ z ∷ []) ≡ xs ++ e ∷ []
 set_last_seam e [] z = refl
 set_last_seam e (x ∷ []) z = refl
 set_last_seam e (x ∷ y ∷ xs) z = ap (λ l. x ∷ l) (set_last_seam e (y ∷ xs) z)
+
+pub set_before_seam : (e : ℕ) (xs : List ℕ) (y z : ℕ) → set_before_last e ((xs ++ y ∷ []) ++ z ∷ []) ≡ (xs ++ e ∷ []) ++ z ∷ []
+set_before_seam e [] y z = refl
+set_before_seam e (x ∷ []) y z = refl
+set_before_seam e (x ∷ v ∷ []) y z = refl
+set_before_seam e (x ∷ v ∷ u ∷ xs) y z = ap (λ l. x ∷ l) (set_before_seam e (v ∷ u ∷ xs) y z)
+
+ends_count : (k : ℕ) (bs : Bodies Maker) → length (ends_of k bs) ≡ length (bodies_of bs)
+ends_count k no_bodies = refl
+ends_count k (body f bs) = omega (arith, ends_count (k + size f) bs)
+
+-- ---- the `when` parts of a `case`
+
+arms_done : (make : Whens → Nodes → tree.Node) (vss : List (List Expression)) (fs : List Nodes) (o : Nodes) → length vss ≡ length fs → with_arms make vss (fs ++ o ∷ []) ≡ behind_arms make vss fs no_whens o
+arms_done make [] [] o h = refl
+arms_done make [] (f ∷ fs) o h = absurd (omega (arith, h))
+arms_done make (vs ∷ vss) [] o h = absurd (omega (arith, h))
+arms_done make (vs ∷ vss) (f ∷ fs) o h = arms_done (λ ws o. make (when vs f ws) o) vss fs o (omega (arith, h))
+
+arms_more : (make : Whens → Nodes → tree.Node) (vss : List (List Expression)) (fs : List Nodes) (vs : List Expression) (f : Nodes) (ws : Whens) (o : Nodes) → length vss ≡ length fs
+    → behind_arms make (vss ++ vs ∷ []) (fs ++ f ∷ []) ws o ≡ behind_arms make vss fs (when vs f ws) o
+arms_more make [] [] vs f ws o h = refl
+arms_more make [] (g ∷ fs) vs f ws o h = absurd (omega (arith, h))
+arms_more make (us ∷ vss) [] vs f ws o h = absurd (omega (arith, h))
+arms_more make (us ∷ vss) (g ∷ fs) vs f ws o h = arms_more (λ ws o. make (when us g ws) o) vss fs vs f ws o (omega (arith, h))
+
+take_seam : (pre : Flats) (x : Flat Maker) (rest : Flats) → take (suc (length pre)) (pre ++ x ∷ rest) ≡ pre ++ x ∷ []
+take_seam [] x rest = refl
+take_seam (y ∷ pre) x rest = ap (λ l. y ∷ l) (take_seam pre x rest)
 
 -- ---- the list
 
@@ -95,7 +127,7 @@ level-length pre x bs c ns e =
 grow : (ns : Flats) (os : List Open) (ls : List Level) (cur : Nodes) (g : Trees) → Builds ns os ls cur → Builds (ns ++ laid (length ns) g) os ls (append cur (nodes_of g))
 grow ns [] [] cur g (c, is, e) =
     let long : length ns ≡ 0 + size c = let z : size c ≡ 0 + size c = omega arith in ap length e ∙ length-laid 0 c ∙ z in (
-      forest.append c g,
+      round.append c g,
       ap (λ f. append f (nodes_of g)) is ∙ sym (nodes_append c g),
       ap (λ n. ns ++ laid n g) long ∙ ap (λ l. l ++ laid (0 + size c) g) e ∙ sym (laid-append 0 c g),
     )
@@ -104,13 +136,13 @@ grow ns (o ∷ os) [] cur g b = absurd b
 grow ns (o ∷ os) (level r f ch ∷ ls) cur g (pre, x, bs, c, is, at, chained, fits, e, below) =
     let k = length pre + 1 + sizes bs in
     let lb = laid_bodies (length pre + 1) bs in
-    let all : ns ++ laid (length ns) g ≡ pre ++ x ∷ (lb ++ laid k (forest.append c g)) =
+    let all : ns ++ laid (length ns) g ≡ pre ++ x ∷ (lb ++ laid k (round.append c g)) =
     ap (λ n. ns ++ laid n g) (level-length pre x bs c ns e)
     ∙ ap (λ m. m ++ laid (k + size c) g) e
     ∙ append_assoc pre (x ∷ (lb ++ laid k c)) (laid (k + size c) g)
     ∙ ap (λ m. pre ++ x ∷ m) (append_assoc lb (laid k c) (laid (k + size c) g))
     ∙ ap (λ m. pre ++ x ∷ (lb ++ m)) (sym (laid-append k c g)) in
-    (pre, x, bs, forest.append c g, ap (λ f. append f (nodes_of g)) is ∙ sym (nodes_append c g), at, chained, fits, all, below)
+    (pre, x, bs, round.append c g, ap (λ f. append f (nodes_of g)) is ∙ sym (nodes_append c g), at, chained, fits, all, below)
 
 pub nothing_built : (ns : List code.Node) (os : List Open) → ns ≡ [] → os ≡ [] → Builds (flats ns) (reverse os) [] no_nodes
 nothing_built [] [] e f = (empty, refl, refl)
@@ -143,7 +175,7 @@ changed pre x y rest ns at is e = ap (λ n. slice_set ns n y) is ∙ ap (λ m. s
 
 -- a first body ends, and the last begins
 otherwise : (ns ms : Flats) (o p : Open) (os : List Open) (b : Block) (make : Nodes → Nodes → tree.Node) (f : Nodes) (k : Bool) (ls : List Level) (cur : Nodes) (old y : Flat Maker)
-    → ms ≡ slice_set ns o.place y → old ≡ get_or ns o.place old → y ≡ first_ended (length ns) old
+    → ms ≡ slice_set ns o.place y → old ≡ get_or ns o.place old → y ≡ before_last_ended (length ns) old
     → p.place ≡ o.place → p.chained ≡ o.chained → p.block ≡ o.block → p.stage ≡ Last
     → Builds ns (o ∷ os) (level (first b make) f k ∷ ls) cur → Builds ms (p ∷ os) (level (last b (make cur)) f k ∷ ls) no_nodes
 otherwise ns ms o p os b make f k ls cur old y set was is at ch bl st (pre, x, bs, c, is_c, at', chained, (stage, block, nob, (y1, z1, ends), makes), e, below) =
@@ -153,7 +185,7 @@ otherwise ns ms o p os b make f k ls cur old y set was is at ch bl st (pre, x, b
     let new : Flat Maker = record { head = x.head; ends = (n + size c) ∷ z1 ∷ [] } in
     let old_is : old ≡ x = there pre x (laid (n + 0) c) ns o.place old at' e0 was in
     let new_is : y ≡ new =
-    is ∙ ap (first_ended (length ns)) old_is ∙ ap (λ (es : List ℕ). record { head = x.head; ends = set_first (length ns) es }) ends ∙ ap (λ (l : ℕ). record { head = x.head; ends = l ∷ z1 ∷ [] }) long in
+    is ∙ ap (before_last_ended (length ns)) old_is ∙ ap (λ (es : List ℕ). record { head = x.head; ends = set_before_last (length ns) es }) ends ∙ ap (λ (l : ℕ). record { head = x.head; ends = l ∷ z1 ∷ [] }) long in
     let z : n + 0 ≡ n = omega arith in
     let all : ms ≡ pre ++ new ∷ ((laid n c ++ []) ++ []) =
     set ∙ changed pre x y (laid (n + 0) c) ns o.place at' e0 ∙ ap (λ (v : Flat Maker). pre ++ v ∷ laid (n + 0) c) new_is
@@ -172,7 +204,7 @@ otherwise ns ms o p os b make f k ls cur old y set was is at ch bl st (pre, x, b
 
 -- a block ends in its last body
 close_last : (ns ms : Flats) (o : Open) (os : List Open) (b : Block) (make : Nodes → tree.Node) (f : Nodes) (k : Bool) (ls : List Level) (cur : Nodes) (old y : Flat Maker)
-    → ms ≡ slice_set ns o.place y → old ≡ get_or ns o.place old → y ≡ block_ended o.stage (length ns) old
+    → ms ≡ slice_set ns o.place y → old ≡ get_or ns o.place old → y ≡ last_ended (length ns) old
     → Builds ns (o ∷ os) (level (last b make) f k ∷ ls) cur → (o.chained ≡ k) × Builds ms os ls (with_node f (make cur))
 close_last ns ms o os b make f k ls cur old y set was is (pre, x, bs, c, is_c, at, chained, (stage, block, (z, ends), makes), e, below) =
     let n = length pre + 1 in
@@ -182,7 +214,7 @@ close_last ns ms o os b make f k ls cur old y set was is (pre, x, bs, c, is_c, a
     let new : Flat Maker = record { head = x.head; ends = ends_of n cs } in
     let old_is : old ≡ x = there pre x rest ns o.place old at e was in
     let new_is : y ≡ new =
-    is ∙ ap (λ (s : Stage). block_ended s (length ns) old) stage ∙ ap (last_ended (length ns)) old_is
+    is ∙ ap (last_ended (length ns)) old_is
     ∙ ap (λ (es : List ℕ). record { head = x.head; ends = es }) (ap (set_last (length ns)) ends ∙ set_last_seam (length ns) (ends_of n bs) z ∙ ap (λ (l : ℕ). ends_of n bs ++ l ∷ []) long ∙ sym (ends_with n bs c)) in
     let all : ms ≡ pre ++ laid (length pre) (node x.head cs empty) =
     set ∙ changed pre x y rest ns o.place at e ∙ ap (λ (v : Flat Maker). pre ++ v ∷ rest) new_is
@@ -193,40 +225,80 @@ close_last ns ms o os b make f k ls cur old y set was is (pre, x, bs, c, is_c, a
           (subst (λ (t : tree.Node). Builds (pre ++ laid (length pre) (node x.head cs empty)) os ls (with_node f t)) (sym made) (grow pre os ls f (node x.head cs empty) below)),
     )
 
--- a block ends in the first of its two bodies
-close_first : (ns ms : Flats) (o : Open) (os : List Open) (b : Block) (make : Nodes → Nodes → tree.Node) (f : Nodes) (k : Bool) (ls : List Level) (cur : Nodes) (old y : Flat Maker)
-    → ms ≡ slice_set ns o.place y → old ≡ get_or ns o.place old → y ≡ block_ended o.stage (length ns) old
-    → Builds ns (o ∷ os) (level (first b make) f k ∷ ls) cur → (o.chained ≡ k) × Builds ms os ls (with_node f (make cur no_nodes))
-close_first ns ms o os b make f k ls cur old y set was is (pre, x, bs, c, is_c, at, chained, (stage, block, nob, (y1, z1, ends), makes), e, below) =
+-- the node of a `case` stands between two bodies
+Pauses : Flats → Open → List Open → Block → (Whens → Nodes → tree.Node) → Nodes → Bool → List Level → Type 0
+Pauses ns o os b make f k ls =
+    (pre : Flats) × (x : Flat Maker) × (bs : Bodies Maker) × (o.place ≡ length pre) × (o.block ≡ b) × (o.chained ≡ k) × IsCase x bs (length pre + 1) make × (ns ≡ pre ++ x ∷ laid_bodies (length pre + 1) bs) × Builds pre os ls f
+
+unkept_pauses : (ns ms : Flats) (o : Open) (os : List Open) (b : Block) (make : Whens → Nodes → tree.Node) (f : Nodes) (k : Bool) (ls : List Level) (cur : Nodes) → ms ≡ take (o.place + 1) ns
+    → Builds ns (o ∷ os) (level (unkept b make) f k ∷ ls) cur → Pauses ms o os b make f k ls
+unfolding Pauses
+unkept_pauses ns ms o os b make f k ls cur is (pre, x, bs, c, is_c, at, chained, (stage, block, nob, whole), e, below) =
+    let n : o.place + 1 ≡ suc (length pre) = omega (arith, at) in
+    (pre, x, no_bodies, at, block, chained, whole, is ∙ ap (λ n. take n ns) n ∙ ap (take (suc (length pre))) e ∙ take_seam pre x (laid_bodies (length pre + 1) bs ++ laid (length pre + 1 + sizes bs) c), below)
+
+armed_pauses : (ns ms : Flats) (o : Open) (os : List Open) (b : Block) (make : Nodes → Whens → Nodes → tree.Node) (f : Nodes) (k : Bool) (ls : List Level) (cur : Nodes) → EndIsSet o.place ns ms
+    → Builds ns (o ∷ os) (level (armed b make) f k ∷ ls) cur → Pauses ms o os b (make cur) f k ls
+unfolding Pauses
+armed_pauses ns ms o os b make f k ls cur (old, was, set) (pre, x, bs, c, is_c, at, chained, (stage, block, t, vss, vs, y, z, count, x_is, makes), e, below) =
     let n = length pre + 1 in
-    let cs = body c (body empty no_bodies) in
-    let e0 : ns ≡ pre ++ x ∷ laid (n + 0) c = e ∙ ap (λ (bs : Bodies Maker). pre ++ x ∷ (laid_bodies n bs ++ laid (n + sizes bs) c)) nob in
-    let long : length ns ≡ n + size c = omega (arith, level-length pre x no_bodies c ns e0) in
-    let more : length ns ≡ n + size c + 0 = omega (arith, long) in
-    let new : Flat Maker = record { head = x.head; ends = ends_of n cs } in
-    let old_is : old ≡ x = there pre x (laid (n + 0) c) ns o.place old at e0 was in
-    let new_is : y ≡ new =
-    is ∙ ap (λ (s : Stage). block_ended s (length ns) old) stage ∙ ap (λ (v : Flat Maker). last_ended (length ns) (first_ended (length ns) v)) old_is
-    ∙ ap (λ (es : List ℕ). record { head = x.head; ends = set_last (length ns) (set_first (length ns) es) }) ends
-    ∙ ap (λ (l : ℕ). record { head = x.head; ends = l ∷ length ns ∷ [] }) long ∙ ap (λ (l : ℕ). record { head = x.head; ends = (n + size c) ∷ l ∷ [] }) more in
-    let z : n + 0 ≡ n = omega arith in
-    let all : ms ≡ pre ++ laid (length pre) (node x.head cs empty) =
-    set ∙ changed pre x y (laid (n + 0) c) ns o.place at e0 ∙ ap (λ (v : Flat Maker). pre ++ v ∷ laid (n + 0) c) new_is
-    ∙ ap (λ m. pre ++ new ∷ laid m c) z ∙ ap (λ l. pre ++ new ∷ l) (sym (append-nil (laid n c ++ []) ∙ append-nil (laid n c))) in
-    let made : make cur no_nodes ≡ x.head (bodies_of cs) = makes cur no_nodes ∙ ap (λ l. x.head (l ∷ no_nodes ∷ [])) is_c in (
-      chained,
-      subst (λ (m : Flats). Builds m os ls (with_node f (make cur no_nodes))) (sym all)
-          (subst (λ (t : tree.Node). Builds (pre ++ laid (length pre) (node x.head cs empty)) os ls (with_node f t)) (sym made) (grow pre os ls f (node x.head cs empty) below)),
+    let cs = with_body bs c in
+    let long : length ns ≡ n + sizes bs + size c = level-length pre x bs c ns e in
+    let rest = laid_bodies n bs ++ laid (n + sizes bs) c in
+    let new : Flat Maker = case_flat t (vss ++ vs ∷ []) (ends_of n cs) z in
+    let old_is : old ≡ x = there pre x rest ns o.place old at e was in
+    let new_is : before_last_ended (length ns) old ≡ new =
+    ap (before_last_ended (length ns)) (old_is ∙ x_is)
+    ∙ ap (λ (es : List ℕ). record { head = with_arms (λ ws o. tree.case_of t ws o) (vss ++ vs ∷ []); ends = es })
+    (set_before_seam (length ns) (ends_of n bs) y z ∙ ap (λ (es : List ℕ). es ++ z ∷ []) (ap (λ (l : ℕ). ends_of n bs ++ l ∷ []) long ∙ sym (ends_with n bs c))) in
+    let all : ms ≡ pre ++ new ∷ laid_bodies n cs =
+    set ∙ changed pre x (before_last_ended (length ns) old) rest ns o.place at e ∙ ap (λ (v : Flat Maker). pre ++ v ∷ rest) new_is ∙ ap (λ l. pre ++ new ∷ l) (sym (laid_with n bs c)) in
+    let many : length (vss ++ vs ∷ []) ≡ length (bodies_of cs) =
+    let a : length (vss ++ vs ∷ []) ≡ length vss + 1 = length-append vss (vs ∷ []) in
+    let d : length (bodies_of cs) ≡ length (bodies_of bs) + 1 = ap length (bodies_with bs c) ∙ length-append (bodies_of bs) (nodes_of c ∷ []) in
+    omega (arith, a, d, count) in
+    let made : (ws : Whens) (o : Nodes) → make cur ws o ≡ armed_with t (vss ++ vs ∷ []) (bodies_of cs) ws o =
+    λ ws o. makes cur ws o ∙ sym (arms_more (λ ws o. tree.case_of t ws o) vss (bodies_of bs) vs cur ws o count)
+    ∙ ap (λ l. armed_with t (vss ++ vs ∷ []) l ws o) (ap (λ l. bodies_of bs ++ l ∷ []) is_c ∙ sym (bodies_with bs c)) in
+    (pre, new, cs, at, block, chained, (t, vss ++ vs ∷ [], z, many, refl, made), all, below)
+
+-- behind it the else list begins
+last_goes : (ns : Flats) (o p : Open) (os : List Open) (b : Block) (make : Whens → Nodes → tree.Node) (f : Nodes) (k : Bool) (ls : List Level)
+    → p.place ≡ o.place → p.chained ≡ o.chained → p.block ≡ o.block → p.stage ≡ Last → Pauses ns o os b make f k ls → Builds ns (p ∷ os) (level (last b (make no_whens)) f k ∷ ls) no_nodes
+unfolding Pauses
+last_goes ns o p os b make f k ls at' ch bl st (pre, x, bs, at, block, chained, (t, vss, z, count, x_is, makes), e, below) =
+    let n = length pre + 1 in (
+      pre,
+      x,
+      bs,
+      empty,
+      refl,
+      at' ∙ at,
+      ch ∙ chained,
+      (
+        st,
+        bl ∙ block,
+        (z, ap (λ (v : Flat Maker). v.ends) x_is),
+        λ g. makes no_whens g ∙ sym (arms_done (λ ws o. tree.case_of t ws o) vss (bodies_of bs) g count) ∙ ap (λ (v : Flat Maker). v.head (bodies_of bs ++ g ∷ [])) (sym x_is),
+      ),
+      e ∙ ap (λ l. pre ++ x ∷ l) (sym (append-nil (laid_bodies n bs))),
+      below,
     )
 
--- a block ends
-close : (ns ms : Flats) (o : Open) (os : List Open) (r : Reading) (f : Nodes) (k : Bool) (ls : List Level) (cur : Nodes) (old y : Flat Maker)
-    → ms ≡ slice_set ns o.place y → old ≡ get_or ns o.place old → y ≡ block_ended o.stage (length ns) old
-    → Builds ns (o ∷ os) (level r f k ∷ ls) cur → (o.chained ≡ k) × Builds ms os ls (with_node f (ended r cur))
-close ns ms o os (last b make) f k ls cur old y set was is h = close_last ns ms o os b make f k ls cur old y set was is h
-close ns ms o os (first b make) f k ls cur old y set was is h = close_first ns ms o os b make f k ls cur old y set was is h
-close ns ms o os (unkept b make) f k ls cur old y set was is (pre, x, bs, c, is_c, at, chained, fits, e, below) = absurd fits
-close ns ms o os (armed b make) f k ls cur old y set was is (pre, x, bs, c, is_c, at, chained, fits, e, below) = absurd fits
+-- or a further `when`
+when_goes : (ns ms : Flats) (o p : Open) (os : List Open) (b : Block) (make : Whens → Nodes → tree.Node) (f : Nodes) (k : Bool) (ls : List Level) (vs : List Expression) (old y : Flat Maker)
+    → ms ≡ slice_set ns o.place y → old ≡ get_or ns o.place old → IsAdded vs old y
+    → p.place ≡ o.place → p.chained ≡ o.chained → p.block ≡ o.block → p.stage ≡ Armed → Pauses ns o os b make f k ls
+    → Builds ms (p ∷ os) (level (armed b (λ g ws o. make (when vs g ws) o)) f k ∷ ls) no_nodes
+unfolding Pauses
+when_goes ns ms o p os b make f k ls vs old y set was added at' ch bl st (pre, x, bs, at, block, chained, (t, vss, z, count, x_is, makes), e, below) =
+    let n = length pre + 1 in
+    let new : Flat Maker = case_flat t (vss ++ vs ∷ []) (ends_of n bs ++ 0 ∷ []) z in
+    let old_is : old ≡ x = there pre x (laid_bodies n bs) ns o.place old at e was in
+    let y_is : y ≡ new = added t vss (ends_of n bs) z (count ∙ sym (ends_count n bs)) (old_is ∙ x_is) in
+    let all : ms ≡ pre ++ new ∷ (laid_bodies n bs ++ []) =
+    set ∙ changed pre x y (laid_bodies n bs) ns o.place at e ∙ ap (λ (v : Flat Maker). pre ++ v ∷ laid_bodies n bs) y_is ∙ ap (λ l. pre ++ new ∷ l) (sym (append-nil (laid_bodies n bs))) in
+    (pre, new, bs, empty, refl, at' ∙ at, ch ∙ chained, (st, bl ∙ block, t, vss, vs, 0, z, count, refl, λ g ws o. makes (when vs g ws) o), all, below)
 
 -- ---- on the code's stack, whose last block is the innermost
 
@@ -241,8 +313,8 @@ top_place (o ∷ os) = stage_place o.stage o.block
 fits_place : (o : Open) (r : Reading) (x : Flat Maker) (bs : Bodies Maker) (n : ℕ) → Fits o r x bs n → stage_place o.stage o.block ≡ place_in r
 fits_place o (last b make) x bs n (stage, block, ends, makes) = ap (λ (s : Stage). stage_place s o.block) stage ∙ ap InLast block
 fits_place o (first b make) x bs n (stage, block, none, ends, makes) = ap (λ (s : Stage). stage_place s o.block) stage ∙ ap InBody block
-fits_place o (unkept b make) x bs n h = absurd h
-fits_place o (armed b make) x bs n h = absurd h
+fits_place o (unkept b make) x bs n h = ap (λ (s : Stage). stage_place s o.block) h.0 ∙ ap InBody h.1
+fits_place o (armed b make) x bs n h = ap (λ (s : Stage). stage_place s o.block) h.0 ∙ ap InBody h.1
 
 top_is : (ns : Flats) (os : List Open) (ls : List Level) (cur : Nodes) → Builds ns os ls cur → top_place os ≡ place_of ls
 unfolding top_place
@@ -268,55 +340,140 @@ place_is ns xs ls cur b = ap (λ l. place_at (slice_get l (length l - 1))) (sym 
 pub within_on : (ns : Flats) (all rest : List Open) (o : Open) (ls : List Level) (cur : Nodes) → all ≡ rest ++ o ∷ [] → Builds ns (reverse all) ls cur → o.place < length ns
 within_on ns all rest o ls cur e h = open-within ns o (reverse rest) ls cur (subst (λ os. Builds ns os ls cur) (ap reverse e ∙ reverse-last rest o) h)
 
-closes_by : (ns : Flats) (o : Open) (os : List Open) (b : Builder) (old y : Flat Maker) → flats b.nodes.items ≡ slice_set ns o.place y → old ≡ get_or ns o.place old → y ≡ block_ended o.stage (length ns) old → reverse b.blocks.items ≡ os
-    → (ls : List Level) (cur : Nodes) → Builds ns (o ∷ os) ls cur → Closes ls cur b (Some o.chained)
-closes_by ns o os b old y set was is stack [] cur h = absurd h
-closes_by ns o os b old y set was is stack (level r f k ∷ ls) cur h =
-    let d = close ns (flats b.nodes.items) o os r f k ls cur old y set was is h in
-    (d.0, subst (λ (os : List Open). Builds (flats b.nodes.items) os ls (with_node f (ended r cur))) (sym stack) d.1)
-
-pub closes_on : (ns : Flats) (all : List Open) (o : Open) (b : Builder) (old y : Flat Maker) (long : ℕ) → all ≡ b.blocks.items ++ o ∷ [] → long ≡ length ns → flats b.nodes.items ≡ slice_set ns o.place y
-    → (o.place < length ns → old ≡ get_or ns o.place old) → y ≡ block_ended o.stage long old → (ls : List Level) (cur : Nodes) → Builds ns (reverse all) ls cur → Closes ls cur b (Some o.chained)
-closes_on ns all o b old y long e n set was is ls cur h =
-    let h' = subst (λ os. Builds ns os ls cur) (ap reverse e ∙ reverse-last b.blocks.items o) h in
-    closes_by ns o (reverse b.blocks.items) b old y set (was (open-within ns o (reverse b.blocks.items) ls cur h')) (is ∙ ap (λ k. block_ended o.stage k old) n) refl ls cur h'
-
 -- the last body begins
-pub record Goes (ms : Flats) (os : List Open) (o : Open) (ls : List Level) (cur : Nodes) (s : State) : Type 0 where
+pub record Goes (ms : Flats) (os : List Open) (ls : List Level) (cur : Nodes) (s : State) : Type 0 where
   pub read : to_else ls cur ≡ Some s
   pub built : Builds ms os s.0 s.1
   pub deep : depth ls ≡ depth s.0
-  pub place : place_of s.0 ≡ InLast o.block
 
-else_by : (ns ms : Flats) (o p : Open) (os : List Open) (old y : Flat Maker) → ms ≡ slice_set ns o.place y → old ≡ get_or ns o.place old → y ≡ first_ended (length ns) old
-    → p.place ≡ o.place → p.chained ≡ o.chained → p.block ≡ o.block → p.stage ≡ Last → o.stage ≡ First
-    → (ls : List Level) (cur : Nodes) → Builds ns (o ∷ os) ls cur → (s : State) × Goes ms (p ∷ os) o ls cur s
-else_by ns ms o p os old y set was is at ch bl st fst [] cur h = absurd h
-else_by ns ms o p os old y set was is at ch bl st fst (level (last b make) f k ∷ ls) cur (pre, x, bs, c, is_c, at', chained, (stage, block, ends, makes), e, below) =
-    let no : First ≡ Last = sym fst ∙ stage in absurd cc
-else_by ns ms o p os old y set was is at ch bl st fst (level (first b make) f k ∷ ls) cur h =
-    ((level (last b (make cur)) f k ∷ ls, no_nodes), record { read = refl; built = otherwise ns ms o p os b make f k ls cur old y set was is at ch bl st h; deep = refl; place = ap InLast (sym h.7.1) })
-else_by ns ms o p os old y set was is at ch bl st fst (level (unkept b make) f k ∷ ls) cur (pre, x, bs, c, is_c, at', chained, fits, e, below) = absurd fits
-else_by ns ms o p os old y set was is at ch bl st fst (level (armed b make) f k ∷ ls) cur (pre, x, bs, c, is_c, at', chained, fits, e, below) = absurd fits
+else_by : (ns ms : Flats) (o p : Open) (os : List Open) → BodyEnded o.stage o.place ns ms → takes_else o.stage ≡ true
+    → p.place ≡ o.place → p.chained ≡ o.chained → p.block ≡ o.block → p.stage ≡ Last
+    → (ls : List Level) (cur : Nodes) → Builds ns (o ∷ os) ls cur → (s : State) × Goes ms (p ∷ os) ls cur s
+else_by ns ms o p os done takes at ch bl st [] cur h = absurd h
+else_by ns ms o p os done takes at ch bl st (level (last b make) f k ∷ ls) cur h =
+    let no : false ≡ true = subst (λ (s : Stage). takes_else s ≡ true) h.7.0 takes in absurd cc
+else_by ns ms o p os done takes at ch bl st (level (first b make) f k ∷ ls) cur h =
+    let d = subst (λ (s : Stage). BodyEnded s o.place ns ms) h.7.0 done in (
+      (level (last b (make cur)) f k ∷ ls, no_nodes),
+      record {
+        read = refl;
+        built = otherwise ns ms o p os b make f k ls cur d.0 (before_last_ended (length ns) d.0) d.2 d.1 refl at ch bl st h;
+        deep = refl;
+      },
+    )
+else_by ns ms o p os done takes at ch bl st (level (unkept b make) f k ∷ ls) cur h =
+    let d = subst (λ (s : Stage). BodyEnded s o.place ns ms) h.7.0 done in (
+      (level (last b (make no_whens)) f k ∷ ls, no_nodes),
+      record {
+        read = refl;
+        built = last_goes ms o p os b make f k ls at ch bl st (unkept_pauses ns ms o os b make f k ls cur d h);
+        deep = refl;
+      },
+    )
+else_by ns ms o p os done takes at ch bl st (level (armed b make) f k ∷ ls) cur h =
+    let d = subst (λ (s : Stage). BodyEnded s o.place ns ms) h.7.0 done in (
+      (level (last b (make cur no_whens)) f k ∷ ls, no_nodes),
+      record {
+        read = refl;
+        built = last_goes ms o p os b (make cur) f k ls at ch bl st (armed_pauses ns ms o os b make f k ls cur d h);
+        deep = refl;
+      },
+    )
 
-pub else_on : (ns ms : Flats) (all rest now : List Open) (o p : Open) (old y : Flat Maker) (long : ℕ) → all ≡ rest ++ o ∷ [] → now ≡ rest ++ p ∷ [] → long ≡ length ns → ms ≡ slice_set ns o.place y
-    → (o.place < length ns → old ≡ get_or ns o.place old) → y ≡ first_ended long old
-    → p.place ≡ o.place → p.chained ≡ o.chained → p.block ≡ o.block → p.stage ≡ Last → o.stage ≡ First
-    → (ls : List Level) (cur : Nodes) → Builds ns (reverse all) ls cur → (s : State) × Goes ms (reverse now) o ls cur s
-else_on ns ms all rest now o p old y long e e2 n set was is at ch bl st fst ls cur h =
+pub else_on : (ns ms : Flats) (all rest now : List Open) (o p : Open) → all ≡ rest ++ o ∷ [] → now ≡ rest ++ p ∷ [] → BodyEnded o.stage o.place ns ms → takes_else o.stage ≡ true
+    → p.place ≡ o.place → p.chained ≡ o.chained → p.block ≡ o.block → p.stage ≡ Last
+    → (ls : List Level) (cur : Nodes) → Builds ns (reverse all) ls cur → (s : State) × (to_else ls cur ≡ Some s) × Builds ms (reverse now) s.0 s.1 × (depth ls ≡ depth s.0)
+else_on ns ms all rest now o p e e2 done takes at ch bl st ls cur h =
     let h' = subst (λ os. Builds ns os ls cur) (ap reverse e ∙ reverse-last rest o) h in
-    let r = else_by ns ms o p (reverse rest) old y set (was (open-within ns o (reverse rest) ls cur h')) (is ∙ ap (λ k. first_ended k old) n) at ch bl st fst ls cur h' in
-    (r.0, record { read = r.1.read; built = subst (λ os. Builds ms os r.0.0 r.0.1) (sym (ap reverse e2 ∙ reverse-last rest p)) r.1.built; deep = r.1.deep; place = r.1.place })
+    let r = else_by ns ms o p (reverse rest) done takes at ch bl st ls cur h' in
+    (r.0, r.1.read, subst (λ os. Builds ms os r.0.0 r.0.1) (sym (ap reverse e2 ∙ reverse-last rest p)) r.1.built, r.1.deep)
 
-no_else_by : (ns : Flats) (o : Open) (os : List Open) → o.stage ≡ Last → (ls : List Level) (cur : Nodes) → Builds ns (o ∷ os) ls cur → to_else ls cur ≡ None
+no_else_by : (ns : Flats) (o : Open) (os : List Open) → takes_else o.stage ≡ false → (ls : List Level) (cur : Nodes) → Builds ns (o ∷ os) ls cur → to_else ls cur ≡ None
 no_else_by ns o os st [] cur h = absurd h
 no_else_by ns o os st (level (last b make) f k ∷ ls) cur h = refl
-no_else_by ns o os st (level (first b make) f k ∷ ls) cur (pre, x, bs, c, is_c, at', chained, (stage, block, none, ends, makes), e, below) = let no : First ≡ Last = sym stage ∙ st in absurd cc
-no_else_by ns o os st (level (unkept b make) f k ∷ ls) cur (pre, x, bs, c, is_c, at', chained, fits, e, below) = absurd fits
-no_else_by ns o os st (level (armed b make) f k ∷ ls) cur (pre, x, bs, c, is_c, at', chained, fits, e, below) = absurd fits
+no_else_by ns o os st (level (first b make) f k ∷ ls) cur h = let no : true ≡ false = subst (λ (s : Stage). takes_else s ≡ false) h.7.0 st in absurd cc
+no_else_by ns o os st (level (unkept b make) f k ∷ ls) cur h = let no : true ≡ false = subst (λ (s : Stage). takes_else s ≡ false) h.7.0 st in absurd cc
+no_else_by ns o os st (level (armed b make) f k ∷ ls) cur h = let no : true ≡ false = subst (λ (s : Stage). takes_else s ≡ false) h.7.0 st in absurd cc
 
-pub no_else : (ns : Flats) (all rest : List Open) (o : Open) → all ≡ rest ++ o ∷ [] → o.stage ≡ Last → (ls : List Level) (cur : Nodes) → Builds ns (reverse all) ls cur → to_else ls cur ≡ None
+pub no_else : (ns : Flats) (all rest : List Open) (o : Open) → all ≡ rest ++ o ∷ [] → takes_else o.stage ≡ false → (ls : List Level) (cur : Nodes) → Builds ns (reverse all) ls cur → to_else ls cur ≡ None
 no_else ns all rest o e st ls cur h = no_else_by ns o (reverse rest) st ls cur (subst (λ os. Builds ns os ls cur) (ap reverse e ∙ reverse-last rest o) h)
+
+-- a `when`
+when_by : (ns mid ms : Flats) (o p : Open) (os : List Open) (vs : List Expression) (old y : Flat Maker) → BodyEnded o.stage o.place ns mid → takes_when o.stage ≡ true
+    → ms ≡ slice_set mid o.place y → old ≡ get_or mid o.place old → IsAdded vs old y
+    → p.place ≡ o.place → p.chained ≡ o.chained → p.block ≡ o.block → p.stage ≡ Armed
+    → (ls : List Level) (cur : Nodes) → Builds ns (o ∷ os) ls cur → (s : State) × (to_when vs ls cur ≡ Some s) × Builds ms (p ∷ os) s.0 s.1 × (depth ls ≡ depth s.0)
+when_by ns mid ms o p os vs old y done takes set was added at ch bl st [] cur h = absurd h
+when_by ns mid ms o p os vs old y done takes set was added at ch bl st (level (last b make) f k ∷ ls) cur h =
+    let no : false ≡ true = subst (λ (s : Stage). takes_when s ≡ true) h.7.0 takes in absurd cc
+when_by ns mid ms o p os vs old y done takes set was added at ch bl st (level (first b make) f k ∷ ls) cur h =
+    let no : false ≡ true = subst (λ (s : Stage). takes_when s ≡ true) h.7.0 takes in absurd cc
+when_by ns mid ms o p os vs old y done takes set was added at ch bl st (level (unkept b make) f k ∷ ls) cur h =
+    let d = subst (λ (s : Stage). BodyEnded s o.place ns mid) h.7.0 done in (
+      (level (armed b (λ g ws o. make (when vs g ws) o)) f k ∷ ls, no_nodes),
+      refl,
+      when_goes mid ms o p os b make f k ls vs old y set was added at ch bl st (unkept_pauses ns mid o os b make f k ls cur d h),
+      refl,
+    )
+when_by ns mid ms o p os vs old y done takes set was added at ch bl st (level (armed b make) f k ∷ ls) cur h =
+    let d = subst (λ (s : Stage). BodyEnded s o.place ns mid) h.7.0 done in (
+      (level (armed b (λ g ws o. make cur (when vs g ws) o)) f k ∷ ls, no_nodes),
+      refl,
+      when_goes mid ms o p os b (make cur) f k ls vs old y set was added at ch bl st (armed_pauses ns mid o os b make f k ls cur d h),
+      refl,
+    )
+
+pub when_on : (ns mid ms : Flats) (all rest now : List Open) (o p : Open) (vs : List Expression) (old y : Flat Maker) → all ≡ rest ++ o ∷ [] → now ≡ rest ++ p ∷ [] → BodyEnded o.stage o.place ns mid → takes_when o.stage ≡ true
+    → ms ≡ slice_set mid o.place y → old ≡ get_or mid o.place old → IsAdded vs old y
+    → p.place ≡ o.place → p.chained ≡ o.chained → p.block ≡ o.block → p.stage ≡ Armed
+    → (ls : List Level) (cur : Nodes) → Builds ns (reverse all) ls cur → (s : State) × (to_when vs ls cur ≡ Some s) × Builds ms (reverse now) s.0 s.1 × (depth ls ≡ depth s.0)
+when_on ns mid ms all rest now o p vs old y e e2 done takes set was added at ch bl st ls cur h =
+    let h' = subst (λ os. Builds ns os ls cur) (ap reverse e ∙ reverse-last rest o) h in
+    let r = when_by ns mid ms o p (reverse rest) vs old y done takes set was added at ch bl st ls cur h' in
+    (r.0, r.1, subst (λ os. Builds ms os r.0.0 r.0.1) (sym (ap reverse e2 ∙ reverse-last rest p)) r.2, r.3)
+
+no_when_by : (ns : Flats) (o : Open) (os : List Open) (vs : List Expression) → takes_when o.stage ≡ false → (ls : List Level) (cur : Nodes) → Builds ns (o ∷ os) ls cur → to_when vs ls cur ≡ None
+no_when_by ns o os vs st [] cur h = absurd h
+no_when_by ns o os vs st (level (last b make) f k ∷ ls) cur h = refl
+no_when_by ns o os vs st (level (first b make) f k ∷ ls) cur h = refl
+no_when_by ns o os vs st (level (unkept b make) f k ∷ ls) cur h = let no : true ≡ false = subst (λ (s : Stage). takes_when s ≡ false) h.7.0 st in absurd cc
+no_when_by ns o os vs st (level (armed b make) f k ∷ ls) cur h = let no : true ≡ false = subst (λ (s : Stage). takes_when s ≡ false) h.7.0 st in absurd cc
+
+pub no_when : (ns : Flats) (all rest : List Open) (o : Open) (vs : List Expression) → all ≡ rest ++ o ∷ [] → takes_when o.stage ≡ false → (ls : List Level) (cur : Nodes) → Builds ns (reverse all) ls cur → to_when vs ls cur ≡ None
+no_when ns all rest o vs e st ls cur h = no_when_by ns o (reverse rest) vs st ls cur (subst (λ os. Builds ns os ls cur) (ap reverse e ∙ reverse-last rest o) h)
+
+-- a block ends: its last body, or another, behind which the last is empty
+last_open : Open → Open
+last_open o = record { place = o.place; block = o.block; stage = Last; chained = o.chained }
+
+close : (ns mid ms : Flats) (o : Open) (os : List Open) (r : Reading) (f : Nodes) (k : Bool) (ls : List Level) (cur : Nodes) (old y : Flat Maker) → BodyEnded o.stage o.place ns mid
+    → ms ≡ slice_set mid o.place y → old ≡ get_or mid o.place old → y ≡ last_ended (length mid) old
+    → Builds ns (o ∷ os) (level r f k ∷ ls) cur → (o.chained ≡ k) × Builds ms os ls (with_node f (ended r cur))
+unfolding last_open
+close ns mid ms o os (last b make) f k ls cur old y done set was is h =
+    let same : mid ≡ ns = subst (λ (s : Stage). BodyEnded s o.place ns mid) h.7.0 done in
+    close_last mid ms o os b make f k ls cur old y set was is (subst (λ (m : Flats). Builds m (o ∷ os) (level (last b make) f k ∷ ls) cur) (sym same) h)
+close ns mid ms o os (first b make) f k ls cur old y done set was is h =
+    let d = subst (λ (s : Stage). BodyEnded s o.place ns mid) h.7.0 done in
+    close_last mid ms (last_open o) os b (make cur) f k ls no_nodes old y set was is (otherwise ns mid o (last_open o) os b make f k ls cur d.0 (before_last_ended (length ns) d.0) d.2 d.1 refl refl refl refl refl h)
+close ns mid ms o os (unkept b make) f k ls cur old y done set was is h =
+    let d = subst (λ (s : Stage). BodyEnded s o.place ns mid) h.7.0 done in
+    close_last mid ms (last_open o) os b (make no_whens) f k ls no_nodes old y set was is (last_goes mid o (last_open o) os b make f k ls refl refl refl refl (unkept_pauses ns mid o os b make f k ls cur d h))
+close ns mid ms o os (armed b make) f k ls cur old y done set was is h =
+    let d = subst (λ (s : Stage). BodyEnded s o.place ns mid) h.7.0 done in
+    close_last mid ms (last_open o) os b (make cur no_whens) f k ls no_nodes old y set was is (last_goes mid o (last_open o) os b (make cur) f k ls refl refl refl refl (armed_pauses ns mid o os b make f k ls cur d h))
+
+closes_by : (ns mid : Flats) (o : Open) (os : List Open) (b : Builder) (old y : Flat Maker) → BodyEnded o.stage o.place ns mid → flats b.nodes.items ≡ slice_set mid o.place y → old ≡ get_or mid o.place old → y ≡ last_ended (length mid) old → reverse b.blocks.items ≡ os
+    → (ls : List Level) (cur : Nodes) → Builds ns (o ∷ os) ls cur → Closes ls cur b (Some o.chained)
+closes_by ns mid o os b old y done set was is stack [] cur h = absurd h
+closes_by ns mid o os b old y done set was is stack (level r f k ∷ ls) cur h =
+    let d = close ns mid (flats b.nodes.items) o os r f k ls cur old y done set was is h in
+    (d.0, subst (λ (os : List Open). Builds (flats b.nodes.items) os ls (with_node f (ended r cur))) (sym stack) d.1)
+
+pub closes_on : (ns mid : Flats) (all : List Open) (o : Open) (b : Builder) (old y : Flat Maker) (long : ℕ) → all ≡ b.blocks.items ++ o ∷ [] → long ≡ length mid → BodyEnded o.stage o.place ns mid → flats b.nodes.items ≡ slice_set mid o.place y
+    → old ≡ get_or mid o.place old → y ≡ last_ended long old → (ls : List Level) (cur : Nodes) → Builds ns (reverse all) ls cur → Closes ls cur b (Some o.chained)
+closes_on ns mid all o b old y long e n done set was is ls cur h =
+    closes_by ns mid o (reverse b.blocks.items) b old y done set was (is ∙ ap (λ k. last_ended k old) n) refl ls cur (subst (λ os. Builds ns os ls cur) (ap reverse e ∙ reverse-last b.blocks.items o) h)
 
 none_by : (ns : Flats) (ls : List Level) (cur : Nodes) → Builds ns [] ls cur → ls ≡ []
 none_by ns [] cur b = refl
@@ -333,41 +490,64 @@ not_end ns (o ∷ os) (l ∷ ls) cur h b = refl
 pub still_open : (ns : Flats) (xs : List Open) (ls : List Level) (cur : Nodes) → (length xs ≡ 0 → ⊥) → Builds ns (reverse xs) ls cur → at_end ls cur ≡ None
 still_open ns xs ls cur h b = not_end ns (reverse xs) ls cur (λ e. h (sym (length-reverse xs) ∙ e)) b
 
-prepared_fits : (o : Open) (b : Block) (stage : Stage) (n : code.Node) (k : ℕ) → o.stage ≡ stage → o.block ≡ b → IsPrepared stage n → Fits o (begun (opening b stage (flat_of n))) (flat_of n) no_bodies k
+prepared_fits : (o : Open) (b : Block) (stage : Stage) (n : code.Node) (k : ℕ) → o.stage ≡ stage → o.block ≡ b → IsPrepared stage n → Fits o (begun (opening b stage n)) (flat_of n) no_bodies k
 prepared_fits o b First n k st bl prepared = (st, bl, refl, prepared, λ g h. refl)
 prepared_fits o b Last n k st bl prepared = (st, bl, prepared, λ g. refl)
+prepared_fits o b Unkept n k st bl (t, z, is, makes) = (st, bl, refl, (t, [], z, refl, is, makes))
+prepared_fits o b Armed n k st bl prepared = absurd prepared
 
 -- a block begins behind the nodes
 pub begins_on : (ns ms : Flats) (n : code.Node) (all now : List Open) (o : Open) (b : Block) (stage : Stage) (ls : List Level) (cur : Nodes) → ms ≡ ns ++ flat_of n ∷ [] → now ≡ all ++ o ∷ [] → o.place ≡ length ns
-    → o.stage ≡ stage → o.block ≡ b → IsPrepared stage n → Builds ns (reverse all) ls cur → Builds ms (reverse now) (level (begun (opening b stage (flat_of n))) cur o.chained ∷ ls) no_nodes
+    → o.stage ≡ stage → o.block ≡ b → IsPrepared stage n → Builds ns (reverse all) ls cur → Builds ms (reverse now) (level (begun (opening b stage n)) cur o.chained ∷ ls) no_nodes
 begins_on ns ms n all now o b stage ls cur e stack at st bl prepared built =
-    subst (λ os. Builds ms os (level (begun (opening b stage (flat_of n))) cur o.chained ∷ ls) no_nodes) (sym (ap reverse stack ∙ reverse-last all o))
-    (begin ns ms (flat_of n) (begun (opening b stage (flat_of n))) o (reverse all) ls cur e at (prepared_fits o b stage n (length ns + 1) st bl prepared) built)
+    subst (λ os. Builds ms os (level (begun (opening b stage n)) cur o.chained ∷ ls) no_nodes) (sym (ap reverse stack ∙ reverse-last all o))
+    (begin ns ms (flat_of n) (begun (opening b stage n)) o (reverse all) ls cur e at (prepared_fits o b stage n (length ns + 1) st bl prepared) built)
+
+-- which body the innermost block is in
+first_by : (ns : Flats) (o : Open) (os : List Open) → o.stage ≡ First → (ls : List Level) (cur : Nodes) → Builds ns (o ∷ os) ls cur → IsFirst ls (Some o.block)
+first_by ns o os st [] cur h = absurd h
+first_by ns o os st (level (last b make) f k ∷ ls) cur h = let no : First ≡ Last = sym st ∙ h.7.0 in absurd cc
+first_by ns o os st (level (first b make) f k ∷ ls) cur h = (make, f, k, ls, ap (λ (b : Block). level (first b make) f k ∷ ls) (sym h.7.1))
+first_by ns o os st (level (unkept b make) f k ∷ ls) cur h = let no : First ≡ Unkept = sym st ∙ h.7.0 in absurd cc
+first_by ns o os st (level (armed b make) f k ∷ ls) cur h = let no : First ≡ Armed = sym st ∙ h.7.0 in absurd cc
+
+not_first_by : (ns : Flats) (o : Open) (os : List Open) → (o.stage ≡ First → ⊥) → (ls : List Level) (cur : Nodes) → Builds ns (o ∷ os) ls cur → IsFirst ls None
+not_first_by ns o os st [] cur h = absurd h
+not_first_by ns o os st (level (last b make) f k ∷ ls) cur h = λ next cur. refl
+not_first_by ns o os st (level (first b make) f k ∷ ls) cur h = absurd (st h.7.0)
+not_first_by ns o os st (level (unkept b make) f k ∷ ls) cur h = λ next cur. refl
+not_first_by ns o os st (level (armed b make) f k ∷ ls) cur h = λ next cur. refl
+
+-- the innermost block is the last of the code's stack
+top_of : (xs : List Open) (o : Open) → slice_get xs (length xs - 1) ≡ Some o → (rest : List Open) × (reverse xs ≡ o ∷ rest)
+top_of xs o h =
+    top_by (reverse xs) (ap (λ l. slice_get l (length l - 1)) (reverse-reverse xs) ∙ h)
+  where
+    top_by : (ys : List Open) → slice_get (reverse ys) (length (reverse ys) - 1) ≡ Some o → (rest : List Open) × (ys ≡ o ∷ rest)
+    top_by [] g = absurd cc
+    top_by (y ∷ ys) g =
+        let e : reverse (y ∷ ys) ≡ reverse ys ++ y ∷ [] = reverse-append (y ∷ []) ys in
+        let is : Some y ≡ Some o = sym (ap (λ l. slice_get l (length l - 1)) e ∙ last_get (reverse ys) y) ∙ g in
+        let same : y ≡ o = cc in
+        (ys, ap (λ (y : Open). y ∷ ys) same)
+
+pub first_on : (ns : Flats) (xs : List Open) (o : Open) → slice_get xs (length xs - 1) ≡ Some o → o.stage ≡ First → (ls : List Level) (cur : Nodes) → Builds ns (reverse xs) ls cur → IsFirst ls (Some o.block)
+first_on ns xs o e st ls cur h = let (rest, is) = top_of xs o e in first_by ns o rest st ls cur (subst (λ os. Builds ns os ls cur) is h)
+
+pub not_first_on : (ns : Flats) (xs : List Open) (o : Open) → slice_get xs (length xs - 1) ≡ Some o → (o.stage ≡ First → ⊥) → (ls : List Level) (cur : Nodes) → Builds ns (reverse xs) ls cur → IsFirst ls None
+not_first_on ns xs o e st ls cur h = let (rest, is) = top_of xs o e in not_first_by ns o rest st ls cur (subst (λ os. Builds ns os ls cur) is h)
+
+-- with no open block
+pub none_first : (ns : Flats) (xs : List Open) → xs ≡ [] → (ls : List Level) (cur : Nodes) → Builds ns (reverse xs) ls cur → IsFirst ls None
+none_first ns xs e [] cur h = λ next cur. refl
+none_first ns xs e (l ∷ ls) cur h = let no : (l ∷ ls) ≡ [] = none_on ns xs (l ∷ ls) cur e h in absurd cc
 
 same_state : (s t : State) → Some s ≡ Some t → s ≡ t
 same_state s t e = cc
 
-same_last : (a b : Block) → InLast a ≡ InLast b → a ≡ b
-same_last a b e = cc
-
 -- an `elsif`: the last body begins, and in it a block that ends with the one around it
-pub elsif_after : (ns : Flats) (os : List Open) (next : Nodes → Nodes → tree.Node) (ls : List Level) (cur : Nodes) (s : State) (b : Block) → Builds ns os ls cur → to_else ls cur ≡ Some s → place_of s.0 ≡ InLast b
+pub elsif_after : (next : Nodes → Nodes → tree.Node) (ls : List Level) (cur : Nodes) (s : State) (b : Block) → IsFirst ls (Some b) → to_else ls cur ≡ Some s
     → to_elsif next ls cur ≡ Some (level (first b next) s.1 true ∷ s.0, no_nodes)
-elsif_after ns os next [] cur s b built h at = absurd cc
-elsif_after ns os next (level (last c make) f k ∷ ls) cur s b built h at = absurd cc
-elsif_after ns os next (level (first c make) f k ∷ ls) cur s b built h at =
-    let is : (level (last c (make cur)) f k ∷ ls, no_nodes) ≡ s = same_state (level (last c (make cur)) f k ∷ ls, no_nodes) s h in
-    let block : c ≡ b = same_last c b (ap (λ (s : State). place_of s.0) is ∙ at) in
-    ap (λ (s : State). Some (level (first c next) s.1 true ∷ s.0, no_nodes)) is ∙ ap (λ (c : Block). Some (level (first c next) s.1 true ∷ s.0, no_nodes)) block
-elsif_after ns [] next (level (unkept c make) f k ∷ ls) cur s b built h at = absurd built
-elsif_after ns (o ∷ os) next (level (unkept c make) f k ∷ ls) cur s b (pre, x, bs, cs, is, at', chained, fits, e, below) h at = absurd fits
-elsif_after ns [] next (level (armed c make) f k ∷ ls) cur s b built h at = absurd built
-elsif_after ns (o ∷ os) next (level (armed c make) f k ∷ ls) cur s b (pre, x, bs, cs, is, at', chained, fits, e, below) h at = absurd fits
-
--- where no `else` may stand, no `elsif` may
-pub no_elsif : (next : Nodes → Nodes → tree.Node) (ls : List Level) (cur : Nodes) → to_else ls cur ≡ None → to_elsif next ls cur ≡ None
-no_elsif next [] cur h = refl
-no_elsif next (level (last c make) f k ∷ ls) cur h = refl
-no_elsif next (level (first c make) f k ∷ ls) cur h = absurd cc
-no_elsif next (level (unkept c make) f k ∷ ls) cur h = refl
-no_elsif next (level (armed c make) f k ∷ ls) cur h = refl
+elsif_after next ls cur s b (make, f, k, rest, is) h =
+    let same = same_state (level (last b (make cur)) f k ∷ rest, no_nodes) s (sym (ap (λ ls. to_else ls cur) is) ∙ h) in
+    ap (λ ls. to_elsif next ls cur) is ∙ ap (λ (s : State). Some (level (first b next) s.1 true ∷ s.0, no_nodes)) same

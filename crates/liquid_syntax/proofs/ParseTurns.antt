@@ -6,24 +6,26 @@ use Rattle.std.specs.Prelude.{Result, Ok, Err}
 use Rattle.liquid_model.specs.Texts.{Text}
 use Rattle.liquid_syntax.specs.Building.{IsBuilding, Finishes, text_added}
 use Rattle.liquid_syntax.specs.Judges.{Judges}
-use Rattle.liquid_syntax.specs.Judging.{if_of, unless_of, two_or, tag_label, raw_label, comment_label, reads, is_start, opens}
+use Rattle.liquid_syntax.specs.Judging.{if_of, unless_of, bare, capture_of, case_for, one_or, many_or, two_or, tag_label, raw_label, comment_label, reads, is_start, opens}
 use Rattle.liquid_syntax.specs.Roles.{role_of, unread_body}
+use Rattle.liquid_source.specs.Items.{Item}
 use Rattle.liquid_source.specs.Tokens.{Token, tokens_of}
 use Rattle.liquid_syntax.specs.declared.block.Block.{Block}
-use Rattle.liquid_syntax.specs.declared.block.Block.TheVariants.{If, Unless}
+use Rattle.liquid_syntax.specs.declared.block.Block.TheVariants.{If, Unless, Capture, Case}
 use Rattle.liquid_syntax.specs.declared.block.Place.{Place}
 use Rattle.liquid_syntax.specs.declared.block.Role.{Role}
 use Rattle.liquid_syntax.specs.declared.block.Role.TheVariants.{End, Control as Word, Tag, Block as Start}
 use Rattle.liquid_syntax.specs.declared.language.BlockKind.TheVariants as blocks
-use Rattle.liquid_syntax.specs.Nesting.{Label, leaf, closed, begins, elsif, arm, otherwise, ends, refused}
+use Rattle.liquid_syntax.specs.Nesting.{Opening, Label, leaf, closed, begins, elsif, arm, otherwise, ends, refused}
 use Rattle.liquid_syntax.specs.OpenBlocks.{Level, level, State, begun, depth, place_of, step, at_end, with_node}
-use Rattle.liquid_syntax.specs.Parsing.{body_of, piece_step, template_at, ReadsTo}
+use Rattle.liquid_syntax.specs.Parsing.{ReadsTo}
+use Rattle.liquid_syntax.proofs.TemplateReading.{body_of, piece_step, template_at}
 use Rattle.liquid_source.specs.Pieces as pieces
 use Rattle.liquid_source.specs.Pieces.{Piece, stripped}
 use Rattle.liquid_source.specs.Readers.{Fails}
 use Rattle.liquid_source.specs.SourceReading.{Markup, markup_at, body_at, wanted_body, text_step, source_at}
 use Rattle.liquid_syntax.specs.Templates.{tree_of}
-use Rattle.liquid_tree.specs.Tree.{Node, Nodes, no_nodes}
+use Rattle.liquid_tree.specs.Tree.{Node, Nodes, no_nodes, Whens}
 use Rattle.liquid_source.specs.ValueReading.{past_byte, text_at}
 use Rattle.liquid_syntax.specs.declared.build.Builder.{Builder}
 use Rattle.liquid_source.specs.declared.fault.ParseError.{ParseError}
@@ -84,16 +86,34 @@ unfolding start_label
 two_starts b None = tt
 two_starts b (Some make) = tt
 
-tag_starts : (l : Language) (ts : List Token) (role : Option Role) → is_start role ≡ true → start_label (tag_label l ts role)
+one_starts : (b : Block) (o : Option (Nodes → Node)) → start_label (one_or b o)
 unfolding start_label
-tag_starts l ts None h = absurd cc
-tag_starts l ts (Some End) h = absurd cc
-tag_starts l ts (Some (Word word)) h = absurd cc
-tag_starts l ts (Some (Tag kind)) h = absurd cc
-tag_starts l ts (Some (Start blocks.If)) h = two_starts If (if_of ts)
-tag_starts l ts (Some (Start blocks.Unless)) h = two_starts Unless (unless_of ts)
-tag_starts l ts (Some (Start blocks.Raw)) h = tt
-tag_starts l ts (Some (Start blocks.Comment)) h = tt
+one_starts b None = tt
+one_starts b (Some make) = tt
+
+many_starts : (b : Block) (o : Option (Whens → Nodes → Node)) → start_label (many_or b o)
+unfolding start_label
+many_starts b None = tt
+many_starts b (Some make) = tt
+
+bare_starts : (o : Opening) (ts : List Token) → start_label (bare (begins o) ts)
+unfolding start_label
+bare_starts o [] = tt
+bare_starts o (t ∷ ts) = tt
+
+tag_starts : (l : Language) (is : List Item) (ts : List Token) (role : Option Role) → is_start role ≡ true → start_label (tag_label l is ts role)
+unfolding start_label
+tag_starts l is ts None h = absurd cc
+tag_starts l is ts (Some End) h = absurd cc
+tag_starts l is ts (Some (Word word)) h = absurd cc
+tag_starts l is ts (Some (Tag kind)) h = absurd cc
+tag_starts l is ts (Some (Start blocks.If)) h = two_starts If (if_of ts)
+tag_starts l is ts (Some (Start blocks.Unless)) h = two_starts Unless (unless_of ts)
+tag_starts l is ts (Some (Start blocks.Capture)) h = one_starts Capture (capture_of ts)
+tag_starts l is ts (Some (Start blocks.Case)) h = many_starts Case (case_for ts)
+tag_starts l is ts (Some (Start blocks.IfChanged)) h = bare_starts _ ts
+tag_starts l is ts (Some (Start blocks.Raw)) h = tt
+tag_starts l is ts (Some (Start blocks.Comment)) h = tt
 
 raw_starts : (t : Text) (body : Option Body) → start_label (raw_label t body)
 unfolding start_label
@@ -110,7 +130,7 @@ comment_starts (Some bodies.Comment) = tt
 piece_starts : (l : Language) (x : Place) (p : Piece) → opens l x p ≡ true → start_label (reads l x p)
 piece_starts l x (pieces.text t) h = absurd cc
 piece_starts l x (pieces.output is) h = absurd cc
-piece_starts l x (pieces.tag w is) h = tag_starts l (tokens_of is) (role_of l x w) h
+piece_starts l x (pieces.tag w is) h = tag_starts l is (tokens_of is) (role_of l x w) h
 piece_starts l x (pieces.raw w t) h = raw_starts t (unread_body (role_of l x w))
 piece_starts l x (pieces.comment w) h = comment_starts (unread_body (role_of l x w))
 

@@ -2,7 +2,8 @@
 use Rattle.std.proofs.Common.{◌≡◌, ℕ, ◌+◌, ◌<◌, ◌≤◌, List, [], ◌∷◌, length, Some, refl, sym, ap, ◌∙◌, subst, arith}
 use Rattle.std.specs.Prelude.{slice_get}
 use Rattle.std.proofs.lemmas.Option.{slice_get_within}
-use Rattle.liquid_syntax.specs.Forest.{Forest, Bodies, empty, node, no_bodies, body, append}
+use Rattle.liquid_syntax.specs.Forest.{Forest, Bodies, empty, node, no_bodies, body}
+use Rattle.liquid_syntax.proofs.Round.{append}
 use Rattle.liquid_syntax.specs.Laid.{Flat, Stands, StandBodies, last_end}
 
 -- a range does not end before it begins

@@ -4,13 +4,13 @@ use Rattle.std.specs.Option.{option_and_then, option_map}
 use Rattle.liquid_core.specs.Expression.{Expression, literal, variable, no_steps, step}
 use Rattle.liquid_model.specs.Maps.{listed}
 use Rattle.liquid_model.specs.Texts.{Text}
-use Rattle.liquid_filters.specs.Kinds.{kind_counts}
-use Rattle.liquid_filters.specs.declared.kind.FilterKind.{FilterKind}
+use Rattle.liquid_syntax.specs.Registered.{registered_counts, called_as}
+use Rattle.liquid_syntax.specs.declared.registered_filter.RegisteredFilter.{RegisteredFilter}
 use Rattle.liquid_syntax.specs.ChainReading.{accepted_call, call_with, filters_of, call_of, called_of, arguments_of, further_of, chain_of}
 use Rattle.liquid_syntax.specs.Chains.{Filters, further_arguments, arguments, AreFilters, none, filter, IsChain, IsAssign}
 use Rattle.liquid_source.specs.Tokens.{Token, value, range, symbol, word, word_of, word_first, past, is_symbol}
 use Rattle.liquid_syntax.specs.Judging.{assign_of}
-use Rattle.liquid_syntax.specs.Languages.{kinds_of}
+use Rattle.liquid_syntax.specs.Registered.{registered_in}
 use Rattle.liquid_tree.specs.Tree.{FilterCall, Chain, assign}
 use Rattle.liquid_syntax.specs.declared.language.Language.{Language}
 use Rattle.liquid_source.specs.declared.symbol.Symbol.TheVariants.{Equals, NotEquals, LessOrGreater, LessThanEquals, GreaterThanEquals, LessThan, GreaterThan, Assign, Colon, Comma, Bar}
@@ -28,7 +28,7 @@ pub map_some : {A B : Type 0} (o : Option A) (f : A → B) (y : B) → option_ma
 map_some None f y h = absurd cc
 map_some (Some x) f y h = (x, refl, from_some h)
 
-guard_some : {A : Type 0} (b : Bool) (x y : A) → cond b (Some x) None ≡ Some y → (b ≡ true) × (x ≡ y)
+pub guard_some : {A : Type 0} (b : Bool) (x y : A) → cond b (Some x) None ≡ Some y → (b ≡ true) × (x ≡ y)
 guard_some true x y h = (refl, from_some h)
 guard_some false x y h = absurd cc
 
@@ -45,14 +45,14 @@ module _ (l : Filters) where
   called_again [] (filter name is counts more) h = ap (λ o. option_map (λ fs. ([], fs)) o) h
   called_again (v ∷ vs) a h = ap (λ o. option_map (λ x. (v ∷ x.0, x.1)) o) (more_again vs a h)
 
-  call_again : (name : Text) (kind : FilterKind) (xs : List Expression) (fs : List FilterCall) → listed l name ≡ Some kind → kind_counts kind (length xs) ≡ true → call_with l name (xs, fs) ≡ Some (record { filter = kind; arguments = xs } ∷ fs)
+  call_again : (name : Text) (kind : RegisteredFilter) (xs : List Expression) (fs : List FilterCall) → listed l name ≡ Some kind → registered_counts kind (length xs) ≡ true → call_with l name (xs, fs) ≡ Some (record { filter = called_as name kind; arguments = xs } ∷ fs)
   call_again name kind xs fs known counts =
-      ap (λ o. option_map (λ call. call ∷ fs) (accepted_call o xs)) known ∙ ap (λ (b : Bool). option_map (λ call. call ∷ fs) (cond b (Some (record { filter = kind; arguments = xs })) None)) counts
+      ap (λ o. option_map (λ call. call ∷ fs) (accepted_call name o xs)) known ∙ ap (λ (b : Bool). option_map (λ call. call ∷ fs) (cond b (Some (record { filter = called_as name kind; arguments = xs })) None)) counts
 
   filters_again : {fs : List FilterCall} {is : List Token} → AreFilters l fs is → filters_of l is ≡ Some fs
   unfolding filters_of
   filters_again none = refl
-  filters_again (filter {kind = kind} {xs = xs} {calls = fs} name known counts more) =
+  filters_again (filter {filter = kind} {xs = xs} {calls = fs} name known counts more) =
       ap (option_and_then (call_with l name)) (called_again xs more (filters_again more)) ∙ call_again name kind xs fs known counts
 
   pub chain_again : (c : Chain) (is : List Token) → IsChain l c is → chain_of l is ≡ Some c
@@ -105,10 +105,10 @@ comma_is (symbol Colon) h = absurd cc
 comma_is (symbol Comma) h = refl
 comma_is (symbol Bar) h = absurd cc
 
-accepted_takes : (o : Option FilterKind) (xs : List Expression) (call : FilterCall) → accepted_call o xs ≡ Some call → (kind : FilterKind) × (o ≡ Some kind) × (kind_counts kind (length xs) ≡ true) × (record { filter = kind; arguments = xs } ≡ call)
-accepted_takes None xs call h = absurd cc
-accepted_takes (Some kind) xs call h =
-    let (counts, same) = guard_some (kind_counts kind (length xs)) _ call h in
+accepted_takes : (name : Text) (o : Option RegisteredFilter) (xs : List Expression) (call : FilterCall) → accepted_call name o xs ≡ Some call → (kind : RegisteredFilter) × (o ≡ Some kind) × (registered_counts kind (length xs) ≡ true) × (record { filter = called_as name kind; arguments = xs } ≡ call)
+accepted_takes name None xs call h = absurd cc
+accepted_takes name (Some kind) xs call h =
+    let (counts, same) = guard_some (registered_counts kind (length xs)) _ call h in
     (kind, refl, counts, same)
 
 word_is : (i : Token) (w : Text) → word_of i ≡ Some w → i ≡ word w
@@ -163,12 +163,12 @@ module _ (l : Filters) where
     call_takes (i ∷ is) fs h =
         let (w, named, x_is) = bind_some (word_of i) _ fs h in
         let (x, read, made) = bind_some (called_of l is) _ fs x_is in
-        let (call, accepted, same) = map_some (accepted_call (listed l w) x.0) _ fs made in
-        let (kind, known, counts, call_is) = accepted_takes (listed l w) x.0 call accepted in
+        let (call, accepted, same) = map_some (accepted_call w (listed l w) x.0) _ fs made in
+        let (kind, known, counts, call_is) = accepted_takes w (listed l w) x.0 call accepted in
         let (rest, spelled, more) = called_takes is x read in
         let there : symbol Bar ∷ i ∷ is ≡ symbol Bar ∷ word w ∷ (arguments x.0 ++ rest) = ap (λ (i : Token). symbol Bar ∷ i ∷ is) (word_is i w named) ∙ ap (λ (is : List Token). symbol Bar ∷ word w ∷ is) spelled in
-        let is_fs : record { filter = kind; arguments = x.0 } ∷ x.1 ≡ fs = ap (λ (c : FilterCall). c ∷ x.1) call_is ∙ same in
-        subst (λ fs. AreFilters l fs (symbol Bar ∷ i ∷ is)) is_fs (subst (AreFilters l (record { filter = kind; arguments = x.0 } ∷ x.1)) (sym there) (filter w known counts more))
+        let is_fs : record { filter = called_as w kind; arguments = x.0 } ∷ x.1 ≡ fs = ap (λ (c : FilterCall). c ∷ x.1) call_is ∙ same in
+        subst (λ fs. AreFilters l fs (symbol Bar ∷ i ∷ is)) is_fs (subst (AreFilters l (record { filter = called_as w kind; arguments = x.0 } ∷ x.1)) (sym there) (filter w known counts more))
 
     called_takes : (is : List Token) (x : List Expression × List FilterCall) → called_of l is ≡ Some x → Called is x
     called_takes [] x h = subst (Called []) (from_some h) ([], refl, none)
@@ -213,7 +213,7 @@ assign_is (symbol Colon) h = absurd cc
 assign_is (symbol Comma) h = absurd cc
 assign_is (symbol Bar) h = absurd cc
 
-first_word : (is : List Token) (w : Text) (rest : List Token) → word_first is ≡ Some (w, rest) → is ≡ word w ∷ rest
+pub first_word : (is : List Token) (w : Text) (rest : List Token) → word_first is ≡ Some (w, rest) → is ≡ word w ∷ rest
 first_word [] w rest h = absurd cc
 first_word (value (literal d) ∷ is) w rest h = absurd cc
 first_word (value (variable u no_steps) ∷ is) w rest h = let e : (u, is) ≡ (w, rest) = from_some h in ap (λ (x : Text × List Token). word x.0 ∷ x.1) e
@@ -228,17 +228,17 @@ past_assign (i ∷ is) rest h =
     ap (λ (i : Token). i ∷ is) (assign_is i e) ∙ ap (λ (is : List Token). symbol Assign ∷ is) same
 
 module _ (l : Language) where
-  pub assign_takes : (w : Text) (c : Chain) (is : List Token) → assign_of l is ≡ Some (assign w c) → IsAssign (kinds_of l.filters) w c is
+  pub assign_takes : (w : Text) (c : Chain) (is : List Token) → assign_of l is ≡ Some (assign w c) → IsAssign (registered_in l.filters) w c is
   assign_takes w c is h =
       let (x, named, more) = bind_some (word_first is) _ (assign w c) h in
       let (rest, behind, made) = bind_some (past Assign x.1) _ (assign w c) more in
-      let (d, read, same) = map_some (chain_of (kinds_of l.filters) rest) (assign x.0) (assign w c) made in
+      let (d, read, same) = map_some (chain_of (registered_in l.filters) rest) (assign x.0) (assign w c) made in
       let named_so : x.0 ≡ w = cc in
       let chain_so : d ≡ c = cc in (
         rest,
         first_word is x.0 x.1 named ∙ ap (λ (is : List Token). word x.0 ∷ is) (past_assign x.1 rest behind) ∙ ap (λ (w : Text). word w ∷ symbol Assign ∷ rest) named_so,
-        chain_takes (kinds_of l.filters) c rest (read ∙ ap Some chain_so),
+        chain_takes (registered_in l.filters) c rest (read ∙ ap Some chain_so),
       )
 
-  pub assign_again : (w : Text) (c : Chain) (is : List Token) → IsAssign (kinds_of l.filters) w c is → assign_of l is ≡ Some (assign w c)
-  assign_again w c is (rest, spelled, chained) = ap (assign_of l) spelled ∙ ap (option_map (assign w)) (chain_again (kinds_of l.filters) c rest chained)
+  pub assign_again : (w : Text) (c : Chain) (is : List Token) → IsAssign (registered_in l.filters) w c is → assign_of l is ≡ Some (assign w c)
+  assign_again w c is (rest, spelled, chained) = ap (assign_of l) spelled ∙ ap (option_map (assign w)) (chain_again (registered_in l.filters) c rest chained)

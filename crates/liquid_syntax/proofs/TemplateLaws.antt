@@ -12,7 +12,8 @@ use Rattle.liquid_source.specs.declared.piece.Body.TheVariants as bodies
 use Rattle.liquid_syntax.specs.OpenBlocks.{Level, State, place_of, step, at_end, go, read}
 use Rattle.liquid_source.specs.Pieces.{Piece, text, output, tag, raw, comment}
 use Rattle.liquid_source.specs.SourceReading.{all_steps, source_at, TakesWanted}
-use Rattle.liquid_syntax.specs.Parsing.{IsTemplate, IsOnlyTree, HasNoTree, body_of, piece_step, begun_with, template_at}
+use Rattle.liquid_syntax.specs.Parsing.{IsTemplate, IsOnlyTree, HasNoTree}
+use Rattle.liquid_syntax.proofs.TemplateReading.{body_of, piece_step, begun_with, template_at}
 use Rattle.liquid_tree.specs.Tree.{Nodes, no_nodes}
 use Rattle.liquid_syntax.specs.declared.language.Language.{Language}
 use Rattle.liquid_syntax.specs.Labels.{IsLabel}
@@ -20,7 +21,7 @@ use Rattle.liquid_syntax.proofs.LabelLaws.{label_says, label_stands}
 use Rattle.liquid_syntax.proofs.NestingLaws.{tree_takes, tree_again}
 use Rattle.liquid_source.proofs.SourceLaws.{source_takes, source_again}
 
-from_some : {A : Type 0} {x y : A} → Some x ≡ Some y → x ≡ y
+pub from_some : {A : Type 0} {x y : A} → Some x ≡ Some y → x ≡ y
 from_some h = cc
 
 some_of : {A B : Type 0} (o : Option A) (f : A → Option B) (y : B) → option_and_then f o ≡ Some y → (x : A) × (o ≡ Some x) × (f x ≡ Some y)
@@ -28,13 +29,16 @@ some_of None f y h = absurd cc
 some_of (Some x) f y h = (x, refl, h)
 
 module _ (l : Language) where
-  bare_tag : (role : Option Role) (s next : State) → step (tag_label l [] role) s.0 s.1 ≡ Some next → unread_body role ≡ None
+  bare_tag : (role : Option Role) (s next : State) → step (tag_label l [] [] role) s.0 s.1 ≡ Some next → unread_body role ≡ None
   bare_tag None s next h = refl
   bare_tag (Some End) s next h = refl
   bare_tag (Some (Word word)) s next h = refl
   bare_tag (Some (Tag kind)) s next h = refl
   bare_tag (Some (Start blocks.If)) s next h = refl
   bare_tag (Some (Start blocks.Unless)) s next h = refl
+  bare_tag (Some (Start blocks.Capture)) s next h = refl
+  bare_tag (Some (Start blocks.Case)) s next h = refl
+  bare_tag (Some (Start blocks.IfChanged)) s next h = refl
   bare_tag (Some (Start blocks.Raw)) s next h = absurd cc
   bare_tag (Some (Start blocks.Comment)) s next h = absurd cc
 

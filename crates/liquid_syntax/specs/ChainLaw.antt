@@ -4,7 +4,7 @@ use Rattle.liquid_model.specs.Texts.{Text}
 use Rattle.liquid_syntax.specs.ChainReading.{chain_of}
 use Rattle.liquid_syntax.specs.Chains.{Filters, IsChain, IsAssign}
 use Rattle.liquid_syntax.specs.Judging.{assign_of}
-use Rattle.liquid_syntax.specs.Languages.{kinds_of}
+use Rattle.liquid_syntax.specs.Registered.{registered_in}
 use Rattle.liquid_source.specs.Tokens.{Token}
 use Rattle.liquid_tree.specs.Tree.{Chain, assign}
 use Rattle.liquid_syntax.specs.declared.language.Language.{Language}
@@ -15,4 +15,4 @@ ReadsChains = (known : Filters) (c : Chain) (ts : List Token) → (chain_of know
 
 -- so are the items of an `assign`
 abbrev pub ReadsAssigns : Type 0
-ReadsAssigns = (l : Language) (w : Text) (c : Chain) (ts : List Token) → (assign_of l ts ≡ Some (assign w c)) ↔ IsAssign (kinds_of l.filters) w c ts
+ReadsAssigns = (l : Language) (w : Text) (c : Chain) (ts : List Token) → (assign_of l ts ≡ Some (assign w c)) ↔ IsAssign (registered_in l.filters) w c ts

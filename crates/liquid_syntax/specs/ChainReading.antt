@@ -4,11 +4,11 @@ use Rattle.std.specs.Option.{option_and_then, option_map}
 use Rattle.liquid_model.specs.Texts.{Text}
 use Rattle.liquid_model.specs.Maps.{listed}
 use Rattle.liquid_core.specs.Expression.{Expression}
-use Rattle.liquid_filters.specs.Kinds.{kind_counts}
-use Rattle.liquid_filters.specs.declared.kind.FilterKind.{FilterKind}
 use Rattle.liquid_tree.specs.Tree.{FilterCall, Chain}
 use Rattle.liquid_source.specs.Tokens.{Token, if_value, word_of, is_symbol}
 use Rattle.liquid_syntax.specs.Chains.{Filters}
+use Rattle.liquid_syntax.specs.Registered.{registered_counts, called_as}
+use Rattle.liquid_syntax.specs.declared.registered_filter.RegisteredFilter.{RegisteredFilter}
 use Rattle.liquid_source.specs.declared.fault.FaultKind.{FaultKind}
 use Rattle.liquid_source.specs.declared.fault.FaultKind.TheVariants.{UnknownFilter, FilterArguments}
 use Rattle.liquid_source.specs.declared.symbol.Symbol.TheVariants.{Colon, Comma, Bar}
@@ -17,15 +17,15 @@ use Rattle.liquid_source.specs.declared.symbol.Symbol.TheVariants.{Colon, Comma,
 abbrev pub Called : Type 0
 Called = List Expression × List FilterCall
 
--- a filter with these arguments, where one is registered and accepts their number
-abbrev pub accepted_call : Option FilterKind → List Expression → Option FilterCall
-accepted_call None xs = None
-accepted_call (Some kind) xs = cond (kind_counts kind (length xs)) (Some (record { filter = kind; arguments = xs })) None
+-- the name with these arguments, where it is registered and may be given their number
+abbrev pub accepted_call : Text → Option RegisteredFilter → List Expression → Option FilterCall
+accepted_call name None xs = None
+accepted_call name (Some filter) xs = cond (registered_counts filter (length xs)) (Some (record { filter = called_as name filter; arguments = xs })) None
 
 -- why a call isn't accepted: no filter is registered, or it doesn't take so many arguments
-abbrev pub call_fault : Option FilterKind → FaultKind
+abbrev pub call_fault : Option RegisteredFilter → FaultKind
 call_fault None = UnknownFilter
-call_fault (Some kind) = FilterArguments
+call_fault (Some filter) = FilterArguments
 
 abbrev pub no_arguments : Option (List FilterCall) → Option Called
 no_arguments o = option_map (λ calls. ([], calls)) o
@@ -35,7 +35,7 @@ one_argument x o = option_map (λ c. (x ∷ c.0, c.1)) o
 
 module _ (known : Filters) where
   abbrev pub call_with : Text → Called → Option (List FilterCall)
-  call_with name c = option_map (λ call. call ∷ c.1) (accepted_call (listed known name) c.0)
+  call_with name c = option_map (λ call. call ∷ c.1) (accepted_call name (listed known name) c.0)
 
   -- each eats one token, and answers what all that is left gives
   unfoldable mutual

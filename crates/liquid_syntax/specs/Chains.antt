@@ -3,15 +3,15 @@ use Rattle.std.specs.Prelude.{◌≡◌, List, [], ◌∷◌, ◌++◌, length, 
 use Rattle.liquid_model.specs.Texts.{Text}
 use Rattle.liquid_model.specs.Maps.{listed}
 use Rattle.liquid_core.specs.Expression.{Expression}
-use Rattle.liquid_filters.specs.Kinds.{kind_counts}
-use Rattle.liquid_filters.specs.declared.kind.FilterKind.{FilterKind}
 use Rattle.liquid_tree.specs.Tree.{FilterCall, Chain}
 use Rattle.liquid_source.specs.Tokens.{Token, value, symbol, word}
+use Rattle.liquid_syntax.specs.Registered.{registered_counts, called_as}
+use Rattle.liquid_syntax.specs.declared.registered_filter.RegisteredFilter.{RegisteredFilter}
 use Rattle.liquid_source.specs.declared.symbol.Symbol.TheVariants.{Assign, Colon, Comma, Bar}
 
 -- the filters that are registered, by name
 abbrev pub Filters : Type 0
-Filters = List (Text × FilterKind)
+Filters = List (Text × RegisteredFilter)
 
 -- `, v` for each
 abbrev pub further_arguments : List Expression → List Token
@@ -23,12 +23,12 @@ abbrev pub arguments : List Expression → List Token
 arguments [] = []
 arguments (x ∷ xs) = symbol Colon ∷ value x ∷ further_arguments xs
 
--- `| name: v, v ..` for each: the name is registered, and the filter accepts the number of arguments
+-- `| name: v, v ..` for each: the name is registered, and may be given that number of arguments
 pub data AreFilters (known : Filters) : List FilterCall → List Token → Type 0 where
   none : AreFilters known [] []
-  filter : {kind : FilterKind} {xs : List Expression} {calls : List FilterCall} {ts : List Token} (name : Text)
-      → listed known name ≡ Some kind → IsTrue (kind_counts kind (length xs)) → AreFilters known calls ts
-      → AreFilters known (record { filter = kind; arguments = xs } ∷ calls) (symbol Bar ∷ word name ∷ (arguments xs ++ ts))
+  filter : {filter : RegisteredFilter} {xs : List Expression} {calls : List FilterCall} {ts : List Token} (name : Text)
+      → listed known name ≡ Some filter → IsTrue (registered_counts filter (length xs)) → AreFilters known calls ts
+      → AreFilters known (record { filter = called_as name filter; arguments = xs } ∷ calls) (symbol Bar ∷ word name ∷ (arguments xs ++ ts))
 
 -- a value, and filters
 abbrev pub IsChain : Filters → Chain → List Token → Type 0

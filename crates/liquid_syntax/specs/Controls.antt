@@ -3,7 +3,7 @@ use Rattle.std.specs.Prelude.{codes, cond, bytes_eq, Option, Some, None}
 use Rattle.liquid_model.specs.Texts.{Text}
 use Rattle.liquid_syntax.specs.declared.block.Block.{Block}
 use Rattle.liquid_syntax.specs.declared.block.Control.{Control}
-use Rattle.liquid_syntax.specs.declared.block.Control.TheVariants.{Elsif, Else}
+use Rattle.liquid_syntax.specs.declared.block.Control.TheVariants.{Elsif, Else, BareElse, When}
 use Rattle.liquid_syntax.specs.declared.block.Block.TheVariants.{If, Unless, Case, For, TableRow, Capture, IfChanged}
 
 abbrev pub end_word : Block → Text
@@ -19,12 +19,16 @@ end_word IfChanged = codes "endifchanged"
 abbrev pub else_word : Text → Option Control
 else_word w = cond (bytes_eq w (codes "else")) (Some Else) None
 
--- the control word that a name is, in a body of the block that one can end; what `case` and `for` know comes with them
+-- `else` without items, or nothing
+abbrev pub bare_else_word : Text → Option Control
+bare_else_word w = cond (bytes_eq w (codes "else")) (Some BareElse) None
+
+-- the control word that a name is, in a body of the block that one can end
 abbrev pub control_of : Block → Text → Option Control
 control_of If w = cond (bytes_eq w (codes "elsif")) (Some Elsif) (else_word w)
 control_of Unless w = else_word w
-control_of Case w = None
-control_of For w = None
+control_of Case w = cond (bytes_eq w (codes "when")) (Some When) (bare_else_word w)
+control_of For w = bare_else_word w
 control_of TableRow w = None
 control_of Capture w = None
 control_of IfChanged w = None

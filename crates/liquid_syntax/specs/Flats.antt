@@ -3,15 +3,21 @@
 --     nodes_of f      the tree of a range of the list
 --     IsRange ns from to      the nodes from `from` to `to` are whole: each with all the nodes of its bodies
 --     NodeAt ns at n next      the node at `at`, with its bodies, is n, and ends before `next`
-use Rattle.std.specs.Prelude.{◌≡◌, ℕ, ◌+◌, ◌≤◌, List, [], ◌∷◌, map, Some, slice_get, string_bytes}
+use Rattle.std.specs.Prelude.{◌≡◌, ℕ, ◌+◌, ◌≤◌, List, [], ◌∷◌, ◌++◌, map, Some, None, slice_get, string_bytes}
 use Rattle.liquid_tree.specs.ChainView.{chain_view}
 use Rattle.liquid_tree.specs.ConditionView.{condition_view}
+use Rattle.liquid_core.specs.Expression.{Expression}
+use Rattle.liquid_core.specs.ExpressionView.{expression_view}
 use Rattle.liquid_tree.specs.Tree as tree
+use Rattle.liquid_syntax.specs.declared.node.Arm.{Arm}
 use Rattle.liquid_syntax.specs.Forest.{Forest, Bodies, empty, node, no_bodies, body}
 use Rattle.liquid_syntax.specs.Laid.{Flat, Stands, StandBodies, last_end}
+use Rattle.liquid_model.specs.Texts.{Text}
+use Rattle.liquid_core.specs.Expression.{Expression}
+use Rattle.liquid_syntax.specs.declared.node.Binding.{Binding}
 use Rattle.liquid_syntax.specs.declared.node.Node.{Node}
 use Rattle.liquid_syntax.specs.declared.node.TwoBodies.{TwoBodies}
-use Rattle.liquid_syntax.specs.declared.node.Node.TheVariants.{Text as Plain, Output, Assign, Raw, Comment, If, Unless}
+use Rattle.liquid_syntax.specs.declared.node.Node.TheVariants.{Text as Plain, Output, Assign, Raw, Comment, If, Unless, Capture, Case, Break, Continue, Increment, Decrement, Cycle, IfChanged, Include, JekyllInclude, Render}
 
 -- a node of the tree, from the trees of its bodies
 abbrev pub Maker : Type 0
@@ -31,6 +37,36 @@ leaf n = record { head = (λ bodies. n); ends = [] }
 abbrev pub two_bodies : (tree.Nodes → tree.Nodes → tree.Node) → TwoBodies → Flat Maker
 two_bodies make bodies = record { head = with_two make; ends = bodies.first_end ∷ bodies.last_end ∷ [] }
 
+abbrev pub binding_view : Binding → Text × Expression
+binding_view b = (string_bytes b.name, expression_view b.value)
+
+-- the pairs of a tag
+abbrev pub bindings_view : List Binding → tree.Bindings
+bindings_view bs = map binding_view bs
+
+abbrev pub one_body : (tree.Nodes → tree.Node) → ℕ → Flat Maker
+one_body make end = record { head = with_one make; ends = end ∷ [] }
+
+-- the bodies of the `when` parts with these values, and the else list
+abbrev pub with_arms : (tree.Whens → tree.Nodes → tree.Node) → List (List Expression) → Maker
+with_arms make [] (o ∷ []) = make tree.no_whens o
+with_arms make [] _ = tree.comment
+with_arms make (vs ∷ vss) [] = tree.comment
+with_arms make (vs ∷ vss) (f ∷ fs) = with_arms (λ ws o. make (tree.when vs f ws) o) vss fs
+
+-- a `case` with the values of its `when` parts, where their bodies end, and where its else list does
+abbrev pub case_flat : Expression → List (List Expression) → List ℕ → ℕ → Flat Maker
+case_flat target vss es z = record { head = with_arms (λ ws o. tree.case_of target ws o) vss; ends = es ++ z ∷ [] }
+
+abbrev pub values_in : Arm → List Expression
+values_in arm = map expression_view arm.values.items
+
+abbrev pub arm_values : List Arm → List (List Expression)
+arm_values arms = map values_in arms
+
+abbrev pub arm_ends : List Arm → List ℕ
+arm_ends arms = map (λ arm. arm.end) arms
+
 -- one clause for each kind of node
 abbrev pub flat_of : Node → Flat Maker
 flat_of (Plain t) = leaf (tree.plain (string_bytes t))
@@ -40,6 +76,17 @@ flat_of (Raw t) = leaf (tree.raw (string_bytes t))
 flat_of Comment = leaf tree.comment
 flat_of (If condition bodies) = two_bodies (tree.if_true (condition_view condition)) bodies
 flat_of (Unless condition bodies) = two_bodies (tree.unless (condition_view condition)) bodies
+flat_of (Capture name end) = one_body (tree.capture (string_bytes name)) end
+flat_of (Case target arms end) = case_flat (expression_view target) (arm_values arms.items) (arm_ends arms.items) end
+flat_of Break = leaf tree.break_loop
+flat_of Continue = leaf tree.continue_loop
+flat_of (Increment name) = leaf (tree.increment (string_bytes name))
+flat_of (Decrement name) = leaf (tree.decrement (string_bytes name))
+flat_of (Cycle group values) = leaf (tree.cycle (string_bytes group) (map expression_view values.items))
+flat_of (IfChanged end) = one_body tree.ifchanged end
+flat_of (Include name bindings) = leaf (tree.include (expression_view name) (bindings_view bindings.items))
+flat_of (JekyllInclude name bindings) = leaf (tree.jekyll_include (string_bytes name) (bindings_view bindings.items))
+flat_of (Render name bindings) = leaf (tree.render (expression_view name) None (bindings_view bindings.items))
 
 abbrev pub flats : List Node → List (Flat Maker)
 flats ns = map flat_of ns

@@ -19,13 +19,3 @@ abbrev mutual
   pub sizes : {A : Type 0} → Bodies A → ℕ
   sizes no_bodies = 0
   sizes (body f bs) = size f + sizes bs
-
--- one forest after another
-abbrev pub append : {A : Type 0} → Forest A → Forest A → Forest A
-append empty g = g
-append (node h bs rest) g = node h bs (append rest g)
-
--- the forests of the bodies, one after another
-abbrev pub joined : {A : Type 0} → Bodies A → Forest A
-joined no_bodies = empty
-joined (body f bs) = append f (joined bs)

@@ -1,10 +1,12 @@
 -- What judging a piece answers.
 use Rattle.std.specs.Prelude.{◌≡◌, Option, Some, Result, Ok, Err}
 use Rattle.liquid_source.specs.Readers.{Fails}
-use Rattle.liquid_syntax.specs.Building.{label_view, of_bodies, IsPrepared, IsSound}
+use Rattle.liquid_syntax.specs.Building.{label_view, of_bodies, opening, IsPrepared, IsSound}
 use Rattle.liquid_syntax.specs.Flats.{flat_of}
 use Rattle.liquid_syntax.specs.Nesting as nesting
 use Rattle.liquid_tree.specs.Tree.{Node, Nodes}
+use Rattle.liquid_syntax.specs.declared.block.Block.{Block}
+use Rattle.liquid_syntax.specs.declared.build.Stage.{Stage}
 use Rattle.liquid_syntax.specs.declared.build.Label.{Label}
 use Rattle.liquid_syntax.specs.declared.build.Stage.TheVariants.{First}
 use Rattle.liquid_source.specs.declared.fault.ParseError.{ParseError}
@@ -16,6 +18,12 @@ abbrev pub Judges : nesting.Label → Result Label ParseError → Type 0
 Judges l (Ok x) = (l ≡ label_view x) × IsSound x
 Judges l (Err errors.Memory) = Unit {0}
 Judges l (Err (errors.Fault f)) = l ≡ nesting.refused
+
+-- A node of this stage's block, which is opened so, memory aside. No fault is answered where there is one.
+abbrev pub ReadsBlock : Block → Stage → nesting.Label → Result code.Node ParseError → Type 0
+ReadsBlock b stage l (Ok n) = (l ≡ nesting.begins (opening b stage n)) × IsPrepared stage n
+ReadsBlock b stage l (Err errors.Memory) = Unit {0}
+ReadsBlock b stage l (Err (errors.Fault f)) = l ≡ nesting.refused
 
 -- A node with two bodies that makes what was to be made of them, memory aside. No fault is answered where something was.
 abbrev pub ReadsTwo : Option (Nodes → Nodes → Node) → Result code.Node ParseError → Type 0

@@ -1,20 +1,27 @@
 -- What a piece is, where it stands, by the names that a language has and by its items.
 use Rattle.std.specs.Prelude.{List, [], ◌∷◌, Bool, true, false, Option, Some, None, option_and_then, option_map}
 use Rattle.liquid_model.specs.Texts.{Text}
+use Rattle.liquid_source.specs.Items.{Item}
 use Rattle.liquid_source.specs.Pieces as pieces
-use Rattle.liquid_source.specs.Tokens.{Token, tokens_of, word_first, past}
+use Rattle.liquid_source.specs.Tokens.{Token, tokens_of, word_first, value_first, past}
 use Rattle.liquid_source.specs.declared.piece.Body.{Body}
 use Rattle.liquid_source.specs.declared.piece.Body.TheVariants as bodies
 use Rattle.liquid_source.specs.declared.symbol.Symbol.TheVariants as symbols
 use Rattle.liquid_syntax.specs.ChainReading.{chain_of}
 use Rattle.liquid_syntax.specs.ConditionReading.{condition_of}
-use Rattle.liquid_syntax.specs.Languages.{kinds_of}
-use Rattle.liquid_syntax.specs.Nesting.{of_two, Label, leaf, closed, begins, elsif, otherwise, ends, refused}
+use Rattle.liquid_syntax.specs.PartialItems.{include_node, include_of, jekyll_node, jekyll_of, render_node, render_of}
+use Rattle.liquid_syntax.specs.Registered.{registered_in}
+use Rattle.liquid_syntax.specs.Nesting.{of_one, of_two, of_many, Label, leaf, closed, begins, elsif, arm, otherwise, ends, refused}
 use Rattle.liquid_syntax.specs.Roles.{role_of, unread_body}
-use Rattle.liquid_tree.specs.Tree.{Condition, Node, Nodes, plain, raw, comment, output, assign, if_true, unless}
+use Rattle.liquid_tree.specs.Tree.{Condition, Node, Nodes, plain, raw, comment, output, assign, if_true, unless, capture, case_of, ifchanged, break_loop, continue_loop, increment, decrement}
+use Rattle.liquid_core.specs.Expression.{Expression}
+use Rattle.liquid_tree.specs.Tree.{Whens}
+use Rattle.liquid_syntax.specs.Cycles.{cycle_node, grouped_of}
+use Rattle.liquid_syntax.specs.ValueLists.{values_of}
+use Rattle.liquid_syntax.specs.declared.value_items.Separators.TheVariants.{CommasOr}
 use Rattle.liquid_syntax.specs.declared.block.Block.{Block}
-use Rattle.liquid_syntax.specs.declared.block.Block.TheVariants.{If, Unless}
-use Rattle.liquid_syntax.specs.declared.block.Control.TheVariants.{Elsif, Else}
+use Rattle.liquid_syntax.specs.declared.block.Block.TheVariants.{If, Unless, Capture, Case, IfChanged}
+use Rattle.liquid_syntax.specs.declared.block.Control.TheVariants.{Elsif, Else, BareElse, When}
 use Rattle.liquid_syntax.specs.declared.block.Place.{Place}
 use Rattle.liquid_syntax.specs.declared.block.Role.{Role}
 use Rattle.liquid_syntax.specs.declared.block.Role.TheVariants.{End, Control as Word, Tag, Block as Start}
@@ -28,7 +35,7 @@ leaf_or (Some n) = leaf n
 
 -- `w = chain`
 abbrev pub assign_of : Language → List Token → Option Node
-assign_of l ts = option_and_then (λ w. option_and_then (λ rest. option_map (assign w.0) (chain_of (kinds_of l.filters) rest)) (past symbols.Assign w.1)) (word_first ts)
+assign_of l ts = option_and_then (λ w. option_and_then (λ rest. option_map (assign w.0) (chain_of (registered_in l.filters) rest)) (past symbols.Assign w.1)) (word_first ts)
 
 -- an end takes no items
 abbrev pub ends_or : List Token → Label
@@ -49,6 +56,40 @@ unless_node condition f g = unless condition f g
 abbrev pub unless_of : List Token → Option (Nodes → Nodes → Node)
 unless_of ts = option_map unless_node (condition_of ts)
 
+-- one of a kind, and nothing behind it
+abbrev pub alone : {A : Type 0} → A × List Token → Option A
+alone (x, []) = Some x
+alone (x, t ∷ ts) = None
+
+abbrev pub word_alone : List Token → Option Text
+word_alone ts = option_and_then alone (word_first ts)
+
+abbrev pub value_alone : List Token → Option Expression
+value_alone ts = option_and_then alone (value_first ts)
+
+-- a tag without items
+abbrev pub bare : Label → List Token → Label
+bare l [] = l
+bare l (t ∷ ts) = refused
+
+abbrev pub one_or : Block → Option (Nodes → Node) → Label
+one_or b None = refused
+one_or b (Some make) = begins (of_one b make)
+
+abbrev pub capture_of : List Token → Option (Nodes → Node)
+capture_of ts = option_map (λ w f. capture w f) (word_alone ts)
+
+abbrev pub many_or : Block → Option (Whens → Nodes → Node) → Label
+many_or b None = refused
+many_or b (Some make) = begins (of_many b make)
+
+abbrev pub case_for : List Token → Option (Whens → Nodes → Node)
+case_for ts = option_map (λ x ws o. case_of x ws o) (value_alone ts)
+
+abbrev pub arm_or : Option (List Expression) → Label
+arm_or None = refused
+arm_or (Some vs) = arm vs
+
 abbrev pub two_or : Block → Option (Nodes → Nodes → Node) → Label
 two_or b None = refused
 two_or b (Some make) = begins (of_two b make)
@@ -57,18 +98,33 @@ abbrev pub elsif_or : Option (Nodes → Nodes → Node) → Label
 elsif_or None = refused
 elsif_or (Some make) = elsif make
 
--- a tag and its items. A block whose body isn't read has no items, and with its body it is a piece of its own
-abbrev pub tag_label : Language → List Token → Option Role → Label
-tag_label l ts None = refused
-tag_label l ts (Some End) = ends_or ts
-tag_label l ts (Some (Word Elsif)) = elsif_or (if_of ts)
+-- A tag, its items, and the tokens that they are. A block whose body isn't read has no items, and with its body it is a
+-- piece of its own
+abbrev pub tag_label : Language → List Item → List Token → Option Role → Label
+tag_label l is ts None = refused
+tag_label l is ts (Some End) = ends_or ts
+tag_label l is ts (Some (Word Elsif)) = elsif_or (if_of ts)
 -- the items of an `else` are ignored
-tag_label l ts (Some (Word Else)) = otherwise
-tag_label l ts (Some (Tag tags.Assign)) = leaf_or (assign_of l ts)
-tag_label l ts (Some (Start blocks.If)) = two_or If (if_of ts)
-tag_label l ts (Some (Start blocks.Unless)) = two_or Unless (unless_of ts)
-tag_label l ts (Some (Start blocks.Raw)) = refused
-tag_label l ts (Some (Start blocks.Comment)) = refused
+tag_label l is ts (Some (Word Else)) = otherwise
+tag_label l is ts (Some (Word BareElse)) = bare otherwise ts
+tag_label l is ts (Some (Word When)) = arm_or (values_of CommasOr ts)
+tag_label l is ts (Some (Tag tags.Assign)) = leaf_or (assign_of l ts)
+tag_label l is ts (Some (Tag tags.Break)) = bare (leaf break_loop) ts
+tag_label l is ts (Some (Tag tags.Continue)) = bare (leaf continue_loop) ts
+tag_label l is ts (Some (Tag tags.Increment)) = leaf_or (option_map (λ w. increment w) (word_alone ts))
+tag_label l is ts (Some (Tag tags.Decrement)) = leaf_or (option_map (λ w. decrement w) (word_alone ts))
+tag_label l is ts (Some (Tag tags.Cycle)) = leaf_or (option_map cycle_node (grouped_of ts))
+tag_label l is ts (Some (Tag tags.Include)) = leaf_or (option_map include_node (include_of ts))
+-- its name is taken as it is spelled
+tag_label l is ts (Some (Tag tags.JekyllInclude)) = leaf_or (option_map jekyll_node (jekyll_of is))
+tag_label l is ts (Some (Tag tags.Render)) = leaf_or (option_map render_node (render_of ts))
+tag_label l is ts (Some (Start blocks.If)) = two_or If (if_of ts)
+tag_label l is ts (Some (Start blocks.Unless)) = two_or Unless (unless_of ts)
+tag_label l is ts (Some (Start blocks.Capture)) = one_or Capture (capture_of ts)
+tag_label l is ts (Some (Start blocks.Case)) = many_or Case (case_for ts)
+tag_label l is ts (Some (Start blocks.IfChanged)) = bare (begins (of_one IfChanged (λ f. ifchanged f))) ts
+tag_label l is ts (Some (Start blocks.Raw)) = refused
+tag_label l is ts (Some (Start blocks.Comment)) = refused
 
 abbrev pub raw_label : Text → Option Body → Label
 raw_label t (Some bodies.Raw) = closed (raw t)
@@ -82,8 +138,8 @@ comment_label None = refused
 
 abbrev pub reads : Language → Place → pieces.Piece → Label
 reads l x (pieces.text t) = leaf (plain t)
-reads l x (pieces.output is) = leaf_or (option_map output (chain_of (kinds_of l.filters) (tokens_of is)))
-reads l x (pieces.tag w is) = tag_label l (tokens_of is) (role_of l x w)
+reads l x (pieces.output is) = leaf_or (option_map output (chain_of (registered_in l.filters) (tokens_of is)))
+reads l x (pieces.tag w is) = tag_label l is (tokens_of is) (role_of l x w)
 reads l x (pieces.raw w t) = raw_label t (unread_body (role_of l x w))
 reads l x (pieces.comment w) = comment_label (unread_body (role_of l x w))
 

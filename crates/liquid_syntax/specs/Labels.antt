@@ -1,18 +1,24 @@
 -- The written grammar of a single piece: what it is, where it stands.
-use Rattle.std.specs.Prelude.{◌≡◌, List, [], Some}
+use Rattle.std.specs.Prelude.{◌≡◌, List, [], ◌∷◌, Option, Some, None}
 use Rattle.liquid_model.specs.Texts.{Text}
 use Rattle.liquid_source.specs.Items.{Item}
 use Rattle.liquid_source.specs.Pieces as pieces
-use Rattle.liquid_source.specs.Tokens.{tokens_of}
+use Rattle.liquid_source.specs.Tokens.{tokens_of, value, word}
 use Rattle.liquid_source.specs.declared.piece.Body.TheVariants.{Raw, Comment}
 use Rattle.liquid_syntax.specs.Chains.{IsChain, IsAssign}
 use Rattle.liquid_syntax.specs.Conditions.{IsCondition}
-use Rattle.liquid_syntax.specs.Languages.{kinds_of}
-use Rattle.liquid_syntax.specs.Nesting.{of_two, Label, leaf, closed, begins, elsif, otherwise, ends}
+use Rattle.liquid_syntax.specs.Cycles.{IsCycle}
+use Rattle.liquid_syntax.specs.Registered.{registered_in}
+use Rattle.liquid_syntax.specs.Nesting.{of_one, of_two, of_many, Label, leaf, closed, begins, elsif, arm, otherwise, ends}
+use Rattle.liquid_syntax.specs.PartialItems.{IsInclude, IsJekyllInclude, IsRender}
 use Rattle.liquid_syntax.specs.Roles.{role_of, unread_body}
-use Rattle.liquid_tree.specs.Tree.{Chain, Condition, plain, raw, comment, output, assign, if_true, unless}
-use Rattle.liquid_syntax.specs.declared.block.Block.TheVariants.{If, Unless}
-use Rattle.liquid_syntax.specs.declared.block.Control.TheVariants.{Elsif, Else}
+use Rattle.liquid_tree.specs.Tree.{Bindings, Chain, Condition, plain, raw, comment, output, assign, if_true, unless, capture, case_of, ifchanged, break_loop, continue_loop, increment, decrement, cycle, include, jekyll_include, render}
+use Rattle.liquid_tree.specs.Groups.{group_of}
+use Rattle.liquid_core.specs.Expression.{Expression}
+use Rattle.liquid_syntax.specs.ValueLists.{AreValues}
+use Rattle.liquid_syntax.specs.declared.value_items.Separators.TheVariants.{CommasOr}
+use Rattle.liquid_syntax.specs.declared.block.Block.TheVariants.{If, Unless, Capture, Case, IfChanged}
+use Rattle.liquid_syntax.specs.declared.block.Control.TheVariants.{Elsif, Else, BareElse, When}
 use Rattle.liquid_syntax.specs.declared.block.Place.{Place}
 use Rattle.liquid_syntax.specs.declared.block.Role.TheVariants.{End, Control as Word, Tag, Block as Start}
 use Rattle.liquid_syntax.specs.declared.language.BlockKind.TheVariants as blocks
@@ -21,15 +27,29 @@ use Rattle.liquid_syntax.specs.declared.language.TagKind.TheVariants as tags
 
 pub data IsLabel (l : Language) (x : Place) : pieces.Piece → Label → Type 0 where
   is_text : {t : Text} → IsLabel l x (pieces.text t) (leaf (plain t))
-  is_output : {c : Chain} {is : List Item} → IsChain (kinds_of l.filters) c (tokens_of is) → IsLabel l x (pieces.output is) (leaf (output c))
+  is_output : {c : Chain} {is : List Item} → IsChain (registered_in l.filters) c (tokens_of is) → IsLabel l x (pieces.output is) (leaf (output c))
   -- an end takes no items
   is_end : {w : Text} → role_of l x w ≡ Some End → IsLabel l x (pieces.tag w []) ends
   is_elsif : {w : Text} {c : Condition} {is : List Item} → role_of l x w ≡ Some (Word Elsif) → IsCondition c (tokens_of is) → IsLabel l x (pieces.tag w is) (elsif (λ f g. if_true c f g))
   -- the items of an `else` are ignored
   is_else : {w : Text} {is : List Item} → role_of l x w ≡ Some (Word Else) → IsLabel l x (pieces.tag w is) otherwise
-  is_assign : {w name : Text} {c : Chain} {is : List Item} → role_of l x w ≡ Some (Tag tags.Assign) → IsAssign (kinds_of l.filters) name c (tokens_of is) → IsLabel l x (pieces.tag w is) (leaf (assign name c))
+  is_assign : {w name : Text} {c : Chain} {is : List Item} → role_of l x w ≡ Some (Tag tags.Assign) → IsAssign (registered_in l.filters) name c (tokens_of is) → IsLabel l x (pieces.tag w is) (leaf (assign name c))
   is_if : {w : Text} {c : Condition} {is : List Item} → role_of l x w ≡ Some (Start blocks.If) → IsCondition c (tokens_of is) → IsLabel l x (pieces.tag w is) (begins (of_two If (λ f g. if_true c f g)))
   is_unless : {w : Text} {c : Condition} {is : List Item} → role_of l x w ≡ Some (Start blocks.Unless) → IsCondition c (tokens_of is) → IsLabel l x (pieces.tag w is) (begins (of_two Unless (λ f g. unless c f g)))
+  -- in a `for` and a `case` an `else` has no items
+  is_bare_else : {w : Text} → role_of l x w ≡ Some (Word BareElse) → IsLabel l x (pieces.tag w []) otherwise
+  is_capture : {w name : Text} {is : List Item} → role_of l x w ≡ Some (Start blocks.Capture) → tokens_of is ≡ word name ∷ [] → IsLabel l x (pieces.tag w is) (begins (of_one Capture (λ f. capture name f)))
+  is_case : {w : Text} {t : Expression} {is : List Item} → role_of l x w ≡ Some (Start blocks.Case) → tokens_of is ≡ value t ∷ [] → IsLabel l x (pieces.tag w is) (begins (of_many Case (λ ws o. case_of t ws o)))
+  is_when : {w : Text} {vs : List Expression} {is : List Item} → role_of l x w ≡ Some (Word When) → AreValues CommasOr vs (tokens_of is) → IsLabel l x (pieces.tag w is) (arm vs)
+  is_break : {w : Text} → role_of l x w ≡ Some (Tag tags.Break) → IsLabel l x (pieces.tag w []) (leaf break_loop)
+  is_continue : {w : Text} → role_of l x w ≡ Some (Tag tags.Continue) → IsLabel l x (pieces.tag w []) (leaf continue_loop)
+  is_increment : {w name : Text} {is : List Item} → role_of l x w ≡ Some (Tag tags.Increment) → tokens_of is ≡ word name ∷ [] → IsLabel l x (pieces.tag w is) (leaf (increment name))
+  is_decrement : {w name : Text} {is : List Item} → role_of l x w ≡ Some (Tag tags.Decrement) → tokens_of is ≡ word name ∷ [] → IsLabel l x (pieces.tag w is) (leaf (decrement name))
+  is_cycle : {w : Text} {name : Option Expression} {vs : List Expression} {is : List Item} → role_of l x w ≡ Some (Tag tags.Cycle) → IsCycle name vs (tokens_of is) → IsLabel l x (pieces.tag w is) (leaf (cycle (group_of name vs) vs))
+  is_ifchanged : {w : Text} → role_of l x w ≡ Some (Start blocks.IfChanged) → IsLabel l x (pieces.tag w []) (begins (of_one IfChanged (λ f. ifchanged f)))
+  is_include : {w : Text} {name : Expression} {ps : Bindings} {is : List Item} → role_of l x w ≡ Some (Tag tags.Include) → IsInclude name ps (tokens_of is) → IsLabel l x (pieces.tag w is) (leaf (include name ps))
+  is_jekyll_include : {w name : Text} {ps : Bindings} {is : List Item} → role_of l x w ≡ Some (Tag tags.JekyllInclude) → IsJekyllInclude name ps is → IsLabel l x (pieces.tag w is) (leaf (jekyll_include name ps))
+  is_render : {w : Text} {name : Expression} {ps : Bindings} {is : List Item} → role_of l x w ≡ Some (Tag tags.Render) → IsRender name ps (tokens_of is) → IsLabel l x (pieces.tag w is) (leaf (render name None ps))
   -- a block whose body isn't read has no items, and with its body it is a piece of its own
   is_raw : {w t : Text} → unread_body (role_of l x w) ≡ Some Raw → IsLabel l x (pieces.raw w t) (closed (raw t))
   is_comment : {w : Text} → unread_body (role_of l x w) ≡ Some Comment → IsLabel l x (pieces.comment w) (closed comment)

@@ -1,3 +1,4 @@
+pub mod Bound
 pub mod Building
 pub mod Called
 pub mod ChainLaw
@@ -8,6 +9,7 @@ pub mod ConditionLaw
 pub mod ConditionReading
 pub mod Conditions
 pub mod Controls
+pub mod Cycles
 pub mod Entries
 pub mod Faults
 pub mod Flats
@@ -18,11 +20,21 @@ pub mod LabelLaw
 pub mod Labels
 pub mod Laid
 pub mod Languages
+pub mod Loops
+pub mod Mentions
+pub mod NameSets
+pub mod NameVisitors
 pub mod Nested
 pub mod Nesting
 pub mod NestingLaw
 pub mod OpenBlocks
 pub mod Parsing
+pub mod PartialItems
+pub mod Registered
+pub mod Repeated
+pub mod RepeatedLaw
 pub mod Roles
-pub mod Round
+pub mod TemplateLaw
 pub mod Templates
+pub mod ValueAnswers
+pub mod ValueLists

@@ -42,6 +42,9 @@ unread blocks.Raw = Some bodies.Raw
 unread blocks.Comment = Some bodies.Comment
 unread blocks.If = None
 unread blocks.Unless = None
+unread blocks.Capture = None
+unread blocks.Case = None
+unread blocks.IfChanged = None
 
 abbrev pub unread_body : Option Role → Option Body
 unread_body None = None

@@ -1,12 +1,13 @@
 -- The tree of a template, and the trees of partials.
 --     tree_of t      the tree of a template;   partials_of p      of each partial, by name
 --     node_count_of t      how many nodes a template has, in all depths
-use Rattle.std.specs.Prelude.{ℕ, List, [], ◌∷◌, max, length, String}
+use Rattle.std.specs.Prelude.{ℕ, List, [], ◌∷◌, max, String}
 use Rattle.std.specs.declared.alloc.Global.{Global}
 use Rattle.liquid_model.specs.Texts.{Text}
 use Rattle.liquid_syntax.specs.Entries.{seen}
+use Rattle.liquid_tree.specs.Counts.{count_of_nodes}
 use Rattle.liquid_tree.specs.Tree as tree
-use Rattle.liquid_syntax.specs.Forest.{Forest, size}
+use Rattle.liquid_syntax.specs.Forest.{Forest}
 use Rattle.liquid_syntax.specs.Laid as laid
 use Rattle.liquid_syntax.specs.Flats.{Maker, flats, nodes_of}
 use Rattle.liquid_syntax.specs.declared.node.Node.{Node}
@@ -22,8 +23,8 @@ forest_of t = laid.tree_of (flats t.nodes.items)
 unfoldable pub tree_of : Template → tree.Nodes
 tree_of t = nodes_of (forest_of t)
 
-unfoldable pub node_count_of : Template → ℕ
-node_count_of t = size (forest_of t)
+abbrev pub node_count_of : Template → ℕ
+node_count_of t = count_of_nodes (tree_of t)
 
 -- ---- partials
 
@@ -33,7 +34,7 @@ partials_of p = seen tree_of p.templates.entries
 -- the greatest number of nodes of a partial
 abbrev pub most_nodes : List (String Global × Template) → ℕ
 most_nodes [] = 0
-most_nodes (p ∷ ps) = max (length p.1.nodes.items) (most_nodes ps)
+most_nodes (p ∷ ps) = max (node_count_of p.1) (most_nodes ps)
 
 abbrev pub most_of : Partials → ℕ
 most_of p = most_nodes p.templates.entries

@@ -34,8 +34,12 @@ pub enum Place {
 pub enum Control {
     /// `elsif condition`
     Elsif,
-    /// `else`
+    /// `else`, whose items are ignored
     Else,
+    /// `else`, which has no items
+    BareElse,
+    /// `when v or v, v`
+    When,
 }
 
 /// The control word of the block that a tag's name is, in a body that it can end.
@@ -45,6 +49,8 @@ pub fn control_word(block: Block, name: &str) -> Option<Control>
     match block {
         Block::If if name == "elsif" => Some(Control::Elsif),
         Block::If | Block::Unless if name == "else" => Some(Control::Else),
+        Block::For | Block::Case if name == "else" => Some(Control::BareElse),
+        Block::Case if name == "when" => Some(Control::When),
         _ => None,
     }
 }

@@ -1,18 +1,20 @@
 //! Building the list of nodes with a stack of open blocks: where a body ends is written into its block's node as it ends.
 
-ghost use Rattle.std.specs.Prelude.{◌≡◌, ◌<◌, ◌-◌, IfSome, List, [], ◌∷◌, length, slice_get, Some, OnOk, true};
+ghost use Rattle.std.specs.Prelude.{◌≡◌, ◌<◌, ◌-◌, ℕ, IfSome, List, [], ◌∷◌, ◌++◌, length, map, slice_get, Some, OnOk, true};
 ghost use Rattle.liquid_source.specs.Readers.{IsAt, IsOfKind};
-ghost use Rattle.liquid_syntax.specs.Building.{Begins, Closes, Elses, Finishes, IsBuilding, IsBuilt, IsMemory, IsPrepared, IsSound, IsStack, Steps, block_ended, is_full, first_ended, label_view, last_ended, of_bodies, place_at, text_added};
+ghost use Rattle.liquid_syntax.specs.Building.{Begins, BodyEnded, Closes, Finishes, IsAdded, IsBuilding, IsBuilt, IsFirst, IsMemory, IsPrepared, IsSound, IsStack, Steps, before_last_ended, is_full, label_view, last_ended, of_bodies, place_at, set_before_last, takes_else, takes_when, text_added};
 ghost use Rattle.liquid_syntax.specs.Controls.{end_word};
 ghost use Rattle.liquid_syntax.specs.Faults.{FaultsAt};
-ghost use Rattle.liquid_syntax.specs.Flats.{flat_of};
-ghost use Rattle.liquid_syntax.specs.OpenBlocks.{Level, at_end, close, step, to_elsif, with_node};
+ghost use Rattle.liquid_syntax.specs.Flats.{arm_ends, arm_values, flat_of, flats};
+ghost use Rattle.liquid_core.specs.ExpressionView.{expression_view};
+ghost use Rattle.liquid_syntax.specs.OpenBlocks.{Level, at_end, close, step, to_else, to_elsif, to_when, with_node};
 ghost use Rattle.liquid_tree.specs.Tree.{Nodes, no_nodes};
 ghost use Rattle.liquid_syntax.specs.declared.build.Stage.TheVariants as stages;
 
 use crate::block::{Block, Place, end_tag};
-use crate::node::Node;
+use crate::node::{Arm, Node};
 use crate::template::Template;
+use liquid_core::Expression;
 use liquid_source::{Fault, FaultKind, ParseError};
 use std::alloc::Global;
 
@@ -23,6 +25,10 @@ pub enum Stage {
     First,
     /// The last body that the block can have.
     Last,
+    /// What stands before the first `when` or `else` of a `case`; it is not kept.
+    Unkept,
+    /// The body of a `when`.
+    Armed,
 }
 
 /// What a piece is, where it stands. A node with bodies doesn't know yet where they end.
@@ -36,6 +42,8 @@ pub enum Label {
     Begins(Block, Stage, Node),
     /// `elsif`, as the `if` that it is in the else list.
     Elsif(Node),
+    /// `when`, with its values.
+    When(Vec<Expression>),
     /// `else`
     Otherwise,
     /// The end of the innermost block.
@@ -84,7 +92,7 @@ impl Builder {
         match self.blocks.last() {
             None => Place::Outside,
             Some(open) => match open.stage {
-                Stage::First => Place::InBody(open.block),
+                Stage::First | Stage::Unkept | Stage::Armed => Place::InBody(open.block),
                 Stage::Last => Place::InLast(open.block),
             },
         }
@@ -139,29 +147,66 @@ impl Builder {
         Ok(())
     }
 
-    /// The end of a first body, and the start of the last: the block that goes on. So many bytes of the source are left
-    /// from the piece on.
-    fn otherwise(&mut self, left: usize) -> Result<Block, ParseError>
+    /// The end of a body that an `else` may end, and the start of the last. So many bytes of the source are left from the
+    /// piece on.
+    fn otherwise(&mut self, left: usize) -> Result<(), ParseError>
         requires { IsBuilt self.old }
-        ensures stack { (ls : List Level) (cur : Nodes) → IsBuilding self.old ls cur → Elses ls cur self.new result }
+        ensures stack { (ls : List Level) (cur : Nodes) → IsBuilding self.old ls cur → Steps (to_else ls cur) self.new result }
         ensures place { FaultsAt left result }
     {
-        let end = self.nodes.len();
         match self.blocks.pop() {
             None => Err(ParseError::Fault(no_body(left))),
-            Some(open) => match open.stage {
-                Stage::Last => Err(ParseError::Fault(no_body(left))),
-                Stage::First => {
-                    end_first(&mut self.nodes[open.place], end);
-                    self.blocks.push(Open {
-                        place: open.place,
-                        block: open.block,
-                        stage: Stage::Last,
-                        chained: open.chained,
-                    })?;
-                    Ok(open.block)
+            Some(open) => {
+                if !takes_else(open.stage) {
+                    return Err(ParseError::Fault(no_body(left)));
                 }
-            },
+                end_body(&mut self.nodes, open);
+                self.blocks.push(Open {
+                    place: open.place,
+                    block: open.block,
+                    stage: Stage::Last,
+                    chained: open.chained,
+                })?;
+                Ok(())
+            }
+        }
+    }
+
+    /// `when`: the body of the one before it ends, or what isn't kept, and its own begins.
+    fn when(&mut self, values: Vec<Expression>, left: usize) -> Result<(), ParseError>
+        requires { IsBuilt self.old }
+        ensures stack { (ls : List Level) (cur : Nodes) → IsBuilding self.old ls cur → Steps (to_when (map expression_view values.items) ls cur) self.new result }
+        ensures place { FaultsAt left result }
+    {
+        match self.blocks.pop() {
+            None => Err(ParseError::Fault(no_body(left))),
+            Some(open) => {
+                if !takes_when(open.stage) {
+                    return Err(ParseError::Fault(no_body(left)));
+                }
+                end_body(&mut self.nodes, open);
+                add_arm(&mut self.nodes[open.place], values)?;
+                self.blocks.push(Open {
+                    place: open.place,
+                    block: open.block,
+                    stage: Stage::Armed,
+                    chained: open.chained,
+                })?;
+                Ok(())
+            }
+        }
+    }
+
+    /// The innermost block, where its first body is being read.
+    fn first_block(&self) -> Option<Block>
+        ensures { (ls : List Level) (cur : Nodes) → IsStack self.now ls cur → IsFirst ls result }
+    {
+        let open = self.blocks.last()?;
+        match open.stage {
+            Stage::First => Some(open.block),
+            Stage::Last => None,
+            Stage::Unkept => None,
+            Stage::Armed => None,
         }
     }
 
@@ -171,7 +216,10 @@ impl Builder {
         ensures stack { IsPrepared stages.First node → (ls : List Level) (cur : Nodes) → IsBuilding self.old ls cur → Steps (to_elsif (of_bodies (flat_of node)) ls cur) self.new result }
         ensures place { FaultsAt left result }
     {
-        let block = self.otherwise(left)?;
+        let Some(block) = self.first_block() else {
+            return Err(ParseError::Fault(no_body(left)));
+        };
+        self.otherwise(left)?;
         self.open(block, Stage::First, true, node)
     }
 
@@ -182,9 +230,10 @@ impl Builder {
         ensures depth { self.new.depth ≡ self.old.depth }
         ensures shorter { IfSome result (λ _. length self.new.blocks.items < length self.old.blocks.items) }
     {
-        let end = self.nodes.len();
         let open = self.blocks.pop()?;
-        end_block(&mut self.nodes[open.place], open.stage, end);
+        end_body(&mut self.nodes, open);
+        let end = self.nodes.len();
+        end_last(&mut self.nodes[open.place], end);
         Some(open.chained)
     }
 
@@ -229,10 +278,8 @@ impl Builder {
                 Ok(())
             }
             Label::Elsif(node) => self.elsif(node, left),
-            Label::Otherwise => {
-                self.otherwise(left)?;
-                Ok(())
-            }
+            Label::When(values) => self.when(values, left),
+            Label::Otherwise => self.otherwise(left),
             Label::Ends => self.close(left),
         }
     }
@@ -249,27 +296,68 @@ impl Builder {
     }
 }
 
-/// Writes where the bodies end that were still open.
-fn end_block(node: &mut Node, stage: Stage, end: usize)
-    ensures { flat_of node.new ≡ block_ended stage end (flat_of node.old) }
+/// Whether an `else` may end the body.
+fn takes_else(stage: Stage) -> bool
+    ensures { result ≡ takes_else stage }
 {
     match stage {
-        Stage::First => {
-            end_first(node, end);
-            end_last(node, end);
-        }
-        Stage::Last => end_last(node, end),
+        Stage::First => true,
+        Stage::Last => false,
+        Stage::Unkept => true,
+        Stage::Armed => true,
     }
 }
 
-/// Writes where the first of two bodies ends.
-fn end_first(node: &mut Node, end: usize)
-    ensures { flat_of node.new ≡ first_ended end (flat_of node.old) }
+/// Whether a `when` may end the body.
+fn takes_when(stage: Stage) -> bool
+    ensures { result ≡ takes_when stage }
+{
+    match stage {
+        Stage::First => false,
+        Stage::Last => false,
+        Stage::Unkept => true,
+        Stage::Armed => true,
+    }
+}
+
+/// Ends the body that is being read, where another may follow it: writes where it ends, or drops what isn't kept.
+fn end_body(nodes: &mut Vec<Node>, block: Open)
+    requires { block.place < length nodes.old.items }
+    ensures ended { BodyEnded block.stage block.place (flats nodes.old.items) (flats nodes.new.items) }
+    ensures inside { block.place < length nodes.new.items }
+{
+    let end = nodes.len();
+    match block.stage {
+        Stage::First => end_before_last(&mut nodes[block.place], end),
+        Stage::Last => {}
+        Stage::Unkept => nodes.truncate(block.place + 1),
+        Stage::Armed => end_before_last(&mut nodes[block.place], end),
+    }
+}
+
+/// Writes where the body before the last ends.
+fn end_before_last(node: &mut Node, end: usize)
+    ensures { flat_of node.new ≡ before_last_ended end (flat_of node.old) }
 {
     match node {
         Node::If(_, bodies) => bodies.first_end = end,
         Node::Unless(_, bodies) => bodies.first_end = end,
+        Node::Case(_, arms, _) => end_last_arm(arms, end),
+        Node::Capture(..) | Node::IfChanged(_) => {}
         Node::Text(_) | Node::Output(_) | Node::Assign(..) | Node::Raw(_) | Node::Comment => {}
+        Node::Break | Node::Continue | Node::Increment(_) | Node::Decrement(_) => {}
+        Node::Cycle(..) => {}
+        Node::Include(..) | Node::JekyllInclude(..) | Node::Render(..) => {}
+    }
+}
+
+/// Writes where the body of the last `when` ends, if there is one.
+fn end_last_arm(arms: &mut Vec<Arm>, end: usize)
+    ensures values { arm_values arms.new.items ≡ arm_values arms.old.items }
+    ensures ends { (z : ℕ) → arm_ends arms.new.items ++ z ∷ [] ≡ set_before_last end (arm_ends arms.old.items ++ z ∷ []) }
+{
+    if let Some(arm) = arms.last_mut() {
+        arm.end = end;
     }
 }
 
@@ -280,7 +368,27 @@ fn end_last(node: &mut Node, end: usize)
     match node {
         Node::If(_, bodies) => bodies.last_end = end,
         Node::Unless(_, bodies) => bodies.last_end = end,
+        Node::Case(_, _, last_end) => *last_end = end,
+        Node::Capture(_, body_end) => *body_end = end,
+        Node::IfChanged(body_end) => *body_end = end,
         Node::Text(_) | Node::Output(_) | Node::Assign(..) | Node::Raw(_) | Node::Comment => {}
+        Node::Break | Node::Continue | Node::Increment(_) | Node::Decrement(_) => {}
+        Node::Cycle(..) => {}
+        Node::Include(..) | Node::JekyllInclude(..) | Node::Render(..) => {}
+    }
+}
+
+/// A further `when` of a `case`, of which it isn't known yet where its body ends.
+fn add_arm(node: &mut Node, values: Vec<Expression>) -> Result<(), ParseError>
+    ensures added { OnOk result (IsAdded (map expression_view values.items) (flat_of node.old) (flat_of node.new)) }
+    ensures fails { IsMemory result }
+{
+    match node {
+        Node::Case(_, arms, _) => {
+            arms.push(Arm { values, end: 0 })?;
+            Ok(())
+        }
+        _ => Ok(()),
     }
 }
 

@@ -1,5 +1,5 @@
 //! Chains, read from the items of a piece.
-ghost use Rattle.std.specs.Prelude.{◌≡◌, ◌≤◌, IfErr, length, map};
+ghost use Rattle.std.specs.Prelude.{◌≡◌, ◌≤◌, IfErr, length, map, string_bytes};
 ghost use Rattle.liquid_core.specs.ExpressionView.{expression_view};
 ghost use Rattle.liquid_model.specs.Maps.{listed};
 ghost use Rattle.liquid_syntax.specs.Called.{Calls};
@@ -7,17 +7,16 @@ ghost use Rattle.liquid_syntax.specs.ChainReading.{accepted_call, call_fault, fi
 ghost use Rattle.liquid_syntax.specs.Chains.{Filters};
 ghost use Rattle.liquid_syntax.specs.Faults.{FaultsAs, FaultsAt};
 ghost use Rattle.liquid_tree.specs.ChainView.{chain_view, chain_filter_view};
-ghost use Rattle.liquid_syntax.specs.Languages.{kinds_of};
+ghost use Rattle.liquid_syntax.specs.Registered.{registered_in};
 ghost use Rattle.liquid_source.specs.Readers.{Parses, IsOfKind, IsAt};
 ghost use Rattle.liquid_source.specs.Tokens.{tokens_view};
 
-use crate::language::Registry;
-use liquid_core::{Expression, Filter};
-use liquid_filters::FilterKind;
+use crate::registered_filter::{FilterRegistry, RegisteredFilter};
+use liquid_core::Expression;
 use liquid_source::{
     Fault, FaultKind, Item, ParseError, Symbol, is_over, next_value, next_word, skip,
 };
-use liquid_tree::{ChainFilter, FilterChain};
+use liquid_tree::{ChainFilter, FilterChain, StoredFilter};
 use std::alloc::Global;
 use std::collections::VecDeque;
 
@@ -25,11 +24,11 @@ use std::collections::VecDeque;
 #[tactic(auto, unfolding(crate::specs::ChainReading::chain_of))]
 pub fn read_chain(
     alloc: Global,
-    filters: &Registry<FilterKind>,
+    filters: &FilterRegistry,
     items: VecDeque<Item<'_>>,
     at: &str,
 ) -> Result<FilterChain, ParseError>
-    ensures chain { Parses chain_view result (chain_of (kinds_of filters.now) (tokens_view items.entry.items)) }
+    ensures chain { Parses chain_view result (chain_of (registered_in filters.now) (tokens_view items.entry.items)) }
     ensures place { FaultsAt (length at.now) result }
 {
     let mut items = items;
@@ -43,11 +42,11 @@ pub fn read_chain(
 /// The filters that all the items are.
 fn read_filters(
     alloc: Global,
-    known: &Registry<FilterKind>,
+    known: &FilterRegistry,
     items: &mut VecDeque<Item<'_>>,
     at: &str,
 ) -> Result<Vec<ChainFilter>, ParseError>
-    ensures filters { Parses (λ fs. map chain_filter_view fs.items) result (filters_of (kinds_of known.now) (tokens_view items.old.items)) }
+    ensures filters { Parses (λ fs. map chain_filter_view fs.items) result (filters_of (registered_in known.now) (tokens_view items.old.items)) }
     ensures place { FaultsAt (length at.now) result }
 {
     let mut filters = Vec::new(alloc);
@@ -59,7 +58,7 @@ fn read_filters(
             return Err(expected(at, "the name of a filter"));
         };
         let arguments = read_arguments(alloc, items, at)?;
-        filters.push(accepted(known, name.as_str(), arguments, at)?)?;
+        filters.push(accepted(known, name, arguments, at)?)?;
     }
     Ok(filters)
 }
@@ -67,16 +66,16 @@ fn read_filters(
 /// The filter of the name with these arguments. `UnknownFilter` where none is registered, and `FilterArguments` where it
 /// doesn't take their number.
 fn accepted(
-    known: &Registry<FilterKind>,
-    name: &str,
+    known: &FilterRegistry,
+    name: String,
     arguments: Vec<Expression>,
     at: &str,
 ) -> Result<ChainFilter, ParseError>
-    ensures call { Parses chain_filter_view result (accepted_call (listed (kinds_of known.now) name.now) (map expression_view arguments.items)) }
-    ensures kind { IfErr result (λ e. IsOfKind (call_fault (listed (kinds_of known.now) name.now)) e) }
+    ensures call { Parses chain_filter_view result (accepted_call (string_bytes name) (listed (registered_in known.now) (string_bytes name)) (map expression_view arguments.items)) }
+    ensures kind { IfErr result (λ e. IsOfKind (call_fault (listed (registered_in known.now) (string_bytes name))) e) }
     ensures place { IfErr result (λ e. IsAt (length at.now) e) }
 {
-    let Some(filter) = known.get(name) else {
+    let Some(filter) = known.get(name.as_str()) else {
         return Err(ParseError::Fault(Fault::new(
             FaultKind::UnknownFilter,
             at,
@@ -90,7 +89,16 @@ fn accepted(
             "a number of arguments that the filter takes",
         )));
     }
-    Ok(ChainFilter { filter, arguments })
+    match filter {
+        RegisteredFilter::Kind(kind) => Ok(ChainFilter {
+            filter: StoredFilter::Kind(kind),
+            arguments,
+        }),
+        RegisteredFilter::Host { .. } => Ok(ChainFilter {
+            filter: StoredFilter::Host(name),
+            arguments,
+        }),
+    }
 }
 
 /// The arguments behind a filter's name.

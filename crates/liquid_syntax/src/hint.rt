@@ -1,10 +1,12 @@
 //! What a fault's message adds for a name that isn't known: the name itself, and the registered one nearest to it.
-use crate::language::{Language, Registry};
-use liquid_core::Filter;
-use liquid_filters::FilterKind;
-use liquid_source::{Fault, FaultKind, Item, ParseError, Piece, Symbol, past_byte, read_markup};
+use crate::language::Language;
+use crate::registered_filter::FilterRegistry;
+use liquid_source::{
+    Fault, FaultKind, Item, ParseError, Piece, Symbol, excerpt, past_byte, read_markup,
+};
 use std::alloc::{AllocError, Global};
 use std::collections::VecDeque;
+use std::collections::btree_map::Keys;
 use strsim::generic_damerau_levenshtein;
 
 /// With more edits than these a name is no likely misspelling of another.
@@ -62,11 +64,12 @@ fn of_piece(
 
 /// An end or a control word is known, and stands in the wrong place.
 fn of_tag(alloc: Global, language: &Language, name: &str) -> Result<String, AllocError> {
-    if name == "else" || name == "elsif" || name.starts_with("end") {
-        return format!(in alloc; "; no open block knows `{name}` here");
+    if matches!(name, "else" | "elsif" | "when") || name.starts_with("end") {
+        let quoted = excerpt(alloc, name)?;
+        return format!(in alloc; "; no open block knows `{quoted}` here");
     }
-    let near = nearest(alloc, &language.tags, name, None)?;
-    let near = nearest(alloc, &language.blocks, name, near)?;
+    let near = nearest(alloc, language.tags.names(), name, None)?;
+    let near = nearest(alloc, language.blocks.names(), name, near)?;
     let near = nearer(alloc, "elsif", name, near)?;
     unknown(alloc, name, near)
 }
@@ -79,7 +82,7 @@ fn of_filter(
     let calls = calls(alloc, items)?;
     match unregistered(&language.filters, &calls) {
         Some(call) => {
-            let near = nearest(alloc, &language.filters, call.name, None)?;
+            let near = nearest(alloc, language.filters.names(), call.name, None)?;
             unknown(alloc, call.name, near)
         }
         None => Ok(String::new(alloc)),
@@ -87,7 +90,7 @@ fn of_filter(
 }
 
 /// The first call of a filter that no registered one has the name of.
-fn unregistered<'s>(filters: &Registry<FilterKind>, calls: &[Call<'s>]) -> Option<Call<'s>> {
+fn unregistered<'s>(filters: &FilterRegistry, calls: &[Call<'s>]) -> Option<Call<'s>> {
     for call in calls {
         if filters.get(call.name).is_none() {
             return Some(*call);
@@ -104,7 +107,7 @@ fn of_arguments(
     let calls = calls(alloc, items)?;
     match miscounted(&language.filters, &calls) {
         Some(call) => {
-            let name = call.name;
+            let name = excerpt(alloc, call.name)?;
             let count = call.arguments;
             format!(in alloc; "; `{name}` doesn't take {count}")
         }
@@ -113,7 +116,7 @@ fn of_arguments(
 }
 
 /// The first call of a filter that doesn't accept so many arguments.
-fn miscounted<'s>(filters: &Registry<FilterKind>, calls: &[Call<'s>]) -> Option<Call<'s>> {
+fn miscounted<'s>(filters: &FilterRegistry, calls: &[Call<'s>]) -> Option<Call<'s>> {
     for call in calls {
         if let Some(filter) = filters.get(call.name) {
             if !filter.accepts(call.arguments) {
@@ -125,12 +128,13 @@ fn miscounted<'s>(filters: &Registry<FilterKind>, calls: &[Call<'s>]) -> Option<
 }
 
 fn unknown(alloc: Global, name: &str, near: Option<Near<'_>>) -> Result<String, AllocError> {
+    let quoted = excerpt(alloc, name)?;
     match near {
         Some(near) => {
-            let meant = near.name;
-            format!(in alloc; "; `{name}` is unknown, did you mean `{meant}`?")
+            let meant = excerpt(alloc, near.name)?;
+            format!(in alloc; "; `{quoted}` is unknown, did you mean `{meant}`?")
         }
-        None => format!(in alloc; "; `{name}` is unknown"),
+        None => format!(in alloc; "; `{quoted}` is unknown"),
     }
 }
 
@@ -159,26 +163,30 @@ fn count_argument(calls: &mut Vec<Call<'_>>) {
 }
 
 /// The nearest to a name of those that are registered and one more.
-fn nearest<'n, K: Copy + Drop>(
+fn nearest<'n, K: Drop>(
     alloc: Global,
-    names: &'n Registry<K>,
+    names: Keys<'n, String, K>,
     meant: &str,
     near: Option<Near<'n>>,
 ) -> Result<Option<Near<'n>>, AllocError> {
     let mut near = near;
-    for name in names.names() {
+    for name in names {
         near = nearer(alloc, name.as_str(), meant, near)?;
     }
     Ok(near)
 }
 
-/// The nearer of two names.
+/// The nearer of two names. Names whose lengths differ by more than the edits that are allowed are never near, so that no
+/// distance is taken of a name that is much longer than all others.
 fn nearer<'n>(
     alloc: Global,
     name: &'n str,
     meant: &str,
     near: Option<Near<'n>>,
 ) -> Result<Option<Near<'n>>, AllocError> {
+    if name.len().abs_diff(meant.len()) > MOST_EDITS {
+        return Ok(near);
+    }
     let edits = generic_damerau_levenshtein(alloc, name.as_bytes(), meant.as_bytes())?;
     let most = match near {
         Some(near) => near.edits.saturating_sub(1),

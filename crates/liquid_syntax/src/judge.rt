@@ -1,22 +1,31 @@
 //! What a piece is, where it stands: the label of an output or a tag, by the language and by its items.
 ghost use Rattle.std.specs.Prelude.{◌≡◌, length};
-ghost use Rattle.liquid_source.specs.PieceView.{piece_view};
+ghost use Rattle.liquid_source.specs.PieceView.{items_view, piece_view};
 ghost use Rattle.liquid_source.specs.Readers.{IsAt, IsOfKind};
 ghost use Rattle.liquid_source.specs.SourceReading.{wanted_body};
 ghost use Rattle.liquid_source.specs.Tokens.{tokens_view};
 ghost use Rattle.liquid_syntax.specs.Faults.{FaultsAs, FaultsAt};
-ghost use Rattle.liquid_syntax.specs.Judges.{Judges, ReadsTwo};
-ghost use Rattle.liquid_syntax.specs.Judging.{assign_of, comment_label, ends_or, if_of, leaf_or, opens, raw_label, reads, tag_label, unless_of};
+ghost use Rattle.std.specs.Prelude.{string_bytes};
+ghost use Rattle.liquid_source.specs.Readers.{Parses};
+ghost use Rattle.liquid_syntax.specs.Building.{label_view, IsSound};
+ghost use Rattle.liquid_syntax.specs.declared.block.Block.TheVariants as BlockOf;
+ghost use Rattle.liquid_syntax.specs.declared.build.Stage.TheVariants as StageOf;
+ghost use Rattle.liquid_syntax.specs.Judges.{Judges, ReadsBlock, ReadsTwo};
+ghost use Rattle.liquid_syntax.specs.Judging.{assign_of, bare, case_for, comment_label, many_or, word_alone, ends_or, if_of, leaf_or, opens, raw_label, reads, tag_label, unless_of};
 ghost use Rattle.liquid_syntax.specs.Roles.{body_behind, role_of};
 
 use crate::block::{Block, Control, Place, Role, role_of, unread_body};
 use crate::build::{Label, Stage};
 use crate::chain_items::{expected, read_chain};
 use crate::condition_items::read_condition;
+use crate::cycle_items::read_cycle;
 use crate::language::{BlockKind, Language, TagKind};
 use crate::node::{Node, TwoBodies};
+use crate::partial_items::{read_include, read_jekyll_include, read_render};
+use crate::value_items::{Separators, read_values};
 use liquid_source::{
-    Body, Fault, FaultKind, Item, ParseError, Piece, Symbol, bare_name, next_word, skip,
+    Body, Fault, FaultKind, Item, ParseError, Piece, Symbol, bare_name, is_over, next_value,
+    next_word, skip,
 };
 use std::alloc::Global;
 use std::collections::VecDeque;
@@ -101,7 +110,7 @@ fn read_tag(
     items: VecDeque<Item<'_>>,
     at: &str,
 ) -> Result<Label, ParseError>
-    ensures label { Judges (tag_label language.now (tokens_view items.entry.items) (role_of language.now place name.now)) result }
+    ensures label { Judges (tag_label language.now (items_view items.entry.items) (tokens_view items.entry.items) (role_of language.now place name.now)) result }
     ensures place { FaultsAt (length at.now) result }
 {
     match role_of(language, place, name) {
@@ -109,7 +118,29 @@ fn read_tag(
         Some(Role::End) => read_end(items, at),
         Some(Role::Control(Control::Elsif)) => Ok(Label::Elsif(read_if(alloc, items, at)?)),
         Some(Role::Control(Control::Else)) => Ok(Label::Otherwise),
+        Some(Role::Control(Control::BareElse)) => read_bare(Label::Otherwise, items, at),
+        Some(Role::Control(Control::When)) => {
+            let values = read_values(alloc, items, Separators::CommasOr, at)?;
+            Ok(Label::When(values))
+        }
         Some(Role::Tag(TagKind::Assign)) => read_assign(alloc, language, items, at),
+        Some(Role::Tag(TagKind::Break)) => read_bare(Label::Leaf(Node::Break), items, at),
+        Some(Role::Tag(TagKind::Continue)) => read_bare(Label::Leaf(Node::Continue), items, at),
+        Some(Role::Tag(TagKind::Increment)) => {
+            let name = read_word(items, at)?;
+            Ok(Label::Leaf(Node::Increment(name)))
+        }
+        Some(Role::Tag(TagKind::Decrement)) => {
+            let name = read_word(items, at)?;
+            Ok(Label::Leaf(Node::Decrement(name)))
+        }
+        Some(Role::Tag(TagKind::Cycle)) => {
+            let (group, values) = read_cycle(alloc, items, at)?;
+            Ok(Label::Leaf(Node::Cycle(group, values)))
+        }
+        Some(Role::Tag(TagKind::Include)) => read_include(alloc, items, at),
+        Some(Role::Tag(TagKind::JekyllInclude)) => read_jekyll_include(alloc, items, at),
+        Some(Role::Tag(TagKind::Render)) => read_render(alloc, items, at),
         Some(Role::Block(BlockKind::If)) => {
             let node = read_if(alloc, items, at)?;
             Ok(Label::Begins(Block::If, Stage::First, node))
@@ -117,6 +148,18 @@ fn read_tag(
         Some(Role::Block(BlockKind::Unless)) => {
             let node = read_unless(alloc, items, at)?;
             Ok(Label::Begins(Block::Unless, Stage::First, node))
+        }
+        Some(Role::Block(BlockKind::Capture)) => {
+            let name = read_word(items, at)?;
+            Ok(Label::Begins(Block::Capture, Stage::Last, Node::Capture(name, 0)))
+        }
+        Some(Role::Block(BlockKind::Case)) => {
+            let node = read_case(alloc, items, at)?;
+            Ok(Label::Begins(Block::Case, Stage::Unkept, node))
+        }
+        Some(Role::Block(BlockKind::IfChanged)) => {
+            let label = Label::Begins(Block::IfChanged, Stage::Last, Node::IfChanged(0));
+            read_bare(label, items, at)
         }
         Some(Role::Block(BlockKind::Raw | BlockKind::Comment)) => {
             Err(expected(at, "a tag without items"))
@@ -154,6 +197,52 @@ fn read_unless(alloc: Global, items: VecDeque<Item<'_>>, at: &str) -> Result<Nod
 {
     let condition = read_condition(alloc, items, at)?;
     Ok(Node::Unless(condition, TwoBodies::open()))
+}
+
+/// A tag without items.
+fn read_bare(label: Label, items: VecDeque<Item<'_>>, at: &str) -> Result<Label, ParseError>
+    requires { IsSound label }
+    ensures label { Judges (bare (label_view label) (tokens_view items.entry.items)) result }
+    ensures kind { FaultsAs FaultKind.Expected result }
+    ensures place { FaultsAt (length at.now) result }
+{
+    if items.is_empty() {
+        Ok(label)
+    } else {
+        Err(expected(at, "a tag without items"))
+    }
+}
+
+/// The word that all the items are.
+fn read_word(items: VecDeque<Item<'_>>, at: &str) -> Result<String, ParseError>
+    ensures word { Parses string_bytes result (word_alone (tokens_view items.entry.items)) }
+    ensures kind { FaultsAs FaultKind.Expected result }
+    ensures place { FaultsAt (length at.now) result }
+{
+    let mut items = items;
+    let Some(name) = next_word(&mut items) else {
+        return Err(expected(at, "the name of a variable"));
+    };
+    if is_over(&items) {
+        return Ok(name);
+    }
+    Err(expected(at, "nothing behind the name"))
+}
+
+/// The node of a `case`, before its `when` parts are read.
+fn read_case(alloc: Global, items: VecDeque<Item<'_>>, at: &str) -> Result<Node, ParseError>
+    ensures node { ReadsBlock BlockOf.Case StageOf.Unkept (many_or BlockOf.Case (case_for (tokens_view items.entry.items))) result }
+    ensures kind { FaultsAs FaultKind.Expected result }
+    ensures place { FaultsAt (length at.now) result }
+{
+    let mut items = items;
+    let Some(target) = next_value(&mut items) else {
+        return Err(expected(at, "a value"));
+    };
+    if is_over(&items) {
+        return Ok(Node::Case(target, Vec::new(alloc), 0));
+    }
+    Err(expected(at, "nothing behind the value"))
 }
 
 fn unknown_tag(at: &str) -> ParseError

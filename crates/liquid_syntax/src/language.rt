@@ -3,9 +3,10 @@ ghost use Rattle.std.specs.Prelude.{◌≡◌, [], map, option_map, OnErr, strin
 ghost use Rattle.liquid_model.specs.Answer.{Gives};
 ghost use Rattle.liquid_model.specs.Maps.{listed, insert};
 ghost use Rattle.liquid_syntax.specs.Languages.{kinds_of};
+ghost use Rattle.liquid_syntax.specs.Registered.{registered_in};
 
+use crate::registered_filter::FilterRegistry;
 use liquid_core::Result;
-use liquid_filters::FilterKind;
 use std::alloc::Global;
 use std::collections::BTreeMap;
 use std::collections::btree_map::Keys;
@@ -15,6 +16,22 @@ use std::collections::btree_map::Keys;
 pub enum TagKind {
     /// `{% assign name = chain %}`
     Assign,
+    /// `{% break %}`
+    Break,
+    /// `{% continue %}`
+    Continue,
+    /// `{% increment name %}`
+    Increment,
+    /// `{% decrement name %}`
+    Decrement,
+    /// `{% cycle name: values %}`, also without a name
+    Cycle,
+    /// `{% include name w: v, w: v %}`, of the standard library
+    Include,
+    /// `{% include name w=v w=v %}`, of Jekyll
+    JekyllInclude,
+    /// `{% render name with v as w, w: v %}`
+    Render,
 }
 
 /// A tag with a body and an end.
@@ -28,6 +45,12 @@ pub enum BlockKind {
     If,
     /// `{% unless condition %}`, with `else`
     Unless,
+    /// `{% capture name %}`
+    Capture,
+    /// `{% case target %}`, with `when` and `else`
+    Case,
+    /// `{% ifchanged %}`
+    IfChanged,
 }
 
 /// Kinds by the names that they are registered under.
@@ -38,7 +61,7 @@ pub struct Registry<K: Drop> {
 
 impl<K: Copy + Drop> Registry<K> {
     /// No kinds.
-    fn new(alloc: Global) -> Registry<K>
+    pub(crate) fn new(alloc: Global) -> Registry<K>
         ensures { kinds_of result ≡ [] }
     {
         Registry {
@@ -75,7 +98,7 @@ impl<K: Copy + Drop> Registry<K> {
 pub struct Language {
     pub tags: Registry<TagKind>,
     pub blocks: Registry<BlockKind>,
-    pub filters: Registry<FilterKind>,
+    pub filters: FilterRegistry,
 }
 
 impl Language {
@@ -83,12 +106,12 @@ impl Language {
     pub fn new(alloc: Global) -> Language
         ensures tags { kinds_of result.tags ≡ [] }
         ensures blocks { kinds_of result.blocks ≡ [] }
-        ensures filters { kinds_of result.filters ≡ [] }
+        ensures filters { registered_in result.filters ≡ [] }
     {
         Language {
             tags: Registry::new(alloc),
             blocks: Registry::new(alloc),
-            filters: Registry::new(alloc),
+            filters: FilterRegistry::new(alloc),
         }
     }
 }

@@ -2,7 +2,15 @@
 ghost use Rattle.liquid_syntax.specs.ChainLaw.{ReadsChains, ReadsAssigns};
 ghost use Rattle.liquid_syntax.specs.ConditionLaw.{ReadsConditions};
 ghost use Rattle.liquid_syntax.specs.LabelLaw.{ReadsLabels};
+ghost use Rattle.liquid_syntax.specs.RepeatedLaw.{ReadsLoops, ReadsPairs, ReadsValues};
 ghost use Rattle.liquid_syntax.specs.NestingLaw.{ReadsTheGrammar, AtMostOneTree};
+ghost use Rattle.liquid_syntax.specs.TemplateLaw.{PlainSources, AtMostOneTemplate};
+
+/// A source without `{{` and `{%` is itself, one text, in every language; and a source has at most one tree in a language.
+pub fn template_laws()
+    ensures plain { PlainSources }
+    ensures unique { AtMostOneTemplate }
+{}
 
 /// Reading with a stack of open blocks gives a list of pieces the tree of the written grammar, and there is at most one.
 pub fn nesting_laws()
@@ -24,4 +32,11 @@ pub fn chain_laws()
 /// A condition is read exactly where the written grammar says that the items are it.
 pub fn condition_law()
     ensures { ReadsConditions }
+{}
+
+/// Values, loops and pairs are read exactly where the written grammar says that the items are it.
+pub fn item_list_laws()
+    ensures values { ReadsValues }
+    ensures loops { ReadsLoops }
+    ensures pairs { ReadsPairs }
 {}

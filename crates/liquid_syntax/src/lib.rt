@@ -5,27 +5,40 @@ mod block;
 mod build;
 mod chain_items;
 mod condition_items;
+mod cycle_items;
+mod group;
 mod hint;
 mod judge;
 mod language;
 mod laws;
+mod loop_items;
+mod names;
 mod node;
+mod pair_items;
 mod parser;
+mod partial_items;
 mod partials;
+mod registered_filter;
 mod template;
+mod value_items;
+mod visit_nodes;
 
 pub use block::{Block, Control, Place};
 pub use language::{BlockKind, Language, Registry, TagKind};
-pub use laws::{chain_laws, condition_law, label_law, nesting_laws};
+pub use laws::{chain_laws, condition_law, item_list_laws, label_law, nesting_laws, template_laws};
 pub use liquid_source::{
     Body, Delimiter, Fault, FaultKind, Item, Mark, Markup, ParseError, Piece, Symbol, item_laws,
     source_laws, value_laws, verbatim_laws,
 };
 pub use liquid_tree::{
-    AnyFilter, Atom, ChainFilter, ComparisonOperator, Condition, FilterCall, FilterChain,
-    apply_filters,
+    AnyFilter, Atom, ChainFilter, ComparisonOperator, Condition, FilterCall, FilterChain, Range,
+    RangeExpression, StoredFilter, Window, apply_filters, evaluate_amount,
 };
-pub use node::{Node, TwoBodies};
+pub use loop_items::{Loop, LoopKind, LoopPart, read_loop};
+pub use node::{Arm, Binding, Node, TwoBodies};
+pub use pair_items::PairStyle;
 pub use parser::parse;
 pub use partials::Partials;
+pub use registered_filter::{FilterRegistry, RegisteredFilter};
 pub use template::Template;
+pub use value_items::{Separators, read_values};

@@ -1,6 +1,14 @@
 //! The nodes of a template.
 
+use liquid_core::Expression;
 use liquid_tree::{Condition, FilterChain};
+
+/// A pair of a tag: a name, and what it is bound to.
+#[derive(Drop)]
+pub struct Binding {
+    pub name: String,
+    pub value: Expression,
+}
 
 /// Where the two bodies of a node end, as indices of the list.
 #[derive(Clone, Copy, Debug, PartialEq, Eq)]
@@ -17,6 +25,14 @@ impl TwoBodies {
             last_end: 0,
         }
     }
+}
+
+/// A `when` of a `case`.
+#[derive(Drop)]
+pub struct Arm {
+    pub values: Vec<Expression>,
+    /// Where its body ends, as an index of the list.
+    pub end: usize,
 }
 
 /// A node of a template's list.
@@ -41,4 +57,27 @@ pub enum Node {
     If(Condition, TwoBodies),
     /// `{% unless condition %}`, with the body that runs where the condition doesn't hold, and that of `else`.
     Unless(Condition, TwoBodies),
+    /// `{% capture name %}`, and where its body ends.
+    Capture(String, usize),
+    /// `{% case target %}`, with its `when` parts, and where the body of `else` ends. What stands before the first of them
+    /// is not kept.
+    Case(Expression, Vec<Arm>, usize),
+    /// `{% break %}`
+    Break,
+    /// `{% continue %}`
+    Continue,
+    /// `{% increment name %}`
+    Increment(String),
+    /// `{% decrement name %}`
+    Decrement(String),
+    /// `{% cycle values %}`, with its group, which is settled when the template is parsed.
+    Cycle(String, Vec<Expression>),
+    /// `{% ifchanged %}`, and where its body ends.
+    IfChanged(usize),
+    /// `{% include name pairs %}`, with the name's value.
+    Include(Expression, Vec<Binding>),
+    /// Jekyll's `{% include name pairs %}`, with the name itself.
+    JekyllInclude(String, Vec<Binding>),
+    /// `{% render name pairs %}`, that runs once. `with v as w` is the first pair.
+    Render(Expression, Vec<Binding>),
 }

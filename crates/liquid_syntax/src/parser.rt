@@ -1,7 +1,7 @@
 //! From a source to its template.
 ghost use Rattle.std.specs.Prelude.{◌≡◌, IfErr};
 ghost use Rattle.liquid_source.specs.Readers.{TellsOf};
-ghost use Rattle.liquid_syntax.specs.Parsing.{IsOfSource, ParsesTo, ReadsTo};
+ghost use Rattle.liquid_syntax.specs.Parsing.{MayRefuse, ParsesTo, ReadsTo};
 
 use crate::build::{Builder, too_nested};
 use crate::hint::hint;
@@ -21,7 +21,7 @@ use std::alloc::Global;
 /// is no room for the nodes or for a fault's message.
 pub fn parse(alloc: Global, source: &str, language: &Language) -> Result<Template>
     ensures parses { ParsesTo language.now source.now result }
-    ensures kinds { IfErr result (λ e. IsOfSource e.kind) }
+    ensures kinds { IfErr result (λ e. MayRefuse e.kind) }
 {
     match read_template(alloc, source, language) {
         Ok(template) => Ok(template),

@@ -1,12 +1,18 @@
 //! Templates by name.
-ghost use Rattle.std.specs.Prelude.{◌≡◌, [], option_map, length, ◌≤◌, IfSome, OnErr, string_bytes};
+ghost use Rattle.std.specs.Prelude.{◌≡◌, [], option_map, ◌≤◌, IfSome, OnErr, string_bytes};
+ghost use Rattle.std.specs.Map.{values_of};
 ghost use Rattle.liquid_model.specs.Answer.{Gives};
 ghost use Rattle.liquid_model.specs.Maps.{listed, insert};
 ghost use Rattle.liquid_syntax.specs.Entries.{put};
-ghost use Rattle.liquid_syntax.specs.Templates.{most_of, list_of, tree_of, partials_of};
+ghost use Rattle.liquid_syntax.specs.Mentions.{partials_list_names};
+ghost use Rattle.liquid_syntax.specs.Templates.{most_of, node_count_of, tree_of, partials_of};
+ghost use Rattle.liquid_tree.specs.Names.{mentioned, partials_names};
 
+use crate::names::Search;
 use crate::template::Template;
+use crate::visit_nodes::visit_nodes;
 use liquid_core::Result;
+use liquid_tree::NameVisitor;
 use std::alloc::Global;
 use std::collections::BTreeMap;
 
@@ -39,8 +45,28 @@ impl Partials {
     /// The template of this name, without memory.
     pub fn get(&self, name: &str) -> Option<&Template>
         ensures found { option_map (λ t. tree_of t.now) result ≡ listed (partials_of self.now) name.now }
-        ensures small { IfSome result (λ t. length (list_of t.now) ≤ most_of self.now) }
+        ensures small { IfSome result (λ t. node_count_of t.now ≤ most_of self.now) }
     {
         self.templates.get(name)
+    }
+
+    /// The names that the templates mention, told to a visitor. The answer is whether it ended the telling.
+    pub(crate) fn visit_names<V: NameVisitor>(&self, visitor: &mut V) -> bool
+        ensures { V.tells visitor.old (partials_list_names (values_of self.now.templates.entries)) result visitor.new }
+    {
+        for template in self.templates.values() {
+            if visit_nodes(template.nodes(), visitor) {
+                return true;
+            }
+        }
+        false
+    }
+
+    /// Whether one of the templates mentions the name. It takes no memory.
+    pub fn mention(&self, name: &str) -> bool
+        ensures { result ≡ mentioned (partials_names (partials_of self.now)) name.now }
+    {
+        let mut search = Search { wanted: name };
+        self.visit_names(&mut search)
     }
 }

@@ -2,7 +2,13 @@
 ghost use Rattle.liquid_syntax.specs.Flats.{ends_of_nodes};
 ghost use Rattle.liquid_syntax.specs.Nested.{AreNested, AreNested-prop};
 
+use crate::names::{Gather, Search};
 use crate::node::Node;
+use crate::partials::Partials;
+use crate::visit_nodes::visit_nodes;
+use liquid_core::{Error, Result};
+use std::alloc::{AllocError, Global};
+use std::collections::BTreeSet;
 
 /// A parsed template: one flat list of its nodes, in source order.
 #[derive(Drop)]
@@ -12,8 +18,14 @@ pub struct Template {
 }
 
 impl Template {
-    ghost use Rattle.std.specs.Prelude.{◌≡◌};
-    ghost use Rattle.liquid_syntax.specs.Templates.{node_count_of, list_of};
+    ghost use Rattle.std.specs.Prelude.{◌≡◌, IfOk};
+    ghost use Rattle.std.specs.BTreeSet.{IsOrdered};
+    ghost use Rattle.std.specs.String.{string_cmp};
+    ghost use Rattle.liquid_model.specs.Answer.{Gives};
+    ghost use Rattle.liquid_syntax.specs.NameSets.{held};
+    ghost use Rattle.liquid_syntax.specs.Templates.{list_of, partials_of, tree_of};
+    ghost use Rattle.liquid_tree.specs.Counts.{count_of_nodes};
+    ghost use Rattle.liquid_tree.specs.Names.{mentioned, nodes_names, run_names};
 
     /// The nodes, in source order.
     pub fn nodes(&self) -> &[Node]
@@ -23,10 +35,40 @@ impl Template {
     }
 
     /// The number of nodes of the tree, in all depths, without memory.
-    #[tactic(auto, using(crate::proofs::Whole::counted_nodes))]
+    #[tactic(auto, using(crate::proofs::TreeCounts::template_count))]
     pub fn node_count(&self) -> usize
-        ensures { result ≡ node_count_of self.now }
+        ensures { result ≡ count_of_nodes (tree_of self.now) }
     {
         self.nodes.len()
+    }
+
+    /// The names that the template or one of the partials mentions, ascending and each once: the first name of each
+    /// variable, also in the steps of another, each name that a tag sets or binds, and `include` where a jekyll `include`
+    /// binds pairs. A run depends on no other names, and changes no others.
+    ///
+    /// `Memory` where there is no room for them.
+    pub fn names(&self, alloc: Global, partials: &Partials) -> Result<BTreeSet<String>>
+        ensures exact { Gives held result (mentioned (run_names (partials_of partials.now) (tree_of self.now))) }
+        ensures ascending { IfOk result (λ names. IsOrdered string_cmp names) }
+    {
+        let mut gather = Gather {
+            alloc,
+            names: BTreeSet::new(alloc),
+        };
+        if visit_nodes(&self.nodes, &mut gather) || partials.visit_names(&mut gather) {
+            return Err(Error::from(AllocError));
+        }
+        let Gather { alloc: _, names } = gather;
+        // No effect at run time. The proof reads from this use that the names ascend.
+        let _ = names.len();
+        Ok(names)
+    }
+
+    /// Whether the template itself mentions the name, and not a partial that it names. It takes no memory.
+    pub fn mentions(&self, name: &str) -> bool
+        ensures { result ≡ mentioned (nodes_names (tree_of self.now)) name.now }
+    {
+        let mut search = Search { wanted: name };
+        visit_nodes(&self.nodes, &mut search)
     }
 }

@@ -1,5 +1,5 @@
 //! Conditions that are read, and items that are none, at examples.
-use crate::templates::language_with_blocks;
+use crate::reading::language_with_blocks;
 use liquid_core::Result;
 use liquid_syntax::{Node, Template, parse};
 use std::alloc::Global;

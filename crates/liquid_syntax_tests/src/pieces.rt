@@ -357,6 +357,14 @@ fn messages(rt: HostRuntime) -> Result<(), Fail> {
             "{% = %}",
             "line 1, column 4: found `=` where the name of a tag is wanted",
         ),
+        (
+            "{{ \u{1b}[31m\0 }}",
+            "line 1, column 4: found `\\u{1b}[31m\\u{0}` where a value is wanted",
+        ),
+        (
+            "{{ 1aaaaaaaaaaaaaaaaaaaaaaaaaaaaaaaaaaaaaaaaaaaaaaaaaaaaaaaaaaaaaaaaaaaaaaaaaaaaaaaaaaaaaa }}",
+            "line 1, column 4: found `1aaaaaaaaaaaaaaaaaaaaaaaaaaaaaaaaaaaaaaaaaaaaaaaaaaaaaaaaaaa...` where a whole number is wanted",
+        ),
     ];
     let alloc = rt.alloc();
     for (source, want) in rows {

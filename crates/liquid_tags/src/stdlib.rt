@@ -3,5 +3,9 @@
 mod blocks;
 mod tags;
 
-pub use blocks::{CommentBlock, IfBlock, RawBlock, UnlessBlock};
-pub use tags::AssignTag;
+pub use blocks::{
+    CaptureBlock, CaseBlock, CommentBlock, IfBlock, IfChangedBlock, RawBlock, UnlessBlock,
+};
+pub use tags::{
+    AssignTag, BreakTag, ContinueTag, CycleTag, DecrementTag, IncludeTag, IncrementTag, RenderTag,
+};

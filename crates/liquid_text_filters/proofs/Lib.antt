@@ -5,5 +5,6 @@ pub mod Pieces
 pub mod Replaced
 pub mod Spellings
 pub mod Splits
+pub mod Standing
 pub mod Views
 pub mod Words

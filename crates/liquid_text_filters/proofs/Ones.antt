@@ -18,15 +18,17 @@ use Rattle.liquid_list_filters.specs.Joined.{joined}
 use Rattle.liquid_list_filters.specs.Text.{begins, Makes, Texts}
 use Rattle.liquid_list_filters.proofs.Ones.{image_one, same_one}
 use Rattle.liquid_text_filters.specs.Arguments.{whole_or}
-use Rattle.liquid_text_filters.specs.Laws.{CapitalizeIsOne, Divides, DowncaseIsOne, JoinGivesBack, KeepsClusters, KeepsWords, LstripIsOne, Reads, RemoveFirstIsOne, RemoveIsOne, ReplaceFirstIsOne, ReplaceIsOne, RstripIsOne, SliceIsOne, Slices, SplitIsOne, StripIsOne, StripNewlinesIsOne, TakesPart, TruncateIsOne, Truncates, TruncateWordsIsOne, TruncatesWords, UpcaseIsOne}
+use Rattle.liquid_text_filters.specs.Case.{capitalize_answer, downcase_answer, upcase_answer}
+use Rattle.liquid_text_filters.specs.Strip.{lstrip_answer, rstrip_answer, strip_answer, strip_newlines_answer}
+use Rattle.liquid_text_filters.specs.Laws.{CapitalizesText, Divides, Downcases, JoinGivesBack, KeepsClusters, KeepsWords, Reads, RemoveFirstIsOne, RemovesAll, ReplaceFirstIsOne, ReplacesAll, SliceIsOne, Slices, SplitsText, StripsLines, StripsText, StripsTextAtEnd, StripsTextAtStart, TakesPart, TruncateIsOne, TruncateWordsIsOne, Truncates, TruncatesWords, Upcases}
 use Rattle.liquid_text_filters.specs.Occurrences.{Lacks, Replaces, ReplacesFirst}
-use Rattle.liquid_text_filters.specs.Operate.{replaced, replaced_first}
+use Rattle.liquid_text_filters.specs.Operate.{replaced, replaced_first, remove_answer, replace_answer}
 use Rattle.liquid_text_filters.specs.Parts.{AreFirst, FollowFirst, IsPart}
 use Rattle.liquid_text_filters.specs.Pieces.{split_by}
 use Rattle.liquid_text_filters.specs.Places.{start, taken}
 use Rattle.liquid_text_filters.specs.Slice.{part, sliced}
 use Rattle.liquid_text_filters.specs.Spelling.{Capitalizes, MapsCharacters, StripsEnd, StripsEnds, StripsNewlines, StripsStart}
-use Rattle.liquid_text_filters.specs.Split.{divided, texts}
+use Rattle.liquid_text_filters.specs.Split.{divided, texts, split_answer}
 use Rattle.liquid_text_filters.specs.Truncate.{first_clusters, truncated, words_of, words_truncated}
 use Rattle.liquid_text_filters.proofs.Occurrences.{lacks_cons, lacks_start, joined-split_by, pieces_one, split_one}
 use Rattle.liquid_text_filters.proofs.Pieces.{begins_is}
@@ -43,8 +45,8 @@ divides_one : (p s : List ℕ) → IsUtf8 s → IsTheOne (Divides p s) (divided 
 divides_one p [] u = same_one []
 divides_one p (b ∷ s) u = split_one p (b ∷ s) u
 
-pub split_law : SplitIsOne
-split_law d args u = image_one (Divides (text_or [] args) (text_of d)) (λ ps. Ok (texts ps)) _ (divides_one (text_or [] args) (text_of d) u)
+pub split_relates : (d : Datum) (args : List Datum) → IsUtf8 (text_of d) → IsTheOne (SplitsText d args) (split_answer d args)
+split_relates d args u = image_one (Divides (text_or [] args) (text_of d)) (λ ps. Ok (texts ps)) _ (divides_one (text_or [] args) (text_of d) u)
 
 texts_of : (ts : List (List ℕ)) → map text_of (list_of (items_of (map (λ t. text t) ts))) ≡ ts
 texts_of [] = refl
@@ -60,11 +62,11 @@ join_law s p u = ap (λ ts. Ok (text (joined p ts))) (texts_of (divided p s)) �
 replaces_one : (p r s : List ℕ) → IsUtf8 s → IsTheOne (Replaces p r s) (replaced p r s)
 replaces_one p r s u = λ t. ((λ h. h.2 ∙ ap (joined r) ((split_one p s u h.0).0 h.1)), λ e. (split_by p s, (split_one p s u (split_by p s)).1 refl, e))
 
-pub replace_law : ReplaceIsOne
-replace_law d args u = image_one (Replaces (text_or [] args) (text_or [] (drop 1 args)) (text_of d)) (λ t. Ok (text t)) _ (replaces_one (text_or [] args) (text_or [] (drop 1 args)) (text_of d) u)
+pub replace_relates : (d : Datum) (args : List Datum) → IsUtf8 (text_of d) → IsTheOne (ReplacesAll d args) (replace_answer d args)
+replace_relates d args u = image_one (Replaces (text_or [] args) (text_or [] (drop 1 args)) (text_of d)) (λ t. Ok (text t)) _ (replaces_one (text_or [] args) (text_or [] (drop 1 args)) (text_of d) u)
 
-pub remove_law : RemoveIsOne
-remove_law d args u = image_one (Replaces (text_or [] args) [] (text_of d)) (λ t. Ok (text t)) _ (replaces_one (text_or [] args) [] (text_of d) u)
+pub remove_relates : (d : Datum) (args : List Datum) → IsUtf8 (text_of d) → IsTheOne (RemovesAll d args) (remove_answer d args)
+remove_relates d args u = image_one (Replaces (text_or [] args) [] (text_of d)) (λ t. Ok (text t)) _ (replaces_one (text_or [] args) [] (text_of d) u)
 
 -- ---- the first occurrence
 lacks_empty : (p : List ℕ) → begins p [] ≡ false → Lacks p []
@@ -226,23 +228,23 @@ truncatewords_law d args =
 text_one : (R : List ℕ → Type 0) (t : List ℕ) → IsTheOne R t → IsTheOne (Texts R) (Ok (text t))
 text_one R t one = image_one R (λ t. Ok (text t)) t one
 
-pub downcase_law : DowncaseIsOne
-downcase_law d args u = text_one (MapsCharacters to_ascii_lowercase (text_of d)) _ (downcased_one (text_of d) u)
+pub downcase_relates : (d : Datum) (args : List Datum) → IsUtf8 (text_of d) → IsTheOne (Downcases d args) (downcase_answer d args)
+downcase_relates d args u = text_one (MapsCharacters to_ascii_lowercase (text_of d)) _ (downcased_one (text_of d) u)
 
-pub upcase_law : UpcaseIsOne
-upcase_law d args u = text_one (MapsCharacters to_ascii_uppercase (text_of d)) _ (upcased_one (text_of d) u)
+pub upcase_relates : (d : Datum) (args : List Datum) → IsUtf8 (text_of d) → IsTheOne (Upcases d args) (upcase_answer d args)
+upcase_relates d args u = text_one (MapsCharacters to_ascii_uppercase (text_of d)) _ (upcased_one (text_of d) u)
 
-pub capitalize_law : CapitalizeIsOne
-capitalize_law d args u = text_one (Capitalizes (text_of d)) _ (capitalized_one (text_of d) u)
+pub capitalize_relates : (d : Datum) (args : List Datum) → IsUtf8 (text_of d) → IsTheOne (CapitalizesText d args) (capitalize_answer d args)
+capitalize_relates d args u = text_one (Capitalizes (text_of d)) _ (capitalized_one (text_of d) u)
 
-pub strip_law : StripIsOne
-strip_law d args u = text_one (StripsEnds (text_of d)) _ (strips_ends_one (text_of d) u)
+pub strip_relates : (d : Datum) (args : List Datum) → IsUtf8 (text_of d) → IsTheOne (StripsText d args) (strip_answer d args)
+strip_relates d args u = text_one (StripsEnds (text_of d)) _ (strips_ends_one (text_of d) u)
 
-pub lstrip_law : LstripIsOne
-lstrip_law d args u = text_one (StripsStart (text_of d)) _ (strips_start_one (text_of d) u)
+pub lstrip_relates : (d : Datum) (args : List Datum) → IsUtf8 (text_of d) → IsTheOne (StripsTextAtStart d args) (lstrip_answer d args)
+lstrip_relates d args u = text_one (StripsStart (text_of d)) _ (strips_start_one (text_of d) u)
 
-pub rstrip_law : RstripIsOne
-rstrip_law d args u = text_one (StripsEnd (text_of d)) _ (strips_end_one (text_of d) u)
+pub rstrip_relates : (d : Datum) (args : List Datum) → IsUtf8 (text_of d) → IsTheOne (StripsTextAtEnd d args) (rstrip_answer d args)
+rstrip_relates d args u = text_one (StripsEnd (text_of d)) _ (strips_end_one (text_of d) u)
 
-pub strip_newlines_law : StripNewlinesIsOne
-strip_newlines_law d args u = text_one (StripsNewlines (text_of d)) _ (strips_newlines_one (text_of d) u)
+pub strip_newlines_relates : (d : Datum) (args : List Datum) → IsUtf8 (text_of d) → IsTheOne (StripsLines d args) (strip_newlines_answer d args)
+strip_newlines_relates d args u = text_one (StripsNewlines (text_of d)) _ (strips_newlines_one (text_of d) u)

@@ -2,14 +2,18 @@
 use Rattle.std.proofs.Common.{◌≡◌, ℕ, ◌+◌, ◌<◌, ◌≤◌, List, [], ◌∷◌, ◌++◌, length, drop, map, get_or, Bool, true, false, MatchBool, Result, Ok, Err, refl, sym, ap, ◌∙◌, subst, append_assoc, append-nil}
 use Rattle.std.specs.Bool.{⊤}
 use Rattle.std.proofs.lemmas.List.{drop_more, drop_all}
-use Rattle.liquid_model.specs.Answer.{Faulted}
+use Rattle.std.specs.List.{list_all}
+use Rattle.std.proofs.lemmas.List.Sums.{AllPass-from_list_all}
+use Rattle.liquid_model.specs.Answer.{Answers, Faulted}
 use Rattle.liquid_model.specs.Told.{is_memory, is_refusal}
 use Rattle.liquid_model.specs.Data.{Datum}
+use Rattle.liquid_model.specs.declared.error.Error.{Error}
 use Rattle.liquid_model.specs.declared.error.ErrorKind.{ErrorKind}
 use Rattle.liquid_model.specs.Fallible.{◌>>=◌}
 use Rattle.liquid_core.specs.Expression as tree
 use Rattle.liquid_core.specs.Environment.{Environment}
 use Rattle.liquid_core.specs.Expressions.{value_of, required, all_required}
+use Rattle.liquid_core.specs.FilterAnswers.{AnswersIf}
 use Rattle.liquid_tree.specs.Calls.{Call, applied}
 use Rattle.liquid_tree.specs.Tree.{FilterCall, Chain}
 use Rattle.liquid_tree.specs.Evaluation.{FilterAnswers, entry_value, call_by, calls_by, chain_value}
@@ -24,6 +28,44 @@ faulted_then {A} {B} kind a f h = on (is_memory kind) h
 
 pub faulted_as : {A : Type 0} (kind : ErrorKind) (a b : Result A ErrorKind) → a ≡ b → Faulted kind b → Faulted kind a
 faulted_as kind a b e h = subst (λ r. Faulted kind r) (sym e) h
+
+-- ---- answers of filters whose kinds need not be the meaning's
+
+pub answers_if : {X Y : Type 0} (within : Bool) (view : X → Y) (r : Result X Error) (wanted : Result Y ErrorKind) → Answers view r wanted → AnswersIf within view r wanted
+answers_if true view r wanted h = h
+answers_if false view (Ok x) wanted h = h
+answers_if false view (Err e) wanted h = on (is_memory e.kind) h
+  where
+    on : (b : Bool) → MatchBool b ⊤ ((wanted ≡ Err e.kind) × (is_refusal e.kind ≡ false)) → MatchBool b ⊤ (wanted ≡ Err e.kind)
+    on true m = m
+    on false m = m.0
+
+pub if_answered : {X Y : Type 0} (within : Bool) (view : X → Y) (x : X) (wanted : Result Y ErrorKind) → AnswersIf within view (Ok x) wanted → wanted ≡ Ok (view x)
+if_answered true view x wanted h = h
+if_answered false view x wanted h = h
+
+-- a fault of one is the fault of all
+pub faulted_if : {V W X Y : Type 0} (v : V → X) (w : W → Y) (one all : Bool) (e x : Error) (a : Result X ErrorKind) (b : Result Y ErrorKind) → (all ≡ true → one ≡ true) → (a ≡ Err e.kind → b ≡ Err e.kind) → x.kind ≡ e.kind
+    → AnswersIf one v (Err e) a → AnswersIf all w (Err x) b
+faulted_if v w true true e x a b i f same h = rw same (on (is_memory e.kind) h)
+  where
+    on : (m : Bool) → MatchBool m ⊤ ((a ≡ Err e.kind) × (is_refusal e.kind ≡ false)) → MatchBool m ⊤ ((b ≡ Err e.kind) × (is_refusal e.kind ≡ false))
+    on true n = n
+    on false n = (f n.0, n.1)
+faulted_if v w true false e x a b i f same h = rw same (on (is_memory e.kind) h)
+  where
+    on : (m : Bool) → MatchBool m ⊤ ((a ≡ Err e.kind) × (is_refusal e.kind ≡ false)) → MatchBool m ⊤ (b ≡ Err e.kind)
+    on true n = n
+    on false n = f n.0
+faulted_if v w false true e x a b i f same h = let u : false ≡ true = i refl in absurd cc
+faulted_if v w false false e x a b i f same h = rw same (on (is_memory e.kind) h)
+  where
+    on : (m : Bool) → MatchBool m ⊤ (a ≡ Err e.kind) → MatchBool m ⊤ (b ≡ Err e.kind)
+    on true n = n
+    on false n = f n
+
+pub all_within : {X : Type 0} (f : X → Bool) (xs : List X) (i : ℕ) (x : X) → i < length xs → x ≡ get_or xs i x → list_all f xs ≡ true → f x ≡ true
+all_within f xs i x h is all = ap f is ∙ AllPass-from_list_all f xs all i x h
 
 -- ---- arguments
 
@@ -89,12 +131,11 @@ calls_stop_at_argument f all e xs i x d kind h is a so_far =
 
 -- a filter's fault
 pub calls_stop : {X : Type 0} (f : X → Call) (all : Result Datum ErrorKind) (e : Environment) (xs : List X) (i : ℕ) (x : X) (d : Datum) (ds : List Datum) (kind : ErrorKind)
-    → i < length xs → x ≡ get_or xs i x → all_required (f x).arguments e ≡ Ok ds → Faulted kind ((f x).answers d ds)
-    → all ≡ applied (map f (drop i xs)) d e → Faulted kind all
-calls_stop f all e xs i x d ds kind h is a b so_far =
-    faulted_as kind all _
-    (so_far ∙ next_call f e xs i x d h is ∙ ap (λ r. r >>= (λ es. (f x).answers d es >>= (λ y. applied (map f (drop (i + 1) xs)) y e))) a)
-    (faulted_then kind ((f x).answers d ds) (λ y. applied (map f (drop (i + 1) xs)) y e) b)
+    → i < length xs → x ≡ get_or xs i x → all_required (f x).arguments e ≡ Ok ds
+    → all ≡ applied (map f (drop i xs)) d e → (f x).answers d ds ≡ Err kind → all ≡ Err kind
+calls_stop f all e xs i x d ds kind h is a so_far b =
+    so_far ∙ next_call f e xs i x d h is ∙ ap (λ r. r >>= (λ es. (f x).answers d es >>= (λ y. applied (map f (drop (i + 1) xs)) y e))) a
+    ∙ ap (λ r. r >>= (λ y. applied (map f (drop (i + 1) xs)) y e)) b
 
 pub calls_end : {X : Type 0} (f : X → Call) (all : Result Datum ErrorKind) (e : Environment) (xs : List X) (i : ℕ) (d : Datum) → length xs ≤ i
     → all ≡ applied (map f (drop i xs)) d e → all ≡ Ok d

@@ -1,3 +1,10 @@
 pub mod Calls
 pub mod Contains
+pub mod ItemPlaces
+pub mod RangeParts
+pub mod Ranges
+pub mod Sources
+pub mod Telling
+pub mod ToldParts
+pub mod Windows
 pub mod WrittenJoins

@@ -1,13 +1,16 @@
 -- The filters by which a stored chain is run: how many arguments each takes, and what it answers.
-use Rattle.std.specs.Prelude.{ℕ, Bool, List, Result}
-use Rattle.liquid_model.specs.Data.{Datum}
-use Rattle.liquid_model.specs.declared.error.ErrorKind.{ErrorKind}
+use Rattle.std.specs.Prelude.{ℕ, Bool, true}
+use Rattle.liquid_model.specs.Texts.{Text}
+use Rattle.liquid_core.specs.FilterAnswers.{FilterAnswer}
 use Rattle.liquid_filters.specs.Kinds.{kind_counts, kind_answer}
 use Rattle.liquid_tree.specs.declared.any_filter.AnyFilter.{AnyFilter}
-use Rattle.liquid_tree.specs.declared.any_filter.AnyFilter.TheVariants.{Kind}
+use Rattle.liquid_tree.specs.declared.any_filter.AnyFilter.TheVariants.{Kind, Host}
 
-abbrev pub any_counts : AnyFilter → ℕ → Bool
-any_counts (Kind kind) = kind_counts kind
+abbrev pub any_counts : {H : Type 0} → AnyFilter H → ℕ → Bool
+any_counts (Kind kind) n = kind_counts kind n
+any_counts (Host name filters) n = true
 
-abbrev pub any_answer : AnyFilter → Datum → List Datum → Result Datum ErrorKind
-any_answer (Kind kind) = kind_answer kind
+-- named is what the filters of the host answer
+abbrev pub any_answer : {H : Type 0} → (H → Text → FilterAnswer) → AnyFilter H → FilterAnswer
+any_answer named (Kind kind) = kind_answer kind
+any_answer named (Host name filters) = named filters.now name.now

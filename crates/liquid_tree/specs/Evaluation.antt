@@ -17,17 +17,23 @@ use Rattle.liquid_model.specs.Fallible.{◌>>=◌}
 use Rattle.liquid_core.specs.Expression.{Expression}
 use Rattle.liquid_core.specs.Environment.{Environment}
 use Rattle.liquid_core.specs.Expressions.{value_of, required, needed_whole}
-use Rattle.liquid_filters.specs.declared.kind.FilterKind.{FilterKind}
+use Rattle.liquid_core.specs.FilterAnswers.{FilterAnswer}
+use Rattle.liquid_filters.specs.Kinds.{kind_answer}
 use Rattle.liquid_tree.specs.declared.comparison.ComparisonOperator.{ComparisonOperator}
 use Rattle.liquid_tree.specs.declared.comparison.ComparisonOperator.TheVariants.{Equals, NotEquals, LessThan, GreaterThan, LessThanEquals, GreaterThanEquals, Contains}
 use Rattle.liquid_tree.specs.Calls.{Call, applied}
-use Rattle.liquid_tree.specs.Tree.{FilterCall, Chain, Atom, bare, compared, Condition, Source, each_of, counted, Window, Bindings}
+use Rattle.liquid_tree.specs.Tree.{Filter, existing, hosted, FilterCall, Chain, Atom, bare, compared, Condition, Source, each_of, counted, Window, Bindings}
 
 -- ---- chains
 
 -- what each filter answers to an input and arguments
 abbrev pub FilterAnswers : Type 0
-FilterAnswers = FilterKind → Datum → List Datum → Result Datum ErrorKind
+FilterAnswers = Filter → FilterAnswer
+
+-- the filters that exist, beside those of a host by name
+abbrev pub answers_with : (Text → FilterAnswer) → FilterAnswers
+answers_with named (existing kind) = kind_answer kind
+answers_with named (hosted name) = named name
 
 -- a missing entry is nil before a filter, and UnknownVariable without one
 abbrev pub entry_value : Option Datum → List FilterCall → Result Datum ErrorKind

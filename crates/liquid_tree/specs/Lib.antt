@@ -2,8 +2,16 @@ pub mod AnyFilters
 pub mod Calls
 pub mod ChainView
 pub mod ConditionView
+pub mod Counts
 pub mod Evaluation
 pub mod Groups
+pub mod ItemLists
+pub mod Laws
 pub mod Names
+pub mod Ranges
+pub mod SourceView
+pub mod StoredFilters
+pub mod Telling
 pub mod Tree
 pub mod WrittenConditions
+pub mod WrittenSources

@@ -6,7 +6,7 @@ use Rattle.std.specs.Prelude.{List, [], ◌∷◌, ◌++◌, Option, Some, None,
 use Rattle.std.specs.List.{list_any}
 use Rattle.liquid_model.specs.Texts.{Text, same_text}
 use Rattle.liquid_core.specs.Expression.{Expression, literal, variable, Steps, no_steps, step}
-use Rattle.liquid_tree.specs.Tree.{FilterCall, Chain, Atom, bare, compared, Condition, Source, each_of, counted, Window, Bindings, Node, output, assign, increment, decrement, cycle, if_true, unless, case_of, for_each, tablerow, capture, ifchanged, include, jekyll_include, render, Nodes, no_nodes, node, Whens, no_whens, when}
+use Rattle.liquid_tree.specs.Tree.{FilterCall, Chain, Atom, bare, compared, Condition, Source, each_of, counted, Window, Bindings, Node, plain, raw, comment, output, assign, increment, decrement, break_loop, continue_loop, cycle, if_true, unless, case_of, for_each, tablerow, capture, ifchanged, include, jekyll_include, render, Nodes, no_nodes, node, Whens, no_whens, when}
 use Rattle.liquid_core.specs.Environment.{Names}
 
 -- the first name of each variable, also in steps
@@ -70,10 +70,15 @@ include_name (b ∷ bs) = codes "include" ∷ []
 
 unfoldable mutual
   pub node_names : Node → List Text
+  node_names (plain content) = []
+  node_names (raw content) = []
+  node_names comment = []
   node_names (output chain) = chain_names chain
   node_names (assign name chain) = name ∷ chain_names chain
   node_names (increment name) = name ∷ []
   node_names (decrement name) = name ∷ []
+  node_names break_loop = []
+  node_names continue_loop = []
   node_names (cycle group values) = all_names values
   node_names (if_true condition body otherwise) = condition_names condition ++ (nodes_names body ++ nodes_names otherwise)
   node_names (unless condition body otherwise) = condition_names condition ++ (nodes_names body ++ nodes_names otherwise)
@@ -86,7 +91,6 @@ unfoldable mutual
   node_names (jekyll_include name bindings) = include_name bindings ++ bound_names bindings
   node_names (render x None bindings) = expression_names x ++ (target_names bindings ++ bound_names bindings)
   node_names (render x (Some each) bindings) = expression_names x ++ (codes "forloop" ∷ each.1 ∷ (source_names each.0 ++ (target_names bindings ++ bound_names bindings)))
-  node_names _ = []
 
   pub nodes_names : Nodes → List Text
   nodes_names no_nodes = []

@@ -5,9 +5,14 @@ use Rattle.liquid_core.specs.Expression.{Expression}
 use Rattle.liquid_filters.specs.declared.kind.FilterKind.{FilterKind}
 use Rattle.liquid_tree.specs.declared.comparison.ComparisonOperator.{ComparisonOperator}
 
+-- what the name of a filter is registered as: one of the filters that exist, or a name under which a host hands one in
+pub data Filter : Type 0 where
+  existing : FilterKind → Filter
+  hosted : Text → Filter
+
 -- one filter of a chain, as it is registered, with its arguments
 pub record FilterCall : Type 0 where
-  pub filter : FilterKind
+  pub filter : Filter
   pub arguments : List Expression
 
 -- what an output writes and an `assign` stores

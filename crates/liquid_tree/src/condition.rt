@@ -31,7 +31,7 @@ impl Condition {
     /// decides. `UnknownVariable` where a compared value is missing (a bare one is false), `UnexpectedValue` where
     /// `contains` has nil on its left.
     #[tactic(auto, unfolding(crate::specs::Evaluation::truth_of))]
-    pub fn holds(&self, alloc: Global, state: &State) -> Result<bool>
+    pub fn holds(&self, alloc: Global, state: &State<'_>) -> Result<bool>
         ensures { Answers (λ b. b) result (truth_of (condition_view self.now) (environment_of state.now)) }
     {
         for conjunction in &self.conjunctions {
@@ -45,7 +45,7 @@ impl Condition {
 
 /// Whether all atoms hold, up to the first that doesn't.
 #[tactic(auto, unfolding(crate::specs::Evaluation::all_true))]
-fn all_hold(alloc: Global, atoms: &Vec<Atom>, state: &State) -> Result<bool>
+fn all_hold(alloc: Global, atoms: &Vec<Atom>, state: &State<'_>) -> Result<bool>
     ensures { Answers (λ b. b) result (all_true (atoms_view atoms.now) (environment_of state.now)) }
 {
     for atom in atoms {
@@ -58,7 +58,7 @@ fn all_hold(alloc: Global, atoms: &Vec<Atom>, state: &State) -> Result<bool>
 
 impl Atom {
     #[tactic(auto, unfolding(crate::specs::Evaluation::atom_truth))]
-    fn holds(&self, alloc: Global, state: &State) -> Result<bool>
+    fn holds(&self, alloc: Global, state: &State<'_>) -> Result<bool>
         ensures { Answers (λ b. b) result (atom_truth (atom_view self.now) (environment_of state.now)) }
     {
         match self {

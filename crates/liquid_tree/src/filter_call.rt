@@ -1,8 +1,10 @@
 //! Filters in order, for filters of any type.
 ghost use Rattle.std.specs.Prelude.{◌≡◌, length, map, All, IsTrue, IfOk};
+ghost use Rattle.std.specs.List.{list_all};
 ghost use Rattle.liquid_model.specs.Answer.{Answers};
 ghost use Rattle.liquid_model.specs.Cow.{cow_view};
 ghost use Rattle.liquid_core.specs.Expressions.{all_required};
+ghost use Rattle.liquid_core.specs.FilterAnswers.{AnswersIf};
 ghost use Rattle.liquid_core.specs.ExpressionView.{expression_view};
 ghost use Rattle.liquid_core.specs.States.{environment_of};
 ghost use Rattle.liquid_model.specs.View.{view};
@@ -26,10 +28,10 @@ pub fn apply_filters<F: Filter>(
     alloc: Global,
     entry: Value,
     calls: &[FilterCall<'_, F>],
-    state: &State,
+    state: &State<'_>,
 ) -> Result<Value>
     requires { All (λ c. IsTrue (F.counts c.filter (length c.args.now))) calls.now }
-    ensures { Answers view result
+    ensures { AnswersIf (list_all (λ c. F.within c.filter) calls.now) view result
         (applied (map (λ c. call_of (F.answer c.filter) c.args.now) calls.now) (view entry) (environment_of state.now)) }
 {
     apply_to(alloc, ValueCow::Owned(entry), calls, state)?.into_owned(alloc)
@@ -40,10 +42,10 @@ pub fn apply_to<'v, F: Filter>(
     alloc: Global,
     entry: ValueCow<'v>,
     calls: &[FilterCall<'_, F>],
-    state: &State,
+    state: &State<'_>,
 ) -> Result<ValueCow<'v>>
     requires { All (λ c. IsTrue (F.counts c.filter (length c.args.now))) calls.now }
-    ensures { Answers cow_view result
+    ensures { AnswersIf (list_all (λ c. F.within c.filter) calls.now) cow_view result
         (applied (map (λ c. call_of (F.answer c.filter) c.args.now) calls.now) (cow_view entry.entry) (environment_of state.now)) }
 {
     let mut value = entry;
@@ -58,7 +60,11 @@ pub fn apply_to<'v, F: Filter>(
 }
 
 /// The values of the expressions, from left to right.
-fn evaluate_all(alloc: Global, expressions: &[Expression], state: &State) -> Result<Vec<Value>>
+fn evaluate_all<'x>(
+    alloc: Global,
+    expressions: &'x [Expression],
+    state: &'x State<'_>,
+) -> Result<Vec<Value>>
     ensures values { Answers (λ v. map view v.items) result (all_required (map expression_view expressions.now) (environment_of state.now)) }
     ensures count { IfOk result (λ v. length v.items ≡ length expressions.now) }
 {

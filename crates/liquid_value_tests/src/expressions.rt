@@ -37,7 +37,7 @@ fn by_literals(alloc: Global, first: &str, second: &str) -> Result<Variable, Err
 /// The data of the sample.
 const SAMPLE: &str = "{ a { b [ 4 five ] } key b n nil }";
 
-fn sample(alloc: Global) -> Result<State, Error> {
+fn sample(alloc: Global) -> Result<State<'static>, Error> {
     Ok(State::new(alloc, object(alloc, SAMPLE)?))
 }
 

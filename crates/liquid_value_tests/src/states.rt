@@ -5,28 +5,28 @@ use std::alloc::Global;
 use std::test::Fail;
 
 /// The state over the data that the words stand for.
-fn over(alloc: Global, words: &str) -> Result<State, Error> {
+fn over(alloc: Global, words: &str) -> Result<State<'static>, Error> {
     Ok(State::new(alloc, object(alloc, words)?))
 }
 
-fn number(state: &State, name: &str) -> Option<i64> {
+fn number(state: &State<'_>, name: &str) -> Option<i64> {
     state.look_up(name)?.to_integer()
 }
 
 /// The number at a path.
-fn number_at(alloc: Global, state: &State, path: &str) -> Result<Option<i64>, Error> {
+fn number_at(alloc: Global, state: &State<'_>, path: &str) -> Result<Option<i64>, Error> {
     let path = values(alloc, path)?;
     Ok(state.get(alloc, &path)?.as_value().to_integer())
 }
 
 /// Whether the path leads to a value.
-fn leads(alloc: Global, state: &State, path: &str) -> Result<bool, Error> {
+fn leads(alloc: Global, state: &State<'_>, path: &str) -> Result<bool, Error> {
     let path = values(alloc, path)?;
     Ok(state.try_get(alloc, &path)?.is_some())
 }
 
 /// The fault of a path, where it has one.
-fn fault(alloc: Global, state: &State, path: &str) -> Result<Option<String>, Error> {
+fn fault(alloc: Global, state: &State<'_>, path: &str) -> Result<Option<String>, Error> {
     let path = values(alloc, path)?;
     match state.get(alloc, &path) {
         Ok(_) => Ok(None),
@@ -35,7 +35,7 @@ fn fault(alloc: Global, state: &State, path: &str) -> Result<Option<String>, Err
 }
 
 /// Data with `a` and `z`, and an index `a`.
-fn with_an_index(alloc: Global) -> Result<State, Error> {
+fn with_an_index(alloc: Global) -> Result<State<'static>, Error> {
     let mut state = over(alloc, "{ a { b 1 } z 5 }")?;
     state.set_index(String::from_str(alloc, "a")?, Value::Integer(2))?;
     Ok(state)

@@ -5,6 +5,7 @@ pub mod HtmlLaws
 pub mod Letters
 pub mod LineBreaks
 pub mod Pairs
+pub mod Standing
 pub mod Tags
 pub mod UrlLaws
 pub mod Urls

@@ -5,6 +5,8 @@ use Rattle.liquid_model.specs.Answer.{IsTheOne}
 use Rattle.liquid_model.specs.Data.{Datum, nil, text_of}
 use Rattle.liquid_model.specs.Fallible.{◌>>=◌}
 use Rattle.liquid_model.specs.Texts.{Text}
+use Rattle.liquid_model.specs.View.{view}
+use Rattle.liquid_model.specs.declared.value.Value.{Value}
 use Rattle.liquid_list_filters.specs.Arguments.{Answer}
 use Rattle.liquid_list_filters.specs.Text.{Texts}
 use Rattle.liquid_web_filters.specs.Escapes.{escape_answer, escape_once_answer, escaped_letter, once_letter}
@@ -21,14 +23,26 @@ abbrev pub NilOrTexts : (Text → Text → Type 0) → Datum → Answer → Type
 NilOrTexts R nil a = a ≡ Ok nil
 NilOrTexts R d a = Texts (R (text_of d)) a
 
+-- `escape`: each character in turn, or its escape
+abbrev pub EscapesText : Datum → Answer → Type 0
+EscapesText d = NilOrTexts (λ s. Concatenates (λ c cs. escaped_letter c) (chars s)) d
+
 abbrev pub EscapeIsOne : Type 0
-EscapeIsOne = (d : Datum) (args : List Datum) → IsUtf8 (text_of d) → IsTheOne (NilOrTexts (λ s. Concatenates (λ c cs. escaped_letter c) (chars s)) d) (escape_answer d args)
+EscapeIsOne = (input : Value) (args : List Datum) → IsTheOne (EscapesText (view input)) (escape_answer (view input) args)
+
+-- `escape_once`: each character in turn, or its escape, seen with the text after it
+abbrev pub EscapesOnce : Datum → Answer → Type 0
+EscapesOnce d = NilOrTexts (λ s. Concatenates (λ c cs. once_letter c (encode_utf8_all cs)) (chars s)) d
 
 abbrev pub EscapeOnceIsOne : Type 0
-EscapeOnceIsOne = (d : Datum) (args : List Datum) → IsUtf8 (text_of d) → IsTheOne (NilOrTexts (λ s. Concatenates (λ c cs. once_letter c (encode_utf8_all cs)) (chars s)) d) (escape_once_answer d args)
+EscapeOnceIsOne = (input : Value) (args : List Datum) → IsTheOne (EscapesOnce (view input)) (escape_once_answer (view input) args)
+
+-- `newline_to_br`: each character in turn, and a break before each LF
+abbrev pub BreaksLines : Datum → Answer → Type 0
+BreaksLines d = Texts (Concatenates (λ c cs. broken_letter c) (chars (text_of d)))
 
 abbrev pub NewlineToBrIsOne : Type 0
-NewlineToBrIsOne = (d : Datum) (args : List Datum) → IsUtf8 (text_of d) → IsTheOne (Texts (Concatenates (λ c cs. broken_letter c) (chars (text_of d)))) (newline_to_br_answer d args)
+NewlineToBrIsOne = (input : Value) (args : List Datum) → IsTheOne (BreaksLines (view input)) (newline_to_br_answer (view input) args)
 
 abbrev pub EscapeOnceTwiceIsOnce : Type 0
 EscapeOnceTwiceIsOnce = (d : Datum) → escape_once_answer d [] >>= (λ e. escape_once_answer e []) ≡ escape_once_answer d []
@@ -70,8 +84,12 @@ StripsHtml s t = (scripts : List ℕ) × (styles : List ℕ) × (comments : List
     × Passes (codes "<") (codes ">") comments tags
     × (t ≡ encode_utf8_all tags)
 
+-- `strip_html`: the four passes
+abbrev pub StripsTags : Datum → Answer → Type 0
+StripsTags d = Texts (StripsHtml (text_of d))
+
 abbrev pub StripHtmlIsOne : Type 0
-StripHtmlIsOne = (d : Datum) (args : List Datum) → IsTheOne (Texts (StripsHtml (text_of d))) (strip_html_answer d args)
+StripHtmlIsOne = (d : Datum) (args : List Datum) → IsTheOne (StripsTags d) (strip_html_answer d args)
 
 -- a `>` stands in the text
 abbrev pub has_close : List ℕ → Bool

@@ -11,8 +11,12 @@ use Rattle.liquid_list_filters.specs.Text.{Makes}
 use Rattle.liquid_web_filters.specs.HtmlLaws.{Concatenates, NilOrTexts}
 use Rattle.liquid_web_filters.specs.Urls.{text_of_bytes, url_decode_answer, url_encode_answer, url_escaped_byte}
 
+-- `url_encode`: each byte in turn, or its escape
+abbrev pub EncodesUrl : Datum → Answer → Type 0
+EncodesUrl d = NilOrTexts (Concatenates (λ b bs. url_escaped_byte b)) d
+
 abbrev pub UrlEncodeIsOne : Type 0
-UrlEncodeIsOne = (d : Datum) (args : List Datum) → IsTheOne (NilOrTexts (Concatenates (λ b bs. url_escaped_byte b)) d) (url_encode_answer d args)
+UrlEncodeIsOne = (d : Datum) (args : List Datum) → IsTheOne (EncodesUrl d) (url_encode_answer d args)
 
 -- no `%` with two hexadecimal digits stands at the start
 abbrev pub BeginsNoEscape : Text → Type 0

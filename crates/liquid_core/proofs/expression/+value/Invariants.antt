@@ -1,11 +1,12 @@
 use Rattle.std.proofs.Common.{◌≡◌, drop}
-use Rattle.liquid_model.specs.Found.{found_view}
 use Rattle.liquid_core.specs.ExpressionView.{steps_view}
-use Rattle.liquid_core.specs.States.{environment_of}
+use Rattle.liquid_core.specs.Seen.{seen_view, IsHeld}
+use Rattle.liquid_core.specs.States.{environment_of, IsPlain}
 use Rattle.liquid_core.proofs.Steps.{led}
 use Rattle.liquid_core.proofs.expression.+value.Given as goal
 
 -- the steps that are left lead on to what all of them lead to
 abbrev pub invariant-variable_value-loop-index : goal.invariant-variable_value-loop-index
 invariant-variable_value-loop-index l =
-    led (found_view l.found) (steps_view (drop l.index-index l.index-items)) (environment_of l.state) ≡ led (found_view l.initial.found) (steps_view l.index-items) (environment_of l.state)
+    (led (seen_view l.found) (steps_view (drop l.index-index l.index-items)) (environment_of l.state) ≡ led (seen_view l.initial.found) (steps_view l.index-items) (environment_of l.state))
+    × (IsPlain l.state → IsHeld l.found)

@@ -1,173 +1,236 @@
-use Rattle.std.proofs.Common.{arith, ◌+◌, ◌-◌, ◌*◌, ◌<◌, ◌≤◌, ◌∙◌, refl, subst, string_bytes, rules}
+use Rattle.std.proofs.Common.{rules, arith, ◌≡◌, ◌+◌, ◌-◌, ◌*◌, ◌<◌, ◌≤◌, ◌∙◌, length, map, true, refl, sym, ap, subst, string_bytes, Option, Some, None, Ok, Err}
+use Rattle.std.specs.Option.{option_map}
 use Rattle.std.proofs.lemmas.Result.{err_from_is_err_and}
+use Rattle.liquid_model.specs.Answer.{Faulted, Gives}
+use Rattle.liquid_model.specs.Data.{text}
+use Rattle.liquid_model.specs.declared.error.ErrorKind.TheVariants.{UnknownPartial}
+use Rattle.liquid_model.proofs.Views.{view-Text}
+use Rattle.liquid_core.specs.Environment.{new_environment}
+use Rattle.liquid_core.specs.ExpressionView.{expression_view}
+use Rattle.liquid_core.specs.Held.{held}
+use Rattle.liquid_core.specs.States.{environment_of, layers_of, loops_of, merged_layers, with_assigned, with_scope_pushed}
+use Rattle.liquid_core.specs.declared.interrupt.Interrupt.{Interrupt}
+use Rattle.liquid_core.specs.declared.interrupt.Interrupt.TheVariants as interrupts
+use Rattle.liquid_core.specs.Turns.{without_innermost}
+use Rattle.liquid_core.proofs.States.{interrupt_set, named_off}
 use Rattle.liquid_tree.specs.ChainView.{chain_view}
 use Rattle.liquid_tree.specs.ConditionView.{condition_view}
-use Rattle.liquid_syntax.specs.Flats.{flats, nodes_of}
 use Rattle.liquid_tree.specs.Names.{node_names}
 use Rattle.liquid_tree.specs.Tree as tree
+use Rattle.liquid_syntax.specs.Flats.{Maker, StandsAt, IsRange, bindings_view, flats, nodes_of}
+use Rattle.liquid_syntax.specs.Forest.{Forest}
+use Rattle.liquid_syntax.specs.Templates.{forest_of, most_of, partials_of, tree_of}
 use Rattle.liquid_syntax.proofs.Places.{Stands-le}
-use Rattle.liquid_lib.specs.Engine.{setting_of, node_meant}
+use Rattle.liquid_meaning.specs.Effects.{assigned_to, interrupted_by}
+use Rattle.liquid_meaning.specs.Meaning.{node_meaning, deeper_meaning, include_scope, pairs_scope}
+use Rattle.liquid_meaning.specs.Runs.{apart, buffered, change, with_scope}
+use Rattle.liquid_meaning.proofs.Law.{within_found}
+use Rattle.liquid_meaning.proofs.Rules.{comment_rule, break_rule, continue_rule, capture_rule, ifchanged_rule}
+use Rattle.liquid_lib.specs.Changed.{shown_if_changed}
+use Rattle.liquid_lib.specs.Choices.{CaseStands}
+use Rattle.liquid_lib.specs.Engine.{setting_of, node_meant, nodes_meant}
 use Rattle.liquid_lib.specs.Kept.{Keeps}
-use Rattle.liquid_meaning.specs.Meaning.{node_meaning}
-use Rattle.liquid_lib.specs.Performs.{Performs, place_of}
-use Rattle.liquid_lib.proofs.Choices.{refused_performs}
-use Rattle.liquid_lib.proofs.Going.{leaf_performs, leaf_keeps, two, two_performs, two_keeps, going_fault, going_halt, going_node, going_on, going_end, going_past, kept_step}
-use Rattle.std.specs.Prelude.{Ok}
-use Rattle.liquid_lib.proofs.Joined.{by_rule, done_met}
-use Rattle.liquid_lib.proofs.Kept.{kept_same}
-use Rattle.liquid_meaning.proofs.Rules.{comment_rule}
+use Rattle.liquid_lib.specs.Partials.{partial_of, rendered_of}
+use Rattle.liquid_lib.specs.Performs.{Place, Meets, Performs, place_of, unit}
+use Rattle.liquid_lib.specs.Sinks.{sink_of}
+use Rattle.liquid_lib.proofs.Apart.{apart_met, apart_faulted, own_environment}
+use Rattle.liquid_lib.proofs.Cases.{the_case, case_performs, case_keeps, case_other}
+use Rattle.liquid_lib.proofs.Choices.{chosen_performs, refused_performs}
+use Rattle.liquid_lib.proofs.Going.{leaf_performs, leaf_keeps, leaf_other, one, one_performs, one_keeps, one_other, two, two_performs, two_keeps, two_other, going_fault, going_halt, going_node, going_on, going_end, going_past, kept_step, alone_step, node_before}
 use Rattle.liquid_lib.proofs.Interrupts.{interrupt_of, some_of, none_of}
+use Rattle.liquid_lib.proofs.Joined.{by_rule, bind_met, bind_faulted, buffered_met, buffered_faulted, buffered_memory, change_met, done_met, gives_merged, memory_at}
+use Rattle.liquid_lib.proofs.Kept.{kept_same, kept_after, kept_assigned, kept_interrupt}
+use Rattle.liquid_lib.proofs.PartialRuns.{reserve, reserve_step, deeper_is, scope_deep, apart_deep, found_some, pairs_refused, not_found, entered, include_refused, include_named, jekyll_met, render_refused, render_faulted, render_met, within_all, kept_around, partial_met}
+use Rattle.liquid_lib.proofs.Renderings.{held_none}
+use Rattle.liquid_lib.proofs.Sinks.{Around}
+use Rattle.liquid_lib.proofs.Whole.{stood_in}
 use Rattle.liquid_lib.proofs.engine.+run.Goals as goal
 
 pub run_range-run_node-requires : goal.run_range-run_node-requires
 run_range-run_node-requires g t c κs within =
     let place = place_of g.W.CountedWrite.contents g.W.CountedWrite.failure_count in
-    (let lt : 3 * (c.args.to - c.loop-at.at) < t = omega arith in lt, (within, going_node (setting_of c.args.partials.now) c.args.depth c.args.nodes.now c.args.from c.loop-at.at c.args.to (place c.args.out.now c.args.state.now) (place c.loop-at.out c.loop-at.state) c.requires c.loop-at.invariant.going c.loop-at-test.true))
+    (let lt : 3 * (c.args.to - c.loop-at.at) + reserve c.args.given.now.depth c.args.given.now.partials.now < t = omega arith in lt, (within.0, (within.1, going_node (setting_of g.H.NamedFilters.named c.args.given.now) c.args.given.now.depth c.args.nodes.now c.args.from c.loop-at.at c.args.to (place c.args.out.now c.args.state.now) (place c.loop-at.out c.loop-at.state) c.requires c.loop-at.invariant.going c.loop-at-test.true)))
 
 pub run_range-returns-in_err-run_node-clause-performs : goal.run_range-returns-in_err-run_node-clause-performs
 run_range-returns-in_err-run_node-clause-performs g t c =
     let place = place_of g.W.CountedWrite.contents g.W.CountedWrite.failure_count in
     let p = err_from_is_err_and c.from_residual.result c.from_residual.ensures.1 in
-    rw p.1 (going_fault (setting_of c.args.partials.now) c.args.depth c.args.nodes.now c.args.from c.loop-at.at c.args.to _ (place c.args.out.now c.args.state.now) (place c.loop-at.out c.loop-at.state) (place c.run_node.new.out c.run_node.new.state) c.loop-at.invariant.going c.loop-at-test.true (rw p.2 c.in_err-run_node.ensures.performs))
+    rw p.1 (going_fault (setting_of g.H.NamedFilters.named c.args.given.now) c.args.given.now.depth c.args.nodes.now c.args.from c.loop-at.at c.args.to _ (place c.args.out.now c.args.state.now) (place c.loop-at.out c.loop-at.state) (place c.run_node.new.out c.run_node.new.state) c.loop-at.invariant.going c.loop-at-test.true (rw p.2 c.in_err-run_node.ensures.performs))
+
+pub run_range-returns-in_err-run_node-clause-alone : goal.run_range-returns-in_err-run_node-clause-alone
+run_range-returns-in_err-run_node-clause-alone g t c f stood =
+    let place = place_of g.W.CountedWrite.contents g.W.CountedWrite.failure_count in
+    alone_step (setting_of g.H.NamedFilters.named c.args.given.now) c.args.given.now.depth c.args.nodes.now c.args.from c.loop-at.at c.args.to (place c.args.out.now c.args.state.now) (place c.loop-at.out c.loop-at.state) c.args.state.now c.loop-at.state c.run_node.new.state f stood c.loop-at.invariant.going c.loop-at-test.true c.run_node.ensures.alone (c.loop-at.invariant.alone f stood)
 
 pub run_range-returns-in_err-run_node-clause-kept : goal.run_range-returns-in_err-run_node-clause-kept
 run_range-returns-in_err-run_node-clause-kept g t c f stood =
     let place = place_of g.W.CountedWrite.contents g.W.CountedWrite.failure_count in
-    kept_step (setting_of c.args.partials.now) c.args.depth c.args.nodes.now c.args.from c.loop-at.at c.args.to (place c.args.out.now c.args.state.now) (place c.loop-at.out c.loop-at.state) c.args.state.now c.loop-at.state c.run_node.new.state f stood c.loop-at.invariant.going c.loop-at-test.true c.run_node.ensures.kept (c.loop-at.invariant.kept f stood)
+    kept_step (setting_of g.H.NamedFilters.named c.args.given.now) c.args.given.now.depth c.args.nodes.now c.args.from c.loop-at.at c.args.to (place c.args.out.now c.args.state.now) (place c.loop-at.out c.loop-at.state) c.args.state.now c.loop-at.state c.run_node.new.state f stood c.loop-at.invariant.going c.loop-at-test.true c.run_node.ensures.kept (c.loop-at.invariant.kept f stood)
 
 pub run_range-returns-then-is_some-clause-performs : goal.run_range-returns-then-is_some-clause-performs
 run_range-returns-then-is_some-clause-performs g t c =
     let place = place_of g.W.CountedWrite.contents g.W.CountedWrite.failure_count in
     let some = some_of c.run_node.new.state.interrupt (search rules) in
-    going_halt (setting_of c.args.partials.now) c.args.depth c.args.nodes.now c.args.from c.loop-at.at c.args.to c.in_ok-run_node.field-0 _ some.0 (place c.args.out.now c.args.state.now) (place c.loop-at.out c.loop-at.state) (place c.run_node.new.out c.run_node.new.state) c.loop-at.invariant.going c.loop-at-test.true c.in_ok-run_node.ensures.performs (interrupt_of c.run_node.new.state _ some.1)
+    going_halt (setting_of g.H.NamedFilters.named c.args.given.now) c.args.given.now.depth c.args.nodes.now c.args.from c.loop-at.at c.args.to c.in_ok-run_node.field-0 _ some.0 (place c.args.out.now c.args.state.now) (place c.loop-at.out c.loop-at.state) (place c.run_node.new.out c.run_node.new.state) c.loop-at.invariant.going c.loop-at-test.true c.in_ok-run_node.ensures.performs (interrupt_of c.run_node.new.state _ some.1)
+
+pub run_range-returns-then-is_some-clause-alone : goal.run_range-returns-then-is_some-clause-alone
+run_range-returns-then-is_some-clause-alone g t c f stood =
+    let place = place_of g.W.CountedWrite.contents g.W.CountedWrite.failure_count in
+    alone_step (setting_of g.H.NamedFilters.named c.args.given.now) c.args.given.now.depth c.args.nodes.now c.args.from c.loop-at.at c.args.to (place c.args.out.now c.args.state.now) (place c.loop-at.out c.loop-at.state) c.args.state.now c.loop-at.state c.run_node.new.state f stood c.loop-at.invariant.going c.loop-at-test.true c.run_node.ensures.alone (c.loop-at.invariant.alone f stood)
 
 pub run_range-returns-then-is_some-clause-kept : goal.run_range-returns-then-is_some-clause-kept
 run_range-returns-then-is_some-clause-kept g t c f stood =
     let place = place_of g.W.CountedWrite.contents g.W.CountedWrite.failure_count in
-    kept_step (setting_of c.args.partials.now) c.args.depth c.args.nodes.now c.args.from c.loop-at.at c.args.to (place c.args.out.now c.args.state.now) (place c.loop-at.out c.loop-at.state) c.args.state.now c.loop-at.state c.run_node.new.state f stood c.loop-at.invariant.going c.loop-at-test.true c.run_node.ensures.kept (c.loop-at.invariant.kept f stood)
+    kept_step (setting_of g.H.NamedFilters.named c.args.given.now) c.args.given.now.depth c.args.nodes.now c.args.from c.loop-at.at c.args.to (place c.args.out.now c.args.state.now) (place c.loop-at.out c.loop-at.state) c.args.state.now c.loop-at.state c.run_node.new.state f stood c.loop-at.invariant.going c.loop-at-test.true c.run_node.ensures.kept (c.loop-at.invariant.kept f stood)
 
 pub run_range-next_after-at-requires : goal.run_range-next_after-at-requires
 run_range-next_after-at-requires g t c =
     let place = place_of g.W.CountedWrite.contents g.W.CountedWrite.failure_count in
-    going_node (setting_of c.args.partials.now) c.args.depth c.args.nodes.now c.args.from c.loop-at.at c.args.to (place c.args.out.now c.args.state.now) (place c.loop-at.out c.loop-at.state) c.requires c.loop-at.invariant.going c.loop-at-test.true
+    going_node (setting_of g.H.NamedFilters.named c.args.given.now) c.args.given.now.depth c.args.nodes.now c.args.from c.loop-at.at c.args.to (place c.args.out.now c.args.state.now) (place c.loop-at.out c.loop-at.state) c.requires c.loop-at.invariant.going c.loop-at-test.true
 
 pub run_range-loop-at-smaller : goal.run_range-loop-at-smaller
 run_range-loop-at-smaller g t c =
     let place = place_of g.W.CountedWrite.contents g.W.CountedWrite.failure_count in
-    let past = going_past (setting_of c.args.partials.now) c.args.depth c.args.nodes.now c.args.from c.loop-at.at c.args.to c.next_after-at.result (place c.args.out.now c.args.state.now) (place c.loop-at.out c.loop-at.state) c.requires c.loop-at.invariant.going c.loop-at-test.true c.next_after-at.ensures in
+    let past = going_past (setting_of g.H.NamedFilters.named c.args.given.now) c.args.given.now.depth c.args.nodes.now c.args.from c.loop-at.at c.args.to c.next_after-at.result (place c.args.out.now c.args.state.now) (place c.loop-at.out c.loop-at.state) c.requires c.loop-at.invariant.going c.loop-at-test.true c.next_after-at.ensures in
     let lt : c.args.to - c.next_after-at.result < c.args.to - c.loop-at.at = omega arith in
     lt
 
 pub run_range-loop-at-preserved : goal.run_range-loop-at-preserved
 run_range-loop-at-preserved g t c =
     let place = place_of g.W.CountedWrite.contents g.W.CountedWrite.failure_count in
-    let past = going_past (setting_of c.args.partials.now) c.args.depth c.args.nodes.now c.args.from c.loop-at.at c.args.to c.next_after-at.result (place c.args.out.now c.args.state.now) (place c.loop-at.out c.loop-at.state) c.requires c.loop-at.invariant.going c.loop-at-test.true c.next_after-at.ensures in
+    let past = going_past (setting_of g.H.NamedFilters.named c.args.given.now) c.args.given.now.depth c.args.nodes.now c.args.from c.loop-at.at c.args.to c.next_after-at.result (place c.args.out.now c.args.state.now) (place c.loop-at.out c.loop-at.state) c.requires c.loop-at.invariant.going c.loop-at-test.true c.next_after-at.ensures in
     let none = none_of c.run_node.new.state.interrupt (search rules) in
     record {
       ordered = omega arith;
-      going = going_on (setting_of c.args.partials.now) c.args.depth c.args.nodes.now c.args.from c.loop-at.at c.args.to c.next_after-at.result c.in_ok-run_node.field-0 (place c.args.out.now c.args.state.now) (place c.loop-at.out c.loop-at.state) (place c.run_node.new.out c.run_node.new.state) c.loop-at.invariant.going c.loop-at-test.true c.in_ok-run_node.ensures.performs (interrupt_of c.run_node.new.state _ none) c.next_after-at.ensures;
-      kept = λ f stood. kept_step (setting_of c.args.partials.now) c.args.depth c.args.nodes.now c.args.from c.loop-at.at c.args.to (place c.args.out.now c.args.state.now) (place c.loop-at.out c.loop-at.state) c.args.state.now c.loop-at.state c.run_node.new.state f stood c.loop-at.invariant.going c.loop-at-test.true c.run_node.ensures.kept (c.loop-at.invariant.kept f stood);
+      going = going_on (setting_of g.H.NamedFilters.named c.args.given.now) c.args.given.now.depth c.args.nodes.now c.args.from c.loop-at.at c.args.to c.next_after-at.result c.in_ok-run_node.field-0 (place c.args.out.now c.args.state.now) (place c.loop-at.out c.loop-at.state) (place c.run_node.new.out c.run_node.new.state) c.loop-at.invariant.going c.loop-at-test.true c.in_ok-run_node.ensures.performs (interrupt_of c.run_node.new.state _ none) c.next_after-at.ensures;
+      kept = λ f stood. kept_step (setting_of g.H.NamedFilters.named c.args.given.now) c.args.given.now.depth c.args.nodes.now c.args.from c.loop-at.at c.args.to (place c.args.out.now c.args.state.now) (place c.loop-at.out c.loop-at.state) c.args.state.now c.loop-at.state c.run_node.new.state f stood c.loop-at.invariant.going c.loop-at-test.true c.run_node.ensures.kept (c.loop-at.invariant.kept f stood);
+      alone = λ f stood. alone_step (setting_of g.H.NamedFilters.named c.args.given.now) c.args.given.now.depth c.args.nodes.now c.args.from c.loop-at.at c.args.to (place c.args.out.now c.args.state.now) (place c.loop-at.out c.loop-at.state) c.args.state.now c.loop-at.state c.run_node.new.state f stood c.loop-at.invariant.going c.loop-at-test.true c.run_node.ensures.alone (c.loop-at.invariant.alone f stood);
+      loops = c.run_node.ensures.loops ∙ c.loop-at.invariant.loops;
       same_writer = c.run_node.ensures.same_writer ∙ c.loop-at.invariant.same_writer;
     }
 
 pub run_range-returns-clause-performs : goal.run_range-returns-clause-performs
 run_range-returns-clause-performs g t c =
     let place = place_of g.W.CountedWrite.contents g.W.CountedWrite.failure_count in
-    going_end (setting_of c.args.partials.now) c.args.depth c.args.nodes.now c.args.from c.loop-at.at c.args.to _ (place c.args.out.now c.args.state.now) (place c.loop-at.out c.loop-at.state) c.loop-at.invariant.going c.loop-at-test.false
+    going_end (setting_of g.H.NamedFilters.named c.args.given.now) c.args.given.now.depth c.args.nodes.now c.args.from c.loop-at.at c.args.to _ (place c.args.out.now c.args.state.now) (place c.loop-at.out c.loop-at.state) c.loop-at.invariant.going c.loop-at-test.false
 
 pub run_node-returns-in-Text-clause-performs : goal.run_node-returns-in-Text-clause-performs
 run_node-returns-in-Text-clause-performs g t c =
     let place = place_of g.W.CountedWrite.contents g.W.CountedWrite.failure_count in
-    leaf_performs (setting_of c.args.partials.now) c.args.depth c.args.nodes.now c.args.at c.args.to c.index-nodes-at.result _ (tree.plain (string_bytes c.in-Text.text)) c.run_text.result (place c.args.out.now c.args.state.now) (place c.run_text.new.out c.run_text.new.state) c.requires c.index-nodes-at.is c.in-Text.is refl
-    (subst (λ x. Performs c.run_text.result (node_meant (setting_of c.args.partials.now) c.args.depth (tree.plain x)) (place c.args.out.now c.args.state.now) (place c.run_text.new.out c.run_text.new.state)) c.as_str.ensures.value c.run_text.ensures.performs)
+    leaf_performs (setting_of g.H.NamedFilters.named c.args.given.now) c.args.given.now.depth c.args.nodes.now c.args.at c.args.to c.index-nodes-at.result _ (tree.plain (string_bytes c.in-Text.text)) c.run_text.result (place c.args.out.now c.args.state.now) (place c.run_text.new.out c.run_text.new.state) c.requires c.index-nodes-at.is c.in-Text.is refl
+    (subst (λ x. Performs c.run_text.result (node_meant (setting_of g.H.NamedFilters.named c.args.given.now) c.args.given.now.depth (tree.plain x)) (place c.args.out.now c.args.state.now) (place c.run_text.new.out c.run_text.new.state)) c.as_str.ensures.value c.run_text.ensures.performs)
 
 pub run_node-returns-in-Text-clause-kept : goal.run_node-returns-in-Text-clause-kept
 run_node-returns-in-Text-clause-kept g t c =
-    leaf_keeps (setting_of c.args.partials.now) c.args.nodes.now c.args.at c.args.to c.index-nodes-at.result _ (tree.plain (string_bytes c.in-Text.text)) c.args.state.now c.run_text.new.state c.requires c.index-nodes-at.is c.in-Text.is refl
-    (subst (λ x. Keeps (node_names (tree.plain x)) (setting_of c.args.partials.now) c.args.state.now c.run_text.new.state) c.as_str.ensures.value c.run_text.ensures.kept)
+    leaf_keeps (setting_of g.H.NamedFilters.named c.args.given.now) c.args.nodes.now c.args.at c.args.to c.index-nodes-at.result _ (tree.plain (string_bytes c.in-Text.text)) c.args.state.now c.run_text.new.state c.requires c.index-nodes-at.is c.in-Text.is refl
+    (subst (λ x. Keeps (node_names (tree.plain x)) (setting_of g.H.NamedFilters.named c.args.given.now) c.args.state.now c.run_text.new.state) c.as_str.ensures.value c.run_text.ensures.kept)
 
 pub run_node-returns-in-Output-clause-performs : goal.run_node-returns-in-Output-clause-performs
 run_node-returns-in-Output-clause-performs g t c =
     let place = place_of g.W.CountedWrite.contents g.W.CountedWrite.failure_count in
-    leaf_performs (setting_of c.args.partials.now) c.args.depth c.args.nodes.now c.args.at c.args.to c.index-nodes-at.result _ (tree.output (chain_view c.in-Output.chain)) c.run_output.result (place c.args.out.now c.args.state.now) (place c.run_output.new.out c.run_output.new.state) c.requires c.index-nodes-at.is c.in-Output.is refl
+    leaf_performs (setting_of g.H.NamedFilters.named c.args.given.now) c.args.given.now.depth c.args.nodes.now c.args.at c.args.to c.index-nodes-at.result _ (tree.output (chain_view c.in-Output.chain)) c.run_output.result (place c.args.out.now c.args.state.now) (place c.run_output.new.out c.run_output.new.state) c.requires c.index-nodes-at.is c.in-Output.is refl
     c.run_output.ensures.performs
 
 pub run_node-returns-in-Output-clause-kept : goal.run_node-returns-in-Output-clause-kept
 run_node-returns-in-Output-clause-kept g t c =
-    leaf_keeps (setting_of c.args.partials.now) c.args.nodes.now c.args.at c.args.to c.index-nodes-at.result _ (tree.output (chain_view c.in-Output.chain)) c.args.state.now c.run_output.new.state c.requires c.index-nodes-at.is c.in-Output.is refl
+    leaf_keeps (setting_of g.H.NamedFilters.named c.args.given.now) c.args.nodes.now c.args.at c.args.to c.index-nodes-at.result _ (tree.output (chain_view c.in-Output.chain)) c.args.state.now c.run_output.new.state c.requires c.index-nodes-at.is c.in-Output.is refl
     c.run_output.ensures.kept
 
 pub run_node-returns-in-Assign-clause-performs : goal.run_node-returns-in-Assign-clause-performs
 run_node-returns-in-Assign-clause-performs g t c =
     let place = place_of g.W.CountedWrite.contents g.W.CountedWrite.failure_count in
-    leaf_performs (setting_of c.args.partials.now) c.args.depth c.args.nodes.now c.args.at c.args.to c.index-nodes-at.result _ (tree.assign (string_bytes c.in-Assign.name) (chain_view c.in-Assign.chain)) c.run_assign.result (place c.args.out.now c.args.state.now) (place c.run_assign.new.out c.run_assign.new.state) c.requires c.index-nodes-at.is c.in-Assign.is refl
-    (subst (λ x. Performs c.run_assign.result (node_meant (setting_of c.args.partials.now) c.args.depth (tree.assign x (chain_view c.in-Assign.chain))) (place c.args.out.now c.args.state.now) (place c.run_assign.new.out c.run_assign.new.state)) c.as_str-in-Assign.ensures.value c.run_assign.ensures.performs)
+    leaf_performs (setting_of g.H.NamedFilters.named c.args.given.now) c.args.given.now.depth c.args.nodes.now c.args.at c.args.to c.index-nodes-at.result _ (tree.assign (string_bytes c.in-Assign.name) (chain_view c.in-Assign.chain)) c.run_assign.result (place c.args.out.now c.args.state.now) (place c.run_assign.new.out c.run_assign.new.state) c.requires c.index-nodes-at.is c.in-Assign.is refl
+    (subst (λ x. Performs c.run_assign.result (node_meant (setting_of g.H.NamedFilters.named c.args.given.now) c.args.given.now.depth (tree.assign x (chain_view c.in-Assign.chain))) (place c.args.out.now c.args.state.now) (place c.run_assign.new.out c.run_assign.new.state)) c.as_str-in-Assign.ensures.value c.run_assign.ensures.performs)
 
 pub run_node-returns-in-Assign-clause-kept : goal.run_node-returns-in-Assign-clause-kept
 run_node-returns-in-Assign-clause-kept g t c =
-    leaf_keeps (setting_of c.args.partials.now) c.args.nodes.now c.args.at c.args.to c.index-nodes-at.result _ (tree.assign (string_bytes c.in-Assign.name) (chain_view c.in-Assign.chain)) c.args.state.now c.run_assign.new.state c.requires c.index-nodes-at.is c.in-Assign.is refl
-    (subst (λ x. Keeps (node_names (tree.assign x (chain_view c.in-Assign.chain))) (setting_of c.args.partials.now) c.args.state.now c.run_assign.new.state) c.as_str-in-Assign.ensures.value c.run_assign.ensures.kept)
+    leaf_keeps (setting_of g.H.NamedFilters.named c.args.given.now) c.args.nodes.now c.args.at c.args.to c.index-nodes-at.result _ (tree.assign (string_bytes c.in-Assign.name) (chain_view c.in-Assign.chain)) c.args.state.now c.run_assign.new.state c.requires c.index-nodes-at.is c.in-Assign.is refl
+    (subst (λ x. Keeps (node_names (tree.assign x (chain_view c.in-Assign.chain))) (setting_of g.H.NamedFilters.named c.args.given.now) c.args.state.now c.run_assign.new.state) c.as_str-in-Assign.ensures.value c.run_assign.ensures.kept)
 
 pub run_node-returns-in-Raw-clause-performs : goal.run_node-returns-in-Raw-clause-performs
 run_node-returns-in-Raw-clause-performs g t c =
     let place = place_of g.W.CountedWrite.contents g.W.CountedWrite.failure_count in
-    leaf_performs (setting_of c.args.partials.now) c.args.depth c.args.nodes.now c.args.at c.args.to c.index-nodes-at.result _ (tree.raw (string_bytes c.in-Raw.text)) c.run_raw.result (place c.args.out.now c.args.state.now) (place c.run_raw.new.out c.run_raw.new.state) c.requires c.index-nodes-at.is c.in-Raw.is refl
-    (subst (λ x. Performs c.run_raw.result (node_meant (setting_of c.args.partials.now) c.args.depth (tree.raw x)) (place c.args.out.now c.args.state.now) (place c.run_raw.new.out c.run_raw.new.state)) c.as_str-in-Raw.ensures.value c.run_raw.ensures.performs)
+    leaf_performs (setting_of g.H.NamedFilters.named c.args.given.now) c.args.given.now.depth c.args.nodes.now c.args.at c.args.to c.index-nodes-at.result _ (tree.raw (string_bytes c.in-Raw.text)) c.run_raw.result (place c.args.out.now c.args.state.now) (place c.run_raw.new.out c.run_raw.new.state) c.requires c.index-nodes-at.is c.in-Raw.is refl
+    (subst (λ x. Performs c.run_raw.result (node_meant (setting_of g.H.NamedFilters.named c.args.given.now) c.args.given.now.depth (tree.raw x)) (place c.args.out.now c.args.state.now) (place c.run_raw.new.out c.run_raw.new.state)) c.as_str-in-Raw.ensures.value c.run_raw.ensures.performs)
 
 pub run_node-returns-in-Raw-clause-kept : goal.run_node-returns-in-Raw-clause-kept
 run_node-returns-in-Raw-clause-kept g t c =
-    leaf_keeps (setting_of c.args.partials.now) c.args.nodes.now c.args.at c.args.to c.index-nodes-at.result _ (tree.raw (string_bytes c.in-Raw.text)) c.args.state.now c.run_raw.new.state c.requires c.index-nodes-at.is c.in-Raw.is refl
-    (subst (λ x. Keeps (node_names (tree.raw x)) (setting_of c.args.partials.now) c.args.state.now c.run_raw.new.state) c.as_str-in-Raw.ensures.value c.run_raw.ensures.kept)
+    leaf_keeps (setting_of g.H.NamedFilters.named c.args.given.now) c.args.nodes.now c.args.at c.args.to c.index-nodes-at.result _ (tree.raw (string_bytes c.in-Raw.text)) c.args.state.now c.run_raw.new.state c.requires c.index-nodes-at.is c.in-Raw.is refl
+    (subst (λ x. Keeps (node_names (tree.raw x)) (setting_of g.H.NamedFilters.named c.args.given.now) c.args.state.now c.run_raw.new.state) c.as_str-in-Raw.ensures.value c.run_raw.ensures.kept)
 
 pub run_node-returns-in-Comment-clause-performs : goal.run_node-returns-in-Comment-clause-performs
 run_node-returns-in-Comment-clause-performs g t c =
     let place = place_of g.W.CountedWrite.contents g.W.CountedWrite.failure_count in
-    leaf_performs (setting_of c.args.partials.now) c.args.depth c.args.nodes.now c.args.at c.args.to c.index-nodes-at.result _ tree.comment (Ok tt) (place c.args.out.now c.args.state.now) (place c.args.out.now c.args.state.now) c.requires c.index-nodes-at.is c.in-Comment.is refl
+    leaf_performs (setting_of g.H.NamedFilters.named c.args.given.now) c.args.given.now.depth c.args.nodes.now c.args.at c.args.to c.index-nodes-at.result _ tree.comment (Ok tt) (place c.args.out.now c.args.state.now) (place c.args.out.now c.args.state.now) c.requires c.index-nodes-at.is c.in-Comment.is refl
     (by_rule (comment_rule _ _) (done_met tt (place c.args.out.now c.args.state.now)))
 
 pub run_node-returns-in-Comment-clause-kept : goal.run_node-returns-in-Comment-clause-kept
 run_node-returns-in-Comment-clause-kept g t c =
-    leaf_keeps (setting_of c.args.partials.now) c.args.nodes.now c.args.at c.args.to c.index-nodes-at.result _ tree.comment c.args.state.now c.args.state.now c.requires c.index-nodes-at.is c.in-Comment.is refl
+    leaf_keeps (setting_of g.H.NamedFilters.named c.args.given.now) c.args.nodes.now c.args.at c.args.to c.index-nodes-at.result _ tree.comment c.args.state.now c.args.state.now c.requires c.index-nodes-at.is c.in-Comment.is refl
     (λ N names inside. kept_same N _ _ refl)
 
 pub run_node-run_if-requires : goal.run_node-run_if-requires
 run_node-run_if-requires g t c κs within =
     let (body, otherwise, past, ordered, inside) = two c.args.nodes.now c.args.at c.in-If.bodies.first_end c.in-If.bodies.last_end c.args.to c.index-nodes-at.result _ (tree.if_true (condition_view c.in-If.condition)) c.requires c.index-nodes-at.is c.in-If.is refl in
-    (let lt : 3 * (c.in-If.bodies.last_end - c.args.at) - 1 < t = omega arith in lt, (within, (body, otherwise)))
+    (let lt : 3 * (c.in-If.bodies.last_end - c.args.at) - 1 + reserve c.args.given.now.depth c.args.given.now.partials.now < t = omega arith in lt, (within.0, (within.1, (body, otherwise))))
 
 pub run_node-returns-in-If-clause-performs : goal.run_node-returns-in-If-clause-performs
 run_node-returns-in-If-clause-performs g t c =
     let place = place_of g.W.CountedWrite.contents g.W.CountedWrite.failure_count in
-    two_performs (setting_of c.args.partials.now) c.args.depth c.args.nodes.now c.args.at c.in-If.bodies.first_end c.in-If.bodies.last_end c.args.to c.index-nodes-at.result _ (tree.if_true (condition_view c.in-If.condition)) c.run_if.result (place c.args.out.now c.args.state.now) (place c.run_if.new.out c.run_if.new.state) c.requires c.index-nodes-at.is c.in-If.is refl
+    two_performs (setting_of g.H.NamedFilters.named c.args.given.now) c.args.given.now.depth c.args.nodes.now c.args.at c.in-If.bodies.first_end c.in-If.bodies.last_end c.args.to c.index-nodes-at.result _ (tree.if_true (condition_view c.in-If.condition)) c.run_if.result (place c.args.out.now c.args.state.now) (place c.run_if.new.out c.run_if.new.state) c.requires c.index-nodes-at.is c.in-If.is refl
     c.run_if.ensures.performs
 
 pub run_node-returns-in-If-clause-kept : goal.run_node-returns-in-If-clause-kept
 run_node-returns-in-If-clause-kept g t c =
-    two_keeps (setting_of c.args.partials.now) c.args.nodes.now c.args.at c.in-If.bodies.first_end c.in-If.bodies.last_end c.args.to c.index-nodes-at.result _ (tree.if_true (condition_view c.in-If.condition)) c.args.state.now c.run_if.new.state c.requires c.index-nodes-at.is c.in-If.is refl
+    two_keeps (setting_of g.H.NamedFilters.named c.args.given.now) c.args.nodes.now c.args.at c.in-If.bodies.first_end c.in-If.bodies.last_end c.args.to c.index-nodes-at.result _ (tree.if_true (condition_view c.in-If.condition)) c.args.state.now c.run_if.new.state c.requires c.index-nodes-at.is c.in-If.is refl
     c.run_if.ensures.kept
 
 pub run_node-run_unless-requires : goal.run_node-run_unless-requires
 run_node-run_unless-requires g t c κs within =
     let (body, otherwise, past, ordered, inside) = two c.args.nodes.now c.args.at c.in-Unless.bodies.first_end c.in-Unless.bodies.last_end c.args.to c.index-nodes-at.result _ (tree.unless (condition_view c.in-Unless.condition)) c.requires c.index-nodes-at.is c.in-Unless.is refl in
-    (let lt : 3 * (c.in-Unless.bodies.last_end - c.args.at) - 1 < t = omega arith in lt, (within, (body, otherwise)))
+    (let lt : 3 * (c.in-Unless.bodies.last_end - c.args.at) - 1 + reserve c.args.given.now.depth c.args.given.now.partials.now < t = omega arith in lt, (within.0, (within.1, (body, otherwise))))
 
 pub run_node-returns-in-Unless-clause-performs : goal.run_node-returns-in-Unless-clause-performs
 run_node-returns-in-Unless-clause-performs g t c =
     let place = place_of g.W.CountedWrite.contents g.W.CountedWrite.failure_count in
-    two_performs (setting_of c.args.partials.now) c.args.depth c.args.nodes.now c.args.at c.in-Unless.bodies.first_end c.in-Unless.bodies.last_end c.args.to c.index-nodes-at.result _ (tree.unless (condition_view c.in-Unless.condition)) c.run_unless.result (place c.args.out.now c.args.state.now) (place c.run_unless.new.out c.run_unless.new.state) c.requires c.index-nodes-at.is c.in-Unless.is refl
+    two_performs (setting_of g.H.NamedFilters.named c.args.given.now) c.args.given.now.depth c.args.nodes.now c.args.at c.in-Unless.bodies.first_end c.in-Unless.bodies.last_end c.args.to c.index-nodes-at.result _ (tree.unless (condition_view c.in-Unless.condition)) c.run_unless.result (place c.args.out.now c.args.state.now) (place c.run_unless.new.out c.run_unless.new.state) c.requires c.index-nodes-at.is c.in-Unless.is refl
     c.run_unless.ensures.performs
 
 pub run_node-returns-in-Unless-clause-kept : goal.run_node-returns-in-Unless-clause-kept
 run_node-returns-in-Unless-clause-kept g t c =
-    two_keeps (setting_of c.args.partials.now) c.args.nodes.now c.args.at c.in-Unless.bodies.first_end c.in-Unless.bodies.last_end c.args.to c.index-nodes-at.result _ (tree.unless (condition_view c.in-Unless.condition)) c.args.state.now c.run_unless.new.state c.requires c.index-nodes-at.is c.in-Unless.is refl
+    two_keeps (setting_of g.H.NamedFilters.named c.args.given.now) c.args.nodes.now c.args.at c.in-Unless.bodies.first_end c.in-Unless.bodies.last_end c.args.to c.index-nodes-at.result _ (tree.unless (condition_view c.in-Unless.condition)) c.args.state.now c.run_unless.new.state c.requires c.index-nodes-at.is c.in-Unless.is refl
     c.run_unless.ensures.kept
+
+pub run_node-returns-in-Text-clause-alone : goal.run_node-returns-in-Text-clause-alone
+run_node-returns-in-Text-clause-alone g t c = leaf_other c.args.nodes.now c.args.at c.args.to c.index-nodes-at.result _ (tree.plain (string_bytes c.in-Text.text)) c.args.state.now c.run_text.new.state c.requires c.index-nodes-at.is c.in-Text.is refl (λ no. absurd no)
+
+pub run_node-returns-in-Output-clause-alone : goal.run_node-returns-in-Output-clause-alone
+run_node-returns-in-Output-clause-alone g t c = leaf_other c.args.nodes.now c.args.at c.args.to c.index-nodes-at.result _ (tree.output (chain_view c.in-Output.chain)) c.args.state.now c.run_output.new.state c.requires c.index-nodes-at.is c.in-Output.is refl (λ no. absurd no)
+
+pub run_node-returns-in-Assign-clause-alone : goal.run_node-returns-in-Assign-clause-alone
+run_node-returns-in-Assign-clause-alone g t c = leaf_other c.args.nodes.now c.args.at c.args.to c.index-nodes-at.result _ (tree.assign (string_bytes c.in-Assign.name) (chain_view c.in-Assign.chain)) c.args.state.now c.run_assign.new.state c.requires c.index-nodes-at.is c.in-Assign.is refl (λ no. absurd no)
+
+pub run_node-returns-in-Raw-clause-alone : goal.run_node-returns-in-Raw-clause-alone
+run_node-returns-in-Raw-clause-alone g t c = leaf_other c.args.nodes.now c.args.at c.args.to c.index-nodes-at.result _ (tree.raw (string_bytes c.in-Raw.text)) c.args.state.now c.run_raw.new.state c.requires c.index-nodes-at.is c.in-Raw.is refl (λ no. absurd no)
+
+pub run_node-returns-in-If-clause-alone : goal.run_node-returns-in-If-clause-alone
+run_node-returns-in-If-clause-alone g t c = two_other c.args.nodes.now c.args.at c.in-If.bodies.first_end c.in-If.bodies.last_end c.args.to c.index-nodes-at.result _ (tree.if_true (condition_view c.in-If.condition)) c.args.state.now c.run_if.new.state c.requires c.index-nodes-at.is c.in-If.is refl (λ b d no. absurd no)
+
+pub run_node-returns-in-Unless-clause-alone : goal.run_node-returns-in-Unless-clause-alone
+run_node-returns-in-Unless-clause-alone g t c = two_other c.args.nodes.now c.args.at c.in-Unless.bodies.first_end c.in-Unless.bodies.last_end c.args.to c.index-nodes-at.result _ (tree.unless (condition_view c.in-Unless.condition)) c.args.state.now c.run_unless.new.state c.requires c.index-nodes-at.is c.in-Unless.is refl (λ b d no. absurd no)
+
+pub run_node-returns-in-Capture-clause-alone : goal.run_node-returns-in-Capture-clause-alone
+run_node-returns-in-Capture-clause-alone g t c = one_other c.args.nodes.now c.args.at c.in-Capture.end c.args.to c.index-nodes-at.result _ (tree.capture (string_bytes c.in-Capture.name)) c.args.state.now c.run_capture.new.state c.requires c.index-nodes-at.is c.in-Capture.is refl (λ b no. absurd no)
+
+pub run_node-returns-in-Include-clause-alone : goal.run_node-returns-in-Include-clause-alone
+run_node-returns-in-Include-clause-alone g t c = leaf_other c.args.nodes.now c.args.at c.args.to c.index-nodes-at.result _ (tree.include (expression_view c.in-Include.name) (bindings_view c.in-Include.bindings.items)) c.args.state.now c.run_include.new.state c.requires c.index-nodes-at.is c.in-Include.is refl (λ no. absurd no)
 
 pub run_if-returns-in_err-from-clause-performs : goal.run_if-returns-in_err-from-clause-performs
 run_if-returns-in_err-from-clause-performs g t c b d here after =
     let place = place_of g.W.CountedWrite.contents g.W.CountedWrite.failure_count in
     let p = err_from_is_err_and c.from_residual.result c.from_residual.ensures.1 in
     let n = tree.if_true (condition_view c.args.condition.now) (nodes_of b) (nodes_of d) in
-    rw (p.1, p.2) (refused_performs c.args.nodes.now (node_names n) (λ setting deeper. node_meaning setting deeper n) c.args.depth (setting_of c.args.partials.now) c.in_err-from.field-0.0 (place c.args.out.now c.args.state.now) (c.in_err-from.ensures.chosen b d here after))
+    rw (p.1, p.2) (refused_performs c.args.nodes.now (node_names n) (λ setting deeper. node_meaning setting deeper n) c.args.given.now.depth (setting_of g.H.NamedFilters.named c.args.given.now) c.in_err-from.field-0.0 (place c.args.out.now c.args.state.now) (c.in_err-from.ensures.chosen b d here after))
 
 pub run_if-run_range-requires : goal.run_if-run_range-requires
 run_if-run_range-requires g t c κs within =
@@ -177,7 +240,7 @@ run_if-run_range-requires g t c κs within =
     let first : c.args.at < c.in_ok-from.from = c.in_ok-from.ensures.inside.0 in
     let last : c.in_ok-from.to ≤ c.args.bodies.last_end = c.in_ok-from.ensures.inside.1 in
     let order : c.in_ok-from.from ≤ c.in_ok-from.to = Stands-le (flats c.args.nodes.now) c.in_ok-from.from x.nodes c.in_ok-from.to x.stands in
-    (let lt : 3 * (c.in_ok-from.to - c.in_ok-from.from) + 1 < t = omega arith in lt, (within, (x.nodes, x.stands)))
+    (let lt : 3 * (c.in_ok-from.to - c.in_ok-from.from) + 1 + reserve c.args.given.now.depth c.args.given.now.partials.now < t = omega arith in lt, (within.0, (within.1, (x.nodes, x.stands))))
 
 pub run_if-returns-clause-kept : goal.run_if-returns-clause-kept
 run_if-returns-clause-kept g t c b d here after N names inside =
@@ -189,7 +252,7 @@ run_unless-returns-in_err-from-clause-performs g t c b d here after =
     let place = place_of g.W.CountedWrite.contents g.W.CountedWrite.failure_count in
     let p = err_from_is_err_and c.from_residual.result c.from_residual.ensures.1 in
     let n = tree.unless (condition_view c.args.condition.now) (nodes_of b) (nodes_of d) in
-    rw (p.1, p.2) (refused_performs c.args.nodes.now (node_names n) (λ setting deeper. node_meaning setting deeper n) c.args.depth (setting_of c.args.partials.now) c.in_err-from.field-0.0 (place c.args.out.now c.args.state.now) (c.in_err-from.ensures.chosen b d here after))
+    rw (p.1, p.2) (refused_performs c.args.nodes.now (node_names n) (λ setting deeper. node_meaning setting deeper n) c.args.given.now.depth (setting_of g.H.NamedFilters.named c.args.given.now) c.in_err-from.field-0.0 (place c.args.out.now c.args.state.now) (c.in_err-from.ensures.chosen b d here after))
 
 pub run_unless-run_range-requires : goal.run_unless-run_range-requires
 run_unless-run_range-requires g t c κs within =
@@ -199,9 +262,521 @@ run_unless-run_range-requires g t c κs within =
     let first : c.args.at < c.in_ok-from.from = c.in_ok-from.ensures.inside.0 in
     let last : c.in_ok-from.to ≤ c.args.bodies.last_end = c.in_ok-from.ensures.inside.1 in
     let order : c.in_ok-from.from ≤ c.in_ok-from.to = Stands-le (flats c.args.nodes.now) c.in_ok-from.from x.nodes c.in_ok-from.to x.stands in
-    (let lt : 3 * (c.in_ok-from.to - c.in_ok-from.from) + 1 < t = omega arith in lt, (within, (x.nodes, x.stands)))
+    (let lt : 3 * (c.in_ok-from.to - c.in_ok-from.from) + 1 + reserve c.args.given.now.depth c.args.given.now.partials.now < t = omega arith in lt, (within.0, (within.1, (x.nodes, x.stands))))
 
 pub run_unless-returns-clause-kept : goal.run_unless-returns-clause-kept
 run_unless-returns-clause-kept g t c b d here after N names inside =
     let x = c.in_ok-from.ensures.chosen b d here after in
     c.run_range.ensures.kept x.nodes x.stands N (x.within N names) inside
+
+pub run_node-returns-in-Break-clause-performs : goal.run_node-returns-in-Break-clause-performs
+run_node-returns-in-Break-clause-performs g t c =
+    let place = place_of g.W.CountedWrite.contents g.W.CountedWrite.failure_count in
+    leaf_performs (setting_of g.H.NamedFilters.named c.args.given.now) c.args.given.now.depth c.args.nodes.now c.args.at c.args.to c.index-nodes-at.result _ tree.break_loop (Ok tt) (place c.args.out.now c.args.state.now) _ c.requires c.index-nodes-at.is c.in-Break.is refl
+    (by_rule (break_rule _ _) (change_met (Ok tt) (interrupted_by (Some interrupts.Break)) _ (environment_of c.args.state.now) _ (ap merged_layers (interrupt_set c.args.state.now (Some interrupts.Break)))))
+
+pub run_node-returns-in-Break-clause-kept : goal.run_node-returns-in-Break-clause-kept
+run_node-returns-in-Break-clause-kept g t c =
+    leaf_keeps (setting_of g.H.NamedFilters.named c.args.given.now) c.args.nodes.now c.args.at c.args.to c.index-nodes-at.result _ tree.break_loop c.args.state.now _ c.requires c.index-nodes-at.is c.in-Break.is refl
+    (λ N names inside. kept_interrupt N (Some interrupts.Break) (layers_of c.args.state.now) _ (interrupt_set c.args.state.now (Some interrupts.Break)))
+
+pub run_node-returns-in-Break-clause-alone : goal.run_node-returns-in-Break-clause-alone
+run_node-returns-in-Break-clause-alone g t c =
+    leaf_other c.args.nodes.now c.args.at c.args.to c.index-nodes-at.result _ tree.break_loop c.args.state.now _ c.requires c.index-nodes-at.is c.in-Break.is refl (λ no. absurd no)
+
+pub run_node-returns-in-Continue-clause-performs : goal.run_node-returns-in-Continue-clause-performs
+run_node-returns-in-Continue-clause-performs g t c =
+    let place = place_of g.W.CountedWrite.contents g.W.CountedWrite.failure_count in
+    leaf_performs (setting_of g.H.NamedFilters.named c.args.given.now) c.args.given.now.depth c.args.nodes.now c.args.at c.args.to c.index-nodes-at.result _ tree.continue_loop (Ok tt) (place c.args.out.now c.args.state.now) _ c.requires c.index-nodes-at.is c.in-Continue.is refl
+    (by_rule (continue_rule _ _) (change_met (Ok tt) (interrupted_by (Some interrupts.Continue)) _ (environment_of c.args.state.now) _ (ap merged_layers (interrupt_set c.args.state.now (Some interrupts.Continue)))))
+
+pub run_node-returns-in-Continue-clause-kept : goal.run_node-returns-in-Continue-clause-kept
+run_node-returns-in-Continue-clause-kept g t c =
+    leaf_keeps (setting_of g.H.NamedFilters.named c.args.given.now) c.args.nodes.now c.args.at c.args.to c.index-nodes-at.result _ tree.continue_loop c.args.state.now _ c.requires c.index-nodes-at.is c.in-Continue.is refl
+    (λ N names inside. kept_interrupt N (Some interrupts.Continue) (layers_of c.args.state.now) _ (interrupt_set c.args.state.now (Some interrupts.Continue)))
+
+pub run_node-returns-in-Continue-clause-alone : goal.run_node-returns-in-Continue-clause-alone
+run_node-returns-in-Continue-clause-alone g t c =
+    leaf_other c.args.nodes.now c.args.at c.args.to c.index-nodes-at.result _ tree.continue_loop c.args.state.now _ c.requires c.index-nodes-at.is c.in-Continue.is refl (λ no. absurd no)
+
+pub run_node-run_capture-requires : goal.run_node-run_capture-requires
+run_node-run_capture-requires g t c κs within =
+    let (body, past, inside) = one c.args.nodes.now c.args.at c.in-Capture.end c.args.to c.index-nodes-at.result _ (tree.capture (string_bytes c.in-Capture.name)) c.requires c.index-nodes-at.is c.in-Capture.is refl in
+    (let lt : 3 * (c.in-Capture.end - c.args.at) - 1 + reserve c.args.given.now.depth c.args.given.now.partials.now < t = omega arith in lt, (within.0, (within.1, body)))
+
+pub run_node-returns-in-Capture-clause-performs : goal.run_node-returns-in-Capture-clause-performs
+run_node-returns-in-Capture-clause-performs g t c =
+    let place = place_of g.W.CountedWrite.contents g.W.CountedWrite.failure_count in
+    one_performs (setting_of g.H.NamedFilters.named c.args.given.now) c.args.given.now.depth c.args.nodes.now c.args.at c.in-Capture.end c.args.to c.index-nodes-at.result _ (tree.capture (string_bytes c.in-Capture.name)) c.run_capture.result (place c.args.out.now c.args.state.now) (place c.run_capture.new.out c.run_capture.new.state) c.requires c.index-nodes-at.is c.in-Capture.is refl
+    (subst (λ x. (b : Forest Maker) → StandsAt c.args.nodes.now (c.args.at + 1) b c.in-Capture.end → Performs c.run_capture.result (node_meant (setting_of g.H.NamedFilters.named c.args.given.now) c.args.given.now.depth (tree.capture x (nodes_of b))) (place c.args.out.now c.args.state.now) (place c.run_capture.new.out c.run_capture.new.state)) c.as_str-in-Capture.ensures.value c.run_capture.ensures.performs)
+
+pub run_node-returns-in-Capture-clause-kept : goal.run_node-returns-in-Capture-clause-kept
+run_node-returns-in-Capture-clause-kept g t c =
+    one_keeps (setting_of g.H.NamedFilters.named c.args.given.now) c.args.nodes.now c.args.at c.in-Capture.end c.args.to c.index-nodes-at.result _ (tree.capture (string_bytes c.in-Capture.name)) c.args.state.now c.run_capture.new.state c.requires c.index-nodes-at.is c.in-Capture.is refl
+    (subst (λ x. (b : Forest Maker) → StandsAt c.args.nodes.now (c.args.at + 1) b c.in-Capture.end → Keeps (node_names (tree.capture x (nodes_of b))) (setting_of g.H.NamedFilters.named c.args.given.now) c.args.state.now c.run_capture.new.state) c.as_str-in-Capture.ensures.value c.run_capture.ensures.kept)
+
+pub run_node-run_include-requires : goal.run_node-run_include-requires
+run_node-run_include-requires g t c κs within =
+    let before = node_before c.args.nodes.now c.args.at c.args.to c.requires in
+    (let lt : reserve c.args.given.now.depth c.args.given.now.partials.now + 2 < t = omega arith in lt, within)
+
+pub run_node-returns-in-Include-clause-performs : goal.run_node-returns-in-Include-clause-performs
+run_node-returns-in-Include-clause-performs g t c =
+    let place = place_of g.W.CountedWrite.contents g.W.CountedWrite.failure_count in
+    leaf_performs (setting_of g.H.NamedFilters.named c.args.given.now) c.args.given.now.depth c.args.nodes.now c.args.at c.args.to c.index-nodes-at.result _ (tree.include (expression_view c.in-Include.name) (bindings_view c.in-Include.bindings.items)) c.run_include.result (place c.args.out.now c.args.state.now) (place c.run_include.new.out c.run_include.new.state) c.requires c.index-nodes-at.is c.in-Include.is refl
+    (subst (λ x. Performs c.run_include.result (node_meant (setting_of g.H.NamedFilters.named c.args.given.now) c.args.given.now.depth (tree.include (expression_view c.in-Include.name) (bindings_view x))) (place c.args.out.now c.args.state.now) (place c.run_include.new.out c.run_include.new.state)) c.deref.ensures.value c.run_include.ensures.performs)
+
+pub run_node-returns-in-Include-clause-kept : goal.run_node-returns-in-Include-clause-kept
+run_node-returns-in-Include-clause-kept g t c =
+    leaf_keeps (setting_of g.H.NamedFilters.named c.args.given.now) c.args.nodes.now c.args.at c.args.to c.index-nodes-at.result _ (tree.include (expression_view c.in-Include.name) (bindings_view c.in-Include.bindings.items)) c.args.state.now c.run_include.new.state c.requires c.index-nodes-at.is c.in-Include.is refl
+    (subst (λ x. Keeps (node_names (tree.include (expression_view c.in-Include.name) (bindings_view x))) (setting_of g.H.NamedFilters.named c.args.given.now) c.args.state.now c.run_include.new.state) c.deref.ensures.value c.run_include.ensures.kept)
+
+pub run_node-run_jekyll_include-requires : goal.run_node-run_jekyll_include-requires
+run_node-run_jekyll_include-requires g t c κs within =
+    let before = node_before c.args.nodes.now c.args.at c.args.to c.requires in
+    (let lt : reserve c.args.given.now.depth c.args.given.now.partials.now + 2 < t = omega arith in lt, within)
+
+pub run_node-returns-in-JekyllInclude-clause-performs : goal.run_node-returns-in-JekyllInclude-clause-performs
+run_node-returns-in-JekyllInclude-clause-performs g t c =
+    let place = place_of g.W.CountedWrite.contents g.W.CountedWrite.failure_count in
+    let after = place c.run_jekyll_include.new.out c.run_jekyll_include.new.state in
+    leaf_performs (setting_of g.H.NamedFilters.named c.args.given.now) c.args.given.now.depth c.args.nodes.now c.args.at c.args.to c.index-nodes-at.result _ (tree.jekyll_include (string_bytes c.in-JekyllInclude.name) (bindings_view c.in-JekyllInclude.bindings.items)) c.run_jekyll_include.result (place c.args.out.now c.args.state.now) after c.requires c.index-nodes-at.is c.in-JekyllInclude.is refl
+    (subst (λ x. Performs c.run_jekyll_include.result (node_meant (setting_of g.H.NamedFilters.named c.args.given.now) c.args.given.now.depth (tree.jekyll_include x (bindings_view c.in-JekyllInclude.bindings.items))) (place c.args.out.now c.args.state.now) after) c.as_str-in-JekyllInclude.ensures.value
+    (subst (λ x. Performs c.run_jekyll_include.result (node_meant (setting_of g.H.NamedFilters.named c.args.given.now) c.args.given.now.depth (tree.jekyll_include c.as_str-in-JekyllInclude.result.now (bindings_view x))) (place c.args.out.now c.args.state.now) after) c.deref-in-JekyllInclude.ensures.value c.run_jekyll_include.ensures.performs))
+
+pub run_node-returns-in-JekyllInclude-clause-kept : goal.run_node-returns-in-JekyllInclude-clause-kept
+run_node-returns-in-JekyllInclude-clause-kept g t c =
+    leaf_keeps (setting_of g.H.NamedFilters.named c.args.given.now) c.args.nodes.now c.args.at c.args.to c.index-nodes-at.result _ (tree.jekyll_include (string_bytes c.in-JekyllInclude.name) (bindings_view c.in-JekyllInclude.bindings.items)) c.args.state.now c.run_jekyll_include.new.state c.requires c.index-nodes-at.is c.in-JekyllInclude.is refl
+    (subst (λ x. Keeps (node_names (tree.jekyll_include x (bindings_view c.in-JekyllInclude.bindings.items))) (setting_of g.H.NamedFilters.named c.args.given.now) c.args.state.now c.run_jekyll_include.new.state) c.as_str-in-JekyllInclude.ensures.value
+    (subst (λ x. Keeps (node_names (tree.jekyll_include c.as_str-in-JekyllInclude.result.now (bindings_view x))) (setting_of g.H.NamedFilters.named c.args.given.now) c.args.state.now c.run_jekyll_include.new.state) c.deref-in-JekyllInclude.ensures.value c.run_jekyll_include.ensures.kept))
+
+pub run_node-returns-in-JekyllInclude-clause-alone : goal.run_node-returns-in-JekyllInclude-clause-alone
+run_node-returns-in-JekyllInclude-clause-alone g t c = leaf_other c.args.nodes.now c.args.at c.args.to c.index-nodes-at.result _ (tree.jekyll_include (string_bytes c.in-JekyllInclude.name) (bindings_view c.in-JekyllInclude.bindings.items)) c.args.state.now c.run_jekyll_include.new.state c.requires c.index-nodes-at.is c.in-JekyllInclude.is refl (λ no. absurd no)
+
+pub run_node-run_render-requires : goal.run_node-run_render-requires
+run_node-run_render-requires g t c κs within =
+    let before = node_before c.args.nodes.now c.args.at c.args.to c.requires in
+    (let lt : reserve c.args.given.now.depth c.args.given.now.partials.now + 2 < t = omega arith in lt, within)
+
+pub run_node-returns-in-Render-clause-performs : goal.run_node-returns-in-Render-clause-performs
+run_node-returns-in-Render-clause-performs g t c =
+    let place = place_of g.W.CountedWrite.contents g.W.CountedWrite.failure_count in
+    leaf_performs (setting_of g.H.NamedFilters.named c.args.given.now) c.args.given.now.depth c.args.nodes.now c.args.at c.args.to c.index-nodes-at.result _ (tree.render (expression_view c.in-Render.name) None (bindings_view c.in-Render.bindings.items)) c.run_render.result (place c.args.out.now c.args.state.now) (place c.run_render.new.out c.args.state.now) c.requires c.index-nodes-at.is c.in-Render.is refl
+    (subst (λ x. Performs c.run_render.result (node_meant (setting_of g.H.NamedFilters.named c.args.given.now) c.args.given.now.depth (tree.render (expression_view c.in-Render.name) None (bindings_view x))) (place c.args.out.now c.args.state.now) (place c.run_render.new.out c.args.state.now)) c.deref-in-Render.ensures.value c.run_render.ensures.performs)
+
+pub run_capture-overflow_add-at : goal.run_capture-overflow_add-at
+run_capture-overflow_add-at g t c =
+    let body : IsRange c.args.nodes.now (c.args.at + 1) c.args.end = search rules in
+    let (b, here) = body in
+    let le : c.args.at + 1 ≤ c.args.end = Stands-le (flats c.args.nodes.now) (c.args.at + 1) b c.args.end here in
+    search rules
+
+pub run_capture-run_range-answer-requires : goal.run_capture-run_range-answer-requires
+run_capture-run_range-answer-requires g t c κs within =
+    let body : IsRange c.args.nodes.now (c.args.at + 1) c.args.end = search rules in
+    let (b, here) = body in
+    let le : c.args.at + 1 ≤ c.args.end = Stands-le (flats c.args.nodes.now) (c.args.at + 1) b c.args.end here in
+    (let lt : 3 * (c.args.end - (c.args.at + 1)) + 1 + reserve c.args.given.now.depth c.args.given.now.partials.now < t = omega arith in lt, (within.0, (within.1, body)))
+
+pub run_capture-returns-in_err-answer-clause-performs : goal.run_capture-returns-in_err-answer-clause-performs
+run_capture-returns-in_err-answer-clause-performs g t c b here =
+    let sink = sink_of g.W.CountedWrite.contents g.W.CountedWrite.failure_count in
+    let around : Around (sink c.args.out.now) (sink c.open-outer.new.self) (sink c.run_range-answer.new.out) (sink c.close-text.new.self) (string_bytes c.close-text.result) = record {
+      opened = c.open-outer.ensures.empty;
+      closed = ap (option_map string_bytes) c.close-text.ensures.text;
+      back = ap (option_map string_bytes) (c.close-text.ensures.outer ∙ c.open-outer.ensures.outer);
+      contents_in = ap (λ w. g.W.CountedWrite.contents w.now) c.open-outer.ensures.writer;
+      contents_out = ap (λ w. g.W.CountedWrite.contents w.now) c.close-text.ensures.writer;
+      failures_in = ap (λ w. g.W.CountedWrite.failure_count w.now) c.open-outer.ensures.writer;
+      failures_out = ap (λ w. g.W.CountedWrite.failure_count w.now) c.close-text.ensures.writer;
+    } in
+    let m = nodes_meant (setting_of g.H.NamedFilters.named c.args.given.now) c.args.given.now.depth (nodes_of b) in
+    let e = environment_of c.args.state.now in
+    let mid = environment_of c.run_range-answer.new.state in
+    let p = err_from_is_err_and c.from_residual.result c.from_residual.ensures.1 in
+    rw (p.1, p.2) (by_rule (capture_rule (setting_of g.H.NamedFilters.named c.args.given.now) (deeper_meaning (setting_of g.H.NamedFilters.named c.args.given.now) c.args.given.now.depth) c.args.name.now (nodes_of b)) (bind_faulted (λ x. x) unit _ (buffered m) (λ x. change (assigned_to c.args.name.now (text x))) _ _ (buffered_faulted unit (λ x. x) _ m (sink c.args.out.now) (sink c.open-outer.new.self) (sink c.run_range-answer.new.out) (sink c.close-text.new.self) (string_bytes c.close-text.result) e mid around (c.in_err-answer.ensures.performs b here))))
+
+pub run_capture-returns-in_err-from_str-clause-performs : goal.run_capture-returns-in_err-from_str-clause-performs
+run_capture-returns-in_err-from_str-clause-performs g t c b here =
+    let sink = sink_of g.W.CountedWrite.contents g.W.CountedWrite.failure_count in
+    let around : Around (sink c.args.out.now) (sink c.open-outer.new.self) (sink c.run_range-answer.new.out) (sink c.close-text.new.self) (string_bytes c.close-text.result) = record {
+      opened = c.open-outer.ensures.empty;
+      closed = ap (option_map string_bytes) c.close-text.ensures.text;
+      back = ap (option_map string_bytes) (c.close-text.ensures.outer ∙ c.open-outer.ensures.outer);
+      contents_in = ap (λ w. g.W.CountedWrite.contents w.now) c.open-outer.ensures.writer;
+      contents_out = ap (λ w. g.W.CountedWrite.contents w.now) c.close-text.ensures.writer;
+      failures_in = ap (λ w. g.W.CountedWrite.failure_count w.now) c.open-outer.ensures.writer;
+      failures_out = ap (λ w. g.W.CountedWrite.failure_count w.now) c.close-text.ensures.writer;
+    } in
+    let m = nodes_meant (setting_of g.H.NamedFilters.named c.args.given.now) c.args.given.now.depth (nodes_of b) in
+    let e = environment_of c.args.state.now in
+    let mid = environment_of c.run_range-answer.new.state in
+    let p = err_from_is_err_and c.from_residual-in_err-from_str.result c.from_residual-in_err-from_str.ensures.1 in
+    rw p.1 (buffered_memory unit unit _ _ m _ (sink c.args.out.now) (sink c.open-outer.new.self) (sink c.run_range-answer.new.out) (sink c.close-text.new.self) (string_bytes c.close-text.result) e mid _ around (c.in_ok-answer.ensures.performs b here) p.2)
+
+pub run_capture-returns-clause-performs : goal.run_capture-returns-clause-performs
+run_capture-returns-clause-performs g t c b here =
+    let sink = sink_of g.W.CountedWrite.contents g.W.CountedWrite.failure_count in
+    let around : Around (sink c.args.out.now) (sink c.open-outer.new.self) (sink c.run_range-answer.new.out) (sink c.close-text.new.self) (string_bytes c.close-text.result) = record {
+      opened = c.open-outer.ensures.empty;
+      closed = ap (option_map string_bytes) c.close-text.ensures.text;
+      back = ap (option_map string_bytes) (c.close-text.ensures.outer ∙ c.open-outer.ensures.outer);
+      contents_in = ap (λ w. g.W.CountedWrite.contents w.now) c.open-outer.ensures.writer;
+      contents_out = ap (λ w. g.W.CountedWrite.contents w.now) c.close-text.ensures.writer;
+      failures_in = ap (λ w. g.W.CountedWrite.failure_count w.now) c.open-outer.ensures.writer;
+      failures_out = ap (λ w. g.W.CountedWrite.failure_count w.now) c.close-text.ensures.writer;
+    } in
+    let m = nodes_meant (setting_of g.H.NamedFilters.named c.args.given.now) c.args.given.now.depth (nodes_of b) in
+    let e = environment_of c.args.state.now in
+    let mid = environment_of c.run_range-answer.new.state in
+    let stored : Gives (λ _. layers_of c.set_global.new.self) c.set_global.result (with_assigned c.args.name.now (text (string_bytes c.close-text.result)) (layers_of c.run_range-answer.new.state)) = search (rules, view-Text) in
+    by_rule (capture_rule (setting_of g.H.NamedFilters.named c.args.given.now) (deeper_meaning (setting_of g.H.NamedFilters.named c.args.given.now) c.args.given.now.depth) c.args.name.now (nodes_of b)) (bind_met (λ x. x) unit (string_bytes c.close-text.result) c.set_global.result (buffered m) (λ x. change (assigned_to c.args.name.now (text x))) _ (record { sink = sink c.close-text.new.self; environment = mid }) _
+    (buffered_met unit _ m (sink c.args.out.now) (sink c.open-outer.new.self) (sink c.run_range-answer.new.out) (sink c.close-text.new.self) (string_bytes c.close-text.result) e mid around (c.in_ok-answer.ensures.performs b here))
+    (change_met c.set_global.result (assigned_to c.args.name.now (text (string_bytes c.close-text.result))) _ mid _ (gives_merged c.set_global.result _ _ stored)))
+
+pub run_capture-returns-clause-kept : goal.run_capture-returns-clause-kept
+unfolding node_names
+run_capture-returns-clause-kept g t c b here N names inside =
+    let stored : Gives (λ _. layers_of c.set_global.new.self) c.set_global.result (with_assigned c.args.name.now (text (string_bytes c.close-text.result)) (layers_of c.run_range-answer.new.state)) = search (rules, view-Text) in
+    kept_after N _ _ _ (c.run_range-answer.ensures.kept b here N names.1 inside)
+    (kept_assigned N c.args.name.now (text (string_bytes c.close-text.result)) (layers_of c.run_range-answer.new.state) (layers_of c.set_global.new.self) c.set_global.result names.0 stored c.set_global.ensures.unchanged)
+
+pub run_capture-returns-in_err-answer-clause-kept : goal.run_capture-returns-in_err-answer-clause-kept
+unfolding node_names
+run_capture-returns-in_err-answer-clause-kept g t c b here N names inside =
+    c.run_range-answer.ensures.kept b here N names.1 inside
+
+pub run_capture-returns-in_err-from_str-clause-kept : goal.run_capture-returns-in_err-from_str-clause-kept
+unfolding node_names
+run_capture-returns-in_err-from_str-clause-kept g t c b here N names inside =
+    c.run_range-answer.ensures.kept b here N names.1 inside
+
+pub run_include-returns-in_err-called-clause-performs : goal.run_include-returns-in_err-called-clause-performs
+run_include-returns-in_err-called-clause-performs g t c =
+    let place = place_of g.W.CountedWrite.contents g.W.CountedWrite.failure_count in
+    let p = err_from_is_err_and c.from_residual.result c.from_residual.ensures.1 in
+    rw (p.1, p.2) (include_refused (setting_of g.H.NamedFilters.named c.args.given.now) (deeper_meaning (setting_of g.H.NamedFilters.named c.args.given.now) c.args.given.now.depth) (expression_view c.args.name.now) (bindings_view c.args.bindings.now) c.in_err-called.field-0.0 (place c.args.out.now c.args.state.now) c.in_err-called.ensures)
+
+pub run_include-returns-in_err-scope-clause-performs : goal.run_include-returns-in_err-scope-clause-performs
+run_include-returns-in_err-scope-clause-performs g t c =
+    let place = place_of g.W.CountedWrite.contents g.W.CountedWrite.failure_count in
+    let p = err_from_is_err_and c.from_residual-in_err-scope.result c.from_residual-in_err-scope.ensures.1 in
+    rw (p.1, p.2) (include_named (setting_of g.H.NamedFilters.named c.args.given.now) (deeper_meaning (setting_of g.H.NamedFilters.named c.args.given.now) c.args.given.now.depth) (expression_view c.args.name.now) (bindings_view c.args.bindings.now) (Err c.in_err-scope.field-0.0) (string_bytes c.in_ok-called.called) (place c.args.out.now c.args.state.now) (place c.args.out.now c.args.state.now) c.in_ok-called.ensures
+    (pairs_refused unit pairs_scope (bindings_view c.args.bindings.now) (partial_of (partials_of c.args.given.now.partials.now) (string_bytes c.in_ok-called.called)) (λ scope partial. with_scope scope (deeper_meaning (setting_of g.H.NamedFilters.named c.args.given.now) c.args.given.now.depth partial)) c.in_err-scope.field-0.0 (place c.args.out.now c.args.state.now) c.in_err-scope.ensures))
+
+pub run_include-returns-in_err-partial-clause-performs : goal.run_include-returns-in_err-partial-clause-performs
+run_include-returns-in_err-partial-clause-performs g t c =
+    let place = place_of g.W.CountedWrite.contents g.W.CountedWrite.failure_count in
+    let p = err_from_is_err_and c.from_residual-in_err-partial.result c.from_residual-in_err-partial.ensures.1 in
+    rw (p.1, p.2) (include_named (setting_of g.H.NamedFilters.named c.args.given.now) (deeper_meaning (setting_of g.H.NamedFilters.named c.args.given.now) c.args.given.now.depth) (expression_view c.args.name.now) (bindings_view c.args.bindings.now) (Err c.in_err-partial.field-0.0) (string_bytes c.in_ok-called.called) (place c.args.out.now c.args.state.now) (place c.args.out.now c.args.state.now) c.in_ok-called.ensures
+    (not_found unit pairs_scope (bindings_view c.args.bindings.now) (partial_of (partials_of c.args.given.now.partials.now) (string_bytes c.in_ok-called.called)) (λ scope partial. with_scope scope (deeper_meaning (setting_of g.H.NamedFilters.named c.args.given.now) c.args.given.now.depth partial)) c.in_err-partial.field-0.0 (held c.in_ok-scope.scope) (place c.args.out.now c.args.state.now) c.in_ok-scope.ensures (subst (λ x. Faulted c.in_err-partial.field-0.0.kind (partial_of (partials_of c.args.given.now.partials.now) x)) c.as_str.ensures.value c.in_err-partial.ensures.found)))
+
+pub run_include-returns-clause-performs : goal.run_include-returns-clause-performs
+run_include-returns-clause-performs g t c =
+    let place = place_of g.W.CountedWrite.contents g.W.CountedWrite.failure_count in
+    include_named (setting_of g.H.NamedFilters.named c.args.given.now) (deeper_meaning (setting_of g.H.NamedFilters.named c.args.given.now) c.args.given.now.depth) (expression_view c.args.name.now) (bindings_view c.args.bindings.now) c.run_partial.result (string_bytes c.in_ok-called.called) (place c.args.out.now c.args.state.now) (place c.run_partial.new.out c.run_partial.new.state) c.in_ok-called.ensures
+    (entered unit pairs_scope (bindings_view c.args.bindings.now) (partial_of (partials_of c.args.given.now.partials.now) (string_bytes c.in_ok-called.called)) (λ scope partial. with_scope scope (deeper_meaning (setting_of g.H.NamedFilters.named c.args.given.now) c.args.given.now.depth partial)) c.run_partial.result (held c.in_ok-scope.scope) (tree_of c.in_ok-partial.partial.now) (place c.args.out.now c.args.state.now) (place c.run_partial.new.out c.run_partial.new.state) c.in_ok-scope.ensures (subst (λ x. partial_of (partials_of c.args.given.now.partials.now) x ≡ Ok (tree_of c.in_ok-partial.partial.now)) c.as_str.ensures.value c.in_ok-partial.ensures.found) c.run_partial.ensures.performs)
+
+pub run_include-returns-clause-kept : goal.run_include-returns-clause-kept
+run_include-returns-clause-kept g t c N names inside =
+    let found = subst (λ x. partial_of (partials_of c.args.given.now.partials.now) x ≡ Ok (tree_of c.in_ok-partial.partial.now)) c.as_str.ensures.value c.in_ok-partial.ensures.found in
+    c.run_partial.ensures.kept N (within_found N (partials_of c.args.given.now.partials.now) (string_bytes c.in_ok-called.called) (tree_of c.in_ok-partial.partial.now) inside (found_some _ UnknownPartial _ found)) inside
+
+pub run_jekyll_include-returns-in_err-scope-clause-performs : goal.run_jekyll_include-returns-in_err-scope-clause-performs
+run_jekyll_include-returns-in_err-scope-clause-performs g t c =
+    let place = place_of g.W.CountedWrite.contents g.W.CountedWrite.failure_count in
+    let p = err_from_is_err_and c.from_residual.result c.from_residual.ensures.1 in
+    rw (p.1, p.2) (jekyll_met (setting_of g.H.NamedFilters.named c.args.given.now) (deeper_meaning (setting_of g.H.NamedFilters.named c.args.given.now) c.args.given.now.depth) c.args.name.now (bindings_view c.args.bindings.now) (Err c.in_err-scope.field-0.0) (place c.args.out.now c.args.state.now) (place c.args.out.now c.args.state.now)
+    (pairs_refused unit include_scope (bindings_view c.args.bindings.now) (partial_of (partials_of c.args.given.now.partials.now) c.args.name.now) (λ scope partial. with_scope scope (deeper_meaning (setting_of g.H.NamedFilters.named c.args.given.now) c.args.given.now.depth partial)) c.in_err-scope.field-0.0 (place c.args.out.now c.args.state.now) c.in_err-scope.ensures))
+
+pub run_jekyll_include-returns-in_err-partial-clause-performs : goal.run_jekyll_include-returns-in_err-partial-clause-performs
+run_jekyll_include-returns-in_err-partial-clause-performs g t c =
+    let place = place_of g.W.CountedWrite.contents g.W.CountedWrite.failure_count in
+    let p = err_from_is_err_and c.from_residual-in_err-partial.result c.from_residual-in_err-partial.ensures.1 in
+    rw (p.1, p.2) (jekyll_met (setting_of g.H.NamedFilters.named c.args.given.now) (deeper_meaning (setting_of g.H.NamedFilters.named c.args.given.now) c.args.given.now.depth) c.args.name.now (bindings_view c.args.bindings.now) (Err c.in_err-partial.field-0.0) (place c.args.out.now c.args.state.now) (place c.args.out.now c.args.state.now)
+    (not_found unit include_scope (bindings_view c.args.bindings.now) (partial_of (partials_of c.args.given.now.partials.now) c.args.name.now) (λ scope partial. with_scope scope (deeper_meaning (setting_of g.H.NamedFilters.named c.args.given.now) c.args.given.now.depth partial)) c.in_err-partial.field-0.0 (held c.in_ok-scope.scope) (place c.args.out.now c.args.state.now) c.in_ok-scope.ensures c.in_err-partial.ensures.found))
+
+pub run_jekyll_include-returns-clause-performs : goal.run_jekyll_include-returns-clause-performs
+run_jekyll_include-returns-clause-performs g t c =
+    let place = place_of g.W.CountedWrite.contents g.W.CountedWrite.failure_count in
+    let after = place c.run_partial.new.out c.run_partial.new.state in
+    jekyll_met (setting_of g.H.NamedFilters.named c.args.given.now) (deeper_meaning (setting_of g.H.NamedFilters.named c.args.given.now) c.args.given.now.depth) c.args.name.now (bindings_view c.args.bindings.now) c.run_partial.result (place c.args.out.now c.args.state.now) after
+    (entered unit include_scope (bindings_view c.args.bindings.now) (partial_of (partials_of c.args.given.now.partials.now) c.args.name.now) (λ scope partial. with_scope scope (deeper_meaning (setting_of g.H.NamedFilters.named c.args.given.now) c.args.given.now.depth partial)) c.run_partial.result (held c.in_ok-scope.scope) (tree_of c.in_ok-partial.partial.now) (place c.args.out.now c.args.state.now) after c.in_ok-scope.ensures c.in_ok-partial.ensures.found c.run_partial.ensures.performs)
+
+pub run_jekyll_include-returns-clause-kept : goal.run_jekyll_include-returns-clause-kept
+run_jekyll_include-returns-clause-kept g t c N names inside =
+    c.run_partial.ensures.kept N (within_found N (partials_of c.args.given.now.partials.now) c.args.name.now (tree_of c.in_ok-partial.partial.now) inside (found_some _ UnknownPartial _ c.in_ok-partial.ensures.found)) inside
+
+pub run_partial-returns-then-given-eq0-clause-performs : goal.run_partial-returns-then-given-eq0-clause-performs
+run_partial-returns-then-given-eq0-clause-performs g t c =
+    let sink = sink_of g.W.CountedWrite.contents g.W.CountedWrite.failure_count in
+    scope_deep (setting_of g.H.NamedFilters.named c.args.given.now) c.args.given.now.depth (tree_of c.args.partial.now) (held c.args.scope) c.too_deep.result (sink c.args.out.now) (environment_of c.args.state.now) c.if-given-eq0.true c.too_deep.ensures
+
+pub run_partial-returns-in_err-push_scope-clause-performs : goal.run_partial-returns-in_err-push_scope-clause-performs
+run_partial-returns-in_err-push_scope-clause-performs g t c =
+    let p = err_from_is_err_and c.from_residual.result c.from_residual.ensures.1 in
+    rw (p.1, p.2) (memory_at _ c.in_err-push_scope.ensures.pushed)
+
+pub run_partial-returns-clause-loops : goal.run_partial-returns-clause-loops
+run_partial-returns-clause-loops g t c =
+    c.pop_scope.ensures.loops ∙ ap without_innermost (c.run_range-answer.ensures.loops ∙ c.in_ok-push_scope.ensures.over) ∙ named_off (loops_of c.args.state.now) c.args.scope
+
+pub run_partial-run_range-answer-requires : goal.run_partial-run_range-answer-requires
+run_partial-run_range-answer-requires g t c κs within =
+    let small : length c.nodes-nodes.result.now ≤ most_of c.args.given.now.partials.now = subst (λ n. n ≤ most_of c.args.given.now.partials.now) (sym (ap length c.nodes-nodes.ensures)) c.requires.small in
+    let step = reserve_step c.args.given.now.depth (length c.nodes-nodes.result.now) c.args.given.now.partials.now c.if-given-eq0.false small in
+    (let lt : 3 * (length c.nodes-nodes.result.now - 0) + 1 + reserve (c.args.given.now.depth - 1) c.args.given.now.partials.now < t = omega arith in lt, (within.0, (within.1, (forest_of c.args.partial.now, (stood_in c.args.partial.now c.nodes-nodes.result.now c.nodes-nodes.ensures)))))
+
+pub run_partial-returns-clause-performs : goal.run_partial-returns-clause-performs
+unfolding tree_of
+run_partial-returns-clause-performs g t c =
+    let place = place_of g.W.CountedWrite.contents g.W.CountedWrite.failure_count in
+    let sink = sink_of g.W.CountedWrite.contents g.W.CountedWrite.failure_count in
+    let kept = c.run_range-answer.ensures.kept (forest_of c.args.partial.now) (stood_in c.args.partial.now c.nodes-nodes.result.now c.nodes-nodes.ensures) (λ name. true) (within_all _) (within_all _) in
+    subst (λ m. Performs c.run_range-answer.result (with_scope (held c.args.scope) m) (place c.args.out.now c.args.state.now) (place c.run_range-answer.new.out c.pop_scope.new.self)) (sym (deeper_is (setting_of g.H.NamedFilters.named c.args.given.now) c.args.given.now.depth (tree_of c.args.partial.now) c.if-given-eq0.false))
+    (partial_met (held c.args.scope) c.run_range-answer.result (nodes_meant (setting_of g.H.NamedFilters.named c.args.given.now) (c.args.given.now.depth - 1) (tree_of c.args.partial.now)) (sink c.args.out.now) (sink c.run_range-answer.new.out) (layers_of c.args.state.now) (layers_of c.push_scope.new.self) (layers_of c.run_range-answer.new.state) (layers_of c.pop_scope.new.self)
+    c.in_ok-push_scope.ensures.pushed kept.scopes c.pop_scope.ensures.popped (c.run_range-answer.ensures.performs (forest_of c.args.partial.now) (stood_in c.args.partial.now c.nodes-nodes.result.now c.nodes-nodes.ensures)))
+
+pub run_partial-returns-clause-kept : goal.run_partial-returns-clause-kept
+unfolding tree_of
+run_partial-returns-clause-kept g t c N names inside =
+    kept_around N (held c.args.scope) (layers_of c.args.state.now) (layers_of c.push_scope.new.self) (layers_of c.run_range-answer.new.state) (layers_of c.pop_scope.new.self)
+    c.in_ok-push_scope.ensures.pushed (c.run_range-answer.ensures.kept (forest_of c.args.partial.now) (stood_in c.args.partial.now c.nodes-nodes.result.now c.nodes-nodes.ensures) N names inside) c.pop_scope.ensures.popped
+
+pub run_render-returns-in_err-called-clause-performs : goal.run_render-returns-in_err-called-clause-performs
+run_render-returns-in_err-called-clause-performs g t c =
+    let place = place_of g.W.CountedWrite.contents g.W.CountedWrite.failure_count in
+    let p = err_from_is_err_and c.from_residual.result c.from_residual.ensures.1 in
+    rw (p.1, p.2) (render_refused (setting_of g.H.NamedFilters.named c.args.given.now) (deeper_meaning (setting_of g.H.NamedFilters.named c.args.given.now) c.args.given.now.depth) (expression_view c.args.name.now) (bindings_view c.args.bindings.now) c.in_err-called.field-0.0 (place c.args.out.now c.args.state.now) c.in_err-called.ensures)
+
+pub run_render-returns-in_err-scope-clause-performs : goal.run_render-returns-in_err-scope-clause-performs
+run_render-returns-in_err-scope-clause-performs g t c =
+    let place = place_of g.W.CountedWrite.contents g.W.CountedWrite.failure_count in
+    let p = err_from_is_err_and c.from_residual-in_err-scope.result c.from_residual-in_err-scope.ensures.1 in
+    rw (p.1, p.2) (render_faulted (setting_of g.H.NamedFilters.named c.args.given.now) (deeper_meaning (setting_of g.H.NamedFilters.named c.args.given.now) c.args.given.now.depth) (expression_view c.args.name.now) (bindings_view c.args.bindings.now) c.in_err-scope.field-0.0 (string_bytes c.in_ok-called.called) (place c.args.out.now c.args.state.now) (place c.args.out.now c.args.state.now) c.in_ok-called.ensures
+    (pairs_refused (λ (i : Option Interrupt). i) pairs_scope (bindings_view c.args.bindings.now) (rendered_of (partials_of c.args.given.now.partials.now) (string_bytes c.in_ok-called.called)) (λ scope partial. apart scope (deeper_meaning (setting_of g.H.NamedFilters.named c.args.given.now) c.args.given.now.depth partial)) c.in_err-scope.field-0.0 (place c.args.out.now c.args.state.now) c.in_err-scope.ensures))
+
+pub run_render-returns-in_err-partial-clause-performs : goal.run_render-returns-in_err-partial-clause-performs
+run_render-returns-in_err-partial-clause-performs g t c =
+    let place = place_of g.W.CountedWrite.contents g.W.CountedWrite.failure_count in
+    let p = err_from_is_err_and c.from_residual-in_err-partial.result c.from_residual-in_err-partial.ensures.1 in
+    rw (p.1, p.2) (render_faulted (setting_of g.H.NamedFilters.named c.args.given.now) (deeper_meaning (setting_of g.H.NamedFilters.named c.args.given.now) c.args.given.now.depth) (expression_view c.args.name.now) (bindings_view c.args.bindings.now) c.in_err-partial.field-0.0 (string_bytes c.in_ok-called.called) (place c.args.out.now c.args.state.now) (place c.args.out.now c.args.state.now) c.in_ok-called.ensures
+    (not_found (λ (i : Option Interrupt). i) pairs_scope (bindings_view c.args.bindings.now) (rendered_of (partials_of c.args.given.now.partials.now) (string_bytes c.in_ok-called.called)) (λ scope partial. apart scope (deeper_meaning (setting_of g.H.NamedFilters.named c.args.given.now) c.args.given.now.depth partial)) c.in_err-partial.field-0.0 (held c.in_ok-scope.scope) (place c.args.out.now c.args.state.now) c.in_ok-scope.ensures (subst (λ x. Faulted c.in_err-partial.field-0.0.kind (rendered_of (partials_of c.args.given.now.partials.now) x)) c.as_str.ensures.value c.in_err-partial.ensures.found)))
+
+pub run_render-returns-in_err-run_apart-clause-performs : goal.run_render-returns-in_err-run_apart-clause-performs
+run_render-returns-in_err-run_apart-clause-performs g t c =
+    let place = place_of g.W.CountedWrite.contents g.W.CountedWrite.failure_count in
+    let p = err_from_is_err_and c.from_residual-in_err-run_apart.result c.from_residual-in_err-run_apart.ensures.1 in
+    rw (p.1, p.2) (render_faulted (setting_of g.H.NamedFilters.named c.args.given.now) (deeper_meaning (setting_of g.H.NamedFilters.named c.args.given.now) c.args.given.now.depth) (expression_view c.args.name.now) (bindings_view c.args.bindings.now) c.in_err-run_apart.field-0.0 (string_bytes c.in_ok-called.called) (place c.args.out.now c.args.state.now) (place c.run_apart.new.out c.args.state.now) c.in_ok-called.ensures
+    (entered (λ (i : Option Interrupt). i) pairs_scope (bindings_view c.args.bindings.now) (rendered_of (partials_of c.args.given.now.partials.now) (string_bytes c.in_ok-called.called)) (λ scope partial. apart scope (deeper_meaning (setting_of g.H.NamedFilters.named c.args.given.now) c.args.given.now.depth partial)) (Err c.in_err-run_apart.field-0.0) (held c.in_ok-scope.scope) (tree_of c.in_ok-partial.partial.now) (place c.args.out.now c.args.state.now) (place c.run_apart.new.out c.args.state.now) c.in_ok-scope.ensures (subst (λ x. rendered_of (partials_of c.args.given.now.partials.now) x ≡ Ok (tree_of c.in_ok-partial.partial.now)) c.as_str.ensures.value c.in_ok-partial.ensures.found) (c.in_err-run_apart.ensures.performs (environment_of c.args.state.now))))
+
+pub run_render-returns-clause-performs : goal.run_render-returns-clause-performs
+run_render-returns-clause-performs g t c =
+    let place = place_of g.W.CountedWrite.contents g.W.CountedWrite.failure_count in
+    render_met (setting_of g.H.NamedFilters.named c.args.given.now) (deeper_meaning (setting_of g.H.NamedFilters.named c.args.given.now) c.args.given.now.depth) (expression_view c.args.name.now) (bindings_view c.args.bindings.now) tt c.in_ok-run_apart.field-0 (string_bytes c.in_ok-called.called) (place c.args.out.now c.args.state.now) (place c.run_apart.new.out c.args.state.now) c.in_ok-called.ensures
+    (entered (λ (i : Option Interrupt). i) pairs_scope (bindings_view c.args.bindings.now) (rendered_of (partials_of c.args.given.now.partials.now) (string_bytes c.in_ok-called.called)) (λ scope partial. apart scope (deeper_meaning (setting_of g.H.NamedFilters.named c.args.given.now) c.args.given.now.depth partial)) (Ok c.in_ok-run_apart.field-0) (held c.in_ok-scope.scope) (tree_of c.in_ok-partial.partial.now) (place c.args.out.now c.args.state.now) (place c.run_apart.new.out c.args.state.now) c.in_ok-scope.ensures (subst (λ x. rendered_of (partials_of c.args.given.now.partials.now) x ≡ Ok (tree_of c.in_ok-partial.partial.now)) c.as_str.ensures.value c.in_ok-partial.ensures.found) (c.in_ok-run_apart.ensures.performs (environment_of c.args.state.now)))
+
+pub run_apart-returns-then-given-eq0-clause-performs : goal.run_apart-returns-then-given-eq0-clause-performs
+run_apart-returns-then-given-eq0-clause-performs g t c e =
+    let sink = sink_of g.W.CountedWrite.contents g.W.CountedWrite.failure_count in
+    apart_deep (setting_of g.H.NamedFilters.named c.args.given.now) c.args.given.now.depth (tree_of c.args.partial.now) (held c.args.names) c.too_deep.result (sink c.args.out.now) e c.if-given-eq0.true c.too_deep.ensures
+
+pub run_apart-returns-in_err-push_scope-clause-performs : goal.run_apart-returns-in_err-push_scope-clause-performs
+run_apart-returns-in_err-push_scope-clause-performs g t c e =
+    let p = err_from_is_err_and c.from_residual.result c.from_residual.ensures.1 in
+    rw (p.1, p.2) (memory_at _ c.in_err-push_scope.ensures.pushed)
+
+pub run_apart-run_range-requires : goal.run_apart-run_range-requires
+run_apart-run_range-requires g t c κs within =
+    let small : length c.nodes-nodes.result.now ≤ most_of c.args.given.now.partials.now = subst (λ n. n ≤ most_of c.args.given.now.partials.now) (sym (ap length c.nodes-nodes.ensures)) c.requires.small in
+    let step = reserve_step c.args.given.now.depth (length c.nodes-nodes.result.now) c.args.given.now.partials.now c.if-given-eq0.false small in
+    (let lt : 3 * (length c.nodes-nodes.result.now - 0) + 1 + reserve (c.args.given.now.depth - 1) c.args.given.now.partials.now < t = omega arith in lt, (within.0, (within.1, (forest_of c.args.partial.now, (stood_in c.args.partial.now c.nodes-nodes.result.now c.nodes-nodes.ensures)))))
+
+pub run_apart-returns-in_err-run_range-clause-performs : goal.run_apart-returns-in_err-run_range-clause-performs
+unfolding tree_of
+run_apart-returns-in_err-run_range-clause-performs g t c e =
+    let sink = sink_of g.W.CountedWrite.contents g.W.CountedWrite.failure_count in
+    let own : environment_of c.push_scope.new.self ≡ new_environment (held c.args.names) =
+    own_environment (held c.args.names) (held c.new.result) (layers_of c.push_scope.new.self) (c.in_ok-push_scope.ensures.pushed ∙ ap (with_scope_pushed (held c.args.names)) c.new-own.ensures.layers) (held_none c.new.result c.new.ensures.empty) in
+    let after : Place = record { sink = sink c.run_range.new.out; environment = environment_of c.run_range.new.state } in
+    let inside : Performs (Err c.in_err-run_range.field-0.0) (deeper_meaning (setting_of g.H.NamedFilters.named c.args.given.now) c.args.given.now.depth (tree_of c.args.partial.now)) (record { sink = sink c.args.out.now; environment = new_environment (held c.args.names) }) after =
+    subst (λ m. Performs (Err c.in_err-run_range.field-0.0) m (record { sink = sink c.args.out.now; environment = new_environment (held c.args.names) }) after) (sym (deeper_is (setting_of g.H.NamedFilters.named c.args.given.now) c.args.given.now.depth (tree_of c.args.partial.now) c.if-given-eq0.false))
+    (subst (λ h. Performs (Err c.in_err-run_range.field-0.0) (nodes_meant (setting_of g.H.NamedFilters.named c.args.given.now) (c.args.given.now.depth - 1) (tree_of c.args.partial.now)) (record { sink = sink c.args.out.now; environment = h }) after) own (c.in_err-run_range.ensures.performs (forest_of c.args.partial.now) (stood_in c.args.partial.now c.nodes-nodes.result.now c.nodes-nodes.ensures))) in
+    let p = err_from_is_err_and c.from_residual-in_err-run_range.result c.from_residual-in_err-run_range.ensures.1 in
+    rw (p.1, p.2) (apart_faulted unit (λ (i : Option Interrupt). i) c.in_err-run_range.field-0.0 (held c.args.names) (deeper_meaning (setting_of g.H.NamedFilters.named c.args.given.now) c.args.given.now.depth (tree_of c.args.partial.now)) (sink c.args.out.now) (sink c.run_range.new.out) e (environment_of c.run_range.new.state) inside)
+
+pub run_apart-returns-clause-performs : goal.run_apart-returns-clause-performs
+unfolding tree_of
+run_apart-returns-clause-performs g t c e =
+    let sink = sink_of g.W.CountedWrite.contents g.W.CountedWrite.failure_count in
+    let own : environment_of c.push_scope.new.self ≡ new_environment (held c.args.names) =
+    own_environment (held c.args.names) (held c.new.result) (layers_of c.push_scope.new.self) (c.in_ok-push_scope.ensures.pushed ∙ ap (with_scope_pushed (held c.args.names)) c.new-own.ensures.layers) (held_none c.new.result c.new.ensures.empty) in
+    let after : Place = record { sink = sink c.run_range.new.out; environment = environment_of c.run_range.new.state } in
+    let inside : Performs (Ok c.in_ok-run_range.field-0) (deeper_meaning (setting_of g.H.NamedFilters.named c.args.given.now) c.args.given.now.depth (tree_of c.args.partial.now)) (record { sink = sink c.args.out.now; environment = new_environment (held c.args.names) }) after =
+    subst (λ m. Performs (Ok c.in_ok-run_range.field-0) m (record { sink = sink c.args.out.now; environment = new_environment (held c.args.names) }) after) (sym (deeper_is (setting_of g.H.NamedFilters.named c.args.given.now) c.args.given.now.depth (tree_of c.args.partial.now) c.if-given-eq0.false))
+    (subst (λ h. Performs (Ok c.in_ok-run_range.field-0) (nodes_meant (setting_of g.H.NamedFilters.named c.args.given.now) (c.args.given.now.depth - 1) (tree_of c.args.partial.now)) (record { sink = sink c.args.out.now; environment = h }) after) own (c.in_ok-run_range.ensures.performs (forest_of c.args.partial.now) (stood_in c.args.partial.now c.nodes-nodes.result.now c.nodes-nodes.ensures))) in
+    subst (λ i. Meets (λ (i : Option Interrupt). i) (Ok i) (apart (held c.args.names) (deeper_meaning (setting_of g.H.NamedFilters.named c.args.given.now) c.args.given.now.depth (tree_of c.args.partial.now))) (record { sink = sink c.args.out.now; environment = e }) (record { sink = sink c.run_range.new.out; environment = e })) (interrupt_of c.run_range.new.state _ refl)
+    (apart_met unit c.in_ok-run_range.field-0 (held c.args.names) (deeper_meaning (setting_of g.H.NamedFilters.named c.args.given.now) c.args.given.now.depth (tree_of c.args.partial.now)) (sink c.args.out.now) (sink c.run_range.new.out) e (environment_of c.run_range.new.state) inside)
+
+pub run_node-returns-in-Increment-clause-performs : goal.run_node-returns-in-Increment-clause-performs
+run_node-returns-in-Increment-clause-performs g t c =
+    let place = place_of g.W.CountedWrite.contents g.W.CountedWrite.failure_count in
+    leaf_performs (setting_of g.H.NamedFilters.named c.args.given.now) c.args.given.now.depth c.args.nodes.now c.args.at c.args.to c.index-nodes-at.result _ (tree.increment (string_bytes c.in-Increment.name)) c.run_increment.result (place c.args.out.now c.args.state.now) (place c.run_increment.new.out c.run_increment.new.state) c.requires c.index-nodes-at.is c.in-Increment.is refl
+    (subst (λ x. Performs c.run_increment.result (node_meant (setting_of g.H.NamedFilters.named c.args.given.now) c.args.given.now.depth (tree.increment x)) (place c.args.out.now c.args.state.now) (place c.run_increment.new.out c.run_increment.new.state)) c.as_str-in-Increment.ensures.value c.run_increment.ensures.performs)
+
+pub run_node-returns-in-Increment-clause-kept : goal.run_node-returns-in-Increment-clause-kept
+run_node-returns-in-Increment-clause-kept g t c =
+    leaf_keeps (setting_of g.H.NamedFilters.named c.args.given.now) c.args.nodes.now c.args.at c.args.to c.index-nodes-at.result _ (tree.increment (string_bytes c.in-Increment.name)) c.args.state.now c.run_increment.new.state c.requires c.index-nodes-at.is c.in-Increment.is refl
+    (subst (λ x. Keeps (node_names (tree.increment x)) (setting_of g.H.NamedFilters.named c.args.given.now) c.args.state.now c.run_increment.new.state) c.as_str-in-Increment.ensures.value c.run_increment.ensures.kept)
+
+pub run_node-returns-in-Increment-clause-alone : goal.run_node-returns-in-Increment-clause-alone
+run_node-returns-in-Increment-clause-alone g t c = leaf_other c.args.nodes.now c.args.at c.args.to c.index-nodes-at.result _ (tree.increment (string_bytes c.in-Increment.name)) c.args.state.now c.run_increment.new.state c.requires c.index-nodes-at.is c.in-Increment.is refl (λ no. absurd no)
+
+pub run_node-returns-in-Decrement-clause-performs : goal.run_node-returns-in-Decrement-clause-performs
+run_node-returns-in-Decrement-clause-performs g t c =
+    let place = place_of g.W.CountedWrite.contents g.W.CountedWrite.failure_count in
+    leaf_performs (setting_of g.H.NamedFilters.named c.args.given.now) c.args.given.now.depth c.args.nodes.now c.args.at c.args.to c.index-nodes-at.result _ (tree.decrement (string_bytes c.in-Decrement.name)) c.run_decrement.result (place c.args.out.now c.args.state.now) (place c.run_decrement.new.out c.run_decrement.new.state) c.requires c.index-nodes-at.is c.in-Decrement.is refl
+    (subst (λ x. Performs c.run_decrement.result (node_meant (setting_of g.H.NamedFilters.named c.args.given.now) c.args.given.now.depth (tree.decrement x)) (place c.args.out.now c.args.state.now) (place c.run_decrement.new.out c.run_decrement.new.state)) c.as_str-in-Decrement.ensures.value c.run_decrement.ensures.performs)
+
+pub run_node-returns-in-Decrement-clause-kept : goal.run_node-returns-in-Decrement-clause-kept
+run_node-returns-in-Decrement-clause-kept g t c =
+    leaf_keeps (setting_of g.H.NamedFilters.named c.args.given.now) c.args.nodes.now c.args.at c.args.to c.index-nodes-at.result _ (tree.decrement (string_bytes c.in-Decrement.name)) c.args.state.now c.run_decrement.new.state c.requires c.index-nodes-at.is c.in-Decrement.is refl
+    (subst (λ x. Keeps (node_names (tree.decrement x)) (setting_of g.H.NamedFilters.named c.args.given.now) c.args.state.now c.run_decrement.new.state) c.as_str-in-Decrement.ensures.value c.run_decrement.ensures.kept)
+
+pub run_node-returns-in-Decrement-clause-alone : goal.run_node-returns-in-Decrement-clause-alone
+run_node-returns-in-Decrement-clause-alone g t c = leaf_other c.args.nodes.now c.args.at c.args.to c.index-nodes-at.result _ (tree.decrement (string_bytes c.in-Decrement.name)) c.args.state.now c.run_decrement.new.state c.requires c.index-nodes-at.is c.in-Decrement.is refl (λ no. absurd no)
+
+pub run_node-returns-in-Cycle-clause-performs : goal.run_node-returns-in-Cycle-clause-performs
+run_node-returns-in-Cycle-clause-performs g t c =
+    let place = place_of g.W.CountedWrite.contents g.W.CountedWrite.failure_count in
+    leaf_performs (setting_of g.H.NamedFilters.named c.args.given.now) c.args.given.now.depth c.args.nodes.now c.args.at c.args.to c.index-nodes-at.result _ (tree.cycle (string_bytes c.in-Cycle.group) (map expression_view c.in-Cycle.values.items)) c.run_cycle.result (place c.args.out.now c.args.state.now) (place c.run_cycle.new.out c.run_cycle.new.state) c.requires c.index-nodes-at.is c.in-Cycle.is refl
+    (subst (λ ys. Performs c.run_cycle.result (node_meant (setting_of g.H.NamedFilters.named c.args.given.now) c.args.given.now.depth (tree.cycle (string_bytes c.in-Cycle.group) (map expression_view ys))) (place c.args.out.now c.args.state.now) (place c.run_cycle.new.out c.run_cycle.new.state)) c.deref-in-Cycle.ensures.value (subst (λ x. Performs c.run_cycle.result (node_meant (setting_of g.H.NamedFilters.named c.args.given.now) c.args.given.now.depth (tree.cycle x (map expression_view c.deref-in-Cycle.result.now))) (place c.args.out.now c.args.state.now) (place c.run_cycle.new.out c.run_cycle.new.state)) c.as_str-in-Cycle.ensures.value c.run_cycle.ensures.performs))
+
+pub run_node-returns-in-Cycle-clause-kept : goal.run_node-returns-in-Cycle-clause-kept
+run_node-returns-in-Cycle-clause-kept g t c =
+    leaf_keeps (setting_of g.H.NamedFilters.named c.args.given.now) c.args.nodes.now c.args.at c.args.to c.index-nodes-at.result _ (tree.cycle (string_bytes c.in-Cycle.group) (map expression_view c.in-Cycle.values.items)) c.args.state.now c.run_cycle.new.state c.requires c.index-nodes-at.is c.in-Cycle.is refl
+    (subst (λ ys. Keeps (node_names (tree.cycle (string_bytes c.in-Cycle.group) (map expression_view ys))) (setting_of g.H.NamedFilters.named c.args.given.now) c.args.state.now c.run_cycle.new.state) c.deref-in-Cycle.ensures.value (subst (λ x. Keeps (node_names (tree.cycle x (map expression_view c.deref-in-Cycle.result.now))) (setting_of g.H.NamedFilters.named c.args.given.now) c.args.state.now c.run_cycle.new.state) c.as_str-in-Cycle.ensures.value c.run_cycle.ensures.kept))
+
+pub run_node-returns-in-Cycle-clause-alone : goal.run_node-returns-in-Cycle-clause-alone
+run_node-returns-in-Cycle-clause-alone g t c = leaf_other c.args.nodes.now c.args.at c.args.to c.index-nodes-at.result _ (tree.cycle (string_bytes c.in-Cycle.group) (map expression_view c.in-Cycle.values.items)) c.args.state.now c.run_cycle.new.state c.requires c.index-nodes-at.is c.in-Cycle.is refl (λ no. absurd no)
+
+pub run_node-run_ifchanged-requires : goal.run_node-run_ifchanged-requires
+run_node-run_ifchanged-requires g t c κs within =
+    let (body, past, inside) = one c.args.nodes.now c.args.at c.in-IfChanged.end c.args.to c.index-nodes-at.result _ tree.ifchanged c.requires c.index-nodes-at.is c.in-IfChanged.is refl in
+    (let lt : 3 * (c.in-IfChanged.end - c.args.at) - 1 + reserve c.args.given.now.depth c.args.given.now.partials.now < t = omega arith in lt, (within.0, (within.1, body)))
+
+pub run_node-returns-in-IfChanged-clause-performs : goal.run_node-returns-in-IfChanged-clause-performs
+run_node-returns-in-IfChanged-clause-performs g t c =
+    let place = place_of g.W.CountedWrite.contents g.W.CountedWrite.failure_count in
+    one_performs (setting_of g.H.NamedFilters.named c.args.given.now) c.args.given.now.depth c.args.nodes.now c.args.at c.in-IfChanged.end c.args.to c.index-nodes-at.result _ tree.ifchanged c.run_ifchanged.result (place c.args.out.now c.args.state.now) (place c.run_ifchanged.new.out c.run_ifchanged.new.state) c.requires c.index-nodes-at.is c.in-IfChanged.is refl
+    c.run_ifchanged.ensures.performs
+
+pub run_node-returns-in-IfChanged-clause-kept : goal.run_node-returns-in-IfChanged-clause-kept
+run_node-returns-in-IfChanged-clause-kept g t c =
+    one_keeps (setting_of g.H.NamedFilters.named c.args.given.now) c.args.nodes.now c.args.at c.in-IfChanged.end c.args.to c.index-nodes-at.result _ tree.ifchanged c.args.state.now c.run_ifchanged.new.state c.requires c.index-nodes-at.is c.in-IfChanged.is refl
+    c.run_ifchanged.ensures.kept
+
+pub run_node-returns-in-IfChanged-clause-alone : goal.run_node-returns-in-IfChanged-clause-alone
+run_node-returns-in-IfChanged-clause-alone g t c = one_other c.args.nodes.now c.args.at c.in-IfChanged.end c.args.to c.index-nodes-at.result _ tree.ifchanged c.args.state.now c.run_ifchanged.new.state c.requires c.index-nodes-at.is c.in-IfChanged.is refl (λ b no. absurd no)
+
+pub run_node-run_case-requires : goal.run_node-run_case-requires
+run_node-run_case-requires g t c κs within =
+    let (stands, past, inside) = the_case c.args.nodes.now c.args.at (expression_view c.in-Case.target) c.in-Case.arms.items c.in-Case.last c.args.to c.index-nodes-at.result _ c.requires c.index-nodes-at.is c.in-Case.is refl in
+    (let lt : 3 * (c.in-Case.last - c.args.at) - 1 + reserve c.args.given.now.depth c.args.given.now.partials.now < t = omega arith in lt, (within.0, (within.1, stands)))
+
+pub run_node-returns-in-Case-clause-performs : goal.run_node-returns-in-Case-clause-performs
+run_node-returns-in-Case-clause-performs g t c =
+    let place = place_of g.W.CountedWrite.contents g.W.CountedWrite.failure_count in
+    case_performs c.args.nodes.now c.args.at (expression_view c.in-Case.target) c.in-Case.arms.items c.in-Case.last c.args.to c.index-nodes-at.result _ c.requires c.index-nodes-at.is c.in-Case.is refl (setting_of g.H.NamedFilters.named c.args.given.now) c.args.given.now.depth c.run_case.result (place c.args.out.now c.args.state.now) (place c.run_case.new.out c.run_case.new.state) c.run_case.ensures.performs
+
+pub run_node-returns-in-Case-clause-kept : goal.run_node-returns-in-Case-clause-kept
+run_node-returns-in-Case-clause-kept g t c = case_keeps c.args.nodes.now c.args.at (expression_view c.in-Case.target) c.in-Case.arms.items c.in-Case.last c.args.to c.index-nodes-at.result _ c.requires c.index-nodes-at.is c.in-Case.is refl (setting_of g.H.NamedFilters.named c.args.given.now) c.args.state.now c.run_case.new.state c.run_case.ensures.kept
+
+pub run_node-returns-in-Case-clause-alone : goal.run_node-returns-in-Case-clause-alone
+run_node-returns-in-Case-clause-alone g t c = case_other c.args.nodes.now c.args.at (expression_view c.in-Case.target) c.in-Case.arms.items c.in-Case.last c.args.to c.index-nodes-at.result _ c.requires c.index-nodes-at.is c.in-Case.is refl c.args.state.now c.run_case.new.state
+
+pub run_case-returns-in_err-from-clause-performs : goal.run_case-returns-in_err-from-clause-performs
+run_case-returns-in_err-from-clause-performs g t c ws o stands =
+    let place = place_of g.W.CountedWrite.contents g.W.CountedWrite.failure_count in
+    let p = err_from_is_err_and c.from_residual.result c.from_residual.ensures.1 in
+    rw (p.1, p.2) (refused_performs c.args.nodes.now (node_names (tree.case_of (expression_view c.args.target.now) ws o)) (λ setting deeper. node_meaning setting deeper (tree.case_of (expression_view c.args.target.now) ws o)) c.args.given.now.depth (setting_of g.H.NamedFilters.named c.args.given.now) c.in_err-from.field-0.0 (place c.args.out.now c.args.state.now) (c.in_err-from.ensures.chosen ws o (subst (λ arms. CaseStands c.args.nodes.now (c.args.at + 1) arms c.args.last ws o) (sym c.deref.ensures.value) stands)))
+
+pub run_case-run_range-requires : goal.run_case-run_range-requires
+run_case-run_range-requires g t c κs within =
+    let (ws, o, stands) = c.requires in
+    let x = c.in_ok-from.ensures.chosen ws o (subst (λ arms. CaseStands c.args.nodes.now (c.args.at + 1) arms c.args.last ws o) (sym c.deref.ensures.value) stands) in
+    let first : c.args.at < c.in_ok-from.from = c.in_ok-from.ensures.inside.0 in
+    let end : c.in_ok-from.to ≤ c.args.last = c.in_ok-from.ensures.inside.1 in
+    let order : c.in_ok-from.from ≤ c.in_ok-from.to = Stands-le (flats c.args.nodes.now) c.in_ok-from.from x.nodes c.in_ok-from.to x.stands in
+    (let lt : 3 * (c.in_ok-from.to - c.in_ok-from.from) + 1 + reserve c.args.given.now.depth c.args.given.now.partials.now < t = omega arith in lt, (within.0, (within.1, (x.nodes, x.stands))))
+
+pub run_case-returns-clause-performs : goal.run_case-returns-clause-performs
+run_case-returns-clause-performs g t c ws o stands =
+    let place = place_of g.W.CountedWrite.contents g.W.CountedWrite.failure_count in
+    chosen_performs c.args.nodes.now (node_names (tree.case_of (expression_view c.args.target.now) ws o)) (λ setting deeper. node_meaning setting deeper (tree.case_of (expression_view c.args.target.now) ws o)) c.in_ok-from.from c.in_ok-from.to c.args.given.now.depth (setting_of g.H.NamedFilters.named c.args.given.now) c.run_range.result (place c.args.out.now c.args.state.now) (place c.run_range.new.out c.run_range.new.state) (c.in_ok-from.ensures.chosen ws o (subst (λ arms. CaseStands c.args.nodes.now (c.args.at + 1) arms c.args.last ws o) (sym c.deref.ensures.value) stands)) c.run_range.ensures.performs
+
+pub run_case-returns-clause-kept : goal.run_case-returns-clause-kept
+run_case-returns-clause-kept g t c ws o stands N names inside =
+    let x = c.in_ok-from.ensures.chosen ws o (subst (λ arms. CaseStands c.args.nodes.now (c.args.at + 1) arms c.args.last ws o) (sym c.deref.ensures.value) stands) in
+    c.run_range.ensures.kept x.nodes x.stands N (x.within N names) inside
+
+pub run_ifchanged-overflow_add-at : goal.run_ifchanged-overflow_add-at
+run_ifchanged-overflow_add-at g t c =
+    let body : IsRange c.args.nodes.now (c.args.at + 1) c.args.end = c.requires in
+    let (b, here) = body in
+    let le : c.args.at + 1 ≤ c.args.end = Stands-le (flats c.args.nodes.now) (c.args.at + 1) b c.args.end here in
+    search rules
+
+pub run_ifchanged-run_range-ended-requires : goal.run_ifchanged-run_range-ended-requires
+run_ifchanged-run_range-ended-requires g t c κs within =
+    let body : IsRange c.args.nodes.now (c.args.at + 1) c.args.end = c.requires in
+    let (b, here) = body in
+    let le : c.args.at + 1 ≤ c.args.end = Stands-le (flats c.args.nodes.now) (c.args.at + 1) b c.args.end here in
+    (let lt : 3 * (c.args.end - (c.args.at + 1)) + 1 + reserve c.args.given.now.depth c.args.given.now.partials.now < t = omega arith in lt, (within.0, (within.1, body)))
+
+pub run_ifchanged-returns-in_err-ended-clause-performs : goal.run_ifchanged-returns-in_err-ended-clause-performs
+run_ifchanged-returns-in_err-ended-clause-performs g t c b here =
+    let sink = sink_of g.W.CountedWrite.contents g.W.CountedWrite.failure_count in
+    let around : Around (sink c.args.out.now) (sink c.open-outer.new.self) (sink c.run_range-ended.new.out) (sink c.close-text.new.self) (string_bytes c.close-text.result) = record {
+      opened = c.open-outer.ensures.empty;
+      closed = ap (option_map string_bytes) c.close-text.ensures.text;
+      back = ap (option_map string_bytes) (c.close-text.ensures.outer ∙ c.open-outer.ensures.outer);
+      contents_in = ap (λ w. g.W.CountedWrite.contents w.now) c.open-outer.ensures.writer;
+      contents_out = ap (λ w. g.W.CountedWrite.contents w.now) c.close-text.ensures.writer;
+      failures_in = ap (λ w. g.W.CountedWrite.failure_count w.now) c.open-outer.ensures.writer;
+      failures_out = ap (λ w. g.W.CountedWrite.failure_count w.now) c.close-text.ensures.writer;
+    } in
+    let m = nodes_meant (setting_of g.H.NamedFilters.named c.args.given.now) c.args.given.now.depth (nodes_of b) in
+    let e = environment_of c.args.state.now in
+    let mid = environment_of c.run_range-ended.new.state in
+    let p = err_from_is_err_and c.from_residual.result c.from_residual.ensures.1 in
+    rw (p.1, p.2) (by_rule (ifchanged_rule (setting_of g.H.NamedFilters.named c.args.given.now) (deeper_meaning (setting_of g.H.NamedFilters.named c.args.given.now) c.args.given.now.depth) (nodes_of b)) (bind_faulted (λ x. x) unit _ (buffered m) shown_if_changed _ _ (buffered_faulted unit (λ x. x) _ m (sink c.args.out.now) (sink c.open-outer.new.self) (sink c.run_range-ended.new.out) (sink c.close-text.new.self) (string_bytes c.close-text.result) e mid around (c.in_err-ended.ensures.performs b here))))
+
+pub run_ifchanged-returns-clause-performs : goal.run_ifchanged-returns-clause-performs
+run_ifchanged-returns-clause-performs g t c b here =
+    let sink = sink_of g.W.CountedWrite.contents g.W.CountedWrite.failure_count in
+    let around : Around (sink c.args.out.now) (sink c.open-outer.new.self) (sink c.run_range-ended.new.out) (sink c.close-text.new.self) (string_bytes c.close-text.result) = record {
+      opened = c.open-outer.ensures.empty;
+      closed = ap (option_map string_bytes) c.close-text.ensures.text;
+      back = ap (option_map string_bytes) (c.close-text.ensures.outer ∙ c.open-outer.ensures.outer);
+      contents_in = ap (λ w. g.W.CountedWrite.contents w.now) c.open-outer.ensures.writer;
+      contents_out = ap (λ w. g.W.CountedWrite.contents w.now) c.close-text.ensures.writer;
+      failures_in = ap (λ w. g.W.CountedWrite.failure_count w.now) c.open-outer.ensures.writer;
+      failures_out = ap (λ w. g.W.CountedWrite.failure_count w.now) c.close-text.ensures.writer;
+    } in
+    let m = nodes_meant (setting_of g.H.NamedFilters.named c.args.given.now) c.args.given.now.depth (nodes_of b) in
+    let e = environment_of c.args.state.now in
+    let mid = environment_of c.run_range-ended.new.state in
+    by_rule (ifchanged_rule (setting_of g.H.NamedFilters.named c.args.given.now) (deeper_meaning (setting_of g.H.NamedFilters.named c.args.given.now) c.args.given.now.depth) (nodes_of b)) (bind_met (λ x. x) unit (string_bytes c.close-text.result) c.show_if_changed.result (buffered m) shown_if_changed _ (record { sink = sink c.close-text.new.self; environment = mid }) _
+    (buffered_met unit _ m (sink c.args.out.now) (sink c.open-outer.new.self) (sink c.run_range-ended.new.out) (sink c.close-text.new.self) (string_bytes c.close-text.result) e mid around (c.in_ok-ended.ensures.performs b here))
+    c.show_if_changed.ensures.performs)
+
+pub run_ifchanged-returns-clause-kept : goal.run_ifchanged-returns-clause-kept
+unfolding node_names
+run_ifchanged-returns-clause-kept g t c b here N names inside =
+    kept_after N _ _ _ (c.run_range-ended.ensures.kept b here N names inside) (c.show_if_changed.ensures.kept N)
+
+pub run_ifchanged-returns-in_err-ended-clause-kept : goal.run_ifchanged-returns-in_err-ended-clause-kept
+unfolding node_names
+run_ifchanged-returns-in_err-ended-clause-kept g t c b here N names inside =
+    c.run_range-ended.ensures.kept b here N names inside

@@ -3,30 +3,58 @@ use Rattle.liquid_syntax.specs.Flats.{Maker, StandsAt, nodes_of}
 use Rattle.liquid_syntax.specs.Forest.{Forest}
 use Rattle.liquid_tree.specs.Names.{nodes_names}
 use Rattle.liquid_lib.specs.Engine.{setting_of}
-use Rattle.liquid_lib.specs.Kept.{Keeps}
+use Rattle.liquid_lib.specs.Kept.{Keeps, AreRenders}
 use Rattle.liquid_lib.specs.Performs.{place_of}
+use Rattle.liquid_core.specs.States.{layers_of, loops_of}
 use Rattle.liquid_lib.proofs.Going.{Going}
+use Rattle.liquid_lib.proofs.PartialRuns.{reserve}
 use Rattle.liquid_lib.proofs.engine.+run.Given as goal
 
 abbrev pub decreases-run_range : goal.decreases-run_range
-decreases-run_range g l = 3 * (l.to - l.from) + 1
+decreases-run_range g l = 3 * (l.to - l.from) + 1 + reserve l.given.now.depth l.given.now.partials.now
 
 abbrev pub decreases-run_node : goal.decreases-run_node
-decreases-run_node g l = 3 * (l.to - l.at)
+decreases-run_node g l = 3 * (l.to - l.at) + reserve l.given.now.depth l.given.now.partials.now
 
 abbrev pub decreases-run_if : goal.decreases-run_if
-decreases-run_if g l = 3 * (l.bodies.last_end - l.at) - 1
+decreases-run_if g l = 3 * (l.bodies.last_end - l.at) - 1 + reserve l.given.now.depth l.given.now.partials.now
 
 abbrev pub decreases-run_unless : goal.decreases-run_unless
-decreases-run_unless g l = 3 * (l.bodies.last_end - l.at) - 1
+decreases-run_unless g l = 3 * (l.bodies.last_end - l.at) - 1 + reserve l.given.now.depth l.given.now.partials.now
+
+abbrev pub decreases-run_capture : goal.decreases-run_capture
+decreases-run_capture g l = 3 * (l.end - l.at) - 1 + reserve l.given.now.depth l.given.now.partials.now
+
+abbrev pub decreases-run_ifchanged : goal.decreases-run_ifchanged
+decreases-run_ifchanged g l = 3 * (l.end - l.at) - 1 + reserve l.given.now.depth l.given.now.partials.now
+
+abbrev pub decreases-run_case : goal.decreases-run_case
+decreases-run_case g l = 3 * (l.last - l.at) - 1 + reserve l.given.now.depth l.given.now.partials.now
+
+abbrev pub decreases-run_include : goal.decreases-run_include
+decreases-run_include g l = reserve l.given.now.depth l.given.now.partials.now + 2
+
+abbrev pub decreases-run_jekyll_include : goal.decreases-run_jekyll_include
+decreases-run_jekyll_include g l = reserve l.given.now.depth l.given.now.partials.now + 2
+
+abbrev pub decreases-run_partial : goal.decreases-run_partial
+decreases-run_partial g l = reserve l.given.now.depth l.given.now.partials.now + 1
+
+abbrev pub decreases-run_render : goal.decreases-run_render
+decreases-run_render g l = reserve l.given.now.depth l.given.now.partials.now + 2
+
+abbrev pub decreases-run_apart : goal.decreases-run_apart
+decreases-run_apart g l = reserve l.given.now.depth l.given.now.partials.now + 1
 
 abbrev pub invariant-run_range-loop-at : goal.invariant-run_range-loop-at
 invariant-run_range-loop-at g l =
     let place = place_of g.W.CountedWrite.contents g.W.CountedWrite.failure_count in
     record {
       ordered : l.from ≤ l.at;
-      going : Going (setting_of l.partials) l.depth l.nodes l.from l.at l.to (place l.initial.out l.initial.state) (place l.out l.state);
-      kept : (f : Forest Maker) → StandsAt l.nodes l.from f l.to → Keeps (nodes_names (nodes_of f)) (setting_of l.partials) l.initial.state l.state;
+      going : Going (setting_of g.H.NamedFilters.named l.given) l.given.depth l.nodes l.from l.at l.to (place l.initial.out l.initial.state) (place l.out l.state);
+      kept : (f : Forest Maker) → StandsAt l.nodes l.from f l.to → Keeps (nodes_names (nodes_of f)) (setting_of g.H.NamedFilters.named l.given) l.initial.state l.state;
+      alone : (f : Forest Maker) → StandsAt l.nodes l.from f l.to → AreRenders (nodes_of f) → layers_of l.state ≡ layers_of l.initial.state;
+      loops : loops_of l.state ≡ loops_of l.initial.state;
       same_writer : l.out.writer.ghost_name ≡ l.initial.out.writer.ghost_name;
     }
 

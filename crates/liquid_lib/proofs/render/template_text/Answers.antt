@@ -3,7 +3,7 @@ use Rattle.std.specs.Option.{option_map}
 use Rattle.std.proofs.lemmas.Result.{err_from_is_err_and}
 use Rattle.liquid_core.specs.States.{environment_of}
 use Rattle.liquid_tree.specs.Names.{nodes_names, run_names}
-use Rattle.liquid_syntax.specs.Templates.{forest_of, partials_of, tree_of}
+use Rattle.liquid_syntax.specs.Templates.{partials_of, tree_of}
 use Rattle.liquid_lib.specs.Engine.{setting_of}
 use Rattle.liquid_meaning.specs.Isolation.{names_of_run}
 use Rattle.liquid_meaning.specs.Meaning.{meaning}
@@ -13,25 +13,21 @@ use Rattle.liquid_lib.specs.Sinks.{sink_of}
 use Rattle.liquid_lib.specs.declared.counted.NoWriter.{NoWriter}
 use Rattle.liquid_lib.proofs.Joined.{buffered_met, buffered_faulted, text_met}
 use Rattle.liquid_lib.proofs.Sinks.{Around}
-use Rattle.liquid_lib.proofs.Whole.{stood_in}
 use Rattle.liquid_meaning.proofs.Within.{left, right, within_mentioned}
 use Rattle.liquid_lib.proofs.Written.{still_open}
 use Rattle.liquid_lib.proofs.render.template_text.Goals as goal
 
-pub run_range-answer-requires : goal.run_range-answer-requires
-run_range-answer-requires c = (forest_of c.args.template.now, stood_in c.args.template.now c.nodes-nodes.result.now c.nodes-nodes.ensures)
-
 pub close-text-requires : goal.close-text-requires
-close-text-requires c =
-    let ran = c.run_range-answer.ensures.performs (forest_of c.args.template.now) (stood_in c.args.template.now c.nodes-nodes.result.now c.nodes-nodes.ensures) in
-    still_open unit c.run_range-answer.result _ _ _ _ c.run_range-answer.new.out.buffer [] ran c.open-outer.ensures.empty refl
+close-text-requires g c =
+    let ran = c.run_template-answer.ensures.performs in
+    still_open unit c.run_template-answer.result _ _ _ _ c.run_template-answer.new.out.buffer [] ran c.open-outer.ensures.empty refl
 
 pub returns-in_err-answer-clause-performs : goal.returns-in_err-answer-clause-performs
-unfolding meaning tree_of
-returns-in_err-answer-clause-performs c =
+unfolding meaning
+returns-in_err-answer-clause-performs g c =
     let sink = sink_of {W = NoWriter} (λ w. None) (λ w. 0) in
     let s = writer_sink None 0 in
-    let around : Around s (sink c.open-outer.new.self) (sink c.run_range-answer.new.out) s (string_bytes c.close-text.result) = record {
+    let around : Around s (sink c.open-outer.new.self) (sink c.run_template-answer.new.out) s (string_bytes c.close-text.result) = record {
       opened = c.open-outer.ensures.empty;
       closed = ap (option_map string_bytes) c.close-text.ensures.text;
       back = refl;
@@ -41,16 +37,16 @@ returns-in_err-answer-clause-performs c =
       failures_out = refl;
     } in
     let p = err_from_is_err_and c.from_residual.result c.from_residual.ensures.1 in
-    let ran = c.in_err-answer.ensures.performs (forest_of c.args.template.now) (stood_in c.args.template.now c.nodes-nodes.result.now c.nodes-nodes.ensures) in
-    rw (p.1, p.2) (buffered_faulted {U = String Global} unit (λ t. string_bytes t) _ (meaning (setting_of c.args.partials.now) c.args.depth (tree_of c.args.template.now)) s (sink c.open-outer.new.self) (sink c.run_range-answer.new.out) s (string_bytes c.close-text.result)
-    (environment_of c.args.state.now) (environment_of c.run_range-answer.new.state) around ran)
+    let ran = c.in_err-answer.ensures.performs in
+    rw (p.1, p.2) (buffered_faulted {U = String Global} unit (λ t. string_bytes t) _ (meaning (setting_of g.H.NamedFilters.named c.args.given.now) c.args.given.now.depth (tree_of c.args.template.now)) s (sink c.open-outer.new.self) (sink c.run_template-answer.new.out) s (string_bytes c.close-text.result)
+    (environment_of c.args.state.now) (environment_of c.run_template-answer.new.state) around ran)
 
 pub returns-clause-performs : goal.returns-clause-performs
-unfolding meaning tree_of
-returns-clause-performs c =
+unfolding meaning
+returns-clause-performs g c =
     let sink = sink_of {W = NoWriter} (λ w. None) (λ w. 0) in
     let s = writer_sink None 0 in
-    let around : Around s (sink c.open-outer.new.self) (sink c.run_range-answer.new.out) s (string_bytes c.close-text.result) = record {
+    let around : Around s (sink c.open-outer.new.self) (sink c.run_template-answer.new.out) s (string_bytes c.close-text.result) = record {
       opened = c.open-outer.ensures.empty;
       closed = ap (option_map string_bytes) c.close-text.ensures.text;
       back = refl;
@@ -59,23 +55,27 @@ returns-clause-performs c =
       failures_in = refl;
       failures_out = refl;
     } in
-    let m = meaning (setting_of c.args.partials.now) c.args.depth (tree_of c.args.template.now) in
-    let ran = c.in_ok-answer.ensures.performs (forest_of c.args.template.now) (stood_in c.args.template.now c.nodes-nodes.result.now c.nodes-nodes.ensures) in
-    text_met {V = String Global} (λ t. string_bytes t) c.close-text.result (buffered m) _ _ (buffered_met unit _ m s (sink c.open-outer.new.self) (sink c.run_range-answer.new.out) s (string_bytes c.close-text.result)
-    (environment_of c.args.state.now) (environment_of c.run_range-answer.new.state) around ran)
+    let m = meaning (setting_of g.H.NamedFilters.named c.args.given.now) c.args.given.now.depth (tree_of c.args.template.now) in
+    let ran = c.in_ok-answer.ensures.performs in
+    text_met {V = String Global} (λ t. string_bytes t) c.close-text.result (buffered m) _ _ (buffered_met unit _ m s (sink c.open-outer.new.self) (sink c.run_template-answer.new.out) s (string_bytes c.close-text.result)
+    (environment_of c.args.state.now) (environment_of c.run_template-answer.new.state) around ran)
 
 pub returns-in_err-answer-clause-kept : goal.returns-in_err-answer-clause-kept
-unfolding tree_of
-returns-in_err-answer-clause-kept c =
+returns-in_err-answer-clause-kept g c =
     let nodes = tree_of c.args.template.now in
-    let inside = within_mentioned (run_names (partials_of c.args.partials.now) nodes) in
-    c.run_range-answer.ensures.kept (forest_of c.args.template.now) (stood_in c.args.template.now c.nodes-nodes.result.now c.nodes-nodes.ensures) (names_of_run (setting_of c.args.partials.now) nodes)
+    let inside = within_mentioned (run_names (partials_of c.args.given.now.partials.now) nodes) in
+    c.run_template-answer.ensures.kept (names_of_run (setting_of g.H.NamedFilters.named c.args.given.now) nodes)
     (left _ (nodes_names nodes) _ inside) (right _ (nodes_names nodes) _ inside)
 
 pub returns-clause-kept : goal.returns-clause-kept
-unfolding tree_of
-returns-clause-kept c =
+returns-clause-kept g c =
     let nodes = tree_of c.args.template.now in
-    let inside = within_mentioned (run_names (partials_of c.args.partials.now) nodes) in
-    c.run_range-answer.ensures.kept (forest_of c.args.template.now) (stood_in c.args.template.now c.nodes-nodes.result.now c.nodes-nodes.ensures) (names_of_run (setting_of c.args.partials.now) nodes)
+    let inside = within_mentioned (run_names (partials_of c.args.given.now.partials.now) nodes) in
+    c.run_template-answer.ensures.kept (names_of_run (setting_of g.H.NamedFilters.named c.args.given.now) nodes)
     (left _ (nodes_names nodes) _ inside) (right _ (nodes_names nodes) _ inside)
+
+pub returns-in_err-answer-clause-alone : goal.returns-in_err-answer-clause-alone
+returns-in_err-answer-clause-alone g c = c.run_template-answer.ensures.alone
+
+pub returns-clause-alone : goal.returns-clause-alone
+returns-clause-alone g c = c.run_template-answer.ensures.alone

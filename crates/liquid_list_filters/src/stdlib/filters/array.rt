@@ -3,5 +3,5 @@ pub mod ends;
 pub mod join;
 pub mod keep;
 pub mod rows;
-mod sequence;
+pub mod sequence;
 pub mod sort;

@@ -1,6 +1,7 @@
 use Rattle.liquid_meaning.proofs.laws.run_laws.Goals as goal
+use Rattle.liquid_meaning.proofs.Assigning.{assigned_anywhere}
 use Rattle.liquid_meaning.proofs.Further.{text_is_itself, assigned_stay, assigned_in_loop, forloop_counts}
-use Rattle.liquid_meaning.proofs.RunKinds.{kinds_of_runs}
+use Rattle.liquid_meaning.proofs.RunKinds.{kinds_of_runs, kinds_of_own_runs}
 
 pub returns-clause-text : goal.returns-clause-text
 returns-clause-text c = text_is_itself
@@ -16,3 +17,9 @@ returns-clause-forloop c = forloop_counts
 
 pub returns-clause-kinds : goal.returns-clause-kinds
 returns-clause-kinds c = kinds_of_runs
+
+pub returns-clause-anywhere : goal.returns-clause-anywhere
+returns-clause-anywhere c = assigned_anywhere
+
+pub returns-clause-own_kinds : goal.returns-clause-own_kinds
+returns-clause-own_kinds c = kinds_of_own_runs

@@ -16,8 +16,8 @@ returns-in_err-template c =
     let item = c.loop-name-item.result in
     let next : drop i xs ≡ item ∷ drop (i + 1) xs = drop_more xs i item (omega arith) ∙ ap (λ z. z ∷ drop (i + 1) xs) (sym c.loop-name-item.is) in
     let p = err_from_is_err_and c.from_residual.result c.from_residual.ensures.1 in
-    rw (p.1, p.2) (partial_refused l (sources_of xs) (sources_of (drop (i + 1) xs)) c.as_str.result.now c.in_err-template.field-0.0 c.in_err-template.ensures.parses c.in_err-template.ensures.kinds
-    (λ none. c.loop-name.invariant.bad (subst (λ ps. HasBadPartial l (sources_of ps)) (sym next) (inl (subst (HasNoTree l) c.as_str.ensures.value none)))))
+    rw (p.1, p.2) (partial_refused l (sources_of xs) (sources_of (drop (i + 1) xs)) c.as_str-text.result.now c.in_err-template.field-0.0 c.in_err-template.ensures.parses c.in_err-template.ensures.kinds
+    (λ none. c.loop-name.invariant.bad (subst (λ ps. HasBadPartial l (sources_of ps)) (sym next) (inl (subst (HasNoTree l) c.as_str-text.ensures.value none)))))
 
 pub loop-name-preserved : goal.loop-name-preserved
 loop-name-preserved c =
@@ -27,8 +27,8 @@ loop-name-preserved c =
     let item = c.loop-name-item.result in
     let next : drop i xs ≡ item ∷ drop (i + 1) xs = drop_more xs i item (omega arith) ∙ ap (λ z. z ∷ drop (i + 1) xs) (sym c.loop-name-item.is) in
     let tree = tree_of c.in_ok-template.template in
-    let only : IsOnlyTree l tree (string_bytes item.1) = subst (IsOnlyTree l tree) c.as_str.ensures.value c.in_ok-template.ensures.parses in
-    let named : string_bytes c.in_ok-from_str.field-0 ≡ string_bytes item.0 = c.in_ok-from_str.ensures.ok ∙ c.as_str-in-loop-name.ensures.value in
+    let only : IsOnlyTree l tree (string_bytes item.1) = subst (IsOnlyTree l tree) c.as_str-text.ensures.value c.in_ok-template.ensures.parses in
+    let named : string_bytes c.in_ok-from_str.field-0 ≡ string_bytes item.0 = c.in_ok-from_str.ensures.ok ∙ c.as_str-called.ensures.value in
     record {
       read = λ all h. c.loop-name.invariant.read all (subst (λ ps. ArePartials l (sources_of ps) (partials_of c.loop-name.partials) all) (sym next)
           (tree, only, subst (λ before. ArePartials l (sources_of (drop (i + 1) xs)) before all) (c.in_ok-insert.ensures.inserted ∙ ap (λ name. put name tree (partials_of c.loop-name.partials)) named) h));

@@ -11,7 +11,7 @@ use Rattle.liquid_syntax.specs.Judges.{Judges}
 use Rattle.liquid_syntax.specs.Judging.{opens, reads}
 use Rattle.liquid_syntax.specs.Nesting.{Label}
 use Rattle.liquid_syntax.specs.OpenBlocks.{place_of, step}
-use Rattle.liquid_syntax.specs.Parsing.{template_at}
+use Rattle.liquid_syntax.proofs.TemplateReading.{template_at}
 use Rattle.liquid_syntax.specs.Roles.{body_behind}
 use Rattle.liquid_tree.specs.Tree.{no_nodes}
 use Rattle.liquid_syntax.specs.declared.block.Place.{Place}

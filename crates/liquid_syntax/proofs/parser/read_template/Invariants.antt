@@ -3,7 +3,7 @@ use denote.Shadow.{shadow}
 use denote.Text.{Utf8}
 use Rattle.liquid_syntax.specs.Building.{IsBuilding}
 use Rattle.liquid_syntax.specs.OpenBlocks.{Level}
-use Rattle.liquid_syntax.specs.Parsing.{body_of, piece_step, template_at}
+use Rattle.liquid_syntax.proofs.TemplateReading.{body_of, piece_step, template_at}
 use Rattle.liquid_source.specs.SourceReading.{source_at}
 use Rattle.liquid_tree.specs.Tree.{Nodes}
 use Rattle.liquid_syntax.proofs.ParseTurns.{tree_in}

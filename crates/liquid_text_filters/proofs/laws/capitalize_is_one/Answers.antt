@@ -1,4 +1,4 @@
-use Rattle.liquid_text_filters.proofs.Ones.{capitalize_law}
+use Rattle.liquid_text_filters.proofs.Standing.{capitalize_law}
 use Rattle.liquid_text_filters.proofs.laws.capitalize_is_one.Goals as goal
 
 pub returns : goal.returns

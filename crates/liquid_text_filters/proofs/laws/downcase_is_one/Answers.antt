@@ -1,4 +1,4 @@
-use Rattle.liquid_text_filters.proofs.Ones.{downcase_law}
+use Rattle.liquid_text_filters.proofs.Standing.{downcase_law}
 use Rattle.liquid_text_filters.proofs.laws.downcase_is_one.Goals as goal
 
 pub returns : goal.returns

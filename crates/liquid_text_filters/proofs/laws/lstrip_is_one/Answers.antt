@@ -1,4 +1,4 @@
-use Rattle.liquid_text_filters.proofs.Ones.{lstrip_law}
+use Rattle.liquid_text_filters.proofs.Standing.{lstrip_law}
 use Rattle.liquid_text_filters.proofs.laws.lstrip_is_one.Goals as goal
 
 pub returns : goal.returns

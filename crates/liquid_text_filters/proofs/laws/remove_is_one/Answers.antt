@@ -1,4 +1,4 @@
-use Rattle.liquid_text_filters.proofs.Ones.{remove_law}
+use Rattle.liquid_text_filters.proofs.Standing.{remove_law}
 use Rattle.liquid_text_filters.proofs.laws.remove_is_one.Goals as goal
 
 pub returns : goal.returns

@@ -1,4 +1,4 @@
-use Rattle.liquid_text_filters.proofs.Ones.{replace_law}
+use Rattle.liquid_text_filters.proofs.Standing.{replace_law}
 use Rattle.liquid_text_filters.proofs.laws.replace_is_one.Goals as goal
 
 pub returns : goal.returns

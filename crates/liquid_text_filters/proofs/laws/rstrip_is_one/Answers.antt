@@ -1,4 +1,4 @@
-use Rattle.liquid_text_filters.proofs.Ones.{rstrip_law}
+use Rattle.liquid_text_filters.proofs.Standing.{rstrip_law}
 use Rattle.liquid_text_filters.proofs.laws.rstrip_is_one.Goals as goal
 
 pub returns : goal.returns

@@ -1,4 +1,4 @@
-use Rattle.liquid_text_filters.proofs.Ones.{strip_law}
+use Rattle.liquid_text_filters.proofs.Standing.{strip_law}
 use Rattle.liquid_text_filters.proofs.laws.strip_is_one.Goals as goal
 
 pub returns : goal.returns

@@ -1,4 +1,4 @@
-use Rattle.liquid_text_filters.proofs.Ones.{upcase_law}
+use Rattle.liquid_text_filters.proofs.Standing.{upcase_law}
 use Rattle.liquid_text_filters.proofs.laws.upcase_is_one.Goals as goal
 
 pub returns : goal.returns

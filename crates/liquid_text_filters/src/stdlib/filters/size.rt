@@ -1,5 +1,6 @@
 //! The filter that measures a value.
-ghost use Rattle.std.specs.Prelude.{◌≡◌, length, nat_eq};
+ghost use Rattle.std.specs.Prelude.{◌≡◌, IsOk, IsTrue, length, map, nat_eq};
+ghost use Rattle.liquid_model.specs.Answer.{Answers};
 ghost use Rattle.liquid_model.specs.Data.{text_of, truth, number};
 ghost use Rattle.liquid_model.specs.Find.{counted};
 ghost use Rattle.liquid_model.specs.View.{view};
@@ -23,7 +24,11 @@ impl Filter for Size {
     }
 
     /// Takes no memory.
-    fn evaluate(&self, _alloc: Global, input: &Value, _args: &[Value]) -> Result<Value> {
+    fn evaluate(&self, _alloc: Global, input: &Value, _args: &[Value]) -> Result<Value>
+        requires { IsTrue (nat_eq (length _args.now) 0) }
+        ensures answer { Answers view result (size_answer (view input.now) (map view _args.now)) }
+        ensures no_memory { IsOk result }
+    {
         Ok(number(len(input)))
     }
 }

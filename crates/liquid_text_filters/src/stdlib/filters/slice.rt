@@ -1,9 +1,11 @@
 //! The filter that takes a part of a list or a text.
-ghost use Rattle.std.specs.Prelude.{◌&&◌, ◌≡◌, ◌≤◌, IfSome, length, map, nat_le};
-ghost use Rattle.liquid_model.specs.Answer.{Gives};
+ghost use Rattle.std.specs.Prelude.{◌&&◌, ◌≡◌, ◌≤◌, IfSome, length, map, nat_le, IsTrue};
+ghost use Rattle.liquid_model.specs.Answer.{Gives, Answers};
 ghost use Rattle.liquid_model.specs.View.{view};
 ghost use Rattle.liquid_text_filters.specs.Places.{start};
 ghost use Rattle.liquid_text_filters.specs.Slice.{items_part, part, slice_answer, text_part};
+ghost use Rattle.liquid_list_filters.specs.Stands.{Stands};
+ghost use Rattle.liquid_text_filters.specs.Laws.{SlicesInput};
 
 use crate::argument::whole_or;
 use crate::part::{after_characters, first_characters};
@@ -27,18 +29,29 @@ impl Filter for Slice {
     }
 
     /// `InvalidArgument` where an argument has no whole number, or the length is below 1.
-    fn evaluate(&self, alloc: Global, input: &Value, args: &[Value]) -> Result<Value> {
-        let offset = whole_or(alloc, args, 0, 0)?;
-        let length = whole_or(alloc, args, 1, 1)?;
-        if length < 1 {
-            return Err(Error::new(
-                alloc,
-                ErrorKind::InvalidArgument,
-                "argument: a length of at least 1 is wanted, but this is 0 or less",
-            ));
-        }
-        part(alloc, input, offset, length as usize)
+    fn evaluate(&self, alloc: Global, input: &Value, args: &[Value]) -> Result<Value>
+        requires { IsTrue (nat_le 1 (length args.now) && nat_le (length args.now) 2) }
+        ensures answer { Answers view result (slice_answer (view input.now) (map view args.now)) }
+        ensures relation { Stands (SlicesInput (view input.now) (map view args.now)) result }
+    {
+        slice_answer(alloc, input, args)
     }
+}
+
+fn slice_answer(alloc: Global, input: &Value, args: &[Value]) -> Result<Value>
+    requires { IsTrue (nat_le 1 (length args.now) && nat_le (length args.now) 2) }
+    ensures { Answers view result (slice_answer (view input.now) (map view args.now)) }
+{
+    let offset = whole_or(alloc, args, 0, 0)?;
+    let length = whole_or(alloc, args, 1, 1)?;
+    if length < 1 {
+        return Err(Error::new(
+            alloc,
+            ErrorKind::InvalidArgument,
+            "argument: a length of at least 1 is wanted, but this is 0 or less",
+        ));
+    }
+    part(alloc, input, offset, length as usize)
 }
 
 fn part(alloc: Global, input: &Value, offset: i64, count: usize) -> Result<Value>

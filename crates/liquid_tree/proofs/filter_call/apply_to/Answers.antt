@@ -1,19 +1,23 @@
-use Rattle.std.proofs.Common.{map, ap, sym, ◌∙◌}
+use Rattle.std.proofs.Common.{Bool, map, Ok, Err, ap, sym, ◌∙◌}
+use Rattle.std.specs.List.{list_all}
 use Rattle.std.proofs.lemmas.Result.{err_from_is_err_and}
 use Rattle.liquid_model.specs.Cow.{cow_view}
 use Rattle.liquid_core.specs.States.{environment_of}
 use Rattle.liquid_model.specs.View.{view}
+use Rattle.liquid_model.specs.declared.cow.ValueCow.{ValueCow}
+use Rattle.liquid_model.specs.declared.value.Value.{Value}
 use Rattle.liquid_tree.specs.Calls.{Call, call_of}
 use Rattle.liquid_tree.specs.declared.filter_call.FilterCall.{FilterCall}
-use Rattle.liquid_tree.proofs.Calls.{faulted_as, calls_more, calls_stop_at_argument, calls_stop, calls_end}
+use Rattle.liquid_tree.proofs.Calls.{answers_if, if_answered, faulted_if, all_within, calls_more, calls_stop_at_argument, calls_stop, calls_end}
 use Rattle.liquid_tree.proofs.filter_call.apply_to.Goals as goal
 
 pub returns-in_err-arguments : goal.returns-in_err-arguments
 returns-in_err-arguments g c =
     let p = err_from_is_err_and c.from_residual.result c.from_residual.ensures.1 in
     let f : FilterCall g.row.F.Denot → Call = λ call. call_of (g.F.Filter.answer call.filter) call.args.now in
-    rw (p.1, p.2) (calls_stop_at_argument f _ (environment_of c.args.state.now) c.args.calls.now c.loop-call.call-index c.call-item.result (cow_view c.loop-call.value) c.in_err-arguments.field-0.0.kind
-    c.loop-call-test.true c.call-item.is c.in_err-arguments.ensures.values c.loop-call.invariant)
+    rw p.1 (answers_if {X = ValueCow} (list_all (λ call. g.F.Filter.within call.filter) c.args.calls.now) cow_view (Err p.0) _
+    (rw p.2 (calls_stop_at_argument f _ (environment_of c.args.state.now) c.args.calls.now c.loop-call.call-index c.call-item.result (cow_view c.loop-call.value) c.in_err-arguments.field-0.0.kind
+    c.loop-call-test.true c.call-item.is c.in_err-arguments.ensures.values c.loop-call.invariant)))
 
 pub returns-in_err-evaluate : goal.returns-in_err-evaluate
 returns-in_err-evaluate g c =
@@ -21,12 +25,13 @@ returns-in_err-evaluate g c =
     let f : FilterCall g.row.F.Denot → Call = λ call. call_of (g.F.Filter.answer call.filter) call.args.now in
     let answer = g.F.Filter.answer c.call-item.result.filter in
     let arguments = c.in_ok-arguments.arguments.items in
-    rw (p.1, p.2) (calls_stop f _ (environment_of c.args.state.now) c.args.calls.now c.loop-call.call-index c.call-item.result (cow_view c.loop-call.value) (map view arguments) c.in_err-evaluate.field-0.0.kind
-    c.loop-call-test.true c.call-item.is c.in_ok-arguments.ensures.values
-    (faulted_as c.in_err-evaluate.field-0.0.kind (answer (cow_view c.loop-call.value) (map view arguments)) (answer (view c.as_value.result.now) (map view c.as_slice.result.now))
-    (ap (λ d. answer d (map view arguments)) (sym c.as_value.ensures) ∙ ap (λ l. answer (view c.as_value.result.now) (map view l)) (sym c.as_slice.ensures.value))
-    c.in_err-evaluate.ensures)
-    c.loop-call.invariant)
+    let within : FilterCall g.row.F.Denot → Bool = λ call. g.F.Filter.within call.filter in
+    let as_called = ap (λ d. answer d (map view arguments)) (sym c.as_value.ensures) ∙ ap (λ l. answer (view c.as_value.result.now) (map view l)) (sym c.as_slice.ensures.value) in
+    rw p.1 (faulted_if {V = Value} {W = ValueCow} view cow_view (within c.call-item.result) (list_all within c.args.calls.now) c.in_err-evaluate.field-0.0 p.0 _ _
+    (all_within within c.args.calls.now c.loop-call.call-index c.call-item.result c.loop-call-test.true c.call-item.is)
+    (λ told. calls_stop f _ (environment_of c.args.state.now) c.args.calls.now c.loop-call.call-index c.call-item.result (cow_view c.loop-call.value) (map view arguments) c.in_err-evaluate.field-0.0.kind
+    c.loop-call-test.true c.call-item.is c.in_ok-arguments.ensures.values c.loop-call.invariant (as_called ∙ told))
+    (ap (λ fault. fault.kind) p.2) c.in_err-evaluate.ensures)
 
 pub loop-call-preserved : goal.loop-call-preserved
 loop-call-preserved g c =
@@ -35,10 +40,12 @@ loop-call-preserved g c =
     let arguments = c.in_ok-arguments.arguments.items in
     calls_more f _ (environment_of c.args.state.now) c.args.calls.now c.loop-call.call-index c.call-item.result (cow_view c.loop-call.value) (view c.in_ok-evaluate.field-0) (map view arguments)
     c.loop-call-test.true c.call-item.is c.in_ok-arguments.ensures.values
-    (ap (λ d. answer d (map view arguments)) (sym c.as_value.ensures) ∙ ap (λ l. answer (view c.as_value.result.now) (map view l)) (sym c.as_slice.ensures.value) ∙ c.in_ok-evaluate.ensures)
+    (ap (λ d. answer d (map view arguments)) (sym c.as_value.ensures) ∙ ap (λ l. answer (view c.as_value.result.now) (map view l)) (sym c.as_slice.ensures.value)
+    ∙ if_answered (g.F.Filter.within c.call-item.result.filter) view c.in_ok-evaluate.field-0 _ c.in_ok-evaluate.ensures)
     c.loop-call.invariant
 
 pub returns : goal.returns
 returns g c =
     let f : FilterCall g.row.F.Denot → Call = λ call. call_of (g.F.Filter.answer call.filter) call.args.now in
-    calls_end f _ (environment_of c.args.state.now) c.args.calls.now c.loop-call.call-index (cow_view c.loop-call.value) c.loop-call-test.false c.loop-call.invariant
+    answers_if {X = ValueCow} (list_all (λ call. g.F.Filter.within call.filter) c.args.calls.now) cow_view (Ok c.loop-call.value) _
+    (calls_end f _ (environment_of c.args.state.now) c.args.calls.now c.loop-call.call-index (cow_view c.loop-call.value) c.loop-call-test.false c.loop-call.invariant)

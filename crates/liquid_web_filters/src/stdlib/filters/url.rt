@@ -1,7 +1,10 @@
 //! Filters over URLs.
-ghost use Rattle.std.specs.Prelude.{◌≡◌, ◌==◌, if◌then◌else◌, map, nat_eq, string_bytes};
+ghost use Rattle.std.specs.Prelude.{◌≡◌, ◌==◌, if◌then◌else◌, map, nat_eq, string_bytes, IsTrue, length};
 ghost use Rattle.liquid_model.specs.Answer.{Answers, Gives};
 ghost use Rattle.liquid_web_filters.specs.Urls.{plus_to_space, text_of_bytes, unescaped, url_decode_answer, url_encode_answer, url_escaped};
+ghost use Rattle.liquid_model.specs.View.{view};
+ghost use Rattle.liquid_list_filters.specs.Stands.{Stands};
+ghost use Rattle.liquid_web_filters.specs.UrlLaws.{EncodesUrl, UrlDecodes};
 
 use liquid_core::{Error, ErrorKind, Filter, Result, Value};
 use liquid_list_filters::text_of;
@@ -26,13 +29,24 @@ impl Filter for UrlEncode {
         count == 0
     }
 
-    fn evaluate(&self, alloc: Global, input: &Value, _args: &[Value]) -> Result<Value> {
-        match input {
-            Value::Nil => Ok(Value::Nil),
-            _ => {
-                let text = text_of(alloc, input)?;
-                Ok(Value::Text(escaped(alloc, text.as_str())?))
-            }
+    fn evaluate(&self, alloc: Global, input: &Value, args: &[Value]) -> Result<Value>
+        requires { IsTrue (nat_eq (length args.now) 0) }
+        ensures answer { Answers view result (url_encode_answer (view input.now) (map view args.now)) }
+        ensures relation { Stands (EncodesUrl (view input.now)) result }
+    {
+        url_encode_answer(alloc, input, args)
+    }
+}
+
+fn url_encode_answer(alloc: Global, input: &Value, _args: &[Value]) -> Result<Value>
+    requires { IsTrue (nat_eq (length _args.now) 0) }
+    ensures { Answers view result (url_encode_answer (view input.now) (map view _args.now)) }
+{
+    match input {
+        Value::Nil => Ok(Value::Nil),
+        _ => {
+            let text = text_of(alloc, input)?;
+            Ok(Value::Text(escaped(alloc, text.as_str())?))
         }
     }
 }
@@ -51,13 +65,24 @@ impl Filter for UrlDecode {
     }
 
     /// `InvalidInput` where the bytes aren't UTF-8.
-    fn evaluate(&self, alloc: Global, input: &Value, _args: &[Value]) -> Result<Value> {
-        match input {
-            Value::Nil => Ok(Value::Nil),
-            _ => {
-                let text = text_of(alloc, input)?;
-                Ok(Value::Text(unescaped(alloc, text.as_str())?))
-            }
+    fn evaluate(&self, alloc: Global, input: &Value, args: &[Value]) -> Result<Value>
+        requires { IsTrue (nat_eq (length args.now) 0) }
+        ensures answer { Answers view result (url_decode_answer (view input.now) (map view args.now)) }
+        ensures relation { Stands (UrlDecodes (view input.now)) result }
+    {
+        url_decode_answer(alloc, input, args)
+    }
+}
+
+fn url_decode_answer(alloc: Global, input: &Value, _args: &[Value]) -> Result<Value>
+    requires { IsTrue (nat_eq (length _args.now) 0) }
+    ensures { Answers view result (url_decode_answer (view input.now) (map view _args.now)) }
+{
+    match input {
+        Value::Nil => Ok(Value::Nil),
+        _ => {
+            let text = text_of(alloc, input)?;
+            Ok(Value::Text(unescaped(alloc, text.as_str())?))
         }
     }
 }

@@ -1,21 +1,15 @@
-use Rattle.std.proofs.Common.{rules, ◌∙◌}
-use Rattle.std.proofs.lemmas.List.{nil_from_length}
-use Rattle.liquid_core.proofs.States.{found_in_last, missing_in_last, missing_in_none, scopes_of}
+use Rattle.std.proofs.Common.{map, reverse, ap, sym, ◌∙◌}
+use Rattle.liquid_core.specs.Environment.{local_of}
+use Rattle.liquid_core.specs.Held.{held}
+use Rattle.liquid_core.specs.Turns.{standing}
+use Rattle.liquid_core.proofs.States.{local_in}
 use Rattle.liquid_core.proofs.state.State.local.Goals as goal
 
-pub loop-scope-init : goal.loop-scope-init
-loop-scope-init c = search rules
-
-pub returns-in-Some-look_up : goal.returns-in-Some-look_up
-returns-in-Some-look_up c =
-    let all = c.loop-scope.scope-iterator.iter.rest.now in
-    let here = found_in_last c.args.name.now c.next.new.self.iter.rest.now all c.in-Some.scope.now _ c.in-Some.ensures.steps c.in-Some-look_up.ensures (search rules) in
-    rw (scopes_of c.args.self.now) (here ∙ c.loop-scope.invariant)
-
-pub loop-scope-preserved : goal.loop-scope-preserved
-loop-scope-preserved c =
-    missing_in_last c.args.name.now c.next.new.self.iter.rest.now c.loop-scope.scope-iterator.iter.rest.now c.in-Some.scope.now c.in-Some.ensures.steps c.in_default.ensures ∙ c.loop-scope.invariant
-
-pub returns : goal.returns
-returns c =
-    rw (scopes_of c.args.self.now) (missing_in_none c.args.name.now c.loop-scope.scope-iterator.iter.rest.now (nil_from_length _ c.in-None.ensures.steps.0) ∙ c.loop-scope.invariant)
+pub returns-clause-value : goal.returns-clause-value
+returns-clause-value c =
+    let q = c.args.name.now in
+    let s = c.args.self.now in
+    c.find.ensures.value
+    ∙ ap (λ l. local_of (standing l (reverse (map held c.as_slice.result.now))) q) c.as_slice-2.ensures.value
+    ∙ ap (λ l. local_of (standing s.turns.items (reverse (map held l))) q) c.as_slice.ensures.value
+    ∙ ap (λ m. m q) (sym (local_in s))

@@ -3,9 +3,9 @@ use Rattle.liquid_model.specs.Answer.{Answers}
 use Rattle.liquid_core.specs.Environment.{cut}
 use Rattle.liquid_core.specs.States.{environment_of}
 use Rattle.liquid_syntax.specs.Templates.{tree_of}
-use Rattle.liquid_lib.specs.Engine.{setting_of}
 use Rattle.liquid_meaning.specs.Isolation.{changes}
-use Rattle.liquid_lib.specs.Rendered.{run_in, names_in, nowhere}
+use Rattle.liquid_meaning.specs.Meaning.{meaning}
+use Rattle.liquid_lib.specs.Rendered.{names_in, nowhere}
 use Rattle.liquid_meaning.specs.Runs.{buffered, ended_with}
 use Rattle.liquid_lib.specs.RuntimeView.{setting_in, depth_in, environment_in}
 use Rattle.liquid_meaning.proofs.Changes.{headline}
@@ -14,39 +14,55 @@ use Rattle.liquid_lib.proofs.Written.{answered, exact}
 use Rattle.liquid_lib.proofs.render.TemplateRenderable.render.Goals as goal
 
 pub returns-in-Some-clause-text : goal.returns-in-Some-clause-text
-returns-in-Some-clause-text c =
-    subst (λ o. Answers (λ t. string_bytes t) c.template_text.result o) (buffered_end (run_in c.args.runtime.now (tree_of c.args.self.now)) (environment_in c.args.runtime.now)) (answered (λ t. string_bytes t) c.template_text.result (buffered (run_in c.args.runtime.now (tree_of c.args.self.now))) (environment_in c.args.runtime.now) (environment_of c.template_text.new.state) (read_out (λ t. string_bytes t) c.args.runtime.now (setting_of c.in-Some.partials.now) (tree_of c.args.self.now) c.template_text.result (nowhere (environment_in c.args.runtime.now)) (nowhere (environment_of c.template_text.new.state)) (lent_setting c.args.runtime.now c.in-Some.partials c.in-Some.is) c.template_text.ensures.performs))
+returns-in-Some-clause-text g c =
+    let setting = setting_in (λ x. (goal.Filter-dyn g x).counts x.1) (λ x. (goal.Filter-dyn g x).answer x.1) c.args.runtime.now in
+    let run = meaning setting (depth_in c.args.runtime.now) (tree_of c.args.self.now) in
+    subst (λ o. Answers (λ t. string_bytes t) c.template_text.result o) (buffered_end run (environment_in c.args.runtime.now)) (answered (λ t. string_bytes t) c.template_text.result (buffered run) (environment_in c.args.runtime.now) (environment_of c.template_text.new.state) (read_out (λ t. string_bytes t) _ setting (depth_in c.args.runtime.now) (tree_of c.args.self.now) c.template_text.result (nowhere (environment_in c.args.runtime.now)) (nowhere (environment_of c.template_text.new.state)) (lent_setting setting.answers c.args.runtime.now.partials c.in-Some.partials c.in-Some.is) c.template_text.ensures.performs))
 
 pub returns-in-Some-clause-environment : goal.returns-in-Some-clause-environment
-returns-in-Some-clause-environment c within =
-    (exact (λ t. string_bytes t) c.template_text.result _ _ _ _ (read_out (λ t. string_bytes t) c.args.runtime.now (setting_of c.in-Some.partials.now) (tree_of c.args.self.now) c.template_text.result (nowhere (environment_in c.args.runtime.now)) (nowhere (environment_of c.template_text.new.state)) (lent_setting c.args.runtime.now c.in-Some.partials c.in-Some.is) c.template_text.ensures.performs) within).same ∙ buffered_environment (run_in c.args.runtime.now (tree_of c.args.self.now)) (environment_in c.args.runtime.now)
+returns-in-Some-clause-environment g c within =
+    let setting = setting_in (λ x. (goal.Filter-dyn g x).counts x.1) (λ x. (goal.Filter-dyn g x).answer x.1) c.args.runtime.now in
+    let run = meaning setting (depth_in c.args.runtime.now) (tree_of c.args.self.now) in
+    (exact (λ t. string_bytes t) c.template_text.result _ _ _ _ (read_out (λ t. string_bytes t) _ setting (depth_in c.args.runtime.now) (tree_of c.args.self.now) c.template_text.result (nowhere (environment_in c.args.runtime.now)) (nowhere (environment_of c.template_text.new.state)) (lent_setting setting.answers c.args.runtime.now.partials c.in-Some.partials c.in-Some.is) c.template_text.ensures.performs) within).same ∙ buffered_environment run (environment_in c.args.runtime.now)
 
 pub returns-in-Some-clause-isolated : goal.returns-in-Some-clause-isolated
-returns-in-Some-clause-isolated c =
-    let law = headline (setting_in c.args.runtime.now) (depth_in c.args.runtime.now) (tree_of c.args.self.now) (environment_in c.args.runtime.now) in
-    let o = (run_in c.args.runtime.now (tree_of c.args.self.now)) (cut (names_in c.args.runtime.now (tree_of c.args.self.now)) (environment_in c.args.runtime.now)) in
-    subst (λ x. Answers (λ t. string_bytes t) c.template_text.result x) (ap (λ t. ended_with t ((run_in c.args.runtime.now (tree_of c.args.self.now)) (environment_in c.args.runtime.now)).end) law.text ∙ ap (ended_with o.text) law.end) (returns-in-Some-clause-text c)
+returns-in-Some-clause-isolated g c =
+    let setting = setting_in (λ x. (goal.Filter-dyn g x).counts x.1) (λ x. (goal.Filter-dyn g x).answer x.1) c.args.runtime.now in
+    let run = meaning setting (depth_in c.args.runtime.now) (tree_of c.args.self.now) in
+    let law = headline setting (depth_in c.args.runtime.now) (tree_of c.args.self.now) (environment_in c.args.runtime.now) in
+    let o = run (cut (names_in c.args.runtime.now (tree_of c.args.self.now)) (environment_in c.args.runtime.now)) in
+    subst (λ x. Answers (λ t. string_bytes t) c.template_text.result x) (ap (λ t. ended_with t (run (environment_in c.args.runtime.now)).end) law.text ∙ ap (ended_with o.text) law.end) (returns-in-Some-clause-text g c)
 
 pub returns-in-Some-clause-changed : goal.returns-in-Some-clause-changed
-returns-in-Some-clause-changed c within =
-    let law = headline (setting_in c.args.runtime.now) (depth_in c.args.runtime.now) (tree_of c.args.self.now) (environment_in c.args.runtime.now) in
-    ap (changes (environment_in c.args.runtime.now)) (returns-in-Some-clause-environment c within) ∙ law.changes
+returns-in-Some-clause-changed g c within =
+    let setting = setting_in (λ x. (goal.Filter-dyn g x).counts x.1) (λ x. (goal.Filter-dyn g x).answer x.1) c.args.runtime.now in
+    let run = meaning setting (depth_in c.args.runtime.now) (tree_of c.args.self.now) in
+    let law = headline setting (depth_in c.args.runtime.now) (tree_of c.args.self.now) (environment_in c.args.runtime.now) in
+    ap (changes (environment_in c.args.runtime.now)) (returns-in-Some-clause-environment g c within) ∙ law.changes
 
 pub returns-in-None-clause-text : goal.returns-in-None-clause-text
-returns-in-None-clause-text c =
-    subst (λ o. Answers (λ t. string_bytes t) c.template_text-in-None.result o) (buffered_end (run_in c.args.runtime.now (tree_of c.args.self.now)) (environment_in c.args.runtime.now)) (answered (λ t. string_bytes t) c.template_text-in-None.result (buffered (run_in c.args.runtime.now (tree_of c.args.self.now))) (environment_in c.args.runtime.now) (environment_of c.template_text-in-None.new.state) (read_out (λ t. string_bytes t) c.args.runtime.now (setting_of c.new.result) (tree_of c.args.self.now) c.template_text-in-None.result (nowhere (environment_in c.args.runtime.now)) (nowhere (environment_of c.template_text-in-None.new.state)) (no_setting c.args.runtime.now c.new.result c.in-None.is c.new.ensures) c.template_text-in-None.ensures.performs))
+returns-in-None-clause-text g c =
+    let setting = setting_in (λ x. (goal.Filter-dyn g x).counts x.1) (λ x. (goal.Filter-dyn g x).answer x.1) c.args.runtime.now in
+    let run = meaning setting (depth_in c.args.runtime.now) (tree_of c.args.self.now) in
+    subst (λ o. Answers (λ t. string_bytes t) c.template_text-in-None.result o) (buffered_end run (environment_in c.args.runtime.now)) (answered (λ t. string_bytes t) c.template_text-in-None.result (buffered run) (environment_in c.args.runtime.now) (environment_of c.template_text-in-None.new.state) (read_out (λ t. string_bytes t) _ setting (depth_in c.args.runtime.now) (tree_of c.args.self.now) c.template_text-in-None.result (nowhere (environment_in c.args.runtime.now)) (nowhere (environment_of c.template_text-in-None.new.state)) (no_setting setting.answers c.args.runtime.now.partials c.new.result c.in-None.is c.new.ensures) c.template_text-in-None.ensures.performs))
 
 pub returns-in-None-clause-environment : goal.returns-in-None-clause-environment
-returns-in-None-clause-environment c within =
-    (exact (λ t. string_bytes t) c.template_text-in-None.result _ _ _ _ (read_out (λ t. string_bytes t) c.args.runtime.now (setting_of c.new.result) (tree_of c.args.self.now) c.template_text-in-None.result (nowhere (environment_in c.args.runtime.now)) (nowhere (environment_of c.template_text-in-None.new.state)) (no_setting c.args.runtime.now c.new.result c.in-None.is c.new.ensures) c.template_text-in-None.ensures.performs) within).same ∙ buffered_environment (run_in c.args.runtime.now (tree_of c.args.self.now)) (environment_in c.args.runtime.now)
+returns-in-None-clause-environment g c within =
+    let setting = setting_in (λ x. (goal.Filter-dyn g x).counts x.1) (λ x. (goal.Filter-dyn g x).answer x.1) c.args.runtime.now in
+    let run = meaning setting (depth_in c.args.runtime.now) (tree_of c.args.self.now) in
+    (exact (λ t. string_bytes t) c.template_text-in-None.result _ _ _ _ (read_out (λ t. string_bytes t) _ setting (depth_in c.args.runtime.now) (tree_of c.args.self.now) c.template_text-in-None.result (nowhere (environment_in c.args.runtime.now)) (nowhere (environment_of c.template_text-in-None.new.state)) (no_setting setting.answers c.args.runtime.now.partials c.new.result c.in-None.is c.new.ensures) c.template_text-in-None.ensures.performs) within).same ∙ buffered_environment run (environment_in c.args.runtime.now)
 
 pub returns-in-None-clause-isolated : goal.returns-in-None-clause-isolated
-returns-in-None-clause-isolated c =
-    let law = headline (setting_in c.args.runtime.now) (depth_in c.args.runtime.now) (tree_of c.args.self.now) (environment_in c.args.runtime.now) in
-    let o = (run_in c.args.runtime.now (tree_of c.args.self.now)) (cut (names_in c.args.runtime.now (tree_of c.args.self.now)) (environment_in c.args.runtime.now)) in
-    subst (λ x. Answers (λ t. string_bytes t) c.template_text-in-None.result x) (ap (λ t. ended_with t ((run_in c.args.runtime.now (tree_of c.args.self.now)) (environment_in c.args.runtime.now)).end) law.text ∙ ap (ended_with o.text) law.end) (returns-in-None-clause-text c)
+returns-in-None-clause-isolated g c =
+    let setting = setting_in (λ x. (goal.Filter-dyn g x).counts x.1) (λ x. (goal.Filter-dyn g x).answer x.1) c.args.runtime.now in
+    let run = meaning setting (depth_in c.args.runtime.now) (tree_of c.args.self.now) in
+    let law = headline setting (depth_in c.args.runtime.now) (tree_of c.args.self.now) (environment_in c.args.runtime.now) in
+    let o = run (cut (names_in c.args.runtime.now (tree_of c.args.self.now)) (environment_in c.args.runtime.now)) in
+    subst (λ x. Answers (λ t. string_bytes t) c.template_text-in-None.result x) (ap (λ t. ended_with t (run (environment_in c.args.runtime.now)).end) law.text ∙ ap (ended_with o.text) law.end) (returns-in-None-clause-text g c)
 
 pub returns-in-None-clause-changed : goal.returns-in-None-clause-changed
-returns-in-None-clause-changed c within =
-    let law = headline (setting_in c.args.runtime.now) (depth_in c.args.runtime.now) (tree_of c.args.self.now) (environment_in c.args.runtime.now) in
-    ap (changes (environment_in c.args.runtime.now)) (returns-in-None-clause-environment c within) ∙ law.changes
+returns-in-None-clause-changed g c within =
+    let setting = setting_in (λ x. (goal.Filter-dyn g x).counts x.1) (λ x. (goal.Filter-dyn g x).answer x.1) c.args.runtime.now in
+    let run = meaning setting (depth_in c.args.runtime.now) (tree_of c.args.self.now) in
+    let law = headline setting (depth_in c.args.runtime.now) (tree_of c.args.self.now) (environment_in c.args.runtime.now) in
+    ap (changes (environment_in c.args.runtime.now)) (returns-in-None-clause-environment g c within) ∙ law.changes

@@ -104,7 +104,8 @@ fn concatenated(alloc: Global, items: &[Value], more: &[Value]) -> Result<Vec<Va
     Ok(copies)
 }
 
-fn push_copies(copies: &mut Vec<Value>, items: &[Value], alloc: Global) -> Result<()>
+/// Appends an equal item for each item. `Memory` alone where there is no room, and then some may have been appended.
+pub fn push_copies(copies: &mut Vec<Value>, items: &[Value], alloc: Global) -> Result<()>
     ensures { Gives (λ _. map view copies.new.items) result (map view copies.old.items ++ list_of (items_view items.now)) }
 {
     for item in items {

@@ -7,8 +7,8 @@ ghost use Rattle.liquid_list_filters.specs.Sequences.{all_maps, property, sequen
 use liquid_core::{Value, look_up};
 use std::slice;
 
-/// A list's items, nothing for nil, else the value alone.
-pub(crate) fn sequence(value: &Value) -> &[Value]
+/// The sequence of a value: a list's items, nothing for nil, else the value alone.
+pub fn sequence(value: &Value) -> &[Value]
     ensures { list_of (items_view result.now) ≡ sequence (view value.now) }
 {
     match value {
@@ -19,7 +19,7 @@ pub(crate) fn sequence(value: &Value) -> &[Value]
 }
 
 /// Whether each item is a map.
-pub(crate) fn all_maps(items: &[Value]) -> bool
+pub fn all_maps(items: &[Value]) -> bool
     ensures { result ≡ all_maps (list_of (items_view items.now)) }
 {
     for item in items {

@@ -120,9 +120,9 @@ fn naturally_sorted(alloc: Global, items: &[Value], property: Option<&str>) -> R
 
 /// An item with what it is sorted by: a value, or none for nil.
 #[derive(Drop)]
-pub(crate) struct Keyed<'a> {
-    pub(crate) key: Option<ValueCow<'a>>,
-    pub(crate) item: &'a Value,
+pub struct Keyed<'a> {
+    pub key: Option<ValueCow<'a>>,
+    pub item: &'a Value,
 }
 
 fn with_keys<'a>(
@@ -196,7 +196,9 @@ fn given(value: &Value) -> Option<&Value>
     }
 }
 
-fn items_by_key(alloc: Global, mut keyed: Vec<Keyed<'_>>) -> Result<Vec<Value>>
+/// The items, sorted by their keys in the total order of values, those without a key last; items alike keep their
+/// order. `Memory` alone where they can't be made.
+pub fn items_by_key(alloc: Global, mut keyed: Vec<Keyed<'_>>) -> Result<Vec<Value>>
     ensures { Gives (λ v. map view v.items) result (map (λ k. view k.item.now) (sorted keyed_below keyed.entry.items)) }
 {
     sort_keyed(&mut keyed)?;

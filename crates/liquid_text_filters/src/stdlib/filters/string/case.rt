@@ -1,7 +1,10 @@
 //! Filters that change the case of letters, `A` to `Z` and `a` to `z` alone.
-ghost use Rattle.std.specs.Prelude.{nat_eq, string_bytes};
-ghost use Rattle.liquid_model.specs.Answer.{Gives};
+ghost use Rattle.std.specs.Prelude.{nat_eq, string_bytes, IsTrue, length, map};
+ghost use Rattle.liquid_model.specs.Answer.{Gives, Answers};
 ghost use Rattle.liquid_text_filters.specs.Case.{capitalize_answer, capitalized, downcase_answer, upcase_answer};
+ghost use Rattle.liquid_model.specs.View.{view};
+ghost use Rattle.liquid_list_filters.specs.Stands.{Stands};
+ghost use Rattle.liquid_text_filters.specs.Laws.{CapitalizesText, Downcases, Upcases};
 
 use liquid_core::{Filter, Result, Value};
 use liquid_list_filters::text_of;
@@ -20,10 +23,21 @@ impl Filter for Downcase {
         count == 0
     }
 
-    fn evaluate(&self, alloc: Global, input: &Value, _args: &[Value]) -> Result<Value> {
-        let text = text_of(alloc, input)?;
-        Ok(Value::Text(text.as_str().to_ascii_lowercase(alloc)?))
+    fn evaluate(&self, alloc: Global, input: &Value, args: &[Value]) -> Result<Value>
+        requires { IsTrue (nat_eq (length args.now) 0) }
+        ensures answer { Answers view result (downcase_answer (view input.now) (map view args.now)) }
+        ensures relation { Stands (Downcases (view input.now) (map view args.now)) result }
+    {
+        downcase_answer(alloc, input, args)
     }
+}
+
+fn downcase_answer(alloc: Global, input: &Value, _args: &[Value]) -> Result<Value>
+    requires { IsTrue (nat_eq (length _args.now) 0) }
+    ensures { Answers view result (downcase_answer (view input.now) (map view _args.now)) }
+{
+    let text = text_of(alloc, input)?;
+    Ok(Value::Text(text.as_str().to_ascii_lowercase(alloc)?))
 }
 
 /// `upcase`: the input's text with `a` to `z` as `A` to `Z`.
@@ -39,10 +53,21 @@ impl Filter for Upcase {
         count == 0
     }
 
-    fn evaluate(&self, alloc: Global, input: &Value, _args: &[Value]) -> Result<Value> {
-        let text = text_of(alloc, input)?;
-        Ok(Value::Text(text.as_str().to_ascii_uppercase(alloc)?))
+    fn evaluate(&self, alloc: Global, input: &Value, args: &[Value]) -> Result<Value>
+        requires { IsTrue (nat_eq (length args.now) 0) }
+        ensures answer { Answers view result (upcase_answer (view input.now) (map view args.now)) }
+        ensures relation { Stands (Upcases (view input.now) (map view args.now)) result }
+    {
+        upcase_answer(alloc, input, args)
     }
+}
+
+fn upcase_answer(alloc: Global, input: &Value, _args: &[Value]) -> Result<Value>
+    requires { IsTrue (nat_eq (length _args.now) 0) }
+    ensures { Answers view result (upcase_answer (view input.now) (map view _args.now)) }
+{
+    let text = text_of(alloc, input)?;
+    Ok(Value::Text(text.as_str().to_ascii_uppercase(alloc)?))
 }
 
 /// `capitalize`: the input's text with its first character in upper case, where that is `a` to `z`.
@@ -58,10 +83,21 @@ impl Filter for Capitalize {
         count == 0
     }
 
-    fn evaluate(&self, alloc: Global, input: &Value, _args: &[Value]) -> Result<Value> {
-        let text = text_of(alloc, input)?;
-        Ok(Value::Text(capitalized(alloc, text.as_str())?))
+    fn evaluate(&self, alloc: Global, input: &Value, args: &[Value]) -> Result<Value>
+        requires { IsTrue (nat_eq (length args.now) 0) }
+        ensures answer { Answers view result (capitalize_answer (view input.now) (map view args.now)) }
+        ensures relation { Stands (CapitalizesText (view input.now) (map view args.now)) result }
+    {
+        capitalize_answer(alloc, input, args)
     }
+}
+
+fn capitalize_answer(alloc: Global, input: &Value, _args: &[Value]) -> Result<Value>
+    requires { IsTrue (nat_eq (length _args.now) 0) }
+    ensures { Answers view result (capitalize_answer (view input.now) (map view _args.now)) }
+{
+    let text = text_of(alloc, input)?;
+    Ok(Value::Text(capitalized(alloc, text.as_str())?))
 }
 
 fn capitalized(alloc: Global, text: &str) -> Result<String>

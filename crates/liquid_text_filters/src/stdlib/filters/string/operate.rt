@@ -1,7 +1,10 @@
 //! Filters that join texts, and that replace parts of them.
-ghost use Rattle.std.specs.Prelude.{◌&&◌, ◌++◌, nat_eq, nat_le, string_bytes};
-ghost use Rattle.liquid_model.specs.Answer.{Gives};
+ghost use Rattle.std.specs.Prelude.{◌&&◌, ◌++◌, nat_eq, nat_le, string_bytes, IsTrue, length, map};
+ghost use Rattle.liquid_model.specs.Answer.{Gives, Answers};
 ghost use Rattle.liquid_text_filters.specs.Operate.{append_answer, prepend_answer, remove_answer, remove_first_answer, replace_answer, replace_first_answer, replaced, replaced_first};
+ghost use Rattle.liquid_model.specs.View.{view};
+ghost use Rattle.liquid_list_filters.specs.Stands.{Stands};
+ghost use Rattle.liquid_text_filters.specs.Laws.{RemovesAll, RemovesOne, ReplacesAll, ReplacesOne};
 
 use crate::argument::text_or;
 use crate::part::joined;
@@ -63,12 +66,23 @@ impl Filter for Replace {
         count == 1 || count == 2
     }
 
-    fn evaluate(&self, alloc: Global, input: &Value, args: &[Value]) -> Result<Value> {
-        let search = text_or(alloc, args, 0, "")?;
-        let replacement = text_or(alloc, args, 1, "")?;
-        let text = text_of(alloc, input)?;
-        Ok(Value::Text(replaced(alloc, text.as_str(), search.as_str(), replacement.as_str())?))
+    fn evaluate(&self, alloc: Global, input: &Value, args: &[Value]) -> Result<Value>
+        requires { IsTrue (nat_le 1 (length args.now) && nat_le (length args.now) 2) }
+        ensures answer { Answers view result (replace_answer (view input.now) (map view args.now)) }
+        ensures relation { Stands (ReplacesAll (view input.now) (map view args.now)) result }
+    {
+        replace_answer(alloc, input, args)
     }
+}
+
+fn replace_answer(alloc: Global, input: &Value, args: &[Value]) -> Result<Value>
+    requires { IsTrue (nat_le 1 (length args.now) && nat_le (length args.now) 2) }
+    ensures { Answers view result (replace_answer (view input.now) (map view args.now)) }
+{
+    let search = text_or(alloc, args, 0, "")?;
+    let replacement = text_or(alloc, args, 1, "")?;
+    let text = text_of(alloc, input)?;
+    Ok(Value::Text(replaced(alloc, text.as_str(), search.as_str(), replacement.as_str())?))
 }
 
 /// `replace_first`: the input's text with the first occurrence of the first argument's text replaced by the second's, or
@@ -85,17 +99,23 @@ impl Filter for ReplaceFirst {
         count == 1 || count == 2
     }
 
-    fn evaluate(&self, alloc: Global, input: &Value, args: &[Value]) -> Result<Value> {
-        let search = text_or(alloc, args, 0, "")?;
-        let replacement = text_or(alloc, args, 1, "")?;
-        let text = text_of(alloc, input)?;
-        Ok(Value::Text(replaced_first(
-            alloc,
-            text.as_str(),
-            search.as_str(),
-            replacement.as_str(),
-        )?))
+    fn evaluate(&self, alloc: Global, input: &Value, args: &[Value]) -> Result<Value>
+        requires { IsTrue (nat_le 1 (length args.now) && nat_le (length args.now) 2) }
+        ensures answer { Answers view result (replace_first_answer (view input.now) (map view args.now)) }
+        ensures relation { Stands (ReplacesOne (view input.now) (map view args.now)) result }
+    {
+        replace_first_answer(alloc, input, args)
     }
+}
+
+fn replace_first_answer(alloc: Global, input: &Value, args: &[Value]) -> Result<Value>
+    requires { IsTrue (nat_le 1 (length args.now) && nat_le (length args.now) 2) }
+    ensures { Answers view result (replace_first_answer (view input.now) (map view args.now)) }
+{
+    let search = text_or(alloc, args, 0, "")?;
+    let replacement = text_or(alloc, args, 1, "")?;
+    let text = text_of(alloc, input)?;
+    Ok(Value::Text(replaced_first(alloc, text.as_str(), search.as_str(), replacement.as_str())?))
 }
 
 /// `remove`: the input's text without the occurrences of the argument's text.
@@ -111,11 +131,22 @@ impl Filter for Remove {
         count == 1
     }
 
-    fn evaluate(&self, alloc: Global, input: &Value, args: &[Value]) -> Result<Value> {
-        let search = text_or(alloc, args, 0, "")?;
-        let text = text_of(alloc, input)?;
-        Ok(Value::Text(replaced(alloc, text.as_str(), search.as_str(), "")?))
+    fn evaluate(&self, alloc: Global, input: &Value, args: &[Value]) -> Result<Value>
+        requires { IsTrue (nat_eq (length args.now) 1) }
+        ensures answer { Answers view result (remove_answer (view input.now) (map view args.now)) }
+        ensures relation { Stands (RemovesAll (view input.now) (map view args.now)) result }
+    {
+        remove_answer(alloc, input, args)
     }
+}
+
+fn remove_answer(alloc: Global, input: &Value, args: &[Value]) -> Result<Value>
+    requires { IsTrue (nat_eq (length args.now) 1) }
+    ensures { Answers view result (remove_answer (view input.now) (map view args.now)) }
+{
+    let search = text_or(alloc, args, 0, "")?;
+    let text = text_of(alloc, input)?;
+    Ok(Value::Text(replaced(alloc, text.as_str(), search.as_str(), "")?))
 }
 
 /// `remove_first`: the input's text without the first occurrence of the argument's text.
@@ -131,11 +162,22 @@ impl Filter for RemoveFirst {
         count == 1
     }
 
-    fn evaluate(&self, alloc: Global, input: &Value, args: &[Value]) -> Result<Value> {
-        let search = text_or(alloc, args, 0, "")?;
-        let text = text_of(alloc, input)?;
-        Ok(Value::Text(replaced_first(alloc, text.as_str(), search.as_str(), "")?))
+    fn evaluate(&self, alloc: Global, input: &Value, args: &[Value]) -> Result<Value>
+        requires { IsTrue (nat_eq (length args.now) 1) }
+        ensures answer { Answers view result (remove_first_answer (view input.now) (map view args.now)) }
+        ensures relation { Stands (RemovesOne (view input.now) (map view args.now)) result }
+    {
+        remove_first_answer(alloc, input, args)
     }
+}
+
+fn remove_first_answer(alloc: Global, input: &Value, args: &[Value]) -> Result<Value>
+    requires { IsTrue (nat_eq (length args.now) 1) }
+    ensures { Answers view result (remove_first_answer (view input.now) (map view args.now)) }
+{
+    let search = text_or(alloc, args, 0, "")?;
+    let text = text_of(alloc, input)?;
+    Ok(Value::Text(replaced_first(alloc, text.as_str(), search.as_str(), "")?))
 }
 
 /// The text with each occurrence of another replaced.

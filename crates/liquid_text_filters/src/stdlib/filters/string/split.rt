@@ -1,10 +1,12 @@
 //! The filter that divides a text.
-ghost use Rattle.std.specs.Prelude.{◌<◌, length, map, nat_eq};
-ghost use Rattle.liquid_model.specs.Answer.{Gives};
+ghost use Rattle.std.specs.Prelude.{◌<◌, length, map, nat_eq, IsTrue};
+ghost use Rattle.liquid_model.specs.Answer.{Gives, Answers};
 ghost use Rattle.liquid_model.specs.Data.{text as text_datum};
 ghost use Rattle.liquid_model.specs.View.{view};
 ghost use Rattle.liquid_text_filters.specs.Pieces.{pieces, single_characters, split_by};
 ghost use Rattle.liquid_text_filters.specs.Split.{divided, split_answer};
+ghost use Rattle.liquid_list_filters.specs.Stands.{Stands};
+ghost use Rattle.liquid_text_filters.specs.Laws.{SplitsText};
 
 use crate::argument::text_or;
 use liquid_core::{Filter, Result, Value};
@@ -25,11 +27,22 @@ impl Filter for Split {
         count == 1
     }
 
-    fn evaluate(&self, alloc: Global, input: &Value, args: &[Value]) -> Result<Value> {
-        let separator = text_or(alloc, args, 0, "")?;
-        let text = text_of(alloc, input)?;
-        Ok(Value::Array(divided(alloc, text.as_str(), separator.as_str())?))
+    fn evaluate(&self, alloc: Global, input: &Value, args: &[Value]) -> Result<Value>
+        requires { IsTrue (nat_eq (length args.now) 1) }
+        ensures answer { Answers view result (split_answer (view input.now) (map view args.now)) }
+        ensures relation { Stands (SplitsText (view input.now) (map view args.now)) result }
+    {
+        split_answer(alloc, input, args)
     }
+}
+
+fn split_answer(alloc: Global, input: &Value, args: &[Value]) -> Result<Value>
+    requires { IsTrue (nat_eq (length args.now) 1) }
+    ensures { Answers view result (split_answer (view input.now) (map view args.now)) }
+{
+    let separator = text_or(alloc, args, 0, "")?;
+    let text = text_of(alloc, input)?;
+    Ok(Value::Array(divided(alloc, text.as_str(), separator.as_str())?))
 }
 
 fn divided(alloc: Global, text: &str, separator: &str) -> Result<Vec<Value>>

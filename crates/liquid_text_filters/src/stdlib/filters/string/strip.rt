@@ -1,8 +1,11 @@
 //! Filters that cut white space, which is Unicode's White_Space, and newlines.
-ghost use Rattle.std.specs.Prelude.{[], ◌++◌, if◌then◌else◌, nat_eq, string_bytes};
+ghost use Rattle.std.specs.Prelude.{[], ◌++◌, if◌then◌else◌, nat_eq, string_bytes, IsTrue, length, map};
 ghost use Rattle.std.specs.Char.{encode_utf8};
-ghost use Rattle.liquid_model.specs.Answer.{Gives};
+ghost use Rattle.liquid_model.specs.Answer.{Gives, Answers};
 ghost use Rattle.liquid_text_filters.specs.Strip.{is_newline, lstrip_answer, rstrip_answer, strip_answer, strip_newlines_answer, without_newlines};
+ghost use Rattle.liquid_model.specs.View.{view};
+ghost use Rattle.liquid_list_filters.specs.Stands.{Stands};
+ghost use Rattle.liquid_text_filters.specs.Laws.{StripsLines, StripsText, StripsTextAtEnd, StripsTextAtStart};
 
 use liquid_core::{Filter, Result, Value};
 use liquid_list_filters::text_of;
@@ -21,10 +24,21 @@ impl Filter for Strip {
         count == 0
     }
 
-    fn evaluate(&self, alloc: Global, input: &Value, _args: &[Value]) -> Result<Value> {
-        let text = text_of(alloc, input)?;
-        Ok(Value::Text(String::from_str(alloc, text.as_str().trim())?))
+    fn evaluate(&self, alloc: Global, input: &Value, args: &[Value]) -> Result<Value>
+        requires { IsTrue (nat_eq (length args.now) 0) }
+        ensures answer { Answers view result (strip_answer (view input.now) (map view args.now)) }
+        ensures relation { Stands (StripsText (view input.now) (map view args.now)) result }
+    {
+        strip_answer(alloc, input, args)
     }
+}
+
+fn strip_answer(alloc: Global, input: &Value, _args: &[Value]) -> Result<Value>
+    requires { IsTrue (nat_eq (length _args.now) 0) }
+    ensures { Answers view result (strip_answer (view input.now) (map view _args.now)) }
+{
+    let text = text_of(alloc, input)?;
+    Ok(Value::Text(String::from_str(alloc, text.as_str().trim())?))
 }
 
 /// `lstrip`: the input's text without the white space at its start.
@@ -40,10 +54,21 @@ impl Filter for Lstrip {
         count == 0
     }
 
-    fn evaluate(&self, alloc: Global, input: &Value, _args: &[Value]) -> Result<Value> {
-        let text = text_of(alloc, input)?;
-        Ok(Value::Text(String::from_str(alloc, text.as_str().trim_start())?))
+    fn evaluate(&self, alloc: Global, input: &Value, args: &[Value]) -> Result<Value>
+        requires { IsTrue (nat_eq (length args.now) 0) }
+        ensures answer { Answers view result (lstrip_answer (view input.now) (map view args.now)) }
+        ensures relation { Stands (StripsTextAtStart (view input.now) (map view args.now)) result }
+    {
+        lstrip_answer(alloc, input, args)
     }
+}
+
+fn lstrip_answer(alloc: Global, input: &Value, _args: &[Value]) -> Result<Value>
+    requires { IsTrue (nat_eq (length _args.now) 0) }
+    ensures { Answers view result (lstrip_answer (view input.now) (map view _args.now)) }
+{
+    let text = text_of(alloc, input)?;
+    Ok(Value::Text(String::from_str(alloc, text.as_str().trim_start())?))
 }
 
 /// `rstrip`: the input's text without the white space at its end.
@@ -59,10 +84,21 @@ impl Filter for Rstrip {
         count == 0
     }
 
-    fn evaluate(&self, alloc: Global, input: &Value, _args: &[Value]) -> Result<Value> {
-        let text = text_of(alloc, input)?;
-        Ok(Value::Text(String::from_str(alloc, text.as_str().trim_end())?))
+    fn evaluate(&self, alloc: Global, input: &Value, args: &[Value]) -> Result<Value>
+        requires { IsTrue (nat_eq (length args.now) 0) }
+        ensures answer { Answers view result (rstrip_answer (view input.now) (map view args.now)) }
+        ensures relation { Stands (StripsTextAtEnd (view input.now) (map view args.now)) result }
+    {
+        rstrip_answer(alloc, input, args)
     }
+}
+
+fn rstrip_answer(alloc: Global, input: &Value, _args: &[Value]) -> Result<Value>
+    requires { IsTrue (nat_eq (length _args.now) 0) }
+    ensures { Answers view result (rstrip_answer (view input.now) (map view _args.now)) }
+{
+    let text = text_of(alloc, input)?;
+    Ok(Value::Text(String::from_str(alloc, text.as_str().trim_end())?))
 }
 
 /// `strip_newlines`: the input's text without its LFs and CRs.
@@ -78,10 +114,21 @@ impl Filter for StripNewlines {
         count == 0
     }
 
-    fn evaluate(&self, alloc: Global, input: &Value, _args: &[Value]) -> Result<Value> {
-        let text = text_of(alloc, input)?;
-        Ok(Value::Text(without_newlines(alloc, text.as_str())?))
+    fn evaluate(&self, alloc: Global, input: &Value, args: &[Value]) -> Result<Value>
+        requires { IsTrue (nat_eq (length args.now) 0) }
+        ensures answer { Answers view result (strip_newlines_answer (view input.now) (map view args.now)) }
+        ensures relation { Stands (StripsLines (view input.now) (map view args.now)) result }
+    {
+        strip_newlines_answer(alloc, input, args)
     }
+}
+
+fn strip_newlines_answer(alloc: Global, input: &Value, _args: &[Value]) -> Result<Value>
+    requires { IsTrue (nat_eq (length _args.now) 0) }
+    ensures { Answers view result (strip_newlines_answer (view input.now) (map view _args.now)) }
+{
+    let text = text_of(alloc, input)?;
+    Ok(Value::Text(without_newlines(alloc, text.as_str())?))
 }
 
 fn without_newlines(alloc: Global, text: &str) -> Result<String>

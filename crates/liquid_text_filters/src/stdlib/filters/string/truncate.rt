@@ -1,6 +1,10 @@
 //! Filters that shorten texts.
-ghost use Rattle.std.specs.Prelude.{◌≡◌, Some, None, if◌then◌else◌, length, nat_le, nat_lt, option_map};
+ghost use Rattle.std.specs.Prelude.{◌≡◌, Some, None, if◌then◌else◌, length, nat_le, nat_lt, option_map, IsTrue, map};
 ghost use Rattle.liquid_text_filters.specs.Truncate.{first_clusters, first_words, truncate_answer, truncatewords_answer, words_of};
+ghost use Rattle.liquid_model.specs.Answer.{Answers};
+ghost use Rattle.liquid_model.specs.View.{view};
+ghost use Rattle.liquid_list_filters.specs.Stands.{Stands};
+ghost use Rattle.liquid_text_filters.specs.Laws.{TruncatesText, TruncatesTextByWords};
 
 use crate::argument::{text_or, whole_or};
 use crate::part::{before, joined};
@@ -25,16 +29,27 @@ impl Filter for Truncate {
     }
 
     /// `InvalidArgument` where the first argument has no whole number.
-    fn evaluate(&self, alloc: Global, input: &Value, args: &[Value]) -> Result<Value> {
-        let length = whole_or(alloc, args, 0, 50)?;
-        let end = text_or(alloc, args, 1, "...")?;
-        let text = text_of(alloc, input)?;
-        if length < 0 || text.len() <= length as usize {
-            return input.copy(alloc);
-        }
-        let kept = first_clusters(text.as_str(), (length as usize).saturating_sub(end.len()));
-        Ok(Value::Text(joined(alloc, kept, end.as_str())?))
+    fn evaluate(&self, alloc: Global, input: &Value, args: &[Value]) -> Result<Value>
+        requires { IsTrue (nat_le (length args.now) 2) }
+        ensures answer { Answers view result (truncate_answer (view input.now) (map view args.now)) }
+        ensures relation { Stands (TruncatesText (view input.now) (map view args.now)) result }
+    {
+        truncate_answer(alloc, input, args)
     }
+}
+
+fn truncate_answer(alloc: Global, input: &Value, args: &[Value]) -> Result<Value>
+    requires { IsTrue (nat_le (length args.now) 2) }
+    ensures { Answers view result (truncate_answer (view input.now) (map view args.now)) }
+{
+    let length = whole_or(alloc, args, 0, 50)?;
+    let end = text_or(alloc, args, 1, "...")?;
+    let text = text_of(alloc, input)?;
+    if length < 0 || text.len() <= length as usize {
+        return input.copy(alloc);
+    }
+    let kept = first_clusters(text.as_str(), (length as usize).saturating_sub(end.len()));
+    Ok(Value::Text(joined(alloc, kept, end.as_str())?))
 }
 
 /// `truncatewords`: where the first argument, or 50, is below the count of the pieces of the input's text that single
@@ -53,17 +68,28 @@ impl Filter for TruncateWords {
     }
 
     /// `InvalidArgument` where the first argument has no whole number.
-    fn evaluate(&self, alloc: Global, input: &Value, args: &[Value]) -> Result<Value> {
-        let count = whole_or(alloc, args, 0, 50)?;
-        let end = text_or(alloc, args, 1, "...")?;
-        if count < 0 {
-            return input.copy(alloc);
-        }
-        let text = text_of(alloc, input)?;
-        match first_words(text.as_str(), count as usize) {
-            Some(kept) => Ok(Value::Text(joined(alloc, kept, end.as_str())?)),
-            None => input.copy(alloc),
-        }
+    fn evaluate(&self, alloc: Global, input: &Value, args: &[Value]) -> Result<Value>
+        requires { IsTrue (nat_le (length args.now) 2) }
+        ensures answer { Answers view result (truncatewords_answer (view input.now) (map view args.now)) }
+        ensures relation { Stands (TruncatesTextByWords (view input.now) (map view args.now)) result }
+    {
+        truncatewords_answer(alloc, input, args)
+    }
+}
+
+fn truncatewords_answer(alloc: Global, input: &Value, args: &[Value]) -> Result<Value>
+    requires { IsTrue (nat_le (length args.now) 2) }
+    ensures { Answers view result (truncatewords_answer (view input.now) (map view args.now)) }
+{
+    let count = whole_or(alloc, args, 0, 50)?;
+    let end = text_or(alloc, args, 1, "...")?;
+    if count < 0 {
+        return input.copy(alloc);
+    }
+    let text = text_of(alloc, input)?;
+    match first_words(text.as_str(), count as usize) {
+        Some(kept) => Ok(Value::Text(joined(alloc, kept, end.as_str())?)),
+        None => input.copy(alloc),
     }
 }
 

@@ -1,7 +1,10 @@
 //! Filters that write the letters with a meaning in HTML by their escapes.
-ghost use Rattle.std.specs.Prelude.{◌≡◌, ◌++◌, nat_eq, option_map, string_bytes};
-ghost use Rattle.liquid_model.specs.Answer.{Gives};
+ghost use Rattle.std.specs.Prelude.{◌≡◌, ◌++◌, nat_eq, option_map, string_bytes, IsTrue, length, map};
+ghost use Rattle.liquid_model.specs.Answer.{Gives, Answers};
 ghost use Rattle.liquid_web_filters.specs.Escapes.{ends_escape, escape_answer, escape_of, escape_once_answer, escaped, escaped_letter, escaped_once, once_letter};
+ghost use Rattle.liquid_model.specs.View.{view};
+ghost use Rattle.liquid_list_filters.specs.Stands.{Stands};
+ghost use Rattle.liquid_web_filters.specs.HtmlLaws.{EscapesOnce, EscapesText};
 
 use liquid_core::{Filter, Result, Value};
 use liquid_list_filters::text_of;
@@ -20,13 +23,24 @@ impl Filter for Escape {
         count == 0
     }
 
-    fn evaluate(&self, alloc: Global, input: &Value, _args: &[Value]) -> Result<Value> {
-        match input {
-            Value::Nil => Ok(Value::Nil),
-            _ => {
-                let text = text_of(alloc, input)?;
-                Ok(Value::Text(escaped(alloc, text.as_str())?))
-            }
+    fn evaluate(&self, alloc: Global, input: &Value, args: &[Value]) -> Result<Value>
+        requires { IsTrue (nat_eq (length args.now) 0) }
+        ensures answer { Answers view result (escape_answer (view input.now) (map view args.now)) }
+        ensures relation { Stands (EscapesText (view input.now)) result }
+    {
+        escape_answer(alloc, input, args)
+    }
+}
+
+fn escape_answer(alloc: Global, input: &Value, _args: &[Value]) -> Result<Value>
+    requires { IsTrue (nat_eq (length _args.now) 0) }
+    ensures { Answers view result (escape_answer (view input.now) (map view _args.now)) }
+{
+    match input {
+        Value::Nil => Ok(Value::Nil),
+        _ => {
+            let text = text_of(alloc, input)?;
+            Ok(Value::Text(escaped(alloc, text.as_str())?))
         }
     }
 }
@@ -44,13 +58,24 @@ impl Filter for EscapeOnce {
         count == 0
     }
 
-    fn evaluate(&self, alloc: Global, input: &Value, _args: &[Value]) -> Result<Value> {
-        match input {
-            Value::Nil => Ok(Value::Nil),
-            _ => {
-                let text = text_of(alloc, input)?;
-                Ok(Value::Text(escaped_once(alloc, text.as_str())?))
-            }
+    fn evaluate(&self, alloc: Global, input: &Value, args: &[Value]) -> Result<Value>
+        requires { IsTrue (nat_eq (length args.now) 0) }
+        ensures answer { Answers view result (escape_once_answer (view input.now) (map view args.now)) }
+        ensures relation { Stands (EscapesOnce (view input.now)) result }
+    {
+        escape_once_answer(alloc, input, args)
+    }
+}
+
+fn escape_once_answer(alloc: Global, input: &Value, _args: &[Value]) -> Result<Value>
+    requires { IsTrue (nat_eq (length _args.now) 0) }
+    ensures { Answers view result (escape_once_answer (view input.now) (map view _args.now)) }
+{
+    match input {
+        Value::Nil => Ok(Value::Nil),
+        _ => {
+            let text = text_of(alloc, input)?;
+            Ok(Value::Text(escaped_once(alloc, text.as_str())?))
         }
     }
 }

@@ -1,7 +1,10 @@
 //! The filter that breaks lines.
-ghost use Rattle.std.specs.Prelude.{◌++◌, nat_eq, string_bytes};
-ghost use Rattle.liquid_model.specs.Answer.{Gives};
+ghost use Rattle.std.specs.Prelude.{◌++◌, nat_eq, string_bytes, IsTrue, length, map};
+ghost use Rattle.liquid_model.specs.Answer.{Gives, Answers};
 ghost use Rattle.liquid_web_filters.specs.LineBreaks.{broken, broken_letter, newline_to_br_answer};
+ghost use Rattle.liquid_model.specs.View.{view};
+ghost use Rattle.liquid_list_filters.specs.Stands.{Stands};
+ghost use Rattle.liquid_web_filters.specs.HtmlLaws.{BreaksLines};
 
 use liquid_core::{Filter, Result, Value};
 use liquid_list_filters::text_of;
@@ -20,10 +23,21 @@ impl Filter for NewlineToBr {
         count == 0
     }
 
-    fn evaluate(&self, alloc: Global, input: &Value, _args: &[Value]) -> Result<Value> {
-        let text = text_of(alloc, input)?;
-        Ok(Value::Text(broken(alloc, text.as_str())?))
+    fn evaluate(&self, alloc: Global, input: &Value, args: &[Value]) -> Result<Value>
+        requires { IsTrue (nat_eq (length args.now) 0) }
+        ensures answer { Answers view result (newline_to_br_answer (view input.now) (map view args.now)) }
+        ensures relation { Stands (BreaksLines (view input.now)) result }
+    {
+        newline_to_br_answer(alloc, input, args)
     }
+}
+
+fn newline_to_br_answer(alloc: Global, input: &Value, _args: &[Value]) -> Result<Value>
+    requires { IsTrue (nat_eq (length _args.now) 0) }
+    ensures { Answers view result (newline_to_br_answer (view input.now) (map view _args.now)) }
+{
+    let text = text_of(alloc, input)?;
+    Ok(Value::Text(broken(alloc, text.as_str())?))
 }
 
 fn broken(alloc: Global, text: &str) -> Result<String>

@@ -1,8 +1,11 @@
 //! The filter that cuts tags.
-ghost use Rattle.std.specs.Prelude.{nat_eq, string_bytes};
+ghost use Rattle.std.specs.Prelude.{nat_eq, string_bytes, IsTrue, length, map};
 ghost use Rattle.std.specs.Str.{chars, encode_utf8_all};
-ghost use Rattle.liquid_model.specs.Answer.{Gives};
+ghost use Rattle.liquid_model.specs.Answer.{Gives, Answers};
 ghost use Rattle.liquid_web_filters.specs.Tags.{strip_html, strip_html_answer};
+ghost use Rattle.liquid_model.specs.View.{view};
+ghost use Rattle.liquid_list_filters.specs.Stands.{Stands};
+ghost use Rattle.liquid_web_filters.specs.HtmlLaws.{StripsTags};
 
 use super::marks::without_tags;
 use liquid_core::{Filter, Result, Value};
@@ -23,10 +26,21 @@ impl Filter for StripHtml {
         count == 0
     }
 
-    fn evaluate(&self, alloc: Global, input: &Value, _args: &[Value]) -> Result<Value> {
-        let text = text_of(alloc, input)?;
-        Ok(Value::Text(stripped(alloc, text.as_str())?))
+    fn evaluate(&self, alloc: Global, input: &Value, args: &[Value]) -> Result<Value>
+        requires { IsTrue (nat_eq (length args.now) 0) }
+        ensures answer { Answers view result (strip_html_answer (view input.now) (map view args.now)) }
+        ensures relation { Stands (StripsTags (view input.now)) result }
+    {
+        strip_html_answer(alloc, input, args)
     }
+}
+
+fn strip_html_answer(alloc: Global, input: &Value, _args: &[Value]) -> Result<Value>
+    requires { IsTrue (nat_eq (length _args.now) 0) }
+    ensures { Answers view result (strip_html_answer (view input.now) (map view _args.now)) }
+{
+    let text = text_of(alloc, input)?;
+    Ok(Value::Text(stripped(alloc, text.as_str())?))
 }
 
 fn stripped(alloc: Global, text: &str) -> Result<String>

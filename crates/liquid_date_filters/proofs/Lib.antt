@@ -1,0 +1,10 @@
+pub mod Faults
+pub mod Instants
+pub mod Moves
+pub mod Own
+pub mod PrintedKinds
+pub mod Second
+pub mod Shows
+pub mod Spelled
+pub mod Weeks
+pub mod Written

@@ -1,0 +1,4 @@
+//! The extra set of filters.
+mod date;
+
+pub use date::DateInTz;

@@ -1,0 +1,4 @@
+//! The standard set of filters.
+mod filters;
+
+pub use filters::date::Date;

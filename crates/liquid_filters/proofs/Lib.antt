@@ -1,0 +1,2 @@
+pub mod AnswerKinds
+pub mod Ended

@@ -1,0 +1,4 @@
+//! The filter set of Shopify.
+mod pluralize;
+
+pub use pluralize::Pluralize;

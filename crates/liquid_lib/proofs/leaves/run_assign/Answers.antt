@@ -1,0 +1,41 @@
+use Rattle.std.proofs.Common.{rules}
+use Rattle.std.proofs.lemmas.Result.{err_from_is_err_and}
+use Rattle.liquid_model.specs.Answer.{Gives}
+use Rattle.liquid_model.specs.View.{view}
+use Rattle.liquid_core.specs.States.{environment_of, layers_of, with_assigned}
+use Rattle.liquid_model.specs.declared.value.Value.{Value}
+use Rattle.liquid_tree.specs.ChainView.{chain_view}
+use Rattle.liquid_tree.specs.Evaluation.{answers_with, chain_value}
+use Rattle.liquid_tree.specs.Names.{node_names}
+use Rattle.liquid_meaning.specs.Runs.{change}
+use Rattle.liquid_meaning.specs.Effects.{assigned_to}
+use Rattle.liquid_lib.specs.Performs.{unit, place_of}
+use Rattle.liquid_lib.proofs.Joined.{by_rule, given_met, refused_met, memory_at, change_met, gives_merged}
+use Rattle.liquid_lib.proofs.Kept.{kept_assigned}
+use Rattle.liquid_meaning.proofs.Rules.{assign_rule}
+use Rattle.liquid_lib.proofs.leaves.run_assign.Goals as goal
+
+pub returns-in_err-value-clause-performs : goal.returns-in_err-value-clause-performs
+returns-in_err-value-clause-performs g c =
+    let p = err_from_is_err_and c.from_residual.result c.from_residual.ensures.1 in
+    rw (p.1, p.2) (by_rule (assign_rule _ _ _ _) (refused_met {V = Value} view unit _ _ _ _ c.in_err-value.ensures))
+
+pub returns-in_err-from_str-clause-performs : goal.returns-in_err-from_str-clause-performs
+returns-in_err-from_str-clause-performs g c =
+    let p = err_from_is_err_and c.from_residual-in_err-from_str.result c.from_residual-in_err-from_str.ensures.1 in
+    rw p.1 (memory_at _ p.2)
+
+pub returns-clause-performs : goal.returns-clause-performs
+returns-clause-performs g c =
+    let place = place_of g.W.CountedWrite.contents g.W.CountedWrite.failure_count in
+    let d = view c.in_ok-value.value in
+    let stored : Gives (λ _. layers_of c.set_global.new.self) c.set_global.result (with_assigned c.args.name.now d (layers_of c.args.state.now)) = search rules in
+    by_rule (assign_rule _ _ _ _) (given_met {V = Value} view unit c.in_ok-value.value c.set_global.result (chain_value (answers_with (g.H.NamedFilters.named c.args.given.now.host.now)) (chain_view c.args.chain.now)) (λ x. change (assigned_to c.args.name.now x)) (place c.args.out.now c.args.state.now) (place c.args.out.now c.set_global.new.self)
+    c.in_ok-value.ensures (change_met c.set_global.result (assigned_to c.args.name.now d) _ (environment_of c.args.state.now) _ (gives_merged c.set_global.result _ _ stored)))
+
+pub returns-clause-kept : goal.returns-clause-kept
+unfolding node_names
+returns-clause-kept g c N within inside =
+    let d = view c.in_ok-value.value in
+    let stored : Gives (λ _. layers_of c.set_global.new.self) c.set_global.result (with_assigned c.args.name.now d (layers_of c.args.state.now)) = search rules in
+    kept_assigned N c.args.name.now d (layers_of c.args.state.now) (layers_of c.set_global.new.self) c.set_global.result within.0 stored c.set_global.ensures.unchanged

@@ -1,0 +1,3 @@
+//! The extra set of filters.
+
+pub use liquid_filters::extra::DateInTz;

@@ -1,0 +1,52 @@
+//! Runs over the data of a runtime, which is lent for the run.
+ghost use Rattle.std.specs.Prelude.{◌≡◌, length};
+ghost use Rattle.liquid_core.specs.States.{layers_of, loops_of};
+ghost use Rattle.liquid_syntax.specs.Templates.{tree_of};
+ghost use Rattle.liquid_tree.specs.Names.{nodes_names};
+ghost use Rattle.liquid_lib.specs.Engine.{setting_of, nodes_in};
+ghost use Rattle.liquid_lib.specs.Kept.{Keeps, AreRenders};
+ghost use Rattle.liquid_lib.specs.Performs.{Performs, place_of};
+
+use crate::counted::CountedWrite;
+use crate::engine::run_range;
+use crate::given::Given;
+use crate::output::Output;
+use liquid_core::{Data, NamedFilters, Result, State};
+use liquid_syntax::Template;
+use std::alloc::Global;
+use std::collections::BTreeMap;
+use std::mem;
+
+/// Runs the nodes of a template. The data is taken out of the state, so that loops can go over its lists while the run
+/// changes the rest, and is put back after any answer.
+pub(crate) fn run_template<W: CountedWrite, H: NamedFilters>(
+    alloc: Global,
+    template: &Template,
+    given: &Given<'_, H>,
+    out: &mut Output<'_, W>,
+    state: &mut State<'_>,
+) -> Result<()>
+    requires plain { length (loops_of state.old) ≡ 0 }
+    ensures performs { Performs result (nodes_in H.named given.now (tree_of template.now))
+        (place_of W.contents W.failure_count out.old state.old)
+        (place_of W.contents W.failure_count out.new state.new) }
+    ensures same_writer { out.new.writer.ghost_name ≡ out.old.writer.ghost_name }
+    ensures kept { Keeps (nodes_names (tree_of template.now)) (setting_of H.named given.now) state.old state.new }
+    ensures alone { AreRenders (tree_of template.now) → layers_of state.new ≡ layers_of state.old }
+    ensures plain { length (loops_of state.new) ≡ 0 }
+{
+    let empty = State::new(alloc, BTreeMap::new(alloc));
+    let (parts, data) = mem::replace(state, empty).into_parts();
+    let mut lent = State::from_parts(alloc, parts, Data::Lent(data.object()));
+    let inner = Given {
+        partials: given.partials,
+        host: given.host,
+        depth: given.depth,
+    };
+    let nodes = template.nodes();
+    let answer = run_range(alloc, &inner, nodes, 0, nodes.len(), out, &mut lent);
+    let (parts, ended) = lent.into_parts();
+    drop(ended);
+    *state = State::from_parts(alloc, parts, data);
+    answer
+}

@@ -1,0 +1,3 @@
+//! The filters of Shopify.
+
+pub use liquid_filters::shopify::Pluralize;

@@ -1,0 +1,117 @@
+-- The names of a tree are those of the nodes of its list.
+use Rattle.std.specs.Prelude.{◌≡◌, Bool, true, false, ◌||◌, List, [], ◌∷◌, ◌++◌, map, string_bytes, None}
+use mathlib.Core.Path.{refl, sym, ap, subst, ◌∙◌}
+use Rattle.liquid_core.specs.Expression.{Expression}
+use Rattle.liquid_core.specs.ExpressionView.{expression_view}
+use Rattle.liquid_model.specs.Texts.{Text}
+use Rattle.liquid_tree.specs.ChainView.{chain_view}
+use Rattle.liquid_tree.specs.ConditionView.{condition_view}
+use Rattle.liquid_tree.specs.Names.{mentioned, all_names, condition_names, expression_names, node_names, nodes_names, whens_names}
+use Rattle.liquid_tree.specs.Tree as tree
+use Rattle.liquid_syntax.specs.Flats.{arm_values, bindings_view, flat_of, leaf}
+use Rattle.liquid_syntax.specs.Mentions.{arms_names, jekyll_names, list_names, own_names, pairs_names}
+use Rattle.liquid_syntax.specs.Templates.{list_of, tree_of}
+use Rattle.liquid_syntax.specs.declared.node.Node.{Node}
+use Rattle.liquid_syntax.specs.declared.node.Node.TheVariants.{Text as Plain, Output, Assign, Raw, Comment, If, Unless, Capture, Case, Break, Continue, Increment, Decrement, Cycle, IfChanged, Include, JekyllInclude, Render}
+use Rattle.liquid_syntax.specs.declared.template.Template.{Template}
+use Rattle.liquid_syntax.specs.NameVisitors.{mentioned_both, or_assoc, or_false}
+use Rattle.liquid_syntax.proofs.Totals.{IsTotal, Makes, leaf_makes, one_makes, two_makes, of_arms, case_makes, list_total, tree_total}
+
+or_swapped : (a b : Bool) → (a || b) ≡ (b || a)
+or_swapped true true = refl
+or_swapped true false = refl
+or_swapped false true = refl
+or_swapped false false = refl
+
+module _ (name : Text) where
+  abbrev either : Bool → Bool → Bool
+  either a b = a || b
+
+  abbrev in_node : tree.Node → Bool
+  in_node n = mentioned (node_names n) name
+
+  abbrev in_nodes : tree.Nodes → Bool
+  in_nodes ns = mentioned (nodes_names ns) name
+
+  abbrev in_whens : tree.Whens → Bool
+  in_whens ws = mentioned (whens_names ws) name
+
+  abbrev in_values : List Expression → Bool
+  in_values vs = mentioned (all_names vs) name
+
+  abbrev own : Node → Bool
+  own n = mentioned (own_names n) name
+
+  sum : IsTotal false either in_node in_nodes
+  unfolding nodes_names
+  sum = record {
+    left = λ a. refl;
+    right = λ a. sym (or_false a);
+    grouped = or_assoc;
+    swapped = or_swapped;
+    nothing = refl;
+    more = λ n ns. mentioned_both (node_names n) (nodes_names ns) name;
+  }
+
+  -- own names, and those of one body, or of two
+  one : (xs : List Text) (b : tree.Nodes) → mentioned (xs ++ nodes_names b) name ≡ (mentioned xs name || in_nodes b)
+  one xs b = mentioned_both xs (nodes_names b) name
+
+  two : (xs : List Text) (b c : tree.Nodes) → mentioned (xs ++ (nodes_names b ++ nodes_names c)) name ≡ (mentioned xs name || (in_nodes b || in_nodes c))
+  two xs b c = mentioned_both xs (nodes_names b ++ nodes_names c) name ∙ ap (λ r. mentioned xs name || r) (mentioned_both (nodes_names b) (nodes_names c) name)
+
+  -- the `when` parts of a `case`
+  one_when : (vs : List Expression) (b : tree.Nodes) (ws : tree.Whens) → in_whens (tree.when vs b ws) ≡ (in_values vs || (in_nodes b || in_whens ws))
+  unfolding whens_names
+  one_when vs b ws = mentioned_both (all_names vs) (nodes_names b ++ whens_names ws) name ∙ ap (λ r. in_values vs || r) (mentioned_both (nodes_names b) (whens_names ws) name)
+
+  no_when : in_whens tree.no_whens ≡ false
+  unfolding whens_names
+  no_when = refl
+
+  arms_named : (vss : List (List Expression)) → of_arms false either in_node in_nodes sum in_whens in_values no_when one_when vss ≡ mentioned (arms_names vss) name
+  unfolding of_arms arms_names
+  arms_named [] = refl
+  arms_named (vs ∷ vss) = ap (λ r. in_values vs || r) (arms_named vss) ∙ sym (mentioned_both (all_names vs) (arms_names vss) name)
+
+  arms_are : (target : Expression) (vss : List (List Expression)) → (mentioned (expression_names target) name || of_arms false either in_node in_nodes sum in_whens in_values no_when one_when vss) ≡ mentioned (expression_names target ++ arms_names vss) name
+  arms_are target vss = ap (λ r. mentioned (expression_names target) name || r) (arms_named vss) ∙ sym (mentioned_both (expression_names target) (arms_names vss) name)
+
+  case_named : (target : Expression) (ws : tree.Whens) (o : tree.Nodes) → in_node (tree.case_of target ws o) ≡ (mentioned (expression_names target) name || (in_whens ws || in_nodes o))
+  unfolding node_names
+  case_named target ws o = mentioned_both (expression_names target) (whens_names ws ++ nodes_names o) name ∙ ap (λ r. mentioned (expression_names target) name || r) (mentioned_both (whens_names ws) (nodes_names o) name)
+
+  without_bodies : (n : tree.Node) → Makes false either in_node in_nodes (in_node n) (leaf n)
+  without_bodies n = leaf_makes false either in_node in_nodes sum (in_node n) n refl
+
+  -- one case for each kind of node
+  makes : (n : Node) → Makes false either in_node in_nodes (own n) (flat_of n)
+  unfolding node_names jekyll_names pairs_names
+  makes (Plain t) = without_bodies (tree.plain (string_bytes t))
+  makes (Output chain) = without_bodies (tree.output (chain_view chain))
+  makes (Assign target chain) = without_bodies (tree.assign (string_bytes target) (chain_view chain))
+  makes (Raw t) = without_bodies (tree.raw (string_bytes t))
+  makes Comment = without_bodies tree.comment
+  makes (If condition ends) = two_makes false either in_node in_nodes sum (own (If condition ends)) (tree.if_true (condition_view condition)) ends (two (condition_names (condition_view condition)))
+  makes (Unless condition ends) = two_makes false either in_node in_nodes sum (own (Unless condition ends)) (tree.unless (condition_view condition)) ends (two (condition_names (condition_view condition)))
+  makes (Capture target end) = one_makes false either in_node in_nodes sum (own (Capture target end)) (tree.capture (string_bytes target)) end (one (string_bytes target ∷ []))
+  makes (Case target arms end) =
+      subst (λ r. Makes false either in_node in_nodes r (flat_of (Case target arms end))) (arms_are (expression_view target) (arm_values arms.items))
+      (case_makes false either in_node in_nodes sum in_whens in_values no_when one_when (mentioned (expression_names (expression_view target)) name) (expression_view target) arms.items end (case_named (expression_view target)))
+  makes Break = without_bodies tree.break_loop
+  makes Continue = without_bodies tree.continue_loop
+  makes (Increment target) = without_bodies (tree.increment (string_bytes target))
+  makes (Decrement target) = without_bodies (tree.decrement (string_bytes target))
+  makes (Cycle group values) = without_bodies (tree.cycle (string_bytes group) (map expression_view values.items))
+  makes (IfChanged end) = one_makes false either in_node in_nodes sum false tree.ifchanged end (one [])
+  makes (Include partial pairs) = without_bodies (tree.include (expression_view partial) (bindings_view pairs.items))
+  makes (JekyllInclude partial pairs) = without_bodies (tree.jekyll_include (string_bytes partial) (bindings_view pairs.items))
+  makes (Render partial pairs) = without_bodies (tree.render (expression_view partial) None (bindings_view pairs.items))
+
+  list_names_are : (ns : List Node) → list_total false either in_node in_nodes own ns ≡ mentioned (list_names ns) name
+  unfolding list_total list_names
+  list_names_are [] = refl
+  list_names_are (n ∷ ns) = ap (λ r. own n || r) (list_names_are ns) ∙ sym (mentioned_both (own_names n) (list_names ns) name)
+
+pub template_mentions : (t : Template) (name : Text) → mentioned (nodes_names (tree_of t)) name ≡ mentioned (list_names (list_of t)) name
+template_mentions t name = tree_total false (either name) (in_node name) (in_nodes name) (sum name) (own name) (makes name) t ∙ list_names_are name (list_of t)

@@ -1,0 +1,24 @@
+-- Sets of names, and what the visitors come to that look for a name and that gather all names.
+use Rattle.std.specs.Prelude.{◌≡◌, Bool, ◌||◌, List, String}
+use Rattle.std.specs.Bool.{OnFalse}
+use Rattle.std.specs.BTreeSet.{BTreeSet, contains_text}
+use Rattle.std.specs.declared.alloc.Global.{Global}
+use Rattle.liquid_core.specs.Environment.{Names}
+use Rattle.liquid_model.specs.Texts.{Text}
+use Rattle.liquid_tree.specs.Names.{mentioned}
+
+-- whether a set has a name
+unfoldable pub held : BTreeSet (String Global) → Names
+held names name = contains_text names name
+
+-- the names before, and these besides
+unfoldable pub added : List Text → Names → Names
+added names before name = before name || mentioned names name
+
+-- the visitor stays the same, and ends the telling where its wanted name is among those that it is told
+abbrev pub Looks : {V : Type 0} → (V → Text) → V → List Text → Bool → V → Type 0
+Looks wanted u names found v = (v ≡ u) × (found ≡ mentioned names (wanted u))
+
+-- unless it ended the telling, the visitor has the names that it had, and those that it was told besides
+abbrev pub Gathers : {V : Type 0} → (V → Names) → V → List Text → Bool → V → Type 0
+Gathers has u names refused v = OnFalse refused (has v ≡ added names (has u))

@@ -1,0 +1,147 @@
+//! The items of `for` and `tablerow`, read from those of a piece.
+ghost use Rattle.std.specs.Prelude.{◌≡◌, ◌<◌, ◌≤◌, IfSome, length, option_map};
+ghost use Rattle.liquid_source.specs.Readers.{Parses};
+ghost use Rattle.liquid_source.specs.Tokens.{tokens_view};
+ghost use Rattle.liquid_syntax.specs.Faults.{FaultsAs, FaultsAt};
+ghost use Rattle.liquid_core.specs.Expression.{Expression as Meant};
+ghost use Rattle.liquid_core.specs.ExpressionView.{expression_view};
+ghost use Rattle.liquid_syntax.specs.Loops.{head_view, loop_of, part_first, part_value, part_view, parts_in, source_first, with_part, Part};
+ghost use Rattle.liquid_tree.specs.SourceView.{source_view};
+
+use crate::chain_items::expected;
+use liquid_core::Expression;
+use liquid_source::{
+    FaultKind, Item, ParseError, Symbol, is_over, next_value, next_word, skip, skip_word,
+};
+use liquid_tree::RangeExpression;
+use std::collections::VecDeque;
+
+/// Which parts may stand behind a loop's source.
+#[derive(Clone, Copy, Debug, PartialEq, Eq)]
+pub enum LoopKind {
+    /// Those of `for`: `limit`, `offset` and `reversed`.
+    Each,
+    /// Those of `tablerow`: `cols`, `limit` and `offset`.
+    Rows,
+}
+
+/// A part behind a loop's source.
+#[derive(Drop)]
+pub enum LoopPart {
+    Limit(Expression),
+    Offset(Expression),
+    Cols(Expression),
+    Reversed,
+}
+
+/// What a loop goes over, and by which name its body knows an item.
+#[derive(Drop)]
+pub struct Loop {
+    pub variable: String,
+    pub source: RangeExpression,
+    pub limit: Option<Expression>,
+    pub offset: Option<Expression>,
+    pub cols: Option<Expression>,
+    pub reversed: bool,
+}
+
+/// Takes the source at the front, if one stands there.
+fn next_source(items: &mut VecDeque<Item<'_>>) -> Option<RangeExpression>
+    ensures value { option_map (λ s. (source_view s, tokens_view items.new.items)) result ≡ source_first (tokens_view items.old.items) }
+    ensures shorter { length items.new.items ≤ length items.old.items }
+{
+    match items.pop_front()? {
+        Item::Value(value, _) => Some(RangeExpression::Array(value)),
+        Item::Range(first, last) => Some(RangeExpression::Counted(first, last)),
+        Item::Symbol(_) => None,
+    }
+}
+
+/// Takes a `:` and the value behind it off the front, if they stand there.
+fn behind_colon(items: &mut VecDeque<Item<'_>>) -> Option<Expression>
+    ensures value { (make : Meant → Part) → option_map (λ x. (make (expression_view x), tokens_view items.new.items)) result ≡ part_value make (tokens_view items.old.items) }
+    ensures shorter { length items.new.items ≤ length items.old.items }
+{
+    if !skip(items, Symbol::Colon) {
+        return None;
+    }
+    next_value(items)
+}
+
+/// Takes the part at the front, if one stands there that the loop may have.
+fn next_part(items: &mut VecDeque<Item<'_>>, kind: LoopKind) -> Option<LoopPart>
+    ensures value { option_map (λ p. (part_view p, tokens_view items.new.items)) result ≡ part_first kind (tokens_view items.old.items) }
+    ensures shorter { IfSome result (λ _. length items.new.items < length items.old.items) }
+{
+    if skip_word(items, "limit") {
+        return Some(LoopPart::Limit(behind_colon(items)?));
+    }
+    if skip_word(items, "offset") {
+        return Some(LoopPart::Offset(behind_colon(items)?));
+    }
+    match kind {
+        LoopKind::Each => {
+            if skip_word(items, "reversed") {
+                Some(LoopPart::Reversed)
+            } else {
+                None
+            }
+        }
+        LoopKind::Rows => {
+            if skip_word(items, "cols") {
+                Some(LoopPart::Cols(behind_colon(items)?))
+            } else {
+                None
+            }
+        }
+    }
+}
+
+impl Loop {
+    /// A part takes the place of an earlier one of its kind.
+    fn set(&mut self, part: LoopPart)
+        ensures parts { parts_in self.new ≡ with_part (parts_in self.old) (part_view part) }
+        ensures rest { (self.new.variable ≡ self.old.variable) × (self.new.source ≡ self.old.source) }
+    {
+        match part {
+            LoopPart::Limit(value) => self.limit = Some(value),
+            LoopPart::Offset(value) => self.offset = Some(value),
+            LoopPart::Cols(value) => self.cols = Some(value),
+            LoopPart::Reversed => self.reversed = true,
+        }
+    }
+}
+
+/// The loop that all the items are: `variable in source`, and any parts that its kind may have, of which the last of a
+/// kind counts.
+pub fn read_loop(items: VecDeque<Item<'_>>, kind: LoopKind, at: &str) -> Result<Loop, ParseError>
+    ensures head { Parses head_view result (loop_of kind (tokens_view items.entry.items)) }
+    ensures kind { FaultsAs FaultKind.Expected result }
+    ensures place { FaultsAt (length at.now) result }
+{
+    let mut items = items;
+    let Some(variable) = next_word(&mut items) else {
+        return Err(expected(at, "the name of a variable"));
+    };
+    if !skip_word(&mut items, "in") {
+        return Err(expected(at, "`in` behind the name"));
+    }
+    let Some(source) = next_source(&mut items) else {
+        return Err(expected(at, "what the loop goes over"));
+    };
+    let mut read = Loop {
+        variable,
+        source,
+        limit: None,
+        offset: None,
+        cols: None,
+        reversed: false,
+    };
+    'parts: while !is_over(&items) {
+        let Some(part) = next_part(&mut items, kind) else {
+            return Err(expected(at, "a part of the loop"));
+        };
+        read.set(part);
+    }
+    Ok(read)
+}

@@ -1,0 +1,51 @@
+//! The visitors that are told the names that templates mention: one looks for a name, and one gathers all.
+ghost use Rattle.std.specs.Prelude.{◌≡◌, [], ◌∷◌, OnOk};
+ghost use Rattle.liquid_syntax.specs.NameVisitors.{gathers, looks};
+ghost use Rattle.liquid_syntax.specs.NameSets.{Gathers, Looks, added, held};
+
+use liquid_tree::NameVisitor;
+use std::alloc::{AllocError, Global};
+use std::collections::BTreeSet;
+
+/// Looks for a name, and ends the telling where it is told that name.
+#[derive(Clone, Copy, Drop)]
+pub(crate) struct Search<'n> {
+    pub wanted: &'n str,
+}
+
+impl NameVisitor for Search<'_> {
+    ghost tells = { Looks (λ search. search.wanted.now) };
+
+    fn visit(&mut self, name: &str) -> bool {
+        name == self.wanted
+    }
+
+    ghost laws = { looks (λ search. search.wanted.now) };
+}
+
+/// Gathers the names that it is told, and ends the telling where there is no room for one.
+#[derive(Drop)]
+pub(crate) struct Gather {
+    pub alloc: Global,
+    pub names: BTreeSet<String>,
+}
+
+impl NameVisitor for Gather {
+    ghost tells = { Gathers (λ gather. held gather.names) };
+
+    fn visit(&mut self, name: &str) -> bool {
+        add(self.alloc, &mut self.names, name).is_err()
+    }
+
+    ghost laws = { gathers (λ gather. held gather.names) };
+}
+
+/// Puts a name into the set. It is copied only where the set doesn't have it.
+fn add(alloc: Global, names: &mut BTreeSet<String>, name: &str) -> Result<(), AllocError>
+    ensures { OnOk result (held names.new ≡ added (name.now ∷ []) (held names.old)) }
+{
+    if !names.contains(name) {
+        names.insert(String::from_str(alloc, name)?)?;
+    }
+    Ok(())
+}

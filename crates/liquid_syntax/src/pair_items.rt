@@ -1,0 +1,110 @@
+//! Pairs of a name and a value, read from the items of a piece.
+ghost use Rattle.std.specs.Prelude.{◌≡◌, ◌<◌, ◌++◌, IfSome, length, option_map};
+ghost use Rattle.liquid_source.specs.Readers.{Parses};
+ghost use Rattle.liquid_source.specs.Tokens.{tokens_view};
+ghost use Rattle.liquid_syntax.specs.Bound.{ends_pairs, is_separated, mark_of, one_first, pair_first, pairs_of};
+ghost use Rattle.liquid_syntax.specs.Faults.{FaultsAs, FaultsAt};
+ghost use Rattle.liquid_syntax.specs.Flats.{binding_view, bindings_view};
+
+use crate::chain_items::expected;
+use crate::node::Binding;
+use liquid_source::{FaultKind, Item, ParseError, Symbol, next_value, next_word, skip};
+use std::collections::VecDeque;
+
+/// How the pairs of a tag are written.
+#[derive(Clone, Copy, Debug, PartialEq, Eq)]
+pub enum PairStyle {
+    /// `, name: value`, as behind the first pair of an `include`. One item of any kind may stand behind the last of them.
+    Include,
+    /// `name=value`, as in Jekyll's `include`.
+    JekyllInclude,
+    /// `, name: value`, as in a `render`. One more `,` may stand behind the last of them.
+    Render,
+}
+
+/// The symbol between a name and its value.
+fn mark_of(style: PairStyle) -> Symbol
+    ensures { result ≡ mark_of style }
+{
+    match style {
+        PairStyle::Include => Symbol::Colon,
+        PairStyle::JekyllInclude => Symbol::Assign,
+        PairStyle::Render => Symbol::Colon,
+    }
+}
+
+/// Whether a `,` stands before each pair.
+fn is_separated(style: PairStyle) -> bool
+    ensures { result ≡ is_separated style }
+{
+    match style {
+        PairStyle::Include => true,
+        PairStyle::JekyllInclude => false,
+        PairStyle::Render => true,
+    }
+}
+
+/// Takes a name, the symbol and a value off the front, if they stand there.
+pub(crate) fn next_pair(items: &mut VecDeque<Item<'_>>, symbol: Symbol) -> Option<Binding>
+    ensures value { option_map (λ p. (binding_view p, tokens_view items.new.items)) result ≡ pair_first symbol (tokens_view items.old.items) }
+    ensures shorter { IfSome result (λ _. length items.new.items < length items.old.items) }
+{
+    let name = next_word(items)?;
+    if !skip(items, symbol) {
+        return None;
+    }
+    let value = next_value(items)?;
+    Some(Binding { name, value })
+}
+
+/// Takes one of the pairs off the front, if it stands there.
+fn next_of(items: &mut VecDeque<Item<'_>>, style: PairStyle) -> Option<Binding>
+    ensures value { option_map (λ p. (binding_view p, tokens_view items.new.items)) result ≡ one_first style (tokens_view items.old.items) }
+    ensures shorter { IfSome result (λ _. length items.new.items < length items.old.items) }
+{
+    if is_separated(style) {
+        if !skip(items, Symbol::Comma) {
+            return None;
+        }
+    }
+    next_pair(items, mark_of(style))
+}
+
+/// Whether the pairs end where the items are.
+fn ends_pairs(items: &VecDeque<Item<'_>>, style: PairStyle) -> bool
+    ensures { result ≡ ends_pairs style (tokens_view items.now.items) }
+{
+    if items.is_empty() {
+        return true;
+    }
+    if items.len() > 1 {
+        return false;
+    }
+    match style {
+        PairStyle::Include => true,
+        PairStyle::JekyllInclude => false,
+        PairStyle::Render => matches!(items.front(), Some(Item::Symbol(Symbol::Comma))),
+    }
+}
+
+/// The pairs that all the items are, behind those that stand before them.
+pub(crate) fn read_pairs(
+    first: Vec<Binding>,
+    items: VecDeque<Item<'_>>,
+    style: PairStyle,
+    at: &str,
+) -> Result<Vec<Binding>, ParseError>
+    ensures pairs { Parses (λ ps. bindings_view ps.items) result (option_map (λ ps. bindings_view first.items ++ ps) (pairs_of style (tokens_view items.entry.items))) }
+    ensures kind { FaultsAs FaultKind.Expected result }
+    ensures place { FaultsAt (length at.now) result }
+{
+    let mut items = items;
+    let mut pairs = first;
+    'pairs: while !ends_pairs(&items, style) {
+        let Some(pair) = next_of(&mut items, style) else {
+            return Err(expected(at, "a name and its value"));
+        };
+        pairs.push(pair)?;
+    }
+    Ok(pairs)
+}

@@ -1,0 +1,126 @@
+//! Tags that run a partial, read from the items of a piece.
+ghost use Rattle.std.specs.Prelude.{◌≡◌, [], ◌∷◌, IfOk, length, option_map, string_bytes};
+ghost use Rattle.liquid_core.specs.ExpressionView.{expression_view};
+ghost use Rattle.liquid_source.specs.PieceView.{items_view};
+ghost use Rattle.liquid_source.specs.Tokens.{tokens_view};
+ghost use Rattle.liquid_syntax.specs.Faults.{FaultsAs, FaultsAt};
+ghost use Rattle.liquid_syntax.specs.Flats.{binding_view, bindings_view};
+ghost use Rattle.liquid_syntax.specs.Judges.{Judges};
+ghost use Rattle.liquid_syntax.specs.Judging.{leaf_or};
+ghost use Rattle.liquid_syntax.specs.PartialItems.{include_node, include_of, jekyll_node, jekyll_of, render_node, render_of, spelled_name, with_first};
+
+use crate::build::Label;
+use crate::chain_items::expected;
+use crate::node::{Binding, Node};
+use crate::pair_items::{PairStyle, next_pair, read_pairs};
+use liquid_core::{Expression, Value};
+use liquid_source::{
+    FaultKind, Item, ParseError, Symbol, is_over, next_value, next_word, skip_word,
+};
+use std::alloc::{AllocError, Global};
+use std::collections::VecDeque;
+
+/// `name w: v, w: v`: the node of an `include`.
+pub(crate) fn read_include(
+    alloc: Global,
+    items: VecDeque<Item<'_>>,
+    at: &str,
+) -> Result<Label, ParseError>
+    ensures label { Judges (leaf_or (option_map include_node (include_of (tokens_view items.entry.items)))) result }
+    ensures kind { FaultsAs FaultKind.Expected result }
+    ensures place { FaultsAt (length at.now) result }
+{
+    let mut items = items;
+    let Some(name) = next_value(&mut items) else {
+        return Err(expected(at, "the name of a partial"));
+    };
+    if is_over(&items) {
+        return Ok(Label::Leaf(Node::Include(name, Vec::new(alloc))));
+    }
+    let Some(first) = next_pair(&mut items, Symbol::Colon) else {
+        return Err(expected(at, "a name, `:` and its value"));
+    };
+    let all = read_pairs(only(alloc, first)?, items, PairStyle::Include, at)?;
+    Ok(Label::Leaf(Node::Include(name, all)))
+}
+
+/// `name with v as w, w: v`: the node of a `render` that runs once.
+pub(crate) fn read_render(
+    alloc: Global,
+    items: VecDeque<Item<'_>>,
+    at: &str,
+) -> Result<Label, ParseError>
+    ensures label { Judges (leaf_or (option_map render_node (render_of (tokens_view items.entry.items)))) result }
+    ensures kind { FaultsAs FaultKind.Expected result }
+    ensures place { FaultsAt (length at.now) result }
+{
+    let mut items = items;
+    let Some(name) = next_value(&mut items) else {
+        return Err(expected(at, "the name of a partial"));
+    };
+    if !skip_word(&mut items, "with") {
+        let all = read_pairs(Vec::new(alloc), items, PairStyle::Render, at)?;
+        return Ok(Label::Leaf(Node::Render(name, all)));
+    }
+    let Some(first) = next_with(&mut items) else {
+        return Err(expected(at, "a value, `as` and its name"));
+    };
+    let all = read_pairs(only(alloc, first)?, items, PairStyle::Render, at)?;
+    Ok(Label::Leaf(Node::Render(name, all)))
+}
+
+/// Takes the pair behind `with` off the front, if it stands there: a value, `as` and its name.
+fn next_with(items: &mut VecDeque<Item<'_>>) -> Option<Binding>
+    ensures { option_map (λ p. (binding_view p, tokens_view items.new.items)) result ≡ with_first (tokens_view items.old.items) }
+{
+    let value = next_value(items)?;
+    if !skip_word(items, "as") {
+        return None;
+    }
+    let name = next_word(items)?;
+    Some(Binding { name, value })
+}
+
+/// `name w=v w=v`: the node of Jekyll's `include`.
+#[tactic(auto, using(liquid_source::proofs::Seen::seen_tokens))]
+pub(crate) fn read_jekyll_include(
+    alloc: Global,
+    items: VecDeque<Item<'_>>,
+    at: &str,
+) -> Result<Label, ParseError>
+    ensures label { Judges (leaf_or (option_map jekyll_node (jekyll_of (items_view items.entry.items)))) result }
+    ensures kind { FaultsAs FaultKind.Expected result }
+    ensures place { FaultsAt (length at.now) result }
+{
+    let mut items = items;
+    match items.pop_front() {
+        Some(Item::Value(value, spelling)) => {
+            let name = spelled_name(alloc, value, spelling)?;
+            let all = read_pairs(Vec::new(alloc), items, PairStyle::JekyllInclude, at)?;
+            Ok(Label::Leaf(Node::JekyllInclude(name, all)))
+        }
+        Some(Item::Range(_, _)) => Err(expected(at, "the name of a partial")),
+        Some(Item::Symbol(_)) => Err(expected(at, "the name of a partial")),
+        None => Err(expected(at, "the name of a partial")),
+    }
+}
+
+/// A list of one pair.
+fn only(alloc: Global, pair: Binding) -> Result<Vec<Binding>, AllocError>
+    ensures { IfOk result (λ ps. bindings_view ps.items ≡ binding_view pair ∷ []) }
+{
+    let mut pairs = Vec::new(alloc);
+    pairs.push(pair)?;
+    Ok(pairs)
+}
+
+/// The text of a text literal, or else the value as it is spelled.
+fn spelled_name(alloc: Global, value: Expression, spelling: &str) -> Result<String, AllocError>
+    ensures { IfOk result (λ t. string_bytes t ≡ spelled_name (expression_view value) spelling.now) }
+{
+    match value {
+        Expression::Literal(Value::Text(text)) => Ok(text),
+        Expression::Literal(_) => String::from_str(alloc, spelling),
+        Expression::Variable(_) => String::from_str(alloc, spelling),
+    }
+}

@@ -1,0 +1,38 @@
+//! `render`.
+ghost use Rattle.std.specs.Prelude.{◌≡◌, codes};
+
+use crate::reflection::TagReflection;
+use liquid_syntax::TagKind;
+
+/// `{% render name with v as w, w: v %}`: runs a partial apart, where it sees the pairs alone.
+#[derive(Clone, Copy, Debug, Default)]
+pub struct RenderTag;
+
+impl RenderTag {
+    /// The tag.
+    pub fn new() -> RenderTag {
+        RenderTag
+    }
+}
+
+impl TagReflection for RenderTag {
+    ghost tag_name = { λ t. codes "render" };
+
+    fn tag(&self) -> &'static str {
+        "render"
+    }
+
+    fn description(&self) -> &'static str {
+        "insert the rendered content of another template in this template"
+    }
+}
+
+impl From<RenderTag> for TagKind {
+    ghost use Rattle.liquid_syntax.specs.declared.language.TagKind.TheVariants.{Render};
+
+    ghost from_gives = { λ tag kind. kind ≡ Render };
+
+    fn from(_tag: RenderTag) -> TagKind {
+        TagKind::Render
+    }
+}

@@ -1,0 +1,78 @@
+-- What the parts of a range's code answer.
+use Rattle.std.proofs.Common.{◌≡◌, ℕ, zero, suc, ◌+◌, ◌<◌, ◌≤◌, ℤ, List, [], ◌∷◌, ◌++◌, length, map, get_or, Vec, Global, Result, Ok, Err, refl, sym, ap, ◌∙◌, subst, arith}
+use Rattle.std.proofs.lemmas.List.{get_or-map, map-append}
+use Rattle.liquid_model.specs.Answer.{Answers, Gives, Faulted}
+use Rattle.liquid_model.specs.Cow.{cow_view}
+use Rattle.liquid_model.specs.Data.{Datum, nil}
+use Rattle.liquid_model.specs.Lists.{list_of, pair_lists}
+use Rattle.liquid_model.specs.View.{view, items_view, pairs_view}
+use Rattle.liquid_model.specs.declared.error.Error.{Error}
+use Rattle.liquid_model.specs.declared.cow.ValueCow.{ValueCow}
+use Rattle.liquid_model.specs.declared.cow.ValueCow.TheVariants.{Owned}
+use Rattle.liquid_model.specs.declared.value.Value.{Value}
+use Rattle.liquid_model.specs.declared.value.Value.TheVariants.{Array}
+use Rattle.liquid_model.proofs.Views.{Entry, view-Array, list_of_view}
+use Rattle.liquid_core.specs.Places.{number_at}
+use Rattle.liquid_tree.specs.Evaluation.{count_to, numbers_from, value_items}
+use Rattle.liquid_tree.specs.Ranges.{range_count, range_items, checked_count}
+use Rattle.liquid_tree.specs.SourceView.{range_view}
+use Rattle.liquid_tree.specs.declared.range.Range.{Range}
+use Rattle.liquid_tree.specs.declared.range.Range.TheVariants.{Counted}
+use Rattle.liquid_tree.proofs.Ranges.{count_of_numbers, numbers_counted, numbers_more, number_there}
+
+-- ---- the items of a value
+
+pub items_length : (vs : List Value) → length (list_of (items_view vs)) ≡ length vs
+items_length [] = refl
+items_length (v ∷ vs) = ap suc (items_length vs)
+
+pub pairs_length : (ms : List Entry) → length (pair_lists (pairs_view ms)) ≡ length ms
+pairs_length [] = refl
+pairs_length (m ∷ ms) = ap suc (pairs_length ms)
+
+pub item_within : (vs : List Value) (i : ℕ) (d : Value) → i < length vs → view (get_or vs i d) ≡ get_or (map view vs) i nil
+item_within vs i d h = sym (get_or-map view vs i d nil h)
+
+pub item_past : (vs : List Value) (i : ℕ) → length vs ≤ i → nil ≡ get_or (map view vs) i nil
+item_past [] i h = refl
+item_past (v ∷ vs) zero h = absurd (omega arith)
+item_past (v ∷ vs) (suc i) h = item_past vs i (omega arith)
+
+abbrev pub cows : Vec ValueCow Global → List Datum
+cows v = map cow_view v.items
+
+pub lent_items : (r : Result (Vec ValueCow Global) Error) (value : Value) (v : Vec Value Global) → value ≡ Array v → Gives cows r (map view v.items) → Answers cows r (value_items (view value))
+lent_items (Ok x) value v is h = ap (λ w. value_items (view w)) is ∙ ap value_items (view-Array v) ∙ ap Ok (list_of_view v.items ∙ sym h)
+lent_items (Err e) value v is h = subst (λ kind. Faulted kind (value_items (view value))) (sym h) tt
+
+-- ---- the numbers of a range
+
+pub counted_answer : (s : Range) (a b a' b' : ℤ) (n : ℕ) (r : Result ℕ Error) → s ≡ Counted a b → a' ≡ a → b' ≡ b → n ≡ count_to a' b'
+    → Answers (λ m. m) r (checked_count n) → Answers (λ m. m) r (range_count (range_view s))
+counted_answer s a b a' b' n r is first last counts h =
+    let e : checked_count n ≡ range_count (range_view s) =
+    ap checked_count (counts ∙ ap (λ z. count_to z b') first ∙ ap (count_to a) last) ∙ sym (count_of_numbers a b) ∙ ap (λ t. range_count (range_view t)) (sym is) in
+    subst (λ w. Answers (λ m. m) r w) e h
+
+-- a number is pushed
+pub numbers_pushed : (a b a' b' : ℤ) (n count : ℕ) (before after : List ValueCow) (v : Value) → a' ≡ a → b' ≡ b → after ≡ before ++ Owned v ∷ [] → view v ≡ number_at a' b' n
+    → n < count → count ≡ count_to a b → map cow_view before ≡ numbers_from a' n → map cow_view after ≡ numbers_from a' (n + 1)
+numbers_pushed a b a' b' n count before after v first last pushed is h counts so_far =
+    let there : n < count_to a' b' = subst (λ m. n < m) (counts ∙ sym (ap (λ z. count_to z b') first ∙ ap (count_to a) last)) h in
+    ap (map cow_view) pushed ∙ map-append cow_view before (Owned v ∷ [])
+    ∙ ap (λ ds. ds ++ view v ∷ []) so_far
+    ∙ ap (λ d. numbers_from a' n ++ d ∷ []) (is ∙ number_there a' b' n there)
+    ∙ sym (numbers_more a' n)
+
+known : (s : Range) (a b : ℤ) (n : ℕ) → s ≡ Counted a b → range_count (range_view s) ≡ Ok n → range_count (range_view (Counted a b)) ≡ Ok n
+known s a b n is h = ap (λ t. range_count (range_view t)) (sym is) ∙ h
+
+pub numbers_wanted : (s : Range) (a b a' b' : ℤ) (n : ℕ) → s ≡ Counted a b → a' ≡ a → b' ≡ b → range_count (range_view s) ≡ Ok n → n ≡ count_to a' b'
+numbers_wanted s a b a' b' n is first last h =
+    sym ((ap (λ z. count_to z b') first ∙ ap (count_to a) last) ∙ (numbers_counted a b n (known s a b n is h)).0)
+
+pub numbers_given : (s : Range) (a b a' : ℤ) (n : ℕ) (r : Result (Vec ValueCow Global) Error) → s ≡ Counted a b → a' ≡ a → range_count (range_view s) ≡ Ok n
+    → Gives cows r (numbers_from a' n) → Answers cows r (range_items (range_view s))
+numbers_given s a b a' n (Ok v) is first known_count h =
+    ap (λ t. range_items (range_view t)) is ∙ (numbers_counted a b n (known s a b n is known_count)).1 ∙ ap Ok (ap (λ z. numbers_from z n) (sym first) ∙ sym h)
+numbers_given s a b a' n (Err e) is first known_count h = subst (λ kind. Faulted kind (range_items (range_view s))) (sym h) tt

@@ -1,0 +1,15 @@
+-- The filters that a stored chain names.
+use Rattle.std.specs.Prelude.{ℕ, Bool, true, string_bytes}
+use Rattle.liquid_filters.specs.Kinds.{kind_counts}
+use Rattle.liquid_tree.specs.Tree.{Filter, existing, hosted}
+use Rattle.liquid_tree.specs.declared.stored_filter.StoredFilter.{StoredFilter}
+use Rattle.liquid_tree.specs.declared.stored_filter.StoredFilter.TheVariants.{Kind, Host}
+
+-- a host's filter is asked when it is run
+abbrev pub stored_counts : StoredFilter → ℕ → Bool
+stored_counts (Kind kind) n = kind_counts kind n
+stored_counts (Host name) n = true
+
+abbrev pub stored_view : StoredFilter → Filter
+stored_view (Kind kind) = existing kind
+stored_view (Host name) = hosted (string_bytes name)

@@ -1,0 +1,73 @@
+"""A copy of a crate in which only some functions are left to prove: each other one is taken at its word.
+
+A proof sees the contracts of the functions that it calls, and not their bodies. So each function that has a contract of its own,
+and isn't to be proved, gets a body with nothing in it, and a proof with a hole, which a check that allows holes goes past.
+"""
+import os
+import re
+import shutil
+
+from edits import sources, text_of
+from functions import Twin, modules, stated_functions
+
+TYPE = re.compile(r"^(?:pub(?:\([^)]*\))? )?(?:struct|enum) (\w+)", re.M)
+HOLE = """use Rattle.{crate}.proofs.{path}.Statement.{{statement}}
+
+pub {name}_spec : {{M : Type 1}} → statement M
+{name}_spec = ?
+"""
+
+
+def stub(crate, folder, proved):
+    """Takes at its word each function of the copy, but these and those of their cycles of calls."""
+    texts = {path: text_of(f"{folder}/{path}") for path in sources(folder)}
+    homes = {name: modules(path) for path, text in texts.items() for name in TYPE.findall(text)}
+    stated = {it.name: it for path, text in texts.items() for it in stated_functions(text, path)}
+    for it in proved:
+        if isinstance(it, Twin):
+            give_answers(crate, folder, place_of(stated[it.of.name], homes), place_of(stated[it.name], homes))
+    names, cycles = {it.name for it in proved}, {(it.path, it.cycle) for it in proved if it.cycle}
+    for path, text in texts.items():
+        lines = text.split("\n")
+        for it in reversed(stated_functions(text, path)):
+            if it.name not in names and (path, it.cycle) not in cycles:
+                empty_body(lines, it)
+                leave_hole(crate, folder, it, homes)
+        with open(f"{folder}/{path}", "w", encoding="utf-8") as file:
+            file.write("\n".join(lines))
+
+
+def empty_body(lines, function):
+    indent = lines[function.opens].removesuffix("{")
+    lines[function.opens + 1 : function.closes] = [indent + "    loop {}"]
+    if function.cycle:
+        lines[function.marked] = ""
+
+
+def place_of(function, homes):
+    """The path of the function in the crate, by its parts."""
+    owner, _, name = function.name.rpartition("::")
+    return [*homes.get(owner, [owner]), owner, name] if function.is_inherent else [*filter(None, owner.split("::")), name]
+
+
+def give_answers(crate, folder, of, to):
+    """Gives a function the answers of another one."""
+    if os.path.isdir(f"{folder}/proofs/{'/'.join(of)}"):
+        shutil.copytree(f"{folder}/proofs/{'/'.join(of)}", f"{folder}/proofs/{'/'.join(to)}")
+    for at, _, names in os.walk(f"{folder}/proofs/{'/'.join(to)}"):
+        for name in names:
+            text = text_of(f"{at}/{name}").replace(f"Rattle.{crate}.proofs.{'.'.join(of)}.", f"Rattle.{crate}.proofs.{'.'.join(to)}.")
+            with open(f"{at}/{name}", "w", encoding="utf-8") as file:
+                file.write(text)
+
+
+def leave_hole(crate, folder, function, homes):
+    """Writes the function's proof, in place of what the crate has for it."""
+    own = place_of(function, homes)
+    place = f"{folder}/proofs/{'/'.join(own)}"
+    shutil.rmtree(place, ignore_errors=True)
+    if function.cycle:
+        shutil.rmtree(f"{folder}/proofs/{'/'.join([*modules(function.path), '+' + function.cycle])}", ignore_errors=True)
+    os.makedirs(place)
+    with open(f"{place}/Proof.antt", "w", encoding="utf-8") as file:
+        file.write(HOLE.format(crate=crate, path=".".join(own), name=own[-1]))

@@ -1,0 +1,106 @@
+"""What a check's words come to: whether a function was refused by a goal of its own, and why an edit wasn't refused."""
+import re
+
+from edits import span_of, text_of
+from functions import first_line
+
+ERROR = re.compile(r"^(?:note: )?(?:\./)?(\S+?):(\d+):\d+: (?:error: )?(.*)$", re.M)
+# a proof file that names what an edit took away, which says nothing of the contract
+LOST_NAME = re.compile(r"has no field|is not in scope|has no `|was not admitted")
+# what the prover can't even read
+UNREAD = re.compile(r"is not in scope|has no field|is no name|operand is missing|expected the end|cannot continue")
+GOALS = re.compile(r"did not prove ((?:`[^`]+`(?:, | and )?)+)")
+LEFT = re.compile(r"^note: (?:\./)?(src/\S+?):(\d+):\d+: it is not proved that .*\(`([^`]+)`\)", re.M)
+
+
+def refused_by(crate, function, said, part=""):
+    """Whether the check names a goal of this very function, or of a closure in it, that isn't proved and has the part in its name."""
+    return any(has_open_goal(name, function, verdict, said, part) for name, verdict in verdicts_of(crate, function, said))
+
+
+def is_left(crate, function, said):
+    """Whether the check refuses the function, for whatever reason."""
+    return any(kind in ("no proof", "not proved") for _, (kind, _) in verdicts_of(crate, function, said))
+
+
+def verdicts_of(crate, function, said):
+    """What the check says of the function and of the closures in it, by their names."""
+    ends = "::" + function.name
+    inside = "::" + "::".join([*function.name.split("::")[:-1], "fn", function.name.split("::")[-1]]) + "::"
+    return [(name, it) for name, it in said.verdicts.items() if name.startswith(crate + "::") and (name.endswith(ends) or inside in name)]
+
+
+def has_open_goal(name, function, verdict, said, part):
+    kind, why = verdict
+    own = function.name.split("::")[-1] + "-"
+
+    def fits(goal):
+        # of a cycle all goals stand together, each under the name of its function
+        return part in goal and (goal.startswith(own) or not function.cycle)
+
+    if kind == "no proof" and any(fits(goal) for goals in GOALS.findall(why) for goal in re.findall(r"`([^`]+)`", goals)):
+        return True
+    if kind not in ("no proof", "not proved"):
+        return False
+    refused = any(stands_in(name, function, path, what, fits) for path, _, what in ERROR.findall(said.text) if not LOST_NAME.search(what))
+    return refused or any(fits(goal) for goal in goals_left(function, said))
+
+
+def goals_left(function, said):
+    """The goals of the function that notes name: where an answer is refused, they alone do."""
+    text = text_of(f"{said.folder}/{function.path}")
+    start, end = (text.count("\n", 0, at) for at in span_of(text, function.path, function.name))
+    # a note may name the line of the function's first attribute
+    start = first_line(text.split("\n"), start)
+    return [goal for path, line, goal in LEFT.findall(said.text) if path == function.path and start < int(line) <= end]
+
+
+def hidden(chosen, left):
+    """Those of the edits left unrefused whose goals another edit of their cycle of calls, which was refused, may have hidden."""
+    refused = {(function.path, function.cycle) for edit, function in chosen if function.cycle and (edit, function) not in left}
+    return [(edit, function) for edit, function in left if (function.path, function.cycle) in refused]
+
+
+def stands_in(name, function, path, what, fits):
+    """Whether an error of a proof file is one of this function's, at a goal that fits."""
+    goal = re.match(r"`([^`]+)`", what)
+    if function.cycle:
+        return f"/+{function.cycle}/" in path and bool(goal) and fits(goal[1])
+    return path.startswith(f"proofs/{name.split('::', 1)[1].replace('::', '/')}/") and (not goal or fits(goal[1]))
+
+
+def refused_alone(texts, said):
+    """None where the check refuses the crate with these texts, and else why that isn't so."""
+    if said.status == 0:
+        return "NOT REFUSED: it is proved with this edit"
+    if not said.judged:
+        lines = [line for line in said.text.split("\n") if "error" in line] or said.text.split("\n")[-3:]
+        return f"it doesn't reach the prover: {' '.join(lines)[:300]}"
+    why = unread(said.text, texts)
+    return f"the prover can't read it: {why}" if why else None
+
+
+def unread(text, texts=()):
+    """What the prover could not read in src/, in specs/ or in an edited file, if anything."""
+    for line in text.split("\n"):
+        at = re.match(r"(?:\./)?(\S+?):\d+:\d+: error: (?:(`[^`]*`): )?(.*)", line)
+        if at and (at[1] in texts or at[1].startswith(("src/", "specs/"))):
+            if not at[2] or UNREAD.search(re.sub(r"`[^`]*`", "", at[3])):
+                return line[:200]
+    return None
+
+
+def blamed(chosen, texts, said):
+    """Those of the edits that the compiler's words name: by the line that they changed, or by their function."""
+    lines = {(path, int(row)) for path, row, _ in ERROR.findall(said.text)}
+    lines |= {(path, int(row)) for path, row in re.findall(r"(src/\S+?\.rt):(\d+)", said.text)}
+    guilty = []
+    for edit, function in chosen:
+        changed = {(path, row) for path, _, new in edit.pairs for row in rows_of(texts[path], new)}
+        if changed & lines or f"`{function.name}`" in said.text:
+            guilty.append((edit, function))
+    return guilty
+
+
+def rows_of(text, part):
+    return [row for row, line in enumerate(text.split("\n"), 1) if part and part in line]
