@@ -11,7 +11,7 @@ use Rattle.liquid_tree.specs.Tree as tree
 use Rattle.liquid_tree.specs.Tree.{Nodes, no_nodes, Whens, no_whens, when, case_of}
 use Rattle.liquid_syntax.specs.declared.node.Arm.{Arm}
 use Rattle.liquid_syntax.specs.declared.node.Node.{Node}
-use Rattle.liquid_syntax.specs.declared.node.Node.TheVariants.{Text as Plain, Output, Assign, Raw, Comment, If, Unless, Capture, Case, Break, Continue, Increment, Decrement, Cycle, IfChanged, Include, JekyllInclude, Render}
+use Rattle.liquid_syntax.specs.declared.node.Node.TheVariants.{Text as Plain, Output, Assign, Raw, Comment, If, Unless, Capture, Case, For, TableRow, Break, Continue, Increment, Decrement, Cycle, IfChanged, Include, JekyllInclude, Render, RenderEach}
 use Rattle.liquid_syntax.proofs.Grow.{set_before_seam, set_last_seam}
 
 pub case_last : (t : Expression) (vss : List (List Expression)) (es : List ℕ) (e z : ℕ) → case_flat t vss es e ≡ last_ended e (case_flat t vss es z)
@@ -133,6 +133,8 @@ no_case (If c bodies) other t vss es z h = two_is_none _ (length vss) t (whens_o
 no_case (Unless c bodies) other t vss es z h = two_is_none _ (length vss) t (whens_of vss) no_nodes (λ e. absurd cc) (some_case (flat_of (Unless c bodies)) t vss es z h)
 no_case (Capture name end) other t vss es z h = one_is_none _ (length vss) t (whens_of vss) no_nodes (λ e. absurd cc) (some_case (flat_of (Capture name end)) t vss es z h)
 no_case (Case target arms end) other t vss es z h = other target arms end refl
+no_case (For f bodies) other t vss es z h = two_is_none _ (length vss) t (whens_of vss) no_nodes (λ e. absurd cc) (some_case (flat_of (For f bodies)) t vss es z h)
+no_case (TableRow r end) other t vss es z h = one_is_none _ (length vss) t (whens_of vss) no_nodes (λ e. absurd cc) (some_case (flat_of (TableRow r end)) t vss es z h)
 no_case Break other t vss es z h = let e = some_case (flat_of Break) t vss es z h in absurd cc
 no_case Continue other t vss es z h = let e = some_case (flat_of Continue) t vss es z h in absurd cc
 no_case (Increment name) other t vss es z h = let e = some_case (flat_of (Increment name)) t vss es z h in absurd cc
@@ -142,3 +144,4 @@ no_case (IfChanged end) other t vss es z h = one_is_none _ (length vss) t (whens
 no_case (Include name bindings) other t vss es z h = let e = some_case (flat_of (Include name bindings)) t vss es z h in absurd cc
 no_case (JekyllInclude name bindings) other t vss es z h = let e = some_case (flat_of (JekyllInclude name bindings)) t vss es z h in absurd cc
 no_case (Render name bindings) other t vss es z h = let e = some_case (flat_of (Render name bindings)) t vss es z h in absurd cc
+no_case (RenderEach name each bindings) other t vss es z h = let e = some_case (flat_of (RenderEach name each bindings)) t vss es z h in absurd cc

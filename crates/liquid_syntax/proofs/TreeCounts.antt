@@ -1,15 +1,16 @@
 -- The count over a tree is the length of its list.
-use Rattle.std.proofs.Common.{◌≡◌, ℕ, ◌+◌, List, [], ◌∷◌, length, map, string_bytes, None, refl, ap, subst, ◌∙◌, arith}
+use Rattle.std.proofs.Common.{◌≡◌, ℕ, ◌+◌, List, [], ◌∷◌, length, map, string_bytes, Some, None, option_map, refl, ap, subst, ◌∙◌, arith}
 use Rattle.liquid_core.specs.Expression.{Expression}
 use Rattle.liquid_core.specs.ExpressionView.{expression_view}
 use Rattle.liquid_tree.specs.ChainView.{chain_view}
 use Rattle.liquid_tree.specs.ConditionView.{condition_view}
 use Rattle.liquid_tree.specs.Counts.{count_of_node, count_of_nodes, count_of_whens}
+use Rattle.liquid_tree.specs.SourceView.{source_view}
 use Rattle.liquid_tree.specs.Tree as tree
-use Rattle.liquid_syntax.specs.Flats.{arm_values, bindings_view, flat_of, leaf}
+use Rattle.liquid_syntax.specs.Flats.{arm_values, bindings_view, each_view, flat_of, leaf, window_view}
 use Rattle.liquid_syntax.specs.Templates.{list_of, tree_of}
 use Rattle.liquid_syntax.specs.declared.node.Node.{Node}
-use Rattle.liquid_syntax.specs.declared.node.Node.TheVariants.{Text as Plain, Output, Assign, Raw, Comment, If, Unless, Capture, Case, Break, Continue, Increment, Decrement, Cycle, IfChanged, Include, JekyllInclude, Render}
+use Rattle.liquid_syntax.specs.declared.node.Node.TheVariants.{Text as Plain, Output, Assign, Raw, Comment, If, Unless, Capture, Case, For, TableRow, Break, Continue, Increment, Decrement, Cycle, IfChanged, Include, JekyllInclude, Render, RenderEach}
 use Rattle.liquid_syntax.specs.declared.template.Template.{Template}
 use Rattle.liquid_syntax.proofs.Totals.{IsTotal, Makes, leaf_makes, one_makes, two_makes, of_arms, case_makes, list_total, tree_total}
 
@@ -58,6 +59,8 @@ makes (Capture target end) = one_makes 0 plus count_of_node count_of_nodes sum 1
 makes (Case target arms end) =
     subst (λ r. Makes 0 plus count_of_node count_of_nodes r (flat_of (Case target arms end))) (ap (plus 1) (no_values (arm_values arms.items)))
     (case_makes 0 plus count_of_node count_of_nodes sum count_of_whens (λ vs. 0) no_when one_when 1 (expression_view target) arms.items end (λ ws o. refl))
+makes (For f ends) = two_makes 0 plus count_of_node count_of_nodes sum 1 (tree.for_each (string_bytes f.value.variable) (source_view f.value.source) (window_view f.value.window)) ends (λ b c. refl)
+makes (TableRow r end) = one_makes 0 plus count_of_node count_of_nodes sum 1 (tree.tablerow (string_bytes r.value.variable) (source_view r.value.source) (window_view r.value.window) (option_map expression_view r.value.cols)) end (λ b. refl)
 makes Break = without_bodies tree.break_loop
 makes Continue = without_bodies tree.continue_loop
 makes (Increment target) = without_bodies (tree.increment (string_bytes target))
@@ -67,6 +70,7 @@ makes (IfChanged end) = one_makes 0 plus count_of_node count_of_nodes sum 1 tree
 makes (Include partial pairs) = without_bodies (tree.include (expression_view partial) (bindings_view pairs.items))
 makes (JekyllInclude partial pairs) = without_bodies (tree.jekyll_include (string_bytes partial) (bindings_view pairs.items))
 makes (Render partial pairs) = without_bodies (tree.render (expression_view partial) None (bindings_view pairs.items))
+makes (RenderEach partial each pairs) = without_bodies (tree.render (expression_view partial) (Some (each_view each)) (bindings_view pairs.items))
 
 list_length : (ns : List Node) → list_total 0 plus count_of_node count_of_nodes (λ n. 1) ns ≡ length ns
 unfolding list_total

@@ -1,18 +1,22 @@
 -- The names of a tree are those of the nodes of its list.
-use Rattle.std.specs.Prelude.{◌≡◌, Bool, true, false, ◌||◌, List, [], ◌∷◌, ◌++◌, map, string_bytes, None}
+use Rattle.std.specs.Prelude.{◌≡◌, Bool, true, false, ◌||◌, List, [], ◌∷◌, ◌++◌, map, string_bytes, codes, Some, None, option_map}
 use mathlib.Core.Path.{refl, sym, ap, subst, ◌∙◌}
+use Rattle.std.proofs.Common.{append_assoc}
 use Rattle.liquid_core.specs.Expression.{Expression}
 use Rattle.liquid_core.specs.ExpressionView.{expression_view}
 use Rattle.liquid_model.specs.Texts.{Text}
 use Rattle.liquid_tree.specs.ChainView.{chain_view}
 use Rattle.liquid_tree.specs.ConditionView.{condition_view}
-use Rattle.liquid_tree.specs.Names.{mentioned, all_names, condition_names, expression_names, node_names, nodes_names, whens_names}
+use Rattle.liquid_tree.specs.Names.{mentioned, all_names, condition_names, expression_names, node_names, nodes_names, optional_names, source_names, whens_names, window_names}
+use Rattle.liquid_tree.specs.SourceView.{source_view}
 use Rattle.liquid_tree.specs.Tree as tree
-use Rattle.liquid_syntax.specs.Flats.{arm_values, bindings_view, flat_of, leaf}
-use Rattle.liquid_syntax.specs.Mentions.{arms_names, jekyll_names, list_names, own_names, pairs_names}
+use Rattle.liquid_syntax.specs.Flats.{arm_values, bindings_view, each_view, flat_of, leaf, window_view}
+use Rattle.liquid_syntax.specs.Mentions.{arms_names, each_names, for_names, head_names, jekyll_names, list_names, own_names, pairs_names, row_names}
 use Rattle.liquid_syntax.specs.Templates.{list_of, tree_of}
+use Rattle.liquid_syntax.specs.declared.loop_nodes.For as loops
+use Rattle.liquid_syntax.specs.declared.loop_nodes.TableRow as rows
 use Rattle.liquid_syntax.specs.declared.node.Node.{Node}
-use Rattle.liquid_syntax.specs.declared.node.Node.TheVariants.{Text as Plain, Output, Assign, Raw, Comment, If, Unless, Capture, Case, Break, Continue, Increment, Decrement, Cycle, IfChanged, Include, JekyllInclude, Render}
+use Rattle.liquid_syntax.specs.declared.node.Node.TheVariants.{Text as Plain, Output, Assign, Raw, Comment, If, Unless, Capture, Case, For, TableRow, Break, Continue, Increment, Decrement, Cycle, IfChanged, Include, JekyllInclude, Render, RenderEach}
 use Rattle.liquid_syntax.specs.declared.template.Template.{Template}
 use Rattle.liquid_syntax.specs.NameVisitors.{mentioned_both, or_assoc, or_false}
 use Rattle.liquid_syntax.proofs.Totals.{IsTotal, Makes, leaf_makes, one_makes, two_makes, of_arms, case_makes, list_total, tree_total}
@@ -81,12 +85,28 @@ module _ (name : Text) where
   unfolding node_names
   case_named target ws o = mentioned_both (expression_names target) (whens_names ws ++ nodes_names o) name ∙ ap (λ r. mentioned (expression_names target) name || r) (mentioned_both (whens_names ws) (nodes_names o) name)
 
+  -- the names of a loop stand behind one another
+  for_named : (f : loops.For) (b c : tree.Nodes) → in_node (tree.for_each (string_bytes f.variable) (source_view f.source) (window_view f.window) b c) ≡ (mentioned (for_names f) name || (in_nodes b || in_nodes c))
+  unfolding node_names for_names head_names
+  for_named f b c =
+      ap (λ rest. mentioned (codes "forloop" ∷ string_bytes f.variable ∷ rest) name) (sym (append_assoc (source_names (source_view f.source)) (window_names (window_view f.window)) (nodes_names b ++ nodes_names c)))
+      ∙ two (for_names f) b c
+
+  rows_named : (r : rows.TableRow) (b : tree.Nodes) → in_node (tree.tablerow (string_bytes r.variable) (source_view r.source) (window_view r.window) (option_map expression_view r.cols) b) ≡ (mentioned (row_names r) name || in_nodes b)
+  unfolding node_names row_names head_names
+  rows_named r b =
+      let source = source_names (source_view r.source) in
+      let cols = optional_names (option_map expression_view r.cols) in
+      let window = window_names (window_view r.window) in
+      ap (λ rest. mentioned (codes "tablerow" ∷ string_bytes r.variable ∷ rest) name) (ap (λ rest. source ++ rest) (sym (append_assoc cols window (nodes_names b))) ∙ sym (append_assoc source (cols ++ window) (nodes_names b)))
+      ∙ one (row_names r) b
+
   without_bodies : (n : tree.Node) → Makes false either in_node in_nodes (in_node n) (leaf n)
   without_bodies n = leaf_makes false either in_node in_nodes sum (in_node n) n refl
 
   -- one case for each kind of node
   makes : (n : Node) → Makes false either in_node in_nodes (own n) (flat_of n)
-  unfolding node_names jekyll_names pairs_names
+  unfolding node_names each_names head_names jekyll_names pairs_names
   makes (Plain t) = without_bodies (tree.plain (string_bytes t))
   makes (Output chain) = without_bodies (tree.output (chain_view chain))
   makes (Assign target chain) = without_bodies (tree.assign (string_bytes target) (chain_view chain))
@@ -98,6 +118,8 @@ module _ (name : Text) where
   makes (Case target arms end) =
       subst (λ r. Makes false either in_node in_nodes r (flat_of (Case target arms end))) (arms_are (expression_view target) (arm_values arms.items))
       (case_makes false either in_node in_nodes sum in_whens in_values no_when one_when (mentioned (expression_names (expression_view target)) name) (expression_view target) arms.items end (case_named (expression_view target)))
+  makes (For f ends) = two_makes false either in_node in_nodes sum (own (For f ends)) (tree.for_each (string_bytes f.value.variable) (source_view f.value.source) (window_view f.value.window)) ends (for_named f.value)
+  makes (TableRow r end) = one_makes false either in_node in_nodes sum (own (TableRow r end)) (tree.tablerow (string_bytes r.value.variable) (source_view r.value.source) (window_view r.value.window) (option_map expression_view r.value.cols)) end (rows_named r.value)
   makes Break = without_bodies tree.break_loop
   makes Continue = without_bodies tree.continue_loop
   makes (Increment target) = without_bodies (tree.increment (string_bytes target))
@@ -107,6 +129,7 @@ module _ (name : Text) where
   makes (Include partial pairs) = without_bodies (tree.include (expression_view partial) (bindings_view pairs.items))
   makes (JekyllInclude partial pairs) = without_bodies (tree.jekyll_include (string_bytes partial) (bindings_view pairs.items))
   makes (Render partial pairs) = without_bodies (tree.render (expression_view partial) None (bindings_view pairs.items))
+  makes (RenderEach partial each pairs) = without_bodies (tree.render (expression_view partial) (Some (each_view each)) (bindings_view pairs.items))
 
   list_names_are : (ns : List Node) → list_total false either in_node in_nodes own ns ≡ mentioned (list_names ns) name
   unfolding list_total list_names

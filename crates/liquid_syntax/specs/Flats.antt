@@ -3,21 +3,24 @@
 --     nodes_of f      the tree of a range of the list
 --     IsRange ns from to      the nodes from `from` to `to` are whole: each with all the nodes of its bodies
 --     NodeAt ns at n next      the node at `at`, with its bodies, is n, and ends before `next`
-use Rattle.std.specs.Prelude.{◌≡◌, ℕ, ◌+◌, ◌≤◌, List, [], ◌∷◌, ◌++◌, map, Some, None, slice_get, string_bytes}
+use Rattle.std.specs.Prelude.{◌≡◌, ℕ, ◌+◌, ◌≤◌, List, [], ◌∷◌, ◌++◌, map, Some, None, option_map, slice_get, string_bytes}
 use Rattle.liquid_tree.specs.ChainView.{chain_view}
 use Rattle.liquid_tree.specs.ConditionView.{condition_view}
 use Rattle.liquid_core.specs.Expression.{Expression}
 use Rattle.liquid_core.specs.ExpressionView.{expression_view}
+use Rattle.liquid_tree.specs.SourceView.{source_view}
 use Rattle.liquid_tree.specs.Tree as tree
 use Rattle.liquid_syntax.specs.declared.node.Arm.{Arm}
 use Rattle.liquid_syntax.specs.Forest.{Forest, Bodies, empty, node, no_bodies, body}
 use Rattle.liquid_syntax.specs.Laid.{Flat, Stands, StandBodies, last_end}
 use Rattle.liquid_model.specs.Texts.{Text}
 use Rattle.liquid_core.specs.Expression.{Expression}
+use Rattle.liquid_syntax.specs.declared.loop_nodes.Each.{Each}
+use Rattle.liquid_syntax.specs.declared.loop_nodes.WindowExpression.{WindowExpression}
 use Rattle.liquid_syntax.specs.declared.node.Binding.{Binding}
 use Rattle.liquid_syntax.specs.declared.node.Node.{Node}
 use Rattle.liquid_syntax.specs.declared.node.TwoBodies.{TwoBodies}
-use Rattle.liquid_syntax.specs.declared.node.Node.TheVariants.{Text as Plain, Output, Assign, Raw, Comment, If, Unless, Capture, Case, Break, Continue, Increment, Decrement, Cycle, IfChanged, Include, JekyllInclude, Render}
+use Rattle.liquid_syntax.specs.declared.node.Node.TheVariants.{Text as Plain, Output, Assign, Raw, Comment, If, Unless, Capture, Case, For, TableRow, Break, Continue, Increment, Decrement, Cycle, IfChanged, Include, JekyllInclude, Render, RenderEach}
 
 -- a node of the tree, from the trees of its bodies
 abbrev pub Maker : Type 0
@@ -67,6 +70,14 @@ arm_values arms = map values_in arms
 abbrev pub arm_ends : List Arm → List ℕ
 arm_ends arms = map (λ arm. arm.end) arms
 
+-- which of a loop's items are asked for
+abbrev pub window_view : WindowExpression → tree.Window
+window_view w = record { limit = option_map expression_view w.limit; offset = option_map expression_view w.offset; reversed = w.reversed }
+
+-- what a `render` runs for each item of, and the name of its variable
+abbrev pub each_view : Each → tree.Source × Text
+each_view each = (source_view each.source, string_bytes each.variable)
+
 -- one clause for each kind of node
 abbrev pub flat_of : Node → Flat Maker
 flat_of (Plain t) = leaf (tree.plain (string_bytes t))
@@ -78,6 +89,8 @@ flat_of (If condition bodies) = two_bodies (tree.if_true (condition_view conditi
 flat_of (Unless condition bodies) = two_bodies (tree.unless (condition_view condition)) bodies
 flat_of (Capture name end) = one_body (tree.capture (string_bytes name)) end
 flat_of (Case target arms end) = case_flat (expression_view target) (arm_values arms.items) (arm_ends arms.items) end
+flat_of (For f bodies) = two_bodies (tree.for_each (string_bytes f.value.variable) (source_view f.value.source) (window_view f.value.window)) bodies
+flat_of (TableRow r end) = one_body (tree.tablerow (string_bytes r.value.variable) (source_view r.value.source) (window_view r.value.window) (option_map expression_view r.value.cols)) end
 flat_of Break = leaf tree.break_loop
 flat_of Continue = leaf tree.continue_loop
 flat_of (Increment name) = leaf (tree.increment (string_bytes name))
@@ -87,6 +100,7 @@ flat_of (IfChanged end) = one_body tree.ifchanged end
 flat_of (Include name bindings) = leaf (tree.include (expression_view name) (bindings_view bindings.items))
 flat_of (JekyllInclude name bindings) = leaf (tree.jekyll_include (string_bytes name) (bindings_view bindings.items))
 flat_of (Render name bindings) = leaf (tree.render (expression_view name) None (bindings_view bindings.items))
+flat_of (RenderEach name each bindings) = leaf (tree.render (expression_view name) (Some (each_view each)) (bindings_view bindings.items))
 
 abbrev pub flats : List Node → List (Flat Maker)
 flats ns = map flat_of ns

@@ -126,7 +126,7 @@ part_view (code.Cols x) = cols_is (expression_view x)
 part_view code.Reversed = is_reversed
 
 abbrev pub parts_in : Loop → Parts
-parts_in l = record { limit = option_map expression_view l.limit; offset = option_map expression_view l.offset; cols = option_map expression_view l.cols; reversed = l.reversed }
+parts_in l = record { limit = option_map expression_view l.window.limit; offset = option_map expression_view l.window.offset; cols = option_map expression_view l.cols; reversed = l.window.reversed }
 
 abbrev pub head_view : Loop → Head
 head_view l = record { variable = string_bytes l.variable; source = source_view l.source; parts = parts_in l }

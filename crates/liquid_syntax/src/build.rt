@@ -343,11 +343,13 @@ fn end_before_last(node: &mut Node, end: usize)
         Node::If(_, bodies) => bodies.first_end = end,
         Node::Unless(_, bodies) => bodies.first_end = end,
         Node::Case(_, arms, _) => end_last_arm(arms, end),
-        Node::Capture(..) | Node::IfChanged(_) => {}
+        Node::For(_, bodies) => bodies.first_end = end,
+        Node::Capture(..) | Node::IfChanged(_) | Node::TableRow(..) => {}
         Node::Text(_) | Node::Output(_) | Node::Assign(..) | Node::Raw(_) | Node::Comment => {}
         Node::Break | Node::Continue | Node::Increment(_) | Node::Decrement(_) => {}
         Node::Cycle(..) => {}
-        Node::Include(..) | Node::JekyllInclude(..) | Node::Render(..) => {}
+        Node::Include(..) | Node::JekyllInclude(..) => {}
+        Node::Render(..) | Node::RenderEach(..) => {}
     }
 }
 
@@ -369,12 +371,15 @@ fn end_last(node: &mut Node, end: usize)
         Node::If(_, bodies) => bodies.last_end = end,
         Node::Unless(_, bodies) => bodies.last_end = end,
         Node::Case(_, _, last_end) => *last_end = end,
+        Node::For(_, bodies) => bodies.last_end = end,
+        Node::TableRow(_, body_end) => *body_end = end,
         Node::Capture(_, body_end) => *body_end = end,
         Node::IfChanged(body_end) => *body_end = end,
         Node::Text(_) | Node::Output(_) | Node::Assign(..) | Node::Raw(_) | Node::Comment => {}
         Node::Break | Node::Continue | Node::Increment(_) | Node::Decrement(_) => {}
         Node::Cycle(..) => {}
-        Node::Include(..) | Node::JekyllInclude(..) | Node::Render(..) => {}
+        Node::Include(..) | Node::JekyllInclude(..) => {}
+        Node::Render(..) | Node::RenderEach(..) => {}
     }
 }
 

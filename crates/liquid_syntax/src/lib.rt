@@ -12,6 +12,7 @@ mod judge;
 mod language;
 mod laws;
 mod loop_items;
+mod loop_nodes;
 mod names;
 mod node;
 mod pair_items;
@@ -35,6 +36,7 @@ pub use liquid_tree::{
     RangeExpression, StoredFilter, Window, apply_filters, evaluate_amount,
 };
 pub use loop_items::{Loop, LoopKind, LoopPart, read_loop};
+pub use loop_nodes::{Each, For, TableRow, WindowExpression};
 pub use node::{Arm, Binding, Node, TwoBodies};
 pub use pair_items::PairStyle;
 pub use parser::parse;

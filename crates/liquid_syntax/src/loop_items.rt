@@ -9,6 +9,7 @@ ghost use Rattle.liquid_syntax.specs.Loops.{head_view, loop_of, part_first, part
 ghost use Rattle.liquid_tree.specs.SourceView.{source_view};
 
 use crate::chain_items::expected;
+use crate::loop_nodes::WindowExpression;
 use liquid_core::Expression;
 use liquid_source::{
     FaultKind, Item, ParseError, Symbol, is_over, next_value, next_word, skip, skip_word,
@@ -39,14 +40,12 @@ pub enum LoopPart {
 pub struct Loop {
     pub variable: String,
     pub source: RangeExpression,
-    pub limit: Option<Expression>,
-    pub offset: Option<Expression>,
+    pub window: WindowExpression,
     pub cols: Option<Expression>,
-    pub reversed: bool,
 }
 
 /// Takes the source at the front, if one stands there.
-fn next_source(items: &mut VecDeque<Item<'_>>) -> Option<RangeExpression>
+pub(crate) fn next_source(items: &mut VecDeque<Item<'_>>) -> Option<RangeExpression>
     ensures value { option_map (λ s. (source_view s, tokens_view items.new.items)) result ≡ source_first (tokens_view items.old.items) }
     ensures shorter { length items.new.items ≤ length items.old.items }
 {
@@ -104,10 +103,10 @@ impl Loop {
         ensures rest { (self.new.variable ≡ self.old.variable) × (self.new.source ≡ self.old.source) }
     {
         match part {
-            LoopPart::Limit(value) => self.limit = Some(value),
-            LoopPart::Offset(value) => self.offset = Some(value),
+            LoopPart::Limit(value) => self.window.limit = Some(value),
+            LoopPart::Offset(value) => self.window.offset = Some(value),
             LoopPart::Cols(value) => self.cols = Some(value),
-            LoopPart::Reversed => self.reversed = true,
+            LoopPart::Reversed => self.window.reversed = true,
         }
     }
 }
@@ -132,10 +131,8 @@ pub fn read_loop(items: VecDeque<Item<'_>>, kind: LoopKind, at: &str) -> Result<
     let mut read = Loop {
         variable,
         source,
-        limit: None,
-        offset: None,
+        window: WindowExpression::whole(),
         cols: None,
-        reversed: false,
     };
     'parts: while !is_over(&items) {
         let Some(part) = next_part(&mut items, kind) else {

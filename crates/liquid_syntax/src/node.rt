@@ -1,5 +1,6 @@
 //! The nodes of a template.
 
+use crate::loop_nodes::{Each, For, TableRow};
 use liquid_core::Expression;
 use liquid_tree::{Condition, FilterChain};
 
@@ -62,6 +63,11 @@ pub enum Node {
     /// `{% case target %}`, with its `when` parts, and where the body of `else` ends. What stands before the first of them
     /// is not kept.
     Case(Expression, Vec<Arm>, usize),
+    /// `{% for variable in source %}`, with the body that runs for each item, and that of `else`, which runs where there is
+    /// no item.
+    For(Box<For>, TwoBodies),
+    /// `{% tablerow variable in source %}`, and where its body ends.
+    TableRow(Box<TableRow>, usize),
     /// `{% break %}`
     Break,
     /// `{% continue %}`
@@ -80,4 +86,6 @@ pub enum Node {
     JekyllInclude(String, Vec<Binding>),
     /// `{% render name pairs %}`, that runs once. `with v as w` is the first pair.
     Render(Expression, Vec<Binding>),
+    /// `{% render name for source as variable, pairs %}`, that runs once for each item.
+    RenderEach(Expression, Each, Vec<Binding>),
 }

@@ -1,13 +1,17 @@
 //! The names that nodes mention, told to a visitor. Each function answers whether the visitor ended the telling.
-ghost use Rattle.std.specs.Prelude.{◌∷◌, string_bytes};
-ghost use Rattle.liquid_syntax.specs.Flats.{arm_values, bindings_view};
-ghost use Rattle.liquid_syntax.specs.Mentions.{arms_names, jekyll_names, list_names, own_names, pairs_names};
+ghost use Rattle.std.specs.Prelude.{◌∷◌, ◌++◌, option_map, string_bytes};
+ghost use Rattle.liquid_core.specs.ExpressionView.{expression_view};
+ghost use Rattle.liquid_syntax.specs.Flats.{arm_values, bindings_view, window_view};
+ghost use Rattle.liquid_syntax.specs.Mentions.{arms_names, each_names, for_names, head_names, jekyll_names, list_names, own_names, pairs_names, row_names};
 ghost use Rattle.liquid_tree.specs.ChainView.{chain_view};
-ghost use Rattle.liquid_tree.specs.Names.{bound_names, chain_names, include_name, target_names};
+ghost use Rattle.liquid_tree.specs.Names.{bound_names, chain_names, include_name, optional_names, source_names, target_names, window_names};
+ghost use Rattle.liquid_tree.specs.SourceView.{source_view};
 
+use crate::loop_nodes::{Each, For, TableRow, WindowExpression};
 use crate::node::{Arm, Binding, Node};
 use liquid_tree::{
-    FilterChain, NameVisitor, visit_chain, visit_condition, visit_expression, visit_expressions,
+    FilterChain, NameVisitor, RangeExpression, visit_chain, visit_condition, visit_expression,
+    visit_expressions, visit_optional, visit_source,
 };
 
 /// The names of the nodes of a list.
@@ -36,6 +40,8 @@ fn visit_node<V: NameVisitor>(node: &Node, visitor: &mut V) -> bool
         Node::Case(target, arms, _) => {
             visit_expression(target, visitor) || visit_arms(arms, visitor)
         }
+        Node::For(head, _) => visit_for(head, visitor),
+        Node::TableRow(head, _) => visit_table_row(head, visitor),
         Node::Capture(name, _) => visitor.visit(name.as_str()),
         Node::Increment(name) => visitor.visit(name.as_str()),
         Node::Decrement(name) => visitor.visit(name.as_str()),
@@ -46,6 +52,9 @@ fn visit_node<V: NameVisitor>(node: &Node, visitor: &mut V) -> bool
         Node::JekyllInclude(_, pairs) => visit_jekyll_pairs(pairs, visitor),
         Node::Render(name, pairs) => {
             visit_expression(name, visitor) || visit_pairs(pairs, visitor)
+        }
+        Node::RenderEach(name, each, pairs) => {
+            visit_expression(name, visitor) || visit_each(each, pairs, visitor)
         }
     }
 }
@@ -67,6 +76,70 @@ fn visit_arms<V: NameVisitor>(arms: &[Arm], visitor: &mut V) -> bool
         }
     }
     false
+}
+
+/// The names of a `for`: `forloop`, those of its head, and those of the items that are asked for.
+#[tactic(auto, unfolding(crate::specs::Mentions::for_names))]
+fn visit_for<V: NameVisitor>(head: &For, visitor: &mut V) -> bool
+    ensures { V.tells visitor.old (for_names head.now) result visitor.new }
+{
+    visit_head("forloop", &head.variable, &head.source, visitor)
+        || visit_window(&head.window, visitor)
+}
+
+/// The names of a `tablerow`: `tablerow`, those of its head, of its columns and of the items that are asked for.
+#[tactic(auto, unfolding(crate::specs::Mentions::row_names))]
+fn visit_table_row<V: NameVisitor>(head: &TableRow, visitor: &mut V) -> bool
+    ensures { V.tells visitor.old (row_names head.now) result visitor.new }
+{
+    visit_head("tablerow", &head.variable, &head.source, visitor) || visit_layout(head, visitor)
+}
+
+/// The names in the number of columns, and of the items that are asked for.
+fn visit_layout<V: NameVisitor>(head: &TableRow, visitor: &mut V) -> bool
+    ensures { V.tells visitor.old (optional_names (option_map expression_view head.now.cols) ++ window_names (window_view head.now.window)) result visitor.new }
+{
+    visit_optional(&head.cols, visitor) || visit_window(&head.window, visitor)
+}
+
+/// The names of the `for` of a `render`, and those of its pairs.
+#[tactic(auto, unfolding(crate::specs::Mentions::each_names))]
+fn visit_each<V: NameVisitor>(each: &Each, pairs: &[Binding], visitor: &mut V) -> bool
+    ensures { V.tells visitor.old (each_names each.now ++ pairs_names (bindings_view pairs.now)) result visitor.new }
+{
+    visit_head("forloop", &each.variable, &each.source, visitor) || visit_pairs(pairs, visitor)
+}
+
+/// The name of what a loop shows of itself, its variable, and the names in its source.
+#[tactic(auto, unfolding(crate::specs::Mentions::head_names))]
+fn visit_head<V: NameVisitor>(
+    shown: &str,
+    variable: &String,
+    source: &RangeExpression,
+    visitor: &mut V,
+) -> bool
+    ensures { V.tells visitor.old (head_names shown.now (string_bytes variable.now) (source_view source.now)) result visitor.new }
+{
+    visitor.visit(shown) || visit_variable(variable, source, visitor)
+}
+
+/// The variable of a loop, and the names in its source.
+fn visit_variable<V: NameVisitor>(
+    variable: &String,
+    source: &RangeExpression,
+    visitor: &mut V,
+) -> bool
+    ensures { V.tells visitor.old (string_bytes variable.now ∷ source_names (source_view source.now)) result visitor.new }
+{
+    visitor.visit(variable.as_str()) || visit_source(source, visitor)
+}
+
+/// The names of what says which items are asked for.
+#[tactic(auto, unfolding(liquid_tree::specs::Names::window_names))]
+fn visit_window<V: NameVisitor>(window: &WindowExpression, visitor: &mut V) -> bool
+    ensures { V.tells visitor.old (window_names (window_view window.now)) result visitor.new }
+{
+    visit_optional(&window.limit, visitor) || visit_optional(&window.offset, visitor)
 }
 
 /// The names that pairs bind, and those in their values.
