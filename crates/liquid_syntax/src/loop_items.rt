@@ -131,7 +131,11 @@ pub fn read_loop(items: VecDeque<Item<'_>>, kind: LoopKind, at: &str) -> Result<
     let mut read = Loop {
         variable,
         source,
-        window: WindowExpression::whole(),
+        window: WindowExpression {
+            limit: None,
+            offset: None,
+            reversed: false,
+        },
         cols: None,
     };
     'parts: while !is_over(&items) {

@@ -14,17 +14,6 @@ pub struct WindowExpression {
     pub reversed: bool,
 }
 
-impl WindowExpression {
-    /// All items, in their order.
-    pub fn whole() -> WindowExpression {
-        WindowExpression {
-            limit: None,
-            offset: None,
-            reversed: false,
-        }
-    }
-}
-
 /// `for variable in source`, with the items that are asked for.
 #[derive(Drop)]
 pub struct For {

@@ -111,7 +111,6 @@ fn visit_each<V: NameVisitor>(each: &Each, pairs: &[Binding], visitor: &mut V) -
 }
 
 /// The name of what a loop shows of itself, its variable, and the names in its source.
-#[tactic(auto, unfolding(crate::specs::Mentions::head_names))]
 fn visit_head<V: NameVisitor>(
     shown: &str,
     variable: &String,
