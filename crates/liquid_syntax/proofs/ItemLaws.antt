@@ -154,7 +154,7 @@ source_is (value x) s h = ap source_token (from_some h)
 source_is (range x y) s h = ap source_token (from_some h)
 source_is (symbol u) s h = absurd cc
 
-first_source : (ts : List Token) (s : Source) (rest : List Token) → source_first ts ≡ Some (s, rest) → ts ≡ source_token s ∷ rest
+pub first_source : (ts : List Token) (s : Source) (rest : List Token) → source_first ts ≡ Some (s, rest) → ts ≡ source_token s ∷ rest
 first_source [] s rest h = absurd cc
 first_source (t ∷ ts) s rest h =
     let (u, is, same) = map_some (source_of t) (λ s. (s, ts)) (s, rest) h in

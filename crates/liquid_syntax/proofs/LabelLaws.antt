@@ -12,7 +12,7 @@ use Rattle.liquid_syntax.specs.ChainReading.{chain_of}
 use Rattle.liquid_syntax.specs.ConditionReading.{condition_of}
 use Rattle.liquid_syntax.specs.Judging.{leaf_or, assign_of, if_node, unless_node, bare, word_alone, value_alone, one_or, many_or, arm_or, capture_of, case_for, two_or, elsif_or, ends_or, tag_label, raw_label, comment_label, reads}
 use Rattle.liquid_syntax.specs.Labels.{IsLabel, is_text, is_output, is_end, is_elsif, is_else, is_assign, is_if, is_unless, is_bare_else, is_capture, is_case, is_when, is_break, is_continue, is_increment, is_decrement, is_include, is_jekyll_include, is_render, is_cycle, is_ifchanged, is_raw, is_comment}
-use Rattle.liquid_syntax.specs.PartialItems.{include_node, include_of, jekyll_node, jekyll_of, render_node, render_of}
+use Rattle.liquid_syntax.specs.PartialItems.{Rendered, include_node, include_of, jekyll_node, jekyll_of, render_node, render_of}
 use Rattle.liquid_syntax.specs.Registered.{registered_in}
 use Rattle.liquid_syntax.specs.Cycles.{Cycle, cycle_node, cycle_of, with_group}
 use Rattle.liquid_syntax.specs.Nesting.{of_one, Label, leaf, closed, begins, elsif, arm, otherwise, ends, refused}
@@ -34,8 +34,9 @@ use Rattle.liquid_syntax.proofs.Alone.{one_word, one_value}
 use Rattle.liquid_syntax.proofs.CycleLaws.{cycle_takes, cycle_again}
 use Rattle.liquid_syntax.proofs.ItemLaws.{values_takes, values_again}
 use Rattle.liquid_syntax.proofs.NestingLaws.{Stands}
-use Rattle.liquid_syntax.proofs.PartialLaws.{include_takes, include_again, jekyll_takes, jekyll_again, render_takes, render_again}
+use Rattle.liquid_syntax.proofs.PartialLaws.{include_takes, include_again, jekyll_takes, jekyll_again}
 use Rattle.liquid_syntax.proofs.Printed.{bind_some, map_some, chain_takes, chain_again, assign_takes, assign_again}
+use Rattle.liquid_syntax.proofs.RenderLaws.{render_takes, render_again}
 
 pub label_says : (l : Language) (x : Place) (p : Piece) (label : Label) → IsLabel l x p label → reads l x p ≡ label
 label_says l x p label is_text = refl
@@ -58,7 +59,7 @@ label_says l x p label (is_cycle {name = name} {vs = vs} {is = is} r g) = ap (ta
 label_says l x p label (is_ifchanged r) = ap (tag_label l [] []) r
 label_says l x p label (is_include {name = name} {ps = ps} {is = is} r g) = ap (tag_label l is (tokens_of is)) r ∙ ap (λ (o : Option (Expression × Bindings)). leaf_or (option_map include_node o)) (include_again name ps (tokens_of is) g)
 label_says l x p label (is_jekyll_include {name = name} {ps = ps} {is = is} r g) = ap (tag_label l is (tokens_of is)) r ∙ ap (λ (o : Option (Text × Bindings)). leaf_or (option_map jekyll_node o)) (jekyll_again name ps is g)
-label_says l x p label (is_render {name = name} {ps = ps} {is = is} r g) = ap (tag_label l is (tokens_of is)) r ∙ ap (λ (o : Option (Expression × Bindings)). leaf_or (option_map render_node o)) (render_again name ps (tokens_of is) g)
+label_says l x p label (is_render {name = name} {each = each} {ps = ps} {is = is} r g) = ap (tag_label l is (tokens_of is)) r ∙ ap (λ (o : Option (Expression × Rendered)). leaf_or (option_map render_node o)) (render_again name each ps (tokens_of is) g)
 label_says l x p label (is_raw {t = t} h) = ap (raw_label t) h
 label_says l x p label (is_comment h) = ap comment_label h
 
@@ -124,7 +125,7 @@ module _ (l : Language) (x : Place) (label : Label) (stands : Stands label) wher
   tag_stands w is (Some (Tag tags.Decrement)) r h = part_stands w is (word_alone (tokens_of is)) (λ (o : Option Text). leaf_or (option_map (λ w. decrement w) o)) refl h (λ name e. is_decrement r (one_word (tokens_of is) name e))
   tag_stands w is (Some (Tag tags.Include)) r h = part_stands w is (include_of (tokens_of is)) (λ (o : Option (Expression × Bindings)). leaf_or (option_map include_node o)) refl h (λ y e. is_include r (include_takes y.0 y.1 (tokens_of is) e))
   tag_stands w is (Some (Tag tags.JekyllInclude)) r h = part_stands w is (jekyll_of is) (λ (o : Option (Text × Bindings)). leaf_or (option_map jekyll_node o)) refl h (λ y e. is_jekyll_include r (jekyll_takes y.0 y.1 is e))
-  tag_stands w is (Some (Tag tags.Render)) r h = part_stands w is (render_of (tokens_of is)) (λ (o : Option (Expression × Bindings)). leaf_or (option_map render_node o)) refl h (λ y e. is_render r (render_takes y.0 y.1 (tokens_of is) e))
+  tag_stands w is (Some (Tag tags.Render)) r h = part_stands w is (render_of (tokens_of is)) (λ (o : Option (Expression × Rendered)). leaf_or (option_map render_node o)) refl h (λ y e. is_render r (render_takes y.0 y.1.0 y.1.1 (tokens_of is) e))
   tag_stands w is (Some (Start blocks.Capture)) r h = part_stands w is (word_alone (tokens_of is)) (λ (o : Option Text). one_or Capture (option_map (λ w f. capture w f) o)) refl h (λ name e. is_capture r (one_word (tokens_of is) name e))
   tag_stands w is (Some (Start blocks.Case)) r h = part_stands w is (value_alone (tokens_of is)) (λ (o : Option Expression). many_or Case (option_map (λ x ws o. case_of x ws o) o)) refl h (λ t e. is_case r (one_value (tokens_of is) t e))
   tag_stands w is (Some (Tag tags.Cycle)) r h = part_stands w is (cycle_of (tokens_of is)) (λ (o : Option Cycle). leaf_or (option_map cycle_node (option_map with_group o))) refl h (λ c e. is_cycle r (cycle_takes (tokens_of is) c e))

@@ -1,5 +1,5 @@
--- The readers of tags that run a partial, path by path.
-use Rattle.std.proofs.Common.{◌≡◌, ℕ, List, [], ◌∷◌, ◌++◌, codes, false, Option, Some, None, refl, sym, ap, subst, ◌∙◌}
+-- The readers of tags that include a partial, path by path.
+use Rattle.std.proofs.Common.{◌≡◌, ℕ, List, [], ◌∷◌, ◌++◌, false, Option, Some, None, refl, sym, ap, subst, ◌∙◌}
 use Rattle.std.specs.Prelude.{Err}
 use Rattle.std.specs.Option.{option_and_then, option_map}
 use Rattle.std.specs.Borrow.{Bor}
@@ -8,7 +8,7 @@ use Rattle.liquid_core.specs.ExpressionView.{expression_view}
 use Rattle.liquid_core.specs.declared.expression.Expression as written
 use Rattle.liquid_model.specs.Texts.{Text}
 use Rattle.liquid_source.specs.Readers.{Fails}
-use Rattle.liquid_source.specs.Tokens.{Token, tokens_view, value_first, past_word}
+use Rattle.liquid_source.specs.Tokens.{Token, tokens_view, value_first}
 use Rattle.liquid_source.specs.PieceView.{items_view}
 use Rattle.liquid_source.proofs.Seen.{seen_tokens}
 use Rattle.liquid_source.specs.declared.item.Item.{Item}
@@ -21,10 +21,10 @@ use Rattle.liquid_syntax.specs.Bound.{pair_first, pairs_of}
 use Rattle.liquid_syntax.specs.Judges.{Judges}
 use Rattle.liquid_syntax.specs.Judging.{leaf_or}
 use Rattle.liquid_syntax.specs.Loops.{is_nothing}
-use Rattle.liquid_syntax.specs.PartialItems.{include_of, included_pairs, jekyll_of, render_of, rendered_pairs, spelled_name}
+use Rattle.liquid_syntax.specs.PartialItems.{include_of, included_pairs, jekyll_of, spelled_name}
 use Rattle.liquid_syntax.specs.Flats.{bindings_view}
 use Rattle.liquid_syntax.specs.declared.node.Binding.{Binding}
-use Rattle.liquid_syntax.specs.declared.pair_items.PairStyle.TheVariants.{Include, JekyllInclude, Render}
+use Rattle.liquid_syntax.specs.declared.pair_items.PairStyle.TheVariants.{Include, JekyllInclude}
 
 -- ---- faults
 
@@ -57,15 +57,6 @@ module _ (ts us : List Token) (x : Expression) (front : Some (x, us) ≡ value_f
   pub include_stuck : is_nothing us ≡ false → pair_first Colon us ≡ None → include_of ts ≡ None
   unfolding included_by paired
   include_stuck some none = ap (option_and_then included_by) (sym front) ∙ behind us some ∙ ap paired none
-
-  -- ---- render
-
-  rendered_by : Expression × List Token → Option (Expression × Bindings)
-  rendered_by y = option_map (λ ps. (y.0, ps)) (rendered_pairs (past_word (codes "with") y.1) y.1)
-
-  pub render_alone : past_word (codes "with") us ≡ None → render_of ts ≡ option_map (λ ps. (x, ps)) (pairs_of Render us)
-  unfolding rendered_by
-  render_alone none = ap (option_and_then rendered_by) (sym front) ∙ ap (λ (o : Option (List Token)). option_map (λ ps. (x, ps)) (rendered_pairs o us)) none
 
 -- ---- the include of jekyll
 

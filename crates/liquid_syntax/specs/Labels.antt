@@ -1,5 +1,5 @@
 -- The written grammar of a single piece: what it is, where it stands.
-use Rattle.std.specs.Prelude.{◌≡◌, List, [], ◌∷◌, Option, Some, None}
+use Rattle.std.specs.Prelude.{◌≡◌, List, [], ◌∷◌, Option, Some}
 use Rattle.liquid_model.specs.Texts.{Text}
 use Rattle.liquid_source.specs.Items.{Item}
 use Rattle.liquid_source.specs.Pieces as pieces
@@ -12,7 +12,7 @@ use Rattle.liquid_syntax.specs.Registered.{registered_in}
 use Rattle.liquid_syntax.specs.Nesting.{of_one, of_two, of_many, Label, leaf, closed, begins, elsif, arm, otherwise, ends}
 use Rattle.liquid_syntax.specs.PartialItems.{IsInclude, IsJekyllInclude, IsRender}
 use Rattle.liquid_syntax.specs.Roles.{role_of, unread_body}
-use Rattle.liquid_tree.specs.Tree.{Bindings, Chain, Condition, plain, raw, comment, output, assign, if_true, unless, capture, case_of, ifchanged, break_loop, continue_loop, increment, decrement, cycle, include, jekyll_include, render}
+use Rattle.liquid_tree.specs.Tree.{Bindings, Chain, Condition, Source, plain, raw, comment, output, assign, if_true, unless, capture, case_of, ifchanged, break_loop, continue_loop, increment, decrement, cycle, include, jekyll_include, render}
 use Rattle.liquid_tree.specs.Groups.{group_of}
 use Rattle.liquid_core.specs.Expression.{Expression}
 use Rattle.liquid_syntax.specs.ValueLists.{AreValues}
@@ -49,7 +49,7 @@ pub data IsLabel (l : Language) (x : Place) : pieces.Piece → Label → Type 0 
   is_ifchanged : {w : Text} → role_of l x w ≡ Some (Start blocks.IfChanged) → IsLabel l x (pieces.tag w []) (begins (of_one IfChanged (λ f. ifchanged f)))
   is_include : {w : Text} {name : Expression} {ps : Bindings} {is : List Item} → role_of l x w ≡ Some (Tag tags.Include) → IsInclude name ps (tokens_of is) → IsLabel l x (pieces.tag w is) (leaf (include name ps))
   is_jekyll_include : {w name : Text} {ps : Bindings} {is : List Item} → role_of l x w ≡ Some (Tag tags.JekyllInclude) → IsJekyllInclude name ps is → IsLabel l x (pieces.tag w is) (leaf (jekyll_include name ps))
-  is_render : {w : Text} {name : Expression} {ps : Bindings} {is : List Item} → role_of l x w ≡ Some (Tag tags.Render) → IsRender name ps (tokens_of is) → IsLabel l x (pieces.tag w is) (leaf (render name None ps))
+  is_render : {w : Text} {name : Expression} {each : Option (Source × Text)} {ps : Bindings} {is : List Item} → role_of l x w ≡ Some (Tag tags.Render) → IsRender name each ps (tokens_of is) → IsLabel l x (pieces.tag w is) (leaf (render name each ps))
   -- a block whose body isn't read has no items, and with its body it is a piece of its own
   is_raw : {w t : Text} → unread_body (role_of l x w) ≡ Some Raw → IsLabel l x (pieces.raw w t) (closed (raw t))
   is_comment : {w : Text} → unread_body (role_of l x w) ≡ Some Comment → IsLabel l x (pieces.comment w) (closed comment)

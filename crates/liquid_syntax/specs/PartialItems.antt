@@ -7,8 +7,9 @@ use Rattle.liquid_model.specs.Texts.{Text}
 use Rattle.liquid_source.specs.Items as items
 use Rattle.liquid_source.specs.Tokens.{Token, tokens_of, value, word, value_first, word_first, past_word}
 use Rattle.liquid_source.specs.declared.symbol.Symbol.TheVariants.{Colon}
-use Rattle.liquid_tree.specs.Tree.{Bindings, Node, include, jekyll_include, render}
+use Rattle.liquid_tree.specs.Tree.{Bindings, Node, Source, include, jekyll_include, render}
 use Rattle.liquid_syntax.specs.Bound.{IsPair, ArePairs, pair_first, pairs_of}
+use Rattle.liquid_syntax.specs.Loops.{or_else, source_first, source_token}
 use Rattle.liquid_syntax.specs.declared.pair_items.PairStyle.TheVariants.{Include, JekyllInclude, Render}
 
 -- ---- the grammar
@@ -19,11 +20,14 @@ pub data IsInclude : Expression → Bindings → List Token → Type 0 where
   name_and_pairs : {p : Text × Expression} {ps : Bindings} {ts us : List Token} (x : Expression)
       → IsPair Colon p ts → ArePairs Include ps us → IsInclude x (p ∷ ps) (value x ∷ (ts ++ us))
 
--- a name, then pairs with `:` behind a `,` each. `with v as w` right behind the name is the first pair
-pub data IsRender : Expression → Bindings → List Token → Type 0 where
-  without : {ps : Bindings} {ts : List Token} (x : Expression) → ArePairs Render ps ts → IsRender x ps (value x ∷ ts)
+-- a name, then pairs with `:` behind a `,` each. Right behind the name may stand `with v as w`, which is the first pair, or
+-- `for R as w`, which is what the partial runs for each item of, and by which name it knows an item
+pub data IsRender : Expression → Option (Source × Text) → Bindings → List Token → Type 0 where
+  without : {ps : Bindings} {ts : List Token} (x : Expression) → ArePairs Render ps ts → IsRender x None ps (value x ∷ ts)
   with_one : {ps : Bindings} {ts : List Token} (x y : Expression) (w : Text)
-      → ArePairs Render ps ts → IsRender x ((w, y) ∷ ps) (value x ∷ word (codes "with") ∷ value y ∷ word (codes "as") ∷ word w ∷ ts)
+      → ArePairs Render ps ts → IsRender x None ((w, y) ∷ ps) (value x ∷ word (codes "with") ∷ value y ∷ word (codes "as") ∷ word w ∷ ts)
+  for_each_of : {ps : Bindings} {ts : List Token} (x : Expression) (s : Source) (w : Text)
+      → ArePairs Render ps ts → IsRender x (Some (s, w)) ps (value x ∷ word (codes "for") ∷ source_token s ∷ word (codes "as") ∷ word w ∷ ts)
 
 -- the name of a jekyll `include`: the text of a text literal, or else the value as it is spelled
 abbrev pub text_or : Datum → Text → Text
@@ -53,13 +57,31 @@ include_of ts = option_and_then (λ x. option_map (λ ps. (x.0, ps)) (included_p
 abbrev pub with_first : List Token → Option ((Text × Expression) × List Token)
 with_first ts = option_and_then (λ x. option_and_then (λ rest. option_map (λ w. ((w.0, x.0), w.1)) (word_first rest)) (past_word (codes "as") x.1)) (value_first ts)
 
--- the pairs, and before them the one behind `with` where that word stands
-abbrev pub rendered_pairs : Option (List Token) → List Token → Option Bindings
-rendered_pairs None ts = pairs_of Render ts
-rendered_pairs (Some behind) ts = option_and_then (λ p. option_map (λ ps. p.0 ∷ ps) (pairs_of Render p.1)) (with_first behind)
+-- `R as w`, behind `for`
+abbrev pub each_first : List Token → Option ((Source × Text) × List Token)
+each_first ts = option_and_then (λ s. option_and_then (λ rest. option_map (λ w. ((s.0, w.0), w.1)) (word_first rest)) (past_word (codes "as") s.1)) (source_first ts)
 
-abbrev pub render_of : List Token → Option (Expression × Bindings)
-render_of ts = option_and_then (λ x. option_map (λ ps. (x.0, ps)) (rendered_pairs (past_word (codes "with") x.1) x.1)) (value_first ts)
+-- what stands behind the name of a `render`: the source and the variable of `for`, and the pairs
+abbrev pub Rendered : Type 0
+Rendered = Option (Source × Text) × Bindings
+
+-- the pairs alone
+abbrev pub rendered_once : List Token → Option Rendered
+rendered_once ts = option_map (λ ps. (None, ps)) (pairs_of Render ts)
+
+-- behind `with`: the first pair, and those behind it
+abbrev pub rendered_with : List Token → Option Rendered
+rendered_with ts = option_and_then (λ p. option_map (λ ps. (None, p.0 ∷ ps)) (pairs_of Render p.1)) (with_first ts)
+
+-- behind `for`: the source and the variable, and the pairs
+abbrev pub rendered_each : List Token → Option Rendered
+rendered_each ts = option_and_then (λ e. option_map (λ ps. (Some e.0, ps)) (pairs_of Render e.1)) (each_first ts)
+
+abbrev pub rendered_of : List Token → Option Rendered
+rendered_of ts = or_else (past_word (codes "with") ts) rendered_with (or_else (past_word (codes "for") ts) rendered_each (rendered_once ts))
+
+abbrev pub render_of : List Token → Option (Expression × Rendered)
+render_of ts = option_and_then (λ x. option_map (λ r. (x.0, r)) (rendered_of x.1)) (value_first ts)
 
 abbrev pub jekyll_of : List items.Item → Option (Text × Bindings)
 jekyll_of [] = None
@@ -72,9 +94,12 @@ jekyll_of (items.symbol s ∷ is) = None
 abbrev pub include_node : Expression × Bindings → Node
 include_node r = include r.0 r.1
 
--- it runs once
-abbrev pub render_node : Expression × Bindings → Node
-render_node r = render r.0 None r.1
+abbrev pub render_node : Expression × Rendered → Node
+render_node r = render r.0 r.1.0 r.1.1
+
+-- the node of a `render` of this name, by what stands behind the name
+abbrev pub render_as : Expression → Option Rendered → Option Node
+render_as x o = option_map render_node (option_map (λ r. (x, r)) o)
 
 abbrev pub jekyll_node : Text × Bindings → Node
 jekyll_node r = jekyll_include r.0 r.1

@@ -30,7 +30,7 @@ pub enum TagKind {
     Include,
     /// `{% include name w=v w=v %}`, of Jekyll
     JekyllInclude,
-    /// `{% render name with v as w, w: v %}`
+    /// `{% render name with v as w, w: v %}`, or `for R as w` in the place of `with v as w`
     Render,
 }
 

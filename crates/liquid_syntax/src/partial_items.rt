@@ -4,13 +4,15 @@ ghost use Rattle.liquid_core.specs.ExpressionView.{expression_view};
 ghost use Rattle.liquid_source.specs.PieceView.{items_view};
 ghost use Rattle.liquid_source.specs.Tokens.{tokens_view};
 ghost use Rattle.liquid_syntax.specs.Faults.{FaultsAs, FaultsAt};
-ghost use Rattle.liquid_syntax.specs.Flats.{binding_view, bindings_view};
+ghost use Rattle.liquid_syntax.specs.Flats.{binding_view, bindings_view, each_view};
 ghost use Rattle.liquid_syntax.specs.Judges.{Judges};
 ghost use Rattle.liquid_syntax.specs.Judging.{leaf_or};
-ghost use Rattle.liquid_syntax.specs.PartialItems.{include_node, include_of, jekyll_node, jekyll_of, render_node, render_of, spelled_name, with_first};
+ghost use Rattle.liquid_syntax.specs.PartialItems.{each_first, include_node, include_of, jekyll_node, jekyll_of, render_as, render_node, render_of, rendered_each, rendered_with, spelled_name, with_first};
 
 use crate::build::Label;
 use crate::chain_items::expected;
+use crate::loop_items::next_source;
+use crate::loop_nodes::Each;
 use crate::node::{Binding, Node};
 use crate::pair_items::{PairStyle, next_pair, read_pairs};
 use liquid_core::{Expression, Value};
@@ -44,7 +46,7 @@ pub(crate) fn read_include(
     Ok(Label::Leaf(Node::Include(name, all)))
 }
 
-/// `name with v as w, w: v`: the node of a `render` that runs once.
+/// `name w: v`, with `with v as w` or `for R as w` behind the name: the node of a `render`.
 pub(crate) fn read_render(
     alloc: Global,
     items: VecDeque<Item<'_>>,
@@ -58,15 +60,64 @@ pub(crate) fn read_render(
     let Some(name) = next_value(&mut items) else {
         return Err(expected(at, "the name of a partial"));
     };
-    if !skip_word(&mut items, "with") {
-        let all = read_pairs(Vec::new(alloc), items, PairStyle::Render, at)?;
-        return Ok(Label::Leaf(Node::Render(name, all)));
+    if skip_word(&mut items, "with") {
+        return read_render_with(alloc, name, items, at);
     }
+    if skip_word(&mut items, "for") {
+        return read_render_each(alloc, name, items, at);
+    }
+    let all = read_pairs(Vec::new(alloc), items, PairStyle::Render, at)?;
+    Ok(Label::Leaf(Node::Render(name, all)))
+}
+
+/// `v as w, w: v`, behind `with`: the node of a `render` that runs once.
+fn read_render_with(
+    alloc: Global,
+    name: Expression,
+    items: VecDeque<Item<'_>>,
+    at: &str,
+) -> Result<Label, ParseError>
+    ensures label { Judges (leaf_or (render_as (expression_view name) (rendered_with (tokens_view items.entry.items)))) result }
+    ensures kind { FaultsAs FaultKind.Expected result }
+    ensures place { FaultsAt (length at.now) result }
+{
+    let mut items = items;
     let Some(first) = next_with(&mut items) else {
         return Err(expected(at, "a value, `as` and its name"));
     };
     let all = read_pairs(only(alloc, first)?, items, PairStyle::Render, at)?;
     Ok(Label::Leaf(Node::Render(name, all)))
+}
+
+/// `R as w, w: v`, behind `for`: the node of a `render` that runs for each item.
+fn read_render_each(
+    alloc: Global,
+    name: Expression,
+    items: VecDeque<Item<'_>>,
+    at: &str,
+) -> Result<Label, ParseError>
+    ensures label { Judges (leaf_or (render_as (expression_view name) (rendered_each (tokens_view items.entry.items)))) result }
+    ensures kind { FaultsAs FaultKind.Expected result }
+    ensures place { FaultsAt (length at.now) result }
+{
+    let mut items = items;
+    let Some(each) = next_each(&mut items) else {
+        return Err(expected(at, "a list or a range, `as` and the name of an item"));
+    };
+    let all = read_pairs(Vec::new(alloc), items, PairStyle::Render, at)?;
+    Ok(Label::Leaf(Node::RenderEach(name, each, all)))
+}
+
+/// Takes what stands behind `for` off the front, if it stands there: a source, `as` and the name of an item.
+fn next_each(items: &mut VecDeque<Item<'_>>) -> Option<Each>
+    ensures { option_map (λ e. (each_view e, tokens_view items.new.items)) result ≡ each_first (tokens_view items.old.items) }
+{
+    let source = next_source(items)?;
+    if !skip_word(items, "as") {
+        return None;
+    }
+    let variable = next_word(items)?;
+    Some(Each { source, variable })
 }
 
 /// Takes the pair behind `with` off the front, if it stands there: a value, `as` and its name.

@@ -5,7 +5,7 @@ use liquid_syntax::{Language, Partials, TagKind, Template, parse};
 use std::alloc::Global;
 
 /// A source, that of a partial, and the names of both, each with a space behind it.
-const ROWS: [(&str, &str, &str); 13] = [
+const ROWS: [(&str, &str, &str); 14] = [
     ("", "", ""),
     ("{{ a[b.c].d }}{{ 'q' }}{{ a }}", "", "a b "),
     (
@@ -20,6 +20,11 @@ const ROWS: [(&str, &str, &str); 13] = [
         "{% render p with x as y, k: z %}",
         "{{ y | join: x }}",
         "k p x y z ",
+    ),
+    (
+        "{% render p for (a..b[c]) as i, k: z %}",
+        "{% increment s %}",
+        "a b c forloop i k p s z ",
     ),
     (
         "{% if a == b and c or d %}{{ e | join: f }}{% elsif g %}{% else h %}{{ i }}{% endif %}",

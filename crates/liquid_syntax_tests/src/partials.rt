@@ -1,4 +1,5 @@
 //! Tags that run a partial: the nodes that they are, and items that are none.
+use crate::reading::have_nodes;
 use liquid_core::{ErrorKind, Result};
 use liquid_syntax::{Binding, Language, Node, TagKind, parse};
 use std::alloc::Global;
@@ -43,6 +44,12 @@ fn shown(alloc: Global, source: &str) -> Result<String> {
             write!(out, "render {name}")?;
             show_pairs(&mut out, pairs)?;
         }
+        [Node::RenderEach(name, each, pairs)] => {
+            let source = &each.source;
+            let variable = &each.variable;
+            write!(out, "render {name} for {source} as {variable}")?;
+            show_pairs(&mut out, pairs)?;
+        }
         _ => out.push_str("other nodes")?,
     }
     Ok(out)
@@ -70,6 +77,18 @@ fn tags_that_run_a_partial(rt: HostRuntime) -> Result<()> {
             "render \"v\" a: 5 b: 6 a: 7",
         ),
         ("{% render 'v', %}", "render \"v\""),
+        (
+            "{% render for for for as for %}",
+            "render for for for as for",
+        ),
+        (
+            "{% render 'v' for (1..a.b) as c, d: c, %}",
+            "render \"v\" for (1..a[\"b\"]) as c d: c",
+        ),
+        (
+            "{% render 'v' with for as for, with: as %}",
+            "render \"v\" for: for with: as",
+        ),
         ("{% jekyll e.txt %}", "jekyll e.txt"),
         (
             "{% jekyll 'e.txt' a='x' b=1 %}",
@@ -82,6 +101,9 @@ fn tags_that_run_a_partial(rt: HostRuntime) -> Result<()> {
     for (source, wanted) in rows {
         assert_eq!(rt; shown(rt.alloc(), source)?.as_str(), *wanted, "{source}");
     }
+    let language = with_partials(rt.alloc())?;
+    let counts = &[("{% render 'v' for a as b, c: d %}{% render 'v' %}", 2)];
+    have_nodes(&rt, rt.alloc(), &language, counts);
     Ok(())
 }
 
@@ -104,6 +126,16 @@ fn items_that_run_no_partial(rt: HostRuntime) -> Result<()> {
         "{% render 'v' with 5 %}",
         "{% render 'v' with 5 as a b: 1 %}",
         "{% render 'v' with 5 as a.b %}",
+        "{% render 'v' for %}",
+        "{% render 'v' for a %}",
+        "{% render 'v' for , as a %}",
+        "{% render 'v' for a b %}",
+        "{% render 'v' for a as 'b' %}",
+        "{% render 'v' for a as (1..2) %}",
+        "{% render 'v', for a as b %}",
+        "{% render 'v' for a as b c: 1 %}",
+        "{% render 'v' for a as b reversed %}",
+        "{% render 'v' for a as b with c as d %}",
         "{% jekyll (1..2) %}",
         "{% jekyll e.txt a: 1 %}",
         "{% jekyll e.txt a=1, b=2 %}",
