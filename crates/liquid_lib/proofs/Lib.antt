@@ -8,12 +8,14 @@ pub mod Counting
 pub mod Cycles
 pub mod Going
 pub mod Interrupts
+pub mod ItemRuns
 pub mod Joined
 pub mod Kept
 pub mod LentData
 pub mod PartialRuns
 pub mod Pieces
 pub mod Registered
+pub mod RenderEach
 pub mod Renderings
 pub mod Sinks
 pub mod ValueTexts

@@ -17,6 +17,7 @@ mod leaves;
 mod lent;
 mod nodes;
 mod output;
+mod own_state;
 mod partial;
 mod push_value;
 mod render;
