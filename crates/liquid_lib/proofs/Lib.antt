@@ -12,12 +12,15 @@ pub mod ItemRuns
 pub mod Joined
 pub mod Kept
 pub mod LentData
+pub mod LoopItems
+pub mod LoopMeanings
 pub mod PartialRuns
 pub mod Pieces
 pub mod Registered
 pub mod RenderEach
 pub mod Renderings
 pub mod Sinks
+pub mod Turning
 pub mod ValueTexts
 pub mod Whole
 pub mod Written

@@ -15,6 +15,7 @@ mod ifchanged;
 pub mod jekyll;
 mod leaves;
 mod lent;
+mod loop_turns;
 mod nodes;
 mod output;
 mod own_state;
