@@ -13,6 +13,7 @@ ghost use Rattle.liquid_meaning.specs.Meaning.{deeper_meaning, render_apart};
 use crate::counted::CountedWrite;
 use crate::engine::run_apart;
 use crate::given::Given;
+use crate::loop_turns::ends_items;
 use crate::output::Output;
 use crate::own_state::{state_at, turn_at};
 use crate::partial::{pairs_scope, partial_name, partial_rendered};
@@ -46,10 +47,11 @@ pub(super) fn run_render_each<'d, W: CountedWrite, H: NamedFilters>(
     let mut at = 0;
     while at < source.count {
         let turn = turn_at(&*each, &source, at);
-        match run_item(alloc, &near, called.as_str(), bindings, turn, out, state)? {
-            Some(Interrupt::Break) => return Ok(()),
-            _ => at += 1,
+        let left = run_item(alloc, &near, called.as_str(), bindings, turn, out, state)?;
+        if ends_items(left) {
+            return Ok(());
         }
+        at += 1;
     }
     Ok(())
 }

@@ -2,7 +2,8 @@ use Rattle.std.proofs.Common.{rules, arith, ◌≡◌, ◌+◌, ◌-◌, ◌*◌
 use Rattle.std.specs.Option.{option_map}
 use Rattle.std.proofs.lemmas.Result.{err_from_is_err_and}
 use Rattle.liquid_model.specs.Answer.{Faulted, Gives}
-use Rattle.liquid_model.specs.Data.{text}
+use Rattle.std.specs.Prelude.{codes, get_or}
+use Rattle.liquid_model.specs.Data.{Datum, nil, text}
 use Rattle.liquid_model.specs.Maps.{Map, merged}
 use Rattle.liquid_model.specs.declared.error.ErrorKind.TheVariants.{UnknownPartial}
 use Rattle.liquid_model.proofs.Views.{view-Text}
@@ -12,7 +13,10 @@ use Rattle.liquid_core.specs.Held.{held}
 use Rattle.liquid_core.specs.States.{environment_of, layers_of, loops_of, merged_layers, with_assigned, with_scope_pushed}
 use Rattle.liquid_core.specs.declared.interrupt.Interrupt.{Interrupt}
 use Rattle.liquid_core.specs.declared.interrupt.Interrupt.TheVariants as interrupts
-use Rattle.liquid_core.specs.Turns.{without_innermost}
+use Rattle.liquid_core.specs.Loops.{loop_scope, forloop_object}
+use Rattle.liquid_core.specs.Turns.{turn_map, without_innermost}
+use Rattle.liquid_tree.specs.ItemLists.{all_items}
+use Rattle.liquid_tree.proofs.ItemPlaces.{item_by_place}
 use Rattle.liquid_core.proofs.States.{interrupt_set, named_off}
 use Rattle.liquid_tree.specs.ChainView.{chain_view}
 use Rattle.liquid_tree.specs.ConditionView.{condition_view}
@@ -23,7 +27,7 @@ use Rattle.liquid_syntax.specs.Forest.{Forest}
 use Rattle.liquid_syntax.specs.Templates.{forest_of, most_of, partials_of, tree_of}
 use Rattle.liquid_syntax.proofs.Places.{Stands-le}
 use Rattle.liquid_meaning.specs.Effects.{assigned_to, interrupted_by}
-use Rattle.liquid_meaning.specs.Meaning.{node_meaning, deeper_meaning, include_scope, pairs_scope}
+use Rattle.liquid_meaning.specs.Meaning.{node_meaning, deeper_meaning, include_scope, pairs_scope, render_apart}
 use Rattle.liquid_meaning.specs.Runs.{apart, buffered, change, with_scope}
 use Rattle.liquid_meaning.proofs.Law.{within_found}
 use Rattle.liquid_meaning.proofs.Rules.{comment_rule, break_rule, continue_rule, capture_rule, ifchanged_rule}
@@ -42,6 +46,7 @@ use Rattle.liquid_lib.proofs.Interrupts.{interrupt_of, some_of, none_of}
 use Rattle.liquid_lib.proofs.Joined.{by_rule, bind_met, bind_faulted, buffered_met, buffered_faulted, buffered_memory, change_met, done_met, gives_merged, memory_at}
 use Rattle.liquid_lib.proofs.Kept.{kept_same, kept_after, kept_assigned, kept_interrupt}
 use Rattle.liquid_lib.proofs.PartialRuns.{reserve, reserve_step, deeper_is, scope_deep, apart_deep, found_some, pairs_refused, not_found, entered, include_refused, include_named, jekyll_met, render_refused, render_faulted, render_met, within_all, kept_around, partial_met}
+use Rattle.liquid_lib.proofs.ItemRuns.{items_left, item_on, item_breaks, item_faulted, items_end}
 use Rattle.liquid_lib.proofs.RenderEach.{item_run, items_run, name_refused, items_refused, items_met}
 use Rattle.liquid_lib.proofs.Sinks.{Around}
 use Rattle.liquid_lib.proofs.Whole.{stood_in}
@@ -365,6 +370,17 @@ run_node-returns-in-Render-clause-performs g t c =
     leaf_performs (setting_of g.H.NamedFilters.named c.args.given.now) c.args.given.now.depth c.args.nodes.now c.args.at c.args.to c.index-nodes-at.result _ (tree.render (expression_view c.in-Render.name) None (bindings_view c.in-Render.bindings.items)) c.run_render.result (place c.args.out.now c.args.state.now) (place c.run_render.new.out c.args.state.now) c.requires c.index-nodes-at.is c.in-Render.is refl
     (subst (λ x. Performs c.run_render.result (node_meant (setting_of g.H.NamedFilters.named c.args.given.now) c.args.given.now.depth (tree.render (expression_view c.in-Render.name) None (bindings_view x))) (place c.args.out.now c.args.state.now) (place c.run_render.new.out c.args.state.now)) c.deref-in-Render.ensures.value c.run_render.ensures.performs)
 
+pub run_node-run_render_each-requires : goal.run_node-run_render_each-requires
+run_node-run_render_each-requires g t c κs within =
+    let before = node_before c.args.nodes.now c.args.at c.args.to c.requires in
+    (let lt : reserve c.args.given.now.depth c.args.given.now.partials.now + 3 < t = omega arith in lt, within)
+
+pub run_node-returns-in-RenderEach-clause-performs : goal.run_node-returns-in-RenderEach-clause-performs
+run_node-returns-in-RenderEach-clause-performs g t c =
+    let place = place_of g.W.CountedWrite.contents g.W.CountedWrite.failure_count in
+    leaf_performs (setting_of g.H.NamedFilters.named c.args.given.now) c.args.given.now.depth c.args.nodes.now c.args.at c.args.to c.index-nodes-at.result _ (tree.render (expression_view c.in-RenderEach.name) (Some (each_view c.in-RenderEach.each)) (bindings_view c.in-RenderEach.bindings.items)) c.run_render_each.result (place c.args.out.now c.args.state.now) (place c.run_render_each.new.out c.args.state.now) c.requires c.index-nodes-at.is c.in-RenderEach.is refl
+    (subst (λ x. Performs c.run_render_each.result (node_meant (setting_of g.H.NamedFilters.named c.args.given.now) c.args.given.now.depth (tree.render (expression_view c.in-RenderEach.name) (Some (each_view c.in-RenderEach.each)) (bindings_view x))) (place c.args.out.now c.args.state.now) (place c.run_render_each.new.out c.args.state.now)) c.deref-in-RenderEach.ensures.value c.run_render_each.ensures.performs)
+
 pub run_capture-overflow_add-at : goal.run_capture-overflow_add-at
 run_capture-overflow_add-at g t c =
     let body : IsRange c.args.nodes.now (c.args.at + 1) c.args.end = search rules in
@@ -638,6 +654,85 @@ render_each::run_render_each-returns-in_err-source-clause-performs g t c =
     let place = place_of g.W.CountedWrite.contents g.W.CountedWrite.failure_count in
     let p = err_from_is_err_and c.from_residual-in_err-source.result c.from_residual-in_err-source.ensures.1 in
     rw (p.1, p.2) (items_refused (setting_of g.H.NamedFilters.named c.args.given.now) (deeper_meaning (setting_of g.H.NamedFilters.named c.args.given.now) c.args.given.now.depth) (expression_view c.args.name.now) (each_view c.args.each.now) (bindings_view c.args.bindings.now) c.in_err-source.field-0.0 (string_bytes c.in_ok-called.called) (place c.args.out.now c.args.state.now) c.in_ok-called.ensures c.in_err-source.ensures.items)
+
+pub render_each::run_item-returns-in_err-own-clause-performs : goal.render_each::run_item-returns-in_err-own-clause-performs
+render_each::run_item-returns-in_err-own-clause-performs g t c over is =
+    let p = err_from_is_err_and c.from_residual-in_err-own.result c.from_residual-in_err-own.ensures.1 in
+    rw (p.1, p.2) (memory_at _ (c.in_err-own.ensures over is))
+
+pub render_each::run_render_each-returns-in_err-left-clause-performs : goal.render_each::run_render_each-returns-in_err-left-clause-performs
+render_each::run_render_each-returns-in_err-left-clause-performs g t c =
+    let place = place_of g.W.CountedWrite.contents g.W.CountedWrite.failure_count in
+    let name = string_bytes c.in_ok-called.called in
+    let source = c.in_ok-source.source in
+    let ds = all_items source.items in
+    let run = item_run (setting_of g.H.NamedFilters.named c.args.given.now) (deeper_meaning (setting_of g.H.NamedFilters.named c.args.given.now) c.args.given.now.depth) (expression_view c.args.name.now) (each_view c.args.each.now) (bindings_view c.args.bindings.now) name in
+    let count : source.count ≡ length ds = c.in_ok-source.ensures.count in
+    let lt : c.loop-at.at < length ds = subst (λ m. c.loop-at.at < m) count c.loop-at-test.true in
+    let over : Datum → Map Datum = λ d. loop_scope (codes "forloop") (forloop_object c.loop-at.at source.count nil) (string_bytes c.args.each.now.variable) d in
+    let is : (local : Map Datum) → turn_map c.turn_at-turn.result local ≡ over (get_or ds c.loop-at.at nil) = λ local. c.turn_at-turn.ensures local ∙ ap over (item_by_place source.items c.loop-at.at) in
+    let start = place c.args.out.now c.args.state.now in
+    let here = place c.loop-at.out c.args.state.now in
+    let there = place c.run_item.new.out c.args.state.now in
+    let p = err_from_is_err_and c.from_residual-in_err-left.result c.from_residual-in_err-left.ensures.1 in
+    rw (p.1, p.2) (items_met (setting_of g.H.NamedFilters.named c.args.given.now) (deeper_meaning (setting_of g.H.NamedFilters.named c.args.given.now) c.args.given.now.depth) (expression_view c.args.name.now) (each_view c.args.each.now) (bindings_view c.args.bindings.now) (Err c.in_err-left.field-0.0) name ds start there c.in_ok-called.ensures c.in_ok-source.ensures.items
+    (subst (λ m. Performs (Err c.in_err-left.field-0.0) (items_left (run m) ds 0) start there) count
+    (item_faulted (run source.count) ds c.loop-at.at c.in_err-left.field-0.0 start here there lt
+    (subst (λ x. Meets (λ (i : Option Interrupt). i) (Err c.in_err-left.field-0.0) (render_apart (setting_of g.H.NamedFilters.named c.args.given.now) (deeper_meaning (setting_of g.H.NamedFilters.named c.args.given.now) c.args.given.now.depth) x (bindings_view c.args.bindings.now) (over (get_or ds c.loop-at.at nil))) here there) c.as_str.ensures.value (c.in_err-left.ensures.performs (over (get_or ds c.loop-at.at nil)) is)) c.loop-at.invariant.leads)))
+
+pub render_each::run_render_each-returns-then-ends_items-clause-performs : goal.render_each::run_render_each-returns-then-ends_items-clause-performs
+render_each::run_render_each-returns-then-ends_items-clause-performs g t c =
+    let place = place_of g.W.CountedWrite.contents g.W.CountedWrite.failure_count in
+    let name = string_bytes c.in_ok-called.called in
+    let source = c.in_ok-source.source in
+    let ds = all_items source.items in
+    let run = item_run (setting_of g.H.NamedFilters.named c.args.given.now) (deeper_meaning (setting_of g.H.NamedFilters.named c.args.given.now) c.args.given.now.depth) (expression_view c.args.name.now) (each_view c.args.each.now) (bindings_view c.args.bindings.now) name in
+    let count : source.count ≡ length ds = c.in_ok-source.ensures.count in
+    let lt : c.loop-at.at < length ds = subst (λ m. c.loop-at.at < m) count c.loop-at-test.true in
+    let over : Datum → Map Datum = λ d. loop_scope (codes "forloop") (forloop_object c.loop-at.at source.count nil) (string_bytes c.args.each.now.variable) d in
+    let is : (local : Map Datum) → turn_map c.turn_at-turn.result local ≡ over (get_or ds c.loop-at.at nil) = λ local. c.turn_at-turn.ensures local ∙ ap over (item_by_place source.items c.loop-at.at) in
+    let start = place c.args.out.now c.args.state.now in
+    let here = place c.loop-at.out c.args.state.now in
+    let there = place c.run_item.new.out c.args.state.now in
+    items_met (setting_of g.H.NamedFilters.named c.args.given.now) (deeper_meaning (setting_of g.H.NamedFilters.named c.args.given.now) c.args.given.now.depth) (expression_view c.args.name.now) (each_view c.args.each.now) (bindings_view c.args.bindings.now) (Ok tt) name ds start there c.in_ok-called.ensures c.in_ok-source.ensures.items
+    (subst (λ m. Performs (Ok tt) (items_left (run m) ds 0) start there) count
+    (item_breaks (run source.count) ds c.loop-at.at c.in_ok-left.left tt start here there lt (sym c.ends_items.ensures ∙ c.if-ends_items.true)
+    (subst (λ x. Meets (λ (i : Option Interrupt). i) (Ok c.in_ok-left.left) (render_apart (setting_of g.H.NamedFilters.named c.args.given.now) (deeper_meaning (setting_of g.H.NamedFilters.named c.args.given.now) c.args.given.now.depth) x (bindings_view c.args.bindings.now) (over (get_or ds c.loop-at.at nil))) here there) c.as_str.ensures.value (c.in_ok-left.ensures.performs (over (get_or ds c.loop-at.at nil)) is)) c.loop-at.invariant.leads))
+
+pub render_each::run_render_each-loop-at-preserved : goal.render_each::run_render_each-loop-at-preserved
+render_each::run_render_each-loop-at-preserved g t c =
+    let place = place_of g.W.CountedWrite.contents g.W.CountedWrite.failure_count in
+    let name = string_bytes c.in_ok-called.called in
+    let source = c.in_ok-source.source in
+    let ds = all_items source.items in
+    let run = item_run (setting_of g.H.NamedFilters.named c.args.given.now) (deeper_meaning (setting_of g.H.NamedFilters.named c.args.given.now) c.args.given.now.depth) (expression_view c.args.name.now) (each_view c.args.each.now) (bindings_view c.args.bindings.now) name in
+    let count : source.count ≡ length ds = c.in_ok-source.ensures.count in
+    let lt : c.loop-at.at < length ds = subst (λ m. c.loop-at.at < m) count c.loop-at-test.true in
+    let over : Datum → Map Datum = λ d. loop_scope (codes "forloop") (forloop_object c.loop-at.at source.count nil) (string_bytes c.args.each.now.variable) d in
+    let is : (local : Map Datum) → turn_map c.turn_at-turn.result local ≡ over (get_or ds c.loop-at.at nil) = λ local. c.turn_at-turn.ensures local ∙ ap over (item_by_place source.items c.loop-at.at) in
+    let start = place c.args.out.now c.args.state.now in
+    let here = place c.loop-at.out c.args.state.now in
+    let there = place c.run_item.new.out c.args.state.now in
+    record {
+      ordered = (let le : c.loop-at.at + 1 ≤ source.count = omega (arith, c.loop-at-test.true) in le);
+      leads = item_on (run source.count) ds c.loop-at.at c.in_ok-left.left start here there lt (sym c.ends_items.ensures ∙ c.if-ends_items.false)
+          (subst (λ x. Meets (λ (i : Option Interrupt). i) (Ok c.in_ok-left.left) (render_apart (setting_of g.H.NamedFilters.named c.args.given.now) (deeper_meaning (setting_of g.H.NamedFilters.named c.args.given.now) c.args.given.now.depth) x (bindings_view c.args.bindings.now) (over (get_or ds c.loop-at.at nil))) here there) c.as_str.ensures.value (c.in_ok-left.ensures.performs (over (get_or ds c.loop-at.at nil)) is)) c.loop-at.invariant.leads;
+      same_writer = c.run_item.ensures.same_writer ∙ c.loop-at.invariant.same_writer;
+    }
+
+pub render_each::run_render_each-returns-clause-performs : goal.render_each::run_render_each-returns-clause-performs
+render_each::run_render_each-returns-clause-performs g t c =
+    let place = place_of g.W.CountedWrite.contents g.W.CountedWrite.failure_count in
+    let name = string_bytes c.in_ok-called.called in
+    let source = c.in_ok-source.source in
+    let ds = all_items source.items in
+    let run = item_run (setting_of g.H.NamedFilters.named c.args.given.now) (deeper_meaning (setting_of g.H.NamedFilters.named c.args.given.now) c.args.given.now.depth) (expression_view c.args.name.now) (each_view c.args.each.now) (bindings_view c.args.bindings.now) name in
+    let count : source.count ≡ length ds = c.in_ok-source.ensures.count in
+    let start = place c.args.out.now c.args.state.now in
+    let here = place c.loop-at.out c.args.state.now in
+    let le : length ds ≤ c.loop-at.at = subst (λ m. m ≤ c.loop-at.at) count c.loop-at-test.false in
+    items_met (setting_of g.H.NamedFilters.named c.args.given.now) (deeper_meaning (setting_of g.H.NamedFilters.named c.args.given.now) c.args.given.now.depth) (expression_view c.args.name.now) (each_view c.args.each.now) (bindings_view c.args.bindings.now) (Ok tt) name ds start here c.in_ok-called.ensures c.in_ok-source.ensures.items
+    (subst (λ m. Performs (Ok tt) (items_left (run m) ds 0) start here) count (items_end (run source.count) ds c.loop-at.at tt start here le c.loop-at.invariant.leads))
 
 pub run_node-returns-in-Increment-clause-performs : goal.run_node-returns-in-Increment-clause-performs
 run_node-returns-in-Increment-clause-performs g t c =
