@@ -7,6 +7,8 @@ pub mod Engine
 pub mod Failures
 pub mod Forloop
 pub mod Kept
+pub mod LoopRuns
+pub mod LoopTurns
 pub mod Partials
 pub mod Performs
 pub mod Rendered

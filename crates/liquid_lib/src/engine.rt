@@ -1,9 +1,11 @@
 //! Runs of nodes.
 ghost use Rattle.std.specs.Prelude.{◌≡◌, ℕ, ◌+◌, ◌≤◌, None, length};
-ghost use Rattle.liquid_core.specs.Environment.{Environment};
+ghost use Rattle.liquid_model.specs.Data.{Datum};
+ghost use Rattle.liquid_model.specs.Maps.{Map};
+ghost use Rattle.liquid_core.specs.Environment.{Environment, new_environment};
 ghost use Rattle.liquid_core.specs.ExpressionView.{expression_view};
 ghost use Rattle.liquid_core.specs.Held.{held};
-ghost use Rattle.liquid_core.specs.States.{layers_of, loops_of};
+ghost use Rattle.liquid_core.specs.States.{environment_of, layers_of, loops_of};
 ghost use Rattle.liquid_syntax.specs.Flats.{Maker, StandsAt, IsRange, NodeAt, IsNode, bindings_view, nodes_of};
 ghost use Rattle.liquid_syntax.specs.Forest.{Forest};
 ghost use Rattle.liquid_syntax.specs.Templates.{list_of, most_of, tree_of};
@@ -25,13 +27,17 @@ use crate::ifchanged::show_if_changed;
 use crate::leaves::{run_assign, run_output, run_raw, run_text};
 use crate::nodes::next_after;
 use crate::output::Output;
+use crate::own_state::own_state;
 use crate::partial::{
     include_scope, pairs_scope, partial_called, partial_name, partial_rendered, too_deep,
 };
 use liquid_core::{Expression, Interrupt, NamedFilters, Object, Result, State, Value};
 use liquid_syntax::{Arm, Binding, Condition, Node, Template, TwoBodies};
 use std::alloc::Global;
-use std::collections::BTreeMap;
+
+mod render_each;
+
+use render_each::run_render_each;
 
 /// Runs the nodes of a range in order, up to the first fault or interrupt. The first node runs whatever the interrupt was.
 #[cycle(run)]
@@ -129,6 +135,10 @@ fn run_node<'d, W: CountedWrite, H: NamedFilters>(
             state,
         ),
         Node::Render(name, bindings) => run_render(alloc, given, name, &*bindings, out, &*state),
+        Node::For(_, _) | Node::TableRow(_, _) => Ok(()),
+        Node::RenderEach(name, each, bindings) => {
+            run_render_each(alloc, given, name, each, &*bindings, out, &*state)
+        }
         Node::Cycle(group, values) => run_cycle(alloc, given, group.as_str(), values, out, state),
         Node::Case(target, arms, last) => {
             run_case(alloc, given, nodes, at, target, arms, *last, out, state)
@@ -370,21 +380,23 @@ fn run_render<'d, W: CountedWrite, H: NamedFilters>(
     let called = partial_name(alloc, name, state)?;
     let scope = pairs_scope(alloc, bindings, state)?;
     let partial = partial_rendered(alloc, given.partials, called.as_str())?;
-    run_apart(alloc, given, partial, scope, out)?;
+    let own = own_state(alloc, scope)?;
+    run_apart(alloc, given, partial, own, out)?;
     Ok(())
 }
 
-/// Enters a partial in a state of its own that holds these names alone: the interrupt that it leaves.
+/// Enters a partial in a state of its own, which holds certain names alone: the interrupt that it leaves.
 #[cycle(run)]
 fn run_apart<'d, W: CountedWrite, H: NamedFilters>(
     alloc: Global,
     given: &Given<'d, H>,
     partial: &'d Template,
-    names: Object,
+    own: State<'d>,
     out: &mut Output<'_, W>,
 ) -> Result<Option<Interrupt>>
     requires small { length (list_of partial.now) ≤ most_of given.now.partials.now }
-    ensures performs { (e : Environment) → Meets (λ i. i) result (apart (held names) (partial_in H.named given.now (tree_of partial.now)))
+    ensures performs { (names : Map Datum) (e : Environment) → environment_of own.entry ≡ new_environment names →
+        Meets (λ i. i) result (apart names (partial_in H.named given.now (tree_of partial.now)))
         (place_beside W.contents W.failure_count out.old e)
         (place_beside W.contents W.failure_count out.new e) }
     ensures same_writer { out.new.writer.ghost_name ≡ out.old.writer.ghost_name }
@@ -392,13 +404,12 @@ fn run_apart<'d, W: CountedWrite, H: NamedFilters>(
     if given.depth == 0 {
         return Err(too_deep(alloc));
     }
-    let mut own = State::new(alloc, BTreeMap::new(alloc));
     let inner = Given {
         partials: given.partials,
         host: given.host,
         depth: given.depth - 1,
     };
-    own.push_scope(names)?;
+    let mut own = own;
     let nodes = partial.nodes();
     run_range(alloc, &inner, nodes, 0, nodes.len(), out, &mut own)?;
     Ok(own.interrupt)

@@ -1,5 +1,5 @@
 //! The texts of values, written piece by piece.
-ghost use Rattle.std.specs.Prelude.{◌≡◌};
+ghost use Rattle.std.specs.Prelude.{◌≡◌, ◌++◌, decimal};
 ghost use Rattle.liquid_model.specs.Data.{truth as truth_datum, number, text_of, items_text, pairs_text};
 ghost use Rattle.liquid_model.specs.View.{view, items_view, pairs_view};
 ghost use Rattle.liquid_lib.specs.Performs.{Writes};
@@ -49,6 +49,24 @@ pub fn push_number<W: CountedWrite>(alloc: Global, n: i64, out: &mut Output<'_, 
 {
     let mut digits = Buffer::new();
     out.push_text(alloc, digits.format(n))
+}
+
+/// Writes a text, a number and a text.
+pub(crate) fn push_numbered<W: CountedWrite>(
+    alloc: Global,
+    before: &str,
+    number: usize,
+    after: &str,
+    out: &mut Output<'_, W>,
+) -> Result<()>
+    ensures writes { Writes result (before.now ++ (decimal number ++ after.now))
+        (sink_of W.contents W.failure_count out.old)
+        (sink_of W.contents W.failure_count out.new) }
+    ensures same_writer { out.new.writer.ghost_name ≡ out.old.writer.ghost_name }
+{
+    out.push_text(alloc, before)?;
+    out.push_text(alloc, Buffer::new().format(number))?;
+    out.push_text(alloc, after)
 }
 
 #[cycle(push_value)]

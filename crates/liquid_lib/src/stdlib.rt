@@ -3,6 +3,7 @@
 mod blocks;
 
 pub use blocks::ForloopObject;
+pub(crate) use blocks::Row;
 pub use liquid_filters::stdlib::{
     Abs, Append, AtLeast, AtMost, Capitalize, Ceil, Compact, Concat, Date, Default, DividedBy,
     Downcase, Escape, EscapeOnce, First, Floor, Join, Last, Lstrip, Map, Minus, Modulo,

@@ -1,18 +1,24 @@
 -- The rules of nodes, to go by: to unfold `node_meaning` elsewhere shows the rule of every kind.
-use Rattle.std.specs.Prelude.{◌≡◌, pos, ◌+ℤ◌, ◌-ℤ◌, cond, List, ◌++◌, Some, None, codes}
+use Rattle.std.specs.Prelude.{◌≡◌, ℕ, suc, ◌==◌, pos, ◌+ℤ◌, ◌-ℤ◌, Bool, true, false, cond, List, [], ◌∷◌, ◌++◌, length, Option, Some, None, Result, Ok, Err, codes}
 use Rattle.std.specs.Fmt.{signed_decimal}
-use mathlib.Core.Path.{refl}
+use mathlib.Core.Path.{refl, fun_ext}
 use Rattle.liquid_model.specs.Texts.{Text, ◌else◌}
-use Rattle.liquid_model.specs.Data.{Datum, text, text_of}
+use Rattle.liquid_model.specs.Data.{Datum, nil, text, text_of}
+use Rattle.liquid_model.specs.Fallible as fallible
 use Rattle.liquid_model.specs.Maps.{empty, merged, listed}
+use Rattle.liquid_model.specs.declared.error.ErrorKind.{ErrorKind}
+use Rattle.liquid_core.specs.Environment.{Environment}
 use Rattle.liquid_core.specs.Expression.{Expression}
 use Rattle.liquid_core.specs.Expressions.{required}
+use Rattle.liquid_core.specs.Loops.{loop_scope, forloop_object}
+use Rattle.liquid_core.specs.declared.interrupt.Interrupt.{Interrupt}
 use Rattle.liquid_core.specs.declared.interrupt.Interrupt.TheVariants.{Break, Continue}
-use Rattle.liquid_tree.specs.Tree.{Bindings, Chain, Condition, Nodes, Whens, no_whens, when, plain, raw, comment, output, assign, increment, decrement, break_loop, continue_loop, cycle, if_true, unless, case_of, capture, ifchanged, include, jekyll_include, render}
-use Rattle.liquid_tree.specs.Evaluation.{chain_value, truth_of, bound_values}
-use Rattle.liquid_meaning.specs.Runs.{Nothing, Run, done, read, evaluate, change, write, ◌>>=◌, with_scope, buffered, apart}
-use Rattle.liquid_meaning.specs.Effects.{assigned_to, counted_to, interrupted_by, changed_to, counter_number, is_last_text}
-use Rattle.liquid_meaning.specs.Meaning.{Setting, within_i64, cycle_meaning, has_equal, name_of, found, include_scope, pairs_scope, node_meaning, nodes_meaning, whens_meaning}
+use Rattle.liquid_tree.specs.Tree.{Bindings, Chain, Condition, Nodes, Source, Whens, Window, no_whens, when, plain, raw, comment, output, assign, increment, decrement, break_loop, continue_loop, cycle, if_true, unless, case_of, for_each, tablerow, capture, ifchanged, include, jekyll_include, render}
+use Rattle.liquid_tree.specs.Evaluation.{chain_value, truth_of, source_items, amount, asked_for, bound_values}
+use Rattle.liquid_meaning.specs.Runs.{Nothing, Run, done, read, evaluate, change, write, go_on, ◌>>=◌, with_scope, buffered, apart}
+use Rattle.liquid_meaning.specs.Effects.{assigned_to, counted_to, interrupted_by, changed_to, counter_number, is_break, is_last_text, value_or_nil}
+use Rattle.liquid_meaning.specs.Loops.{columns_of, for_all, if_empty, loop, rows, until_break}
+use Rattle.liquid_meaning.specs.Meaning.{Setting, within_i64, cycle_meaning, has_equal, name_of, found, include_scope, pairs_scope, render_apart, node_meaning, nodes_meaning, whens_meaning}
 
 module _ (setting : Setting) (deeper : Nodes → Run Nothing) where
   pub plain_rule : (t : Text) → node_meaning setting deeper (plain t) ≡ write t
@@ -104,3 +110,51 @@ module _ (setting : Setting) (deeper : Nodes → Run Nothing) where
       ≡ (buffered (nodes_meaning setting deeper body) >>= (λ t. read (λ e. e.registers.changed) >>= (λ last. cond (is_last_text last t) (done tt) (write t) >>= (λ a. change (changed_to t)))))
   unfolding node_meaning
   ifchanged_rule body = refl
+
+  pub for_rule : (name : Text) (source : Source) (window : Window) (body otherwise : Nodes) → node_meaning setting deeper (for_each name source window body otherwise)
+      ≡ (evaluate (source_items source) >>= (λ all. evaluate (asked_for window all) >>= (λ items. read (value_or_nil (codes "forloop")) >>= (λ parent.
+      if_empty items (nodes_meaning setting deeper otherwise) (loop name parent items (nodes_meaning setting deeper body))))))
+  unfolding node_meaning
+  for_rule name source window body otherwise = refl
+
+  pub tablerow_rule : (name : Text) (source : Source) (window : Window) (columns : Option Expression) (body : Nodes) → node_meaning setting deeper (tablerow name source window columns body)
+      ≡ (evaluate (source_items source) >>= (λ all. evaluate (amount columns) >>= (λ asked. evaluate (asked_for window all) >>= (λ items.
+      rows name (columns_of (length items) asked) items (nodes_meaning setting deeper body)))))
+  unfolding node_meaning
+  tablerow_rule name source window columns body = refl
+
+  pub render_each_rule : (x : Expression) (each : Source × Text) (bindings : Bindings) → node_meaning setting deeper (render x (Some each) bindings)
+      ≡ (evaluate (name_of x) >>= (λ name. evaluate (source_items each.0) >>= (λ items.
+      until_break (λ k d. render_apart setting deeper name bindings (loop_scope (codes "forloop") (forloop_object k (length items) nil) each.1 d)) 0 items)))
+  unfolding node_meaning
+  render_each_rule x each bindings = refl
+
+-- ---- one run for each item
+
+pub until_none : (one : ℕ → Datum → Run (Option Interrupt)) (k : ℕ) → until_break one k [] ≡ done tt
+unfolding until_break
+until_none one k = refl
+
+pub until_more : (one : ℕ → Datum → Run (Option Interrupt)) (k : ℕ) (d : Datum) (ds : List Datum) → until_break one k (d ∷ ds) ≡ (one k d >>= (λ left. cond (is_break left) (done tt) (until_break one (suc k) ds)))
+unfolding until_break
+until_more one k d ds = refl
+
+pub all_none : (one : ℕ → Datum → Run Nothing) (k : ℕ) → for_all one k [] ≡ done tt
+unfolding for_all
+all_none one k = refl
+
+pub all_more : (one : ℕ → Datum → Run Nothing) (k : ℕ) (d : Datum) (ds : List Datum) → for_all one k (d ∷ ds) ≡ (one k d >>= (λ a. for_all one (suc k) ds))
+unfolding for_all
+all_more one k d ds = refl
+
+-- ---- two values, one after the other
+
+-- they are one value
+pub joined : {A B C : Type 0} (f : Environment → Result A ErrorKind) (g : A → Environment → Result B ErrorKind) (k : B → Run C)
+    → (evaluate f >>= (λ a. evaluate (g a) >>= k)) ≡ (evaluate (λ e. fallible.◌>>=◌ (f e) (λ a. g a e)) >>= k)
+unfolding ◌>>=◌ go_on evaluate
+joined {A} {B} {C} f g k = fun_ext (λ e. on e (f e))
+  where
+    on : (e : Environment) (r : Result A ErrorKind) → go_on (λ a. evaluate (g a) >>= k) [] e r ≡ go_on k [] e (fallible.◌>>=◌ r (λ a. g a e))
+    on e (Ok a) = refl
+    on e (Err kind) = refl

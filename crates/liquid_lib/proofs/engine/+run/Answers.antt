@@ -2,7 +2,9 @@ use Rattle.std.proofs.Common.{rules, arith, ◌≡◌, ◌+◌, ◌-◌, ◌*◌
 use Rattle.std.specs.Option.{option_map}
 use Rattle.std.proofs.lemmas.Result.{err_from_is_err_and}
 use Rattle.liquid_model.specs.Answer.{Faulted, Gives}
-use Rattle.liquid_model.specs.Data.{text}
+use Rattle.std.specs.Prelude.{codes, get_or}
+use Rattle.liquid_model.specs.Data.{Datum, nil, text}
+use Rattle.liquid_model.specs.Maps.{Map, merged}
 use Rattle.liquid_model.specs.declared.error.ErrorKind.TheVariants.{UnknownPartial}
 use Rattle.liquid_model.proofs.Views.{view-Text}
 use Rattle.liquid_core.specs.Environment.{new_environment}
@@ -11,18 +13,21 @@ use Rattle.liquid_core.specs.Held.{held}
 use Rattle.liquid_core.specs.States.{environment_of, layers_of, loops_of, merged_layers, with_assigned, with_scope_pushed}
 use Rattle.liquid_core.specs.declared.interrupt.Interrupt.{Interrupt}
 use Rattle.liquid_core.specs.declared.interrupt.Interrupt.TheVariants as interrupts
-use Rattle.liquid_core.specs.Turns.{without_innermost}
+use Rattle.liquid_core.specs.Loops.{loop_scope, forloop_object}
+use Rattle.liquid_core.specs.Turns.{turn_map, without_innermost}
+use Rattle.liquid_tree.specs.ItemLists.{all_items}
+use Rattle.liquid_tree.proofs.ItemPlaces.{item_by_place}
 use Rattle.liquid_core.proofs.States.{interrupt_set, named_off}
 use Rattle.liquid_tree.specs.ChainView.{chain_view}
 use Rattle.liquid_tree.specs.ConditionView.{condition_view}
 use Rattle.liquid_tree.specs.Names.{node_names}
 use Rattle.liquid_tree.specs.Tree as tree
-use Rattle.liquid_syntax.specs.Flats.{Maker, StandsAt, IsRange, bindings_view, flats, nodes_of}
+use Rattle.liquid_syntax.specs.Flats.{Maker, StandsAt, IsRange, bindings_view, each_view, flats, nodes_of}
 use Rattle.liquid_syntax.specs.Forest.{Forest}
 use Rattle.liquid_syntax.specs.Templates.{forest_of, most_of, partials_of, tree_of}
 use Rattle.liquid_syntax.proofs.Places.{Stands-le}
 use Rattle.liquid_meaning.specs.Effects.{assigned_to, interrupted_by}
-use Rattle.liquid_meaning.specs.Meaning.{node_meaning, deeper_meaning, include_scope, pairs_scope}
+use Rattle.liquid_meaning.specs.Meaning.{node_meaning, deeper_meaning, include_scope, pairs_scope, render_apart}
 use Rattle.liquid_meaning.specs.Runs.{apart, buffered, change, with_scope}
 use Rattle.liquid_meaning.proofs.Law.{within_found}
 use Rattle.liquid_meaning.proofs.Rules.{comment_rule, break_rule, continue_rule, capture_rule, ifchanged_rule}
@@ -33,7 +38,7 @@ use Rattle.liquid_lib.specs.Kept.{Keeps}
 use Rattle.liquid_lib.specs.Partials.{partial_of, rendered_of}
 use Rattle.liquid_lib.specs.Performs.{Place, Meets, Performs, place_of, unit}
 use Rattle.liquid_lib.specs.Sinks.{sink_of}
-use Rattle.liquid_lib.proofs.Apart.{apart_met, apart_faulted, own_environment}
+use Rattle.liquid_lib.proofs.Apart.{apart_met, apart_faulted}
 use Rattle.liquid_lib.proofs.Cases.{the_case, case_performs, case_keeps, case_other}
 use Rattle.liquid_lib.proofs.Choices.{chosen_performs, refused_performs}
 use Rattle.liquid_lib.proofs.Going.{leaf_performs, leaf_keeps, leaf_other, one, one_performs, one_keeps, one_other, two, two_performs, two_keeps, two_other, going_fault, going_halt, going_node, going_on, going_end, going_past, kept_step, alone_step, node_before}
@@ -41,7 +46,8 @@ use Rattle.liquid_lib.proofs.Interrupts.{interrupt_of, some_of, none_of}
 use Rattle.liquid_lib.proofs.Joined.{by_rule, bind_met, bind_faulted, buffered_met, buffered_faulted, buffered_memory, change_met, done_met, gives_merged, memory_at}
 use Rattle.liquid_lib.proofs.Kept.{kept_same, kept_after, kept_assigned, kept_interrupt}
 use Rattle.liquid_lib.proofs.PartialRuns.{reserve, reserve_step, deeper_is, scope_deep, apart_deep, found_some, pairs_refused, not_found, entered, include_refused, include_named, jekyll_met, render_refused, render_faulted, render_met, within_all, kept_around, partial_met}
-use Rattle.liquid_lib.proofs.Renderings.{held_none}
+use Rattle.liquid_lib.proofs.ItemRuns.{items_left, item_on, item_breaks, item_faulted, items_end}
+use Rattle.liquid_lib.proofs.RenderEach.{item_run, items_run, name_refused, items_refused, items_met}
 use Rattle.liquid_lib.proofs.Sinks.{Around}
 use Rattle.liquid_lib.proofs.Whole.{stood_in}
 use Rattle.liquid_lib.proofs.engine.+run.Goals as goal
@@ -364,6 +370,17 @@ run_node-returns-in-Render-clause-performs g t c =
     leaf_performs (setting_of g.H.NamedFilters.named c.args.given.now) c.args.given.now.depth c.args.nodes.now c.args.at c.args.to c.index-nodes-at.result _ (tree.render (expression_view c.in-Render.name) None (bindings_view c.in-Render.bindings.items)) c.run_render.result (place c.args.out.now c.args.state.now) (place c.run_render.new.out c.args.state.now) c.requires c.index-nodes-at.is c.in-Render.is refl
     (subst (λ x. Performs c.run_render.result (node_meant (setting_of g.H.NamedFilters.named c.args.given.now) c.args.given.now.depth (tree.render (expression_view c.in-Render.name) None (bindings_view x))) (place c.args.out.now c.args.state.now) (place c.run_render.new.out c.args.state.now)) c.deref-in-Render.ensures.value c.run_render.ensures.performs)
 
+pub run_node-run_render_each-requires : goal.run_node-run_render_each-requires
+run_node-run_render_each-requires g t c κs within =
+    let before = node_before c.args.nodes.now c.args.at c.args.to c.requires in
+    (let lt : reserve c.args.given.now.depth c.args.given.now.partials.now + 3 < t = omega arith in lt, within)
+
+pub run_node-returns-in-RenderEach-clause-performs : goal.run_node-returns-in-RenderEach-clause-performs
+run_node-returns-in-RenderEach-clause-performs g t c =
+    let place = place_of g.W.CountedWrite.contents g.W.CountedWrite.failure_count in
+    leaf_performs (setting_of g.H.NamedFilters.named c.args.given.now) c.args.given.now.depth c.args.nodes.now c.args.at c.args.to c.index-nodes-at.result _ (tree.render (expression_view c.in-RenderEach.name) (Some (each_view c.in-RenderEach.each)) (bindings_view c.in-RenderEach.bindings.items)) c.run_render_each.result (place c.args.out.now c.args.state.now) (place c.run_render_each.new.out c.args.state.now) c.requires c.index-nodes-at.is c.in-RenderEach.is refl
+    (subst (λ x. Performs c.run_render_each.result (node_meant (setting_of g.H.NamedFilters.named c.args.given.now) c.args.given.now.depth (tree.render (expression_view c.in-RenderEach.name) (Some (each_view c.in-RenderEach.each)) (bindings_view x))) (place c.args.out.now c.args.state.now) (place c.run_render_each.new.out c.args.state.now)) c.deref-in-RenderEach.ensures.value c.run_render_each.ensures.performs)
+
 pub run_capture-overflow_add-at : goal.run_capture-overflow_add-at
 run_capture-overflow_add-at g t c =
     let body : IsRange c.args.nodes.now (c.args.at + 1) c.args.end = search rules in
@@ -568,23 +585,18 @@ run_render-returns-in_err-run_apart-clause-performs g t c =
     let place = place_of g.W.CountedWrite.contents g.W.CountedWrite.failure_count in
     let p = err_from_is_err_and c.from_residual-in_err-run_apart.result c.from_residual-in_err-run_apart.ensures.1 in
     rw (p.1, p.2) (render_faulted (setting_of g.H.NamedFilters.named c.args.given.now) (deeper_meaning (setting_of g.H.NamedFilters.named c.args.given.now) c.args.given.now.depth) (expression_view c.args.name.now) (bindings_view c.args.bindings.now) c.in_err-run_apart.field-0.0 (string_bytes c.in_ok-called.called) (place c.args.out.now c.args.state.now) (place c.run_apart.new.out c.args.state.now) c.in_ok-called.ensures
-    (entered (λ (i : Option Interrupt). i) pairs_scope (bindings_view c.args.bindings.now) (rendered_of (partials_of c.args.given.now.partials.now) (string_bytes c.in_ok-called.called)) (λ scope partial. apart scope (deeper_meaning (setting_of g.H.NamedFilters.named c.args.given.now) c.args.given.now.depth partial)) (Err c.in_err-run_apart.field-0.0) (held c.in_ok-scope.scope) (tree_of c.in_ok-partial.partial.now) (place c.args.out.now c.args.state.now) (place c.run_apart.new.out c.args.state.now) c.in_ok-scope.ensures (subst (λ x. rendered_of (partials_of c.args.given.now.partials.now) x ≡ Ok (tree_of c.in_ok-partial.partial.now)) c.as_str.ensures.value c.in_ok-partial.ensures.found) (c.in_err-run_apart.ensures.performs (environment_of c.args.state.now))))
+    (entered (λ (i : Option Interrupt). i) pairs_scope (bindings_view c.args.bindings.now) (rendered_of (partials_of c.args.given.now.partials.now) (string_bytes c.in_ok-called.called)) (λ scope partial. apart scope (deeper_meaning (setting_of g.H.NamedFilters.named c.args.given.now) c.args.given.now.depth partial)) (Err c.in_err-run_apart.field-0.0) (held c.in_ok-scope.scope) (tree_of c.in_ok-partial.partial.now) (place c.args.out.now c.args.state.now) (place c.run_apart.new.out c.args.state.now) c.in_ok-scope.ensures (subst (λ x. rendered_of (partials_of c.args.given.now.partials.now) x ≡ Ok (tree_of c.in_ok-partial.partial.now)) c.as_str.ensures.value c.in_ok-partial.ensures.found) (c.in_err-run_apart.ensures.performs (held c.in_ok-scope.scope) (environment_of c.args.state.now) c.in_ok-own.ensures)))
 
 pub run_render-returns-clause-performs : goal.run_render-returns-clause-performs
 run_render-returns-clause-performs g t c =
     let place = place_of g.W.CountedWrite.contents g.W.CountedWrite.failure_count in
     render_met (setting_of g.H.NamedFilters.named c.args.given.now) (deeper_meaning (setting_of g.H.NamedFilters.named c.args.given.now) c.args.given.now.depth) (expression_view c.args.name.now) (bindings_view c.args.bindings.now) tt c.in_ok-run_apart.field-0 (string_bytes c.in_ok-called.called) (place c.args.out.now c.args.state.now) (place c.run_apart.new.out c.args.state.now) c.in_ok-called.ensures
-    (entered (λ (i : Option Interrupt). i) pairs_scope (bindings_view c.args.bindings.now) (rendered_of (partials_of c.args.given.now.partials.now) (string_bytes c.in_ok-called.called)) (λ scope partial. apart scope (deeper_meaning (setting_of g.H.NamedFilters.named c.args.given.now) c.args.given.now.depth partial)) (Ok c.in_ok-run_apart.field-0) (held c.in_ok-scope.scope) (tree_of c.in_ok-partial.partial.now) (place c.args.out.now c.args.state.now) (place c.run_apart.new.out c.args.state.now) c.in_ok-scope.ensures (subst (λ x. rendered_of (partials_of c.args.given.now.partials.now) x ≡ Ok (tree_of c.in_ok-partial.partial.now)) c.as_str.ensures.value c.in_ok-partial.ensures.found) (c.in_ok-run_apart.ensures.performs (environment_of c.args.state.now)))
+    (entered (λ (i : Option Interrupt). i) pairs_scope (bindings_view c.args.bindings.now) (rendered_of (partials_of c.args.given.now.partials.now) (string_bytes c.in_ok-called.called)) (λ scope partial. apart scope (deeper_meaning (setting_of g.H.NamedFilters.named c.args.given.now) c.args.given.now.depth partial)) (Ok c.in_ok-run_apart.field-0) (held c.in_ok-scope.scope) (tree_of c.in_ok-partial.partial.now) (place c.args.out.now c.args.state.now) (place c.run_apart.new.out c.args.state.now) c.in_ok-scope.ensures (subst (λ x. rendered_of (partials_of c.args.given.now.partials.now) x ≡ Ok (tree_of c.in_ok-partial.partial.now)) c.as_str.ensures.value c.in_ok-partial.ensures.found) (c.in_ok-run_apart.ensures.performs (held c.in_ok-scope.scope) (environment_of c.args.state.now) c.in_ok-own.ensures))
 
 pub run_apart-returns-then-given-eq0-clause-performs : goal.run_apart-returns-then-given-eq0-clause-performs
-run_apart-returns-then-given-eq0-clause-performs g t c e =
+run_apart-returns-then-given-eq0-clause-performs g t c names e is =
     let sink = sink_of g.W.CountedWrite.contents g.W.CountedWrite.failure_count in
-    apart_deep (setting_of g.H.NamedFilters.named c.args.given.now) c.args.given.now.depth (tree_of c.args.partial.now) (held c.args.names) c.too_deep.result (sink c.args.out.now) e c.if-given-eq0.true c.too_deep.ensures
-
-pub run_apart-returns-in_err-push_scope-clause-performs : goal.run_apart-returns-in_err-push_scope-clause-performs
-run_apart-returns-in_err-push_scope-clause-performs g t c e =
-    let p = err_from_is_err_and c.from_residual.result c.from_residual.ensures.1 in
-    rw (p.1, p.2) (memory_at _ c.in_err-push_scope.ensures.pushed)
+    apart_deep (setting_of g.H.NamedFilters.named c.args.given.now) c.args.given.now.depth (tree_of c.args.partial.now) names c.too_deep.result (sink c.args.out.now) e c.if-given-eq0.true c.too_deep.ensures
 
 pub run_apart-run_range-requires : goal.run_apart-run_range-requires
 run_apart-run_range-requires g t c κs within =
@@ -594,29 +606,133 @@ run_apart-run_range-requires g t c κs within =
 
 pub run_apart-returns-in_err-run_range-clause-performs : goal.run_apart-returns-in_err-run_range-clause-performs
 unfolding tree_of
-run_apart-returns-in_err-run_range-clause-performs g t c e =
+run_apart-returns-in_err-run_range-clause-performs g t c names e is =
     let sink = sink_of g.W.CountedWrite.contents g.W.CountedWrite.failure_count in
-    let own : environment_of c.push_scope.new.self ≡ new_environment (held c.args.names) =
-    own_environment (held c.args.names) (held c.new.result) (layers_of c.push_scope.new.self) (c.in_ok-push_scope.ensures.pushed ∙ ap (with_scope_pushed (held c.args.names)) c.new-own.ensures.layers) (held_none c.new.result c.new.ensures.empty) in
     let after : Place = record { sink = sink c.run_range.new.out; environment = environment_of c.run_range.new.state } in
-    let inside : Performs (Err c.in_err-run_range.field-0.0) (deeper_meaning (setting_of g.H.NamedFilters.named c.args.given.now) c.args.given.now.depth (tree_of c.args.partial.now)) (record { sink = sink c.args.out.now; environment = new_environment (held c.args.names) }) after =
-    subst (λ m. Performs (Err c.in_err-run_range.field-0.0) m (record { sink = sink c.args.out.now; environment = new_environment (held c.args.names) }) after) (sym (deeper_is (setting_of g.H.NamedFilters.named c.args.given.now) c.args.given.now.depth (tree_of c.args.partial.now) c.if-given-eq0.false))
-    (subst (λ h. Performs (Err c.in_err-run_range.field-0.0) (nodes_meant (setting_of g.H.NamedFilters.named c.args.given.now) (c.args.given.now.depth - 1) (tree_of c.args.partial.now)) (record { sink = sink c.args.out.now; environment = h }) after) own (c.in_err-run_range.ensures.performs (forest_of c.args.partial.now) (stood_in c.args.partial.now c.nodes-nodes.result.now c.nodes-nodes.ensures))) in
-    let p = err_from_is_err_and c.from_residual-in_err-run_range.result c.from_residual-in_err-run_range.ensures.1 in
-    rw (p.1, p.2) (apart_faulted unit (λ (i : Option Interrupt). i) c.in_err-run_range.field-0.0 (held c.args.names) (deeper_meaning (setting_of g.H.NamedFilters.named c.args.given.now) c.args.given.now.depth (tree_of c.args.partial.now)) (sink c.args.out.now) (sink c.run_range.new.out) e (environment_of c.run_range.new.state) inside)
+    let inside : Performs (Err c.in_err-run_range.field-0.0) (deeper_meaning (setting_of g.H.NamedFilters.named c.args.given.now) c.args.given.now.depth (tree_of c.args.partial.now)) (record { sink = sink c.args.out.now; environment = new_environment names }) after =
+    subst (λ m. Performs (Err c.in_err-run_range.field-0.0) m (record { sink = sink c.args.out.now; environment = new_environment names }) after) (sym (deeper_is (setting_of g.H.NamedFilters.named c.args.given.now) c.args.given.now.depth (tree_of c.args.partial.now) c.if-given-eq0.false))
+    (subst (λ h. Performs (Err c.in_err-run_range.field-0.0) (nodes_meant (setting_of g.H.NamedFilters.named c.args.given.now) (c.args.given.now.depth - 1) (tree_of c.args.partial.now)) (record { sink = sink c.args.out.now; environment = h }) after) is (c.in_err-run_range.ensures.performs (forest_of c.args.partial.now) (stood_in c.args.partial.now c.nodes-nodes.result.now c.nodes-nodes.ensures))) in
+    let p = err_from_is_err_and c.from_residual.result c.from_residual.ensures.1 in
+    rw (p.1, p.2) (apart_faulted unit (λ (i : Option Interrupt). i) c.in_err-run_range.field-0.0 names (deeper_meaning (setting_of g.H.NamedFilters.named c.args.given.now) c.args.given.now.depth (tree_of c.args.partial.now)) (sink c.args.out.now) (sink c.run_range.new.out) e (environment_of c.run_range.new.state) inside)
 
 pub run_apart-returns-clause-performs : goal.run_apart-returns-clause-performs
 unfolding tree_of
-run_apart-returns-clause-performs g t c e =
+run_apart-returns-clause-performs g t c names e is =
     let sink = sink_of g.W.CountedWrite.contents g.W.CountedWrite.failure_count in
-    let own : environment_of c.push_scope.new.self ≡ new_environment (held c.args.names) =
-    own_environment (held c.args.names) (held c.new.result) (layers_of c.push_scope.new.self) (c.in_ok-push_scope.ensures.pushed ∙ ap (with_scope_pushed (held c.args.names)) c.new-own.ensures.layers) (held_none c.new.result c.new.ensures.empty) in
     let after : Place = record { sink = sink c.run_range.new.out; environment = environment_of c.run_range.new.state } in
-    let inside : Performs (Ok c.in_ok-run_range.field-0) (deeper_meaning (setting_of g.H.NamedFilters.named c.args.given.now) c.args.given.now.depth (tree_of c.args.partial.now)) (record { sink = sink c.args.out.now; environment = new_environment (held c.args.names) }) after =
-    subst (λ m. Performs (Ok c.in_ok-run_range.field-0) m (record { sink = sink c.args.out.now; environment = new_environment (held c.args.names) }) after) (sym (deeper_is (setting_of g.H.NamedFilters.named c.args.given.now) c.args.given.now.depth (tree_of c.args.partial.now) c.if-given-eq0.false))
-    (subst (λ h. Performs (Ok c.in_ok-run_range.field-0) (nodes_meant (setting_of g.H.NamedFilters.named c.args.given.now) (c.args.given.now.depth - 1) (tree_of c.args.partial.now)) (record { sink = sink c.args.out.now; environment = h }) after) own (c.in_ok-run_range.ensures.performs (forest_of c.args.partial.now) (stood_in c.args.partial.now c.nodes-nodes.result.now c.nodes-nodes.ensures))) in
-    subst (λ i. Meets (λ (i : Option Interrupt). i) (Ok i) (apart (held c.args.names) (deeper_meaning (setting_of g.H.NamedFilters.named c.args.given.now) c.args.given.now.depth (tree_of c.args.partial.now))) (record { sink = sink c.args.out.now; environment = e }) (record { sink = sink c.run_range.new.out; environment = e })) (interrupt_of c.run_range.new.state _ refl)
-    (apart_met unit c.in_ok-run_range.field-0 (held c.args.names) (deeper_meaning (setting_of g.H.NamedFilters.named c.args.given.now) c.args.given.now.depth (tree_of c.args.partial.now)) (sink c.args.out.now) (sink c.run_range.new.out) e (environment_of c.run_range.new.state) inside)
+    let inside : Performs (Ok c.in_ok-run_range.field-0) (deeper_meaning (setting_of g.H.NamedFilters.named c.args.given.now) c.args.given.now.depth (tree_of c.args.partial.now)) (record { sink = sink c.args.out.now; environment = new_environment names }) after =
+    subst (λ m. Performs (Ok c.in_ok-run_range.field-0) m (record { sink = sink c.args.out.now; environment = new_environment names }) after) (sym (deeper_is (setting_of g.H.NamedFilters.named c.args.given.now) c.args.given.now.depth (tree_of c.args.partial.now) c.if-given-eq0.false))
+    (subst (λ h. Performs (Ok c.in_ok-run_range.field-0) (nodes_meant (setting_of g.H.NamedFilters.named c.args.given.now) (c.args.given.now.depth - 1) (tree_of c.args.partial.now)) (record { sink = sink c.args.out.now; environment = h }) after) is (c.in_ok-run_range.ensures.performs (forest_of c.args.partial.now) (stood_in c.args.partial.now c.nodes-nodes.result.now c.nodes-nodes.ensures))) in
+    subst (λ i. Meets (λ (i : Option Interrupt). i) (Ok i) (apart names (deeper_meaning (setting_of g.H.NamedFilters.named c.args.given.now) c.args.given.now.depth (tree_of c.args.partial.now))) (record { sink = sink c.args.out.now; environment = e }) (record { sink = sink c.run_range.new.out; environment = e })) (interrupt_of c.run_range.new.state _ refl)
+    (apart_met unit c.in_ok-run_range.field-0 names (deeper_meaning (setting_of g.H.NamedFilters.named c.args.given.now) c.args.given.now.depth (tree_of c.args.partial.now)) (sink c.args.out.now) (sink c.run_range.new.out) e (environment_of c.run_range.new.state) inside)
+
+pub render_each::run_item-returns-in_err-names-clause-performs : goal.render_each::run_item-returns-in_err-names-clause-performs
+render_each::run_item-returns-in_err-names-clause-performs g t c over is =
+    let place = place_of g.W.CountedWrite.contents g.W.CountedWrite.failure_count in
+    let p = err_from_is_err_and c.from_residual.result c.from_residual.ensures.1 in
+    rw (p.1, p.2) (pairs_refused (λ (i : Option Interrupt). i) pairs_scope (bindings_view c.args.bindings.now) (rendered_of (partials_of c.args.given.now.partials.now) c.args.name.now) (λ scope partial. apart (merged over scope) (deeper_meaning (setting_of g.H.NamedFilters.named c.args.given.now) c.args.given.now.depth partial)) c.in_err-names.field-0.0 (place c.args.out.now c.args.state.now) c.in_err-names.ensures)
+
+pub render_each::run_item-returns-in_err-partial-clause-performs : goal.render_each::run_item-returns-in_err-partial-clause-performs
+render_each::run_item-returns-in_err-partial-clause-performs g t c over is =
+    let place = place_of g.W.CountedWrite.contents g.W.CountedWrite.failure_count in
+    let p = err_from_is_err_and c.from_residual-in_err-partial.result c.from_residual-in_err-partial.ensures.1 in
+    rw (p.1, p.2) (not_found (λ (i : Option Interrupt). i) pairs_scope (bindings_view c.args.bindings.now) (rendered_of (partials_of c.args.given.now.partials.now) c.args.name.now) (λ scope partial. apart (merged over scope) (deeper_meaning (setting_of g.H.NamedFilters.named c.args.given.now) c.args.given.now.depth partial)) c.in_err-partial.field-0.0 (held c.in_ok-names.names) (place c.args.out.now c.args.state.now) c.in_ok-names.ensures c.in_err-partial.ensures.found)
+
+pub render_each::run_item-returns-clause-performs : goal.render_each::run_item-returns-clause-performs
+render_each::run_item-returns-clause-performs g t c over is =
+    let place = place_of g.W.CountedWrite.contents g.W.CountedWrite.failure_count in
+    entered (λ (i : Option Interrupt). i) pairs_scope (bindings_view c.args.bindings.now) (rendered_of (partials_of c.args.given.now.partials.now) c.args.name.now) (λ scope partial. apart (merged over scope) (deeper_meaning (setting_of g.H.NamedFilters.named c.args.given.now) c.args.given.now.depth partial)) c.run_apart.result (held c.in_ok-names.names) (tree_of c.in_ok-partial.partial.now) (place c.args.out.now c.args.state.now) (place c.run_apart.new.out c.args.state.now) c.in_ok-names.ensures c.in_ok-partial.ensures.found (c.run_apart.ensures.performs (merged over (held c.in_ok-names.names)) (environment_of c.args.state.now) (c.in_ok-own.ensures over is))
+
+pub render_each::run_render_each-returns-in_err-called-clause-performs : goal.render_each::run_render_each-returns-in_err-called-clause-performs
+render_each::run_render_each-returns-in_err-called-clause-performs g t c =
+    let place = place_of g.W.CountedWrite.contents g.W.CountedWrite.failure_count in
+    let p = err_from_is_err_and c.from_residual.result c.from_residual.ensures.1 in
+    rw (p.1, p.2) (name_refused (setting_of g.H.NamedFilters.named c.args.given.now) (deeper_meaning (setting_of g.H.NamedFilters.named c.args.given.now) c.args.given.now.depth) (expression_view c.args.name.now) (each_view c.args.each.now) (bindings_view c.args.bindings.now) c.in_err-called.field-0.0 (place c.args.out.now c.args.state.now) c.in_err-called.ensures)
+
+pub render_each::run_render_each-returns-in_err-source-clause-performs : goal.render_each::run_render_each-returns-in_err-source-clause-performs
+render_each::run_render_each-returns-in_err-source-clause-performs g t c =
+    let place = place_of g.W.CountedWrite.contents g.W.CountedWrite.failure_count in
+    let p = err_from_is_err_and c.from_residual-in_err-source.result c.from_residual-in_err-source.ensures.1 in
+    rw (p.1, p.2) (items_refused (setting_of g.H.NamedFilters.named c.args.given.now) (deeper_meaning (setting_of g.H.NamedFilters.named c.args.given.now) c.args.given.now.depth) (expression_view c.args.name.now) (each_view c.args.each.now) (bindings_view c.args.bindings.now) c.in_err-source.field-0.0 (string_bytes c.in_ok-called.called) (place c.args.out.now c.args.state.now) c.in_ok-called.ensures c.in_err-source.ensures.items)
+
+pub render_each::run_item-returns-in_err-own-clause-performs : goal.render_each::run_item-returns-in_err-own-clause-performs
+render_each::run_item-returns-in_err-own-clause-performs g t c over is =
+    let p = err_from_is_err_and c.from_residual-in_err-own.result c.from_residual-in_err-own.ensures.1 in
+    rw (p.1, p.2) (memory_at _ (c.in_err-own.ensures over is))
+
+pub render_each::run_render_each-returns-in_err-left-clause-performs : goal.render_each::run_render_each-returns-in_err-left-clause-performs
+render_each::run_render_each-returns-in_err-left-clause-performs g t c =
+    let place = place_of g.W.CountedWrite.contents g.W.CountedWrite.failure_count in
+    let name = string_bytes c.in_ok-called.called in
+    let source = c.in_ok-source.source in
+    let ds = all_items source.items in
+    let run = item_run (setting_of g.H.NamedFilters.named c.args.given.now) (deeper_meaning (setting_of g.H.NamedFilters.named c.args.given.now) c.args.given.now.depth) (expression_view c.args.name.now) (each_view c.args.each.now) (bindings_view c.args.bindings.now) name in
+    let count : source.count ≡ length ds = c.in_ok-source.ensures.count in
+    let lt : c.loop-at.at < length ds = subst (λ m. c.loop-at.at < m) count c.loop-at-test.true in
+    let over : Datum → Map Datum = λ d. loop_scope (codes "forloop") (forloop_object c.loop-at.at source.count nil) (string_bytes c.args.each.now.variable) d in
+    let is : (local : Map Datum) → turn_map c.turn_at-turn.result local ≡ over (get_or ds c.loop-at.at nil) = λ local. c.turn_at-turn.ensures local ∙ ap over (item_by_place source.items c.loop-at.at) in
+    let start = place c.args.out.now c.args.state.now in
+    let here = place c.loop-at.out c.args.state.now in
+    let there = place c.run_item.new.out c.args.state.now in
+    let p = err_from_is_err_and c.from_residual-in_err-left.result c.from_residual-in_err-left.ensures.1 in
+    rw (p.1, p.2) (items_met (setting_of g.H.NamedFilters.named c.args.given.now) (deeper_meaning (setting_of g.H.NamedFilters.named c.args.given.now) c.args.given.now.depth) (expression_view c.args.name.now) (each_view c.args.each.now) (bindings_view c.args.bindings.now) (Err c.in_err-left.field-0.0) name ds start there c.in_ok-called.ensures c.in_ok-source.ensures.items
+    (subst (λ m. Performs (Err c.in_err-left.field-0.0) (items_left (run m) ds 0) start there) count
+    (item_faulted (run source.count) ds c.loop-at.at c.in_err-left.field-0.0 start here there lt
+    (subst (λ x. Meets (λ (i : Option Interrupt). i) (Err c.in_err-left.field-0.0) (render_apart (setting_of g.H.NamedFilters.named c.args.given.now) (deeper_meaning (setting_of g.H.NamedFilters.named c.args.given.now) c.args.given.now.depth) x (bindings_view c.args.bindings.now) (over (get_or ds c.loop-at.at nil))) here there) c.as_str.ensures.value (c.in_err-left.ensures.performs (over (get_or ds c.loop-at.at nil)) is)) c.loop-at.invariant.leads)))
+
+pub render_each::run_render_each-returns-then-ends_items-clause-performs : goal.render_each::run_render_each-returns-then-ends_items-clause-performs
+render_each::run_render_each-returns-then-ends_items-clause-performs g t c =
+    let place = place_of g.W.CountedWrite.contents g.W.CountedWrite.failure_count in
+    let name = string_bytes c.in_ok-called.called in
+    let source = c.in_ok-source.source in
+    let ds = all_items source.items in
+    let run = item_run (setting_of g.H.NamedFilters.named c.args.given.now) (deeper_meaning (setting_of g.H.NamedFilters.named c.args.given.now) c.args.given.now.depth) (expression_view c.args.name.now) (each_view c.args.each.now) (bindings_view c.args.bindings.now) name in
+    let count : source.count ≡ length ds = c.in_ok-source.ensures.count in
+    let lt : c.loop-at.at < length ds = subst (λ m. c.loop-at.at < m) count c.loop-at-test.true in
+    let over : Datum → Map Datum = λ d. loop_scope (codes "forloop") (forloop_object c.loop-at.at source.count nil) (string_bytes c.args.each.now.variable) d in
+    let is : (local : Map Datum) → turn_map c.turn_at-turn.result local ≡ over (get_or ds c.loop-at.at nil) = λ local. c.turn_at-turn.ensures local ∙ ap over (item_by_place source.items c.loop-at.at) in
+    let start = place c.args.out.now c.args.state.now in
+    let here = place c.loop-at.out c.args.state.now in
+    let there = place c.run_item.new.out c.args.state.now in
+    items_met (setting_of g.H.NamedFilters.named c.args.given.now) (deeper_meaning (setting_of g.H.NamedFilters.named c.args.given.now) c.args.given.now.depth) (expression_view c.args.name.now) (each_view c.args.each.now) (bindings_view c.args.bindings.now) (Ok tt) name ds start there c.in_ok-called.ensures c.in_ok-source.ensures.items
+    (subst (λ m. Performs (Ok tt) (items_left (run m) ds 0) start there) count
+    (item_breaks (run source.count) ds c.loop-at.at c.in_ok-left.left tt start here there lt (sym c.ends_items.ensures ∙ c.if-ends_items.true)
+    (subst (λ x. Meets (λ (i : Option Interrupt). i) (Ok c.in_ok-left.left) (render_apart (setting_of g.H.NamedFilters.named c.args.given.now) (deeper_meaning (setting_of g.H.NamedFilters.named c.args.given.now) c.args.given.now.depth) x (bindings_view c.args.bindings.now) (over (get_or ds c.loop-at.at nil))) here there) c.as_str.ensures.value (c.in_ok-left.ensures.performs (over (get_or ds c.loop-at.at nil)) is)) c.loop-at.invariant.leads))
+
+pub render_each::run_render_each-loop-at-preserved : goal.render_each::run_render_each-loop-at-preserved
+render_each::run_render_each-loop-at-preserved g t c =
+    let place = place_of g.W.CountedWrite.contents g.W.CountedWrite.failure_count in
+    let name = string_bytes c.in_ok-called.called in
+    let source = c.in_ok-source.source in
+    let ds = all_items source.items in
+    let run = item_run (setting_of g.H.NamedFilters.named c.args.given.now) (deeper_meaning (setting_of g.H.NamedFilters.named c.args.given.now) c.args.given.now.depth) (expression_view c.args.name.now) (each_view c.args.each.now) (bindings_view c.args.bindings.now) name in
+    let count : source.count ≡ length ds = c.in_ok-source.ensures.count in
+    let lt : c.loop-at.at < length ds = subst (λ m. c.loop-at.at < m) count c.loop-at-test.true in
+    let over : Datum → Map Datum = λ d. loop_scope (codes "forloop") (forloop_object c.loop-at.at source.count nil) (string_bytes c.args.each.now.variable) d in
+    let is : (local : Map Datum) → turn_map c.turn_at-turn.result local ≡ over (get_or ds c.loop-at.at nil) = λ local. c.turn_at-turn.ensures local ∙ ap over (item_by_place source.items c.loop-at.at) in
+    let start = place c.args.out.now c.args.state.now in
+    let here = place c.loop-at.out c.args.state.now in
+    let there = place c.run_item.new.out c.args.state.now in
+    record {
+      ordered = (let le : c.loop-at.at + 1 ≤ source.count = omega (arith, c.loop-at-test.true) in le);
+      leads = item_on (run source.count) ds c.loop-at.at c.in_ok-left.left start here there lt (sym c.ends_items.ensures ∙ c.if-ends_items.false)
+          (subst (λ x. Meets (λ (i : Option Interrupt). i) (Ok c.in_ok-left.left) (render_apart (setting_of g.H.NamedFilters.named c.args.given.now) (deeper_meaning (setting_of g.H.NamedFilters.named c.args.given.now) c.args.given.now.depth) x (bindings_view c.args.bindings.now) (over (get_or ds c.loop-at.at nil))) here there) c.as_str.ensures.value (c.in_ok-left.ensures.performs (over (get_or ds c.loop-at.at nil)) is)) c.loop-at.invariant.leads;
+      same_writer = c.run_item.ensures.same_writer ∙ c.loop-at.invariant.same_writer;
+    }
+
+pub render_each::run_render_each-returns-clause-performs : goal.render_each::run_render_each-returns-clause-performs
+render_each::run_render_each-returns-clause-performs g t c =
+    let place = place_of g.W.CountedWrite.contents g.W.CountedWrite.failure_count in
+    let name = string_bytes c.in_ok-called.called in
+    let source = c.in_ok-source.source in
+    let ds = all_items source.items in
+    let run = item_run (setting_of g.H.NamedFilters.named c.args.given.now) (deeper_meaning (setting_of g.H.NamedFilters.named c.args.given.now) c.args.given.now.depth) (expression_view c.args.name.now) (each_view c.args.each.now) (bindings_view c.args.bindings.now) name in
+    let count : source.count ≡ length ds = c.in_ok-source.ensures.count in
+    let start = place c.args.out.now c.args.state.now in
+    let here = place c.loop-at.out c.args.state.now in
+    let le : length ds ≤ c.loop-at.at = subst (λ m. m ≤ c.loop-at.at) count c.loop-at-test.false in
+    items_met (setting_of g.H.NamedFilters.named c.args.given.now) (deeper_meaning (setting_of g.H.NamedFilters.named c.args.given.now) c.args.given.now.depth) (expression_view c.args.name.now) (each_view c.args.each.now) (bindings_view c.args.bindings.now) (Ok tt) name ds start here c.in_ok-called.ensures c.in_ok-source.ensures.items
+    (subst (λ m. Performs (Ok tt) (items_left (run m) ds 0) start here) count (items_end (run source.count) ds c.loop-at.at tt start here le c.loop-at.invariant.leads))
 
 pub run_node-returns-in-Increment-clause-performs : goal.run_node-returns-in-Increment-clause-performs
 run_node-returns-in-Increment-clause-performs g t c =

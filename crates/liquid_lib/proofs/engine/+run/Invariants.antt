@@ -8,6 +8,13 @@ use Rattle.liquid_lib.specs.Performs.{place_of}
 use Rattle.liquid_core.specs.States.{layers_of, loops_of}
 use Rattle.liquid_lib.proofs.Going.{Going}
 use Rattle.liquid_lib.proofs.PartialRuns.{reserve}
+use Rattle.std.specs.Prelude.{string_bytes}
+use Rattle.liquid_core.specs.ExpressionView.{expression_view}
+use Rattle.liquid_syntax.specs.Flats.{bindings_view, each_view}
+use Rattle.liquid_tree.specs.ItemLists.{all_items}
+use Rattle.liquid_meaning.specs.Meaning.{deeper_meaning}
+use Rattle.liquid_lib.proofs.ItemRuns.{Leads, items_left}
+use Rattle.liquid_lib.proofs.RenderEach.{item_run}
 use Rattle.liquid_lib.proofs.engine.+run.Given as goal
 
 abbrev pub decreases-run_range : goal.decreases-run_range
@@ -43,6 +50,12 @@ decreases-run_partial g l = reserve l.given.now.depth l.given.now.partials.now +
 abbrev pub decreases-run_render : goal.decreases-run_render
 decreases-run_render g l = reserve l.given.now.depth l.given.now.partials.now + 2
 
+abbrev pub decreases-render_each::run_render_each : goal.decreases-render_each::run_render_each
+decreases-render_each::run_render_each g l = reserve l.given.now.depth l.given.now.partials.now + 3
+
+abbrev pub decreases-render_each::run_item : goal.decreases-render_each::run_item
+decreases-render_each::run_item g l = reserve l.given.now.depth l.given.now.partials.now + 2
+
 abbrev pub decreases-run_apart : goal.decreases-run_apart
 decreases-run_apart g l = reserve l.given.now.depth l.given.now.partials.now + 1
 
@@ -60,3 +73,17 @@ invariant-run_range-loop-at g l =
 
 abbrev pub decreases-run_range-loop-at : goal.decreases-run_range-loop-at
 decreases-run_range-loop-at g l = l.to - l.at
+
+abbrev pub invariant-render_each::run_render_each-loop-at : goal.invariant-render_each::run_render_each-loop-at
+invariant-render_each::run_render_each-loop-at g l =
+    let place = place_of g.W.CountedWrite.contents g.W.CountedWrite.failure_count in
+    let setting = setting_of g.H.NamedFilters.named l.given in
+    let one = item_run setting (deeper_meaning setting l.given.depth) (expression_view l.name) (each_view l.each) (bindings_view l.bindings) (string_bytes l.called) l.source.count in
+    record {
+      ordered : l.at ≤ l.source.count;
+      leads : Leads (items_left one (all_items l.source.items) 0) (items_left one (all_items l.source.items) l.at) (place l.initial.out l.state) (place l.out l.state);
+      same_writer : l.out.writer.ghost_name ≡ l.initial.out.writer.ghost_name;
+    }
+
+abbrev pub decreases-render_each::run_render_each-loop-at : goal.decreases-render_each::run_render_each-loop-at
+decreases-render_each::run_render_each-loop-at g l = l.source.count - l.at

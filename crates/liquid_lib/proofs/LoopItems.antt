@@ -1,0 +1,181 @@
+-- The items of a loop before its first turn.
+use Rattle.std.proofs.Common.{◌≡◌, ℕ, zero, suc, ◌+◌, ◌-◌, ◌<◌, Bool, false, List, [], ◌∷◌, length, get_or, slice_get, Option, Some, None, Result, Ok, refl, sym, ap, subst, ◌∙◌, arith, codes}
+use Rattle.std.specs.Prelude.{ℤ}
+use Rattle.std.specs.Option.{unwrap_or}
+use mathlib.Core.Path.{fun_ext}
+use Rattle.liquid_model.specs.Answer.{Faulted}
+use Rattle.liquid_model.specs.Data.{Datum, nil}
+use Rattle.liquid_model.specs.Fallible.{◌>>=◌}
+use Rattle.liquid_model.specs.Texts.{◌else◌}
+use Rattle.liquid_model.specs.declared.error.ErrorKind.{ErrorKind}
+use Rattle.liquid_core.specs.Environment.{Environment, lookup}
+use Rattle.liquid_core.specs.Expression.{Expression}
+use Rattle.liquid_core.specs.Places.{place_of}
+use Rattle.liquid_core.specs.Turns.{item_of, parent_of}
+use Rattle.liquid_core.specs.declared.turn.Items.{Items}
+use Rattle.liquid_tree.specs.Evaluation.{amount, asked_for, skipped, source_items, wanted, window_items}
+use Rattle.liquid_tree.specs.ItemLists.{all_items}
+use Rattle.liquid_tree.specs.Tree.{Source, Window}
+use Rattle.liquid_tree.proofs.Calls.{faulted_as, faulted_then}
+use Rattle.liquid_tree.proofs.ItemPlaces.{item_by_place}
+use Rattle.liquid_tree.proofs.Windows.{window_by_place}
+use Rattle.liquid_lib.specs.LoopTurns.{cells_asked, each_from, in_columns, items_asked, placed, some_columns}
+use Rattle.liquid_meaning.specs.Effects.{value_or_nil}
+use Rattle.liquid_meaning.specs.Loops.{columns_of}
+
+-- ---- lists by place
+
+from_some : (x y : Datum) → Some x ≡ Some y → x ≡ y
+from_some x y h = cc
+
+pub listed_from : (xs : List Datum) (item : ℕ → Datum) (k : ℕ) → ((i : ℕ) → i < length xs → slice_get xs i ≡ Some (item (k + i))) → xs ≡ each_from item k (length xs)
+listed_from [] item k h = refl
+listed_from (x ∷ xs) item k h =
+    let head : x ≡ item k = from_some x (item k) (h 0 (omega arith) ∙ ap (λ n. Some (item n)) (let e : k + 0 ≡ k = omega arith in e)) in
+    let tail : xs ≡ each_from item (suc k) (length xs) = listed_from xs item (suc k) (λ i lt. h (suc i) (omega arith) ∙ ap (λ n. Some (item n)) (let e : k + suc i ≡ suc k + i = omega arith in e)) in
+    λ i. head i ∷ tail i
+
+pub window_placed : (ds : List Datum) (limit offset : Option ℤ) (reversed : Bool)
+    → window_items ds limit offset reversed ≡ placed ds (skipped (length ds) offset) (wanted (length ds) (skipped (length ds) offset) limit) reversed
+window_placed ds limit offset reversed =
+    let a = window_by_place ds limit offset reversed in
+    let item : ℕ → Datum = λ k. get_or ds (place_of reversed (skipped (length ds) offset) (wanted (length ds) (skipped (length ds) offset) limit) k) nil in
+    listed_from (window_items ds limit offset reversed) item 0 (λ i lt. a.each i (subst (λ n. i < n) a.count lt) ∙ ap (λ n. Some (item n)) (let e : i ≡ 0 + i = omega arith in e))
+    ∙ ap (each_from item 0) a.count
+
+pub each_count : (item : ℕ → Datum) (k m : ℕ) → length (each_from item k m) ≡ m
+each_count item k zero = refl
+each_count item k (suc m) = ap suc (each_count item (suc k) m)
+
+pub each_more : (item : ℕ → Datum) (k m : ℕ) → k < m → each_from item k (m - k) ≡ item k ∷ each_from item (k + 1) (m - (k + 1))
+each_more item k m lt =
+    let n = m - (k + 1) in
+    let is : m - k ≡ suc n = omega arith in
+    ap (each_from item k) is ∙ ap (λ j. item k ∷ each_from item j n) (let e : suc k ≡ k + 1 = omega arith in e)
+
+pub each_none : (item : ℕ → Datum) (k m : ℕ) → k ≡ m → each_from item k (m - k) ≡ []
+each_none item k m is = ap (each_from item k) (let e : m - k ≡ 0 = omega (arith, is) in e)
+
+-- ---- windows
+
+-- what an evaluated window asks for
+pub asked_placed : (window : Window) (ds : List Datum) (e : Environment) (limit offset : Option ℤ) (n o m : ℕ) → length ds ≡ n → amount window.limit e ≡ Ok limit → amount window.offset e ≡ Ok offset
+    → o ≡ skipped n offset → m ≡ wanted n (skipped n offset) limit → asked_for window ds e ≡ Ok (placed ds o m window.reversed)
+unfolding asked_for
+asked_placed window ds e limit offset n o m long l f is many =
+    ap (λ r. r >>= (λ limit. amount window.offset e >>= (λ offset. Ok (window_items ds limit offset window.reversed)))) l
+    ∙ ap (λ r. r >>= (λ offset. Ok (window_items ds limit offset window.reversed))) f
+    ∙ ap (λ x. Ok x) (window_placed ds limit offset window.reversed)
+    ∙ (λ i. Ok (placed ds (first i) (many_at i) window.reversed))
+  where
+    first : skipped (length ds) offset ≡ o
+    first = ap (λ k. skipped k offset) long ∙ sym is
+
+    many_at : wanted (length ds) (skipped (length ds) offset) limit ≡ m
+    many_at = ap (λ k. wanted k (skipped k offset) limit) long ∙ sym many
+
+pub limit_faulted : (window : Window) (ds : List Datum) (e : Environment) (kind : ErrorKind) → Faulted kind (amount window.limit e) → Faulted kind (asked_for window ds e)
+unfolding asked_for
+limit_faulted window ds e kind h = faulted_then kind (amount window.limit e) (λ limit. amount window.offset e >>= (λ offset. Ok (window_items ds limit offset window.reversed))) h
+
+pub offset_faulted : (window : Window) (ds : List Datum) (e : Environment) (limit : Option ℤ) (kind : ErrorKind) → amount window.limit e ≡ Ok limit → Faulted kind (amount window.offset e) → Faulted kind (asked_for window ds e)
+unfolding asked_for
+offset_faulted window ds e limit kind l h =
+    faulted_as kind _ _ (ap (λ r. r >>= (λ limit. amount window.offset e >>= (λ offset. Ok (window_items ds limit offset window.reversed)))) l)
+    (faulted_then kind (amount window.offset e) (λ offset. Ok (window_items ds limit offset window.reversed)) h)
+
+-- ---- the turns of a loop
+
+-- the items of the turns are those of the source at their places
+pub turn_list : (items : Items) (o m : ℕ) (reversed : Bool) → placed (all_items items) o m reversed ≡ each_from (λ k. item_of items (place_of reversed o m k)) 0 m
+turn_list items o m reversed = ap (λ f. each_from f 0 m) (fun_ext (λ k. sym (item_by_place items (place_of reversed o m k))))
+
+module _ (source : Source) (window : Window) (e : Environment) where
+  pub source_faulted : (kind : ErrorKind) → Faulted kind (source_items source e) → Faulted kind (items_asked source window e)
+  source_faulted kind h = faulted_then kind (source_items source e) (λ all. asked_for window all e) h
+
+  pub window_faulted : (all : List Datum) (kind : ErrorKind) → source_items source e ≡ Ok all → Faulted kind (asked_for window all e) → Faulted kind (items_asked source window e)
+  window_faulted all kind is h = faulted_as kind _ _ (ap (λ r. r >>= (λ all. asked_for window all e)) is) h
+
+  pub asked_of : (all items : List Datum) → source_items source e ≡ Ok all → asked_for window all e ≡ Ok items → items_asked source window e ≡ Ok items
+  asked_of all items is h = ap (λ r. r >>= (λ all. asked_for window all e)) is ∙ h
+
+-- no item is asked for
+pub none_placed : (ds : List Datum) (o m : ℕ) (reversed : Bool) → m ≡ 0 → placed ds o m reversed ≡ []
+none_placed ds o m reversed none = ap (λ n. each_from (λ k. get_or ds (place_of reversed o m k) nil) 0 n) none
+
+-- a source whole
+pub whole_placed : (ds : List Datum) (n : ℕ) → length ds ≡ n → ds ≡ placed ds 0 n false
+whole_placed ds n long =
+    listed_from ds (λ k. get_or ds k nil) 0 (λ i lt. at ds i lt ∙ ap (λ k. Some (get_or ds k nil)) (let e : i ≡ 0 + i = omega arith in e))
+    ∙ ap (each_from (λ k. get_or ds k nil) 0) long
+    ∙ ap (λ f. each_from f 0 n) (fun_ext (λ k. ap (λ j. get_or ds j nil) (let e : k ≡ 0 + k = omega arith in e)))
+  where
+    at : (ds : List Datum) (i : ℕ) → i < length ds → slice_get ds i ≡ Some (get_or ds i nil)
+    at [] i lt = absurd (omega arith)
+    at (d ∷ ds) zero lt = refl
+    at (d ∷ ds) (suc i) lt = at ds i (omega arith)
+
+-- ---- `forloop` before the loop
+
+forloop_in : Environment → Option Datum
+forloop_in e = e.local (codes "forloop")
+
+-- what was found elsewhere counts where no scope holds the name
+pub elsewhere : (e : Environment) (v : Datum) (found : Option Datum) → (e.local (codes "forloop") ≡ None → found ≡ lookup e (codes "forloop")) → unwrap_or found nil ≡ v
+    → parent_of (e.local (codes "forloop")) v ≡ value_or_nil (codes "forloop") e
+elsewhere e v found near is = on (e.local (codes "forloop")) refl
+  where
+    beyond : Option Datum → Option Datum
+    beyond local = ((local else e.assigned (codes "forloop")) else e.counters (codes "forloop")) else e.globals (codes "forloop")
+
+    on : (local : Option Datum) → e.local (codes "forloop") ≡ local → parent_of local v ≡ unwrap_or (beyond local) nil
+    on (Some d) at = refl
+    on None at = sym is ∙ ap (λ o. unwrap_or o nil) (near at ∙ ap beyond at)
+
+-- ---- columns
+
+module _ (source : Source) (window : Window) (columns : Option Expression) (e : Environment) where
+  abbrev in_rows : List Datum → Option ℤ → Result (Option (List Datum × ℕ)) ErrorKind
+  in_rows all asked = asked_for window all e >>= (λ items. in_columns items (columns_of (length items) asked))
+
+  abbrev of_source : List Datum → Result (Option (List Datum × ℕ)) ErrorKind
+  of_source all = amount columns e >>= in_rows all
+
+  pub rows_source_faulted : (kind : ErrorKind) → Faulted kind (source_items source e) → Faulted kind (cells_asked source window columns e)
+  rows_source_faulted kind h = faulted_then kind (source_items source e) of_source h
+
+  pub rows_amount_faulted : (all : List Datum) (kind : ErrorKind) → source_items source e ≡ Ok all → Faulted kind (amount columns e) → Faulted kind (cells_asked source window columns e)
+  rows_amount_faulted all kind is h = faulted_as kind _ _ (ap (λ r. r >>= of_source) is) (faulted_then kind (amount columns e) (in_rows all) h)
+
+  known : (all : List Datum) (asked : Option ℤ) → source_items source e ≡ Ok all → amount columns e ≡ Ok asked → cells_asked source window columns e ≡ in_rows all asked
+  known all asked is many = ap (λ r. r >>= of_source) is ∙ ap (λ r. r >>= in_rows all) many
+
+  pub rows_window_faulted : (all : List Datum) (asked : Option ℤ) (kind : ErrorKind) → source_items source e ≡ Ok all → amount columns e ≡ Ok asked → Faulted kind (asked_for window all e) → Faulted kind (cells_asked source window columns e)
+  rows_window_faulted all asked kind is many h =
+      faulted_as kind _ _ (known all asked is many) (faulted_then kind (asked_for window all e) (λ items. in_columns items (columns_of (length items) asked)) h)
+
+  pub cells_asked_of : (all items : List Datum) (asked : Option ℤ) → source_items source e ≡ Ok all → amount columns e ≡ Ok asked → asked_for window all e ≡ Ok items
+      → cells_asked source window columns e ≡ in_columns items (columns_of (length items) asked)
+  cells_asked_of all items asked is many h = known all asked is many ∙ ap (λ r. r >>= (λ items. in_columns items (columns_of (length items) asked))) h
+
+-- items in some columns
+in_some : (item : ℕ → Datum) (m columns some : ℕ) → 0 < m → some_columns columns ≡ Ok some → in_columns (each_from item 0 m) columns ≡ Ok (Some (each_from item 0 m, some))
+in_some item zero columns some lt h = absurd (omega arith)
+in_some item (suc m) columns some lt h = ap (λ r. r >>= (λ some. Ok (Some (each_from item 0 (suc m), some)))) h
+
+in_faulted : (item : ℕ → Datum) (m columns : ℕ) (kind : ErrorKind) → 0 < m → Faulted kind (some_columns columns) → Faulted kind (in_columns (each_from item 0 m) columns)
+in_faulted item zero columns kind lt h = absurd (omega arith)
+in_faulted item (suc m) columns kind lt h = faulted_then kind (some_columns columns) (λ some. Ok (Some (each_from item 0 (suc m), some))) h
+
+module _ (source : Source) (window : Window) (columns : Option Expression) (e : Environment) (all : List Datum) (asked : Option ℤ) (o m : ℕ) (is : source_items source e ≡ Ok all) (many : amount columns e ≡ Ok asked) (h : asked_for window all e ≡ Ok (placed all o m window.reversed)) where
+  in_these : cells_asked source window columns e ≡ in_columns (placed all o m window.reversed) (columns_of m asked)
+  in_these =
+      cells_asked_of source window columns e all (placed all o m window.reversed) asked is many h
+      ∙ ap (λ n. in_columns (placed all o m window.reversed) (columns_of n asked)) (each_count (λ k. get_or all (place_of window.reversed o m k) nil) 0 m)
+
+  pub row_faulted : (kind : ErrorKind) → 0 < m → Faulted kind (some_columns (columns_of m asked)) → Faulted kind (cells_asked source window columns e)
+  row_faulted kind some f = faulted_as kind _ _ in_these (in_faulted (λ k. get_or all (place_of window.reversed o m k) nil) m (columns_of m asked) kind some f)
+
+  pub row_cells : (count : ℕ) → 0 < m → some_columns (columns_of m asked) ≡ Ok count → cells_asked source window columns e ≡ Ok (Some (placed all o m window.reversed, count))
+  row_cells count some f = in_these ∙ in_some (λ k. get_or all (place_of window.reversed o m k) nil) m (columns_of m asked) count some f

@@ -1,0 +1,80 @@
+//! `render .. for`: a partial once for each item, apart.
+ghost use Rattle.std.specs.Prelude.{◌≡◌, Some, string_bytes};
+ghost use Rattle.liquid_model.specs.Data.{Datum};
+ghost use Rattle.liquid_model.specs.Maps.{Map};
+ghost use Rattle.liquid_core.specs.ExpressionView.{expression_view};
+ghost use Rattle.liquid_core.specs.Turns.{turn_map};
+ghost use Rattle.liquid_syntax.specs.Flats.{bindings_view, each_view};
+ghost use Rattle.liquid_tree.specs.Tree as tree;
+ghost use Rattle.liquid_lib.specs.Engine.{setting_of, node_in};
+ghost use Rattle.liquid_lib.specs.Performs.{Meets, Performs, place_of};
+ghost use Rattle.liquid_meaning.specs.Meaning.{deeper_meaning, render_apart};
+
+use crate::counted::CountedWrite;
+use crate::engine::run_apart;
+use crate::given::Given;
+use crate::loop_turns::ends_items;
+use crate::output::Output;
+use crate::own_state::{state_at, turn_at};
+use crate::partial::{pairs_scope, partial_name, partial_rendered};
+use liquid_core::{Expression, Interrupt, NamedFilters, Result, State, Turn};
+use liquid_syntax::{Binding, Each};
+use std::alloc::Global;
+
+/// Runs a partial once for each item, up to one that leaves a break. The caller's state is only read.
+#[cycle(run)]
+pub(super) fn run_render_each<'d, W: CountedWrite, H: NamedFilters>(
+    alloc: Global,
+    given: &Given<'d, H>,
+    name: &Expression,
+    each: &'d Each,
+    bindings: &[Binding],
+    out: &mut Output<'_, W>,
+    state: &State<'d>,
+) -> Result<()>
+    ensures performs { Performs result (node_in H.named given.now (tree.render (expression_view name.now) (Some (each_view each.now)) (bindings_view bindings.now)))
+        (place_of W.contents W.failure_count out.old state.now)
+        (place_of W.contents W.failure_count out.new state.now) }
+    ensures same_writer { out.new.writer.ghost_name ≡ out.old.writer.ghost_name }
+{
+    let called = partial_name(alloc, name, state)?;
+    let source = each.source.items(alloc, state)?;
+    let near = Given {
+        partials: &*given.partials,
+        host: &*given.host,
+        depth: given.depth,
+    };
+    let mut at = 0;
+    while at < source.count {
+        let turn = turn_at(&*each, &source, at);
+        let left = run_item(alloc, &near, called.as_str(), bindings, turn, out, state)?;
+        if ends_items(left) {
+            return Ok(());
+        }
+        at += 1;
+    }
+    Ok(())
+}
+
+/// Runs a partial for one item, apart: it sees the pairs, and the loop over them. The answer is the interrupt that it leaves.
+#[cycle(run)]
+fn run_item<'d, W: CountedWrite, H: NamedFilters>(
+    alloc: Global,
+    given: &Given<'d, H>,
+    name: &str,
+    bindings: &[Binding],
+    turn: Turn<'d>,
+    out: &mut Output<'_, W>,
+    state: &State<'_>,
+) -> Result<Option<Interrupt>>
+    ensures performs { (over : Map Datum) → ((local : Map Datum) → turn_map turn.entry local ≡ over) →
+        Meets (λ i. i) result (render_apart (setting_of H.named given.now) (deeper_meaning (setting_of H.named given.now) given.now.depth) name.now (bindings_view bindings.now) over)
+        (place_of W.contents W.failure_count out.old state.now)
+        (place_of W.contents W.failure_count out.new state.now) }
+    ensures same_writer { out.new.writer.ghost_name ≡ out.old.writer.ghost_name }
+{
+    let names = pairs_scope(alloc, bindings, state)?;
+    let partial = partial_rendered(alloc, given.partials, name)?;
+    let own = state_at(alloc, names, turn)?;
+    run_apart(alloc, given, partial, own, out)
+}
