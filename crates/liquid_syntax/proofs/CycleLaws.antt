@@ -12,7 +12,7 @@ use Rattle.liquid_source.specs.declared.symbol.Symbol.TheVariants.{Colon}
 use Rattle.liquid_tree.specs.Groups.{values_group}
 use Rattle.liquid_syntax.specs.Cycles.{Cycle, with_group, grouped_of, IsName, an_identifier, a_literal, IsCycle, without_name, with_name, name_alone, is_name, has_no_steps, any_values_of, named_of, behind_first, cycle_of}
 use Rattle.liquid_syntax.specs.Repeated.{AreRepeated, no_more, one_more}
-use Rattle.liquid_syntax.specs.ValueLists.{IsSeparator, a_comma, IsFurther, a_further, IsValuesEnd, no_value, a_last_comma, AreValues, some_values, further_of, values_of}
+use Rattle.liquid_syntax.specs.ValueLists.{a_comma, IsFurther, a_further, IsValuesEnd, no_value, a_last_comma, AreValues, some_values, further_of}
 use Rattle.liquid_syntax.specs.declared.value_items.Separators.TheVariants.{Commas}
 use Rattle.liquid_syntax.proofs.ItemLaws.{all_further_takes, all_further_again, values_takes, values_again}
 use Rattle.liquid_syntax.proofs.Printed.{bind_some, map_some, from_some}

@@ -11,14 +11,15 @@ use Rattle.liquid_source.specs.declared.symbol.Symbol.TheVariants.{Assign}
 use Rattle.liquid_syntax.specs.ChainReading.{chain_of}
 use Rattle.liquid_syntax.specs.ConditionReading.{condition_of}
 use Rattle.liquid_syntax.specs.Judging.{leaf_or, assign_of, if_node, unless_node, bare, word_alone, value_alone, one_or, many_or, arm_or, capture_of, case_for, two_or, elsif_or, ends_or, tag_label, raw_label, comment_label, reads}
-use Rattle.liquid_syntax.specs.Labels.{IsLabel, is_text, is_output, is_end, is_elsif, is_else, is_assign, is_if, is_unless, is_bare_else, is_capture, is_case, is_when, is_break, is_continue, is_increment, is_decrement, is_include, is_jekyll_include, is_render, is_cycle, is_ifchanged, is_raw, is_comment}
+use Rattle.liquid_syntax.specs.Labels.{IsLabel, is_text, is_output, is_end, is_elsif, is_else, is_assign, is_if, is_unless, is_bare_else, is_capture, is_case, is_when, is_break, is_continue, is_increment, is_decrement, is_include, is_jekyll_include, is_render, is_cycle, is_ifchanged, is_for, is_tablerow, is_raw, is_comment}
+use Rattle.liquid_syntax.specs.Loops.{Head, for_node, loop_of, row_node}
 use Rattle.liquid_syntax.specs.PartialItems.{include_node, include_of, jekyll_node, jekyll_of, render_node, render_of}
 use Rattle.liquid_syntax.specs.Registered.{registered_in}
 use Rattle.liquid_syntax.specs.Cycles.{Cycle, cycle_node, cycle_of, with_group}
 use Rattle.liquid_syntax.specs.Nesting.{of_one, Label, leaf, closed, begins, elsif, arm, otherwise, ends, refused}
 use Rattle.liquid_syntax.specs.Roles.{role_of, unread_body}
 use Rattle.liquid_tree.specs.Tree.{Bindings, Node, Chain, Condition, output, assign, capture, case_of, ifchanged, break_loop, continue_loop, increment, decrement}
-use Rattle.liquid_syntax.specs.declared.block.Block.TheVariants.{If, Unless, Capture, Case, IfChanged}
+use Rattle.liquid_syntax.specs.declared.block.Block.TheVariants.{If, Unless, Capture, Case, IfChanged, For, TableRow}
 use Rattle.liquid_syntax.specs.declared.block.Control.TheVariants.{Elsif, Else, BareElse, When}
 use Rattle.liquid_syntax.specs.declared.block.Place.{Place}
 use Rattle.liquid_syntax.specs.declared.block.Role.{Role}
@@ -29,10 +30,11 @@ use Rattle.liquid_syntax.specs.declared.language.TagKind.TheVariants as tags
 use Rattle.liquid_syntax.proofs.ConditionLaws.{condition_takes, condition_again}
 use Rattle.liquid_core.specs.Expression.{Expression}
 use Rattle.liquid_syntax.specs.ValueLists.{values_of}
+use Rattle.liquid_syntax.specs.declared.loop_items.LoopKind.TheVariants.{Each, Rows}
 use Rattle.liquid_syntax.specs.declared.value_items.Separators.TheVariants.{CommasOr}
 use Rattle.liquid_syntax.proofs.Alone.{one_word, one_value}
 use Rattle.liquid_syntax.proofs.CycleLaws.{cycle_takes, cycle_again}
-use Rattle.liquid_syntax.proofs.ItemLaws.{values_takes, values_again}
+use Rattle.liquid_syntax.proofs.ItemLaws.{loop_takes, loop_again, values_takes, values_again}
 use Rattle.liquid_syntax.proofs.NestingLaws.{Stands}
 use Rattle.liquid_syntax.proofs.PartialLaws.{include_takes, include_again, jekyll_takes, jekyll_again, render_takes, render_again}
 use Rattle.liquid_syntax.proofs.Printed.{bind_some, map_some, chain_takes, chain_again, assign_takes, assign_again}
@@ -56,6 +58,8 @@ label_says l x p label (is_increment {is = is} r g) = ap (tag_label l is (tokens
 label_says l x p label (is_decrement {is = is} r g) = ap (tag_label l is (tokens_of is)) r ∙ ap (λ (ts : List Token). leaf_or (option_map (λ w. decrement w) (word_alone ts))) g
 label_says l x p label (is_cycle {name = name} {vs = vs} {is = is} r g) = ap (tag_label l is (tokens_of is)) r ∙ ap (λ (o : Option Cycle). leaf_or (option_map cycle_node (option_map with_group o))) (cycle_again name vs (tokens_of is) g)
 label_says l x p label (is_ifchanged r) = ap (tag_label l [] []) r
+label_says l x p label (is_for {h = h} {is = is} r g) = ap (tag_label l is (tokens_of is)) r ∙ ap (λ (o : Option Head). two_or For (option_map for_node o)) (loop_again Each h (tokens_of is) g)
+label_says l x p label (is_tablerow {h = h} {is = is} r g) = ap (tag_label l is (tokens_of is)) r ∙ ap (λ (o : Option Head). one_or TableRow (option_map row_node o)) (loop_again Rows h (tokens_of is) g)
 label_says l x p label (is_include {name = name} {ps = ps} {is = is} r g) = ap (tag_label l is (tokens_of is)) r ∙ ap (λ (o : Option (Expression × Bindings)). leaf_or (option_map include_node o)) (include_again name ps (tokens_of is) g)
 label_says l x p label (is_jekyll_include {name = name} {ps = ps} {is = is} r g) = ap (tag_label l is (tokens_of is)) r ∙ ap (λ (o : Option (Text × Bindings)). leaf_or (option_map jekyll_node o)) (jekyll_again name ps is g)
 label_says l x p label (is_render {name = name} {ps = ps} {is = is} r g) = ap (tag_label l is (tokens_of is)) r ∙ ap (λ (o : Option (Expression × Bindings)). leaf_or (option_map render_node o)) (render_again name ps (tokens_of is) g)
@@ -129,6 +133,8 @@ module _ (l : Language) (x : Place) (label : Label) (stands : Stands label) wher
   tag_stands w is (Some (Start blocks.Case)) r h = part_stands w is (value_alone (tokens_of is)) (λ (o : Option Expression). many_or Case (option_map (λ x ws o. case_of x ws o) o)) refl h (λ t e. is_case r (one_value (tokens_of is) t e))
   tag_stands w is (Some (Tag tags.Cycle)) r h = part_stands w is (cycle_of (tokens_of is)) (λ (o : Option Cycle). leaf_or (option_map cycle_node (option_map with_group o))) refl h (λ c e. is_cycle r (cycle_takes (tokens_of is) c e))
   tag_stands w is (Some (Start blocks.IfChanged)) r h = bare_stands w is (begins (of_one IfChanged (λ f. ifchanged f))) (is_ifchanged r) h
+  tag_stands w is (Some (Start blocks.For)) r h = part_stands w is (loop_of Each (tokens_of is)) (λ (o : Option Head). two_or For (option_map for_node o)) refl h (λ y e. is_for r (loop_takes Each y (tokens_of is) e))
+  tag_stands w is (Some (Start blocks.TableRow)) r h = part_stands w is (loop_of Rows (tokens_of is)) (λ (o : Option Head). one_or TableRow (option_map row_node o)) refl h (λ y e. is_tablerow r (loop_takes Rows y (tokens_of is) e))
   tag_stands w is (Some (Start blocks.Raw)) r h = never label h stands
   tag_stands w is (Some (Start blocks.Comment)) r h = never label h stands
 

@@ -6,12 +6,12 @@ use Rattle.std.specs.Prelude.{Result, Ok, Err}
 use Rattle.liquid_model.specs.Texts.{Text}
 use Rattle.liquid_syntax.specs.Building.{IsBuilding, Finishes, text_added}
 use Rattle.liquid_syntax.specs.Judges.{Judges}
-use Rattle.liquid_syntax.specs.Judging.{if_of, unless_of, bare, capture_of, case_for, one_or, many_or, two_or, tag_label, raw_label, comment_label, reads, is_start, opens}
+use Rattle.liquid_syntax.specs.Judging.{if_of, unless_of, bare, capture_of, case_for, for_of, rows_of, one_or, many_or, two_or, tag_label, raw_label, comment_label, reads, is_start, opens}
 use Rattle.liquid_syntax.specs.Roles.{role_of, unread_body}
 use Rattle.liquid_source.specs.Items.{Item}
 use Rattle.liquid_source.specs.Tokens.{Token, tokens_of}
 use Rattle.liquid_syntax.specs.declared.block.Block.{Block}
-use Rattle.liquid_syntax.specs.declared.block.Block.TheVariants.{If, Unless, Capture, Case}
+use Rattle.liquid_syntax.specs.declared.block.Block.TheVariants.{If, Unless, Capture, Case, For, TableRow}
 use Rattle.liquid_syntax.specs.declared.block.Place.{Place}
 use Rattle.liquid_syntax.specs.declared.block.Role.{Role}
 use Rattle.liquid_syntax.specs.declared.block.Role.TheVariants.{End, Control as Word, Tag, Block as Start}
@@ -112,6 +112,8 @@ tag_starts l is ts (Some (Start blocks.Unless)) h = two_starts Unless (unless_of
 tag_starts l is ts (Some (Start blocks.Capture)) h = one_starts Capture (capture_of ts)
 tag_starts l is ts (Some (Start blocks.Case)) h = many_starts Case (case_for ts)
 tag_starts l is ts (Some (Start blocks.IfChanged)) h = bare_starts _ ts
+tag_starts l is ts (Some (Start blocks.For)) h = two_starts For (for_of ts)
+tag_starts l is ts (Some (Start blocks.TableRow)) h = one_starts TableRow (rows_of ts)
 tag_starts l is ts (Some (Start blocks.Raw)) h = tt
 tag_starts l is ts (Some (Start blocks.Comment)) h = tt
 

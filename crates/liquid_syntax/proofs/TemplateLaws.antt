@@ -39,6 +39,8 @@ module _ (l : Language) where
   bare_tag (Some (Start blocks.Capture)) s next h = refl
   bare_tag (Some (Start blocks.Case)) s next h = refl
   bare_tag (Some (Start blocks.IfChanged)) s next h = refl
+  bare_tag (Some (Start blocks.For)) s next h = refl
+  bare_tag (Some (Start blocks.TableRow)) s next h = refl
   bare_tag (Some (Start blocks.Raw)) s next h = absurd cc
   bare_tag (Some (Start blocks.Comment)) s next h = absurd cc
 

@@ -1,7 +1,7 @@
 -- What is said of whole sources: one without openers is one text, and a source has at most one tree.
-use Rattle.std.proofs.Common.{◌≡◌, ℕ, List, [], ◌∷◌, ◌++◌, Bool, true, false, not, ◌==◌, ◌||◌, ◌&&◌, refl, sym, ap, subst, ◌∙◌, append-nil}
+use Rattle.std.proofs.Common.{◌≡◌, ℕ, List, [], ◌∷◌, Bool, true, false, not, ◌==◌, ◌||◌, ◌&&◌, refl, sym, ap, subst, ◌∙◌, append-nil}
 use Rattle.std.proofs.lemmas.Bool.{eqb-true}
-use Rattle.liquid_source.specs.Bytes.{plain, opens, open_brace, percent}
+use Rattle.liquid_source.specs.Bytes.{plain, open_brace, percent}
 use Rattle.liquid_source.specs.Openers.{opener}
 use Rattle.liquid_source.specs.Pieces as pieces
 use Rattle.liquid_source.specs.Pieces.{last}
@@ -11,7 +11,7 @@ use Rattle.liquid_source.specs.declared.item.Delimiter.TheVariants.{Output, Tag}
 use Rattle.liquid_syntax.specs.Labels.{is_text}
 use Rattle.liquid_syntax.specs.Nesting.{none, is_leaf}
 use Rattle.liquid_syntax.specs.Parsing.{IsTemplate}
-use Rattle.liquid_syntax.specs.TemplateLaw.{HasNoOpener, text_alone, PlainSources, AtMostOneTemplate}
+use Rattle.liquid_syntax.specs.TemplateLaw.{HasNoOpener, PlainSources, AtMostOneTemplate}
 use Rattle.liquid_syntax.proofs.TemplateLaws.{from_some, template_again}
 
 -- no opener begins at the front

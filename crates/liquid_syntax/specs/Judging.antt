@@ -9,6 +9,7 @@ use Rattle.liquid_source.specs.declared.piece.Body.TheVariants as bodies
 use Rattle.liquid_source.specs.declared.symbol.Symbol.TheVariants as symbols
 use Rattle.liquid_syntax.specs.ChainReading.{chain_of}
 use Rattle.liquid_syntax.specs.ConditionReading.{condition_of}
+use Rattle.liquid_syntax.specs.Loops.{for_node, loop_of, row_node}
 use Rattle.liquid_syntax.specs.PartialItems.{include_node, include_of, jekyll_node, jekyll_of, render_node, render_of}
 use Rattle.liquid_syntax.specs.Registered.{registered_in}
 use Rattle.liquid_syntax.specs.Nesting.{of_one, of_two, of_many, Label, leaf, closed, begins, elsif, arm, otherwise, ends, refused}
@@ -20,14 +21,16 @@ use Rattle.liquid_syntax.specs.Cycles.{cycle_node, grouped_of}
 use Rattle.liquid_syntax.specs.ValueLists.{values_of}
 use Rattle.liquid_syntax.specs.declared.value_items.Separators.TheVariants.{CommasOr}
 use Rattle.liquid_syntax.specs.declared.block.Block.{Block}
-use Rattle.liquid_syntax.specs.declared.block.Block.TheVariants.{If, Unless, Capture, Case, IfChanged}
+use Rattle.liquid_syntax.specs.declared.block.Block.TheVariants.{If, Unless, Capture, Case, IfChanged, For, TableRow}
 use Rattle.liquid_syntax.specs.declared.block.Control.TheVariants.{Elsif, Else, BareElse, When}
 use Rattle.liquid_syntax.specs.declared.block.Place.{Place}
 use Rattle.liquid_syntax.specs.declared.block.Role.{Role}
 use Rattle.liquid_syntax.specs.declared.block.Role.TheVariants.{End, Control as Word, Tag, Block as Start}
+use Rattle.liquid_syntax.specs.declared.language.BlockKind.{BlockKind}
 use Rattle.liquid_syntax.specs.declared.language.BlockKind.TheVariants as blocks
 use Rattle.liquid_syntax.specs.declared.language.Language.{Language}
 use Rattle.liquid_syntax.specs.declared.language.TagKind.TheVariants as tags
+use Rattle.liquid_syntax.specs.declared.loop_items.LoopKind.TheVariants.{Each, Rows}
 
 abbrev pub leaf_or : Option Node → Label
 leaf_or None = refused
@@ -55,6 +58,14 @@ unless_node condition f g = unless condition f g
 
 abbrev pub unless_of : List Token → Option (Nodes → Nodes → Node)
 unless_of ts = option_map unless_node (condition_of ts)
+
+-- the node that a `for` with the items makes of its bodies
+abbrev pub for_of : List Token → Option (Nodes → Nodes → Node)
+for_of ts = option_map for_node (loop_of Each ts)
+
+-- the node that a `tablerow` with the items makes of its body
+abbrev pub rows_of : List Token → Option (Nodes → Node)
+rows_of ts = option_map row_node (loop_of Rows ts)
 
 -- one of a kind, and nothing behind it
 abbrev pub alone : {A : Type 0} → A × List Token → Option A
@@ -98,8 +109,19 @@ abbrev pub elsif_or : Option (Nodes → Nodes → Node) → Label
 elsif_or None = refused
 elsif_or (Some make) = elsif make
 
--- A tag, its items, and the tokens that they are. A block whose body isn't read has no items, and with its body it is a
--- piece of its own
+-- The start of a block, by its items. A block whose body isn't read has none, and with its body it is a piece of its own.
+abbrev pub block_label : List Token → BlockKind → Label
+block_label ts blocks.If = two_or If (if_of ts)
+block_label ts blocks.Unless = two_or Unless (unless_of ts)
+block_label ts blocks.Capture = one_or Capture (capture_of ts)
+block_label ts blocks.Case = many_or Case (case_for ts)
+block_label ts blocks.IfChanged = bare (begins (of_one IfChanged (λ f. ifchanged f))) ts
+block_label ts blocks.For = two_or For (for_of ts)
+block_label ts blocks.TableRow = one_or TableRow (rows_of ts)
+block_label ts blocks.Raw = refused
+block_label ts blocks.Comment = refused
+
+-- a tag, its items, and the tokens that they are
 abbrev pub tag_label : Language → List Item → List Token → Option Role → Label
 tag_label l is ts None = refused
 tag_label l is ts (Some End) = ends_or ts
@@ -118,13 +140,7 @@ tag_label l is ts (Some (Tag tags.Include)) = leaf_or (option_map include_node (
 -- its name is taken as it is spelled
 tag_label l is ts (Some (Tag tags.JekyllInclude)) = leaf_or (option_map jekyll_node (jekyll_of is))
 tag_label l is ts (Some (Tag tags.Render)) = leaf_or (option_map render_node (render_of ts))
-tag_label l is ts (Some (Start blocks.If)) = two_or If (if_of ts)
-tag_label l is ts (Some (Start blocks.Unless)) = two_or Unless (unless_of ts)
-tag_label l is ts (Some (Start blocks.Capture)) = one_or Capture (capture_of ts)
-tag_label l is ts (Some (Start blocks.Case)) = many_or Case (case_for ts)
-tag_label l is ts (Some (Start blocks.IfChanged)) = bare (begins (of_one IfChanged (λ f. ifchanged f))) ts
-tag_label l is ts (Some (Start blocks.Raw)) = refused
-tag_label l is ts (Some (Start blocks.Comment)) = refused
+tag_label l is ts (Some (Start kind)) = block_label ts kind
 
 abbrev pub raw_label : Text → Option Body → Label
 raw_label t (Some bodies.Raw) = closed (raw t)

@@ -8,6 +8,7 @@ use Rattle.liquid_source.specs.declared.piece.Body.TheVariants.{Raw, Comment}
 use Rattle.liquid_syntax.specs.Chains.{IsChain, IsAssign}
 use Rattle.liquid_syntax.specs.Conditions.{IsCondition}
 use Rattle.liquid_syntax.specs.Cycles.{IsCycle}
+use Rattle.liquid_syntax.specs.Loops.{Head, IsLoop, for_node, row_node}
 use Rattle.liquid_syntax.specs.Registered.{registered_in}
 use Rattle.liquid_syntax.specs.Nesting.{of_one, of_two, of_many, Label, leaf, closed, begins, elsif, arm, otherwise, ends}
 use Rattle.liquid_syntax.specs.PartialItems.{IsInclude, IsJekyllInclude, IsRender}
@@ -17,13 +18,14 @@ use Rattle.liquid_tree.specs.Groups.{group_of}
 use Rattle.liquid_core.specs.Expression.{Expression}
 use Rattle.liquid_syntax.specs.ValueLists.{AreValues}
 use Rattle.liquid_syntax.specs.declared.value_items.Separators.TheVariants.{CommasOr}
-use Rattle.liquid_syntax.specs.declared.block.Block.TheVariants.{If, Unless, Capture, Case, IfChanged}
+use Rattle.liquid_syntax.specs.declared.block.Block.TheVariants.{If, Unless, Capture, Case, IfChanged, For, TableRow}
 use Rattle.liquid_syntax.specs.declared.block.Control.TheVariants.{Elsif, Else, BareElse, When}
 use Rattle.liquid_syntax.specs.declared.block.Place.{Place}
 use Rattle.liquid_syntax.specs.declared.block.Role.TheVariants.{End, Control as Word, Tag, Block as Start}
 use Rattle.liquid_syntax.specs.declared.language.BlockKind.TheVariants as blocks
 use Rattle.liquid_syntax.specs.declared.language.Language.{Language}
 use Rattle.liquid_syntax.specs.declared.language.TagKind.TheVariants as tags
+use Rattle.liquid_syntax.specs.declared.loop_items.LoopKind.TheVariants.{Each, Rows}
 
 pub data IsLabel (l : Language) (x : Place) : pieces.Piece → Label → Type 0 where
   is_text : {t : Text} → IsLabel l x (pieces.text t) (leaf (plain t))
@@ -47,6 +49,8 @@ pub data IsLabel (l : Language) (x : Place) : pieces.Piece → Label → Type 0 
   is_decrement : {w name : Text} {is : List Item} → role_of l x w ≡ Some (Tag tags.Decrement) → tokens_of is ≡ word name ∷ [] → IsLabel l x (pieces.tag w is) (leaf (decrement name))
   is_cycle : {w : Text} {name : Option Expression} {vs : List Expression} {is : List Item} → role_of l x w ≡ Some (Tag tags.Cycle) → IsCycle name vs (tokens_of is) → IsLabel l x (pieces.tag w is) (leaf (cycle (group_of name vs) vs))
   is_ifchanged : {w : Text} → role_of l x w ≡ Some (Start blocks.IfChanged) → IsLabel l x (pieces.tag w []) (begins (of_one IfChanged (λ f. ifchanged f)))
+  is_for : {w : Text} {h : Head} {is : List Item} → role_of l x w ≡ Some (Start blocks.For) → IsLoop Each h (tokens_of is) → IsLabel l x (pieces.tag w is) (begins (of_two For (for_node h)))
+  is_tablerow : {w : Text} {h : Head} {is : List Item} → role_of l x w ≡ Some (Start blocks.TableRow) → IsLoop Rows h (tokens_of is) → IsLabel l x (pieces.tag w is) (begins (of_one TableRow (row_node h)))
   is_include : {w : Text} {name : Expression} {ps : Bindings} {is : List Item} → role_of l x w ≡ Some (Tag tags.Include) → IsInclude name ps (tokens_of is) → IsLabel l x (pieces.tag w is) (leaf (include name ps))
   is_jekyll_include : {w name : Text} {ps : Bindings} {is : List Item} → role_of l x w ≡ Some (Tag tags.JekyllInclude) → IsJekyllInclude name ps is → IsLabel l x (pieces.tag w is) (leaf (jekyll_include name ps))
   is_render : {w : Text} {name : Expression} {ps : Bindings} {is : List Item} → role_of l x w ≡ Some (Tag tags.Render) → IsRender name ps (tokens_of is) → IsLabel l x (pieces.tag w is) (leaf (render name None ps))

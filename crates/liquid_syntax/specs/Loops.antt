@@ -7,7 +7,7 @@ use Rattle.liquid_model.specs.Texts.{Text}
 use Rattle.liquid_source.specs.Tokens.{Token, value, range, symbol, word, value_first, word_first, past, past_word}
 use Rattle.liquid_source.specs.declared.symbol.Symbol.TheVariants.{Colon}
 use Rattle.liquid_tree.specs.SourceView.{source_view}
-use Rattle.liquid_tree.specs.Tree.{Source, each_of, counted, Window, Nodes, Node, for_each}
+use Rattle.liquid_tree.specs.Tree.{Source, each_of, counted, Window, Nodes, Node, for_each, tablerow}
 use Rattle.liquid_syntax.specs.Repeated.{AreRepeated, repeated_of}
 use Rattle.liquid_syntax.specs.declared.loop_items.LoopKind.{LoopKind}
 use Rattle.liquid_syntax.specs.declared.loop_items.LoopKind.TheVariants.{Each, Rows}
@@ -137,3 +137,7 @@ window_of ps = record { limit = ps.limit; offset = ps.offset; reversed = ps.reve
 -- the node that a `for` with the items makes of its bodies
 abbrev pub for_node : Head → Nodes → Nodes → Node
 for_node h f g = for_each h.variable h.source (window_of h.parts) f g
+
+-- the node that a `tablerow` with the items makes of its body
+abbrev pub row_node : Head → Nodes → Node
+row_node h f = tablerow h.variable h.source (window_of h.parts) h.parts.cols f

@@ -45,6 +45,8 @@ unread blocks.Unless = None
 unread blocks.Capture = None
 unread blocks.Case = None
 unread blocks.IfChanged = None
+unread blocks.For = None
+unread blocks.TableRow = None
 
 abbrev pub unread_body : Option Role → Option Body
 unread_body None = None

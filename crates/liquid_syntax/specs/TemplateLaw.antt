@@ -1,5 +1,5 @@
 -- Laws of whole sources.
-use Rattle.std.specs.Prelude.{◌≡◌, List, [], ◌∷◌, ◌++◌}
+use Rattle.std.specs.Prelude.{◌≡◌, [], ◌∷◌, ◌++◌}
 use Rattle.liquid_model.specs.Texts.{Text}
 use Rattle.liquid_source.specs.Bytes.{open_brace}
 use Rattle.liquid_source.specs.Openers.{opener}

@@ -1,9 +1,7 @@
 //! Building the list of nodes with a stack of open blocks: where a body ends is written into its block's node as it ends.
 
 ghost use Rattle.std.specs.Prelude.{◌≡◌, ◌<◌, ◌-◌, ℕ, IfSome, List, [], ◌∷◌, ◌++◌, length, map, slice_get, Some, OnOk, true};
-ghost use Rattle.liquid_source.specs.Readers.{IsAt, IsOfKind};
 ghost use Rattle.liquid_syntax.specs.Building.{Begins, BodyEnded, Closes, Finishes, IsAdded, IsBuilding, IsBuilt, IsFirst, IsMemory, IsPrepared, IsSound, IsStack, Steps, before_last_ended, is_full, label_view, last_ended, of_bodies, place_at, set_before_last, takes_else, takes_when, text_added};
-ghost use Rattle.liquid_syntax.specs.Controls.{end_word};
 ghost use Rattle.liquid_syntax.specs.Faults.{FaultsAt};
 ghost use Rattle.liquid_syntax.specs.Flats.{arm_ends, arm_values, flat_of, flats};
 ghost use Rattle.liquid_core.specs.ExpressionView.{expression_view};
@@ -11,11 +9,12 @@ ghost use Rattle.liquid_syntax.specs.OpenBlocks.{Level, at_end, close, step, to_
 ghost use Rattle.liquid_tree.specs.Tree.{Nodes, no_nodes};
 ghost use Rattle.liquid_syntax.specs.declared.build.Stage.TheVariants as stages;
 
-use crate::block::{Block, Place, end_tag};
+use crate::block::{Block, Place};
+use crate::faults::{missing_end, no_body, too_nested};
 use crate::node::{Arm, Node};
 use crate::template::Template;
 use liquid_core::Expression;
-use liquid_source::{Fault, FaultKind, ParseError};
+use liquid_source::ParseError;
 use std::alloc::Global;
 
 /// Which body of a block is being read.
@@ -394,43 +393,5 @@ fn add_arm(node: &mut Node, values: Vec<Expression>) -> Result<(), ParseError>
             Ok(())
         }
         _ => Ok(()),
-    }
-}
-
-/// The fault of an end, an `else` or an `elsif` that stands where no body is to end; so many bytes of the source are left
-/// from it on.
-fn no_body(left: usize) -> Fault
-    ensures kind { result.kind ≡ FaultKind.UnknownTag }
-    ensures place { result.left ≡ left }
-{
-    Fault {
-        kind: FaultKind::UnknownTag,
-        left,
-        wanted: "the start of a block",
-    }
-}
-
-/// The fault of a block that nests too deep; so many bytes of the source are left from it on.
-pub fn too_nested(left: usize) -> ParseError
-    ensures kind { IsOfKind FaultKind.TooNested result }
-    ensures place { IsAt left result }
-{
-    ParseError::Fault(Fault {
-        kind: FaultKind::TooNested,
-        left,
-        wanted: "at most 200 blocks in one another",
-    })
-}
-
-/// The fault of a source that ends in a block.
-fn missing_end(block: Block) -> Fault
-    ensures kind { result.kind ≡ FaultKind.MissingEnd }
-    ensures place { result.left ≡ 0 }
-    ensures wanted { result.wanted.now ≡ end_word block }
-{
-    Fault {
-        kind: FaultKind::MissingEnd,
-        left: 0,
-        wanted: end_tag(block),
     }
 }

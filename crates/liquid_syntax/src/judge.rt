@@ -11,7 +11,7 @@ ghost use Rattle.liquid_syntax.specs.Building.{label_view, IsSound};
 ghost use Rattle.liquid_syntax.specs.declared.block.Block.TheVariants as BlockOf;
 ghost use Rattle.liquid_syntax.specs.declared.build.Stage.TheVariants as StageOf;
 ghost use Rattle.liquid_syntax.specs.Judges.{Judges, ReadsBlock, ReadsTwo};
-ghost use Rattle.liquid_syntax.specs.Judging.{assign_of, bare, case_for, comment_label, many_or, word_alone, ends_or, if_of, leaf_or, opens, raw_label, reads, tag_label, unless_of};
+ghost use Rattle.liquid_syntax.specs.Judging.{assign_of, bare, block_label, case_for, comment_label, many_or, word_alone, ends_or, for_of, if_of, leaf_or, one_or, opens, raw_label, reads, rows_of, tag_label, unless_of};
 ghost use Rattle.liquid_syntax.specs.Roles.{body_behind, role_of};
 
 use crate::block::{Block, Control, Place, Role, role_of, unread_body};
@@ -20,6 +20,8 @@ use crate::chain_items::{expected, read_chain};
 use crate::condition_items::read_condition;
 use crate::cycle_items::read_cycle;
 use crate::language::{BlockKind, Language, TagKind};
+use crate::loop_items::{LoopKind, read_loop};
+use crate::loop_nodes::{For, TableRow};
 use crate::node::{Node, TwoBodies};
 use crate::partial_items::{read_include, read_jekyll_include, read_render};
 use crate::value_items::{Separators, read_values};
@@ -141,29 +143,51 @@ fn read_tag(
         Some(Role::Tag(TagKind::Include)) => read_include(alloc, items, at),
         Some(Role::Tag(TagKind::JekyllInclude)) => read_jekyll_include(alloc, items, at),
         Some(Role::Tag(TagKind::Render)) => read_render(alloc, items, at),
-        Some(Role::Block(BlockKind::If)) => {
+        Some(Role::Block(kind)) => read_block(alloc, kind, items, at),
+    }
+}
+
+/// The start of a block, by its items.
+fn read_block(
+    alloc: Global,
+    kind: BlockKind,
+    items: VecDeque<Item<'_>>,
+    at: &str,
+) -> Result<Label, ParseError>
+    ensures label { Judges (block_label (tokens_view items.entry.items) kind) result }
+    ensures kind { FaultsAs FaultKind.Expected result }
+    ensures place { FaultsAt (length at.now) result }
+{
+    match kind {
+        BlockKind::If => {
             let node = read_if(alloc, items, at)?;
             Ok(Label::Begins(Block::If, Stage::First, node))
         }
-        Some(Role::Block(BlockKind::Unless)) => {
+        BlockKind::Unless => {
             let node = read_unless(alloc, items, at)?;
             Ok(Label::Begins(Block::Unless, Stage::First, node))
         }
-        Some(Role::Block(BlockKind::Capture)) => {
+        BlockKind::Capture => {
             let name = read_word(items, at)?;
             Ok(Label::Begins(Block::Capture, Stage::Last, Node::Capture(name, 0)))
         }
-        Some(Role::Block(BlockKind::Case)) => {
+        BlockKind::Case => {
             let node = read_case(alloc, items, at)?;
             Ok(Label::Begins(Block::Case, Stage::Unkept, node))
         }
-        Some(Role::Block(BlockKind::IfChanged)) => {
+        BlockKind::IfChanged => {
             let label = Label::Begins(Block::IfChanged, Stage::Last, Node::IfChanged(0));
             read_bare(label, items, at)
         }
-        Some(Role::Block(BlockKind::Raw | BlockKind::Comment)) => {
-            Err(expected(at, "a tag without items"))
+        BlockKind::For => {
+            let node = read_for(alloc, items, at)?;
+            Ok(Label::Begins(Block::For, Stage::First, node))
         }
+        BlockKind::TableRow => {
+            let node = read_table_row(alloc, items, at)?;
+            Ok(Label::Begins(Block::TableRow, Stage::Last, node))
+        }
+        BlockKind::Raw | BlockKind::Comment => Err(expected(at, "a tag without items")),
     }
 }
 
@@ -197,6 +221,39 @@ fn read_unless(alloc: Global, items: VecDeque<Item<'_>>, at: &str) -> Result<Nod
 {
     let condition = read_condition(alloc, items, at)?;
     Ok(Node::Unless(condition, TwoBodies::open()))
+}
+
+/// The node of a `for`, before its bodies are read.
+fn read_for(alloc: Global, items: VecDeque<Item<'_>>, at: &str) -> Result<Node, ParseError>
+    ensures node { ReadsTwo (for_of (tokens_view items.entry.items)) result }
+    ensures kind { FaultsAs FaultKind.Expected result }
+    ensures place { FaultsAt (length at.now) result }
+{
+    let read = read_loop(items, LoopKind::Each, at)?;
+    let head = For {
+        variable: read.variable,
+        source: read.source,
+        window: read.window,
+    };
+    let head = Box::new(alloc, head)?;
+    Ok(Node::For(head, TwoBodies::open()))
+}
+
+/// The node of a `tablerow`, before its body is read.
+fn read_table_row(alloc: Global, items: VecDeque<Item<'_>>, at: &str) -> Result<Node, ParseError>
+    ensures node { ReadsBlock BlockOf.TableRow StageOf.Last (one_or BlockOf.TableRow (rows_of (tokens_view items.entry.items))) result }
+    ensures kind { FaultsAs FaultKind.Expected result }
+    ensures place { FaultsAt (length at.now) result }
+{
+    let read = read_loop(items, LoopKind::Rows, at)?;
+    let head = TableRow {
+        variable: read.variable,
+        source: read.source,
+        window: read.window,
+        cols: read.cols,
+    };
+    let head = Box::new(alloc, head)?;
+    Ok(Node::TableRow(head, 0))
 }
 
 /// A tag without items.

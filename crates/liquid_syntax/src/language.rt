@@ -51,6 +51,10 @@ pub enum BlockKind {
     Case,
     /// `{% ifchanged %}`
     IfChanged,
+    /// `{% for variable in source limit: v offset: v reversed %}`, with `else`
+    For,
+    /// `{% tablerow variable in source cols: v limit: v offset: v %}`
+    TableRow,
 }
 
 /// Kinds by the names that they are registered under.

@@ -6,6 +6,7 @@ mod build;
 mod chain_items;
 mod condition_items;
 mod cycle_items;
+mod faults;
 mod group;
 mod hint;
 mod judge;

@@ -3,7 +3,8 @@ ghost use Rattle.std.specs.Prelude.{◌≡◌, IfErr};
 ghost use Rattle.liquid_source.specs.Readers.{TellsOf};
 ghost use Rattle.liquid_syntax.specs.Parsing.{MayRefuse, ParsesTo, ReadsTo};
 
-use crate::build::{Builder, too_nested};
+use crate::build::Builder;
+use crate::faults::too_nested;
 use crate::hint::hint;
 use crate::judge::{body_behind, judge, opens};
 use crate::language::Language;

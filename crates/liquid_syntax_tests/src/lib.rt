@@ -8,6 +8,8 @@ mod cases;
 #[cfg(test)]
 mod conditions;
 #[cfg(test)]
+mod loops;
+#[cfg(test)]
 mod messages;
 #[cfg(test)]
 mod names;

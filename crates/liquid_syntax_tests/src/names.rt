@@ -5,7 +5,7 @@ use liquid_syntax::{Language, Partials, TagKind, Template, parse};
 use std::alloc::Global;
 
 /// A source, that of a partial, and the names of both, each with a space behind it.
-const ROWS: [(&str, &str, &str); 13] = [
+const ROWS: [(&str, &str, &str); 15] = [
     ("", "", ""),
     ("{{ a[b.c].d }}{{ 'q' }}{{ a }}", "", "a b "),
     (
@@ -41,6 +41,16 @@ const ROWS: [(&str, &str, &str); 13] = [
         "{% cycle b, a, c, b %}{% break %}{% continue %}",
         "",
         "a b c ",
+    ),
+    (
+        "{% for x in a[b] limit: c offset: d reversed %}{{ e }}{% else %}{{ f }}{% endfor %}",
+        "",
+        "a b c d e f forloop x ",
+    ),
+    (
+        "{% tablerow y in (a..b) cols: c limit: d offset: e %}{{ f }}{% endtablerow %}",
+        "{% for x in 'q' %}{% endfor %}",
+        "a b c d e f forloop tablerow x y ",
     ),
     (
         "{{ b }}{{ ab }}{{ B }}{{ a }}{{ b }}",

@@ -42,6 +42,8 @@ pub(crate) fn language_with_blocks(alloc: Global) -> Result<Language, Error> {
         ("case", BlockKind::Case),
         ("capture", BlockKind::Capture),
         ("ifchanged", BlockKind::IfChanged),
+        ("for", BlockKind::For),
+        ("tablerow", BlockKind::TableRow),
         ("raw", BlockKind::Raw),
         ("comment", BlockKind::Comment),
     ] {

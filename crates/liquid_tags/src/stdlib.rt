@@ -4,7 +4,8 @@ mod blocks;
 mod tags;
 
 pub use blocks::{
-    CaptureBlock, CaseBlock, CommentBlock, IfBlock, IfChangedBlock, RawBlock, UnlessBlock,
+    CaptureBlock, CaseBlock, CommentBlock, ForBlock, IfBlock, IfChangedBlock, RawBlock,
+    TableRowBlock, UnlessBlock,
 };
 pub use tags::{
     AssignTag, BreakTag, ContinueTag, CycleTag, DecrementTag, IncludeTag, IncrementTag, RenderTag,

@@ -1,0 +1,45 @@
+//! The faults of blocks: of an end that isn't one, of one that is missing, and of blocks that nest too deep.
+ghost use Rattle.std.specs.Prelude.{◌≡◌};
+ghost use Rattle.liquid_source.specs.Readers.{IsAt, IsOfKind};
+ghost use Rattle.liquid_syntax.specs.Controls.{end_word};
+
+use crate::block::{Block, end_tag};
+use liquid_source::{Fault, FaultKind, ParseError};
+
+/// The fault of an end, an `else` or an `elsif` that stands where no body is to end; so many bytes of the source are left
+/// from it on.
+pub(crate) fn no_body(left: usize) -> Fault
+    ensures kind { result.kind ≡ FaultKind.UnknownTag }
+    ensures place { result.left ≡ left }
+{
+    Fault {
+        kind: FaultKind::UnknownTag,
+        left,
+        wanted: "the start of a block",
+    }
+}
+
+/// The fault of a block that nests too deep; so many bytes of the source are left from it on.
+pub(crate) fn too_nested(left: usize) -> ParseError
+    ensures kind { IsOfKind FaultKind.TooNested result }
+    ensures place { IsAt left result }
+{
+    ParseError::Fault(Fault {
+        kind: FaultKind::TooNested,
+        left,
+        wanted: "at most 200 blocks in one another",
+    })
+}
+
+/// The fault of a source that ends in a block.
+pub(crate) fn missing_end(block: Block) -> Fault
+    ensures kind { result.kind ≡ FaultKind.MissingEnd }
+    ensures place { result.left ≡ 0 }
+    ensures wanted { result.wanted.now ≡ end_word block }
+{
+    Fault {
+        kind: FaultKind::MissingEnd,
+        left: 0,
+        wanted: end_tag(block),
+    }
+}
