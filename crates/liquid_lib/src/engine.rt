@@ -16,6 +16,8 @@ ghost use Rattle.liquid_lib.specs.Kept.{Keeps, IsRender, AreRenders};
 ghost use Rattle.liquid_lib.specs.Performs.{Meets, Performs, place_of, place_beside};
 ghost use Rattle.liquid_meaning.specs.Runs.{apart, with_scope};
 
+mod loops;
+
 use crate::choice::{case_range, chosen_range, unless_range};
 use crate::counted::CountedWrite;
 use crate::counters::{run_decrement, run_increment};
@@ -28,8 +30,11 @@ use crate::output::Output;
 use crate::partial::{
     include_scope, pairs_scope, partial_called, partial_name, partial_rendered, too_deep,
 };
-use liquid_core::{Expression, Interrupt, NamedFilters, Object, Result, State, Value};
+use liquid_core::{
+    Error, ErrorKind, Expression, Interrupt, NamedFilters, Object, Result, State, Value,
+};
 use liquid_syntax::{Arm, Binding, Condition, Node, Template, TwoBodies};
+use loops::{run_for, run_tablerow};
 use std::alloc::Global;
 use std::collections::BTreeMap;
 
@@ -133,6 +138,11 @@ fn run_node<'d, W: CountedWrite, H: NamedFilters>(
         Node::Case(target, arms, last) => {
             run_case(alloc, given, nodes, at, target, arms, *last, out, state)
         }
+        Node::For(head, bodies) => { run_for(alloc, given, nodes, at, head, *bodies, out, state) }
+        Node::TableRow(head, end) => {
+            run_tablerow(alloc, given, nodes, at, head, *end, out, state)
+        }
+        Node::RenderEach(_, _, _) => Err(Error::new(alloc, ErrorKind::Memory, "")),
     }
 }
 

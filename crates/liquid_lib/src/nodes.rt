@@ -23,11 +23,14 @@ pub(crate) fn next_after(nodes: &[Node], at: usize, to: usize) -> usize
         | Node::Cycle(_, _)
         | Node::Include(_, _)
         | Node::JekyllInclude(_, _)
-        | Node::Render(_, _) => at + 1,
+        | Node::Render(_, _)
+        | Node::RenderEach(_, _, _) => at + 1,
         Node::If(_, bodies) => bodies.last_end,
         Node::Unless(_, bodies) => bodies.last_end,
         Node::Capture(_, end) => *end,
         Node::IfChanged(end) => *end,
         Node::Case(_, _, end) => *end,
+        Node::For(_, bodies) => bodies.last_end,
+        Node::TableRow(_, end) => *end,
     }
 }
