@@ -38,14 +38,14 @@ use Rattle.liquid_lib.proofs.Joined.{by_rule, bind_met, bind_faulted, done_met, 
 
 unfoldable pub reserve : ℕ → Partials → ℕ
 reserve zero partials = 0
-reserve (suc d) partials = 3 * most_of partials + 1 + reserve d partials
+reserve (suc d) partials = 4 * most_of partials + 1 + reserve d partials
 
-pub reserve_step : (depth n : ℕ) (partials : Partials) → (depth ≡ 0 → ⊥) → n ≤ most_of partials → 3 * n + 1 + reserve (depth - 1) partials < reserve depth partials + 1
+pub reserve_step : (depth n : ℕ) (partials : Partials) → (depth ≡ 0 → ⊥) → n ≤ most_of partials → 4 * n + 1 + reserve (depth - 1) partials < reserve depth partials + 1
 unfolding reserve
 reserve_step zero n partials some le = absurd (some refl)
 reserve_step (suc d) n partials some le =
     let e : suc d - 1 ≡ d = omega arith in
-    subst (λ k. 3 * n + 1 + reserve k partials < 3 * most_of partials + 1 + reserve d partials + 1) (sym e) (omega arith)
+    subst (λ k. 4 * n + 1 + reserve k partials < 4 * most_of partials + 1 + reserve d partials + 1) (sym e) (omega arith)
 
 -- ---- the depth
 

@@ -1,5 +1,5 @@
 -- A loop on its way: what is left of its turns does from here what all of them did from the start.
-use Rattle.std.proofs.Common.{◌≡◌, ℕ, suc, ◌+◌, ◌-◌, ◌<◌, true, false, cond, List, ◌∷◌, map, reverse, Option, None, Result, Ok, Err, inl, refl, sym, ap, subst, ◌∙◌, arith}
+use Rattle.std.proofs.Common.{◌++◌, ◌≡◌, ℕ, suc, ◌+◌, ◌-◌, ◌<◌, true, false, cond, List, ◌∷◌, map, reverse, Option, None, Result, Ok, Err, inl, refl, sym, ap, subst, ◌∙◌, arith}
 use Rattle.liquid_model.specs.Data.{Datum}
 use Rattle.liquid_model.specs.Maps.{Map}
 use Rattle.liquid_model.specs.declared.error.Error.{Error}
@@ -15,6 +15,12 @@ use Rattle.liquid_core.specs.declared.turn.Scope.{Scope}
 use Rattle.liquid_core.specs.declared.turn.Scope.TheVariants as variants
 use Rattle.liquid_core.specs.declared.turn.Turn.{Turn}
 use Rattle.liquid_core.proofs.States.{standing_last, turn_off}
+use Rattle.liquid_core.specs.Expression.{Expression}
+use Rattle.liquid_model.specs.Texts.{Text}
+use Rattle.liquid_tree.specs.Names.{node_names, nodes_names, optional_names, source_names, window_names}
+use Rattle.liquid_tree.specs.Tree.{Nodes, Source, Window, for_each, tablerow}
+use Rattle.liquid_meaning.specs.Within.{Within}
+use Rattle.liquid_meaning.proofs.Within.{left, right}
 use Rattle.liquid_lib.specs.Kept.{LayersKept}
 use Rattle.liquid_lib.specs.LoopRuns.{StartsAt, cells_meant, one_cell, one_turn, turns_meant}
 use Rattle.liquid_lib.specs.LoopTurns.{each_from}
@@ -254,3 +260,17 @@ module _ (scope : Map Datum) (l p q z : Layers) (pushed : p ≡ with_scope_pushe
 
   pub kept_from_behind : (N : Names) → LayersKept N (with_scope_popped p) (with_scope_popped q) → LayersKept N l z
   kept_from_behind N k = subst (LayersKept N l) (sym popped) (subst (λ n. LayersKept N (with_scope_popped n) (with_scope_popped q)) pushed k)
+
+-- ---- the names of the bodies
+
+pub for_within : (N : Names) (name : Text) (source : Source) (window : Window) (body otherwise : Nodes) → Within N (node_names (for_each name source window body otherwise)) → Within N (nodes_names body) × Within N (nodes_names otherwise)
+unfolding node_names
+for_within N name source window body otherwise h =
+    let bodies = right N (window_names window) (nodes_names body ++ nodes_names otherwise) (right N (source_names source) (window_names window ++ (nodes_names body ++ nodes_names otherwise)) h.1.1) in
+    (left N (nodes_names body) (nodes_names otherwise) bodies, right N (nodes_names body) (nodes_names otherwise) bodies)
+
+pub row_within : (N : Names) (name : Text) (source : Source) (window : Window) (columns : Option Expression) (body : Nodes) → Within N (node_names (tablerow name source window columns body)) → Within N (nodes_names body)
+unfolding node_names
+row_within N name source window columns body h =
+    right N (window_names window) (nodes_names body)
+    (right N (optional_names columns) (window_names window ++ nodes_names body) (right N (source_names source) (optional_names columns ++ (window_names window ++ nodes_names body)) h.1.1))

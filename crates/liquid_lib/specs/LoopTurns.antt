@@ -2,7 +2,7 @@
 --     items_asked source window e      the items that the window asks for of the source
 --     cells_asked source window columns e      those with the number of columns, or nothing where there are none
 --     turn_items t      the items of the turns of a loop;   turns_of, cells_of      the same of what a loop begins with
---     IsFor, IsRow, IsEach      the loop is at its first item, and binds what a `for`, a `tablerow` or a `render .. for` binds
+--     IsFor, IsRow      the loop is at its first item, and binds what a `for` or a `tablerow` binds
 use Rattle.std.specs.Prelude.{◌≡◌, ℕ, zero, suc, ◌==◌, Bool, cond, List, [], ◌∷◌, length, get_or, Option, Some, None, Result, Ok, Err, codes}
 use Rattle.liquid_model.specs.Data.{Datum, nil}
 use Rattle.liquid_model.specs.Fallible.{◌>>=◌}
@@ -47,12 +47,6 @@ turns_of (Some t) = turn_items t
 pub record IsFor (name : Text) (e : Environment) (t : Turn) : Type 0 where
   pub first : t.at ≡ 0
   pub names : (k : ℕ) → turn_map_at t k e.local ≡ loop_scope (codes "forloop") (forloop_object k t.count (value_or_nil (codes "forloop") e)) name (turn_item_at t k)
-
--- ---- render .. for
-
-pub record IsEach (name : Text) (t : Turn) : Type 0 where
-  pub first : t.at ≡ 0
-  pub names : (k : ℕ) (local : Map Datum) → turn_map_at t k local ≡ loop_scope (codes "forloop") (forloop_object k t.count nil) name (turn_item_at t k)
 
 -- ---- tablerow
 

@@ -8,7 +8,7 @@ use Rattle.liquid_filters.specs.declared.kind.FilterKind.{FilterKind}
 use Rattle.liquid_syntax.specs.Languages.{kinds_of}
 use Rattle.liquid_syntax.specs.Registered.{registered_in}
 use Rattle.liquid_syntax.specs.declared.language.BlockKind.{BlockKind}
-use Rattle.liquid_syntax.specs.declared.language.BlockKind.TheVariants.{Raw, Comment, If, Unless, Case, Capture, IfChanged}
+use Rattle.liquid_syntax.specs.declared.language.BlockKind.TheVariants.{Raw, Comment, If, Unless, Case, Capture, IfChanged, For, TableRow}
 use Rattle.liquid_syntax.specs.declared.language.Language.{Language}
 use Rattle.liquid_syntax.specs.declared.language.TagKind.{TagKind}
 use Rattle.liquid_syntax.specs.declared.language.TagKind.TheVariants.{Assign, Break, Continue, Increment, Decrement, Cycle, Include, Render}
@@ -26,7 +26,8 @@ standard_tags =
 abbrev pub standard_blocks : List (Text × BlockKind)
 standard_blocks =
     (codes "raw", Raw) ∷ (codes "comment", Comment) ∷ (codes "if", If) ∷ (codes "unless", Unless) ∷
-    (codes "case", Case) ∷ (codes "capture", Capture) ∷ (codes "ifchanged", IfChanged) ∷ []
+    (codes "case", Case) ∷ (codes "capture", Capture) ∷ (codes "ifchanged", IfChanged) ∷
+    (codes "for", For) ∷ (codes "tablerow", TableRow) ∷ []
 
 -- the names of the standard filters
 abbrev pub standard_filters : List Text

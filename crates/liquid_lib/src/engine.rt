@@ -1,11 +1,8 @@
 //! Runs of nodes.
-ghost use Rattle.std.specs.Prelude.{◌≡◌, ℕ, ◌+◌, ◌≤◌, None, length};
-ghost use Rattle.liquid_model.specs.Data.{Datum};
-ghost use Rattle.liquid_model.specs.Maps.{Map};
-ghost use Rattle.liquid_core.specs.Environment.{Environment, new_environment};
+ghost use Rattle.std.specs.Prelude.{◌≡◌, ℕ, ◌+◌, ◌≤◌, length};
 ghost use Rattle.liquid_core.specs.ExpressionView.{expression_view};
 ghost use Rattle.liquid_core.specs.Held.{held};
-ghost use Rattle.liquid_core.specs.States.{environment_of, layers_of, loops_of};
+ghost use Rattle.liquid_core.specs.States.{layers_of, loops_of};
 ghost use Rattle.liquid_syntax.specs.Flats.{Maker, StandsAt, IsRange, NodeAt, IsNode, bindings_view, nodes_of};
 ghost use Rattle.liquid_syntax.specs.Forest.{Forest};
 ghost use Rattle.liquid_syntax.specs.Templates.{list_of, most_of, tree_of};
@@ -15,8 +12,11 @@ ghost use Rattle.liquid_tree.specs.Tree as tree;
 ghost use Rattle.liquid_lib.specs.Choices.{CaseStands, IsCase};
 ghost use Rattle.liquid_lib.specs.Engine.{setting_of, node_in, nodes_in, partial_in};
 ghost use Rattle.liquid_lib.specs.Kept.{Keeps, IsRender, AreRenders};
-ghost use Rattle.liquid_lib.specs.Performs.{Meets, Performs, place_of, place_beside};
-ghost use Rattle.liquid_meaning.specs.Runs.{apart, with_scope};
+ghost use Rattle.liquid_lib.specs.Performs.{Performs, place_of};
+ghost use Rattle.liquid_meaning.specs.Runs.{with_scope};
+
+mod loops;
+mod renders;
 
 use crate::choice::{case_range, chosen_range, unless_range};
 use crate::counted::CountedWrite;
@@ -27,17 +27,14 @@ use crate::ifchanged::show_if_changed;
 use crate::leaves::{run_assign, run_output, run_raw, run_text};
 use crate::nodes::next_after;
 use crate::output::Output;
-use crate::own_state::own_state;
 use crate::partial::{
-    include_scope, pairs_scope, partial_called, partial_name, partial_rendered, too_deep,
+    include_scope, pairs_scope, partial_called, partial_name, too_deep,
 };
 use liquid_core::{Expression, Interrupt, NamedFilters, Object, Result, State, Value};
 use liquid_syntax::{Arm, Binding, Condition, Node, Template, TwoBodies};
+use loops::{run_for, run_tablerow};
+use renders::{run_render, run_render_each};
 use std::alloc::Global;
-
-mod render_each;
-
-use render_each::run_render_each;
 
 /// Runs the nodes of a range in order, up to the first fault or interrupt. The first node runs whatever the interrupt was.
 #[cycle(run)]
@@ -135,13 +132,16 @@ fn run_node<'d, W: CountedWrite, H: NamedFilters>(
             state,
         ),
         Node::Render(name, bindings) => run_render(alloc, given, name, &*bindings, out, &*state),
-        Node::For(_, _) | Node::TableRow(_, _) => Ok(()),
         Node::RenderEach(name, each, bindings) => {
             run_render_each(alloc, given, name, each, &*bindings, out, &*state)
         }
         Node::Cycle(group, values) => run_cycle(alloc, given, group.as_str(), values, out, state),
         Node::Case(target, arms, last) => {
             run_case(alloc, given, nodes, at, target, arms, *last, out, state)
+        }
+        Node::For(head, bodies) => { run_for(alloc, given, nodes, at, head, *bodies, out, state) }
+        Node::TableRow(head, end) => {
+            run_tablerow(alloc, given, nodes, at, head, *end, out, state)
         }
     }
 }
@@ -360,57 +360,4 @@ fn run_partial<'d, W: CountedWrite, H: NamedFilters>(
     let answer = run_range(alloc, &inner, nodes, 0, nodes.len(), out, state);
     state.pop_scope();
     answer
-}
-
-/// Runs a partial once, apart: it sees the pairs alone. The caller's state is only read.
-#[cycle(run)]
-fn run_render<'d, W: CountedWrite, H: NamedFilters>(
-    alloc: Global,
-    given: &Given<'d, H>,
-    name: &Expression,
-    bindings: &[Binding],
-    out: &mut Output<'_, W>,
-    state: &State<'d>,
-) -> Result<()>
-    ensures performs { Performs result (node_in H.named given.now (tree.render (expression_view name.now) None (bindings_view bindings.now)))
-        (place_of W.contents W.failure_count out.old state.now)
-        (place_of W.contents W.failure_count out.new state.now) }
-    ensures same_writer { out.new.writer.ghost_name ≡ out.old.writer.ghost_name }
-{
-    let called = partial_name(alloc, name, state)?;
-    let scope = pairs_scope(alloc, bindings, state)?;
-    let partial = partial_rendered(alloc, given.partials, called.as_str())?;
-    let own = own_state(alloc, scope)?;
-    run_apart(alloc, given, partial, own, out)?;
-    Ok(())
-}
-
-/// Enters a partial in a state of its own, which holds certain names alone: the interrupt that it leaves.
-#[cycle(run)]
-fn run_apart<'d, W: CountedWrite, H: NamedFilters>(
-    alloc: Global,
-    given: &Given<'d, H>,
-    partial: &'d Template,
-    own: State<'d>,
-    out: &mut Output<'_, W>,
-) -> Result<Option<Interrupt>>
-    requires small { length (list_of partial.now) ≤ most_of given.now.partials.now }
-    ensures performs { (names : Map Datum) (e : Environment) → environment_of own.entry ≡ new_environment names →
-        Meets (λ i. i) result (apart names (partial_in H.named given.now (tree_of partial.now)))
-        (place_beside W.contents W.failure_count out.old e)
-        (place_beside W.contents W.failure_count out.new e) }
-    ensures same_writer { out.new.writer.ghost_name ≡ out.old.writer.ghost_name }
-{
-    if given.depth == 0 {
-        return Err(too_deep(alloc));
-    }
-    let inner = Given {
-        partials: given.partials,
-        host: given.host,
-        depth: given.depth - 1,
-    };
-    let mut own = own;
-    let nodes = partial.nodes();
-    run_range(alloc, &inner, nodes, 0, nodes.len(), out, &mut own)?;
-    Ok(own.interrupt)
 }

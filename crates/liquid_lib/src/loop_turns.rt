@@ -7,15 +7,15 @@ ghost use Rattle.liquid_model.specs.View.{view};
 ghost use Rattle.liquid_core.specs.ExpressionView.{expression_view};
 ghost use Rattle.liquid_core.specs.States.{environment_of, layers_of, loops_of, with_interrupt};
 ghost use Rattle.liquid_core.specs.Turns.{parent_of};
-ghost use Rattle.liquid_tree.specs.Evaluation.{asked_for, source_items};
+ghost use Rattle.liquid_tree.specs.Evaluation.{asked_for};
 ghost use Rattle.liquid_tree.specs.SourceView.{source_view};
 ghost use Rattle.liquid_syntax.specs.Flats.{window_view};
-ghost use Rattle.liquid_lib.specs.LoopTurns.{AreRows, IsEach, IsFor, cells_asked, cells_of, items_asked, placed, some_columns, turns_of};
+ghost use Rattle.liquid_lib.specs.LoopTurns.{AreRows, IsFor, cells_asked, cells_of, items_asked, placed, some_columns, turns_of};
 ghost use Rattle.liquid_meaning.specs.Effects.{is_break, value_or_nil};
 ghost use Rattle.liquid_meaning.specs.Loops.{columns_of};
 
 use liquid_core::{Columns, Error, ErrorKind, Interrupt, LoopKind, Result, State, Turn, Value};
-use liquid_syntax::{Each, For, TableRow, Window, WindowExpression, evaluate_amount};
+use liquid_syntax::{For, TableRow, Window, WindowExpression, evaluate_amount};
 use std::alloc::Global;
 
 /// The first turn of a `for`, or nothing where no items are asked for. The source is evaluated before the window.
@@ -71,30 +71,6 @@ pub(crate) fn row_turn<'d>(
         kind: LoopKind::TableRow(columns),
     };
     Ok(Some((turn, columns)))
-}
-
-/// The first turn of a `render .. for`, or nothing where there are no items.
-pub(crate) fn render_turn<'d>(
-    alloc: Global,
-    each: &'d Each,
-    state: &State<'d>,
-) -> Result<Option<Turn<'d>>>
-    ensures items { Answers turns_of result (source_items (source_view each.now.source) (environment_of state.now)) }
-    ensures begins { IfOk result (λ t. IfSome t (IsEach (string_bytes each.now.variable))) }
-{
-    let all = each.source.items(alloc, state)?;
-    if all.count == 0 {
-        return Ok(None);
-    }
-    Ok(Some(Turn {
-        name: each.variable.as_str(),
-        items: all.items,
-        from: 0,
-        count: all.count,
-        reversed: false,
-        at: 0,
-        kind: LoopKind::Render,
-    }))
 }
 
 /// Which of so many items are asked for. The limit is evaluated before the offset.

@@ -27,10 +27,10 @@ pub(crate) fn next_after(nodes: &[Node], at: usize, to: usize) -> usize
         | Node::RenderEach(_, _, _) => at + 1,
         Node::If(_, bodies) => bodies.last_end,
         Node::Unless(_, bodies) => bodies.last_end,
-        Node::For(_, bodies) => bodies.last_end,
-        Node::TableRow(_, end) => *end,
         Node::Capture(_, end) => *end,
         Node::IfChanged(end) => *end,
         Node::Case(_, _, end) => *end,
+        Node::For(_, bodies) => bodies.last_end,
+        Node::TableRow(_, end) => *end,
     }
 }

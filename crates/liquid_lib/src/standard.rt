@@ -13,8 +13,8 @@ use liquid_filters::{FilterKind, extra, jekyll, shopify, stdlib};
 use liquid_syntax::{BlockKind, FilterRegistry, Language, Registry, TagKind};
 use liquid_tags::stdlib::{
     AssignTag, BreakTag, CaptureBlock, CaseBlock, CommentBlock, ContinueTag, CycleTag,
-    DecrementTag, IfBlock, IfChangedBlock, IncludeTag, IncrementTag, RawBlock, RenderTag,
-    UnlessBlock,
+    DecrementTag, ForBlock, IfBlock, IfChangedBlock, IncludeTag, IncrementTag, RawBlock, RenderTag,
+    TableRowBlock, UnlessBlock,
 };
 use liquid_tags::{BlockReflection, TagReflection};
 use std::alloc::Global;
@@ -136,7 +136,21 @@ fn register_blocks(alloc: Global, blocks: &mut Registry<BlockKind>) -> Result<()
     let capture = CaptureBlock::new();
     register(alloc, blocks, capture.start_tag(), BlockKind::from(capture))?;
     let changed = IfChangedBlock::new();
-    register(alloc, blocks, changed.start_tag(), BlockKind::from(changed))
+    register(alloc, blocks, changed.start_tag(), BlockKind::from(changed))?;
+    let for_block = ForBlock::new();
+    register(
+        alloc,
+        blocks,
+        for_block.start_tag(),
+        BlockKind::from(for_block),
+    )?;
+    let tablerow = TableRowBlock::new();
+    register(
+        alloc,
+        blocks,
+        tablerow.start_tag(),
+        BlockKind::from(tablerow),
+    )
 }
 
 /// Registers a kind under a name.

@@ -14,6 +14,6 @@ pub use liquid_filters::stdlib::{
 pub use liquid_syntax::{Range, RangeExpression};
 pub use liquid_tags::stdlib::{
     AssignTag, BreakTag, CaptureBlock, CaseBlock, CommentBlock, ContinueTag, CycleTag,
-    DecrementTag, IfBlock, IfChangedBlock, IncludeTag, IncrementTag, RawBlock, RenderTag,
-    UnlessBlock,
+    DecrementTag, ForBlock, IfBlock, IfChangedBlock, IncludeTag, IncrementTag, RawBlock, RenderTag,
+    TableRowBlock, UnlessBlock,
 };

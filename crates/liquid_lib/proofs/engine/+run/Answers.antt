@@ -1,4 +1,4 @@
-use Rattle.std.proofs.Common.{rules, arith, ◌≡◌, ◌+◌, ◌-◌, ◌*◌, ◌<◌, ◌≤◌, ◌∙◌, length, map, true, refl, sym, ap, subst, string_bytes, Option, Some, None, Ok, Err}
+use Rattle.std.proofs.Common.{rules, arith, ◌≡◌, ◌+◌, ◌-◌, ◌*◌, ◌<◌, ◌≤◌, ◌∙◌, length, map, true, refl, sym, ap, subst, string_bytes, Option, Some, None, Ok, Err, List, [], false}
 use Rattle.std.specs.Option.{option_map}
 use Rattle.std.proofs.lemmas.Result.{err_from_is_err_and}
 use Rattle.liquid_model.specs.Answer.{Faulted, Gives}
@@ -10,19 +10,19 @@ use Rattle.liquid_model.proofs.Views.{view-Text}
 use Rattle.liquid_core.specs.Environment.{new_environment}
 use Rattle.liquid_core.specs.ExpressionView.{expression_view}
 use Rattle.liquid_core.specs.Held.{held}
-use Rattle.liquid_core.specs.States.{environment_of, layers_of, loops_of, merged_layers, with_assigned, with_scope_pushed}
+use Rattle.liquid_core.specs.States.{environment_of, layers_of, loops_of, merged_layers, with_assigned, with_scope_pushed, scopes_behind, with_scope_popped, with_interrupt}
 use Rattle.liquid_core.specs.declared.interrupt.Interrupt.{Interrupt}
 use Rattle.liquid_core.specs.declared.interrupt.Interrupt.TheVariants as interrupts
 use Rattle.liquid_core.specs.Loops.{loop_scope, forloop_object}
-use Rattle.liquid_core.specs.Turns.{turn_map, without_innermost}
+use Rattle.liquid_core.specs.Turns.{turn_map, turn_map_at, without_innermost}
+use Rattle.liquid_core.proofs.States.{interrupt_set, named_off, turn_off}
 use Rattle.liquid_tree.specs.ItemLists.{all_items}
 use Rattle.liquid_tree.proofs.ItemPlaces.{item_by_place}
-use Rattle.liquid_core.proofs.States.{interrupt_set, named_off}
 use Rattle.liquid_tree.specs.ChainView.{chain_view}
 use Rattle.liquid_tree.specs.ConditionView.{condition_view}
-use Rattle.liquid_tree.specs.Names.{node_names}
+use Rattle.liquid_tree.specs.Names.{node_names, nodes_names}
 use Rattle.liquid_tree.specs.Tree as tree
-use Rattle.liquid_syntax.specs.Flats.{Maker, StandsAt, IsRange, bindings_view, each_view, flats, nodes_of}
+use Rattle.liquid_syntax.specs.Flats.{Maker, StandsAt, IsRange, bindings_view, each_view, flats, nodes_of, window_view}
 use Rattle.liquid_syntax.specs.Forest.{Forest}
 use Rattle.liquid_syntax.specs.Templates.{forest_of, most_of, partials_of, tree_of}
 use Rattle.liquid_syntax.proofs.Places.{Stands-le}
@@ -34,9 +34,9 @@ use Rattle.liquid_meaning.proofs.Rules.{comment_rule, break_rule, continue_rule,
 use Rattle.liquid_lib.specs.Changed.{shown_if_changed}
 use Rattle.liquid_lib.specs.Choices.{CaseStands}
 use Rattle.liquid_lib.specs.Engine.{setting_of, node_meant, nodes_meant}
-use Rattle.liquid_lib.specs.Kept.{Keeps}
+use Rattle.liquid_lib.specs.Kept.{Keeps, LayersKept}
 use Rattle.liquid_lib.specs.Partials.{partial_of, rendered_of}
-use Rattle.liquid_lib.specs.Performs.{Place, Meets, Performs, place_of, unit}
+use Rattle.liquid_lib.specs.Performs.{Place, Meets, Performs, place_of, unit, Writes}
 use Rattle.liquid_lib.specs.Sinks.{sink_of}
 use Rattle.liquid_lib.proofs.Apart.{apart_met, apart_faulted}
 use Rattle.liquid_lib.proofs.Cases.{the_case, case_performs, case_keeps, case_other}
@@ -50,12 +50,23 @@ use Rattle.liquid_lib.proofs.ItemRuns.{items_left, item_on, item_breaks, item_fa
 use Rattle.liquid_lib.proofs.RenderEach.{item_run, items_run, name_refused, items_refused, items_met}
 use Rattle.liquid_lib.proofs.Sinks.{Around}
 use Rattle.liquid_lib.proofs.Whole.{stood_in}
+use Rattle.liquid_syntax.specs.declared.loop_nodes.For as heads_For
+use Rattle.liquid_syntax.specs.declared.loop_nodes.TableRow as heads_TableRow
+use Rattle.liquid_core.specs.declared.turn.Scope.{Scope}
+use Rattle.liquid_core.specs.declared.turn.Turn.{Turn}
+use Rattle.liquid_tree.specs.SourceView.{source_view}
+use Rattle.liquid_lib.specs.LoopRuns.{StartsAt, behind, cells_meant, place_behind, turns_meant}
+use Rattle.liquid_lib.specs.LoopTurns.{AreRows, IsFor, IsRow, cells_asked, cells_of, items_asked, turn_items, turns_of}
+use Rattle.std.specs.Prelude.{IfSome}
+use Rattle.liquid_meaning.specs.Loops.{cell_end}
+use Rattle.liquid_lib.proofs.Turning.{TurnsLead, CellsLead, AtTurn, advanced_behind, at_goes_on, at_kept, at_next, at_off, at_pushed, at_start, cell_fault, cell_faulted, cell_on, cell_ran, cell_unopened, cells_end, cells_start, for_within, from_behind, row_within, kept_cell, kept_from_behind, kept_turn, turn_break, turn_fault, turn_faulted, turn_on, turn_ran, turns_end, turns_start}
+use Rattle.liquid_lib.proofs.LoopMeanings.{for_none, for_refused, for_some, row_none, row_refused, row_some}
 use Rattle.liquid_lib.proofs.engine.+run.Goals as goal
 
 pub run_range-run_node-requires : goal.run_range-run_node-requires
 run_range-run_node-requires g t c κs within =
     let place = place_of g.W.CountedWrite.contents g.W.CountedWrite.failure_count in
-    (let lt : 3 * (c.args.to - c.loop-at.at) + reserve c.args.given.now.depth c.args.given.now.partials.now < t = omega arith in lt, (within.0, (within.1, going_node (setting_of g.H.NamedFilters.named c.args.given.now) c.args.given.now.depth c.args.nodes.now c.args.from c.loop-at.at c.args.to (place c.args.out.now c.args.state.now) (place c.loop-at.out c.loop-at.state) c.requires c.loop-at.invariant.going c.loop-at-test.true)))
+    (let lt : 4 * (c.args.to - c.loop-at.at) + reserve c.args.given.now.depth c.args.given.now.partials.now < t = omega arith in lt, (within.0, (within.1, going_node (setting_of g.H.NamedFilters.named c.args.given.now) c.args.given.now.depth c.args.nodes.now c.args.from c.loop-at.at c.args.to (place c.args.out.now c.args.state.now) (place c.loop-at.out c.loop-at.state) c.requires c.loop-at.invariant.going c.loop-at-test.true)))
 
 pub run_range-returns-in_err-run_node-clause-performs : goal.run_range-returns-in_err-run_node-clause-performs
 run_range-returns-in_err-run_node-clause-performs g t c =
@@ -178,7 +189,7 @@ run_node-returns-in-Comment-clause-kept g t c =
 pub run_node-run_if-requires : goal.run_node-run_if-requires
 run_node-run_if-requires g t c κs within =
     let (body, otherwise, past, ordered, inside) = two c.args.nodes.now c.args.at c.in-If.bodies.first_end c.in-If.bodies.last_end c.args.to c.index-nodes-at.result _ (tree.if_true (condition_view c.in-If.condition)) c.requires c.index-nodes-at.is c.in-If.is refl in
-    (let lt : 3 * (c.in-If.bodies.last_end - c.args.at) - 1 + reserve c.args.given.now.depth c.args.given.now.partials.now < t = omega arith in lt, (within.0, (within.1, (body, otherwise))))
+    (let lt : 4 * (c.in-If.bodies.last_end - c.args.at) - 1 + reserve c.args.given.now.depth c.args.given.now.partials.now < t = omega arith in lt, (within.0, (within.1, (body, otherwise))))
 
 pub run_node-returns-in-If-clause-performs : goal.run_node-returns-in-If-clause-performs
 run_node-returns-in-If-clause-performs g t c =
@@ -194,7 +205,7 @@ run_node-returns-in-If-clause-kept g t c =
 pub run_node-run_unless-requires : goal.run_node-run_unless-requires
 run_node-run_unless-requires g t c κs within =
     let (body, otherwise, past, ordered, inside) = two c.args.nodes.now c.args.at c.in-Unless.bodies.first_end c.in-Unless.bodies.last_end c.args.to c.index-nodes-at.result _ (tree.unless (condition_view c.in-Unless.condition)) c.requires c.index-nodes-at.is c.in-Unless.is refl in
-    (let lt : 3 * (c.in-Unless.bodies.last_end - c.args.at) - 1 + reserve c.args.given.now.depth c.args.given.now.partials.now < t = omega arith in lt, (within.0, (within.1, (body, otherwise))))
+    (let lt : 4 * (c.in-Unless.bodies.last_end - c.args.at) - 1 + reserve c.args.given.now.depth c.args.given.now.partials.now < t = omega arith in lt, (within.0, (within.1, (body, otherwise))))
 
 pub run_node-returns-in-Unless-clause-performs : goal.run_node-returns-in-Unless-clause-performs
 run_node-returns-in-Unless-clause-performs g t c =
@@ -246,7 +257,7 @@ run_if-run_range-requires g t c κs within =
     let first : c.args.at < c.in_ok-from.from = c.in_ok-from.ensures.inside.0 in
     let last : c.in_ok-from.to ≤ c.args.bodies.last_end = c.in_ok-from.ensures.inside.1 in
     let order : c.in_ok-from.from ≤ c.in_ok-from.to = Stands-le (flats c.args.nodes.now) c.in_ok-from.from x.nodes c.in_ok-from.to x.stands in
-    (let lt : 3 * (c.in_ok-from.to - c.in_ok-from.from) + 1 + reserve c.args.given.now.depth c.args.given.now.partials.now < t = omega arith in lt, (within.0, (within.1, (x.nodes, x.stands))))
+    (let lt : 4 * (c.in_ok-from.to - c.in_ok-from.from) + 1 + reserve c.args.given.now.depth c.args.given.now.partials.now < t = omega arith in lt, (within.0, (within.1, (x.nodes, x.stands))))
 
 pub run_if-returns-clause-kept : goal.run_if-returns-clause-kept
 run_if-returns-clause-kept g t c b d here after N names inside =
@@ -268,7 +279,7 @@ run_unless-run_range-requires g t c κs within =
     let first : c.args.at < c.in_ok-from.from = c.in_ok-from.ensures.inside.0 in
     let last : c.in_ok-from.to ≤ c.args.bodies.last_end = c.in_ok-from.ensures.inside.1 in
     let order : c.in_ok-from.from ≤ c.in_ok-from.to = Stands-le (flats c.args.nodes.now) c.in_ok-from.from x.nodes c.in_ok-from.to x.stands in
-    (let lt : 3 * (c.in_ok-from.to - c.in_ok-from.from) + 1 + reserve c.args.given.now.depth c.args.given.now.partials.now < t = omega arith in lt, (within.0, (within.1, (x.nodes, x.stands))))
+    (let lt : 4 * (c.in_ok-from.to - c.in_ok-from.from) + 1 + reserve c.args.given.now.depth c.args.given.now.partials.now < t = omega arith in lt, (within.0, (within.1, (x.nodes, x.stands))))
 
 pub run_unless-returns-clause-kept : goal.run_unless-returns-clause-kept
 run_unless-returns-clause-kept g t c b d here after N names inside =
@@ -308,7 +319,7 @@ run_node-returns-in-Continue-clause-alone g t c =
 pub run_node-run_capture-requires : goal.run_node-run_capture-requires
 run_node-run_capture-requires g t c κs within =
     let (body, past, inside) = one c.args.nodes.now c.args.at c.in-Capture.end c.args.to c.index-nodes-at.result _ (tree.capture (string_bytes c.in-Capture.name)) c.requires c.index-nodes-at.is c.in-Capture.is refl in
-    (let lt : 3 * (c.in-Capture.end - c.args.at) - 1 + reserve c.args.given.now.depth c.args.given.now.partials.now < t = omega arith in lt, (within.0, (within.1, body)))
+    (let lt : 4 * (c.in-Capture.end - c.args.at) - 1 + reserve c.args.given.now.depth c.args.given.now.partials.now < t = omega arith in lt, (within.0, (within.1, body)))
 
 pub run_node-returns-in-Capture-clause-performs : goal.run_node-returns-in-Capture-clause-performs
 run_node-returns-in-Capture-clause-performs g t c =
@@ -393,7 +404,7 @@ run_capture-run_range-answer-requires g t c κs within =
     let body : IsRange c.args.nodes.now (c.args.at + 1) c.args.end = search rules in
     let (b, here) = body in
     let le : c.args.at + 1 ≤ c.args.end = Stands-le (flats c.args.nodes.now) (c.args.at + 1) b c.args.end here in
-    (let lt : 3 * (c.args.end - (c.args.at + 1)) + 1 + reserve c.args.given.now.depth c.args.given.now.partials.now < t = omega arith in lt, (within.0, (within.1, body)))
+    (let lt : 4 * (c.args.end - (c.args.at + 1)) + 1 + reserve c.args.given.now.depth c.args.given.now.partials.now < t = omega arith in lt, (within.0, (within.1, body)))
 
 pub run_capture-returns-in_err-answer-clause-performs : goal.run_capture-returns-in_err-answer-clause-performs
 run_capture-returns-in_err-answer-clause-performs g t c b here =
@@ -542,7 +553,7 @@ pub run_partial-run_range-answer-requires : goal.run_partial-run_range-answer-re
 run_partial-run_range-answer-requires g t c κs within =
     let small : length c.nodes-nodes.result.now ≤ most_of c.args.given.now.partials.now = subst (λ n. n ≤ most_of c.args.given.now.partials.now) (sym (ap length c.nodes-nodes.ensures)) c.requires.small in
     let step = reserve_step c.args.given.now.depth (length c.nodes-nodes.result.now) c.args.given.now.partials.now c.if-given-eq0.false small in
-    (let lt : 3 * (length c.nodes-nodes.result.now - 0) + 1 + reserve (c.args.given.now.depth - 1) c.args.given.now.partials.now < t = omega arith in lt, (within.0, (within.1, (forest_of c.args.partial.now, (stood_in c.args.partial.now c.nodes-nodes.result.now c.nodes-nodes.ensures)))))
+    (let lt : 4 * (length c.nodes-nodes.result.now - 0) + 1 + reserve (c.args.given.now.depth - 1) c.args.given.now.partials.now < t = omega arith in lt, (within.0, (within.1, (forest_of c.args.partial.now, (stood_in c.args.partial.now c.nodes-nodes.result.now c.nodes-nodes.ensures)))))
 
 pub run_partial-returns-clause-performs : goal.run_partial-returns-clause-performs
 unfolding tree_of
@@ -560,53 +571,53 @@ run_partial-returns-clause-kept g t c N names inside =
     kept_around N (held c.args.scope) (layers_of c.args.state.now) (layers_of c.push_scope.new.self) (layers_of c.run_range-answer.new.state) (layers_of c.pop_scope.new.self)
     c.in_ok-push_scope.ensures.pushed (c.run_range-answer.ensures.kept (forest_of c.args.partial.now) (stood_in c.args.partial.now c.nodes-nodes.result.now c.nodes-nodes.ensures) N names inside) c.pop_scope.ensures.popped
 
-pub run_render-returns-in_err-called-clause-performs : goal.run_render-returns-in_err-called-clause-performs
-run_render-returns-in_err-called-clause-performs g t c =
+pub renders::run_render-returns-in_err-called-clause-performs : goal.renders::run_render-returns-in_err-called-clause-performs
+renders::run_render-returns-in_err-called-clause-performs g t c =
     let place = place_of g.W.CountedWrite.contents g.W.CountedWrite.failure_count in
     let p = err_from_is_err_and c.from_residual.result c.from_residual.ensures.1 in
     rw (p.1, p.2) (render_refused (setting_of g.H.NamedFilters.named c.args.given.now) (deeper_meaning (setting_of g.H.NamedFilters.named c.args.given.now) c.args.given.now.depth) (expression_view c.args.name.now) (bindings_view c.args.bindings.now) c.in_err-called.field-0.0 (place c.args.out.now c.args.state.now) c.in_err-called.ensures)
 
-pub run_render-returns-in_err-scope-clause-performs : goal.run_render-returns-in_err-scope-clause-performs
-run_render-returns-in_err-scope-clause-performs g t c =
+pub renders::run_render-returns-in_err-scope-clause-performs : goal.renders::run_render-returns-in_err-scope-clause-performs
+renders::run_render-returns-in_err-scope-clause-performs g t c =
     let place = place_of g.W.CountedWrite.contents g.W.CountedWrite.failure_count in
     let p = err_from_is_err_and c.from_residual-in_err-scope.result c.from_residual-in_err-scope.ensures.1 in
     rw (p.1, p.2) (render_faulted (setting_of g.H.NamedFilters.named c.args.given.now) (deeper_meaning (setting_of g.H.NamedFilters.named c.args.given.now) c.args.given.now.depth) (expression_view c.args.name.now) (bindings_view c.args.bindings.now) c.in_err-scope.field-0.0 (string_bytes c.in_ok-called.called) (place c.args.out.now c.args.state.now) (place c.args.out.now c.args.state.now) c.in_ok-called.ensures
     (pairs_refused (λ (i : Option Interrupt). i) pairs_scope (bindings_view c.args.bindings.now) (rendered_of (partials_of c.args.given.now.partials.now) (string_bytes c.in_ok-called.called)) (λ scope partial. apart scope (deeper_meaning (setting_of g.H.NamedFilters.named c.args.given.now) c.args.given.now.depth partial)) c.in_err-scope.field-0.0 (place c.args.out.now c.args.state.now) c.in_err-scope.ensures))
 
-pub run_render-returns-in_err-partial-clause-performs : goal.run_render-returns-in_err-partial-clause-performs
-run_render-returns-in_err-partial-clause-performs g t c =
+pub renders::run_render-returns-in_err-partial-clause-performs : goal.renders::run_render-returns-in_err-partial-clause-performs
+renders::run_render-returns-in_err-partial-clause-performs g t c =
     let place = place_of g.W.CountedWrite.contents g.W.CountedWrite.failure_count in
     let p = err_from_is_err_and c.from_residual-in_err-partial.result c.from_residual-in_err-partial.ensures.1 in
     rw (p.1, p.2) (render_faulted (setting_of g.H.NamedFilters.named c.args.given.now) (deeper_meaning (setting_of g.H.NamedFilters.named c.args.given.now) c.args.given.now.depth) (expression_view c.args.name.now) (bindings_view c.args.bindings.now) c.in_err-partial.field-0.0 (string_bytes c.in_ok-called.called) (place c.args.out.now c.args.state.now) (place c.args.out.now c.args.state.now) c.in_ok-called.ensures
     (not_found (λ (i : Option Interrupt). i) pairs_scope (bindings_view c.args.bindings.now) (rendered_of (partials_of c.args.given.now.partials.now) (string_bytes c.in_ok-called.called)) (λ scope partial. apart scope (deeper_meaning (setting_of g.H.NamedFilters.named c.args.given.now) c.args.given.now.depth partial)) c.in_err-partial.field-0.0 (held c.in_ok-scope.scope) (place c.args.out.now c.args.state.now) c.in_ok-scope.ensures (subst (λ x. Faulted c.in_err-partial.field-0.0.kind (rendered_of (partials_of c.args.given.now.partials.now) x)) c.as_str.ensures.value c.in_err-partial.ensures.found)))
 
-pub run_render-returns-in_err-run_apart-clause-performs : goal.run_render-returns-in_err-run_apart-clause-performs
-run_render-returns-in_err-run_apart-clause-performs g t c =
+pub renders::run_render-returns-in_err-run_apart-clause-performs : goal.renders::run_render-returns-in_err-run_apart-clause-performs
+renders::run_render-returns-in_err-run_apart-clause-performs g t c =
     let place = place_of g.W.CountedWrite.contents g.W.CountedWrite.failure_count in
     let p = err_from_is_err_and c.from_residual-in_err-run_apart.result c.from_residual-in_err-run_apart.ensures.1 in
     rw (p.1, p.2) (render_faulted (setting_of g.H.NamedFilters.named c.args.given.now) (deeper_meaning (setting_of g.H.NamedFilters.named c.args.given.now) c.args.given.now.depth) (expression_view c.args.name.now) (bindings_view c.args.bindings.now) c.in_err-run_apart.field-0.0 (string_bytes c.in_ok-called.called) (place c.args.out.now c.args.state.now) (place c.run_apart.new.out c.args.state.now) c.in_ok-called.ensures
     (entered (λ (i : Option Interrupt). i) pairs_scope (bindings_view c.args.bindings.now) (rendered_of (partials_of c.args.given.now.partials.now) (string_bytes c.in_ok-called.called)) (λ scope partial. apart scope (deeper_meaning (setting_of g.H.NamedFilters.named c.args.given.now) c.args.given.now.depth partial)) (Err c.in_err-run_apart.field-0.0) (held c.in_ok-scope.scope) (tree_of c.in_ok-partial.partial.now) (place c.args.out.now c.args.state.now) (place c.run_apart.new.out c.args.state.now) c.in_ok-scope.ensures (subst (λ x. rendered_of (partials_of c.args.given.now.partials.now) x ≡ Ok (tree_of c.in_ok-partial.partial.now)) c.as_str.ensures.value c.in_ok-partial.ensures.found) (c.in_err-run_apart.ensures.performs (held c.in_ok-scope.scope) (environment_of c.args.state.now) c.in_ok-own.ensures)))
 
-pub run_render-returns-clause-performs : goal.run_render-returns-clause-performs
-run_render-returns-clause-performs g t c =
+pub renders::run_render-returns-clause-performs : goal.renders::run_render-returns-clause-performs
+renders::run_render-returns-clause-performs g t c =
     let place = place_of g.W.CountedWrite.contents g.W.CountedWrite.failure_count in
     render_met (setting_of g.H.NamedFilters.named c.args.given.now) (deeper_meaning (setting_of g.H.NamedFilters.named c.args.given.now) c.args.given.now.depth) (expression_view c.args.name.now) (bindings_view c.args.bindings.now) tt c.in_ok-run_apart.field-0 (string_bytes c.in_ok-called.called) (place c.args.out.now c.args.state.now) (place c.run_apart.new.out c.args.state.now) c.in_ok-called.ensures
     (entered (λ (i : Option Interrupt). i) pairs_scope (bindings_view c.args.bindings.now) (rendered_of (partials_of c.args.given.now.partials.now) (string_bytes c.in_ok-called.called)) (λ scope partial. apart scope (deeper_meaning (setting_of g.H.NamedFilters.named c.args.given.now) c.args.given.now.depth partial)) (Ok c.in_ok-run_apart.field-0) (held c.in_ok-scope.scope) (tree_of c.in_ok-partial.partial.now) (place c.args.out.now c.args.state.now) (place c.run_apart.new.out c.args.state.now) c.in_ok-scope.ensures (subst (λ x. rendered_of (partials_of c.args.given.now.partials.now) x ≡ Ok (tree_of c.in_ok-partial.partial.now)) c.as_str.ensures.value c.in_ok-partial.ensures.found) (c.in_ok-run_apart.ensures.performs (held c.in_ok-scope.scope) (environment_of c.args.state.now) c.in_ok-own.ensures))
 
-pub run_apart-returns-then-given-eq0-clause-performs : goal.run_apart-returns-then-given-eq0-clause-performs
-run_apart-returns-then-given-eq0-clause-performs g t c names e is =
+pub renders::run_apart-returns-then-given-eq0-clause-performs : goal.renders::run_apart-returns-then-given-eq0-clause-performs
+renders::run_apart-returns-then-given-eq0-clause-performs g t c names e is =
     let sink = sink_of g.W.CountedWrite.contents g.W.CountedWrite.failure_count in
     apart_deep (setting_of g.H.NamedFilters.named c.args.given.now) c.args.given.now.depth (tree_of c.args.partial.now) names c.too_deep.result (sink c.args.out.now) e c.if-given-eq0.true c.too_deep.ensures
 
-pub run_apart-run_range-requires : goal.run_apart-run_range-requires
-run_apart-run_range-requires g t c κs within =
+pub renders::run_apart-run_range-requires : goal.renders::run_apart-run_range-requires
+renders::run_apart-run_range-requires g t c κs within =
     let small : length c.nodes-nodes.result.now ≤ most_of c.args.given.now.partials.now = subst (λ n. n ≤ most_of c.args.given.now.partials.now) (sym (ap length c.nodes-nodes.ensures)) c.requires.small in
     let step = reserve_step c.args.given.now.depth (length c.nodes-nodes.result.now) c.args.given.now.partials.now c.if-given-eq0.false small in
-    (let lt : 3 * (length c.nodes-nodes.result.now - 0) + 1 + reserve (c.args.given.now.depth - 1) c.args.given.now.partials.now < t = omega arith in lt, (within.0, (within.1, (forest_of c.args.partial.now, (stood_in c.args.partial.now c.nodes-nodes.result.now c.nodes-nodes.ensures)))))
+    (let lt : 4 * (length c.nodes-nodes.result.now - 0) + 1 + reserve (c.args.given.now.depth - 1) c.args.given.now.partials.now < t = omega arith in lt, (within.0, (within.1, (forest_of c.args.partial.now, (stood_in c.args.partial.now c.nodes-nodes.result.now c.nodes-nodes.ensures)))))
 
-pub run_apart-returns-in_err-run_range-clause-performs : goal.run_apart-returns-in_err-run_range-clause-performs
+pub renders::run_apart-returns-in_err-run_range-clause-performs : goal.renders::run_apart-returns-in_err-run_range-clause-performs
 unfolding tree_of
-run_apart-returns-in_err-run_range-clause-performs g t c names e is =
+renders::run_apart-returns-in_err-run_range-clause-performs g t c names e is =
     let sink = sink_of g.W.CountedWrite.contents g.W.CountedWrite.failure_count in
     let after : Place = record { sink = sink c.run_range.new.out; environment = environment_of c.run_range.new.state } in
     let inside : Performs (Err c.in_err-run_range.field-0.0) (deeper_meaning (setting_of g.H.NamedFilters.named c.args.given.now) c.args.given.now.depth (tree_of c.args.partial.now)) (record { sink = sink c.args.out.now; environment = new_environment names }) after =
@@ -615,9 +626,9 @@ run_apart-returns-in_err-run_range-clause-performs g t c names e is =
     let p = err_from_is_err_and c.from_residual.result c.from_residual.ensures.1 in
     rw (p.1, p.2) (apart_faulted unit (λ (i : Option Interrupt). i) c.in_err-run_range.field-0.0 names (deeper_meaning (setting_of g.H.NamedFilters.named c.args.given.now) c.args.given.now.depth (tree_of c.args.partial.now)) (sink c.args.out.now) (sink c.run_range.new.out) e (environment_of c.run_range.new.state) inside)
 
-pub run_apart-returns-clause-performs : goal.run_apart-returns-clause-performs
+pub renders::run_apart-returns-clause-performs : goal.renders::run_apart-returns-clause-performs
 unfolding tree_of
-run_apart-returns-clause-performs g t c names e is =
+renders::run_apart-returns-clause-performs g t c names e is =
     let sink = sink_of g.W.CountedWrite.contents g.W.CountedWrite.failure_count in
     let after : Place = record { sink = sink c.run_range.new.out; environment = environment_of c.run_range.new.state } in
     let inside : Performs (Ok c.in_ok-run_range.field-0) (deeper_meaning (setting_of g.H.NamedFilters.named c.args.given.now) c.args.given.now.depth (tree_of c.args.partial.now)) (record { sink = sink c.args.out.now; environment = new_environment names }) after =
@@ -626,42 +637,42 @@ run_apart-returns-clause-performs g t c names e is =
     subst (λ i. Meets (λ (i : Option Interrupt). i) (Ok i) (apart names (deeper_meaning (setting_of g.H.NamedFilters.named c.args.given.now) c.args.given.now.depth (tree_of c.args.partial.now))) (record { sink = sink c.args.out.now; environment = e }) (record { sink = sink c.run_range.new.out; environment = e })) (interrupt_of c.run_range.new.state _ refl)
     (apart_met unit c.in_ok-run_range.field-0 names (deeper_meaning (setting_of g.H.NamedFilters.named c.args.given.now) c.args.given.now.depth (tree_of c.args.partial.now)) (sink c.args.out.now) (sink c.run_range.new.out) e (environment_of c.run_range.new.state) inside)
 
-pub render_each::run_item-returns-in_err-names-clause-performs : goal.render_each::run_item-returns-in_err-names-clause-performs
-render_each::run_item-returns-in_err-names-clause-performs g t c over is =
+pub renders::run_item-returns-in_err-names-clause-performs : goal.renders::run_item-returns-in_err-names-clause-performs
+renders::run_item-returns-in_err-names-clause-performs g t c over is =
     let place = place_of g.W.CountedWrite.contents g.W.CountedWrite.failure_count in
     let p = err_from_is_err_and c.from_residual.result c.from_residual.ensures.1 in
     rw (p.1, p.2) (pairs_refused (λ (i : Option Interrupt). i) pairs_scope (bindings_view c.args.bindings.now) (rendered_of (partials_of c.args.given.now.partials.now) c.args.name.now) (λ scope partial. apart (merged over scope) (deeper_meaning (setting_of g.H.NamedFilters.named c.args.given.now) c.args.given.now.depth partial)) c.in_err-names.field-0.0 (place c.args.out.now c.args.state.now) c.in_err-names.ensures)
 
-pub render_each::run_item-returns-in_err-partial-clause-performs : goal.render_each::run_item-returns-in_err-partial-clause-performs
-render_each::run_item-returns-in_err-partial-clause-performs g t c over is =
+pub renders::run_item-returns-in_err-partial-clause-performs : goal.renders::run_item-returns-in_err-partial-clause-performs
+renders::run_item-returns-in_err-partial-clause-performs g t c over is =
     let place = place_of g.W.CountedWrite.contents g.W.CountedWrite.failure_count in
     let p = err_from_is_err_and c.from_residual-in_err-partial.result c.from_residual-in_err-partial.ensures.1 in
     rw (p.1, p.2) (not_found (λ (i : Option Interrupt). i) pairs_scope (bindings_view c.args.bindings.now) (rendered_of (partials_of c.args.given.now.partials.now) c.args.name.now) (λ scope partial. apart (merged over scope) (deeper_meaning (setting_of g.H.NamedFilters.named c.args.given.now) c.args.given.now.depth partial)) c.in_err-partial.field-0.0 (held c.in_ok-names.names) (place c.args.out.now c.args.state.now) c.in_ok-names.ensures c.in_err-partial.ensures.found)
 
-pub render_each::run_item-returns-clause-performs : goal.render_each::run_item-returns-clause-performs
-render_each::run_item-returns-clause-performs g t c over is =
+pub renders::run_item-returns-clause-performs : goal.renders::run_item-returns-clause-performs
+renders::run_item-returns-clause-performs g t c over is =
     let place = place_of g.W.CountedWrite.contents g.W.CountedWrite.failure_count in
     entered (λ (i : Option Interrupt). i) pairs_scope (bindings_view c.args.bindings.now) (rendered_of (partials_of c.args.given.now.partials.now) c.args.name.now) (λ scope partial. apart (merged over scope) (deeper_meaning (setting_of g.H.NamedFilters.named c.args.given.now) c.args.given.now.depth partial)) c.run_apart.result (held c.in_ok-names.names) (tree_of c.in_ok-partial.partial.now) (place c.args.out.now c.args.state.now) (place c.run_apart.new.out c.args.state.now) c.in_ok-names.ensures c.in_ok-partial.ensures.found (c.run_apart.ensures.performs (merged over (held c.in_ok-names.names)) (environment_of c.args.state.now) (c.in_ok-own.ensures over is))
 
-pub render_each::run_render_each-returns-in_err-called-clause-performs : goal.render_each::run_render_each-returns-in_err-called-clause-performs
-render_each::run_render_each-returns-in_err-called-clause-performs g t c =
+pub renders::run_render_each-returns-in_err-called-clause-performs : goal.renders::run_render_each-returns-in_err-called-clause-performs
+renders::run_render_each-returns-in_err-called-clause-performs g t c =
     let place = place_of g.W.CountedWrite.contents g.W.CountedWrite.failure_count in
     let p = err_from_is_err_and c.from_residual.result c.from_residual.ensures.1 in
     rw (p.1, p.2) (name_refused (setting_of g.H.NamedFilters.named c.args.given.now) (deeper_meaning (setting_of g.H.NamedFilters.named c.args.given.now) c.args.given.now.depth) (expression_view c.args.name.now) (each_view c.args.each.now) (bindings_view c.args.bindings.now) c.in_err-called.field-0.0 (place c.args.out.now c.args.state.now) c.in_err-called.ensures)
 
-pub render_each::run_render_each-returns-in_err-source-clause-performs : goal.render_each::run_render_each-returns-in_err-source-clause-performs
-render_each::run_render_each-returns-in_err-source-clause-performs g t c =
+pub renders::run_render_each-returns-in_err-source-clause-performs : goal.renders::run_render_each-returns-in_err-source-clause-performs
+renders::run_render_each-returns-in_err-source-clause-performs g t c =
     let place = place_of g.W.CountedWrite.contents g.W.CountedWrite.failure_count in
     let p = err_from_is_err_and c.from_residual-in_err-source.result c.from_residual-in_err-source.ensures.1 in
     rw (p.1, p.2) (items_refused (setting_of g.H.NamedFilters.named c.args.given.now) (deeper_meaning (setting_of g.H.NamedFilters.named c.args.given.now) c.args.given.now.depth) (expression_view c.args.name.now) (each_view c.args.each.now) (bindings_view c.args.bindings.now) c.in_err-source.field-0.0 (string_bytes c.in_ok-called.called) (place c.args.out.now c.args.state.now) c.in_ok-called.ensures c.in_err-source.ensures.items)
 
-pub render_each::run_item-returns-in_err-own-clause-performs : goal.render_each::run_item-returns-in_err-own-clause-performs
-render_each::run_item-returns-in_err-own-clause-performs g t c over is =
+pub renders::run_item-returns-in_err-own-clause-performs : goal.renders::run_item-returns-in_err-own-clause-performs
+renders::run_item-returns-in_err-own-clause-performs g t c over is =
     let p = err_from_is_err_and c.from_residual-in_err-own.result c.from_residual-in_err-own.ensures.1 in
     rw (p.1, p.2) (memory_at _ (c.in_err-own.ensures over is))
 
-pub render_each::run_render_each-returns-in_err-left-clause-performs : goal.render_each::run_render_each-returns-in_err-left-clause-performs
-render_each::run_render_each-returns-in_err-left-clause-performs g t c =
+pub renders::run_render_each-returns-in_err-left-clause-performs : goal.renders::run_render_each-returns-in_err-left-clause-performs
+renders::run_render_each-returns-in_err-left-clause-performs g t c =
     let place = place_of g.W.CountedWrite.contents g.W.CountedWrite.failure_count in
     let name = string_bytes c.in_ok-called.called in
     let source = c.in_ok-source.source in
@@ -680,8 +691,8 @@ render_each::run_render_each-returns-in_err-left-clause-performs g t c =
     (item_faulted (run source.count) ds c.loop-at.at c.in_err-left.field-0.0 start here there lt
     (subst (λ x. Meets (λ (i : Option Interrupt). i) (Err c.in_err-left.field-0.0) (render_apart (setting_of g.H.NamedFilters.named c.args.given.now) (deeper_meaning (setting_of g.H.NamedFilters.named c.args.given.now) c.args.given.now.depth) x (bindings_view c.args.bindings.now) (over (get_or ds c.loop-at.at nil))) here there) c.as_str.ensures.value (c.in_err-left.ensures.performs (over (get_or ds c.loop-at.at nil)) is)) c.loop-at.invariant.leads)))
 
-pub render_each::run_render_each-returns-then-ends_items-clause-performs : goal.render_each::run_render_each-returns-then-ends_items-clause-performs
-render_each::run_render_each-returns-then-ends_items-clause-performs g t c =
+pub renders::run_render_each-returns-then-ends_items-clause-performs : goal.renders::run_render_each-returns-then-ends_items-clause-performs
+renders::run_render_each-returns-then-ends_items-clause-performs g t c =
     let place = place_of g.W.CountedWrite.contents g.W.CountedWrite.failure_count in
     let name = string_bytes c.in_ok-called.called in
     let source = c.in_ok-source.source in
@@ -699,8 +710,8 @@ render_each::run_render_each-returns-then-ends_items-clause-performs g t c =
     (item_breaks (run source.count) ds c.loop-at.at c.in_ok-left.left tt start here there lt (sym c.ends_items.ensures ∙ c.if-ends_items.true)
     (subst (λ x. Meets (λ (i : Option Interrupt). i) (Ok c.in_ok-left.left) (render_apart (setting_of g.H.NamedFilters.named c.args.given.now) (deeper_meaning (setting_of g.H.NamedFilters.named c.args.given.now) c.args.given.now.depth) x (bindings_view c.args.bindings.now) (over (get_or ds c.loop-at.at nil))) here there) c.as_str.ensures.value (c.in_ok-left.ensures.performs (over (get_or ds c.loop-at.at nil)) is)) c.loop-at.invariant.leads))
 
-pub render_each::run_render_each-loop-at-preserved : goal.render_each::run_render_each-loop-at-preserved
-render_each::run_render_each-loop-at-preserved g t c =
+pub renders::run_render_each-loop-at-preserved : goal.renders::run_render_each-loop-at-preserved
+renders::run_render_each-loop-at-preserved g t c =
     let place = place_of g.W.CountedWrite.contents g.W.CountedWrite.failure_count in
     let name = string_bytes c.in_ok-called.called in
     let source = c.in_ok-source.source in
@@ -720,8 +731,8 @@ render_each::run_render_each-loop-at-preserved g t c =
       same_writer = c.run_item.ensures.same_writer ∙ c.loop-at.invariant.same_writer;
     }
 
-pub render_each::run_render_each-returns-clause-performs : goal.render_each::run_render_each-returns-clause-performs
-render_each::run_render_each-returns-clause-performs g t c =
+pub renders::run_render_each-returns-clause-performs : goal.renders::run_render_each-returns-clause-performs
+renders::run_render_each-returns-clause-performs g t c =
     let place = place_of g.W.CountedWrite.contents g.W.CountedWrite.failure_count in
     let name = string_bytes c.in_ok-called.called in
     let source = c.in_ok-source.source in
@@ -779,7 +790,7 @@ run_node-returns-in-Cycle-clause-alone g t c = leaf_other c.args.nodes.now c.arg
 pub run_node-run_ifchanged-requires : goal.run_node-run_ifchanged-requires
 run_node-run_ifchanged-requires g t c κs within =
     let (body, past, inside) = one c.args.nodes.now c.args.at c.in-IfChanged.end c.args.to c.index-nodes-at.result _ tree.ifchanged c.requires c.index-nodes-at.is c.in-IfChanged.is refl in
-    (let lt : 3 * (c.in-IfChanged.end - c.args.at) - 1 + reserve c.args.given.now.depth c.args.given.now.partials.now < t = omega arith in lt, (within.0, (within.1, body)))
+    (let lt : 4 * (c.in-IfChanged.end - c.args.at) - 1 + reserve c.args.given.now.depth c.args.given.now.partials.now < t = omega arith in lt, (within.0, (within.1, body)))
 
 pub run_node-returns-in-IfChanged-clause-performs : goal.run_node-returns-in-IfChanged-clause-performs
 run_node-returns-in-IfChanged-clause-performs g t c =
@@ -798,7 +809,7 @@ run_node-returns-in-IfChanged-clause-alone g t c = one_other c.args.nodes.now c.
 pub run_node-run_case-requires : goal.run_node-run_case-requires
 run_node-run_case-requires g t c κs within =
     let (stands, past, inside) = the_case c.args.nodes.now c.args.at (expression_view c.in-Case.target) c.in-Case.arms.items c.in-Case.last c.args.to c.index-nodes-at.result _ c.requires c.index-nodes-at.is c.in-Case.is refl in
-    (let lt : 3 * (c.in-Case.last - c.args.at) - 1 + reserve c.args.given.now.depth c.args.given.now.partials.now < t = omega arith in lt, (within.0, (within.1, stands)))
+    (let lt : 4 * (c.in-Case.last - c.args.at) - 1 + reserve c.args.given.now.depth c.args.given.now.partials.now < t = omega arith in lt, (within.0, (within.1, stands)))
 
 pub run_node-returns-in-Case-clause-performs : goal.run_node-returns-in-Case-clause-performs
 run_node-returns-in-Case-clause-performs g t c =
@@ -824,7 +835,7 @@ run_case-run_range-requires g t c κs within =
     let first : c.args.at < c.in_ok-from.from = c.in_ok-from.ensures.inside.0 in
     let end : c.in_ok-from.to ≤ c.args.last = c.in_ok-from.ensures.inside.1 in
     let order : c.in_ok-from.from ≤ c.in_ok-from.to = Stands-le (flats c.args.nodes.now) c.in_ok-from.from x.nodes c.in_ok-from.to x.stands in
-    (let lt : 3 * (c.in_ok-from.to - c.in_ok-from.from) + 1 + reserve c.args.given.now.depth c.args.given.now.partials.now < t = omega arith in lt, (within.0, (within.1, (x.nodes, x.stands))))
+    (let lt : 4 * (c.in_ok-from.to - c.in_ok-from.from) + 1 + reserve c.args.given.now.depth c.args.given.now.partials.now < t = omega arith in lt, (within.0, (within.1, (x.nodes, x.stands))))
 
 pub run_case-returns-clause-performs : goal.run_case-returns-clause-performs
 run_case-returns-clause-performs g t c ws o stands =
@@ -848,7 +859,7 @@ run_ifchanged-run_range-ended-requires g t c κs within =
     let body : IsRange c.args.nodes.now (c.args.at + 1) c.args.end = c.requires in
     let (b, here) = body in
     let le : c.args.at + 1 ≤ c.args.end = Stands-le (flats c.args.nodes.now) (c.args.at + 1) b c.args.end here in
-    (let lt : 3 * (c.args.end - (c.args.at + 1)) + 1 + reserve c.args.given.now.depth c.args.given.now.partials.now < t = omega arith in lt, (within.0, (within.1, body)))
+    (let lt : 4 * (c.args.end - (c.args.at + 1)) + 1 + reserve c.args.given.now.depth c.args.given.now.partials.now < t = omega arith in lt, (within.0, (within.1, body)))
 
 pub run_ifchanged-returns-in_err-ended-clause-performs : goal.run_ifchanged-returns-in_err-ended-clause-performs
 run_ifchanged-returns-in_err-ended-clause-performs g t c b here =
@@ -896,3 +907,417 @@ pub run_ifchanged-returns-in_err-ended-clause-kept : goal.run_ifchanged-returns-
 unfolding node_names
 run_ifchanged-returns-in_err-ended-clause-kept g t c b here N names inside =
     c.run_range-ended.ensures.kept b here N names inside
+
+-- ---- loops
+
+pub run_node-run_for-requires : goal.run_node-run_for-requires
+run_node-run_for-requires g t c κs within =
+    let (body, otherwise, past, least, inside) = two c.args.nodes.now c.args.at c.in-For.bodies.first_end c.in-For.bodies.last_end c.args.to c.index-nodes-at.result _ (tree.for_each (string_bytes c.in-For.head.value.variable) (source_view c.in-For.head.value.source) (window_view c.in-For.head.value.window)) c.requires c.index-nodes-at.is c.in-For.is refl in
+    (let lt : 4 * (c.in-For.bodies.last_end - c.args.at) - 1 + reserve c.args.given.now.depth c.args.given.now.partials.now < t = omega arith in lt, (within.0, (within.1, (body, otherwise))))
+
+pub run_node-returns-in-For-clause-performs : goal.run_node-returns-in-For-clause-performs
+run_node-returns-in-For-clause-performs g t c =
+    let place = place_of g.W.CountedWrite.contents g.W.CountedWrite.failure_count in
+    two_performs (setting_of g.H.NamedFilters.named c.args.given.now) c.args.given.now.depth c.args.nodes.now c.args.at c.in-For.bodies.first_end c.in-For.bodies.last_end c.args.to c.index-nodes-at.result _ (tree.for_each (string_bytes c.in-For.head.value.variable) (source_view c.in-For.head.value.source) (window_view c.in-For.head.value.window)) c.run_for.result (place c.args.out.now c.args.state.now) (place c.run_for.new.out c.run_for.new.state) c.requires c.index-nodes-at.is c.in-For.is refl
+    (subst (λ (x : heads_For.For). (b d : Forest Maker) → StandsAt c.args.nodes.now (c.args.at + 1) b c.in-For.bodies.first_end → StandsAt c.args.nodes.now c.in-For.bodies.first_end d c.in-For.bodies.last_end → Performs c.run_for.result (node_meant (setting_of g.H.NamedFilters.named c.args.given.now) c.args.given.now.depth ((tree.for_each (string_bytes x.variable) (source_view x.source) (window_view x.window)) (nodes_of b) (nodes_of d))) (place c.args.out.now c.args.state.now) (place c.run_for.new.out c.run_for.new.state)) c.deref-in-For.ensures c.run_for.ensures.performs)
+
+pub run_node-returns-in-For-clause-kept : goal.run_node-returns-in-For-clause-kept
+run_node-returns-in-For-clause-kept g t c =
+    two_keeps (setting_of g.H.NamedFilters.named c.args.given.now) c.args.nodes.now c.args.at c.in-For.bodies.first_end c.in-For.bodies.last_end c.args.to c.index-nodes-at.result _ (tree.for_each (string_bytes c.in-For.head.value.variable) (source_view c.in-For.head.value.source) (window_view c.in-For.head.value.window)) c.args.state.now c.run_for.new.state c.requires c.index-nodes-at.is c.in-For.is refl
+    (subst (λ (x : heads_For.For). (b d : Forest Maker) → StandsAt c.args.nodes.now (c.args.at + 1) b c.in-For.bodies.first_end → StandsAt c.args.nodes.now c.in-For.bodies.first_end d c.in-For.bodies.last_end → Keeps (node_names ((tree.for_each (string_bytes x.variable) (source_view x.source) (window_view x.window)) (nodes_of b) (nodes_of d))) (setting_of g.H.NamedFilters.named c.args.given.now) c.args.state.now c.run_for.new.state) c.deref-in-For.ensures c.run_for.ensures.kept)
+
+pub run_node-returns-in-For-clause-alone : goal.run_node-returns-in-For-clause-alone
+run_node-returns-in-For-clause-alone g t c =
+    two_other c.args.nodes.now c.args.at c.in-For.bodies.first_end c.in-For.bodies.last_end c.args.to c.index-nodes-at.result _ (tree.for_each (string_bytes c.in-For.head.value.variable) (source_view c.in-For.head.value.source) (window_view c.in-For.head.value.window)) c.args.state.now c.run_for.new.state c.requires c.index-nodes-at.is c.in-For.is refl (λ b d no. absurd no)
+
+pub run_node-run_tablerow-requires : goal.run_node-run_tablerow-requires
+run_node-run_tablerow-requires g t c κs within =
+    let (body, past, inside) = one c.args.nodes.now c.args.at c.in-TableRow.end c.args.to c.index-nodes-at.result _ (tree.tablerow (string_bytes c.in-TableRow.head.value.variable) (source_view c.in-TableRow.head.value.source) (window_view c.in-TableRow.head.value.window) (option_map expression_view c.in-TableRow.head.value.cols)) c.requires c.index-nodes-at.is c.in-TableRow.is refl in
+    (let lt : 4 * (c.in-TableRow.end - c.args.at) - 1 + reserve c.args.given.now.depth c.args.given.now.partials.now < t = omega arith in lt, (within.0, (within.1, body)))
+
+pub run_node-returns-in-TableRow-clause-performs : goal.run_node-returns-in-TableRow-clause-performs
+run_node-returns-in-TableRow-clause-performs g t c =
+    let place = place_of g.W.CountedWrite.contents g.W.CountedWrite.failure_count in
+    one_performs (setting_of g.H.NamedFilters.named c.args.given.now) c.args.given.now.depth c.args.nodes.now c.args.at c.in-TableRow.end c.args.to c.index-nodes-at.result _ (tree.tablerow (string_bytes c.in-TableRow.head.value.variable) (source_view c.in-TableRow.head.value.source) (window_view c.in-TableRow.head.value.window) (option_map expression_view c.in-TableRow.head.value.cols)) c.run_tablerow.result (place c.args.out.now c.args.state.now) (place c.run_tablerow.new.out c.run_tablerow.new.state) c.requires c.index-nodes-at.is c.in-TableRow.is refl
+    (subst (λ (x : heads_TableRow.TableRow). (b : Forest Maker) → StandsAt c.args.nodes.now (c.args.at + 1) b c.in-TableRow.end → Performs c.run_tablerow.result (node_meant (setting_of g.H.NamedFilters.named c.args.given.now) c.args.given.now.depth ((tree.tablerow (string_bytes x.variable) (source_view x.source) (window_view x.window) (option_map expression_view x.cols)) (nodes_of b))) (place c.args.out.now c.args.state.now) (place c.run_tablerow.new.out c.run_tablerow.new.state)) c.deref-in-TableRow.ensures c.run_tablerow.ensures.performs)
+
+pub run_node-returns-in-TableRow-clause-kept : goal.run_node-returns-in-TableRow-clause-kept
+run_node-returns-in-TableRow-clause-kept g t c =
+    one_keeps (setting_of g.H.NamedFilters.named c.args.given.now) c.args.nodes.now c.args.at c.in-TableRow.end c.args.to c.index-nodes-at.result _ (tree.tablerow (string_bytes c.in-TableRow.head.value.variable) (source_view c.in-TableRow.head.value.source) (window_view c.in-TableRow.head.value.window) (option_map expression_view c.in-TableRow.head.value.cols)) c.args.state.now c.run_tablerow.new.state c.requires c.index-nodes-at.is c.in-TableRow.is refl
+    (subst (λ (x : heads_TableRow.TableRow). (b : Forest Maker) → StandsAt c.args.nodes.now (c.args.at + 1) b c.in-TableRow.end → Keeps (node_names ((tree.tablerow (string_bytes x.variable) (source_view x.source) (window_view x.window) (option_map expression_view x.cols)) (nodes_of b))) (setting_of g.H.NamedFilters.named c.args.given.now) c.args.state.now c.run_tablerow.new.state) c.deref-in-TableRow.ensures c.run_tablerow.ensures.kept)
+
+pub run_node-returns-in-TableRow-clause-alone : goal.run_node-returns-in-TableRow-clause-alone
+run_node-returns-in-TableRow-clause-alone g t c =
+    one_other c.args.nodes.now c.args.at c.in-TableRow.end c.args.to c.index-nodes-at.result _ (tree.tablerow (string_bytes c.in-TableRow.head.value.variable) (source_view c.in-TableRow.head.value.source) (window_view c.in-TableRow.head.value.window) (option_map expression_view c.in-TableRow.head.value.cols)) c.args.state.now c.run_tablerow.new.state c.requires c.index-nodes-at.is c.in-TableRow.is refl (λ b no. absurd no)
+
+pub loops::run_turns-run_range-requires : goal.loops::run_turns-run_range-requires
+loops::run_turns-run_range-requires g t c κs within =
+    (let lt : 4 * (c.args.to - c.args.from) + 1 + reserve c.args.given.now.depth c.args.given.now.partials.now < t = omega arith in lt, (within.0, (within.1, c.requires.range)))
+
+pub loops::run_turns-returns-in_err-run_range-clause-performs : goal.loops::run_turns-returns-in_err-run_range-clause-performs
+loops::run_turns-returns-in_err-run_range-clause-performs g t c f stood before u starts =
+    let over = place_behind g.W.CountedWrite.contents g.W.CountedWrite.failure_count in
+    let sink = sink_of g.W.CountedWrite.contents g.W.CountedWrite.failure_count in
+    let a = c.turns.invariant.turn before u starts in
+    let pushed = at_pushed before u c.turns.place c.turns.state (scopes_behind (layers_of c.args.state.now).scopes) a c.turns.invariant.scopes in
+    let body = (nodes_meant (setting_of g.H.NamedFilters.named c.args.given.now) c.args.given.now.depth (nodes_of f)) in
+    let kept = c.in_err-run_range.ensures.kept f stood (λ n. true) (within_all _) (within_all _) in
+    let p = err_from_is_err_and c.from_residual.result c.from_residual.ensures.1 in
+    rw (p.1, p.2) (turn_fault u (behind c.args.state.now) body c.args.count c.turns.place (over c.args.out.now c.args.state.now) (over c.turns.out c.turns.state) (over c.run_range.new.out c.run_range.new.state) c.in_err-run_range.field-0.0 c.turns.invariant.within (c.turns.invariant.leads f stood before u starts)
+    (turn_faulted u c.turns.place (behind c.args.state.now) body (sink c.turns.out) (sink c.run_range.new.out) (layers_of c.turns.state) (layers_of c.run_range.new.state) pushed kept.scopes c.in_err-run_range.field-0.0 (c.in_err-run_range.ensures.performs f stood)))
+
+pub loops::run_turns-returns-in_err-run_range-clause-kept : goal.loops::run_turns-returns-in_err-run_range-clause-kept
+loops::run_turns-returns-in_err-run_range-clause-kept g t c f stood N names inside =
+    kept_cell N (layers_of c.args.state.now) (layers_of c.turns.state) (layers_of c.run_range.new.state) (c.turns.invariant.kept f stood N names inside) (c.in_err-run_range.ensures.kept f stood N names inside)
+
+pub loops::run_turns-returns-in_err-run_range-clause-loops : goal.loops::run_turns-returns-in_err-run_range-clause-loops
+loops::run_turns-returns-in_err-run_range-clause-loops g t c =
+    let (before, (u, starts)) = c.requires.start in
+    ap without_innermost (c.in_err-run_range.ensures.loops) ∙ at_off before u c.turns.place c.turns.state (c.turns.invariant.turn before u starts) ∙ sym (at_off before u 0 c.args.state.now (at_start before u c.args.count c.args.state.now starts))
+
+pub loops::run_turns-returns-then-takes_break-clause-performs : goal.loops::run_turns-returns-then-takes_break-clause-performs
+loops::run_turns-returns-then-takes_break-clause-performs g t c f stood before u starts =
+    let over = place_behind g.W.CountedWrite.contents g.W.CountedWrite.failure_count in
+    let sink = sink_of g.W.CountedWrite.contents g.W.CountedWrite.failure_count in
+    let a = c.turns.invariant.turn before u starts in
+    let pushed = at_pushed before u c.turns.place c.turns.state (scopes_behind (layers_of c.args.state.now).scopes) a c.turns.invariant.scopes in
+    let body = (nodes_meant (setting_of g.H.NamedFilters.named c.args.given.now) c.args.given.now.depth (nodes_of f)) in
+    let kept = c.in_ok-run_range.ensures.kept f stood (λ n. true) (within_all _) (within_all _) in
+    let ran = turn_ran u c.turns.place (behind c.args.state.now) body (sink c.turns.out) (sink c.run_range.new.out) (layers_of c.turns.state) (layers_of c.run_range.new.state) pushed kept.scopes c.in_ok-run_range.field-0 (layers_of c.takes_break.new.state) c.takes_break.ensures.cleared (c.in_ok-run_range.ensures.performs f stood) in
+    let left = (layers_of c.run_range.new.state).registers.interrupt in
+    turn_break u (behind c.args.state.now) body c.args.count c.turns.place (over c.args.out.now c.args.state.now) (over c.turns.out c.turns.state) (over c.run_range.new.out c.takes_break.new.state) tt left c.turns.invariant.within (c.turns.invariant.leads f stood before u starts) ran (sym c.takes_break.ensures.was ∙ c.if-takes_break.true)
+
+pub loops::run_turns-returns-then-takes_break-clause-kept : goal.loops::run_turns-returns-then-takes_break-clause-kept
+loops::run_turns-returns-then-takes_break-clause-kept g t c f stood N names inside =
+    kept_turn N (layers_of c.args.state.now) (layers_of c.turns.state) (layers_of c.run_range.new.state) (layers_of c.takes_break.new.state) (c.turns.invariant.kept f stood N names inside) (c.run_range.ensures.kept f stood N names inside) c.takes_break.ensures.cleared
+
+pub loops::run_turns-returns-then-takes_break-clause-loops : goal.loops::run_turns-returns-then-takes_break-clause-loops
+loops::run_turns-returns-then-takes_break-clause-loops g t c =
+    let (before, (u, starts)) = c.requires.start in
+    ap without_innermost (c.takes_break.ensures.loops ∙ c.in_ok-run_range.ensures.loops) ∙ at_off before u c.turns.place c.turns.state (c.turns.invariant.turn before u starts) ∙ sym (at_off before u 0 c.args.state.now (at_start before u c.args.count c.args.state.now starts))
+
+pub loops::run_turns-returns-then-place-count-clause-performs : goal.loops::run_turns-returns-then-place-count-clause-performs
+loops::run_turns-returns-then-place-count-clause-performs g t c f stood before u starts =
+    let over = place_behind g.W.CountedWrite.contents g.W.CountedWrite.failure_count in
+    let sink = sink_of g.W.CountedWrite.contents g.W.CountedWrite.failure_count in
+    let a = c.turns.invariant.turn before u starts in
+    let pushed = at_pushed before u c.turns.place c.turns.state (scopes_behind (layers_of c.args.state.now).scopes) a c.turns.invariant.scopes in
+    let body = (nodes_meant (setting_of g.H.NamedFilters.named c.args.given.now) c.args.given.now.depth (nodes_of f)) in
+    let kept = c.in_ok-run_range.ensures.kept f stood (λ n. true) (within_all _) (within_all _) in
+    let ran = turn_ran u c.turns.place (behind c.args.state.now) body (sink c.turns.out) (sink c.run_range.new.out) (layers_of c.turns.state) (layers_of c.run_range.new.state) pushed kept.scopes c.in_ok-run_range.field-0 (layers_of c.takes_break.new.state) c.takes_break.ensures.cleared (c.in_ok-run_range.ensures.performs f stood) in
+    let left = (layers_of c.run_range.new.state).registers.interrupt in
+    turns_end u (behind c.args.state.now) body c.args.count tt (c.turns.place + 1) (over c.args.out.now c.args.state.now) (over c.run_range.new.out c.takes_break.new.state) c.if-place-count.true
+    (turn_on u (behind c.args.state.now) body c.args.count c.turns.place (over c.args.out.now c.args.state.now) (over c.turns.out c.turns.state) (over c.run_range.new.out c.takes_break.new.state) left c.turns.invariant.within (c.turns.invariant.leads f stood before u starts) ran (sym c.takes_break.ensures.was ∙ c.if-takes_break.false))
+
+pub loops::run_turns-returns-then-place-count-clause-kept : goal.loops::run_turns-returns-then-place-count-clause-kept
+loops::run_turns-returns-then-place-count-clause-kept g t c f stood N names inside =
+    kept_turn N (layers_of c.args.state.now) (layers_of c.turns.state) (layers_of c.run_range.new.state) (layers_of c.takes_break.new.state) (c.turns.invariant.kept f stood N names inside) (c.run_range.ensures.kept f stood N names inside) c.takes_break.ensures.cleared
+
+pub loops::run_turns-returns-then-place-count-clause-loops : goal.loops::run_turns-returns-then-place-count-clause-loops
+loops::run_turns-returns-then-place-count-clause-loops g t c =
+    let (before, (u, starts)) = c.requires.start in
+    ap without_innermost (c.takes_break.ensures.loops ∙ c.in_ok-run_range.ensures.loops) ∙ at_off before u c.turns.place c.turns.state (c.turns.invariant.turn before u starts) ∙ sym (at_off before u 0 c.args.state.now (at_start before u c.args.count c.args.state.now starts))
+
+pub loops::run_turns-advance-requires : goal.loops::run_turns-advance-requires
+loops::run_turns-advance-requires g t c =
+    let (before, (u, starts)) = c.requires.start in
+    at_goes_on before u c.turns.place c.args.count c.takes_break.new.state (at_kept before u c.turns.place c.turns.state c.takes_break.new.state (c.takes_break.ensures.loops ∙ c.in_ok-run_range.ensures.loops) (c.turns.invariant.turn before u starts)) starts.count (let within : c.turns.place < c.args.count = c.turns.invariant.within in omega (arith, within, c.if-place-count.false))
+
+pub loops::run_turns-turns-preserved : goal.loops::run_turns-turns-preserved
+loops::run_turns-turns-preserved g t c =
+    let over = place_behind g.W.CountedWrite.contents g.W.CountedWrite.failure_count in
+    let sink = sink_of g.W.CountedWrite.contents g.W.CountedWrite.failure_count in
+    let advanced : (before : List Scope) (u : Turn) → StartsAt c.args.count c.args.state.now before u → with_scope_popped (layers_of c.advance.new.self) ≡ with_scope_popped (layers_of c.takes_break.new.state) = λ before u starts.
+    let a = at_kept before u c.turns.place c.turns.state c.takes_break.new.state (c.takes_break.ensures.loops ∙ c.in_ok-run_range.ensures.loops) (c.turns.invariant.turn before u starts) in
+    advanced_behind a.now (a.now.at + 1) (layers_of c.takes_break.new.state) (layers_of c.advance.new.self) (c.advance.ensures.turned before a.now a.innermost) in
+    let (before0, (u0, starts0)) = c.requires.start in
+    let (f0, stood0) = c.requires.range in
+    let all = c.in_ok-run_range.ensures.kept f0 stood0 (λ n. true) (within_all _) (within_all _) in
+    record {
+      within = (let within : c.turns.place < c.args.count = c.turns.invariant.within in omega (arith, within, c.if-place-count.false));
+      leads = λ f stood before u starts.
+          let a = c.turns.invariant.turn before u starts in
+          let pushed = at_pushed before u c.turns.place c.turns.state (scopes_behind (layers_of c.args.state.now).scopes) a c.turns.invariant.scopes in
+          let body = (nodes_meant (setting_of g.H.NamedFilters.named c.args.given.now) c.args.given.now.depth (nodes_of f)) in
+          let kept = c.in_ok-run_range.ensures.kept f stood (λ n. true) (within_all _) (within_all _) in
+          let ran = turn_ran u c.turns.place (behind c.args.state.now) body (sink c.turns.out) (sink c.run_range.new.out) (layers_of c.turns.state) (layers_of c.run_range.new.state) pushed kept.scopes c.in_ok-run_range.field-0 (layers_of c.takes_break.new.state) c.takes_break.ensures.cleared (c.in_ok-run_range.ensures.performs f stood) in
+          let left = (layers_of c.run_range.new.state).registers.interrupt in
+          subst (λ l. TurnsLead u (behind c.args.state.now) body c.args.count (c.turns.place + 1) (over c.args.out.now c.args.state.now) (record { sink = sink c.run_range.new.out; environment = merged_layers l })) (sym (advanced before u starts))
+          (turn_on u (behind c.args.state.now) body c.args.count c.turns.place (over c.args.out.now c.args.state.now) (over c.turns.out c.turns.state) (over c.run_range.new.out c.takes_break.new.state) left c.turns.invariant.within (c.turns.invariant.leads f stood before u starts) ran (sym c.takes_break.ensures.was ∙ c.if-takes_break.false));
+      turn = λ before u starts. at_next before u c.turns.place c.takes_break.new.state c.advance.new.self (at_kept before u c.turns.place c.turns.state c.takes_break.new.state (c.takes_break.ensures.loops ∙ c.in_ok-run_range.ensures.loops) (c.turns.invariant.turn before u starts)) c.advance.ensures.loops;
+      scopes = ap (λ l. l.scopes) (advanced before0 u0 starts0) ∙ ap (λ l. scopes_behind l.scopes) c.takes_break.ensures.cleared ∙ ap scopes_behind all.scopes ∙ c.turns.invariant.scopes;
+      kept = λ f stood N names inside. subst (λ l. LayersKept N (with_scope_popped (layers_of c.args.state.now)) l) (sym (advanced before0 u0 starts0)) (kept_turn N (layers_of c.args.state.now) (layers_of c.turns.state) (layers_of c.run_range.new.state) (layers_of c.takes_break.new.state) (c.turns.invariant.kept f stood N names inside) (c.run_range.ensures.kept f stood N names inside) c.takes_break.ensures.cleared);
+      same_writer = c.run_range.ensures.same_writer ∙ c.turns.invariant.same_writer;
+    }
+
+pub loops::run_turns-turns-init : goal.loops::run_turns-turns-init
+loops::run_turns-turns-init g t c =
+    let over = place_behind g.W.CountedWrite.contents g.W.CountedWrite.failure_count in
+    let (before, (u, starts)) = c.requires.start in
+    record {
+      within = (let below : u.at < u.count = u.within.0 in omega (arith, below, starts.first, starts.count));
+      leads = λ f stood before u starts. turns_start u (behind c.args.state.now) (nodes_meant (setting_of g.H.NamedFilters.named c.args.given.now) c.args.given.now.depth (nodes_of f)) c.args.count (over c.args.out.now c.args.state.now) starts.count;
+      turn = λ before u starts. at_start before u c.args.count c.args.state.now starts;
+      scopes = refl;
+      kept = λ f stood N names inside. kept_same N _ _ refl;
+      same_writer = refl;
+    }
+
+pub loops::run_cells-run_range-requires : goal.loops::run_cells-run_range-requires
+loops::run_cells-run_range-requires g t c κs within =
+    (let lt : 4 * (c.args.to - c.args.from) + 1 + reserve c.args.given.now.depth c.args.given.now.partials.now < t = omega arith in lt, (within.0, (within.1, c.requires.range)))
+
+pub loops::run_cells-returns-in_err-open-clause-performs : goal.loops::run_cells-returns-in_err-open-clause-performs
+loops::run_cells-returns-in_err-open-clause-performs g t c f stood before u starts =
+    let over = place_behind g.W.CountedWrite.contents g.W.CountedWrite.failure_count in
+    let sink = sink_of g.W.CountedWrite.contents g.W.CountedWrite.failure_count in
+    let body = (nodes_meant (setting_of g.H.NamedFilters.named c.args.given.now) c.args.given.now.depth (nodes_of f)) in
+    let p = err_from_is_err_and c.from_residual.result c.from_residual.ensures.1 in
+    rw (p.1, p.2) (cell_fault u c.args.row.columns.count (behind c.args.state.now) body c.args.row.count c.cells.place (over c.args.out.now c.args.state.now) (over c.cells.out c.cells.state) (over c.open.new.out c.cells.state) c.in_err-open.field-0.0 c.cells.invariant.within (c.cells.invariant.leads f stood before u starts)
+    (cell_unopened u c.cells.place c.args.row.columns.count (behind c.args.state.now) body c.in_err-open.field-0.0 (sink c.cells.out) (sink c.open.new.out) _ c.in_err-open.ensures.writes))
+
+pub loops::run_cells-returns-in_err-open-clause-loops : goal.loops::run_cells-returns-in_err-open-clause-loops
+loops::run_cells-returns-in_err-open-clause-loops g t c =
+    let (before, (u, starts)) = c.requires.start in
+    ap without_innermost (refl) ∙ at_off before u c.cells.place c.cells.state (c.cells.invariant.turn before u starts) ∙ sym (at_off before u 0 c.args.state.now (at_start before u c.args.row.count c.args.state.now starts))
+
+pub loops::run_cells-returns-in_err-run_range-clause-performs : goal.loops::run_cells-returns-in_err-run_range-clause-performs
+loops::run_cells-returns-in_err-run_range-clause-performs g t c f stood before u starts =
+    let over = place_behind g.W.CountedWrite.contents g.W.CountedWrite.failure_count in
+    let sink = sink_of g.W.CountedWrite.contents g.W.CountedWrite.failure_count in
+    let a = c.cells.invariant.turn before u starts in
+    let pushed = at_pushed before u c.cells.place c.cells.state (scopes_behind (layers_of c.args.state.now).scopes) a c.cells.invariant.scopes in
+    let body = (nodes_meant (setting_of g.H.NamedFilters.named c.args.given.now) c.args.given.now.depth (nodes_of f)) in
+    let kept = c.in_err-run_range.ensures.kept f stood (λ n. true) (within_all _) (within_all _) in
+    let p = err_from_is_err_and c.from_residual-in_err-run_range.result c.from_residual-in_err-run_range.ensures.1 in
+    rw (p.1, p.2) (cell_fault u c.args.row.columns.count (behind c.args.state.now) body c.args.row.count c.cells.place (over c.args.out.now c.args.state.now) (over c.cells.out c.cells.state) (over c.run_range.new.out c.run_range.new.state) c.in_err-run_range.field-0.0 c.cells.invariant.within (c.cells.invariant.leads f stood before u starts)
+    (cell_faulted u c.cells.place (behind c.args.state.now) body (sink c.open.new.out) (sink c.run_range.new.out) (layers_of c.cells.state) (layers_of c.run_range.new.state) pushed kept.scopes c.args.row.columns.count c.in_ok-open.field-0 c.in_err-run_range.field-0.0 (sink c.cells.out) c.in_ok-open.ensures.writes (c.in_err-run_range.ensures.performs f stood)))
+
+pub loops::run_cells-returns-in_err-run_range-clause-kept : goal.loops::run_cells-returns-in_err-run_range-clause-kept
+loops::run_cells-returns-in_err-run_range-clause-kept g t c f stood N names inside =
+    kept_cell N (layers_of c.args.state.now) (layers_of c.cells.state) (layers_of c.run_range.new.state) (c.cells.invariant.kept f stood N names inside) (c.run_range.ensures.kept f stood N names inside)
+
+pub loops::run_cells-returns-in_err-run_range-clause-loops : goal.loops::run_cells-returns-in_err-run_range-clause-loops
+loops::run_cells-returns-in_err-run_range-clause-loops g t c =
+    let (before, (u, starts)) = c.requires.start in
+    ap without_innermost (c.in_err-run_range.ensures.loops) ∙ at_off before u c.cells.place c.cells.state (c.cells.invariant.turn before u starts) ∙ sym (at_off before u 0 c.args.state.now (at_start before u c.args.row.count c.args.state.now starts))
+
+pub loops::run_cells-returns-in_err-close-clause-performs : goal.loops::run_cells-returns-in_err-close-clause-performs
+loops::run_cells-returns-in_err-close-clause-performs g t c f stood before u starts =
+    let over = place_behind g.W.CountedWrite.contents g.W.CountedWrite.failure_count in
+    let sink = sink_of g.W.CountedWrite.contents g.W.CountedWrite.failure_count in
+    let a = c.cells.invariant.turn before u starts in
+    let pushed = at_pushed before u c.cells.place c.cells.state (scopes_behind (layers_of c.args.state.now).scopes) a c.cells.invariant.scopes in
+    let body = (nodes_meant (setting_of g.H.NamedFilters.named c.args.given.now) c.args.given.now.depth (nodes_of f)) in
+    let kept = c.in_ok-run_range.ensures.kept f stood (λ n. true) (within_all _) (within_all _) in
+    let p = err_from_is_err_and c.from_residual-in_err-close.result c.from_residual-in_err-close.ensures.1 in
+    rw (p.1, p.2) (cell_fault u c.args.row.columns.count (behind c.args.state.now) body c.args.row.count c.cells.place (over c.args.out.now c.args.state.now) (over c.cells.out c.cells.state) (over c.close.new.out c.run_range.new.state) c.in_err-close.field-0.0 c.cells.invariant.within (c.cells.invariant.leads f stood before u starts)
+    (cell_ran u c.cells.place (behind c.args.state.now) body (sink c.open.new.out) (sink c.run_range.new.out) (layers_of c.cells.state) (layers_of c.run_range.new.state) pushed kept.scopes c.args.row.columns.count c.in_ok-open.field-0 c.in_ok-run_range.field-0 (Err c.in_err-close.field-0.0) (sink c.cells.out) (sink c.close.new.out) c.in_ok-open.ensures.writes (c.in_ok-run_range.ensures.performs f stood)
+    (subst (λ n. Writes (Err c.in_err-close.field-0.0) (cell_end c.cells.place n c.args.row.columns.count) (sink c.run_range.new.out) (sink c.close.new.out)) (sym starts.count) c.in_err-close.ensures.writes)))
+
+pub loops::run_cells-returns-in_err-close-clause-kept : goal.loops::run_cells-returns-in_err-close-clause-kept
+loops::run_cells-returns-in_err-close-clause-kept g t c f stood N names inside =
+    kept_cell N (layers_of c.args.state.now) (layers_of c.cells.state) (layers_of c.run_range.new.state) (c.cells.invariant.kept f stood N names inside) (c.run_range.ensures.kept f stood N names inside)
+
+pub loops::run_cells-returns-in_err-close-clause-loops : goal.loops::run_cells-returns-in_err-close-clause-loops
+loops::run_cells-returns-in_err-close-clause-loops g t c =
+    let (before, (u, starts)) = c.requires.start in
+    ap without_innermost (c.in_ok-run_range.ensures.loops) ∙ at_off before u c.cells.place c.cells.state (c.cells.invariant.turn before u starts) ∙ sym (at_off before u 0 c.args.state.now (at_start before u c.args.row.count c.args.state.now starts))
+
+pub loops::run_cells-returns-then-place-row-clause-performs : goal.loops::run_cells-returns-then-place-row-clause-performs
+loops::run_cells-returns-then-place-row-clause-performs g t c f stood before u starts =
+    let over = place_behind g.W.CountedWrite.contents g.W.CountedWrite.failure_count in
+    let sink = sink_of g.W.CountedWrite.contents g.W.CountedWrite.failure_count in
+    let a = c.cells.invariant.turn before u starts in
+    let pushed = at_pushed before u c.cells.place c.cells.state (scopes_behind (layers_of c.args.state.now).scopes) a c.cells.invariant.scopes in
+    let body = (nodes_meant (setting_of g.H.NamedFilters.named c.args.given.now) c.args.given.now.depth (nodes_of f)) in
+    let kept = c.in_ok-run_range.ensures.kept f stood (λ n. true) (within_all _) (within_all _) in
+    cells_end u c.args.row.columns.count (behind c.args.state.now) body c.args.row.count tt (c.cells.place + 1) (over c.args.out.now c.args.state.now) (over c.close.new.out c.run_range.new.state) c.if-place-row.true
+    (cell_on u c.args.row.columns.count (behind c.args.state.now) body c.args.row.count c.cells.place (over c.args.out.now c.args.state.now) (over c.cells.out c.cells.state) (over c.close.new.out c.run_range.new.state) c.in_ok-close.field-0 c.cells.invariant.within (c.cells.invariant.leads f stood before u starts)
+    (cell_ran u c.cells.place (behind c.args.state.now) body (sink c.open.new.out) (sink c.run_range.new.out) (layers_of c.cells.state) (layers_of c.run_range.new.state) pushed kept.scopes c.args.row.columns.count c.in_ok-open.field-0 c.in_ok-run_range.field-0 (Ok c.in_ok-close.field-0) (sink c.cells.out) (sink c.close.new.out) c.in_ok-open.ensures.writes (c.in_ok-run_range.ensures.performs f stood)
+    (subst (λ n. Writes (Ok c.in_ok-close.field-0) (cell_end c.cells.place n c.args.row.columns.count) (sink c.run_range.new.out) (sink c.close.new.out)) (sym starts.count) c.in_ok-close.ensures.writes)))
+
+pub loops::run_cells-returns-then-place-row-clause-kept : goal.loops::run_cells-returns-then-place-row-clause-kept
+loops::run_cells-returns-then-place-row-clause-kept g t c f stood N names inside =
+    kept_cell N (layers_of c.args.state.now) (layers_of c.cells.state) (layers_of c.run_range.new.state) (c.cells.invariant.kept f stood N names inside) (c.run_range.ensures.kept f stood N names inside)
+
+pub loops::run_cells-returns-then-place-row-clause-loops : goal.loops::run_cells-returns-then-place-row-clause-loops
+loops::run_cells-returns-then-place-row-clause-loops g t c =
+    let (before, (u, starts)) = c.requires.start in
+    ap without_innermost (c.in_ok-run_range.ensures.loops) ∙ at_off before u c.cells.place c.cells.state (c.cells.invariant.turn before u starts) ∙ sym (at_off before u 0 c.args.state.now (at_start before u c.args.row.count c.args.state.now starts))
+
+pub loops::run_cells-open-requires : goal.loops::run_cells-open-requires
+loops::run_cells-open-requires g t c =
+    let (before, (u, starts)) = c.requires.start in
+    let within : c.cells.place < c.args.row.count = c.cells.invariant.within in
+    let most : u.count ≤ 9223372036854775807 = u.within.1.0 in
+    omega (arith, within, most, starts.count)
+
+pub loops::run_cells-close-requires : goal.loops::run_cells-close-requires
+loops::run_cells-close-requires g t c =
+    let (before, (u, starts)) = c.requires.start in
+    let within : c.cells.place < c.args.row.count = c.cells.invariant.within in
+    let most : u.count ≤ 9223372036854775807 = u.within.1.0 in
+    omega (arith, within, most, starts.count)
+
+pub loops::run_cells-advance-requires : goal.loops::run_cells-advance-requires
+loops::run_cells-advance-requires g t c =
+    let (before, (u, starts)) = c.requires.start in
+    at_goes_on before u c.cells.place c.args.row.count c.run_range.new.state (at_kept before u c.cells.place c.cells.state c.run_range.new.state c.in_ok-run_range.ensures.loops (c.cells.invariant.turn before u starts)) starts.count (let within : c.cells.place < c.args.row.count = c.cells.invariant.within in omega (arith, within, c.if-place-row.false))
+
+pub loops::run_cells-cells-preserved : goal.loops::run_cells-cells-preserved
+loops::run_cells-cells-preserved g t c =
+    let over = place_behind g.W.CountedWrite.contents g.W.CountedWrite.failure_count in
+    let sink = sink_of g.W.CountedWrite.contents g.W.CountedWrite.failure_count in
+    let advanced : (before : List Scope) (u : Turn) → StartsAt c.args.row.count c.args.state.now before u → with_scope_popped (layers_of c.advance.new.self) ≡ with_scope_popped (layers_of c.run_range.new.state) = λ before u starts.
+    let a = at_kept before u c.cells.place c.cells.state c.run_range.new.state c.in_ok-run_range.ensures.loops (c.cells.invariant.turn before u starts) in
+    advanced_behind a.now (a.now.at + 1) (layers_of c.run_range.new.state) (layers_of c.advance.new.self) (c.advance.ensures.turned before a.now a.innermost) in
+    let (before0, (u0, starts0)) = c.requires.start in
+    let (f0, stood0) = c.requires.range in
+    let all = c.in_ok-run_range.ensures.kept f0 stood0 (λ n. true) (within_all _) (within_all _) in
+    record {
+      within = (let within : c.cells.place < c.args.row.count = c.cells.invariant.within in omega (arith, within, c.if-place-row.false));
+      leads = λ f stood before u starts.
+          let a = c.cells.invariant.turn before u starts in
+          let pushed = at_pushed before u c.cells.place c.cells.state (scopes_behind (layers_of c.args.state.now).scopes) a c.cells.invariant.scopes in
+          let body = (nodes_meant (setting_of g.H.NamedFilters.named c.args.given.now) c.args.given.now.depth (nodes_of f)) in
+          let kept = c.in_ok-run_range.ensures.kept f stood (λ n. true) (within_all _) (within_all _) in
+          subst (λ l. CellsLead u c.args.row.columns.count (behind c.args.state.now) body c.args.row.count (c.cells.place + 1) (over c.args.out.now c.args.state.now) (record { sink = sink c.close.new.out; environment = merged_layers l })) (sym (advanced before u starts))
+          (cell_on u c.args.row.columns.count (behind c.args.state.now) body c.args.row.count c.cells.place (over c.args.out.now c.args.state.now) (over c.cells.out c.cells.state) (over c.close.new.out c.run_range.new.state) c.in_ok-close.field-0 c.cells.invariant.within (c.cells.invariant.leads f stood before u starts)
+          (cell_ran u c.cells.place (behind c.args.state.now) body (sink c.open.new.out) (sink c.run_range.new.out) (layers_of c.cells.state) (layers_of c.run_range.new.state) pushed kept.scopes c.args.row.columns.count c.in_ok-open.field-0 c.in_ok-run_range.field-0 (Ok c.in_ok-close.field-0) (sink c.cells.out) (sink c.close.new.out) c.in_ok-open.ensures.writes (c.in_ok-run_range.ensures.performs f stood)
+          (subst (λ n. Writes (Ok c.in_ok-close.field-0) (cell_end c.cells.place n c.args.row.columns.count) (sink c.run_range.new.out) (sink c.close.new.out)) (sym starts.count) c.in_ok-close.ensures.writes)));
+      turn = λ before u starts. at_next before u c.cells.place c.run_range.new.state c.advance.new.self (at_kept before u c.cells.place c.cells.state c.run_range.new.state c.in_ok-run_range.ensures.loops (c.cells.invariant.turn before u starts)) c.advance.ensures.loops;
+      scopes = ap (λ l. l.scopes) (advanced before0 u0 starts0) ∙ ap scopes_behind all.scopes ∙ c.cells.invariant.scopes;
+      kept = λ f stood N names inside. subst (λ l. LayersKept N (with_scope_popped (layers_of c.args.state.now)) l) (sym (advanced before0 u0 starts0)) (kept_cell N (layers_of c.args.state.now) (layers_of c.cells.state) (layers_of c.run_range.new.state) (c.cells.invariant.kept f stood N names inside) (c.run_range.ensures.kept f stood N names inside));
+      same_writer = c.close.ensures.same_writer ∙ c.run_range.ensures.same_writer ∙ c.open.ensures.same_writer ∙ c.cells.invariant.same_writer;
+    }
+
+pub loops::run_cells-cells-init : goal.loops::run_cells-cells-init
+loops::run_cells-cells-init g t c =
+    let over = place_behind g.W.CountedWrite.contents g.W.CountedWrite.failure_count in
+    let (before, (u, starts)) = c.requires.start in
+    record {
+      within = (let below : u.at < u.count = u.within.0 in omega (arith, below, starts.first, starts.count));
+      leads = λ f stood before u starts. cells_start u c.args.row.columns.count (behind c.args.state.now) (nodes_meant (setting_of g.H.NamedFilters.named c.args.given.now) c.args.given.now.depth (nodes_of f)) c.args.row.count (over c.args.out.now c.args.state.now) starts.count;
+      turn = λ before u starts. at_start before u c.args.row.count c.args.state.now starts;
+      scopes = refl;
+      kept = λ f stood N names inside. kept_same N _ _ refl;
+      same_writer = refl;
+    }
+
+pub loops::run_for-overflow_add-at : goal.loops::run_for-overflow_add-at
+loops::run_for-overflow_add-at g t c =
+    let (b0, here0) = c.requires.body in
+    let le : c.args.at + 1 ≤ c.args.bodies.first_end = Stands-le (flats c.args.nodes.now) (c.args.at + 1) b0 c.args.bodies.first_end here0 in
+    search rules
+
+pub loops::run_for-returns-in_err-turn-clause-performs : goal.loops::run_for-returns-in_err-turn-clause-performs
+loops::run_for-returns-in_err-turn-clause-performs g t c b d here after =
+    let place = place_of g.W.CountedWrite.contents g.W.CountedWrite.failure_count in
+    let p = err_from_is_err_and c.from_residual.result c.from_residual.ensures.1 in
+    rw (p.1, p.2) (for_refused (setting_of g.H.NamedFilters.named c.args.given.now) (deeper_meaning (setting_of g.H.NamedFilters.named c.args.given.now) c.args.given.now.depth) (string_bytes c.args.head.now.variable) (source_view c.args.head.now.source) (window_view c.args.head.now.window) (nodes_of b) (nodes_of d) c.in_err-turn.field-0.0 (place c.args.out.now c.args.state.now) c.in_err-turn.ensures.items)
+
+pub loops::run_for-run_range-requires : goal.loops::run_for-run_range-requires
+loops::run_for-run_range-requires g t c κs within =
+    let (b0, here0) = c.requires.body in
+    let (d0, after0) = c.requires.otherwise in
+    let le : c.args.at + 1 ≤ c.args.bodies.first_end = Stands-le (flats c.args.nodes.now) (c.args.at + 1) b0 c.args.bodies.first_end here0 in
+    let more : c.args.bodies.first_end ≤ c.args.bodies.last_end = Stands-le (flats c.args.nodes.now) c.args.bodies.first_end d0 c.args.bodies.last_end after0 in
+    (let lt : 4 * (c.args.bodies.last_end - c.args.bodies.first_end) + 1 + reserve c.args.given.now.depth c.args.given.now.partials.now < t = omega arith in lt, (within.0, (within.1, c.requires.otherwise)))
+
+pub loops::run_for-returns-in_default-clause-performs : goal.loops::run_for-returns-in_default-clause-performs
+loops::run_for-returns-in_default-clause-performs g t c b d here after =
+    let place = place_of g.W.CountedWrite.contents g.W.CountedWrite.failure_count in
+    let none : items_asked (source_view c.args.head.now.source) (window_view c.args.head.now.window) (environment_of c.args.state.now) ≡ Ok [] = subst (λ (o : Option Turn). items_asked (source_view c.args.head.now.source) (window_view c.args.head.now.window) (environment_of c.args.state.now) ≡ Ok (turns_of o)) c.in_default.is c.in_ok-turn.ensures.items in
+    for_none (setting_of g.H.NamedFilters.named c.args.given.now) (deeper_meaning (setting_of g.H.NamedFilters.named c.args.given.now) c.args.given.now.depth) (string_bytes c.args.head.now.variable) (source_view c.args.head.now.source) (window_view c.args.head.now.window) (nodes_of b) (nodes_of d) c.run_range.result (place c.args.out.now c.args.state.now) (place c.run_range.new.out c.run_range.new.state) none (c.run_range.ensures.performs d after)
+
+pub loops::run_for-returns-in_default-clause-kept : goal.loops::run_for-returns-in_default-clause-kept
+loops::run_for-returns-in_default-clause-kept g t c b d here after N names inside =
+    c.run_range.ensures.kept d after N (for_within N (string_bytes c.args.head.now.variable) (source_view c.args.head.now.source) (window_view c.args.head.now.window) (nodes_of b) (nodes_of d) names).1 inside
+
+pub loops::run_for-returns-in_err-push_turn-clause-performs : goal.loops::run_for-returns-in_err-push_turn-clause-performs
+loops::run_for-returns-in_err-push_turn-clause-performs g t c b d here after =
+    let p = err_from_is_err_and c.from_residual-in_err-push_turn.result c.from_residual-in_err-push_turn.ensures.1 in
+    rw (p.1, p.2) (memory_at _ c.in_err-push_turn.ensures.pushed)
+
+pub loops::run_for-run_turns-answer-requires : goal.loops::run_for-run_turns-answer-requires
+loops::run_for-run_turns-answer-requires g t c κs within =
+    let (b0, here0) = c.requires.body in
+    let (d0, after0) = c.requires.otherwise in
+    let le : c.args.at + 1 ≤ c.args.bodies.first_end = Stands-le (flats c.args.nodes.now) (c.args.at + 1) b0 c.args.bodies.first_end here0 in
+    let more : c.args.bodies.first_end ≤ c.args.bodies.last_end = Stands-le (flats c.args.nodes.now) c.args.bodies.first_end d0 c.args.bodies.last_end after0 in
+    let begins : IsFor (string_bytes c.args.head.now.variable) (environment_of c.args.state.now) c.in-Some.turn = subst (λ (o : Option Turn). IfSome o (IsFor (string_bytes c.args.head.now.variable) (environment_of c.args.state.now))) c.in-Some.is c.in_ok-turn.ensures.begins in
+    let starts : StartsAt c.in-Some.turn.count c.push_turn.new.self (loops_of c.args.state.now) c.in-Some.turn = record { innermost = c.in_ok-push_turn.ensures.over; first = begins.first; count = refl } in
+    (let lt : 4 * (c.args.bodies.first_end - (c.args.at + 1)) + 2 + reserve c.args.given.now.depth c.args.given.now.partials.now < t = omega arith in lt, (within.0, (within.1, (c.requires.body, (loops_of c.args.state.now, (c.in-Some.turn, starts))))))
+
+pub loops::run_for-returns-clause-performs : goal.loops::run_for-returns-clause-performs
+loops::run_for-returns-clause-performs g t c b d here after =
+    let place = place_of g.W.CountedWrite.contents g.W.CountedWrite.failure_count in
+    let sink = sink_of g.W.CountedWrite.contents g.W.CountedWrite.failure_count in
+    let begins : IsFor (string_bytes c.args.head.now.variable) (environment_of c.args.state.now) c.in-Some.turn = subst (λ (o : Option Turn). IfSome o (IsFor (string_bytes c.args.head.now.variable) (environment_of c.args.state.now))) c.in-Some.is c.in_ok-turn.ensures.begins in
+    let items : items_asked (source_view c.args.head.now.source) (window_view c.args.head.now.window) (environment_of c.args.state.now) ≡ Ok (turn_items c.in-Some.turn) = subst (λ (o : Option Turn). items_asked (source_view c.args.head.now.source) (window_view c.args.head.now.window) (environment_of c.args.state.now) ≡ Ok (turns_of o)) c.in-Some.is c.in_ok-turn.ensures.items in
+    let starts : StartsAt c.in-Some.turn.count c.push_turn.new.self (loops_of c.args.state.now) c.in-Some.turn = record { innermost = c.in_ok-push_turn.ensures.over; first = begins.first; count = refl } in
+    let some : 0 < c.in-Some.turn.count = (let below : c.in-Some.turn.at < c.in-Some.turn.count = c.in-Some.turn.within.0 in omega (arith, below)) in
+    for_some (setting_of g.H.NamedFilters.named c.args.given.now) (deeper_meaning (setting_of g.H.NamedFilters.named c.args.given.now) c.args.given.now.depth) (string_bytes c.args.head.now.variable) (source_view c.args.head.now.source) (window_view c.args.head.now.window) (nodes_of b) (nodes_of d) c.in-Some.turn c.run_turns-answer.result (place c.args.out.now c.args.state.now) (place c.run_turns-answer.new.out c.pop_scope.new.self) some items begins
+    (from_behind (turn_map c.in-Some.turn (environment_of c.args.state.now).local) (layers_of c.args.state.now) (layers_of c.push_turn.new.self) (layers_of c.run_turns-answer.new.state) (layers_of c.pop_scope.new.self) c.in_ok-push_turn.ensures.pushed c.pop_scope.ensures.popped c.run_turns-answer.result (λ local. turns_meant c.in-Some.turn local (nodes_meant (setting_of g.H.NamedFilters.named c.args.given.now) c.args.given.now.depth (nodes_of b))) (sink c.args.out.now) (sink c.run_turns-answer.new.out)
+    (c.run_turns-answer.ensures.performs b here (loops_of c.args.state.now) c.in-Some.turn starts))
+
+pub loops::run_for-returns-clause-kept : goal.loops::run_for-returns-clause-kept
+loops::run_for-returns-clause-kept g t c b d here after N names inside =
+    kept_from_behind (turn_map c.in-Some.turn (environment_of c.args.state.now).local) (layers_of c.args.state.now) (layers_of c.push_turn.new.self) (layers_of c.run_turns-answer.new.state) (layers_of c.pop_scope.new.self) c.in_ok-push_turn.ensures.pushed c.pop_scope.ensures.popped N
+    (c.run_turns-answer.ensures.kept b here N (for_within N (string_bytes c.args.head.now.variable) (source_view c.args.head.now.source) (window_view c.args.head.now.window) (nodes_of b) (nodes_of d) names).0 inside)
+
+pub loops::run_for-returns-clause-loops : goal.loops::run_for-returns-clause-loops
+loops::run_for-returns-clause-loops g t c =
+    c.pop_scope.ensures.loops ∙ c.run_turns-answer.ensures.loops ∙ ap without_innermost c.in_ok-push_turn.ensures.over ∙ turn_off (loops_of c.args.state.now) c.in-Some.turn
+
+pub loops::run_tablerow-overflow_add-at : goal.loops::run_tablerow-overflow_add-at
+loops::run_tablerow-overflow_add-at g t c =
+    let (b0, here0) = c.requires in
+    let le : c.args.at + 1 ≤ c.args.end = Stands-le (flats c.args.nodes.now) (c.args.at + 1) b0 c.args.end here0 in
+    search rules
+
+pub loops::run_tablerow-returns-in_err-turn-clause-performs : goal.loops::run_tablerow-returns-in_err-turn-clause-performs
+loops::run_tablerow-returns-in_err-turn-clause-performs g t c b here =
+    let place = place_of g.W.CountedWrite.contents g.W.CountedWrite.failure_count in
+    let p = err_from_is_err_and c.from_residual.result c.from_residual.ensures.1 in
+    rw (p.1, p.2) (row_refused (setting_of g.H.NamedFilters.named c.args.given.now) (deeper_meaning (setting_of g.H.NamedFilters.named c.args.given.now) c.args.given.now.depth) (string_bytes c.args.head.now.variable) (source_view c.args.head.now.source) (window_view c.args.head.now.window) (option_map expression_view c.args.head.now.cols) (nodes_of b) c.in_err-turn.field-0.0 (place c.args.out.now c.args.state.now) c.in_err-turn.ensures.items)
+
+pub loops::run_tablerow-returns-in_default-clause-performs : goal.loops::run_tablerow-returns-in_default-clause-performs
+loops::run_tablerow-returns-in_default-clause-performs g t c b here =
+    let place = place_of g.W.CountedWrite.contents g.W.CountedWrite.failure_count in
+    let none : cells_asked (source_view c.args.head.now.source) (window_view c.args.head.now.window) (option_map expression_view c.args.head.now.cols) (environment_of c.args.state.now) ≡ Ok None = subst (λ o. cells_asked (source_view c.args.head.now.source) (window_view c.args.head.now.window) (option_map expression_view c.args.head.now.cols) (environment_of c.args.state.now) ≡ Ok (cells_of o)) c.in_default.is c.in_ok-turn.ensures.items in
+    row_none (setting_of g.H.NamedFilters.named c.args.given.now) (deeper_meaning (setting_of g.H.NamedFilters.named c.args.given.now) c.args.given.now.depth) (string_bytes c.args.head.now.variable) (source_view c.args.head.now.source) (window_view c.args.head.now.window) (option_map expression_view c.args.head.now.cols) (nodes_of b) tt (place c.args.out.now c.args.state.now) none
+
+pub loops::run_tablerow-returns-in_err-push_turn-clause-performs : goal.loops::run_tablerow-returns-in_err-push_turn-clause-performs
+loops::run_tablerow-returns-in_err-push_turn-clause-performs g t c b here =
+    let p = err_from_is_err_and c.from_residual-in_err-push_turn.result c.from_residual-in_err-push_turn.ensures.1 in
+    rw (p.1, p.2) (memory_at _ c.in_err-push_turn.ensures.pushed)
+
+pub loops::run_tablerow-run_cells-answer-requires : goal.loops::run_tablerow-run_cells-answer-requires
+loops::run_tablerow-run_cells-answer-requires g t c κs within =
+    let (b0, here0) = c.requires in
+    let le : c.args.at + 1 ≤ c.args.end = Stands-le (flats c.args.nodes.now) (c.args.at + 1) b0 c.args.end here0 in
+    let begins : IsRow (string_bytes c.args.head.now.variable) c.in-Some.columns.count c.in-Some.turn = subst (AreRows (string_bytes c.args.head.now.variable)) c.in-Some.is c.in_ok-turn.ensures.begins in
+    let starts : StartsAt c.in-Some.turn.count c.push_turn.new.self (loops_of c.args.state.now) c.in-Some.turn = record { innermost = c.in_ok-push_turn.ensures.over; first = begins.first; count = refl } in
+    (let lt : 4 * (c.args.end - (c.args.at + 1)) + 2 + reserve c.args.given.now.depth c.args.given.now.partials.now < t = omega arith in lt, (within.0, (within.1, (c.requires, (loops_of c.args.state.now, (c.in-Some.turn, starts))))))
+
+pub loops::run_tablerow-returns-clause-performs : goal.loops::run_tablerow-returns-clause-performs
+loops::run_tablerow-returns-clause-performs g t c b here =
+    let place = place_of g.W.CountedWrite.contents g.W.CountedWrite.failure_count in
+    let sink = sink_of g.W.CountedWrite.contents g.W.CountedWrite.failure_count in
+    let begins : IsRow (string_bytes c.args.head.now.variable) c.in-Some.columns.count c.in-Some.turn = subst (AreRows (string_bytes c.args.head.now.variable)) c.in-Some.is c.in_ok-turn.ensures.begins in
+    let items : cells_asked (source_view c.args.head.now.source) (window_view c.args.head.now.window) (option_map expression_view c.args.head.now.cols) (environment_of c.args.state.now) ≡ Ok (Some (turn_items c.in-Some.turn, c.in-Some.columns.count)) = subst (λ o. cells_asked (source_view c.args.head.now.source) (window_view c.args.head.now.window) (option_map expression_view c.args.head.now.cols) (environment_of c.args.state.now) ≡ Ok (cells_of o)) c.in-Some.is c.in_ok-turn.ensures.items in
+    let starts : StartsAt c.in-Some.turn.count c.push_turn.new.self (loops_of c.args.state.now) c.in-Some.turn = record { innermost = c.in_ok-push_turn.ensures.over; first = begins.first; count = refl } in
+    row_some (setting_of g.H.NamedFilters.named c.args.given.now) (deeper_meaning (setting_of g.H.NamedFilters.named c.args.given.now) c.args.given.now.depth) (string_bytes c.args.head.now.variable) (source_view c.args.head.now.source) (window_view c.args.head.now.window) (option_map expression_view c.args.head.now.cols) (nodes_of b) c.in-Some.turn c.in-Some.columns.count c.run_cells-answer.result (place c.args.out.now c.args.state.now) (place c.run_cells-answer.new.out c.pop_scope.new.self) items begins
+    (from_behind (turn_map c.in-Some.turn (environment_of c.args.state.now).local) (layers_of c.args.state.now) (layers_of c.push_turn.new.self) (layers_of c.run_cells-answer.new.state) (layers_of c.pop_scope.new.self) c.in_ok-push_turn.ensures.pushed c.pop_scope.ensures.popped c.run_cells-answer.result (λ local. cells_meant c.in-Some.turn c.in-Some.columns.count local (nodes_meant (setting_of g.H.NamedFilters.named c.args.given.now) c.args.given.now.depth (nodes_of b))) (sink c.args.out.now) (sink c.run_cells-answer.new.out)
+    (c.run_cells-answer.ensures.performs b here (loops_of c.args.state.now) c.in-Some.turn starts))
+
+pub loops::run_tablerow-returns-clause-kept : goal.loops::run_tablerow-returns-clause-kept
+loops::run_tablerow-returns-clause-kept g t c b here N names inside =
+    kept_from_behind (turn_map c.in-Some.turn (environment_of c.args.state.now).local) (layers_of c.args.state.now) (layers_of c.push_turn.new.self) (layers_of c.run_cells-answer.new.state) (layers_of c.pop_scope.new.self) c.in_ok-push_turn.ensures.pushed c.pop_scope.ensures.popped N
+    (c.run_cells-answer.ensures.kept b here N (row_within N (string_bytes c.args.head.now.variable) (source_view c.args.head.now.source) (window_view c.args.head.now.window) (option_map expression_view c.args.head.now.cols) (nodes_of b) names) inside)
+
+pub loops::run_tablerow-returns-clause-loops : goal.loops::run_tablerow-returns-clause-loops
+loops::run_tablerow-returns-clause-loops g t c =
+    c.pop_scope.ensures.loops ∙ c.run_cells-answer.ensures.loops ∙ ap without_innermost c.in_ok-push_turn.ensures.over ∙ turn_off (loops_of c.args.state.now) c.in-Some.turn

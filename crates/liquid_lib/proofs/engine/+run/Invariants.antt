@@ -1,11 +1,11 @@
-use Rattle.std.proofs.Common.{◌≡◌, ◌+◌, ◌-◌, ◌*◌, ◌≤◌}
+use Rattle.std.proofs.Common.{◌≡◌, ◌+◌, ◌-◌, ◌*◌, ◌≤◌, ◌<◌, List}
 use Rattle.liquid_syntax.specs.Flats.{Maker, StandsAt, nodes_of}
 use Rattle.liquid_syntax.specs.Forest.{Forest}
 use Rattle.liquid_tree.specs.Names.{nodes_names}
-use Rattle.liquid_lib.specs.Engine.{setting_of}
+use Rattle.liquid_lib.specs.Engine.{setting_of, nodes_in}
 use Rattle.liquid_lib.specs.Kept.{Keeps, AreRenders}
 use Rattle.liquid_lib.specs.Performs.{place_of}
-use Rattle.liquid_core.specs.States.{layers_of, loops_of}
+use Rattle.liquid_core.specs.States.{layers_of, loops_of, scopes_behind}
 use Rattle.liquid_lib.proofs.Going.{Going}
 use Rattle.liquid_lib.proofs.PartialRuns.{reserve}
 use Rattle.std.specs.Prelude.{string_bytes}
@@ -15,28 +15,32 @@ use Rattle.liquid_tree.specs.ItemLists.{all_items}
 use Rattle.liquid_meaning.specs.Meaning.{deeper_meaning}
 use Rattle.liquid_lib.proofs.ItemRuns.{Leads, items_left}
 use Rattle.liquid_lib.proofs.RenderEach.{item_run}
+use Rattle.liquid_core.specs.declared.turn.Scope.{Scope}
+use Rattle.liquid_core.specs.declared.turn.Turn.{Turn}
+use Rattle.liquid_lib.specs.LoopRuns.{KeepsBehind, StartsAt, behind, place_behind}
+use Rattle.liquid_lib.proofs.Turning.{AtTurn, CellsLead, TurnsLead}
 use Rattle.liquid_lib.proofs.engine.+run.Given as goal
 
 abbrev pub decreases-run_range : goal.decreases-run_range
-decreases-run_range g l = 3 * (l.to - l.from) + 1 + reserve l.given.now.depth l.given.now.partials.now
+decreases-run_range g l = 4 * (l.to - l.from) + 1 + reserve l.given.now.depth l.given.now.partials.now
 
 abbrev pub decreases-run_node : goal.decreases-run_node
-decreases-run_node g l = 3 * (l.to - l.at) + reserve l.given.now.depth l.given.now.partials.now
+decreases-run_node g l = 4 * (l.to - l.at) + reserve l.given.now.depth l.given.now.partials.now
 
 abbrev pub decreases-run_if : goal.decreases-run_if
-decreases-run_if g l = 3 * (l.bodies.last_end - l.at) - 1 + reserve l.given.now.depth l.given.now.partials.now
+decreases-run_if g l = 4 * (l.bodies.last_end - l.at) - 1 + reserve l.given.now.depth l.given.now.partials.now
 
 abbrev pub decreases-run_unless : goal.decreases-run_unless
-decreases-run_unless g l = 3 * (l.bodies.last_end - l.at) - 1 + reserve l.given.now.depth l.given.now.partials.now
+decreases-run_unless g l = 4 * (l.bodies.last_end - l.at) - 1 + reserve l.given.now.depth l.given.now.partials.now
 
 abbrev pub decreases-run_capture : goal.decreases-run_capture
-decreases-run_capture g l = 3 * (l.end - l.at) - 1 + reserve l.given.now.depth l.given.now.partials.now
+decreases-run_capture g l = 4 * (l.end - l.at) - 1 + reserve l.given.now.depth l.given.now.partials.now
 
 abbrev pub decreases-run_ifchanged : goal.decreases-run_ifchanged
-decreases-run_ifchanged g l = 3 * (l.end - l.at) - 1 + reserve l.given.now.depth l.given.now.partials.now
+decreases-run_ifchanged g l = 4 * (l.end - l.at) - 1 + reserve l.given.now.depth l.given.now.partials.now
 
 abbrev pub decreases-run_case : goal.decreases-run_case
-decreases-run_case g l = 3 * (l.last - l.at) - 1 + reserve l.given.now.depth l.given.now.partials.now
+decreases-run_case g l = 4 * (l.last - l.at) - 1 + reserve l.given.now.depth l.given.now.partials.now
 
 abbrev pub decreases-run_include : goal.decreases-run_include
 decreases-run_include g l = reserve l.given.now.depth l.given.now.partials.now + 2
@@ -47,17 +51,17 @@ decreases-run_jekyll_include g l = reserve l.given.now.depth l.given.now.partial
 abbrev pub decreases-run_partial : goal.decreases-run_partial
 decreases-run_partial g l = reserve l.given.now.depth l.given.now.partials.now + 1
 
-abbrev pub decreases-run_render : goal.decreases-run_render
-decreases-run_render g l = reserve l.given.now.depth l.given.now.partials.now + 2
+abbrev pub decreases-renders::run_render : goal.decreases-renders::run_render
+decreases-renders::run_render g l = reserve l.given.now.depth l.given.now.partials.now + 2
 
-abbrev pub decreases-render_each::run_render_each : goal.decreases-render_each::run_render_each
-decreases-render_each::run_render_each g l = reserve l.given.now.depth l.given.now.partials.now + 3
+abbrev pub decreases-renders::run_render_each : goal.decreases-renders::run_render_each
+decreases-renders::run_render_each g l = reserve l.given.now.depth l.given.now.partials.now + 3
 
-abbrev pub decreases-render_each::run_item : goal.decreases-render_each::run_item
-decreases-render_each::run_item g l = reserve l.given.now.depth l.given.now.partials.now + 2
+abbrev pub decreases-renders::run_item : goal.decreases-renders::run_item
+decreases-renders::run_item g l = reserve l.given.now.depth l.given.now.partials.now + 2
 
-abbrev pub decreases-run_apart : goal.decreases-run_apart
-decreases-run_apart g l = reserve l.given.now.depth l.given.now.partials.now + 1
+abbrev pub decreases-renders::run_apart : goal.decreases-renders::run_apart
+decreases-renders::run_apart g l = reserve l.given.now.depth l.given.now.partials.now + 1
 
 abbrev pub invariant-run_range-loop-at : goal.invariant-run_range-loop-at
 invariant-run_range-loop-at g l =
@@ -74,8 +78,8 @@ invariant-run_range-loop-at g l =
 abbrev pub decreases-run_range-loop-at : goal.decreases-run_range-loop-at
 decreases-run_range-loop-at g l = l.to - l.at
 
-abbrev pub invariant-render_each::run_render_each-loop-at : goal.invariant-render_each::run_render_each-loop-at
-invariant-render_each::run_render_each-loop-at g l =
+abbrev pub invariant-renders::run_render_each-loop-at : goal.invariant-renders::run_render_each-loop-at
+invariant-renders::run_render_each-loop-at g l =
     let place = place_of g.W.CountedWrite.contents g.W.CountedWrite.failure_count in
     let setting = setting_of g.H.NamedFilters.named l.given in
     let one = item_run setting (deeper_meaning setting l.given.depth) (expression_view l.name) (each_view l.each) (bindings_view l.bindings) (string_bytes l.called) l.source.count in
@@ -85,5 +89,51 @@ invariant-render_each::run_render_each-loop-at g l =
       same_writer : l.out.writer.ghost_name ≡ l.initial.out.writer.ghost_name;
     }
 
-abbrev pub decreases-render_each::run_render_each-loop-at : goal.decreases-render_each::run_render_each-loop-at
-decreases-render_each::run_render_each-loop-at g l = l.source.count - l.at
+abbrev pub decreases-renders::run_render_each-loop-at : goal.decreases-renders::run_render_each-loop-at
+decreases-renders::run_render_each-loop-at g l = l.source.count - l.at
+
+-- ---- loops
+
+abbrev pub decreases-loops::run_for : goal.decreases-loops::run_for
+decreases-loops::run_for g l = 4 * (l.bodies.last_end - l.at) - 1 + reserve l.given.now.depth l.given.now.partials.now
+
+abbrev pub decreases-loops::run_turns : goal.decreases-loops::run_turns
+decreases-loops::run_turns g l = 4 * (l.to - l.from) + 2 + reserve l.given.now.depth l.given.now.partials.now
+
+abbrev pub decreases-loops::run_tablerow : goal.decreases-loops::run_tablerow
+decreases-loops::run_tablerow g l = 4 * (l.end - l.at) - 1 + reserve l.given.now.depth l.given.now.partials.now
+
+abbrev pub decreases-loops::run_cells : goal.decreases-loops::run_cells
+decreases-loops::run_cells g l = 4 * (l.to - l.from) + 2 + reserve l.given.now.depth l.given.now.partials.now
+
+abbrev pub invariant-loops::run_turns-turns : goal.invariant-loops::run_turns-turns
+invariant-loops::run_turns-turns g l =
+    let over = place_behind g.W.CountedWrite.contents g.W.CountedWrite.failure_count in
+    record {
+      within : l.place < l.count;
+      leads : (f : Forest Maker) → StandsAt l.nodes l.from f l.to → (before : List Scope) (t : Turn) → StartsAt l.count l.initial.state before t
+          → TurnsLead t (behind l.initial.state) (nodes_in g.H.NamedFilters.named l.given (nodes_of f)) l.count l.place (over l.initial.out l.initial.state) (over l.out l.state);
+      turn : (before : List Scope) (t : Turn) → StartsAt l.count l.initial.state before t → AtTurn before t l.place l.state;
+      scopes : scopes_behind (layers_of l.state).scopes ≡ scopes_behind (layers_of l.initial.state).scopes;
+      kept : (f : Forest Maker) → StandsAt l.nodes l.from f l.to → KeepsBehind (nodes_names (nodes_of f)) (setting_of g.H.NamedFilters.named l.given) l.initial.state l.state;
+      same_writer : l.out.writer.ghost_name ≡ l.initial.out.writer.ghost_name;
+    }
+
+abbrev pub decreases-loops::run_turns-turns : goal.decreases-loops::run_turns-turns
+decreases-loops::run_turns-turns g l = l.count - l.place
+
+abbrev pub invariant-loops::run_cells-cells : goal.invariant-loops::run_cells-cells
+invariant-loops::run_cells-cells g l =
+    let over = place_behind g.W.CountedWrite.contents g.W.CountedWrite.failure_count in
+    record {
+      within : l.place < l.row.count;
+      leads : (f : Forest Maker) → StandsAt l.nodes l.from f l.to → (before : List Scope) (t : Turn) → StartsAt l.row.count l.initial.state before t
+          → CellsLead t l.row.columns.count (behind l.initial.state) (nodes_in g.H.NamedFilters.named l.given (nodes_of f)) l.row.count l.place (over l.initial.out l.initial.state) (over l.out l.state);
+      turn : (before : List Scope) (t : Turn) → StartsAt l.row.count l.initial.state before t → AtTurn before t l.place l.state;
+      scopes : scopes_behind (layers_of l.state).scopes ≡ scopes_behind (layers_of l.initial.state).scopes;
+      kept : (f : Forest Maker) → StandsAt l.nodes l.from f l.to → KeepsBehind (nodes_names (nodes_of f)) (setting_of g.H.NamedFilters.named l.given) l.initial.state l.state;
+      same_writer : l.out.writer.ghost_name ≡ l.initial.out.writer.ghost_name;
+    }
+
+abbrev pub decreases-loops::run_cells-cells : goal.decreases-loops::run_cells-cells
+decreases-loops::run_cells-cells g l = l.row.count - l.place

@@ -1,25 +1,52 @@
-//! `render .. for`: a partial once for each item, apart.
-ghost use Rattle.std.specs.Prelude.{◌≡◌, Some, string_bytes};
+//! Runs of `render`: a partial apart, once or for each item.
+ghost use Rattle.std.specs.Prelude.{◌≡◌, ◌≤◌, Some, None, length, string_bytes};
 ghost use Rattle.liquid_model.specs.Data.{Datum};
 ghost use Rattle.liquid_model.specs.Maps.{Map};
+ghost use Rattle.liquid_core.specs.Environment.{Environment, new_environment};
 ghost use Rattle.liquid_core.specs.ExpressionView.{expression_view};
+ghost use Rattle.liquid_core.specs.States.{environment_of};
 ghost use Rattle.liquid_core.specs.Turns.{turn_map};
 ghost use Rattle.liquid_syntax.specs.Flats.{bindings_view, each_view};
+ghost use Rattle.liquid_syntax.specs.Templates.{list_of, most_of, tree_of};
 ghost use Rattle.liquid_tree.specs.Tree as tree;
-ghost use Rattle.liquid_lib.specs.Engine.{setting_of, node_in};
-ghost use Rattle.liquid_lib.specs.Performs.{Meets, Performs, place_of};
+ghost use Rattle.liquid_lib.specs.Engine.{setting_of, node_in, partial_in};
+ghost use Rattle.liquid_lib.specs.Performs.{Meets, Performs, place_of, place_beside};
 ghost use Rattle.liquid_meaning.specs.Meaning.{deeper_meaning, render_apart};
+ghost use Rattle.liquid_meaning.specs.Runs.{apart};
 
+use super::run_range;
 use crate::counted::CountedWrite;
-use crate::engine::run_apart;
 use crate::given::Given;
 use crate::loop_turns::ends_items;
 use crate::output::Output;
-use crate::own_state::{state_at, turn_at};
-use crate::partial::{pairs_scope, partial_name, partial_rendered};
+use crate::own_state::{own_state, state_at, turn_at};
+use crate::partial::{pairs_scope, partial_name, partial_rendered, too_deep};
 use liquid_core::{Expression, Interrupt, NamedFilters, Result, State, Turn};
-use liquid_syntax::{Binding, Each};
+use liquid_syntax::{Binding, Each, Template};
 use std::alloc::Global;
+
+/// Runs a partial once, apart: it sees the pairs alone. The caller's state is only read.
+#[cycle(run)]
+pub(super) fn run_render<'d, W: CountedWrite, H: NamedFilters>(
+    alloc: Global,
+    given: &Given<'d, H>,
+    name: &Expression,
+    bindings: &[Binding],
+    out: &mut Output<'_, W>,
+    state: &State<'d>,
+) -> Result<()>
+    ensures performs { Performs result (node_in H.named given.now (tree.render (expression_view name.now) None (bindings_view bindings.now)))
+        (place_of W.contents W.failure_count out.old state.now)
+        (place_of W.contents W.failure_count out.new state.now) }
+    ensures same_writer { out.new.writer.ghost_name ≡ out.old.writer.ghost_name }
+{
+    let called = partial_name(alloc, name, state)?;
+    let scope = pairs_scope(alloc, bindings, state)?;
+    let partial = partial_rendered(alloc, given.partials, called.as_str())?;
+    let own = own_state(alloc, scope)?;
+    run_apart(alloc, given, partial, own, out)?;
+    Ok(())
+}
 
 /// Runs a partial once for each item, up to one that leaves a break. The caller's state is only read.
 #[cycle(run)]
@@ -77,4 +104,34 @@ fn run_item<'d, W: CountedWrite, H: NamedFilters>(
     let partial = partial_rendered(alloc, given.partials, name)?;
     let own = state_at(alloc, names, turn)?;
     run_apart(alloc, given, partial, own, out)
+}
+
+/// Enters a partial in a state of its own, which holds certain names alone: the interrupt that it leaves.
+#[cycle(run)]
+fn run_apart<'d, W: CountedWrite, H: NamedFilters>(
+    alloc: Global,
+    given: &Given<'d, H>,
+    partial: &'d Template,
+    own: State<'d>,
+    out: &mut Output<'_, W>,
+) -> Result<Option<Interrupt>>
+    requires small { length (list_of partial.now) ≤ most_of given.now.partials.now }
+    ensures performs { (names : Map Datum) (e : Environment) → environment_of own.entry ≡ new_environment names →
+        Meets (λ i. i) result (apart names (partial_in H.named given.now (tree_of partial.now)))
+        (place_beside W.contents W.failure_count out.old e)
+        (place_beside W.contents W.failure_count out.new e) }
+    ensures same_writer { out.new.writer.ghost_name ≡ out.old.writer.ghost_name }
+{
+    if given.depth == 0 {
+        return Err(too_deep(alloc));
+    }
+    let inner = Given {
+        partials: given.partials,
+        host: given.host,
+        depth: given.depth - 1,
+    };
+    let mut own = own;
+    let nodes = partial.nodes();
+    run_range(alloc, &inner, nodes, 0, nodes.len(), out, &mut own)?;
+    Ok(own.interrupt)
 }
