@@ -84,24 +84,23 @@ fn parsed(rt: &(impl Abort + Print), alloc: Global, row: &HostRow<'_>) -> Result
     }
 }
 
-/// Renders the page by `render_to`, with room for it.
+/// Renders the page by `render_to`, with room for it. The runtime is made by the caller, who has the filters.
 fn by_parts(
     rt: &(impl Abort + Print),
     alloc: Global,
     template: &Template,
-    host: &HostFilters,
+    runtime: &mut Runtime<'_>,
     row: &HostRow<'_>,
 ) -> Result<()> {
     let source = row.row.source;
     let page = row.row.page.as_bytes();
-    let mut runtime = runtime_with(alloc, row.has_filters.then_some(host));
     let mut counted = Counted::new(Vec::with_capacity(alloc, page.len())?);
     let answer = asked!(
         rt,
         "render_to",
         source,
         row.row.end,
-        template.render_to(alloc, &mut counted, &mut runtime)
+        template.render_to(alloc, &mut counted, runtime)
     );
     let written: Vec<u8> = counted.into_inner();
     assert!(rt;
@@ -120,17 +119,16 @@ fn by_render(
     rt: &(impl Abort + Print),
     alloc: Global,
     template: &Template,
-    host: &HostFilters,
+    runtime: &mut Runtime<'_>,
     row: &HostRow<'_>,
 ) {
     let source = row.row.source;
-    let mut runtime = runtime_with(alloc, row.has_filters.then_some(host));
     let answer = asked!(
         rt,
         "render",
         source,
         row.row.end,
-        template.render(alloc, &mut runtime)
+        template.render(alloc, runtime)
     );
     if let Ok(text) = answer {
         assert!(rt; text.as_str() == row.row.page, "the page of {source}");
@@ -167,8 +165,9 @@ fn memory_host_filters(rt: HostRuntime) -> Result<()> {
     called(&rt, alloc, &host)?;
     for row in &HOST_PAGES {
         let template = parsed(&rt, alloc, row)?;
-        by_parts(&rt, alloc, &template, &host, row)?;
-        by_render(&rt, alloc, &template, &host, row);
+        let mut runtime = runtime_with(alloc, row.has_filters.then_some(&host));
+        by_parts(&rt, alloc, &template, &mut runtime, row)?;
+        by_render(&rt, alloc, &template, &mut runtime, row);
         by_chain(&rt, alloc, &template, &host, row);
     }
     Ok(())

@@ -265,6 +265,16 @@ fn tried(rt: &(impl Abort + Print), alloc: Global, state: &State<'_>) -> Result<
     Ok(())
 }
 
+/// Look-ups in a scope, through the one over it.
+fn through(rt: &(impl Abort + Print), alloc: Global, state: &State<'_>) -> Result<()> {
+    let found = asked!(rt, "State::look_up", "b", None, Ok(state.look_up("b")));
+    assert!(rt; found?.is_some());
+    let path = items(alloc, r#"["a", 0]"#)?;
+    let found = asked!(rt, "State::get", "a[0]", None, state.get(alloc, &path));
+    assert!(rt; found?.as_value().to_integer() == Some(8));
+    Ok(())
+}
+
 #[test]
 fn memory_none_of_states(rt: HostRuntime) -> Result<()> {
     let alloc = rt.alloc();
@@ -274,6 +284,9 @@ fn memory_none_of_states(rt: HostRuntime) -> Result<()> {
     let mut state = asked!(&rt, "State::new", "", None, Ok(State::new(alloc, data)))?;
     looked_up(&rt, alloc, &state)?;
     state.push_scope(data_from_json(alloc, r#"{"a": [8], "b": "c"}"#)?)?;
+    state.push_scope(data_from_json(alloc, r#"{"d": 9}"#)?)?;
+    through(&rt, alloc, &state)?;
+    state.pop_scope();
     let popped = asked!(&rt, "State::pop_scope", "", None, Ok(state.pop_scope()));
     assert!(&rt; popped.is_ok());
     looked_up(&rt, alloc, &state)?;

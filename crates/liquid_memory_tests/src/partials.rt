@@ -63,17 +63,21 @@ fn counter(state: &State<'_>, name: &str) -> Option<i64> {
     state.get_index(name)?.to_integer()
 }
 
+/// Whether this is the last text of `ifchanged`.
+fn has_last(state: &State<'_>, wanted: &str) -> bool {
+    match &state.changed {
+        Some(text) => text.as_str() == wanted,
+        None => false,
+    }
+}
+
 /// Asserts that the runtime is as `made` made it.
 fn is_as_made(rt: &impl Abort, runtime: &mut Runtime<'_>, source: &str) {
     let state = runtime.state();
     assert!(rt; state.interrupt == Some(Interrupt::Continue), "{source}");
     assert!(rt; state.cycles.len() == 1, "{source}");
     assert!(rt; state.cycles.get("c").copied() == Some(1), "{source}");
-    let last = match &state.changed {
-        Some(text) => text.as_str(),
-        None => "",
-    };
-    assert!(rt; last == "last", "{source}");
+    assert!(rt; has_last(state, "last"), "{source}");
     assert!(rt; counter(state, "n") == Some(1), "{source}");
     assert!(rt; number(state, "x") == Some(1), "{source}");
     assert!(rt; number(state, "s") == Some(4), "{source}");

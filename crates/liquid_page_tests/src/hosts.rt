@@ -28,14 +28,18 @@ fn runtime_with<'h>(alloc: Global, host: Option<&'h HostFilters>) -> Runtime<'h>
     }
 }
 
-/// The page of `parse` and `render_to`.
-fn by_parts(rt: &impl Abort, alloc: Global, host: &HostFilters, row: &HostRow<'_>) -> Result<()> {
+/// The page of `parse` and `render_to`. The runtime is made by the caller, who has the filters.
+fn by_parts(
+    rt: &impl Abort,
+    alloc: Global,
+    runtime: &mut Runtime<'_>,
+    row: &HostRow<'_>,
+) -> Result<()> {
     let source = row.row.source;
     let language = language_with(alloc, &["shout", row.beside], 0)?;
     let template = parse(alloc, source, &language)?;
-    let mut runtime = runtime_with(alloc, row.has_filters.then_some(host));
     let mut counted = Counted::new(Vec::new(alloc));
-    let answer = template.render_to(alloc, &mut counted, &mut runtime);
+    let answer = template.render_to(alloc, &mut counted, runtime);
     let written: Vec<u8> = counted.into_inner();
     assert!(rt;
         written.as_slice() == row.row.page.as_bytes(),
@@ -46,12 +50,16 @@ fn by_parts(rt: &impl Abort, alloc: Global, host: &HostFilters, row: &HostRow<'_
 }
 
 /// The page of `parse` and `render`, which is a text or a fault.
-fn by_render(rt: &impl Abort, alloc: Global, host: &HostFilters, row: &HostRow<'_>) -> Result<()> {
+fn by_render(
+    rt: &impl Abort,
+    alloc: Global,
+    runtime: &mut Runtime<'_>,
+    row: &HostRow<'_>,
+) -> Result<()> {
     let source = row.row.source;
     let language = language_with(alloc, &["shout", row.beside], 0)?;
     let template = parse(alloc, source, &language)?;
-    let mut runtime = runtime_with(alloc, row.has_filters.then_some(host));
-    match template.render(alloc, &mut runtime) {
+    match template.render(alloc, runtime) {
         Ok(text) => {
             assert!(rt; row.row.end == None, "the end of {source}");
             assert!(rt; text.as_str() == row.row.page, "the page of {source}");
@@ -69,11 +77,15 @@ fn pages_of_a_host(rt: HostRuntime) -> Result<()> {
     let bad: Box<dyn Filter> = Box::new(alloc, Bad)?;
     let host = HostFilters::new(host_filters(alloc, shout, upcase, bad)?);
     for row in &HOST_PAGES {
-        by_parts(&rt, alloc, &host, row)?;
-        by_render(&rt, alloc, &host, row)?;
+        let mut runtime = runtime_with(alloc, row.has_filters.then_some(&host));
+        by_parts(&rt, alloc, &mut runtime, row)?;
+        by_render(&rt, alloc, &mut runtime, row)?;
     }
-    arguments(&rt, alloc, &host)?;
-    registered_again(&rt, alloc, &host)
+    let mut with_filters = runtime_with(alloc, Some(&host));
+    arguments(&rt, alloc, &mut with_filters)?;
+    arguments(&rt, alloc, &mut runtime_with(alloc, None))?;
+    assert!(&rt; end_of(alloc, "{{ 'a' | shout }}", &mut with_filters)? == None);
+    registered_again(&rt, alloc, &mut with_filters)
 }
 
 /// The fault by which the source is refused, where `shout` takes from one argument to two.
@@ -99,34 +111,29 @@ fn counts_of_a_host(rt: HostRuntime) -> Result<()> {
 }
 
 /// How the page of the source ends, where a template may give `shout` an argument that the filter doesn't take.
-fn end_of(alloc: Global, source: &str, host: Option<&HostFilters>) -> Result<Option<ErrorKind>> {
+fn end_of(alloc: Global, source: &str, runtime: &mut Runtime<'_>) -> Result<Option<ErrorKind>> {
     let template = parse(alloc, source, &language_with(alloc, &["shout"], 1)?)?;
-    let mut runtime = runtime_with(alloc, host);
-    Ok(kind_of(&template.render(alloc, &mut runtime)))
+    Ok(kind_of(&template.render(alloc, runtime)))
 }
 
-/// The arguments are evaluated before the filter is asked for.
-fn arguments(rt: &impl Abort, alloc: Global, host: &HostFilters) -> Result<()> {
-    for given in [Some(host), None] {
-        let end = end_of(alloc, "{{ 'a' | shout: nope }}", given)?;
-        assert!(rt; end == Some(ErrorKind::UnknownVariable));
-        let end = end_of(alloc, "{{ 'a' | shout: 1 }}", given)?;
-        assert!(rt; end == Some(ErrorKind::Unsupported));
-    }
-    assert!(rt; end_of(alloc, "{{ 'a' | shout }}", Some(host))? == None);
+/// The arguments are evaluated before the filter is asked for, whether there is one or not.
+fn arguments(rt: &impl Abort, alloc: Global, runtime: &mut Runtime<'_>) -> Result<()> {
+    let end = end_of(alloc, "{{ 'a' | shout: nope }}", runtime)?;
+    assert!(rt; end == Some(ErrorKind::UnknownVariable));
+    let end = end_of(alloc, "{{ 'a' | shout: 1 }}", runtime)?;
+    assert!(rt; end == Some(ErrorKind::Unsupported));
     Ok(())
 }
 
 /// A name stands for what it was registered as last.
-fn registered_again(rt: &impl Abort, alloc: Global, host: &HostFilters) -> Result<()> {
+fn registered_again(rt: &impl Abort, alloc: Global, runtime: &mut Runtime<'_>) -> Result<()> {
     let mut language = language_with(alloc, &["upcase", "shout"], 0)?;
     let upcase = FilterKind::Upcase(Upcase);
     language
         .filters
         .register(String::from_str(alloc, "shout")?, upcase)?;
     let template = parse(alloc, "{{ 'a' | upcase | shout }}", &language)?;
-    let mut runtime = runtime_with(alloc, Some(host));
-    assert!(rt; template.render(alloc, &mut runtime)?.as_str() == "A?");
+    assert!(rt; template.render(alloc, runtime)?.as_str() == "A?");
     Ok(())
 }
 

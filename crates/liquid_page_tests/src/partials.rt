@@ -249,6 +249,14 @@ fn counter(state: &State<'_>, name: &str) -> Option<i64> {
     state.get_index(name)?.to_integer()
 }
 
+/// Whether this is the last text of `ifchanged`.
+fn has_last(state: &State<'_>, wanted: &str) -> bool {
+    match &state.changed {
+        Some(text) => text.as_str() == wanted,
+        None => false,
+    }
+}
+
 /// Asserts that the runtime is as `made` made it.
 fn is_as_made(rt: &impl Abort, runtime: &mut Runtime<'_>) {
     let state = runtime.state();
@@ -258,11 +266,7 @@ fn is_as_made(rt: &impl Abort, runtime: &mut Runtime<'_>) {
     );
     assert!(rt; state.cycles.len() == 1, "groups");
     assert!(rt; state.cycles.get("c").copied() == Some(1), "the group");
-    let last = match &state.changed {
-        Some(text) => text.as_str(),
-        None => "",
-    };
-    assert!(rt; last == "last", "the last text");
+    assert!(rt; has_last(state, "last"), "the last text");
     assert!(rt; counter(state, "n") == Some(1), "the counter");
     assert!(rt; state.get_index("m").is_none(), "a counter more");
     let numbers: &[(&str, Option<i64>)] = &[
