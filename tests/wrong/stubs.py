@@ -19,18 +19,18 @@ pub {name}_spec : {{M : Type 1}} → statement M
 
 
 def stub(crate, folder, proved):
-    """Takes at its word each function of the copy, but these and those of their cycles of calls."""
+    """Takes at its word each function of the copy, but these and those of their cycles of calls, which may span modules."""
     texts = {path: text_of(f"{folder}/{path}") for path in sources(folder)}
     homes = {name: modules(path) for path, text in texts.items() for name in TYPE.findall(text)}
     stated = {it.name: it for path, text in texts.items() for it in stated_functions(text, path)}
     for it in proved:
         if isinstance(it, Twin):
             give_answers(crate, folder, place_of(stated[it.of.name], homes), place_of(stated[it.name], homes))
-    names, cycles = {it.name for it in proved}, {(it.path, it.cycle) for it in proved if it.cycle}
+    names, cycles = {it.name for it in proved}, {it.cycle for it in proved if it.cycle}
     for path, text in texts.items():
         lines = text.split("\n")
         for it in reversed(stated_functions(text, path)):
-            if it.name not in names and (path, it.cycle) not in cycles:
+            if it.name not in names and it.cycle not in cycles:
                 empty_body(lines, it)
                 leave_hole(crate, folder, it, homes)
         with open(f"{folder}/{path}", "w", encoding="utf-8") as file:

@@ -32,11 +32,11 @@ def verdicts_of(crate, function, said):
 
 def has_open_goal(name, function, verdict, said, part):
     kind, why = verdict
-    own = function.name.split("::")[-1] + "-"
+    own = re.compile(rf"(?:\w+::)*{re.escape(function.name.split('::')[-1])}-")
 
     def fits(goal):
-        # of a cycle all goals stand together, each under the name of its function
-        return part in goal and (goal.startswith(own) or not function.cycle)
+        # of a cycle all goals stand together, each under the name of its function, with its module where the cycle has several
+        return part in goal and (bool(own.match(goal)) or not function.cycle)
 
     if kind == "no proof" and any(fits(goal) for goals in GOALS.findall(why) for goal in re.findall(r"`([^`]+)`", goals)):
         return True
@@ -57,8 +57,8 @@ def goals_left(function, said):
 
 def hidden(chosen, left):
     """Those of the edits left unrefused whose goals another edit of their cycle of calls, which was refused, may have hidden."""
-    refused = {(function.path, function.cycle) for edit, function in chosen if function.cycle and (edit, function) not in left}
-    return [(edit, function) for edit, function in left if (function.path, function.cycle) in refused]
+    refused = {function.cycle for edit, function in chosen if function.cycle and (edit, function) not in left}
+    return [(edit, function) for edit, function in left if function.cycle in refused]
 
 
 def stands_in(name, function, path, what, fits):
