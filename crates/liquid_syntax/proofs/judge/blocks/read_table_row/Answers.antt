@@ -9,7 +9,7 @@ use Rattle.liquid_syntax.specs.Loops.{Head, row_node}
 use Rattle.liquid_syntax.specs.Nesting.{begins, of_one}
 use Rattle.liquid_syntax.specs.declared.block.Block.TheVariants as blocks
 use Rattle.liquid_syntax.specs.declared.loop_nodes.TableRow.{TableRow}
-use Rattle.liquid_syntax.proofs.judge.read_table_row.Goals as goal
+use Rattle.liquid_syntax.proofs.judge.blocks.read_table_row.Goals as goal
 
 pub returns-clause-node : goal.returns-clause-node
 returns-clause-node c = (

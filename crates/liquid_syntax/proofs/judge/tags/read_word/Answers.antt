@@ -3,7 +3,7 @@ use Rattle.liquid_source.specs.Tokens.{tokens_view}
 use Rattle.liquid_syntax.proofs.Alone.{word_done, word_more}
 use Rattle.liquid_syntax.proofs.ChainCalls.{faulted}
 use Rattle.liquid_syntax.proofs.ItemLaws.{nothing_seen}
-use Rattle.liquid_syntax.proofs.judge.read_word.Goals as goal
+use Rattle.liquid_syntax.proofs.judge.tags.read_word.Goals as goal
 
 pub returns-then-is_over-clause-word : goal.returns-then-is_over-clause-word
 returns-then-is_over-clause-word c =

@@ -5,7 +5,7 @@ use Rattle.liquid_tree.specs.Tree.{Nodes, for_each}
 use Rattle.liquid_syntax.specs.Flats.{window_view}
 use Rattle.liquid_syntax.specs.Loops.{for_node}
 use Rattle.liquid_syntax.specs.declared.loop_nodes.For.{For}
-use Rattle.liquid_syntax.proofs.judge.read_for.Goals as goal
+use Rattle.liquid_syntax.proofs.judge.blocks.read_for.Goals as goal
 
 pub returns-clause-node : goal.returns-clause-node
 returns-clause-node c = (

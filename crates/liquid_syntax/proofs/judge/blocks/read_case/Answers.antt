@@ -9,7 +9,7 @@ use Rattle.liquid_syntax.specs.Judging.{many_or}
 use Rattle.liquid_syntax.specs.declared.block.Block.TheVariants as blocks
 use Rattle.liquid_syntax.proofs.Alone.{value_done, value_more, case_faulted}
 use Rattle.liquid_syntax.proofs.ItemLaws.{nothing_seen}
-use Rattle.liquid_syntax.proofs.judge.read_case.Goals as goal
+use Rattle.liquid_syntax.proofs.judge.blocks.read_case.Goals as goal
 
 pub returns-then-is_over-clause-node : goal.returns-then-is_over-clause-node
 returns-then-is_over-clause-node c =
