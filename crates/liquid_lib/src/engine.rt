@@ -27,9 +27,7 @@ use crate::ifchanged::show_if_changed;
 use crate::leaves::{run_assign, run_output, run_raw, run_text};
 use crate::nodes::next_after;
 use crate::output::Output;
-use crate::partial::{
-    include_scope, pairs_scope, partial_called, partial_name, too_deep,
-};
+use crate::partial::{include_scope, pairs_scope, partial_called, partial_name, too_deep};
 use liquid_core::{Expression, Interrupt, NamedFilters, Object, Result, State, Value};
 use liquid_syntax::{Arm, Binding, Condition, Node, Template, TwoBodies};
 use loops::{run_for, run_tablerow};
