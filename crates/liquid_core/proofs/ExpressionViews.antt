@@ -38,5 +38,11 @@ no_step d s x xs rest e at h k =
     ∙ ap (option_and_then (λ s. option_and_then (λ next. led next (steps_view rest) e) (step d s))) h
     ∙ sym (ap (λ l. led d (steps_view l) e) at)
 
+pub one_step : (d s n : Datum) (x : Expression) (xs rest : List Expression) (e : Environment) → xs ≡ x ∷ rest → Some s ≡ value_of (expression_view x) e → Some n ≡ step d s → led n (steps_view rest) e ≡ led d (steps_view xs) e
+one_step d s n x xs rest e at h k =
+    ap (option_and_then (λ next. led next (steps_view rest) e)) k
+    ∙ ap (option_and_then (λ s. option_and_then (λ next. led next (steps_view rest) e) (step d s))) h
+    ∙ sym (ap (λ l. led d (steps_view l) e) at)
+
 pub no_more : (d : Datum) (xs : List Expression) (e : Environment) → xs ≡ [] → Some d ≡ led d (steps_view xs) e
 no_more d xs e at = sym (ap (λ l. led d (steps_view l) e) at)

@@ -1,9 +1,11 @@
 -- A variable's value, step by step.
-use Rattle.std.proofs.Common.{◌≡◌, List, ◌∷◌, Bool, true, false, cond, Option, Some, None, refl, sym, ap, ◌∙◌}
+use Rattle.std.proofs.Common.{◌≡◌, List, [], ◌∷◌, map, Bool, true, false, cond, Option, Some, None, refl, sym, ap, ◌∙◌}
 use Rattle.std.specs.Option.{option_and_then}
 use Rattle.liquid_model.specs.Texts.{Text}
 use Rattle.liquid_model.specs.Data.{Datum, scalar}
 use Rattle.liquid_model.specs.Find.{find}
+use Rattle.liquid_model.specs.View.{view}
+use Rattle.liquid_model.specs.declared.value.Value.{Value}
 use Rattle.liquid_model.specs.Find as finding
 use Rattle.liquid_core.specs.Environment.{Environment, lookup}
 use Rattle.liquid_core.specs.Expression.{literal, variable, Steps, no_steps, step}
@@ -57,3 +59,11 @@ led_from name steps e (Some d) h = sym (led_along d steps e) ∙ ap (λ o. optio
 pub literal_value : (d : Datum) (e : Environment) → value_of (literal d) e ≡ Some d
 unfolding value_of
 literal_value d e = refl
+
+-- ---- a path of values
+
+pub one_on : (d n : Datum) (v : Value) (path rest : List Value) → path ≡ v ∷ rest → Some n ≡ finding.step d (view v) → find n (map view rest) ≡ find d (map view path)
+one_on d n v path rest at h = ap (option_and_then (λ found. find found (map view rest))) h ∙ sym (ap (λ l. find d (map view l)) at)
+
+pub at_end : (d : Datum) (path : List Value) → path ≡ [] → Some d ≡ find d (map view path)
+at_end d path at = sym (ap (λ l. find d (map view l)) at)

@@ -11,5 +11,9 @@ use Rattle.liquid_model.specs.declared.value.Value.{Value}
 unfoldable pub map_of : Pairs → Map Datum
 map_of ps name = value_at name ps
 
-abbrev pub held : BTreeMap (String Global) Value → Map Datum
+-- an object, as a scope behind all loops is one
+abbrev pub Outer : Type 0
+Outer = BTreeMap (String Global) Value
+
+abbrev pub held : Outer → Map Datum
 held object = map_of (pairs_view object.entries)

@@ -1,5 +1,5 @@
 -- A state, as its list of scopes beside the rest of an environment.
-use Rattle.std.specs.Prelude.{◌≡◌, ℕ, List, [], ◌∷◌, map, reverse, Option, string_bytes}
+use Rattle.std.specs.Prelude.{◌≡◌, ◌++◌, ℕ, List, [], ◌∷◌, map, reverse, Option, Some, string_bytes}
 use Rattle.std.specs.Option.{option_map}
 use Rattle.std.specs.BTreeMap.{get_by_text}
 use Rattle.liquid_model.specs.Texts.{Text, ◌else◌}
@@ -7,8 +7,9 @@ use Rattle.liquid_model.specs.Data.{Datum}
 use Rattle.liquid_model.specs.Maps.{Map, empty, insert}
 use Rattle.liquid_core.specs.Environment.{Environment, Registers, new_registers, local_of}
 use Rattle.liquid_core.specs.Held.{held}
-use Rattle.liquid_core.specs.Turns.{standing, turn_map_at}
+use Rattle.liquid_core.specs.Turns.{standing, turn_map_at, turn_object}
 use Rattle.liquid_core.specs.declared.turn.Scope.{Scope}
+use Rattle.liquid_core.specs.declared.turn.Scope.TheVariants as variants
 use Rattle.liquid_core.specs.declared.turn.Turn.{Turn}
 use Rattle.liquid_core.specs.declared.state.State.{State}
 use Rattle.liquid_core.specs.declared.state.Parts.{Parts}
@@ -89,6 +90,15 @@ loops_of s = s.turns.items
 -- no loop is among the scopes
 abbrev pub IsPlain : State → Type 0
 IsPlain s = loops_of s ≡ []
+
+-- what was found is the whole object of a loop that is under way
+pub record FindsLoop (s : State) (found : Option Datum) : Type 0 where
+  pub loop : Turn
+  -- the loops and scopes that it stands over, and those that stand over it
+  pub below : List Scope
+  pub above : List Scope
+  pub among : loops_of s ≡ below ++ variants.Turn loop ∷ above
+  pub whole : found ≡ Some (turn_object loop (local_of (standing below (reverse (map held s.scopes.items)))))
 
 -- what is held beside the loops and the scopes over them
 abbrev pub held_beside : State → Text → Option Datum

@@ -5,8 +5,8 @@ ghost use Rattle.liquid_model.specs.Cow.{cow_view};
 ghost use Rattle.liquid_model.specs.Errors.{HasMessageUnlessMemory, without_value_message};
 ghost use Rattle.liquid_core.specs.Expressions.{value_of, required};
 ghost use Rattle.liquid_core.specs.ExpressionView.{expression_view, variable_view, steps_view};
-ghost use Rattle.liquid_core.specs.States.{environment_of, IsPlain};
-ghost use Rattle.liquid_core.specs.Seen.{seen_view, IsHeld};
+ghost use Rattle.liquid_core.specs.States.{environment_of, loops_of, FindsLoop};
+ghost use Rattle.liquid_core.specs.Seen.{seen_view, IsAmong, IsHeld};
 ghost use Rattle.liquid_model.specs.Told.{Told};
 ghost use Rattle.liquid_core.specs.Written.{written_form};
 ghost use Rattle.liquid_model.specs.declared.error.ErrorKind.TheVariants.{UnknownVariable};
@@ -41,23 +41,23 @@ impl Expression {
     /// The value of the expression, where it has one. A variable has none where its name has none, where a
     /// step's value is missing or no scalar, and where the steps lead to nothing.
     ///
-    /// The value is lent by the state or the expression, and a length is owned. It takes no memory and refuses for `Memory` alone, and only
-    /// for the whole object of a loop.
+    /// The value is lent by the state or the expression, also inside a loop, and a length is owned. It refuses for `Memory`
+    /// alone, and takes memory only where it finds the whole object of a loop.
     pub fn try_evaluate<'a>(
         &'a self,
         alloc: Global,
         state: &'a State<'_>,
     ) -> Result<Option<ValueCow<'a>>>
         ensures value { Gives (λ r. option_map cow_view r) result (value_of (expression_view self.now) (environment_of state.now)) }
-        ensures no_memory { IsPlain state.now → IsOk result }
+        ensures no_memory { (FindsLoop state.now (value_of (expression_view self.now) (environment_of state.now)) → ⊥) → IsOk result }
     {
         valued(alloc, expression_value(self, state))
     }
 
-    /// The same, or `UnknownVariable` where the expression has no value. Only that fault takes memory.
+    /// The same, or `UnknownVariable` where the expression has no value. That fault takes memory too.
     pub fn evaluate<'a>(&'a self, alloc: Global, state: &'a State<'_>) -> Result<ValueCow<'a>>
         ensures value { Answers cow_view result (required (expression_view self.now) (environment_of state.now)) }
-        ensures no_memory { IsPlain state.now → TakesNoMemory result (required (expression_view self.now) (environment_of state.now)) }
+        ensures no_memory { (FindsLoop state.now (value_of (expression_view self.now) (environment_of state.now)) → ⊥) → TakesNoMemory result (required (expression_view self.now) (environment_of state.now)) }
         ensures message { IfErr result (λ e. HasMessageUnlessMemory (without_value_message (written_form (expression_view self.now))) e) }
     {
         match valued(alloc, expression_value(self, state))? {
@@ -87,22 +87,22 @@ impl Expression {
 }
 
 impl Variable {
-    /// The value of the variable, where it has one. It takes no memory and is never refused.
+    /// The value of the variable, where it has one, as `Expression::try_evaluate`.
     pub fn try_evaluate<'a>(
         &'a self,
         alloc: Global,
         state: &'a State<'_>,
     ) -> Result<Option<ValueCow<'a>>>
         ensures value { Gives (λ r. option_map cow_view r) result (value_of (variable_view self.now) (environment_of state.now)) }
-        ensures no_memory { IsPlain state.now → IsOk result }
+        ensures no_memory { (FindsLoop state.now (value_of (variable_view self.now) (environment_of state.now)) → ⊥) → IsOk result }
     {
         valued(alloc, variable_value(self, state))
     }
 
-    /// The same, or `UnknownVariable` where the variable has no value. Only that fault takes memory.
+    /// The same, or `UnknownVariable` where the variable has no value. That fault takes memory too.
     pub fn evaluate<'a>(&'a self, alloc: Global, state: &'a State<'_>) -> Result<ValueCow<'a>>
         ensures value { Answers cow_view result (required (variable_view self.now) (environment_of state.now)) }
-        ensures no_memory { IsPlain state.now → TakesNoMemory result (required (variable_view self.now) (environment_of state.now)) }
+        ensures no_memory { (FindsLoop state.now (value_of (variable_view self.now) (environment_of state.now)) → ⊥) → TakesNoMemory result (required (variable_view self.now) (environment_of state.now)) }
         ensures message { IfErr result (λ e. HasMessageUnlessMemory (without_value_message (written_form (variable_view self.now))) e) }
     {
         match valued(alloc, variable_value(self, state))? {
@@ -137,7 +137,7 @@ fn expression_value<'a, 'd>(
     state: &'a State<'d>,
 ) -> Option<Seen<'a, 'd>>
     ensures value { option_map seen_view result ≡ value_of (expression_view expression.now) (environment_of state.now) }
-    ensures held { IsPlain state.now → IfSome result IsHeld }
+    ensures among { IfSome result (IsAmong (loops_of state.now) state.now.scopes.items) }
 {
     match expression {
         Expression::Literal(value) => Some(Seen::Near(Found::Held(value))),
@@ -148,7 +148,7 @@ fn expression_value<'a, 'd>(
 #[cycle(value)]
 fn variable_value<'a, 'd>(variable: &'a Variable, state: &'a State<'d>) -> Option<Seen<'a, 'd>>
     ensures value { option_map seen_view result ≡ value_of (variable_view variable.now) (environment_of state.now) }
-    ensures held { IsPlain state.now → IfSome result IsHeld }
+    ensures among { IfSome result (IsAmong (loops_of state.now) state.now.scopes.items) }
 {
     let mut found = state.seen(variable.name.as_str())?;
     for index in &variable.indexes {

@@ -1,5 +1,5 @@
 //! What names and paths lead to.
-ghost use Rattle.std.specs.Prelude.{◌≡◌, ◌<◌, ◌≤◌, ◌+◌, ◌∷◌, length, drop, take, [], IfSome, IsOk, option_map, map, reverse};
+ghost use Rattle.std.specs.Prelude.{◌≡◌, ◌<◌, ◌≤◌, ◌+◌, ◌++◌, ◌∷◌, List, length, drop, take, [], IfSome, IsOk, option_map, map, reverse};
 ghost use Rattle.liquid_model.specs.Answer.{Gives};
 ghost use Rattle.liquid_model.specs.Cow.{cow_view};
 ghost use Rattle.liquid_model.specs.Find.{step};
@@ -7,9 +7,9 @@ ghost use Rattle.liquid_model.specs.Found.{found_view};
 ghost use Rattle.liquid_model.specs.View.{view, pairs_view};
 ghost use Rattle.liquid_model.specs.Data.{object};
 ghost use Rattle.liquid_core.specs.Environment.{local_of};
-ghost use Rattle.liquid_core.specs.Held.{held};
+ghost use Rattle.liquid_core.specs.Held.{Outer, held};
 ghost use Rattle.liquid_core.specs.Places.{number_at};
-ghost use Rattle.liquid_core.specs.Seen.{scopes_seen, seen_view, IsHeld, depth};
+ghost use Rattle.liquid_core.specs.Seen.{scopes_seen, seen_view, IsAmong, IsHeld, depth};
 ghost use Rattle.liquid_core.specs.declared.turn.Scope.{Scope};
 ghost use Rattle.liquid_core.specs.declared.turn.Scope.TheVariants as scope;
 ghost use Rattle.liquid_core.specs.declared.turn.Turn.{Turn};
@@ -77,6 +77,7 @@ impl<'d> Turn<'d> {
     /// What the turn binds to the name.
     fn find<'a>(&'a self, name: &str, behind: Scopes<'a, 'd>) -> Option<Seen<'a, 'd>>
         ensures value { option_map seen_view result ≡ turn_map self.now (local_of (scopes_seen behind.entry)) name.now }
+        ensures among { IfSome result (IsAmong (behind.entry.turns.now ++ scope.Turn self.now ∷ []) behind.entry.outer.now) }
         ensures nested { IfSome result (λ s. depth s ≤ length behind.entry.turns.now + 1) }
     {
         if name == self.name {
@@ -90,7 +91,8 @@ impl<'d> Turn<'d> {
 
     /// A step from the loop's object.
     fn stepped<'a>(&'a self, part: &Value, behind: Scopes<'a, 'd>) -> Option<Seen<'a, 'd>>
-        ensures { option_map seen_view result ≡ step (turn_object self.now (local_of (scopes_seen behind.entry))) (view part.now) }
+        ensures value { option_map seen_view result ≡ step (turn_object self.now (local_of (scopes_seen behind.entry))) (view part.now) }
+        ensures among { IfSome result (IsAmong behind.entry.turns.now behind.entry.outer.now) }
     {
         match part {
             Value::Integer(n) => self.part(Buffer::new().format(*n), behind),
@@ -103,7 +105,8 @@ impl<'d> Turn<'d> {
 
     /// A part of the loop's object, or how many it has.
     fn part<'a>(&'a self, name: &str, behind: Scopes<'a, 'd>) -> Option<Seen<'a, 'd>>
-        ensures { option_map seen_view result ≡ object_part (turn_object self.now (local_of (scopes_seen behind.entry))) name.now }
+        ensures value { option_map seen_view result ≡ object_part (turn_object self.now (local_of (scopes_seen behind.entry))) name.now }
+        ensures among { IfSome result (IsAmong behind.entry.turns.now behind.entry.outer.now) }
     {
         let k = self.at;
         let m = self.count;
@@ -170,7 +173,8 @@ impl<'d> Turn<'d> {
 
 /// What `forloop` was before a loop.
 fn parent<'a, 'd>(found: Option<Seen<'a, 'd>>, elsewhere: &'a Value) -> Seen<'a, 'd>
-    ensures { seen_view result ≡ parent_of (option_map seen_view found.entry) (view elsewhere.now) }
+    ensures value { seen_view result ≡ parent_of (option_map seen_view found.entry) (view elsewhere.now) }
+    ensures among { (scopes : List Scope) (outer : List Outer) → IfSome found.entry (IsAmong scopes outer) → IsAmong scopes outer result }
 {
     match found {
         Some(seen) => seen,
@@ -216,6 +220,7 @@ impl<'d> Scope<'d> {
     #[tactic(auto, using(crate::proofs::States::held_at))]
     fn find<'a>(&'a self, name: &str, behind: Scopes<'a, 'd>) -> Option<Seen<'a, 'd>>
         ensures value { option_map seen_view result ≡ scope_map self.now (local_of (scopes_seen behind.entry)) name.now }
+        ensures among { IfSome result (IsAmong (behind.entry.turns.now ++ self.now ∷ []) behind.entry.outer.now) }
         ensures nested { IfSome result (λ s. depth s ≤ length behind.entry.turns.now + 1) }
     {
         match self {
@@ -232,7 +237,7 @@ impl<'a, 'd> Seen<'a, 'd> {
     /// One step on.
     pub(crate) fn stepped(self, part: &Value) -> Option<Seen<'a, 'd>>
         ensures value { option_map seen_view result ≡ step (seen_view self.entry) (view part.now) }
-        ensures held { IsHeld self.entry → IfSome result IsHeld }
+        ensures among { (scopes : List Scope) (outer : List Outer) → IsAmong scopes outer self.entry → IfSome result (IsAmong scopes outer) }
     {
         match self {
             Seen::Lent(found) => match found.stepped(part) {
@@ -250,7 +255,7 @@ impl<'a, 'd> Seen<'a, 'd> {
     /// One step on, by what was found.
     pub(crate) fn stepped_by(self, part: Seen<'a, 'd>) -> Option<Seen<'a, 'd>>
         ensures value { option_map seen_view result ≡ step (seen_view self.entry) (seen_view part.entry) }
-        ensures held { IsHeld self.entry → IfSome result IsHeld }
+        ensures among { (scopes : List Scope) (outer : List Outer) → IsAmong scopes outer self.entry → IfSome result (IsAmong scopes outer) }
     {
         match part {
             Seen::Lent(found) => {
@@ -286,6 +291,7 @@ impl<'a, 'd> Scopes<'a, 'd> {
     fn find_at(self, last: usize, name: &str) -> Option<Seen<'a, 'd>>
         requires { last < length self.turns.now }
         ensures nested { IfSome result (λ s. depth s ≤ last + 1) }
+        ensures among { IfSome result (IsAmong self.entry.turns.now self.entry.outer.now) }
         ensures value { (scope : Scope) → drop last self.entry.turns.now ≡ scope ∷ drop (last + 1) self.entry.turns.now →
             option_map seen_view result ≡ scope_map scope (local_of (standing (take last self.entry.turns.now) (reverse (map held self.entry.outer.now)))) name.now }
     {
@@ -301,7 +307,7 @@ impl<'a, 'd> Scopes<'a, 'd> {
     /// What a name is in the innermost scope that holds it.
     pub fn find(self, name: &str) -> Option<Seen<'a, 'd>>
         ensures value { option_map seen_view result ≡ local_of (scopes_seen self.entry) name.now }
-        ensures held { self.entry.turns.now ≡ [] → IfSome result IsHeld }
+        ensures among { IfSome result (IsAmong self.entry.turns.now self.entry.outer.now) }
         ensures nested { IfSome result (λ s. depth s ≤ length self.entry.turns.now) }
     {
         let mut left = self.turns.len();

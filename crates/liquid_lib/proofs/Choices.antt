@@ -1,6 +1,6 @@
 -- What a choice comes to, step by step.
 use Rattle.std.proofs.Common.{◌≡◌, ℕ, ◌+◌, ◌<◌, ◌≤◌, List, [], ◌∷◌, length, get_or, Bool, true, false, cond, Result, Ok, Err, inl, inr, refl, sym, ap, subst, ◌∙◌, arith}
-use Rattle.std.specs.Prelude.{MatchBool, ⊤}
+use Rattle.std.specs.Prelude.{IfOk, MatchBool, ⊤}
 use Rattle.std.proofs.lemmas.List.{length-map}
 use Rattle.liquid_model.specs.Texts.{Text}
 use Rattle.liquid_model.specs.declared.error.Error.{Error}
@@ -10,7 +10,7 @@ use Rattle.liquid_model.specs.Told.{is_memory, is_refusal}
 use Rattle.liquid_core.specs.Environment.{Environment, Names}
 use Rattle.liquid_tree.specs.ConditionView.{condition_view}
 use Rattle.liquid_tree.specs.Evaluation.{truth_of}
-use Rattle.liquid_syntax.specs.Flats.{Maker, with_two, flat_of, flats, nodes_of, StandsAt}
+use Rattle.liquid_syntax.specs.Flats.{IsRange, Maker, with_two, flat_of, flats, nodes_of, StandsAt}
 use Rattle.liquid_syntax.specs.Forest.{Forest, empty}
 use Rattle.liquid_tree.specs.Names.{node_names, nodes_names, condition_names}
 use Rattle.liquid_tree.specs.Tree as tree
@@ -241,3 +241,9 @@ refused_performs ns names meant depth setting x p h = on (is_memory x.kind) refl
     on true is k = inr (record { cause = inl (memory_of x.kind is, inl refl); adds = AddsPart-none p.sink _ })
     on false is k = subst (λ o. MeetsAt unit (Err x) o p.sink p.sink p.environment) (sym (k.0 setting (deeper_meaning setting depth)))
         (inl (record { end = refl; within = k.1; adds = Adds-nil p.sink; none_failed = refl; same = refl }))
+
+-- what a choice comes to stands inside of the range in which its node stands
+pub chosen_inside : (ns : List Node) (e : Environment) (names : List Text) (meant : Meant) (at last to : ℕ) (r : Result (ℕ × ℕ) Error) → last ≤ to → IfOk r (λ range. (at < range.0) × (range.1 ≤ last)) → ComesTo ns e names meant r
+    → IfOk r (λ range. (at < range.0) × (range.1 ≤ to) × IsRange ns range.0 range.1)
+chosen_inside ns e names meant at last to (Ok range) le inside x = (inside.0, (let last_le : range.1 ≤ last = inside.1 in let within : range.1 ≤ to = omega arith in within), (x.nodes, x.stands))
+chosen_inside ns e names meant at last to (Err fault) le inside x = tt

@@ -14,12 +14,15 @@ pub mod Kept
 pub mod LentData
 pub mod LoopItems
 pub mod LoopMeanings
+pub mod Pages
 pub mod PartialRuns
 pub mod Pieces
 pub mod Registered
 pub mod RenderEach
+pub mod RenderKinds
 pub mod Renderings
 pub mod Sinks
+pub mod SourceRuns
 pub mod Turning
 pub mod ValueTexts
 pub mod Whole

@@ -118,7 +118,7 @@ exact view r o s t g (inr p) within = absurd (true≢false (sym (is_refused_of r
 
 -- ---- a text in place of writing
 
-never_failed : OneFailed 0 0 → ⊥
+pub never_failed : OneFailed 0 0 → ⊥
 never_failed is = absurd (omega (arith, is))
 
 memory_is : (kind : ErrorKind) → kind ≡ Memory → is_memory kind ≡ true

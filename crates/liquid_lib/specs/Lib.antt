@@ -6,9 +6,11 @@ pub mod Counters
 pub mod Engine
 pub mod Failures
 pub mod Forloop
+pub mod Headline
 pub mod Kept
 pub mod LoopRuns
 pub mod LoopTurns
+pub mod Pages
 pub mod Partials
 pub mod Performs
 pub mod Rendered

@@ -1,6 +1,8 @@
 -- What a whole rendering has done.
-use Rattle.std.specs.Prelude.{◌≡◌, ℕ, Bool, List, Result, ◌⊎◌, Option, None}
+use Rattle.std.specs.Prelude.{◌≡◌, ℕ, nat_le, Bool, List, Result, ◌⊎◌, Option, None}
+use Rattle.liquid_model.specs.Told.{number_of}
 use Rattle.liquid_model.specs.declared.error.Error.{Error}
+use Rattle.liquid_model.specs.declared.error.ErrorKind.{ErrorKind}
 use Rattle.liquid_core.specs.Environment.{Names, Environment, cut}
 use Rattle.liquid_core.specs.FilterAnswers.{FilterAnswer}
 use Rattle.liquid_tree.specs.Names.{run_names, mentioned}
@@ -27,6 +29,10 @@ module _ {D : Type 0} {P : D → Type 0} where
     -- what they come to, from what the runtime holds
     abbrev pub outcome_in : Runtime D P → Nodes → Outcome Nothing
     outcome_in runtime nodes = run_in runtime nodes (environment_in runtime)
+
+-- a kind by which a rendering ends, of the numbers 1 to 18: one of a run, `Memory` or `Write`, and none of a source
+abbrev pub is_rendering_kind : ErrorKind → Bool
+is_rendering_kind kind = nat_le (number_of kind) 18
 
 -- a run with no buffer open
 abbrev pub at_writer : {W : Type 0} → (W → Option (List ℕ)) → (W → ℕ) → W → Environment → Place

@@ -16,6 +16,7 @@ use liquid_syntax::{Arm, Condition, Node, TwoBodies};
 use std::alloc::Global;
 
 /// The range that the `if` at `at` comes to: its body, where the condition holds, else what the nodes of `else` come to.
+#[inline(never)]
 pub(crate) fn chosen_range(
     alloc: Global,
     nodes: &[Node],
@@ -38,6 +39,7 @@ pub(crate) fn chosen_range(
 }
 
 /// The range that the `unless` at `at` comes to: its body, where the condition doesn't hold, else the nodes of `else`.
+#[inline(never)]
 pub(crate) fn unless_range(
     alloc: Global,
     nodes: &[Node],
@@ -63,6 +65,7 @@ pub(crate) fn unless_range(
 
 /// The range that the `case` at `at` comes to: the body of the first `when` that has a value equal to the target, else the
 /// nodes of `else`. Values are evaluated in order, up to the one that is equal.
+#[inline(never)]
 pub(crate) fn case_range(
     alloc: Global,
     nodes: &[Node],

@@ -22,6 +22,7 @@ use std::alloc::Global;
 
 /// Writes the counter's number, and stores one more. Where that is beyond 64 bits, it is `NumberRange` before anything is
 /// written.
+#[inline(never)]
 pub(crate) fn run_increment<W: CountedWrite, H: NamedFilters>(
     alloc: Global,
     given: &Given<'_, H>,
@@ -43,6 +44,7 @@ pub(crate) fn run_increment<W: CountedWrite, H: NamedFilters>(
 
 /// Writes one less than the counter's number, and stores that. Where it is beyond 64 bits, it is `NumberRange` before
 /// anything is written.
+#[inline(never)]
 pub(crate) fn run_decrement<W: CountedWrite, H: NamedFilters>(
     alloc: Global,
     given: &Given<'_, H>,

@@ -20,6 +20,7 @@ use std::alloc::Global;
 
 /// Writes the value at the group's index, which moves on before the value is evaluated. Where no value stands there it is
 /// `CycleBounds`; without values the index stays.
+#[inline(never)]
 pub(crate) fn run_cycle<W: CountedWrite, H: NamedFilters>(
     alloc: Global,
     given: &Given<'_, H>,

@@ -1,15 +1,17 @@
 //! Runs of nodes.
-ghost use Rattle.std.specs.Prelude.{◌≡◌, ℕ, ◌+◌, ◌≤◌, length};
+//!
+//! A node in blocks in partials stands as deep in these calls as it is nested. So that a level takes little of the stack, what a
+//! node does beside calling on is kept out of the frames of [run_range], [run_node] and [run_chosen], by `#[inline(never)]`.
+ghost use Rattle.std.specs.Prelude.{◌≡◌, ℕ, ◌+◌, ◌<◌, ◌≤◌, IfOk, length};
 ghost use Rattle.liquid_core.specs.ExpressionView.{expression_view};
 ghost use Rattle.liquid_core.specs.Held.{held};
-ghost use Rattle.liquid_core.specs.States.{layers_of, loops_of};
+ghost use Rattle.liquid_core.specs.States.{environment_of, layers_of, loops_of};
 ghost use Rattle.liquid_syntax.specs.Flats.{Maker, StandsAt, IsRange, NodeAt, IsNode, bindings_view, nodes_of};
 ghost use Rattle.liquid_syntax.specs.Forest.{Forest};
 ghost use Rattle.liquid_syntax.specs.Templates.{list_of, most_of, tree_of};
-ghost use Rattle.liquid_tree.specs.ConditionView.{condition_view};
 ghost use Rattle.liquid_tree.specs.Names.{node_names, nodes_names};
 ghost use Rattle.liquid_tree.specs.Tree as tree;
-ghost use Rattle.liquid_lib.specs.Choices.{CaseStands, IsCase};
+ghost use Rattle.liquid_lib.specs.Choices.{NodeComesTo};
 ghost use Rattle.liquid_lib.specs.Engine.{setting_of, node_in, nodes_in, partial_in};
 ghost use Rattle.liquid_lib.specs.Kept.{Keeps, IsRender, AreRenders};
 ghost use Rattle.liquid_lib.specs.Performs.{Performs, place_of};
@@ -29,7 +31,7 @@ use crate::nodes::next_after;
 use crate::output::Output;
 use crate::partial::{include_scope, pairs_scope, partial_called, partial_name, too_deep};
 use liquid_core::{Expression, Interrupt, NamedFilters, Object, Result, State, Value};
-use liquid_syntax::{Arm, Binding, Condition, Node, Template, TwoBodies};
+use liquid_syntax::{Binding, Node, Template};
 use loops::{run_for, run_tablerow};
 use renders::{run_render, run_render_each};
 use std::alloc::Global;
@@ -94,10 +96,12 @@ fn run_node<'d, W: CountedWrite, H: NamedFilters>(
         Node::Raw(text) => run_raw(alloc, given, text.as_str(), out, state),
         Node::Comment => Ok(()),
         Node::If(condition, bodies) => {
-            run_if(alloc, given, nodes, at, condition, *bodies, out, state)
+            let chosen = chosen_range(alloc, nodes, at, condition, *bodies, state);
+            run_chosen(alloc, given, nodes, at, to, chosen, out, state)
         }
         Node::Unless(condition, bodies) => {
-            run_unless(alloc, given, nodes, at, condition, *bodies, out, state)
+            let chosen = unless_range(alloc, nodes, at, condition, *bodies, state);
+            run_chosen(alloc, given, nodes, at, to, chosen, out, state)
         }
         Node::Break => {
             state.interrupt = Some(Interrupt::Break);
@@ -135,7 +139,8 @@ fn run_node<'d, W: CountedWrite, H: NamedFilters>(
         }
         Node::Cycle(group, values) => run_cycle(alloc, given, group.as_str(), values, out, state),
         Node::Case(target, arms, last) => {
-            run_case(alloc, given, nodes, at, target, arms, *last, out, state)
+            let chosen = case_range(alloc, nodes, at, target, arms, *last, state);
+            run_chosen(alloc, given, nodes, at, to, chosen, out, state)
         }
         Node::For(head, bodies) => { run_for(alloc, given, nodes, at, head, *bodies, out, state) }
         Node::TableRow(head, end) => {
@@ -144,89 +149,36 @@ fn run_node<'d, W: CountedWrite, H: NamedFilters>(
     }
 }
 
-/// Runs the body that the conditions choose.
+/// Runs the nodes that an `if`, an `unless` or a `case` came to, behind `at`, or ends as its choice did.
 #[cycle(run)]
-fn run_if<'d, W: CountedWrite, H: NamedFilters>(
+fn run_chosen<'d, W: CountedWrite, H: NamedFilters>(
     alloc: Global,
     given: &Given<'d, H>,
     nodes: &'d [Node],
     at: usize,
-    condition: &Condition,
-    bodies: TwoBodies,
+    to: usize,
+    chosen: Result<(usize, usize)>,
     out: &mut Output<'_, W>,
     state: &mut State<'d>,
 ) -> Result<()>
-    requires body { IsRange nodes.now (at + 1) bodies.first_end }
-    requires otherwise { IsRange nodes.now bodies.first_end bodies.last_end }
-    ensures performs { (b d : Forest Maker) → StandsAt nodes.now (at + 1) b bodies.first_end → StandsAt nodes.now bodies.first_end d bodies.last_end →
-        Performs result (node_in H.named given.now (tree.if_true (condition_view condition.now) (nodes_of b) (nodes_of d)))
+    requires { IfOk chosen (λ range. (at < range.0) × (range.1 ≤ to) × IsRange nodes.now range.0 range.1) }
+    ensures performs { (n : tree.Node) → NodeComesTo nodes.now (environment_of state.old) n chosen →
+        Performs result (node_in H.named given.now n)
         (place_of W.contents W.failure_count out.old state.old)
         (place_of W.contents W.failure_count out.new state.new) }
     ensures same_writer { out.new.writer.ghost_name ≡ out.old.writer.ghost_name }
-    ensures kept { (b d : Forest Maker) → StandsAt nodes.now (at + 1) b bodies.first_end → StandsAt nodes.now bodies.first_end d bodies.last_end →
-        Keeps (node_names (tree.if_true (condition_view condition.now) (nodes_of b) (nodes_of d))) (setting_of H.named given.now) state.old state.new }
+    ensures kept { (n : tree.Node) → NodeComesTo nodes.now (environment_of state.old) n chosen → Keeps (node_names n) (setting_of H.named given.now) state.old state.new }
     ensures loops { loops_of state.new ≡ loops_of state.old }
 {
-    let (from, to) = chosen_range(alloc, nodes, at, condition, bodies, state)?;
-    run_range(alloc, given, nodes, from, to, out, state)
-}
-
-/// Runs the body where the condition doesn't hold, and else that of `else`.
-#[cycle(run)]
-fn run_unless<'d, W: CountedWrite, H: NamedFilters>(
-    alloc: Global,
-    given: &Given<'d, H>,
-    nodes: &'d [Node],
-    at: usize,
-    condition: &Condition,
-    bodies: TwoBodies,
-    out: &mut Output<'_, W>,
-    state: &mut State<'d>,
-) -> Result<()>
-    requires body { IsRange nodes.now (at + 1) bodies.first_end }
-    requires otherwise { IsRange nodes.now bodies.first_end bodies.last_end }
-    ensures performs { (b d : Forest Maker) → StandsAt nodes.now (at + 1) b bodies.first_end → StandsAt nodes.now bodies.first_end d bodies.last_end →
-        Performs result (node_in H.named given.now (tree.unless (condition_view condition.now) (nodes_of b) (nodes_of d)))
-        (place_of W.contents W.failure_count out.old state.old)
-        (place_of W.contents W.failure_count out.new state.new) }
-    ensures same_writer { out.new.writer.ghost_name ≡ out.old.writer.ghost_name }
-    ensures kept { (b d : Forest Maker) → StandsAt nodes.now (at + 1) b bodies.first_end → StandsAt nodes.now bodies.first_end d bodies.last_end →
-        Keeps (node_names (tree.unless (condition_view condition.now) (nodes_of b) (nodes_of d))) (setting_of H.named given.now) state.old state.new }
-    ensures loops { loops_of state.new ≡ loops_of state.old }
-{
-    let (from, to) = unless_range(alloc, nodes, at, condition, bodies, state)?;
-    run_range(alloc, given, nodes, from, to, out, state)
-}
-
-/// Runs the body of the `when` that has a value equal to the target, or else that of `else`.
-#[cycle(run)]
-fn run_case<'d, W: CountedWrite, H: NamedFilters>(
-    alloc: Global,
-    given: &Given<'d, H>,
-    nodes: &'d [Node],
-    at: usize,
-    target: &Expression,
-    arms: &Vec<Arm>,
-    last: usize,
-    out: &mut Output<'_, W>,
-    state: &mut State<'d>,
-) -> Result<()>
-    requires { IsCase nodes.now (at + 1) arms.now.items last }
-    ensures performs { (ws : tree.Whens) (o : tree.Nodes) → CaseStands nodes.now (at + 1) arms.now.items last ws o →
-        Performs result (node_in H.named given.now (tree.case_of (expression_view target.now) ws o))
-        (place_of W.contents W.failure_count out.old state.old)
-        (place_of W.contents W.failure_count out.new state.new) }
-    ensures same_writer { out.new.writer.ghost_name ≡ out.old.writer.ghost_name }
-    ensures kept { (ws : tree.Whens) (o : tree.Nodes) → CaseStands nodes.now (at + 1) arms.now.items last ws o →
-        Keeps (node_names (tree.case_of (expression_view target.now) ws o)) (setting_of H.named given.now) state.old state.new }
-    ensures loops { loops_of state.new ≡ loops_of state.old }
-{
-    let (from, to) = case_range(alloc, nodes, at, target, arms, last, state)?;
-    run_range(alloc, given, nodes, from, to, out, state)
+    match chosen {
+        Ok(range) => run_range(alloc, given, nodes, range.0, range.1, out, state),
+        Err(fault) => Err(fault),
+    }
 }
 
 /// Runs the body into a buffer, and sets an assigned variable to its text.
 #[cycle(run)]
+#[inline(never)]
 fn run_capture<'d, W: CountedWrite, H: NamedFilters>(
     alloc: Global,
     given: &Given<'d, H>,
@@ -256,6 +208,7 @@ fn run_capture<'d, W: CountedWrite, H: NamedFilters>(
 
 /// Runs the body into a buffer, and writes its text where it differs from the last one, as the body left that.
 #[cycle(run)]
+#[inline(never)]
 fn run_ifchanged<'d, W: CountedWrite, H: NamedFilters>(
     alloc: Global,
     given: &Given<'d, H>,
@@ -284,6 +237,7 @@ fn run_ifchanged<'d, W: CountedWrite, H: NamedFilters>(
 
 /// Runs a partial over the caller's names, with the pairs as a scope.
 #[cycle(run)]
+#[inline(never)]
 fn run_include<'d, W: CountedWrite, H: NamedFilters>(
     alloc: Global,
     given: &Given<'d, H>,
@@ -307,6 +261,7 @@ fn run_include<'d, W: CountedWrite, H: NamedFilters>(
 
 /// Runs a partial over the caller's names, with the pairs in one object as a scope.
 #[cycle(run)]
+#[inline(never)]
 fn run_jekyll_include<'d, W: CountedWrite, H: NamedFilters>(
     alloc: Global,
     given: &Given<'d, H>,
@@ -329,6 +284,7 @@ fn run_jekyll_include<'d, W: CountedWrite, H: NamedFilters>(
 
 /// Enters a partial, with a scope of its own over the caller's names.
 #[cycle(run)]
+#[inline(never)]
 fn run_partial<'d, W: CountedWrite, H: NamedFilters>(
     alloc: Global,
     given: &Given<'d, H>,

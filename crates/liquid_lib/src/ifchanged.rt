@@ -13,6 +13,7 @@ use liquid_core::{Result, State};
 use std::alloc::Global;
 
 /// Writes the text where it differs from the last one, and makes it the last one after that.
+#[inline(never)]
 pub(crate) fn show_if_changed<W: CountedWrite>(
     alloc: Global,
     text: String,

@@ -53,6 +53,7 @@ pub(crate) fn run_raw<W: CountedWrite, H: NamedFilters>(
 }
 
 /// Writes the text of a chain's value.
+#[inline(never)]
 pub(crate) fn run_output<W: CountedWrite, H: NamedFilters>(
     alloc: Global,
     given: &Given<'_, H>,
@@ -72,6 +73,7 @@ pub(crate) fn run_output<W: CountedWrite, H: NamedFilters>(
 }
 
 /// Sets an assigned variable to a chain's value.
+#[inline(never)]
 pub(crate) fn run_assign<W: CountedWrite, H: NamedFilters>(
     alloc: Global,
     given: &Given<'_, H>,

@@ -19,6 +19,7 @@ use liquid_syntax::{For, TableRow, Window, WindowExpression, evaluate_amount};
 use std::alloc::Global;
 
 /// The first turn of a `for`, or nothing where no items are asked for. The source is evaluated before the window.
+#[inline(never)]
 pub(crate) fn for_turn<'d>(
     alloc: Global,
     head: &'d For,
@@ -46,6 +47,7 @@ pub(crate) fn for_turn<'d>(
 
 /// The first turn of a `tablerow` and its columns, or nothing where no items are asked for. The source is evaluated first,
 /// then the number of columns, then the window; `ZeroColumns` where there are items and no column.
+#[inline(never)]
 pub(crate) fn row_turn<'d>(
     alloc: Global,
     head: &'d TableRow,

@@ -16,6 +16,7 @@ use std::alloc::Global;
 use std::collections::BTreeMap;
 
 /// A state that holds these names alone.
+#[inline(never)]
 pub(crate) fn own_state<'d>(alloc: Global, names: Object) -> Result<State<'d>>
     ensures { Gives environment_of result (new_environment (held names)) }
 {
@@ -25,6 +26,7 @@ pub(crate) fn own_state<'d>(alloc: Global, names: Object) -> Result<State<'d>>
 }
 
 /// A state that holds these names, and over them a loop of `render` at one of its items.
+#[inline(never)]
 pub(crate) fn state_at<'d>(alloc: Global, names: Object, turn: Turn<'d>) -> Result<State<'d>>
     ensures { (over : Map Datum) → ((local : Map Datum) → turn_map turn.entry local ≡ over) → Gives environment_of result (new_environment (merged over (held names))) }
 {

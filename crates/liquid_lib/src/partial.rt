@@ -17,6 +17,7 @@ use std::alloc::Global;
 use std::collections::BTreeMap;
 
 /// The name of a partial, which is a scalar's text.
+#[inline(never)]
 pub(crate) fn partial_name(alloc: Global, name: &Expression, state: &State<'_>) -> Result<String>
     ensures { Answers (λ t. string_bytes t) result (name_of (expression_view name.now) (environment_of state.now)) }
 {
@@ -46,6 +47,7 @@ fn pairs_object(alloc: Global, bindings: &[Binding], state: &State<'_>) -> Resul
 }
 
 /// The scope of the pairs of an `include` or a `render`.
+#[inline(never)]
 pub(crate) fn pairs_scope(alloc: Global, bindings: &[Binding], state: &State<'_>) -> Result<Object>
     ensures { Answers held result (bound_scope (bindings_view bindings.now) (environment_of state.now)) }
 {
@@ -53,6 +55,7 @@ pub(crate) fn pairs_scope(alloc: Global, bindings: &[Binding], state: &State<'_>
 }
 
 /// The scope of the pairs of a jekyll `include`: one object that is named `include`, or nothing without pairs.
+#[inline(never)]
 pub(crate) fn include_scope(
     alloc: Global,
     bindings: &[Binding],
@@ -75,6 +78,7 @@ pub(crate) fn include_scope(
 
 /// The partial of this name.
 #[tactic(auto, using(crate::proofs::PartialRuns::small_list))]
+#[inline(never)]
 pub(crate) fn partial_called<'p>(
     alloc: Global,
     partials: &'p Partials,
@@ -91,6 +95,7 @@ pub(crate) fn partial_called<'p>(
 
 /// The partial of this name, or of this name with `.liquid`.
 #[tactic(auto, using(crate::proofs::PartialRuns::small_list))]
+#[inline(never)]
 pub(crate) fn partial_rendered<'p>(
     alloc: Global,
     partials: &'p Partials,

@@ -1,5 +1,5 @@
 //! Whole renderings.
-ghost use Rattle.std.specs.Prelude.{◌≡◌, ◌<◌, ◌⊎◌, false, IfErr, IsErrAnd, length, string_bytes};
+ghost use Rattle.std.specs.Prelude.{◌≡◌, ◌<◌, ◌⊎◌, T, false, IfErr, IsErrAnd, length, string_bytes};
 ghost use Rattle.std.specs.Io.KnownBytes.{Appends};
 ghost use Rattle.liquid_model.specs.Answer.{Answers};
 ghost use Rattle.liquid_core.specs.Environment.{cut};
@@ -13,7 +13,7 @@ ghost use Rattle.liquid_meaning.specs.Isolation.{changes, names_of_run};
 ghost use Rattle.liquid_lib.specs.Kept.{LayersKept, AreRenders};
 ghost use Rattle.liquid_meaning.specs.Meaning.{meaning};
 ghost use Rattle.liquid_lib.specs.Performs.{Meets, Performs, answer_of, is_refused, unit};
-ghost use Rattle.liquid_lib.specs.Rendered.{PerformsForCut, run_in, outcome_in, names_in, at_writer, nowhere};
+ghost use Rattle.liquid_lib.specs.Rendered.{PerformsForCut, run_in, outcome_in, names_in, at_writer, nowhere, is_rendering_kind};
 ghost use Rattle.liquid_meaning.specs.Runs.{buffered, ended_with};
 ghost use Rattle.liquid_lib.specs.RuntimeView.{SettingKept, layers_in, environment_in};
 
@@ -67,6 +67,7 @@ pub trait Renderable {
         // nodes that are each a `render` leave the scopes, the variables, the counters, the data and the registers
         ensures alone { AreRenders (nodes self.now) → layers_in runtime.new ≡ layers_in runtime.old }
         ensures same { SettingKept runtime.old runtime.new }
+        ensures kinds { IfErr result (λ e. T (is_rendering_kind e.kind)) }
         ensures write { IfErr result (λ e. e.kind ≡ ErrorKind.Write →
             OneFailed (W.failure_count writer.old) (W.failure_count writer.new)) }
         ensures failed { W.failure_count writer.old < W.failure_count writer.new →
@@ -92,7 +93,8 @@ pub trait Renderable {
         ensures kept { LayersKept (names_in runtime.old (nodes self.now)) (layers_in runtime.old) (layers_in runtime.new) }
         // nodes that are each a `render` leave the scopes, the variables, the counters, the data and the registers
         ensures alone { AreRenders (nodes self.now) → layers_in runtime.new ≡ layers_in runtime.old }
-        ensures same { SettingKept runtime.old runtime.new };
+        ensures same { SettingKept runtime.old runtime.new }
+        ensures kinds { IfErr result (λ e. T (is_rendering_kind e.kind)) };
 }
 
 impl Renderable for Template {

@@ -1,9 +1,12 @@
 -- Laws of runs, beside those of isolation.
-use Rattle.std.specs.Prelude.{◌≡◌, ℕ, ◌+◌, ◌<◌, List, [], ◌∷◌, Some, Ok, IsSome, pos, codes}
+use Rattle.std.specs.Prelude.{◌≡◌, ℕ, ◌+◌, ◌<◌, T, nat_le, List, [], ◌∷◌, Some, Result, Ok, Err, IsSome, pos, codes}
 use Rattle.liquid_model.specs.Texts.{Text}
 use Rattle.liquid_model.specs.Data.{Datum, number, text}
 use Rattle.liquid_model.specs.Find.{find}
+use Rattle.liquid_model.specs.Told.{number_of}
+use Rattle.liquid_model.specs.declared.error.ErrorKind.{ErrorKind}
 use Rattle.liquid_core.specs.Environment.{Environment}
+use Rattle.liquid_core.specs.FilterAnswers.{FilterAnswer}
 use Rattle.liquid_core.specs.Hosts.{no_host}
 use Rattle.liquid_filters.specs.RunKinds.{EndsAsRun}
 use Rattle.liquid_tree.specs.Tree.{Filter, Chain, Source, Window, Nodes, no_nodes, node, plain, assign, for_each}
@@ -58,3 +61,13 @@ KindsOfRuns = (setting : Setting) → ((filter : Filter) (input : Datum) (argume
 abbrev pub KindsOfOwnRuns : Type 0
 KindsOfOwnRuns = (partials : List (Text × Nodes)) (depth : ℕ) (nodes : Nodes) (e : Environment)
     → EndsAsRun (meaning (record { answers = answers_with no_host; partials = partials }) depth nodes e).end
+
+-- an end by a value, or by a kind of the numbers 1 to 17: a host's filter may answer `Memory` too
+abbrev pub EndsWithHost : {A : Type 0} → Result A ErrorKind → Type 0
+EndsWithHost end = (kind : ErrorKind) → end ≡ Err kind → T (nat_le (number_of kind) 17)
+
+-- with the filters that exist, and those of a host that end so, every run ends so
+abbrev pub KindsWithHost : Type 0
+KindsWithHost = (named : Text → FilterAnswer) → ((name : Text) (input : Datum) (arguments : List Datum) → EndsWithHost (named name input arguments))
+    → (partials : List (Text × Nodes)) (depth : ℕ) (nodes : Nodes) (e : Environment)
+    → EndsWithHost (meaning (record { answers = answers_with named; partials = partials }) depth nodes e).end

@@ -4,7 +4,7 @@ ghost use Rattle.liquid_meaning.specs.Assigning.{AssignedAnywhere};
 ghost use Rattle.liquid_meaning.specs.Isolation.{Isolation, AgreeingRuns, OthersKept, RenderLeavesAll, RenderSeesItsValues, Headline};
 ghost use Rattle.liquid_tree.specs.Laws.{CountedWindow};
 ghost use Rattle.liquid_meaning.specs.LoopLaws.{RangeLaw, RowLaw, WindowLaw};
-ghost use Rattle.liquid_meaning.specs.Laws.{AssignedInLoop, AssignedStay, ForloopCountsItems, KindsOfOwnRuns, KindsOfRuns, TextIsItself};
+ghost use Rattle.liquid_meaning.specs.Laws.{AssignedInLoop, AssignedStay, ForloopCountsItems, KindsOfOwnRuns, KindsOfRuns, KindsWithHost, TextIsItself};
 
 /// The laws of isolation: a run depends on the names that its template or a partial mentions, and leaves all others alone.
 pub fn isolation_laws()
@@ -18,7 +18,7 @@ pub fn isolation_laws()
 
 /// Further laws of runs. A text is itself; what is assigned stays, also after a loop (a `render` leaves nothing: [isolation_laws]);
 /// the numbers of `forloop` fit together; and every run ends by a kind that is one of runs, where the filters do, as all that
-/// exist do.
+/// exist do, or else by `Memory`, where a filter of a host answers that.
 pub fn run_laws()
     ensures text { TextIsItself }
     ensures stays { AssignedStay }
@@ -27,6 +27,7 @@ pub fn run_laws()
     ensures forloop { ForloopCountsItems }
     ensures kinds { KindsOfRuns }
     ensures own_kinds { KindsOfOwnRuns }
+    ensures host_kinds { KindsWithHost }
 {}
 
 /// Laws of a loop's items: which of them a window asks for, what a range counts, both together, and where the rows of a table end.

@@ -1,4 +1,4 @@
-//! Calls whose requests for memory are refused, one after another, by `tests/refusals/run`.
+//! Calls of values, states, ranges and readers of arguments, whose requests for memory are refused, one after another, by `tests/refusals/run`.
 //!
 //! Requests count from one mark on standard output to the next, so that what a call is made with is never refused. Behind
 //! the marks each call tells its answer. The script demands `Memory` of the calls that were refused a request, and of no
@@ -16,26 +16,12 @@ macro_rules! asked {
 }
 
 #[cfg(test)]
-mod calls;
-#[cfg(test)]
-mod hosts;
-#[cfg(test)]
-mod names;
-#[cfg(test)]
 mod none;
-#[cfg(test)]
-mod pages;
-#[cfg(test)]
-mod partials;
 #[cfg(test)]
 mod ranges;
 #[cfg(test)]
 mod readers;
 #[cfg(test)]
 mod states;
-#[cfg(test)]
-mod templates;
-#[cfg(test)]
-mod texts;
 #[cfg(test)]
 mod values;

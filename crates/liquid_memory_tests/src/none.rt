@@ -1,5 +1,4 @@
 //! Calls that take no memory: they make no request, and would answer all the same if each were refused.
-use crate::calls::{begin, end, items, leads_to, value};
 use liquid_core::{
     Error, ErrorKind, Expression, Filter, Object, Result, State, Value, ValueCow, Variable, look_up,
 };
@@ -8,6 +7,7 @@ use liquid_lib::{
     BlockReflection, Counted, CountedWrite, RuntimeBuilder, STANDARD_FILTERS, TagReflection,
     language,
 };
+use liquid_refusals::{begin, end, items, leads_to, value};
 use liquid_samples::kind_of;
 use liquid_site::data_from_json;
 use liquid_syntax::{ComparisonOperator, Language, Node, Partials, parse};

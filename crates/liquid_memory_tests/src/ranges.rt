@@ -1,7 +1,7 @@
 //! What loops go over, and their items.
-use crate::calls::{begin, end, is_refused, value};
 use liquid_core::{ErrorKind, Expression, Result, State, Value, ValueCow};
 use liquid_lib::stdlib::ForloopObject;
+use liquid_refusals::{begin, end, is_refused, value};
 use liquid_site::data_from_json;
 use liquid_syntax::{Range, RangeExpression, Window, evaluate_amount};
 use std::alloc::Global;

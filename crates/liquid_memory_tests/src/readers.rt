@@ -1,7 +1,7 @@
 //! The readers of arguments.
-use crate::calls::{LONG, begin, end, is_refused, value};
 use liquid_core::{ErrorKind, Result, Value};
 use liquid_list_filters::{lower_case, text_argument, whole_argument};
+use liquid_refusals::{LONG, begin, end, is_refused, value};
 use std::alloc::Global;
 use std::process::Abort;
 

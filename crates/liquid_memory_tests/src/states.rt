@@ -1,7 +1,7 @@
 //! The names and scopes of a state and of a runtime.
-use crate::calls::{NAMES, begin, end, is_refused, leads_to, number, value};
 use liquid_core::{ErrorKind, Object, Result, State, Value, look_up, store};
 use liquid_lib::{Runtime, RuntimeBuilder};
+use liquid_refusals::{NAMES, begin, end, is_refused, leads_to, number, value};
 use liquid_site::data_from_json;
 use std::alloc::Global;
 use std::collections::BTreeMap;

@@ -1,8 +1,8 @@
 //! Values, expressions and faults.
-use crate::calls::{LONG, begin, end, is_refused, number, value};
 use liquid_core::{
     Error, ErrorKind, Expression, Result, State, Value, ValueCow, Variable, copy_items,
 };
+use liquid_refusals::{LONG, begin, end, is_refused, number, value};
 use liquid_site::data_from_json;
 use std::alloc::Global;
 use std::process::Abort;

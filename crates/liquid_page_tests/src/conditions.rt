@@ -1,5 +1,5 @@
 //! Pages of `if` and `unless`.
-use crate::rows::{by_parts, by_run};
+use crate::rows::{by_run, by_source};
 use liquid_core::{ErrorKind, Result};
 use liquid_lib::language;
 use liquid_samples::{CHOICE_PAGES, Row};
@@ -13,9 +13,9 @@ fn pages_of_choices_by_run(rt: HostRuntime) {
 }
 
 #[test]
-fn pages_of_choices_by_parse_and_render_to(rt: HostRuntime) -> Result<()> {
+fn pages_of_choices_by_render_source(rt: HostRuntime) -> Result<()> {
     for row in &CHOICE_PAGES {
-        by_parts(&rt, rt.alloc(), row)?;
+        by_source(&rt, rt.alloc(), row)?;
     }
     Ok(())
 }

@@ -22,6 +22,8 @@ mod rows;
 #[cfg(test)]
 mod runtimes;
 #[cfg(test)]
+mod site_example;
+#[cfg(test)]
 mod texts;
 #[cfg(test)]
 mod verbatim;

@@ -1,5 +1,5 @@
 //! Pages of sources and data, and how they end.
-use crate::rows::{by_parts, by_render, by_run};
+use crate::rows::{by_render, by_run, by_source};
 use liquid_core::Result;
 use liquid_samples::PAGES;
 
@@ -11,9 +11,9 @@ fn pages_by_run(rt: HostRuntime) {
 }
 
 #[test]
-fn pages_by_parse_and_render_to(rt: HostRuntime) -> Result<()> {
+fn pages_by_render_source(rt: HostRuntime) -> Result<()> {
     for row in &PAGES {
-        by_parts(&rt, rt.alloc(), row)?;
+        by_source(&rt, rt.alloc(), row)?;
     }
     Ok(())
 }

@@ -1,6 +1,6 @@
 //! Looks at a row of a table of pages, by each way to write its page.
 use liquid_core::Result;
-use liquid_lib::{Counted, Renderable, RuntimeBuilder, language};
+use liquid_lib::{Counted, Renderable, RuntimeBuilder, language, render_source};
 use liquid_samples::{Row, kind_of};
 use liquid_site::{data_from_json, run};
 use liquid_syntax::parse;
@@ -20,15 +20,15 @@ pub(crate) fn by_run(rt: &impl Abort, alloc: Global, row: &Row<'_>) {
     assert!(rt; kind_of(&answer) == row.end, "the end of {source}");
 }
 
-/// The page of `parse` and `render_to`. Nothing is looked at where the data can't be read.
-pub(crate) fn by_parts(rt: &impl Abort, alloc: Global, row: &Row<'_>) -> Result<()> {
-    let template = parse(alloc, row.source, &language(alloc)?)?;
+/// The page of `render_source`. Nothing is looked at where the data can't be read.
+pub(crate) fn by_source(rt: &impl Abort, alloc: Global, row: &Row<'_>) -> Result<()> {
+    let language = language(alloc)?;
     let Ok(data) = data_from_json(alloc, row.data) else {
         return Ok(());
     };
     let mut runtime = RuntimeBuilder::new(alloc).set_globals(data).build(alloc);
     let mut counted = Counted::new(Vec::new(alloc));
-    let answer = template.render_to(alloc, &mut counted, &mut runtime);
+    let answer = render_source(alloc, row.source, &language, &mut counted, &mut runtime);
     let written: Vec<u8> = counted.into_inner();
     let source = row.source;
     assert!(rt;

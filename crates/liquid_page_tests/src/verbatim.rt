@@ -1,5 +1,5 @@
 //! Bodies that aren't read: those of `raw` and `comment`.
-use crate::rows::{by_parts, by_run};
+use crate::rows::{by_run, by_source};
 use liquid_core::Result;
 use liquid_samples::{Row, VERBATIM_PAGES};
 
@@ -13,7 +13,7 @@ fn pages_with_bodies_that_are_not_read(rt: HostRuntime) -> Result<()> {
             end: None,
         };
         by_run(&rt, rt.alloc(), &row);
-        by_parts(&rt, rt.alloc(), &row)?;
+        by_source(&rt, rt.alloc(), &row)?;
     }
     Ok(())
 }

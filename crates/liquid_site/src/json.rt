@@ -5,6 +5,7 @@ ghost use Rattle.liquid_model.specs.View.{view, items_view, pairs_view};
 ghost use Rattle.liquid_site.specs.Json.{datum_of, items_of, pairs_of, object_of, data_of};
 ghost use Rattle.serde_json.specs.View.{view as json_view, items_view as json_items, members_view as json_members};
 
+use crate::json_place::{bytes_left, no_json, with_place};
 use liquid_core::{Error, ErrorKind, Object, Result, Value};
 use serde_json::Map;
 use std::alloc::Global;
@@ -15,14 +16,18 @@ pub fn data_from_json(alloc: Global, text: &str) -> Result<Object>
     ensures { Answers (λ m. pairs_view m.entries) result (data_of text.now) }
 {
     match serde_json::Value::from_str(alloc, text) {
-        Ok(value) => object_of(alloc, value),
+        Ok(value) => match object_of(alloc, value) {
+            Ok(data) => Ok(data),
+            Err(error) => Err(with_place(alloc, text, error)),
+        },
         Err(refused) => if refused.is_memory() {
             Err(Error {
                 kind: ErrorKind::Memory,
                 message: None,
             })
         } else {
-            Err(Error::new(alloc, ErrorKind::InvalidInput, "the data is no JSON"))
+            let left = bytes_left(text, refused.line(), refused.column());
+            Err(no_json(alloc, text, left))
         },
     }
 }

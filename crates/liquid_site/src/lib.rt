@@ -2,6 +2,7 @@
 #![tactic(auto)]
 
 mod json;
+mod json_place;
 mod laws;
 mod page;
 

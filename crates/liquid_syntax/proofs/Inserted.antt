@@ -89,7 +89,7 @@ unfolding listed
 put_found name other t [] = refl
 put_found name other t (e ∷ es) = put_by (slice_cmp nat_cmp name e.0) name other e.0 t e.1 es refl (put_found name other t es)
 
-listed_put : {Y : Type 0} (name : Text) (t : Y) (es : List (Text × Y)) → listed (put name t es) ≡ insert (listed es) name t
+pub listed_put : {Y : Type 0} (name : Text) (t : Y) (es : List (Text × Y)) → listed (put name t es) ≡ insert (listed es) name t
 unfolding insert
 listed_put name t es = fun_ext (λ other. put_found name other t es)
 

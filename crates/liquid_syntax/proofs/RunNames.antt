@@ -1,5 +1,5 @@
 -- The names of a run: those of a template's list, and of the lists of all partials.
-use Rattle.std.specs.Prelude.{◌≡◌, false, ◌||◌, List, [], ◌∷◌, String, string_bytes}
+use Rattle.std.specs.Prelude.{◌≡◌, false, ◌||◌, List, [], ◌∷◌, ◌++◌, Option, Some, None, option_map, String, string_bytes}
 use Rattle.std.specs.BTreeSet.{BTreeSet}
 use Rattle.std.specs.BTreeMap.{is_at}
 use Rattle.std.specs.Cmp.Lexicographic.{slice_cmp}
@@ -10,32 +10,37 @@ use Rattle.std.specs.declared.alloc.Global.{Global}
 use mathlib.Core.Path.{refl, sym, ap, ◌∙◌, fun_ext}
 use Rattle.liquid_model.specs.Texts.{Text}
 use Rattle.liquid_tree.specs.Names.{mentioned, nodes_names, partials_names, run_names}
-use Rattle.liquid_syntax.specs.Entries.{seen}
-use Rattle.liquid_syntax.specs.Mentions.{list_names, partials_list_names}
+use Rattle.liquid_syntax.specs.Entries.{seen, filled, with_held}
+use Rattle.liquid_syntax.specs.Mentions.{held_names, list_names, partials_list_names}
 use Rattle.liquid_syntax.specs.NameSets.{added, held}
 use Rattle.liquid_syntax.specs.NameVisitors.{mentioned_both}
 use Rattle.liquid_syntax.specs.Templates.{list_of, tree_of}
 use Rattle.liquid_syntax.specs.declared.template.Template.{Template}
 use Rattle.liquid_syntax.proofs.TreeNames.{template_mentions}
 
-pub partials_mention : (name : Text) (es : List (String Global × Template)) → mentioned (partials_names (seen tree_of es)) name ≡ mentioned (partials_list_names (values_of es)) name
+pub partials_mention : (name : Text) (es : List (String Global × Option Template)) → mentioned (partials_names (filled (seen (option_map tree_of) es))) name ≡ mentioned (partials_list_names (values_of es)) name
 unfolding partials_names partials_list_names
 partials_mention name [] = refl
-partials_mention name (e ∷ es) =
-    mentioned_both (nodes_names (tree_of e.1)) (partials_names (seen tree_of es)) name
-    ∙ (λ i. template_mentions e.1 name i || partials_mention name es i)
-    ∙ sym (mentioned_both (list_names (list_of e.1)) (partials_list_names (values_of es)) name)
+partials_mention name (e ∷ es) = on e.1 (partials_mention name es)
+  where
+    on : (held : Option Template) → mentioned (partials_names (filled (seen (option_map tree_of) es))) name ≡ mentioned (partials_list_names (values_of es)) name
+        → mentioned (partials_names (with_held (string_bytes e.0) (option_map tree_of held) (filled (seen (option_map tree_of) es)))) name ≡ mentioned (held_names held ++ partials_list_names (values_of es)) name
+    on None rest = rest
+    on (Some t) rest =
+        mentioned_both (nodes_names (tree_of t)) (partials_names (filled (seen (option_map tree_of) es))) name
+        ∙ (λ i. template_mentions t name i || rest i)
+        ∙ sym (mentioned_both (list_names (list_of t)) (partials_list_names (values_of es)) name)
 
 none_held : (s : BTreeSet (String Global)) (name : Text) → s.keys ≡ [] → held s name ≡ false
 unfolding held
 none_held s name empty = ap (λ ks. list_any (is_at (λ k. slice_cmp nat_cmp name (string_bytes k))) ks) empty
 
 -- the names that are gathered from nothing
-pub all_gathered : (t : Template) (es : List (String Global × Template)) (none some all : BTreeSet (String Global)) → none.keys ≡ [] → held some ≡ added (list_names (list_of t)) (held none) → held all ≡ added (partials_list_names (values_of es)) (held some)
-    → held all ≡ mentioned (run_names (seen tree_of es) (tree_of t))
+pub all_gathered : (t : Template) (es : List (String Global × Option Template)) (none some all : BTreeSet (String Global)) → none.keys ≡ [] → held some ≡ added (list_names (list_of t)) (held none) → held all ≡ added (partials_list_names (values_of es)) (held some)
+    → held all ≡ mentioned (run_names (filled (seen (option_map tree_of) es)) (tree_of t))
 unfolding added
 all_gathered t es none some all empty first then = fun_ext (λ name.
     ap (λ h. h name) then
     ∙ ap (λ h. h name || mentioned (partials_list_names (values_of es)) name) first
     ∙ ap (λ b. (b || mentioned (list_names (list_of t)) name) || mentioned (partials_list_names (values_of es)) name) (none_held none name empty)
-    ∙ sym (mentioned_both (nodes_names (tree_of t)) (partials_names (seen tree_of es)) name ∙ (λ i. template_mentions t name i || partials_mention name es i)))
+    ∙ sym (mentioned_both (nodes_names (tree_of t)) (partials_names (filled (seen (option_map tree_of) es))) name ∙ (λ i. template_mentions t name i || partials_mention name es i)))

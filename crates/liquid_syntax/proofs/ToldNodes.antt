@@ -4,11 +4,9 @@ use Rattle.liquid_core.specs.ExpressionView.{expression_view}
 use Rattle.liquid_tree.specs.Names.{all_names, bound_names, expression_names, include_name, target_names}
 use Rattle.liquid_tree.proofs.Telling.{IsEach}
 use Rattle.liquid_syntax.specs.Flats.{arm_values, bindings_view}
-use Rattle.liquid_syntax.specs.Mentions.{arms_names, list_names, own_names, partials_list_names}
-use Rattle.liquid_syntax.specs.Templates.{list_of}
+use Rattle.liquid_syntax.specs.Mentions.{arms_names, held_names, list_names, own_names, partials_list_names}
 use Rattle.liquid_syntax.specs.declared.node.Arm.{Arm}
 use Rattle.liquid_syntax.specs.declared.node.Binding.{Binding}
-use Rattle.liquid_syntax.specs.declared.template.Template.{Template}
 
 pub each_node : IsEach own_names list_names
 unfolding list_names
@@ -26,9 +24,9 @@ pub each_value : IsEach (λ (pair : Binding). expression_names (expression_view 
 unfolding bound_names
 each_value = record { none = refl; more = λ pair pairs. refl }
 
-pub each_template : IsEach (λ (t : Template). list_names (list_of t)) partials_list_names
+pub each_place : IsEach held_names partials_list_names
 unfolding partials_list_names
-each_template = record { none = refl; more = λ t ts. refl }
+each_place = record { none = refl; more = λ held more. refl }
 
 -- ---- the name of a jekyll `include` with pairs
 

@@ -1,7 +1,7 @@
 -- The names that the nodes of a list mention.
 --     own_names      of a node itself, and not of its bodies;   list_names      of the nodes of a list
---     partials_list_names      of the lists of all partials
-use Rattle.std.specs.Prelude.{List, [], ◌∷◌, ◌++◌, map, string_bytes, codes, option_map}
+--     held_names      of the list of a partial, where its place holds one;   partials_list_names      of the lists of all partials
+use Rattle.std.specs.Prelude.{List, [], ◌∷◌, ◌++◌, map, string_bytes, codes, Option, Some, None, option_map}
 use Rattle.liquid_core.specs.Expression.{Expression}
 use Rattle.liquid_core.specs.ExpressionView.{expression_view}
 use Rattle.liquid_model.specs.Texts.{Text}
@@ -76,6 +76,10 @@ unfoldable pub list_names : List Node → List Text
 list_names [] = []
 list_names (n ∷ ns) = own_names n ++ list_names ns
 
-unfoldable pub partials_list_names : List Template → List Text
+abbrev pub held_names : Option Template → List Text
+held_names None = []
+held_names (Some t) = list_names (list_of t)
+
+unfoldable pub partials_list_names : List (Option Template) → List Text
 partials_list_names [] = []
-partials_list_names (t ∷ ts) = list_names (list_of t) ++ partials_list_names ts
+partials_list_names (held ∷ more) = held_names held ++ partials_list_names more

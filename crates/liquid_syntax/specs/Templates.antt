@@ -1,10 +1,11 @@
 -- The tree of a template, and the trees of partials.
 --     tree_of t      the tree of a template;   partials_of p      of each partial, by name
+--     places_of p      what stands in the places of partials, by name: a tree, or none
 --     node_count_of t      how many nodes a template has, in all depths
-use Rattle.std.specs.Prelude.{ℕ, List, [], ◌∷◌, max, String}
+use Rattle.std.specs.Prelude.{ℕ, List, [], ◌∷◌, max, Option, Some, None, option_map, String}
 use Rattle.std.specs.declared.alloc.Global.{Global}
 use Rattle.liquid_model.specs.Texts.{Text}
-use Rattle.liquid_syntax.specs.Entries.{seen}
+use Rattle.liquid_syntax.specs.Entries.{seen, filled}
 use Rattle.liquid_tree.specs.Counts.{count_of_nodes}
 use Rattle.liquid_tree.specs.Tree as tree
 use Rattle.liquid_syntax.specs.Forest.{Forest}
@@ -28,13 +29,20 @@ node_count_of t = count_of_nodes (tree_of t)
 
 -- ---- partials
 
+abbrev pub places_of : Partials → List (Text × Option tree.Nodes)
+places_of p = seen (option_map tree_of) p.templates.entries
+
 abbrev pub partials_of : Partials → List (Text × tree.Nodes)
-partials_of p = seen tree_of p.templates.entries
+partials_of p = filled (places_of p)
+
+abbrev pub nodes_held : Option Template → ℕ
+nodes_held None = 0
+nodes_held (Some t) = node_count_of t
 
 -- the greatest number of nodes of a partial
-abbrev pub most_nodes : List (String Global × Template) → ℕ
+abbrev pub most_nodes : List (String Global × Option Template) → ℕ
 most_nodes [] = 0
-most_nodes (p ∷ ps) = max (node_count_of p.1) (most_nodes ps)
+most_nodes (p ∷ ps) = max (nodes_held p.1) (most_nodes ps)
 
 abbrev pub most_of : Partials → ℕ
 most_of p = most_nodes p.templates.entries

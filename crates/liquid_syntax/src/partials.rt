@@ -1,25 +1,26 @@
 //! Templates by name.
-ghost use Rattle.std.specs.Prelude.{◌≡◌, [], option_map, ◌≤◌, IfSome, OnErr, string_bytes};
+ghost use Rattle.std.specs.Prelude.{◌≡◌, [], option_map, ◌≤◌, Some, IfErr, IfSome, IsSome, OnErr, OnOk, string_bytes};
 ghost use Rattle.std.specs.Map.{values_of};
 ghost use Rattle.liquid_model.specs.Answer.{Gives};
 ghost use Rattle.liquid_model.specs.Maps.{listed, insert};
-ghost use Rattle.liquid_syntax.specs.Entries.{put};
-ghost use Rattle.liquid_syntax.specs.Mentions.{partials_list_names};
-ghost use Rattle.liquid_syntax.specs.Templates.{most_of, node_count_of, tree_of, partials_of};
+ghost use Rattle.liquid_syntax.specs.Entries.{put, placed, exchanged};
+ghost use Rattle.liquid_syntax.specs.Mentions.{held_names, partials_list_names};
+ghost use Rattle.liquid_syntax.specs.Templates.{most_of, node_count_of, tree_of, partials_of, places_of};
 ghost use Rattle.liquid_tree.specs.Names.{mentioned, partials_names};
 
 use crate::names::Search;
 use crate::template::Template;
 use crate::visit_nodes::visit_nodes;
-use liquid_core::Result;
+use liquid_core::{ErrorKind, Result};
 use liquid_tree::NameVisitor;
 use std::alloc::Global;
 use std::collections::BTreeMap;
+use std::mem;
 
-/// Templates by name.
+/// Templates by name. A name may also have a place that holds no template: it is kept for one, and nothing else sees it.
 #[derive(Drop)]
 pub struct Partials {
-    templates: BTreeMap<String, Template>,
+    templates: BTreeMap<String, Option<Template>>,
 }
 
 impl Partials {
@@ -37,8 +38,9 @@ impl Partials {
         ensures inserted { Gives (λ _. partials_of self.new) result (put (string_bytes name) (tree_of template) (partials_of self.old)) }
         ensures looked_up { Gives (λ _. listed (partials_of self.new)) result (insert (listed (partials_of self.old)) (string_bytes name) (tree_of template)) }
         ensures unchanged { OnErr result (partials_of self.new ≡ partials_of self.old) }
+        ensures places { OnErr result (places_of self.new ≡ places_of self.old) }
     {
-        drop(self.templates.insert(name, template)?);
+        drop(self.templates.insert(name, Some(template))?);
         Ok(())
     }
 
@@ -47,15 +49,51 @@ impl Partials {
         ensures found { option_map (λ t. tree_of t.now) result ≡ listed (partials_of self.now) name.now }
         ensures small { IfSome result (λ t. node_count_of t.now ≤ most_of self.now) }
     {
-        self.templates.get(name)
+        // No effect at run time. The proof reads from this use that the names ascend.
+        let _ = self.templates.len();
+        match self.templates.get(name) {
+            Some(place) => place.as_ref(),
+            None => None,
+        }
+    }
+
+    /// Makes a place that holds no template, where the name has no place. Where there is no memory nothing changes.
+    ///
+    /// `exchange` then puts a template there without memory.
+    pub fn reserve(&mut self, name: String) -> Result<()>
+        ensures place { OnOk result (IsSome (listed (places_of self.new) (string_bytes name))) }
+        ensures memory { IfErr result (λ e. e.kind ≡ ErrorKind.Memory) }
+        ensures same { partials_of self.new ≡ partials_of self.old }
+        ensures unchanged { OnErr result (places_of self.new ≡ places_of self.old) }
+    {
+        if self.templates.contains_key(name.as_str()) {
+            return Ok(());
+        }
+        drop(self.templates.insert(name, None)?);
+        Ok(())
+    }
+
+    /// Puts what is held, a template or none, into the place of a name, and hands out what stood there. It takes no memory.
+    ///
+    /// There has to be a place: `reserve` makes one, and so does `insert`.
+    pub fn exchange(&mut self, name: &str, held: Option<Template>) -> Option<Template>
+        requires { IsSome (listed (places_of self.old) name.now) }
+        ensures out { listed (places_of self.old) name.now ≡ Some (option_map tree_of result) }
+        ensures place { places_of self.new ≡ placed name.now (option_map tree_of held) (places_of self.old) }
+        ensures held { partials_of self.new ≡ exchanged name.now (option_map tree_of held) (partials_of self.old) }
+    {
+        match self.templates.get_mut(name) {
+            Some(place) => mem::replace(place, held),
+            None => None,
+        }
     }
 
     /// The names that the templates mention, told to a visitor. The answer is whether it ended the telling.
     pub(crate) fn visit_names<V: NameVisitor>(&self, visitor: &mut V) -> bool
         ensures { V.tells visitor.old (partials_list_names (values_of self.now.templates.entries)) result visitor.new }
     {
-        for template in self.templates.values() {
-            if visit_nodes(template.nodes(), visitor) {
+        for place in self.templates.values() {
+            if visit_place(place, visitor) {
                 return true;
             }
         }
@@ -68,5 +106,15 @@ impl Partials {
     {
         let mut search = Search { wanted: name };
         self.visit_names(&mut search)
+    }
+}
+
+/// The names of the template that a place holds, if it holds one.
+fn visit_place<V: NameVisitor>(place: &Option<Template>, visitor: &mut V) -> bool
+    ensures { V.tells visitor.old (held_names place.now) result visitor.new }
+{
+    match place {
+        Some(template) => visit_nodes(template.nodes(), visitor),
+        None => false,
     }
 }

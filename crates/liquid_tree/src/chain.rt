@@ -1,5 +1,5 @@
 //! Chains of filters, as a template holds them.
-ghost use Rattle.std.specs.Prelude.{◌≡◌, IsTrue, length};
+ghost use Rattle.std.specs.Prelude.{◌≡◌, [], IsTrue, length};
 ghost use Rattle.liquid_tree.specs.StoredFilters.{stored_counts};
 
 use crate::any_filter::AnyFilter;
@@ -46,11 +46,11 @@ pub struct FilterChain {
 }
 
 impl FilterChain {
-    ghost use Rattle.liquid_model.specs.Answer.{Answers};
+    ghost use Rattle.liquid_model.specs.Answer.{Answers, TakesNoMemory};
     ghost use Rattle.liquid_model.specs.Cow.{cow_view};
-    ghost use Rattle.liquid_core.specs.Expressions.{value_of};
+    ghost use Rattle.liquid_core.specs.Expressions.{required, value_of};
     ghost use Rattle.liquid_core.specs.Hosts.{named_by};
-    ghost use Rattle.liquid_core.specs.States.{environment_of};
+    ghost use Rattle.liquid_core.specs.States.{environment_of, FindsLoop};
     ghost use Rattle.liquid_model.specs.View.{view};
     ghost use Rattle.liquid_tree.specs.ChainView.{chain_view};
     ghost use Rattle.liquid_tree.specs.Evaluation.{answers_with, chain_value, entry_value};
@@ -83,14 +83,17 @@ impl FilterChain {
         self.evaluate_cow(alloc, state, host)?.into_owned(alloc)
     }
 
-    /// `evaluate_by` without a copy: where the chain has no filters, the value is lent by its literal or by the state.
+    /// `evaluate_by` without a copy: where the chain has no filters, the value is lent by its literal or by the state, which
+    /// takes no memory, unless it is the whole object of a loop.
     pub fn evaluate_cow<'a, H: NamedFilters>(
         &'a self,
         alloc: Global,
         state: &'a State<'_>,
         host: &H,
     ) -> Result<ValueCow<'a>>
-        ensures { Answers cow_view result (chain_value (answers_with (H.named host.now)) (chain_view self.now) (environment_of state.now)) }
+        ensures value { Answers cow_view result (chain_value (answers_with (H.named host.now)) (chain_view self.now) (environment_of state.now)) }
+        ensures no_memory { (chain_view self.now).filters ≡ [] → (FindsLoop state.now (value_of (chain_view self.now).entry (environment_of state.now)) → ⊥)
+            → TakesNoMemory result (required (chain_view self.now).entry (environment_of state.now)) }
     {
         let mut value = self.evaluate_entry(alloc, state)?;
         for stored in &self.filters {
@@ -101,7 +104,9 @@ impl FilterChain {
 
     /// The entry's value, or nil where it is missing before a filter.
     fn evaluate_entry<'a>(&'a self, alloc: Global, state: &'a State<'_>) -> Result<ValueCow<'a>>
-        ensures { Answers cow_view result (entry_value (value_of (chain_view self.now).entry (environment_of state.now)) (chain_view self.now).filters) }
+        ensures value { Answers cow_view result (entry_value (value_of (chain_view self.now).entry (environment_of state.now)) (chain_view self.now).filters) }
+        ensures no_memory { (FindsLoop state.now (value_of (chain_view self.now).entry (environment_of state.now)) → ⊥)
+            → TakesNoMemory result (entry_value (value_of (chain_view self.now).entry (environment_of state.now)) (chain_view self.now).filters) }
     {
         if self.filters.is_empty() {
             return self.entry.evaluate(alloc, state);

@@ -27,6 +27,7 @@ use std::alloc::Global;
 
 /// Runs the body for each item, or the nodes of `else` where there is none.
 #[cycle(run)]
+#[inline(never)]
 pub(super) fn run_for<'d, W: CountedWrite, H: NamedFilters>(
     alloc: Global,
     given: &Given<'d, H>,
@@ -77,6 +78,7 @@ pub(super) fn run_for<'d, W: CountedWrite, H: NamedFilters>(
 
 /// Runs a range for each item of the innermost loop, up to one that leaves a break.
 #[cycle(run)]
+#[inline(never)]
 fn run_turns<'d, W: CountedWrite, H: NamedFilters>(
     alloc: Global,
     given: &Given<'d, H>,
@@ -113,6 +115,7 @@ fn run_turns<'d, W: CountedWrite, H: NamedFilters>(
 
 /// Runs the body for each item, in rows of cells.
 #[cycle(run)]
+#[inline(never)]
 pub(super) fn run_tablerow<'d, W: CountedWrite, H: NamedFilters>(
     alloc: Global,
     given: &Given<'d, H>,
@@ -148,6 +151,7 @@ pub(super) fn run_tablerow<'d, W: CountedWrite, H: NamedFilters>(
 
 /// Runs a range for each item of the innermost loop, each in a cell of its own.
 #[cycle(run)]
+#[inline(never)]
 fn run_cells<'d, W: CountedWrite, H: NamedFilters>(
     alloc: Global,
     given: &Given<'d, H>,

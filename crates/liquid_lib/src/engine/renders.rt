@@ -27,6 +27,7 @@ use std::alloc::Global;
 
 /// Runs a partial once, apart: it sees the pairs alone. The caller's state is only read.
 #[cycle(run)]
+#[inline(never)]
 pub(super) fn run_render<'d, W: CountedWrite, H: NamedFilters>(
     alloc: Global,
     given: &Given<'d, H>,
@@ -50,6 +51,7 @@ pub(super) fn run_render<'d, W: CountedWrite, H: NamedFilters>(
 
 /// Runs a partial once for each item, up to one that leaves a break. The caller's state is only read.
 #[cycle(run)]
+#[inline(never)]
 pub(super) fn run_render_each<'d, W: CountedWrite, H: NamedFilters>(
     alloc: Global,
     given: &Given<'d, H>,
@@ -85,6 +87,7 @@ pub(super) fn run_render_each<'d, W: CountedWrite, H: NamedFilters>(
 
 /// Runs a partial for one item, apart: it sees the pairs, and the loop over them. The answer is the interrupt that it leaves.
 #[cycle(run)]
+#[inline(never)]
 fn run_item<'d, W: CountedWrite, H: NamedFilters>(
     alloc: Global,
     given: &Given<'d, H>,
@@ -108,6 +111,7 @@ fn run_item<'d, W: CountedWrite, H: NamedFilters>(
 
 /// Enters a partial in a state of its own, which holds certain names alone: the interrupt that it leaves.
 #[cycle(run)]
+#[inline(never)]
 fn run_apart<'d, W: CountedWrite, H: NamedFilters>(
     alloc: Global,
     given: &Given<'d, H>,

@@ -1,4 +1,4 @@
-use Rattle.std.proofs.Common.{rules, arith, ◌≡◌, ◌+◌, ◌-◌, ◌*◌, ◌<◌, ◌≤◌, ◌∙◌, length, map, true, refl, sym, ap, subst, string_bytes, Option, Some, None, Ok, Err, List, [], false}
+use Rattle.std.proofs.Common.{rules, arith, ℕ, ◌≡◌, ◌+◌, ◌-◌, ◌*◌, ◌<◌, ◌≤◌, ◌∙◌, length, map, true, refl, sym, ap, subst, string_bytes, Option, Some, None, Ok, Err, List, [], false}
 use Rattle.std.specs.Option.{option_map}
 use Rattle.std.proofs.lemmas.Result.{err_from_is_err_and}
 use Rattle.liquid_model.specs.Answer.{Faulted, Gives}
@@ -6,6 +6,7 @@ use Rattle.std.specs.Prelude.{codes, get_or}
 use Rattle.liquid_model.specs.Data.{Datum, nil, text}
 use Rattle.liquid_model.specs.Maps.{Map, merged}
 use Rattle.liquid_model.specs.declared.error.ErrorKind.TheVariants.{UnknownPartial}
+use Rattle.liquid_model.specs.declared.error.Error.{Error}
 use Rattle.liquid_model.proofs.Views.{view-Text}
 use Rattle.liquid_core.specs.Environment.{new_environment}
 use Rattle.liquid_core.specs.ExpressionView.{expression_view}
@@ -32,7 +33,7 @@ use Rattle.liquid_meaning.specs.Runs.{apart, buffered, change, with_scope}
 use Rattle.liquid_meaning.proofs.Law.{within_found}
 use Rattle.liquid_meaning.proofs.Rules.{comment_rule, break_rule, continue_rule, capture_rule, ifchanged_rule}
 use Rattle.liquid_lib.specs.Changed.{shown_if_changed}
-use Rattle.liquid_lib.specs.Choices.{CaseStands}
+use Rattle.liquid_lib.specs.Choices.{CaseStands, IsCase, Chosen, NodeComesTo}
 use Rattle.liquid_lib.specs.Engine.{setting_of, node_meant, nodes_meant}
 use Rattle.liquid_lib.specs.Kept.{Keeps, LayersKept}
 use Rattle.liquid_lib.specs.Partials.{partial_of, rendered_of}
@@ -40,7 +41,7 @@ use Rattle.liquid_lib.specs.Performs.{Place, Meets, Performs, place_of, unit, Wr
 use Rattle.liquid_lib.specs.Sinks.{sink_of}
 use Rattle.liquid_lib.proofs.Apart.{apart_met, apart_faulted}
 use Rattle.liquid_lib.proofs.Cases.{the_case, case_performs, case_keeps, case_other}
-use Rattle.liquid_lib.proofs.Choices.{chosen_performs, refused_performs}
+use Rattle.liquid_lib.proofs.Choices.{chosen_inside, chosen_performs, refused_performs}
 use Rattle.liquid_lib.proofs.Going.{leaf_performs, leaf_keeps, leaf_other, one, one_performs, one_keeps, one_other, two, two_performs, two_keeps, two_other, going_fault, going_halt, going_node, going_on, going_end, going_past, kept_step, alone_step, node_before}
 use Rattle.liquid_lib.proofs.Interrupts.{interrupt_of, some_of, none_of}
 use Rattle.liquid_lib.proofs.Joined.{by_rule, bind_met, bind_faulted, buffered_met, buffered_faulted, buffered_memory, change_met, done_met, gives_merged, memory_at}
@@ -57,7 +58,7 @@ use Rattle.liquid_core.specs.declared.turn.Turn.{Turn}
 use Rattle.liquid_tree.specs.SourceView.{source_view}
 use Rattle.liquid_lib.specs.LoopRuns.{StartsAt, behind, cells_meant, place_behind, turns_meant}
 use Rattle.liquid_lib.specs.LoopTurns.{AreRows, IsFor, IsRow, cells_asked, cells_of, items_asked, turn_items, turns_of}
-use Rattle.std.specs.Prelude.{IfSome}
+use Rattle.std.specs.Prelude.{IfOk, IfSome}
 use Rattle.liquid_meaning.specs.Loops.{cell_end}
 use Rattle.liquid_lib.proofs.Turning.{TurnsLead, CellsLead, AtTurn, advanced_behind, at_goes_on, at_kept, at_next, at_off, at_pushed, at_start, cell_fault, cell_faulted, cell_on, cell_ran, cell_unopened, cells_end, cells_start, for_within, from_behind, row_within, kept_cell, kept_from_behind, kept_turn, turn_break, turn_fault, turn_faulted, turn_on, turn_ran, turns_end, turns_start}
 use Rattle.liquid_lib.proofs.LoopMeanings.{for_none, for_refused, for_some, row_none, row_refused, row_some}
@@ -186,38 +187,6 @@ run_node-returns-in-Comment-clause-kept g t c =
     leaf_keeps (setting_of g.H.NamedFilters.named c.args.given.now) c.args.nodes.now c.args.at c.args.to c.index-nodes-at.result _ tree.comment c.args.state.now c.args.state.now c.requires c.index-nodes-at.is c.in-Comment.is refl
     (λ N names inside. kept_same N _ _ refl)
 
-pub run_node-run_if-requires : goal.run_node-run_if-requires
-run_node-run_if-requires g t c κs within =
-    let (body, otherwise, past, ordered, inside) = two c.args.nodes.now c.args.at c.in-If.bodies.first_end c.in-If.bodies.last_end c.args.to c.index-nodes-at.result _ (tree.if_true (condition_view c.in-If.condition)) c.requires c.index-nodes-at.is c.in-If.is refl in
-    (let lt : 4 * (c.in-If.bodies.last_end - c.args.at) - 1 + reserve c.args.given.now.depth c.args.given.now.partials.now < t = omega arith in lt, (within.0, (within.1, (body, otherwise))))
-
-pub run_node-returns-in-If-clause-performs : goal.run_node-returns-in-If-clause-performs
-run_node-returns-in-If-clause-performs g t c =
-    let place = place_of g.W.CountedWrite.contents g.W.CountedWrite.failure_count in
-    two_performs (setting_of g.H.NamedFilters.named c.args.given.now) c.args.given.now.depth c.args.nodes.now c.args.at c.in-If.bodies.first_end c.in-If.bodies.last_end c.args.to c.index-nodes-at.result _ (tree.if_true (condition_view c.in-If.condition)) c.run_if.result (place c.args.out.now c.args.state.now) (place c.run_if.new.out c.run_if.new.state) c.requires c.index-nodes-at.is c.in-If.is refl
-    c.run_if.ensures.performs
-
-pub run_node-returns-in-If-clause-kept : goal.run_node-returns-in-If-clause-kept
-run_node-returns-in-If-clause-kept g t c =
-    two_keeps (setting_of g.H.NamedFilters.named c.args.given.now) c.args.nodes.now c.args.at c.in-If.bodies.first_end c.in-If.bodies.last_end c.args.to c.index-nodes-at.result _ (tree.if_true (condition_view c.in-If.condition)) c.args.state.now c.run_if.new.state c.requires c.index-nodes-at.is c.in-If.is refl
-    c.run_if.ensures.kept
-
-pub run_node-run_unless-requires : goal.run_node-run_unless-requires
-run_node-run_unless-requires g t c κs within =
-    let (body, otherwise, past, ordered, inside) = two c.args.nodes.now c.args.at c.in-Unless.bodies.first_end c.in-Unless.bodies.last_end c.args.to c.index-nodes-at.result _ (tree.unless (condition_view c.in-Unless.condition)) c.requires c.index-nodes-at.is c.in-Unless.is refl in
-    (let lt : 4 * (c.in-Unless.bodies.last_end - c.args.at) - 1 + reserve c.args.given.now.depth c.args.given.now.partials.now < t = omega arith in lt, (within.0, (within.1, (body, otherwise))))
-
-pub run_node-returns-in-Unless-clause-performs : goal.run_node-returns-in-Unless-clause-performs
-run_node-returns-in-Unless-clause-performs g t c =
-    let place = place_of g.W.CountedWrite.contents g.W.CountedWrite.failure_count in
-    two_performs (setting_of g.H.NamedFilters.named c.args.given.now) c.args.given.now.depth c.args.nodes.now c.args.at c.in-Unless.bodies.first_end c.in-Unless.bodies.last_end c.args.to c.index-nodes-at.result _ (tree.unless (condition_view c.in-Unless.condition)) c.run_unless.result (place c.args.out.now c.args.state.now) (place c.run_unless.new.out c.run_unless.new.state) c.requires c.index-nodes-at.is c.in-Unless.is refl
-    c.run_unless.ensures.performs
-
-pub run_node-returns-in-Unless-clause-kept : goal.run_node-returns-in-Unless-clause-kept
-run_node-returns-in-Unless-clause-kept g t c =
-    two_keeps (setting_of g.H.NamedFilters.named c.args.given.now) c.args.nodes.now c.args.at c.in-Unless.bodies.first_end c.in-Unless.bodies.last_end c.args.to c.index-nodes-at.result _ (tree.unless (condition_view c.in-Unless.condition)) c.args.state.now c.run_unless.new.state c.requires c.index-nodes-at.is c.in-Unless.is refl
-    c.run_unless.ensures.kept
-
 pub run_node-returns-in-Text-clause-alone : goal.run_node-returns-in-Text-clause-alone
 run_node-returns-in-Text-clause-alone g t c = leaf_other c.args.nodes.now c.args.at c.args.to c.index-nodes-at.result _ (tree.plain (string_bytes c.in-Text.text)) c.args.state.now c.run_text.new.state c.requires c.index-nodes-at.is c.in-Text.is refl (λ no. absurd no)
 
@@ -230,61 +199,11 @@ run_node-returns-in-Assign-clause-alone g t c = leaf_other c.args.nodes.now c.ar
 pub run_node-returns-in-Raw-clause-alone : goal.run_node-returns-in-Raw-clause-alone
 run_node-returns-in-Raw-clause-alone g t c = leaf_other c.args.nodes.now c.args.at c.args.to c.index-nodes-at.result _ (tree.raw (string_bytes c.in-Raw.text)) c.args.state.now c.run_raw.new.state c.requires c.index-nodes-at.is c.in-Raw.is refl (λ no. absurd no)
 
-pub run_node-returns-in-If-clause-alone : goal.run_node-returns-in-If-clause-alone
-run_node-returns-in-If-clause-alone g t c = two_other c.args.nodes.now c.args.at c.in-If.bodies.first_end c.in-If.bodies.last_end c.args.to c.index-nodes-at.result _ (tree.if_true (condition_view c.in-If.condition)) c.args.state.now c.run_if.new.state c.requires c.index-nodes-at.is c.in-If.is refl (λ b d no. absurd no)
-
-pub run_node-returns-in-Unless-clause-alone : goal.run_node-returns-in-Unless-clause-alone
-run_node-returns-in-Unless-clause-alone g t c = two_other c.args.nodes.now c.args.at c.in-Unless.bodies.first_end c.in-Unless.bodies.last_end c.args.to c.index-nodes-at.result _ (tree.unless (condition_view c.in-Unless.condition)) c.args.state.now c.run_unless.new.state c.requires c.index-nodes-at.is c.in-Unless.is refl (λ b d no. absurd no)
-
 pub run_node-returns-in-Capture-clause-alone : goal.run_node-returns-in-Capture-clause-alone
 run_node-returns-in-Capture-clause-alone g t c = one_other c.args.nodes.now c.args.at c.in-Capture.end c.args.to c.index-nodes-at.result _ (tree.capture (string_bytes c.in-Capture.name)) c.args.state.now c.run_capture.new.state c.requires c.index-nodes-at.is c.in-Capture.is refl (λ b no. absurd no)
 
 pub run_node-returns-in-Include-clause-alone : goal.run_node-returns-in-Include-clause-alone
 run_node-returns-in-Include-clause-alone g t c = leaf_other c.args.nodes.now c.args.at c.args.to c.index-nodes-at.result _ (tree.include (expression_view c.in-Include.name) (bindings_view c.in-Include.bindings.items)) c.args.state.now c.run_include.new.state c.requires c.index-nodes-at.is c.in-Include.is refl (λ no. absurd no)
-
-pub run_if-returns-in_err-from-clause-performs : goal.run_if-returns-in_err-from-clause-performs
-run_if-returns-in_err-from-clause-performs g t c b d here after =
-    let place = place_of g.W.CountedWrite.contents g.W.CountedWrite.failure_count in
-    let p = err_from_is_err_and c.from_residual.result c.from_residual.ensures.1 in
-    let n = tree.if_true (condition_view c.args.condition.now) (nodes_of b) (nodes_of d) in
-    rw (p.1, p.2) (refused_performs c.args.nodes.now (node_names n) (λ setting deeper. node_meaning setting deeper n) c.args.given.now.depth (setting_of g.H.NamedFilters.named c.args.given.now) c.in_err-from.field-0.0 (place c.args.out.now c.args.state.now) (c.in_err-from.ensures.chosen b d here after))
-
-pub run_if-run_range-requires : goal.run_if-run_range-requires
-run_if-run_range-requires g t c κs within =
-    let (b, here) = c.requires.body in
-    let (d, after) = c.requires.otherwise in
-    let x = c.in_ok-from.ensures.chosen b d here after in
-    let first : c.args.at < c.in_ok-from.from = c.in_ok-from.ensures.inside.0 in
-    let last : c.in_ok-from.to ≤ c.args.bodies.last_end = c.in_ok-from.ensures.inside.1 in
-    let order : c.in_ok-from.from ≤ c.in_ok-from.to = Stands-le (flats c.args.nodes.now) c.in_ok-from.from x.nodes c.in_ok-from.to x.stands in
-    (let lt : 4 * (c.in_ok-from.to - c.in_ok-from.from) + 1 + reserve c.args.given.now.depth c.args.given.now.partials.now < t = omega arith in lt, (within.0, (within.1, (x.nodes, x.stands))))
-
-pub run_if-returns-clause-kept : goal.run_if-returns-clause-kept
-run_if-returns-clause-kept g t c b d here after N names inside =
-    let x = c.in_ok-from.ensures.chosen b d here after in
-    c.run_range.ensures.kept x.nodes x.stands N (x.within N names) inside
-
-pub run_unless-returns-in_err-from-clause-performs : goal.run_unless-returns-in_err-from-clause-performs
-run_unless-returns-in_err-from-clause-performs g t c b d here after =
-    let place = place_of g.W.CountedWrite.contents g.W.CountedWrite.failure_count in
-    let p = err_from_is_err_and c.from_residual.result c.from_residual.ensures.1 in
-    let n = tree.unless (condition_view c.args.condition.now) (nodes_of b) (nodes_of d) in
-    rw (p.1, p.2) (refused_performs c.args.nodes.now (node_names n) (λ setting deeper. node_meaning setting deeper n) c.args.given.now.depth (setting_of g.H.NamedFilters.named c.args.given.now) c.in_err-from.field-0.0 (place c.args.out.now c.args.state.now) (c.in_err-from.ensures.chosen b d here after))
-
-pub run_unless-run_range-requires : goal.run_unless-run_range-requires
-run_unless-run_range-requires g t c κs within =
-    let (b, here) = c.requires.body in
-    let (d, after) = c.requires.otherwise in
-    let x = c.in_ok-from.ensures.chosen b d here after in
-    let first : c.args.at < c.in_ok-from.from = c.in_ok-from.ensures.inside.0 in
-    let last : c.in_ok-from.to ≤ c.args.bodies.last_end = c.in_ok-from.ensures.inside.1 in
-    let order : c.in_ok-from.from ≤ c.in_ok-from.to = Stands-le (flats c.args.nodes.now) c.in_ok-from.from x.nodes c.in_ok-from.to x.stands in
-    (let lt : 4 * (c.in_ok-from.to - c.in_ok-from.from) + 1 + reserve c.args.given.now.depth c.args.given.now.partials.now < t = omega arith in lt, (within.0, (within.1, (x.nodes, x.stands))))
-
-pub run_unless-returns-clause-kept : goal.run_unless-returns-clause-kept
-run_unless-returns-clause-kept g t c b d here after N names inside =
-    let x = c.in_ok-from.ensures.chosen b d here after in
-    c.run_range.ensures.kept x.nodes x.stands N (x.within N names) inside
 
 pub run_node-returns-in-Break-clause-performs : goal.run_node-returns-in-Break-clause-performs
 run_node-returns-in-Break-clause-performs g t c =
@@ -806,47 +725,6 @@ run_node-returns-in-IfChanged-clause-kept g t c =
 pub run_node-returns-in-IfChanged-clause-alone : goal.run_node-returns-in-IfChanged-clause-alone
 run_node-returns-in-IfChanged-clause-alone g t c = one_other c.args.nodes.now c.args.at c.in-IfChanged.end c.args.to c.index-nodes-at.result _ tree.ifchanged c.args.state.now c.run_ifchanged.new.state c.requires c.index-nodes-at.is c.in-IfChanged.is refl (λ b no. absurd no)
 
-pub run_node-run_case-requires : goal.run_node-run_case-requires
-run_node-run_case-requires g t c κs within =
-    let (stands, past, inside) = the_case c.args.nodes.now c.args.at (expression_view c.in-Case.target) c.in-Case.arms.items c.in-Case.last c.args.to c.index-nodes-at.result _ c.requires c.index-nodes-at.is c.in-Case.is refl in
-    (let lt : 4 * (c.in-Case.last - c.args.at) - 1 + reserve c.args.given.now.depth c.args.given.now.partials.now < t = omega arith in lt, (within.0, (within.1, stands)))
-
-pub run_node-returns-in-Case-clause-performs : goal.run_node-returns-in-Case-clause-performs
-run_node-returns-in-Case-clause-performs g t c =
-    let place = place_of g.W.CountedWrite.contents g.W.CountedWrite.failure_count in
-    case_performs c.args.nodes.now c.args.at (expression_view c.in-Case.target) c.in-Case.arms.items c.in-Case.last c.args.to c.index-nodes-at.result _ c.requires c.index-nodes-at.is c.in-Case.is refl (setting_of g.H.NamedFilters.named c.args.given.now) c.args.given.now.depth c.run_case.result (place c.args.out.now c.args.state.now) (place c.run_case.new.out c.run_case.new.state) c.run_case.ensures.performs
-
-pub run_node-returns-in-Case-clause-kept : goal.run_node-returns-in-Case-clause-kept
-run_node-returns-in-Case-clause-kept g t c = case_keeps c.args.nodes.now c.args.at (expression_view c.in-Case.target) c.in-Case.arms.items c.in-Case.last c.args.to c.index-nodes-at.result _ c.requires c.index-nodes-at.is c.in-Case.is refl (setting_of g.H.NamedFilters.named c.args.given.now) c.args.state.now c.run_case.new.state c.run_case.ensures.kept
-
-pub run_node-returns-in-Case-clause-alone : goal.run_node-returns-in-Case-clause-alone
-run_node-returns-in-Case-clause-alone g t c = case_other c.args.nodes.now c.args.at (expression_view c.in-Case.target) c.in-Case.arms.items c.in-Case.last c.args.to c.index-nodes-at.result _ c.requires c.index-nodes-at.is c.in-Case.is refl c.args.state.now c.run_case.new.state
-
-pub run_case-returns-in_err-from-clause-performs : goal.run_case-returns-in_err-from-clause-performs
-run_case-returns-in_err-from-clause-performs g t c ws o stands =
-    let place = place_of g.W.CountedWrite.contents g.W.CountedWrite.failure_count in
-    let p = err_from_is_err_and c.from_residual.result c.from_residual.ensures.1 in
-    rw (p.1, p.2) (refused_performs c.args.nodes.now (node_names (tree.case_of (expression_view c.args.target.now) ws o)) (λ setting deeper. node_meaning setting deeper (tree.case_of (expression_view c.args.target.now) ws o)) c.args.given.now.depth (setting_of g.H.NamedFilters.named c.args.given.now) c.in_err-from.field-0.0 (place c.args.out.now c.args.state.now) (c.in_err-from.ensures.chosen ws o (subst (λ arms. CaseStands c.args.nodes.now (c.args.at + 1) arms c.args.last ws o) (sym c.deref.ensures.value) stands)))
-
-pub run_case-run_range-requires : goal.run_case-run_range-requires
-run_case-run_range-requires g t c κs within =
-    let (ws, o, stands) = c.requires in
-    let x = c.in_ok-from.ensures.chosen ws o (subst (λ arms. CaseStands c.args.nodes.now (c.args.at + 1) arms c.args.last ws o) (sym c.deref.ensures.value) stands) in
-    let first : c.args.at < c.in_ok-from.from = c.in_ok-from.ensures.inside.0 in
-    let end : c.in_ok-from.to ≤ c.args.last = c.in_ok-from.ensures.inside.1 in
-    let order : c.in_ok-from.from ≤ c.in_ok-from.to = Stands-le (flats c.args.nodes.now) c.in_ok-from.from x.nodes c.in_ok-from.to x.stands in
-    (let lt : 4 * (c.in_ok-from.to - c.in_ok-from.from) + 1 + reserve c.args.given.now.depth c.args.given.now.partials.now < t = omega arith in lt, (within.0, (within.1, (x.nodes, x.stands))))
-
-pub run_case-returns-clause-performs : goal.run_case-returns-clause-performs
-run_case-returns-clause-performs g t c ws o stands =
-    let place = place_of g.W.CountedWrite.contents g.W.CountedWrite.failure_count in
-    chosen_performs c.args.nodes.now (node_names (tree.case_of (expression_view c.args.target.now) ws o)) (λ setting deeper. node_meaning setting deeper (tree.case_of (expression_view c.args.target.now) ws o)) c.in_ok-from.from c.in_ok-from.to c.args.given.now.depth (setting_of g.H.NamedFilters.named c.args.given.now) c.run_range.result (place c.args.out.now c.args.state.now) (place c.run_range.new.out c.run_range.new.state) (c.in_ok-from.ensures.chosen ws o (subst (λ arms. CaseStands c.args.nodes.now (c.args.at + 1) arms c.args.last ws o) (sym c.deref.ensures.value) stands)) c.run_range.ensures.performs
-
-pub run_case-returns-clause-kept : goal.run_case-returns-clause-kept
-run_case-returns-clause-kept g t c ws o stands N names inside =
-    let x = c.in_ok-from.ensures.chosen ws o (subst (λ arms. CaseStands c.args.nodes.now (c.args.at + 1) arms c.args.last ws o) (sym c.deref.ensures.value) stands) in
-    c.run_range.ensures.kept x.nodes x.stands N (x.within N names) inside
-
 pub run_ifchanged-overflow_add-at : goal.run_ifchanged-overflow_add-at
 run_ifchanged-overflow_add-at g t c =
     let body : IsRange c.args.nodes.now (c.args.at + 1) c.args.end = c.requires in
@@ -1321,3 +1199,124 @@ loops::run_tablerow-returns-clause-kept g t c b here N names inside =
 pub loops::run_tablerow-returns-clause-loops : goal.loops::run_tablerow-returns-clause-loops
 loops::run_tablerow-returns-clause-loops g t c =
     c.pop_scope.ensures.loops ∙ c.run_cells-answer.ensures.loops ∙ ap without_innermost c.in_ok-push_turn.ensures.over ∙ turn_off (loops_of c.args.state.now) c.in-Some.turn
+
+-- ---- choices
+
+pub run_node-run_chosen-requires : goal.run_node-run_chosen-requires
+run_node-run_chosen-requires g t c κs within =
+    let (body, otherwise, past, ordered, inside) = two c.args.nodes.now c.args.at c.in-If.bodies.first_end c.in-If.bodies.last_end c.args.to c.index-nodes-at.result _ (tree.if_true (condition_view c.in-If.condition)) c.requires c.index-nodes-at.is c.in-If.is refl in
+    let (b, here) = body in
+    let (d, after) = otherwise in
+    let n = tree.if_true (condition_view c.in-If.condition) (nodes_of b) (nodes_of d) in
+    let lt : 4 * (c.args.to - c.args.at) - 1 + reserve c.args.given.now.depth c.args.given.now.partials.now < t = omega arith in
+    (lt, (within.0, (within.1, chosen_inside c.args.nodes.now (environment_of c.args.state.now) (node_names n) (λ setting deeper. node_meaning setting deeper n) c.args.at c.in-If.bodies.last_end c.args.to _ inside c.chosen_range-chosen.ensures.inside (c.chosen_range-chosen.ensures.chosen b d here after))))
+
+pub run_node-returns-in-If-clause-performs : goal.run_node-returns-in-If-clause-performs
+run_node-returns-in-If-clause-performs g t c =
+    let place = place_of g.W.CountedWrite.contents g.W.CountedWrite.failure_count in
+    two_performs (setting_of g.H.NamedFilters.named c.args.given.now) c.args.given.now.depth c.args.nodes.now c.args.at c.in-If.bodies.first_end c.in-If.bodies.last_end c.args.to c.index-nodes-at.result _ (tree.if_true (condition_view c.in-If.condition)) c.run_chosen.result (place c.args.out.now c.args.state.now) (place c.run_chosen.new.out c.run_chosen.new.state) c.requires c.index-nodes-at.is c.in-If.is refl
+    (λ b d here after. c.run_chosen.ensures.performs (tree.if_true (condition_view c.in-If.condition) (nodes_of b) (nodes_of d)) (c.chosen_range-chosen.ensures.chosen b d here after))
+
+pub run_node-returns-in-If-clause-kept : goal.run_node-returns-in-If-clause-kept
+run_node-returns-in-If-clause-kept g t c =
+    two_keeps (setting_of g.H.NamedFilters.named c.args.given.now) c.args.nodes.now c.args.at c.in-If.bodies.first_end c.in-If.bodies.last_end c.args.to c.index-nodes-at.result _ (tree.if_true (condition_view c.in-If.condition)) c.args.state.now c.run_chosen.new.state c.requires c.index-nodes-at.is c.in-If.is refl
+    (λ b d here after. c.run_chosen.ensures.kept (tree.if_true (condition_view c.in-If.condition) (nodes_of b) (nodes_of d)) (c.chosen_range-chosen.ensures.chosen b d here after))
+
+pub run_node-returns-in-If-clause-alone : goal.run_node-returns-in-If-clause-alone
+run_node-returns-in-If-clause-alone g t c = two_other c.args.nodes.now c.args.at c.in-If.bodies.first_end c.in-If.bodies.last_end c.args.to c.index-nodes-at.result _ (tree.if_true (condition_view c.in-If.condition)) c.args.state.now c.run_chosen.new.state c.requires c.index-nodes-at.is c.in-If.is refl (λ b d no. absurd no)
+
+pub run_node-run_chosen-requires-in-Unless : goal.run_node-run_chosen-requires-in-Unless
+run_node-run_chosen-requires-in-Unless g t c κs within =
+    let (body, otherwise, past, ordered, inside) = two c.args.nodes.now c.args.at c.in-Unless.bodies.first_end c.in-Unless.bodies.last_end c.args.to c.index-nodes-at.result _ (tree.unless (condition_view c.in-Unless.condition)) c.requires c.index-nodes-at.is c.in-Unless.is refl in
+    let (b, here) = body in
+    let (d, after) = otherwise in
+    let n = tree.unless (condition_view c.in-Unless.condition) (nodes_of b) (nodes_of d) in
+    let lt : 4 * (c.args.to - c.args.at) - 1 + reserve c.args.given.now.depth c.args.given.now.partials.now < t = omega arith in
+    (lt, (within.0, (within.1, chosen_inside c.args.nodes.now (environment_of c.args.state.now) (node_names n) (λ setting deeper. node_meaning setting deeper n) c.args.at c.in-Unless.bodies.last_end c.args.to _ inside c.unless_range-chosen.ensures.inside (c.unless_range-chosen.ensures.chosen b d here after))))
+
+pub run_node-returns-in-Unless-clause-performs : goal.run_node-returns-in-Unless-clause-performs
+run_node-returns-in-Unless-clause-performs g t c =
+    let place = place_of g.W.CountedWrite.contents g.W.CountedWrite.failure_count in
+    two_performs (setting_of g.H.NamedFilters.named c.args.given.now) c.args.given.now.depth c.args.nodes.now c.args.at c.in-Unless.bodies.first_end c.in-Unless.bodies.last_end c.args.to c.index-nodes-at.result _ (tree.unless (condition_view c.in-Unless.condition)) c.run_chosen-in-Unless.result (place c.args.out.now c.args.state.now) (place c.run_chosen-in-Unless.new.out c.run_chosen-in-Unless.new.state) c.requires c.index-nodes-at.is c.in-Unless.is refl
+    (λ b d here after. c.run_chosen-in-Unless.ensures.performs (tree.unless (condition_view c.in-Unless.condition) (nodes_of b) (nodes_of d)) (c.unless_range-chosen.ensures.chosen b d here after))
+
+pub run_node-returns-in-Unless-clause-kept : goal.run_node-returns-in-Unless-clause-kept
+run_node-returns-in-Unless-clause-kept g t c =
+    two_keeps (setting_of g.H.NamedFilters.named c.args.given.now) c.args.nodes.now c.args.at c.in-Unless.bodies.first_end c.in-Unless.bodies.last_end c.args.to c.index-nodes-at.result _ (tree.unless (condition_view c.in-Unless.condition)) c.args.state.now c.run_chosen-in-Unless.new.state c.requires c.index-nodes-at.is c.in-Unless.is refl
+    (λ b d here after. c.run_chosen-in-Unless.ensures.kept (tree.unless (condition_view c.in-Unless.condition) (nodes_of b) (nodes_of d)) (c.unless_range-chosen.ensures.chosen b d here after))
+
+pub run_node-returns-in-Unless-clause-alone : goal.run_node-returns-in-Unless-clause-alone
+run_node-returns-in-Unless-clause-alone g t c = two_other c.args.nodes.now c.args.at c.in-Unless.bodies.first_end c.in-Unless.bodies.last_end c.args.to c.index-nodes-at.result _ (tree.unless (condition_view c.in-Unless.condition)) c.args.state.now c.run_chosen-in-Unless.new.state c.requires c.index-nodes-at.is c.in-Unless.is refl (λ b d no. absurd no)
+
+pub run_node-run_chosen-requires-in-Case : goal.run_node-run_chosen-requires-in-Case
+run_node-run_chosen-requires-in-Case g t c κs within =
+    let (stands, past, inside) = the_case c.args.nodes.now c.args.at (expression_view c.in-Case.target) c.in-Case.arms.items c.in-Case.last c.args.to c.index-nodes-at.result _ c.requires c.index-nodes-at.is c.in-Case.is refl in
+    let (ws, o, here) = stands in
+    let n = tree.case_of (expression_view c.in-Case.target) ws o in
+    let lt : 4 * (c.args.to - c.args.at) - 1 + reserve c.args.given.now.depth c.args.given.now.partials.now < t = omega arith in (
+      lt,
+      (
+        within.0,
+        (
+          within.1,
+          chosen_inside c.args.nodes.now (environment_of c.args.state.now) (node_names n) (λ setting deeper. node_meaning setting deeper n) c.args.at c.in-Case.last c.args.to _ inside c.case_range-chosen.ensures.inside
+              (c.case_range-chosen.ensures.chosen ws o (subst (λ arms. CaseStands c.args.nodes.now (c.args.at + 1) arms c.in-Case.last ws o) (sym c.deref-in-Case.ensures.value) here)),
+        ),
+      ),
+    )
+
+pub run_node-returns-in-Case-clause-performs : goal.run_node-returns-in-Case-clause-performs
+run_node-returns-in-Case-clause-performs g t c =
+    let place = place_of g.W.CountedWrite.contents g.W.CountedWrite.failure_count in
+    case_performs c.args.nodes.now c.args.at (expression_view c.in-Case.target) c.in-Case.arms.items c.in-Case.last c.args.to c.index-nodes-at.result _ c.requires c.index-nodes-at.is c.in-Case.is refl (setting_of g.H.NamedFilters.named c.args.given.now) c.args.given.now.depth c.run_chosen-in-Case.result (place c.args.out.now c.args.state.now) (place c.run_chosen-in-Case.new.out c.run_chosen-in-Case.new.state)
+    (λ ws o here. c.run_chosen-in-Case.ensures.performs (tree.case_of (expression_view c.in-Case.target) ws o) (c.case_range-chosen.ensures.chosen ws o (subst (λ arms. CaseStands c.args.nodes.now (c.args.at + 1) arms c.in-Case.last ws o) (sym c.deref-in-Case.ensures.value) here)))
+
+pub run_node-returns-in-Case-clause-kept : goal.run_node-returns-in-Case-clause-kept
+run_node-returns-in-Case-clause-kept g t c = case_keeps c.args.nodes.now c.args.at (expression_view c.in-Case.target) c.in-Case.arms.items c.in-Case.last c.args.to c.index-nodes-at.result _ c.requires c.index-nodes-at.is c.in-Case.is refl (setting_of g.H.NamedFilters.named c.args.given.now) c.args.state.now c.run_chosen-in-Case.new.state
+    (λ ws o here. c.run_chosen-in-Case.ensures.kept (tree.case_of (expression_view c.in-Case.target) ws o) (c.case_range-chosen.ensures.chosen ws o (subst (λ arms. CaseStands c.args.nodes.now (c.args.at + 1) arms c.in-Case.last ws o) (sym c.deref-in-Case.ensures.value) here)))
+
+pub run_node-returns-in-Case-clause-alone : goal.run_node-returns-in-Case-clause-alone
+run_node-returns-in-Case-clause-alone g t c = case_other c.args.nodes.now c.args.at (expression_view c.in-Case.target) c.in-Case.arms.items c.in-Case.last c.args.to c.index-nodes-at.result _ c.requires c.index-nodes-at.is c.in-Case.is refl c.args.state.now c.run_chosen-in-Case.new.state
+
+pub run_node-chosen_range-chosen-requires-clause-body : goal.run_node-chosen_range-chosen-requires-clause-body
+run_node-chosen_range-chosen-requires-clause-body g t c = (two c.args.nodes.now c.args.at c.in-If.bodies.first_end c.in-If.bodies.last_end c.args.to c.index-nodes-at.result _ (tree.if_true (condition_view c.in-If.condition)) c.requires c.index-nodes-at.is c.in-If.is refl).0
+
+pub run_node-chosen_range-chosen-requires-clause-otherwise : goal.run_node-chosen_range-chosen-requires-clause-otherwise
+run_node-chosen_range-chosen-requires-clause-otherwise g t c = (two c.args.nodes.now c.args.at c.in-If.bodies.first_end c.in-If.bodies.last_end c.args.to c.index-nodes-at.result _ (tree.if_true (condition_view c.in-If.condition)) c.requires c.index-nodes-at.is c.in-If.is refl).1
+
+pub run_node-unless_range-chosen-requires-clause-body : goal.run_node-unless_range-chosen-requires-clause-body
+run_node-unless_range-chosen-requires-clause-body g t c = (two c.args.nodes.now c.args.at c.in-Unless.bodies.first_end c.in-Unless.bodies.last_end c.args.to c.index-nodes-at.result _ (tree.unless (condition_view c.in-Unless.condition)) c.requires c.index-nodes-at.is c.in-Unless.is refl).0
+
+pub run_node-unless_range-chosen-requires-clause-otherwise : goal.run_node-unless_range-chosen-requires-clause-otherwise
+run_node-unless_range-chosen-requires-clause-otherwise g t c = (two c.args.nodes.now c.args.at c.in-Unless.bodies.first_end c.in-Unless.bodies.last_end c.args.to c.index-nodes-at.result _ (tree.unless (condition_view c.in-Unless.condition)) c.requires c.index-nodes-at.is c.in-Unless.is refl).1
+
+pub run_node-case_range-chosen-requires : goal.run_node-case_range-chosen-requires
+run_node-case_range-chosen-requires g t c =
+    let (stands, past, inside) = the_case c.args.nodes.now c.args.at (expression_view c.in-Case.target) c.in-Case.arms.items c.in-Case.last c.args.to c.index-nodes-at.result _ c.requires c.index-nodes-at.is c.in-Case.is refl in
+    subst (λ arms. IsCase c.args.nodes.now (c.args.at + 1) arms c.in-Case.last) (sym c.deref-in-Case.ensures.value) stands
+
+pub run_chosen-returns-in-Err-clause-performs : goal.run_chosen-returns-in-Err-clause-performs
+run_chosen-returns-in-Err-clause-performs g t c n comes =
+    let place = place_of g.W.CountedWrite.contents g.W.CountedWrite.failure_count in
+    refused_performs c.args.nodes.now (node_names n) (λ setting deeper. node_meaning setting deeper n) c.args.given.now.depth (setting_of g.H.NamedFilters.named c.args.given.now) c.in-Err.fault (place c.args.out.now c.args.state.now)
+    (subst (λ r. NodeComesTo c.args.nodes.now (environment_of c.args.state.now) n r) c.in-Err.is comes)
+
+pub run_chosen-run_range-requires : goal.run_chosen-run_range-requires
+run_chosen-run_range-requires g t c κs within =
+    let chosen : IfOk {T = ℕ × ℕ} {E = Error} (Ok c.in-Ok.range) (λ range. (c.args.at < range.0) × (range.1 ≤ c.args.to) × IsRange c.args.nodes.now range.0 range.1) =
+    subst (λ r. IfOk r (λ range. (c.args.at < range.0) × (range.1 ≤ c.args.to) × IsRange c.args.nodes.now range.0 range.1)) c.in-Ok.is c.requires in
+    let (first, last, (f, stands)) = chosen in
+    let order : c.in-Ok.range.0 ≤ c.in-Ok.range.1 = Stands-le (flats c.args.nodes.now) c.in-Ok.range.0 f c.in-Ok.range.1 stands in
+    (let lt : 4 * (c.in-Ok.range.1 - c.in-Ok.range.0) + 1 + reserve c.args.given.now.depth c.args.given.now.partials.now < t = omega arith in lt, (within.0, (within.1, (f, stands))))
+
+pub run_chosen-returns-in-Ok-clause-performs : goal.run_chosen-returns-in-Ok-clause-performs
+run_chosen-returns-in-Ok-clause-performs g t c n comes =
+    let place = place_of g.W.CountedWrite.contents g.W.CountedWrite.failure_count in
+    chosen_performs c.args.nodes.now (node_names n) (λ setting deeper. node_meaning setting deeper n) c.in-Ok.range.0 c.in-Ok.range.1 c.args.given.now.depth (setting_of g.H.NamedFilters.named c.args.given.now) c.run_range.result (place c.args.out.now c.args.state.now) (place c.run_range.new.out c.run_range.new.state)
+    (subst (λ r. NodeComesTo c.args.nodes.now (environment_of c.args.state.now) n r) c.in-Ok.is comes) c.run_range.ensures.performs
+
+pub run_chosen-returns-in-Ok-clause-kept : goal.run_chosen-returns-in-Ok-clause-kept
+run_chosen-returns-in-Ok-clause-kept g t c n comes N names inside =
+    let x : Chosen c.args.nodes.now (environment_of c.args.state.now) (node_names n) (λ setting deeper. node_meaning setting deeper n) c.in-Ok.range.0 c.in-Ok.range.1 =
+    subst (λ r. NodeComesTo c.args.nodes.now (environment_of c.args.state.now) n r) c.in-Ok.is comes in
+    c.run_range.ensures.kept x.nodes x.stands N (x.within N names) inside

@@ -27,20 +27,14 @@ decreases-run_range g l = 4 * (l.to - l.from) + 1 + reserve l.given.now.depth l.
 abbrev pub decreases-run_node : goal.decreases-run_node
 decreases-run_node g l = 4 * (l.to - l.at) + reserve l.given.now.depth l.given.now.partials.now
 
-abbrev pub decreases-run_if : goal.decreases-run_if
-decreases-run_if g l = 4 * (l.bodies.last_end - l.at) - 1 + reserve l.given.now.depth l.given.now.partials.now
-
-abbrev pub decreases-run_unless : goal.decreases-run_unless
-decreases-run_unless g l = 4 * (l.bodies.last_end - l.at) - 1 + reserve l.given.now.depth l.given.now.partials.now
+abbrev pub decreases-run_chosen : goal.decreases-run_chosen
+decreases-run_chosen g l = 4 * (l.to - l.at) - 1 + reserve l.given.now.depth l.given.now.partials.now
 
 abbrev pub decreases-run_capture : goal.decreases-run_capture
 decreases-run_capture g l = 4 * (l.end - l.at) - 1 + reserve l.given.now.depth l.given.now.partials.now
 
 abbrev pub decreases-run_ifchanged : goal.decreases-run_ifchanged
 decreases-run_ifchanged g l = 4 * (l.end - l.at) - 1 + reserve l.given.now.depth l.given.now.partials.now
-
-abbrev pub decreases-run_case : goal.decreases-run_case
-decreases-run_case g l = 4 * (l.last - l.at) - 1 + reserve l.given.now.depth l.given.now.partials.now
 
 abbrev pub decreases-run_include : goal.decreases-run_include
 decreases-run_include g l = reserve l.given.now.depth l.given.now.partials.now + 2

@@ -16,11 +16,11 @@ use Rattle.liquid_lib.proofs.leaves.run_output.Goals as goal
 pub returns-in_err-value-clause-performs : goal.returns-in_err-value-clause-performs
 returns-in_err-value-clause-performs g c =
     let p = err_from_is_err_and c.from_residual.result c.from_residual.ensures.1 in
-    rw (p.1, p.2) (by_rule (output_rule _ _ _) (refused_met {V = ValueCow} cow_view unit _ _ _ _ c.in_err-value.ensures))
+    rw (p.1, p.2) (by_rule (output_rule _ _ _) (refused_met {V = ValueCow} cow_view unit _ _ _ _ c.in_err-value.ensures.value))
 
 pub returns-clause-performs : goal.returns-clause-performs
 returns-clause-performs g c =
     let place = place_of g.W.CountedWrite.contents g.W.CountedWrite.failure_count in
     let d = cow_view c.in_ok-value.value in
     by_rule (output_rule _ _ _) (given_met {V = ValueCow} cow_view unit c.in_ok-value.value c.push_value.result (chain_value (answers_with (g.H.NamedFilters.named c.args.given.now.host.now)) (chain_view c.args.chain.now)) (λ x. write (text_of x)) (place c.args.out.now c.args.state.now) (place c.push_value.new.out c.args.state.now)
-    c.in_ok-value.ensures (write_met c.push_value.result (text_of d) _ _ (environment_of c.args.state.now) (writes_as c.push_value.result _ (text_of d) _ _ (ap text_of c.as_value.ensures) c.push_value.ensures.writes)))
+    c.in_ok-value.ensures.value (write_met c.push_value.result (text_of d) _ _ (environment_of c.args.state.now) (writes_as c.push_value.result _ (text_of d) _ _ (ap text_of c.as_value.ensures) c.push_value.ensures.writes)))

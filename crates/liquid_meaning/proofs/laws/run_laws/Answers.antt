@@ -1,7 +1,7 @@
 use Rattle.liquid_meaning.proofs.laws.run_laws.Goals as goal
 use Rattle.liquid_meaning.proofs.Assigning.{assigned_anywhere}
 use Rattle.liquid_meaning.proofs.Further.{text_is_itself, assigned_stay, assigned_in_loop, forloop_counts}
-use Rattle.liquid_meaning.proofs.RunKinds.{kinds_of_runs, kinds_of_own_runs}
+use Rattle.liquid_meaning.proofs.RunKinds.{kinds_of_runs, kinds_of_own_runs, kinds_with_host}
 
 pub returns-clause-text : goal.returns-clause-text
 returns-clause-text c = text_is_itself
@@ -23,3 +23,6 @@ returns-clause-anywhere c = assigned_anywhere
 
 pub returns-clause-own_kinds : goal.returns-clause-own_kinds
 returns-clause-own_kinds c = kinds_of_own_runs
+
+pub returns-clause-host_kinds : goal.returns-clause-host_kinds
+returns-clause-host_kinds c = kinds_with_host

@@ -7,9 +7,10 @@ use Rattle.liquid_meaning.specs.Isolation.{changes}
 use Rattle.liquid_meaning.specs.Meaning.{meaning}
 use Rattle.liquid_lib.specs.Rendered.{names_in, nowhere}
 use Rattle.liquid_meaning.specs.Runs.{buffered, ended_with}
-use Rattle.liquid_lib.specs.RuntimeView.{setting_in, depth_in, environment_in}
+use Rattle.liquid_lib.specs.RuntimeView.{setting_in, depth_in, environment_in, partials_in}
 use Rattle.liquid_meaning.proofs.Changes.{headline}
 use Rattle.liquid_lib.proofs.Renderings.{lent_setting, no_setting, read_out, buffered_end, buffered_environment}
+use Rattle.liquid_lib.proofs.RenderKinds.{answered_kinds, run_ends}
 use Rattle.liquid_lib.proofs.Written.{answered, exact}
 use Rattle.liquid_lib.proofs.render.TemplateRenderable.render.Goals as goal
 
@@ -66,3 +67,11 @@ returns-in-None-clause-changed g c within =
     let run = meaning setting (depth_in c.args.runtime.now) (tree_of c.args.self.now) in
     let law = headline setting (depth_in c.args.runtime.now) (tree_of c.args.self.now) (environment_in c.args.runtime.now) in
     ap (changes (environment_in c.args.runtime.now)) (returns-in-None-clause-environment g c within) ∙ law.changes
+
+pub returns-in-Some-clause-kinds : goal.returns-in-Some-clause-kinds
+returns-in-Some-clause-kinds g c =
+    answered_kinds (λ t. string_bytes t) c.template_text.result _ _ (run_ends (λ x. (goal.Filter-dyn g x).counts x.1) (λ x. (goal.Filter-dyn g x).answer x.1) c.args.runtime.now.host (partials_in c.args.runtime.now) (depth_in c.args.runtime.now) (tree_of c.args.self.now) (environment_in c.args.runtime.now)) (returns-in-Some-clause-text g c)
+
+pub returns-in-None-clause-kinds : goal.returns-in-None-clause-kinds
+returns-in-None-clause-kinds g c =
+    answered_kinds (λ t. string_bytes t) c.template_text-in-None.result _ _ (run_ends (λ x. (goal.Filter-dyn g x).counts x.1) (λ x. (goal.Filter-dyn g x).answer x.1) c.args.runtime.now.host (partials_in c.args.runtime.now) (depth_in c.args.runtime.now) (tree_of c.args.self.now) (environment_in c.args.runtime.now)) (returns-in-None-clause-text g c)

@@ -1,4 +1,8 @@
-use Rattle.std.proofs.Common.{[], ◌∷◌, map, Result, ap, sym, ◌∙◌, subst}
+use Rattle.std.proofs.Common.{[], ◌∷◌, map, Result, ap, sym, ◌∙◌, subst, ◌≡◌, ℕ, ◌<◌, List, Option, Some, None, IsOk, length, arith}
+use Rattle.std.specs.Option.{ok_or}
+use Rattle.std.proofs.lemmas.Bool.{false≢true}
+use Rattle.liquid_model.specs.declared.error.ErrorKind.TheVariants.{UnknownVariable}
+use Rattle.liquid_core.specs.Expressions.{value_of}
 use Rattle.std.proofs.lemmas.Result.{err_from_is_err_and}
 use Rattle.liquid_model.specs.Answer.{Faulted}
 use Rattle.liquid_model.specs.Cow.{cow_view}
@@ -6,23 +10,24 @@ use Rattle.liquid_model.specs.Data.{Datum}
 use Rattle.liquid_model.specs.declared.error.ErrorKind.{ErrorKind}
 use Rattle.liquid_core.specs.States.{environment_of}
 use Rattle.liquid_tree.specs.Calls.{Call, applied}
+use Rattle.liquid_tree.specs.Tree.{FilterCall}
 use Rattle.liquid_tree.specs.ChainView.{chain_view, chain_filter_view}
-use Rattle.liquid_tree.specs.Evaluation.{answers_with, calls_by, chain_value}
+use Rattle.liquid_tree.specs.Evaluation.{answers_with, calls_by, chain_value, entry_value}
 use Rattle.liquid_tree.proofs.Calls.{chain_from, chain_faulted, filters_more, filters_stop, filters_end}
 use Rattle.liquid_tree.proofs.chain.FilterChain.evaluate_cow.Goals as goal
 
-pub returns-in_err-value : goal.returns-in_err-value
-returns-in_err-value g c =
+pub returns-in_err-value-clause-value : goal.returns-in_err-value-clause-value
+returns-in_err-value-clause-value g c =
     let p = err_from_is_err_and c.from_residual.result c.from_residual.ensures.1 in
-    rw (p.1, p.2) (chain_faulted (answers_with (g.H.NamedFilters.named c.args.host.now)) (chain_view c.args.self.now) (environment_of c.args.state.now) c.in_err-value.field-0.0.kind c.in_err-value.ensures)
+    rw (p.1, p.2) (chain_faulted (answers_with (g.H.NamedFilters.named c.args.host.now)) (chain_view c.args.self.now) (environment_of c.args.state.now) c.in_err-value.field-0.0.kind c.in_err-value.ensures.value)
 
 pub loop-stored-init : goal.loop-stored-init
 loop-stored-init g c =
-    chain_from (answers_with (g.H.NamedFilters.named c.args.host.now)) (chain_view c.args.self.now) (environment_of c.args.state.now) (cow_view c.in_ok-value.value) c.in_ok-value.ensures
+    chain_from (answers_with (g.H.NamedFilters.named c.args.host.now)) (chain_view c.args.self.now) (environment_of c.args.state.now) (cow_view c.in_ok-value.value) c.in_ok-value.ensures.value
     ∙ ap (λ xs. applied (calls_by (answers_with (g.H.NamedFilters.named c.args.host.now)) (map chain_filter_view xs)) (cow_view c.in_ok-value.value) (environment_of c.args.state.now)) (sym c.deref-stored-items.ensures.value)
 
-pub returns-in_err-value-2 : goal.returns-in_err-value-2
-returns-in_err-value-2 g c =
+pub returns-in_err-value-2-clause-value : goal.returns-in_err-value-2-clause-value
+returns-in_err-value-2-clause-value g c =
     let p = err_from_is_err_and c.from_residual-in_err-value-2.result c.from_residual-in_err-value-2.ensures.1 in
     let e = environment_of c.args.state.now in
     let value_with : Call → Result Datum ErrorKind = λ call. applied (call ∷ []) (cow_view c.loop-stored.value) e in
@@ -40,7 +45,24 @@ loop-stored-preserved g c =
     (ap value_with (sym c.call.ensures.call) ∙ c.in_ok-value-2.ensures)
     c.loop-stored.invariant
 
-pub returns : goal.returns
-returns g c =
+pub returns-clause-value : goal.returns-clause-value
+returns-clause-value g c =
     filters_end (answers_with (g.H.NamedFilters.named c.args.host.now)) chain_filter_view (chain_value (answers_with (g.H.NamedFilters.named c.args.host.now)) (chain_view c.args.self.now) (environment_of c.args.state.now)) (environment_of c.args.state.now) c.deref-stored-items.result.now c.loop-stored.stored-index
     (cow_view c.loop-stored.value) c.loop-stored-test.false c.loop-stored.invariant
+
+-- an entry that has a value has it before filters too
+there_before : (o : Option Datum) (calls : List FilterCall) → IsOk (ok_or o UnknownVariable) → IsOk (entry_value o calls)
+there_before (Some d) calls h = h
+there_before None calls h = absurd (false≢true h)
+
+none_at : {X Y : Type 0} (f : X → Y) (xs : List X) (i : ℕ) → map f xs ≡ [] → i < length xs → ⊥
+none_at f [] i e h = omega (arith, h)
+none_at f (x ∷ xs) i e h = cc
+
+pub returns-in_err-value-clause-no_memory : goal.returns-in_err-value-clause-no_memory
+returns-in_err-value-clause-no_memory g c = λ empty none there.
+    absurd (false≢true (c.in_err-value.ensures.no_memory none (there_before (value_of (chain_view c.args.self.now).entry (environment_of c.args.state.now)) (chain_view c.args.self.now).filters there)))
+
+pub returns-in_err-value-2-clause-no_memory : goal.returns-in_err-value-2-clause-no_memory
+returns-in_err-value-2-clause-no_memory g c = λ empty none there.
+    absurd (none_at chain_filter_view c.deref-stored-items.result.now c.loop-stored.stored-index (ap (map chain_filter_view) c.deref-stored-items.ensures.value ∙ empty) c.loop-stored-test.true)

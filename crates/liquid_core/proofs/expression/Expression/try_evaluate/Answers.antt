@@ -1,0 +1,5 @@
+use Rattle.liquid_core.proofs.Among.{each_held}
+use Rattle.liquid_core.proofs.expression.Expression.try_evaluate.Goals as goal
+
+pub returns-clause-no_memory : goal.returns-clause-no_memory
+returns-clause-no_memory c = λ none. c.valued.ensures.no_memory (each_held c.args.state.now c.expression_value.result _ c.expression_value.ensures.value c.expression_value.ensures.among none)

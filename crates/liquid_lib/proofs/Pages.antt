@@ -1,0 +1,34 @@
+-- A page that a run wrote into a buffer.
+use Rattle.std.proofs.lemmas.Bool.{true≢false}
+use Rattle.std.proofs.Common.{◌≡◌, ℕ, false, Result, Ok, Err, ◌⊎◌, inl, inr, refl, sym, ap, ◌∙◌, String, Global, string_bytes}
+use Rattle.std.specs.Prelude.{IfErr, IfOk}
+use Rattle.liquid_model.specs.Answer.{Gives}
+use Rattle.liquid_model.specs.Told.{is_memory}
+use Rattle.liquid_model.specs.Texts.{Text}
+use Rattle.liquid_model.specs.declared.error.Error.{Error}
+use Rattle.liquid_model.specs.declared.error.ErrorKind.TheVariants.{Memory, Write}
+use Rattle.liquid_core.specs.Environment.{Environment}
+use Rattle.liquid_meaning.specs.Runs.{Nothing, Run}
+use Rattle.liquid_lib.specs.Failures.{OneFailed, AtMostOneFailed}
+use Rattle.liquid_lib.specs.Pages.{ended_page, fault_of, page_view, shown}
+use Rattle.liquid_lib.specs.Performs.{Performs}
+use Rattle.liquid_lib.specs.Sinks.{Sink}
+use Rattle.liquid_lib.specs.declared.page.Page.{Page}
+use Rattle.liquid_lib.proofs.Sinks.{Around, around-text}
+
+module _ (text : Text) (m : Run Nothing) (s p q u : Sink) (e g : Environment) (around : Around s p q u text) (never_failed : OneFailed p.failures q.failures → ⊥) where
+  whole : (answer : Result (Unit {0}) Error) → Performs answer m (record { sink = p; environment = e }) (record { sink = q; environment = g }) → IfErr answer (λ x. is_memory x.kind ≡ false) → ended_page text answer ≡ shown (m e)
+  whole answer (inl x) ran = λ i. record { text = around-text s p q u text (m e).text around x.adds i; fault = fault_of (x.end i) }
+  whole (Ok value) (inr x) ran = absurd x.cause
+  whole (Err x) (inr y) ran = on y.cause
+    where
+      on : (((x.kind ≡ Memory) × AtMostOneFailed p.failures q.failures) ⊎ ((x.kind ≡ Write) × OneFailed p.failures q.failures)) → ended_page text (Err x) ≡ shown (m e)
+      on (inl both) = absurd (true≢false (sym (ap is_memory both.0) ∙ ran))
+      on (inr both) = absurd (never_failed both.1)
+
+  -- the page of what a run wrote is the run's, unless memory ran out
+  pub page_met : (result : Result Page Error) (answer : Result (Unit {0}) Error) → Performs answer m (record { sink = p; environment = e }) (record { sink = q; environment = g })
+      → IfOk result (λ page. page_view page ≡ ended_page text answer) → IfOk result (λ page. IfErr answer (λ x. is_memory x.kind ≡ false)) → IfErr result (λ x. x.kind ≡ Memory)
+      → Gives page_view result (shown (m e))
+  page_met (Ok page) answer performs is ran memory = is ∙ whole answer performs ran
+  page_met (Err x) answer performs is ran memory = memory

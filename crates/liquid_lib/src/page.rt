@@ -1,0 +1,101 @@
+//! Pages: what a template shows in a run of its own, with how that run ended.
+ghost use Rattle.std.specs.Prelude.{◌≡◌, [], false, length, IfErr, IfOk, string_bytes};
+ghost use Rattle.liquid_model.specs.Answer.{Gives};
+ghost use Rattle.liquid_model.specs.Told.{is_memory};
+ghost use Rattle.liquid_core.specs.Held.{held};
+ghost use Rattle.liquid_core.specs.States.{environment_of, layers_of, loops_of, new_layers};
+ghost use Rattle.liquid_syntax.specs.Templates.{partials_of, tree_of};
+ghost use Rattle.liquid_meaning.specs.Meaning.{meaning};
+ghost use Rattle.liquid_lib.specs.Engine.{setting_of};
+ghost use Rattle.liquid_lib.specs.Pages.{ended_page, page_over, page_view, shown};
+
+use crate::counted::NoWriter;
+use crate::given::Given;
+use crate::lent::run_template;
+use crate::output::Output;
+use liquid_core::{Data, ErrorKind, HostFilters, NamedFilters, Object, Result, State};
+use liquid_syntax::{Partials, Template};
+use std::alloc::Global;
+use std::collections::BTreeMap;
+
+/// What a template shows.
+#[derive(Drop)]
+pub struct Page {
+    /// The text, up to the fault.
+    pub text: String,
+    /// The kind of the fault that the run ended by, where there is one.
+    pub fault: Option<ErrorKind>,
+}
+
+/// The page of a template in a new run over this data, without filters of a host. The data is lent, so that nothing of it is
+/// copied.
+///
+/// A fault is the page's end, and the page has the text up to there. The answer is `Memory` where a growth was refused, and
+/// no other kind.
+pub fn render_page(
+    alloc: Global,
+    template: &Template,
+    partials: &Partials,
+    depth: u32,
+    facts: &Object,
+) -> Result<Page>
+    ensures { Gives page_view result (page_over depth (partials_of partials.now) (held facts.now) (tree_of template.now)) }
+{
+    let host: Option<&HostFilters> = None;
+    let given = Given {
+        partials,
+        host: &host,
+        depth,
+    };
+    let mut state = state_over(alloc, facts);
+    page_of_run(alloc, template, &given, &mut state)
+}
+
+/// A new state over data that is lent. It takes no memory.
+fn state_over<'d>(alloc: Global, facts: &'d Object) -> State<'d>
+    ensures layers { layers_of result ≡ new_layers (held facts.now) }
+    ensures loops { loops_of result ≡ [] }
+{
+    let (parts, none) = State::new(alloc, BTreeMap::new(alloc)).into_parts();
+    drop(none);
+    State::from_parts(alloc, parts, Data::Lent(facts))
+}
+
+/// Runs the nodes of a template into a buffer.
+fn page_of_run<H: NamedFilters>(
+    alloc: Global,
+    template: &Template,
+    given: &Given<'_, H>,
+    state: &mut State<'_>,
+) -> Result<Page>
+    requires plain { length (loops_of state.old) ≡ 0 }
+    ensures { Gives page_view result (shown (meaning (setting_of H.named given.now) given.now.depth (tree_of template.now) (environment_of state.old))) }
+{
+    let mut writer = NoWriter;
+    let mut out = Output {
+        writer: &mut writer,
+        buffer: None,
+    };
+    let outer = out.open(alloc);
+    let answer = run_template(alloc, template, given, &mut out, state);
+    let text = out.close(outer);
+    page_of_end(text, answer)
+}
+
+/// The page of a run that wrote this text and ended so.
+fn page_of_end(text: String, answer: Result<()>) -> Result<Page>
+    ensures page { IfOk result (λ page. page_view page ≡ ended_page (string_bytes text) answer) }
+    ensures ran { IfOk result (λ _. IfErr answer (λ e. is_memory e.kind ≡ false)) }
+    ensures memory { IfErr result (λ e. e.kind ≡ ErrorKind.Memory) }
+{
+    match answer {
+        Ok(()) => Ok(Page { text, fault: None }),
+        Err(error) => match error.kind {
+            ErrorKind::Memory => Err(error),
+            kind => Ok(Page {
+                text,
+                fault: Some(kind),
+            }),
+        },
+    }
+}

@@ -1,0 +1,31 @@
+//! Calls of languages, templates, partials and pages, whose requests for memory are refused, one after another, by `tests/refusals/run`.
+//!
+//! Requests count from one mark on standard output to the next, so that what a call is made with is never refused. Behind
+//! the marks each call tells its answer. The script demands `Memory` of the calls that were refused a request, and of no
+//! other; the tests here assert all else. Run without the script they run with ample memory.
+#![tactic(auto)]
+
+#[cfg(test)]
+macro_rules! asked {
+    ($rt:expr, $call:expr, $at:expr, $wanted:expr, $made:expr) => {{
+        begin($rt);
+        let answer = $made;
+        end($rt, $call, $at, $wanted, &answer);
+        answer
+    }};
+}
+
+#[cfg(test)]
+mod hosts;
+#[cfg(test)]
+mod names;
+#[cfg(test)]
+mod pages;
+#[cfg(test)]
+mod partials;
+#[cfg(test)]
+mod sites;
+#[cfg(test)]
+mod templates;
+#[cfg(test)]
+mod texts;

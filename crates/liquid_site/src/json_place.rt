@@ -1,0 +1,126 @@
+//! Where the data has a fault, and its message with that place. The data is read once more for it, so that data without a
+//! fault pays nothing.
+ghost use Rattle.liquid_model.specs.Told.{Told};
+
+use liquid_core::{Error, ErrorKind, whole_of};
+use liquid_source::excerpt;
+use std::alloc::{AllocError, Global};
+
+/// The fault of a text that is no JSON from the place on with so many bytes left.
+pub fn no_json(alloc: Global, text: &str, left: usize) -> Error
+    ensures { Told ErrorKind.InvalidInput result.kind }
+{
+    match found_there(alloc, text, left) {
+        Ok(found) => Error::with_message(ErrorKind::InvalidInput, found),
+        Err(refused) => Error::from(refused),
+    }
+}
+
+fn found_there(alloc: Global, text: &str, left: usize) -> Result<String, AllocError> {
+    let (before, rest) = at_left(text, left);
+    let (line, column) = behind(before);
+    let found = excerpt(alloc, rest.split_whitespace().next().unwrap_or(""))?;
+    if found.is_empty() {
+        return format!(in alloc;
+            "in the data: line {line}, column {column}: the data ends where JSON goes on"
+        );
+    }
+    format!(in alloc;
+        "in the data: line {line}, column {column}: found `{found}`, which is no JSON there"
+    )
+}
+
+/// The fault of data that is JSON, with its place before its message: a number that isn't whole, or else its first value.
+pub fn with_place(alloc: Global, text: &str, error: Error) -> Error
+    ensures { Told error.kind result.kind }
+{
+    let Error { kind, message } = error;
+    let Some(message) = message else {
+        return Error {
+            kind,
+            message: None,
+        };
+    };
+    let left = match kind {
+        ErrorKind::Float => past_whole_numbers(text).len(),
+        _ => text.trim_start().len(),
+    };
+    let (before, _) = at_left(text, left);
+    let (line, column) = behind(before);
+    Error::formatted(
+        alloc,
+        kind,
+        format_args!("in the data: line {line}, column {column}: {message}"),
+    )
+}
+
+/// The text before the place with so many bytes left, and from it on.
+fn at_left(text: &str, left: usize) -> (&str, &str) {
+    text.split_at_checked(text.len().saturating_sub(left))
+        .unwrap_or((text, ""))
+}
+
+/// The line and the column, in characters and each from 1, of the place behind a text.
+fn behind(text: &str) -> (usize, usize) {
+    let mut line: usize = 1;
+    let mut column: usize = 1;
+    for c in text.chars() {
+        if c == '\n' {
+            line = line.saturating_add(1);
+            column = 1;
+        } else {
+            column = column.saturating_add(1);
+        }
+    }
+    (line, column)
+}
+
+/// How many bytes are left at a line and a column in bytes, each from 1.
+pub fn bytes_left(text: &str, line: usize, column: usize) -> usize {
+    let mut rest = text;
+    for _ in 1..line {
+        match rest.split_once('\n') {
+            Some((_, after)) => rest = after,
+            None => return 0,
+        }
+    }
+    rest.len().saturating_sub(column.saturating_sub(1))
+}
+
+/// The text from its first number on, outside of texts, that isn't whole or past 64 bits.
+fn past_whole_numbers(text: &str) -> &str {
+    let mut quoted = false;
+    let mut escaped = false;
+    let mut begins = true;
+    for (at, c) in text.char_indices() {
+        if quoted {
+            quoted = escaped || c != '"';
+            escaped = c == '\\' && !escaped;
+        } else {
+            let rest = text.get(at..).unwrap_or("");
+            if begins && in_number(c) && !is_whole(rest) {
+                return rest;
+            }
+            begins = !in_number(c) && !c.is_ascii_alphabetic();
+            quoted = c == '"';
+        }
+    }
+    text
+}
+
+fn in_number(c: char) -> bool {
+    c.is_ascii_digit() || c == '-' || c == '+'
+}
+
+/// Whether the number at the front is whole and within 64 bits. `-0` is none of the whole numbers.
+fn is_whole(text: &str) -> bool {
+    let number = match text.find(ends_number) {
+        Some(at) => text.get(..at).unwrap_or(text),
+        None => text,
+    };
+    number != "-0" && whole_of(number).is_some()
+}
+
+fn ends_number(c: char) -> bool {
+    !(in_number(c) || c == '.' || c == 'e' || c == 'E')
+}
