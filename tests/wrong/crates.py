@@ -87,7 +87,7 @@ def kit():
 def all_crates():
     """The crates that crates.txt names, by their names."""
     rows = [line.partition("#")[0].partition(":") for line in text_of(f"{TOP}/crates.txt").splitlines()]
-    named = {name.strip(): words.split() for name, _, words in rows if name.strip()}
+    named = {name.split()[0]: words.split() for name, _, words in rows if name.strip()}
     made = {}
 
     def make(name):

@@ -1,12 +1,14 @@
 //! Pages, each with room for its text made beforehand.
 use liquid_core::{Object, Result, State};
-use liquid_lib::{Counted, Renderable, Runtime, RuntimeBuilder, language, render_source};
+use liquid_lib::{
+    Counted, Renderable, Runtime, RuntimeBuilder, language, render_page, render_source,
+};
 use liquid_refusals::{begin, end, is_refused, number};
 use liquid_samples::{
     CHOICE_PAGES, PAGES, REFUSED_SOURCES, Row, VERBATIM_PAGES, kind_of, nested, repeated,
 };
 use liquid_site::{data_from_json, run};
-use liquid_syntax::{Language, Template, parse};
+use liquid_syntax::{Language, Partials, Template, parse};
 use std::alloc::Global;
 use std::fmt::Write;
 use std::process::Abort;
@@ -168,6 +170,33 @@ fn by_render(
     Ok(())
 }
 
+/// Renders the row's template over data that is lent, into a page of its own.
+fn by_page(
+    rt: &(impl Abort + Print),
+    alloc: Global,
+    language: &Language,
+    row: &Row<'_>,
+) -> Result<()> {
+    let Some(data) = row_data(rt, alloc, row) else {
+        return Ok(());
+    };
+    let source = row.source;
+    let template = parse(alloc, source, language)?;
+    let partials = Partials::new(alloc);
+    let answer = asked!(
+        rt,
+        "render_page",
+        source,
+        None,
+        render_page(alloc, &template, &partials, 32, &data)
+    );
+    if let Ok(page) = answer {
+        assert!(rt; page.text.as_str() == row.page, "the page of {source}");
+        assert!(rt; page.fault == row.end, "the fault of {source}");
+    }
+    Ok(())
+}
+
 /// The page by each call that makes it.
 fn page(
     rt: &(impl Abort + Print),
@@ -177,6 +206,7 @@ fn page(
 ) -> Result<()> {
     by_run(rt, alloc, row)?;
     by_parts(rt, alloc, language, row)?;
+    by_page(rt, alloc, language, row)?;
     by_render(rt, alloc, language, row)
 }
 
