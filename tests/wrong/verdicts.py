@@ -9,6 +9,8 @@ ERROR = re.compile(r"^(?:note: )?(?:\./)?(\S+?):(\d+):\d+: (?:error: )?(.*)$", r
 LOST_NAME = re.compile(r"has no field|is not in scope|has no `|was not admitted")
 # what the prover can't even read
 UNREAD = re.compile(r"is not in scope|has no field|is no name|operand is missing|expected the end|cannot continue")
+# what the prover says of a function that it doesn't judge at all, and of the one of its cycle of calls for which it doesn't
+UNCOVERED = re.compile(r"^ahead of the check: (\S+): the borrow checker does not cover this function yet(?:: in `([^`]+)`)?.*", re.M)
 GOALS = re.compile(r"did not prove ((?:`[^`]+`(?:, | and )?)+)")
 LEFT = re.compile(r"^note: (?:\./)?(src/\S+?):(\d+):\d+: it is not proved that .*\(`([^`]+)`\)", re.M)
 
@@ -81,7 +83,10 @@ def refused_alone(texts, said):
 
 
 def unread(text, texts=()):
-    """What the prover could not read in src/, in specs/ or in an edited file, if anything."""
+    """What the prover could not read in src/, in specs/ or in an edited file, or doesn't judge, if anything."""
+    uncovered = UNCOVERED.search(text)
+    if uncovered:
+        return uncovered[0][:200]
     for line in text.split("\n"):
         at = re.match(r"(?:\./)?(\S+?):\d+:\d+: error: (?:(`[^`]*`): )?(.*)", line)
         if at and (at[1] in texts or at[1].startswith(("src/", "specs/"))):
@@ -94,10 +99,12 @@ def blamed(chosen, texts, said):
     """Those of the edits that the compiler's words name: by the line that they changed, or by their function."""
     lines = {(path, int(row)) for path, row, _ in ERROR.findall(said.text)}
     lines |= {(path, int(row)) for path, row in re.findall(r"(src/\S+?\.rt):(\d+)", said.text)}
+    uncovered = [it or own for own, it in UNCOVERED.findall(said.text)]
     guilty = []
     for edit, function in chosen:
         changed = {(path, row) for path, _, new in edit.pairs for row in rows_of(texts[path], new)}
-        if changed & lines or f"`{function.name}`" in said.text:
+        is_uncovered = any(name.endswith("::" + function.name) for name in uncovered)
+        if changed & lines or is_uncovered or f"`{function.name}`" in said.text:
             guilty.append((edit, function))
     return guilty
 
