@@ -1,0 +1,5 @@
+//! What a caller writes who names `liquid_lib` alone.
+#![tactic(auto)]
+
+#[cfg(test)]
+mod pages;
