@@ -89,6 +89,8 @@ def read_guide():
         for entry in group["entries"]:
             entry["set_title"] = titles[entry["set"]]
     guide["faults"] = read_json(f"{HERE}/faults.json")["faults"]
+    # what a word in a sentence may be a link to
+    guide["names"] = [entry["id"] for entry in entries(guide) if entry["kind"] != "basics"] + [one["kind"] for one in guide["faults"]]
     return guide
 
 
