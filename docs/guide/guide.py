@@ -19,7 +19,7 @@ EXAMPLE = {"title", "template"}, {"data", "partials", "page", "fault", "program"
 MISTAKE = {"why", "wrong", "right", "page"}, {"data", "partials", "wrong_page", "fault"}
 KINDS = ["basics", "tag", "block", "filter"]
 # where a text may be a list of its lines
-LINES = {"template", "page", "wrong", "wrong_page", "right"}
+LINES = {"form", "template", "page", "wrong", "wrong_page", "right"}
 TOLD = re.compile(r"error: (\w+)(?:: .*)?\n", re.S)
 
 
@@ -70,7 +70,7 @@ def read_entry(name):
         must_hold(example, EXAMPLE, f"{name}: an example")
     for mistake in entry["mistakes"]:
         must_hold(mistake, MISTAKE, f"{name}: a mistake")
-    entry["id"] = name
+    entry = with_whole_texts(entry) | {"id": name}
     entry["examples"] = [with_whole_texts(example) for example in entry["examples"]]
     entry["mistakes"] = [with_whole_texts(mistake) for mistake in entry["mistakes"]]
     return entry
