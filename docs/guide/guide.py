@@ -16,6 +16,7 @@ STANDARD = f"{TOP}/crates/liquid_lib/specs/Standard.antt"
 ENTRY = {"name", "kind", "set", "form", "summary", "arguments", "examples", "mistakes"}, {"title", "notes"}
 ARGUMENT = {"name", "what"}, {"default"}
 EXAMPLE = {"title", "template"}, {"data", "partials", "page", "fault", "program"}
+FAULT = {"kind", "comes", "what", "mend"}, {"template", "data", "partials"}
 MISTAKE = {"why", "wrong", "right", "page"}, {"data", "partials", "wrong_page", "fault"}
 KINDS = ["basics", "tag", "block", "filter"]
 # where a text may be a list of its lines
@@ -27,7 +28,8 @@ TOLD = re.compile(r"error: (\w+)(?:: .*)?\n", re.S)
 class Case:
     """A template of an entry, with what it is given and what the program has to answer."""
 
-    name: str
+    entry: str
+    title: str
     template: str
     page: str
     fault: str = None
@@ -60,6 +62,11 @@ def must_hold(part, names, where):
         raise SystemExit(f"guide: {where}: missing {sorted(missing)}, unknown {sorted(strange)}")
 
 
+def must_answer(part, names, where):
+    if not names & set(part):
+        raise SystemExit(f"guide: {where}: one of {sorted(names)} is missing")
+
+
 def read_entry(name):
     """The entry of the file, with its identifier and whole texts."""
     entry = read_json(f"{HERE}/entries/{name}.json")
@@ -68,8 +75,10 @@ def read_entry(name):
         must_hold(argument, ARGUMENT, f"{name}: an argument")
     for example in entry["examples"]:
         must_hold(example, EXAMPLE, f"{name}: an example")
+        must_answer(example.get("program", example), {"page", "fault"}, f"{name}: an example")
     for mistake in entry["mistakes"]:
         must_hold(mistake, MISTAKE, f"{name}: a mistake")
+        must_answer(mistake, {"wrong_page", "fault"}, f"{name}: a mistake")
     entry = with_whole_texts(entry) | {"id": name}
     entry["examples"] = [with_whole_texts(example) for example in entry["examples"]]
     entry["mistakes"] = [with_whole_texts(mistake) for mistake in entry["mistakes"]]
@@ -89,6 +98,8 @@ def read_guide():
         for entry in group["entries"]:
             entry["set_title"] = titles[entry["set"]]
     guide["faults"] = read_json(f"{HERE}/faults.json")["faults"]
+    for fault in guide["faults"]:
+        must_hold(fault, FAULT, fault["kind"])
     # what a word in a sentence may be a link to
     guide["names"] = [entry["id"] for entry in entries(guide) if entry["kind"] != "basics"] + [one["kind"] for one in guide["faults"]]
     return guide
@@ -102,13 +113,13 @@ def example_case(entry, example):
     """Where a host is needed, the program answers what `program` says, and not the page."""
     answer = example.get("program", example)
     given = {name: example[name] for name in ("data", "partials") if name in example}
-    return Case(f"{entry['id']}: {example['title']}", example["template"], answer.get("page", ""), answer.get("fault"), **given)
+    return Case(entry["id"], example["title"], example["template"], answer.get("page", ""), answer.get("fault"), **given)
 
 
 def mistake_cases(entry, mistake):
     given = {name: mistake[name] for name in ("data", "partials") if name in mistake}
-    wrong = Case(f"{entry['id']}, wrong: {mistake['why']}", mistake["wrong"], mistake.get("wrong_page", ""), mistake.get("fault"), **given)
-    right = Case(f"{entry['id']}, right: {mistake['why']}", mistake["right"], mistake["page"], **given)
+    wrong = Case(entry["id"], f"wrong: {mistake['why']}", mistake["wrong"], mistake.get("wrong_page", ""), mistake.get("fault"), **given)
+    right = Case(entry["id"], f"right: {mistake['why']}", mistake["right"], mistake["page"], **given)
     return [wrong, right]
 
 
@@ -122,8 +133,13 @@ def cases(guide):
     return found
 
 
-def rendered(template, data, partials, program=PROGRAM):
-    """What the program writes, and the kind of the fault that it tells, if any."""
+def fault_cases(guide):
+    """The template of each fault that has one; what it writes before plays no part."""
+    return [Case(one["kind"], "its template", one["template"], None, one["kind"], one.get("data", {}), one.get("partials", {})) for one in guide["faults"] if "template" in one]
+
+
+def called(template, data, partials, program):
+    """How a call of the program ended."""
     with tempfile.TemporaryDirectory(prefix="guide-") as room:
         def put(name, text):
             with open(f"{room}/{name}", "w", encoding="utf-8", newline="") as file:
@@ -132,7 +148,12 @@ def rendered(template, data, partials, program=PROGRAM):
 
         words = [program, put("template", template), put("data", json.dumps(data, ensure_ascii=False))]
         words += [f"{name}={put(f'partial-{at}', text)}" for at, (name, text) in enumerate(partials.items())]
-        ran = subprocess.run(words, cwd=room, capture_output=True, timeout=60)
+        return subprocess.run(words, cwd=room, capture_output=True, timeout=60)
+
+
+def rendered(template, data, partials, program=PROGRAM):
+    """What the program writes, and the kind of the fault that it tells, if any."""
+    ran = called(template, data, partials, program)
     told = ran.stderr.decode(errors="replace")
     page = ran.stdout.decode(errors="replace")
     if ran.returncode == 0 and not told:
@@ -146,13 +167,17 @@ def read_template(name):
         return file.read()
 
 
-def for_templates(guide):
-    """The guide with the data of each example as a text too, since a template can't write JSON, and without missing names."""
+def for_templates(guide, program):
+    """The guide with the data of each example as a text too, since a template can't write JSON, without missing names, and with
+    what the program tells of each fault."""
     for entry in entries(guide):
         for part in entry["examples"] + entry["mistakes"]:
             part["data_text"] = data_text(part["data"]) if "data" in part else None
             for answer in (part, part.get("program", {})):
                 answer.update({name: answer.get(name, absent) for name, absent in (("page", ""), ("wrong_page", ""), ("fault", None))})
+    for case, fault in zip(fault_cases(guide), [one for one in guide["faults"] if "template" in one]):
+        fault["data_text"] = data_text(case.data) if case.data else None
+        fault["told"] = called(case.template, case.data, case.partials, program).stderr.decode(errors="replace")
     return guide
 
 
@@ -174,7 +199,7 @@ def list_text(value):
 
 def pages(program=PROGRAM):
     """Each page of the guide by the name of its file, rendered by the program."""
-    guide = for_templates(read_guide())
+    guide = for_templates(read_guide(), program)
     names = sorted(name.removesuffix(".liquid") for name in os.listdir(f"{HERE}/templates/parts"))
     parts = {name: read_template(f"parts/{name}") for name in names}
     wanted = {"README.md": ("index.md", guide), "faults.md": ("faults.md", guide), "guide.html": ("guide.html", guide)}
