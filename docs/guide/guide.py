@@ -1,0 +1,229 @@
+"""The entries of the guide: what they hold, how they are read, and how the built program renders them. build and tests/guide/run
+stand on it."""
+import json
+import os
+import re
+import subprocess
+import tempfile
+from dataclasses import dataclass, field
+
+HERE = os.path.dirname(os.path.abspath(__file__))
+TOP = os.path.dirname(os.path.dirname(HERE))
+PROGRAM = f"{TOP}/crates/liquid_page/out/liquid_page"
+STANDARD = f"{TOP}/crates/liquid_lib/specs/Standard.antt"
+
+# what an entry and its parts must hold, and what they may hold besides
+ENTRY = {"name", "kind", "set", "form", "summary", "arguments", "examples", "mistakes"}, {"title", "notes"}
+ARGUMENT = {"name", "what"}, {"default"}
+EXAMPLE = {"title", "template"}, {"data", "partials", "page", "fault", "program"}
+FAULT = {"kind", "comes", "what", "mend"}, {"template", "data", "partials"}
+MISTAKE = {"why", "wrong", "right", "page"}, {"data", "partials", "wrong_page", "fault"}
+KINDS = ["basics", "tag", "block", "filter"]
+# where a text may be a list of its lines
+LINES = {"form", "template", "page", "wrong", "wrong_page", "right"}
+TOLD = re.compile(r"error: (\w+)(?:: .*)?\n", re.S)
+
+
+@dataclass
+class Case:
+    """A template of an entry, with what it is given and what the program has to answer."""
+
+    entry: str
+    title: str
+    template: str
+    page: str
+    fault: str = None
+    data: dict = field(default_factory=dict)
+    partials: dict = field(default_factory=dict)
+
+
+def read_json(path):
+    with open(path, encoding="utf-8") as file:
+        return json.load(file)
+
+
+def joined(value):
+    """A text that may stand as a list of its lines."""
+    return "\n".join(value) if isinstance(value, list) else value
+
+
+def with_whole_texts(part):
+    whole = {name: joined(value) if name in LINES else value for name, value in part.items()}
+    if "partials" in part:
+        whole["partials"] = {name: joined(text) for name, text in part["partials"].items()}
+    return whole
+
+
+def must_hold(part, names, where):
+    needed, allowed = names
+    strange = set(part) - needed - allowed
+    missing = needed - set(part)
+    if strange or missing:
+        raise SystemExit(f"guide: {where}: missing {sorted(missing)}, unknown {sorted(strange)}")
+
+
+def must_answer(part, names, where):
+    if not names & set(part):
+        raise SystemExit(f"guide: {where}: one of {sorted(names)} is missing")
+
+
+def read_entry(name):
+    """The entry of the file, with its identifier and whole texts."""
+    entry = read_json(f"{HERE}/entries/{name}.json")
+    must_hold(entry, ENTRY, name)
+    for argument in entry["arguments"]:
+        must_hold(argument, ARGUMENT, f"{name}: an argument")
+    for example in entry["examples"]:
+        must_hold(example, EXAMPLE, f"{name}: an example")
+        must_answer(example.get("program", example), {"page", "fault"}, f"{name}: an example")
+    for mistake in entry["mistakes"]:
+        must_hold(mistake, MISTAKE, f"{name}: a mistake")
+        must_answer(mistake, {"wrong_page", "fault"}, f"{name}: a mistake")
+    entry = with_whole_texts(entry) | {"id": name}
+    entry["examples"] = [with_whole_texts(example) for example in entry["examples"]]
+    entry["mistakes"] = [with_whole_texts(mistake) for mistake in entry["mistakes"]]
+    return entry
+
+
+def read_guide():
+    """The groups with their entries, and the faults: the document that the templates are given."""
+    guide = read_json(f"{HERE}/guide.json")
+    listed = [name for group in guide["groups"] for name in group["entries"]]
+    files = sorted(name[:-5] for name in os.listdir(f"{HERE}/entries") if name.endswith(".json"))
+    if sorted(listed) != files:
+        raise SystemExit(f"guide: not both an entry and in one group of guide.json: {sorted(set(listed) ^ set(files)) or 'a name stands twice'}")
+    titles = {one["id"]: one["title"] for one in guide["sets"]}
+    for group in guide["groups"]:
+        group["entries"] = [read_entry(name) for name in group["entries"]]
+        for entry in group["entries"]:
+            entry["set_title"] = titles[entry["set"]]
+    guide["faults"] = read_json(f"{HERE}/faults.json")["faults"]
+    for fault in guide["faults"]:
+        must_hold(fault, FAULT, fault["kind"])
+    # what a word in a sentence may be a link to
+    guide["names"] = [entry["id"] for entry in entries(guide) if entry["kind"] != "basics"] + [one["kind"] for one in guide["faults"]]
+    return guide
+
+
+def entries(guide):
+    return [entry for group in guide["groups"] for entry in group["entries"]]
+
+
+def example_case(entry, example):
+    """Where a host is needed, the program answers what `program` says, and not the page."""
+    answer = example.get("program", example)
+    given = {name: example[name] for name in ("data", "partials") if name in example}
+    return Case(entry["id"], example["title"], example["template"], answer.get("page", ""), answer.get("fault"), **given)
+
+
+def mistake_cases(entry, mistake):
+    given = {name: mistake[name] for name in ("data", "partials") if name in mistake}
+    wrong = Case(entry["id"], f"wrong: {mistake['why']}", mistake["wrong"], mistake.get("wrong_page", ""), mistake.get("fault"), **given)
+    right = Case(entry["id"], f"right: {mistake['why']}", mistake["right"], mistake["page"], **given)
+    return [wrong, right]
+
+
+def cases(guide):
+    """Every template of the guide."""
+    found = []
+    for entry in entries(guide):
+        found += [example_case(entry, example) for example in entry["examples"]]
+        for mistake in entry["mistakes"]:
+            found += mistake_cases(entry, mistake)
+    return found
+
+
+def fault_cases(guide):
+    """The template of each fault that has one; what it writes before plays no part."""
+    return [Case(one["kind"], "its template", one["template"], None, one["kind"], one.get("data", {}), one.get("partials", {})) for one in guide["faults"] if "template" in one]
+
+
+def called(template, data, partials, program):
+    """How a call of the program ended."""
+    with tempfile.TemporaryDirectory(prefix="guide-") as room:
+        def put(name, text):
+            with open(f"{room}/{name}", "w", encoding="utf-8", newline="") as file:
+                file.write(text)
+            return name
+
+        words = [program, put("template", template), put("data", json.dumps(data, ensure_ascii=False))]
+        words += [f"{name}={put(f'partial-{at}', text)}" for at, (name, text) in enumerate(partials.items())]
+        return subprocess.run(words, cwd=room, capture_output=True, timeout=60)
+
+
+def rendered(template, data, partials, program=PROGRAM):
+    """What the program writes, and the kind of the fault that it tells, if any."""
+    ran = called(template, data, partials, program)
+    told = ran.stderr.decode(errors="replace")
+    page = ran.stdout.decode(errors="replace")
+    if ran.returncode == 0 and not told:
+        return page, None
+    fault = TOLD.fullmatch(told)
+    return page, fault[1] if ran.returncode == 1 and fault else f"status {ran.returncode} and {told[:200]!r}"
+
+
+def read_template(name):
+    with open(f"{HERE}/templates/{name}.liquid", encoding="utf-8") as file:
+        return file.read()
+
+
+def for_templates(guide, program):
+    """The guide with the data of each example as a text too, since a template can't write JSON, without missing names, and with
+    what the program tells of each fault."""
+    for entry in entries(guide):
+        for part in entry["examples"] + entry["mistakes"]:
+            part["data_text"] = data_text(part["data"]) if "data" in part else None
+            for answer in (part, part.get("program", {})):
+                answer.update({name: answer.get(name, absent) for name, absent in (("page", ""), ("wrong_page", ""), ("fault", None))})
+    for case, fault in zip(fault_cases(guide), [one for one in guide["faults"] if "template" in one]):
+        fault["data_text"] = data_text(case.data) if case.data else None
+        fault["told"] = called(case.template, case.data, case.partials, program).stderr.decode(errors="replace")
+    return guide
+
+
+def data_text(data):
+    flat = json.dumps(data, ensure_ascii=False)
+    if len(flat) <= 72:
+        return flat
+    rows = [f"  {json.dumps(name, ensure_ascii=False)}: {list_text(value)}" for name, value in data.items()]
+    return "{\n" + ",\n".join(rows) + "\n}"
+
+
+def list_text(value):
+    """A long list has a line for each item."""
+    flat = json.dumps(value, ensure_ascii=False)
+    if len(flat) <= 60 or not isinstance(value, list):
+        return flat
+    return "[\n" + ",\n".join(f"    {json.dumps(item, ensure_ascii=False)}" for item in value) + "\n  ]"
+
+
+def pages(program=PROGRAM):
+    """Each page of the guide by the name of its file, rendered by the program."""
+    guide = for_templates(read_guide(), program)
+    names = sorted(name.removesuffix(".liquid") for name in os.listdir(f"{HERE}/templates/parts"))
+    parts = {name: read_template(f"parts/{name}") for name in names}
+    wanted = {"README.md": ("index.md", guide), "faults.md": ("faults.md", guide), "guide.html": ("guide.html", guide)}
+    for group in guide["groups"]:
+        wanted[f"{group['id']}.md"] = ("group.md", {"group": group})
+    made = {}
+    for name, (template, data) in wanted.items():
+        page, fault = rendered(read_template(template), data, parts, program)
+        if fault:
+            raise SystemExit(f"guide: {template} ends by {fault}, behind {page[-200:]!r}")
+        made[name] = page
+    return made
+
+
+def standard_names():
+    """The tags, blocks and filters of the standard language, as its definition names them."""
+    with open(STANDARD, encoding="utf-8") as file:
+        text = file.read()
+    parts = re.split(r"^(standard_\w+) =$", text, flags=re.M)[1:]
+    named = {name: re.findall(r'codes "(\w+)"', body.split("\n\n")[0]) for name, body in zip(parts[::2], parts[1::2])}
+    return {"tag": named["standard_tags"], "block": named["standard_blocks"], "filter": named["standard_filters"]}
+
+
+def kinds_of_faults():
+    """The kinds of faults, as their definition names them."""
+    with open(f"{TOP}/crates/liquid_model/specs/Told.antt", encoding="utf-8") as file:
+        return re.findall(r'^name_of \w+ = codes "(\w+)"$', file.read(), flags=re.M)
