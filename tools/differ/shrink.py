@@ -1,10 +1,12 @@
 """Makes a case in which reading and program differ smaller, as long as they differ in the same way."""
 import json
+import re
 from dataclasses import replace
 
 from generate import ITEM
 
-MOST_TRIES = 600
+MOST_TRIES = 2500
+PIECE = re.compile(r"\{\{.*?\}\}|\{%.*?%\}|(?:(?!\{\{|\{%).)+|.", re.S)
 
 
 class Shrinker:
@@ -30,7 +32,12 @@ class Shrinker:
 
     def shorter(self, text, with_text):
         """The text without the runs of items that aren't needed, long runs first."""
-        parts = ITEM.findall(text)
+        text = "".join(self.fewer(PIECE.findall(text), with_text))
+        text = "".join(self.fewer_pairs(PIECE.findall(text), with_text))
+        return "".join(self.fewer(ITEM.findall(text), with_text))
+
+    def fewer(self, parts, with_text):
+        """Without runs of parts: of half of them, a quarter, and so on; short runs at every place."""
         size = len(parts)
         while size:
             at = 0
@@ -39,9 +46,22 @@ class Shrinker:
                 if self.accepts(with_text("".join(fewer))):
                     parts = fewer
                 else:
-                    at += size
-            size //= 2
-        return "".join(parts)
+                    at += max(1, size // 4)
+            size = size // 2 if size > 6 else size - 1
+        return parts
+
+    def fewer_pairs(self, parts, with_text):
+        """Without two parts that stand apart, as the tags round a body."""
+        at = 0
+        while at < len(parts) - 1:
+            for end in range(at + 1, len(parts)):
+                fewer = parts[:at] + parts[at + 1 : end] + parts[end + 1 :]
+                if self.accepts(with_text("".join(fewer))):
+                    parts = fewer
+                    break
+            else:
+                at += 1
+        return parts
 
     def fewer_partials(self, case):
         for pair in case.partials:

@@ -74,7 +74,7 @@ TAKEN = {
     "list": ("list", *LISTS),
     "maps": ("maps", "maps", "maps", "map"),
     "text": (*TEXT_KINDS, "number"),
-    "number": ("number", "digits"),
+    "number": ("number", "digits", "decimal"),
     "decimal": ("decimal", "number", "digits"),
 }
 # the filters that take a kind, where all take what may be of any
@@ -124,6 +124,8 @@ class Expressions:
 
     def __init__(self, rng, known):
         self.rng = rng
+        # how often what likely ends in a fault is made: seldom in half of the templates, which then run further
+        self.daring = rng.choice((0.1, 1))
         # paths by the kind that they lead to
         self.known = known
 
@@ -133,6 +135,9 @@ class Expressions:
     def chance(self, rate):
         return self.rng.random() < rate
 
+    def dares(self, rate):
+        return self.chance(rate * self.daring)
+
     def variable(self, kinds):
         """A path that leads to one of the kinds, None where none is known."""
         found = [path for kind in kinds for path in self.known.get(kind, ())]
@@ -140,22 +145,21 @@ class Expressions:
 
     def expression(self, kind):
         """A value item, mostly of the kind."""
-        draw = self.rng.random()
-        if draw < 0.006:
+        if self.dares(0.008):
             return self.rng.choice(samples.MISSING)
-        if draw < 0.07 or kind == "any":
+        if kind == "any" or self.dares(0.06):
             kind = self.rng.choice(("number", "text", "truth", "nil", *LISTS, "map", *POOLS))
         if kind in ARGUMENTS:
             return self.argument(kind)
         path = self.variable(self.kinds(kind))
         if path and self.chance(0.6):
-            return self.indexed() if self.chance(0.05) else path
+            return self.indexed() if self.dares(0.06) else path
         return self.made(kind) or path or "nil"
 
     def kinds(self, kind):
         if kind in ("list", "numbers", "texts"):
             return LISTS
-        if kind in ("number", "text", "maps") and self.chance(0.85):
+        if kind in ("number", "text", "maps") and not self.dares(0.2):
             return (kind,)
         return TAKEN.get(kind, (kind,))
 
@@ -171,32 +175,35 @@ class Expressions:
         return f"{name}[{self.rng.choice(('', ' '))}{step}{self.rng.choice(('', ' '))}]"
 
     def argument(self, kind):
-        if self.chance(0.1):
+        if self.dares(0.15):
             return self.expression("number" if kind in ("small", "length", "hours") else "text")
         return literal(self.rng, self.rng.choice(ARGUMENTS[kind]))
 
     def chain(self):
         """The items of a chain, and the kind that it likely comes to."""
-        kind = self.rng.choice(("number", "text", "text", "list", "maps", "map", "truth", "digits", "decimal", "markup", "escaped", "date", "any"))
-        entry = self.expression(kind)
-        items = [entry]
-        for _ in range(self.rng.choice((0, 0, 0, 1, 1, 1, 2, 2, 3, 5))):
+        if self.chance(0.2):
+            kind = self.rng.choice((*POOLS, *LISTS, "map"))
+            return [self.expression(kind)], kind
+        name = self.rng.choice(list(FILTERS))
+        items = [self.expression(FILTERS[name][0]), "|", name, *self.arguments(name)]
+        kind = FILTERS[name][2]
+        for _ in range(self.rng.choice((0, 0, 0, 0, 1, 1, 1, 2, 4))):
             name, kind = self.filter(kind)
             items += ["|", name, *self.arguments(name)]
         return items, kind
 
     def filter(self, kind):
         """A filter that takes the kind, mostly, and the kind of what it answers."""
-        if self.chance(0.001):
+        if self.dares(0.002):
             return "nosuch", "any"
-        name = self.rng.choice(list(FILTERS) if self.chance(0.08) else FITTING[kind])
+        name = self.rng.choice(list(FILTERS) if self.dares(0.15) else FITTING[kind])
         return name, FILTERS[name][2]
 
     def arguments(self, name):
         """The items of a filter's arguments, rarely too many or too few."""
         kinds = FILTERS[name][1] if name in FILTERS else ["any?"]
         given = [kind.rstrip("?") for kind in kinds if not kind.endswith("?") or self.chance(0.5)]
-        if self.chance(0.002):
+        if self.dares(0.004):
             given = given[:-1] if self.chance(0.5) else [*given, "any"]
         if not given:
             return []
@@ -215,7 +222,8 @@ class Expressions:
         kind = self.rng.choice(("number", "number", "text", "list", "map", "any", "truth", "nil"))
         operator = self.rng.choice(OPERATORS)
         other = "text" if operator == "contains" else kind
-        return [self.expression(kind), operator, self.expression(self.rng.choice((other, other, "any")))]
+        left = "nil" if operator == "contains" and self.dares(0.1) else self.rng.choice(("list", "text", "map")) if operator == "contains" else kind
+        return [self.expression(left), operator, self.expression(self.rng.choice((other, other, "any")))]
 
     def source(self):
         """The items of what a loop goes over, and the kind of one of them."""
@@ -224,7 +232,7 @@ class Expressions:
             return [self.range()], "number"
         if draw < 0.55:
             return [self.expression("map")], "list"
-        if draw < 0.6:
+        if draw < 0.6 and self.daring == 1:
             return [self.expression("any")], "any"
         kind = self.rng.choice(("numbers", "texts", "maps", "list"))
         return [self.expression(kind)], {"numbers": "number", "texts": "text", "maps": "map"}.get(kind, "any")

@@ -28,12 +28,15 @@ class Run:
             raise TooLong
         self.written.append(text)
 
+    def step(self):
+        self.steps += 1
+        if self.steps > MOST_STEPS:
+            raise TooLong
+
     def nodes(self, nodes):
         """Runs the nodes in order, up to one that leaves an interrupt set."""
         for node in nodes:
-            self.steps += 1
-            if self.steps > MOST_STEPS:
-                raise TooLong
+            self.step()
             RULES[type(node)](self, node)
             if self.environment.interrupt:
                 return
@@ -48,6 +51,7 @@ class Run:
             self.written = outer
 
     def with_scope(self, scope, nodes):
+        self.step()
         self.environment.scopes.append(scope)
         try:
             self.nodes(nodes)
@@ -186,6 +190,7 @@ class Run:
 
     def apart(self, node, name, more):
         """Runs the partial in an environment of its own; the interrupt that it leaves."""
+        self.step()
         pairs = self.pairs(node)
         body = self.enter(name, f"{name}.liquid")
         outer, self.environment = self.environment, Environment({**pairs, **more})
