@@ -6,6 +6,7 @@ from language.faults import Fault
 from language.parser import parse
 from language.values import GREATEST, LEAST, digits_of, new_map
 
+# lists and maps of the data nest so deep at most, the whole of it among them
 MOST_DEPTH = 127
 
 
@@ -60,10 +61,10 @@ def refuse(text):
 def deeper_than(value, most):
     """Whether lists and maps nest deeper than so many."""
     level = [value]
-    while level and most >= 0:
+    while most and level:
         level = [held for item in level for held in parts(item)]
         most -= 1
-    return bool(level)
+    return any(isinstance(item, (list, dict)) for item in level)
 
 
 def parts(value):
@@ -74,8 +75,17 @@ def in_order(value):
     """The value with its maps in the order of their keys."""
     if isinstance(value, NotWhole):
         raise Fault("Float")
+    if isinstance(value, str):
+        return unicode_text(value)
     if isinstance(value, list):
         return [in_order(item) for item in value]
     if isinstance(value, dict):
-        return new_map((name, in_order(held)) for name, held in value.items())
+        return new_map((unicode_text(name), in_order(held)) for name, held in value.items())
     return value
+
+
+def unicode_text(text):
+    """The text, of which no character is half a pair of UTF-16."""
+    if any("\ud800" <= letter <= "\udfff" for letter in text):
+        raise Fault("InvalidInput")
+    return text
