@@ -43,8 +43,8 @@ def printed(clock, pattern):
 def directive(clock, letter):
     if not letter or letter not in LETTERS:
         raise Fault("DateFormat")
-    if letter == "Y":
-        return f"{clock.year:04}"
+    if letter in "YG":
+        return f"{clock.isocalendar().year if letter == 'G' else clock.year:04}"
     if letter == "F":
         return f"{clock.year:04}-{clock.month:02}-{clock.day:02}"
     return clock.strftime("%" + letter)

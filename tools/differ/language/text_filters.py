@@ -1,4 +1,6 @@
 """Filters of texts, with the slug of Jekyll and the plural of Shopify. They work on the text of any value."""
+import unicodedata
+
 from .arguments import lower, upper, whole_argument
 from .clusters import clusters
 from .faults import Fault
@@ -94,7 +96,12 @@ def keeps(mode, letter):
         return letter not in WHITE_SPACE
     if mode == "ascii":
         return letter.isascii() and letter.isalnum()
-    return letter.isalpha() or letter in "0123456789" or mode == "pretty" and letter in PRETTY
+    return is_alphabetic(letter) or letter in "0123456789" or mode == "pretty" and letter in PRETTY
+
+
+def is_alphabetic(letter):
+    """Near to Unicode's Alphabetic, which has letters, letter numbers and most of the marks that take room."""
+    return unicodedata.category(letter)[0] == "L" or unicodedata.category(letter) in ("Nl", "Mc")
 
 
 def pluralize(value, singular, plural):
