@@ -1,0 +1,1 @@
+"""Cases by a seed: templates, data and partials over the whole language, none taken from the worked rows."""

@@ -1,0 +1,23 @@
+"""All filters by their names, with the least and the greatest number of their arguments (docs/FILTERS.md)."""
+from . import date_filters, list_filters, number_filters, text_filters, web_filters
+from .faults import TooLong
+from .values import weight
+
+MOST_PARTS = 50_000
+
+FILTERS = {
+    **list_filters.FILTERS,
+    **number_filters.FILTERS,
+    **text_filters.FILTERS,
+    **web_filters.FILTERS,
+    **date_filters.FILTERS,
+}
+COUNTS = {name: (least, most) for name, (least, most, _) in FILTERS.items()}
+
+
+def apply(name, value, arguments):
+    """What the filter answers."""
+    answer = FILTERS[name][2](value, *arguments)
+    if weight(answer, MOST_PARTS) > MOST_PARTS:
+        raise TooLong
+    return answer

@@ -1,0 +1,115 @@
+"""From a source to its nodes; the first fault from left to right is the answer."""
+from .faults import Fault
+from .items import Items
+from .lexer import Reader
+from .tags import BLOCKS, TAGS, VERBATIM, when
+from .tree import Output, Text
+
+MOST_BLOCKS = 200
+
+
+def parse(source):
+    """The nodes of a template."""
+    return Parser(source).nodes(0)
+
+
+class Parser:
+    def __init__(self, source):
+        self.reader = Reader(source)
+        # the name of the tag that ended the last list of nodes, with its items
+        self.ended_by = None
+
+    def nodes(self, depth, *ends):
+        """The nodes up to a tag of one of these names, in so many blocks."""
+        found = []
+        while True:
+            text = self.reader.text()
+            if text:
+                found.append(Text(text))
+            piece = self.reader.piece()
+            if piece is None and ends:
+                raise Fault("MissingEnd")
+            if piece is None or piece.opener == "{%" and piece.name in ends:
+                self.ended_by = piece
+                return found
+            found.append(self.node(piece, depth))
+
+    def node(self, piece, depth):
+        items = Items(piece.items)
+        if piece.opener == "{{":
+            return Output(items.chain())
+        if piece.name in TAGS:
+            return TAGS[piece.name](items)
+        if piece.name in VERBATIM:
+            return self.verbatim(piece.name, items, depth)
+        if piece.name not in BLOCKS:
+            raise Fault("UnknownTag")
+        require_room(depth)
+        node = BLOCKS[piece.name](items)
+        getattr(self, f"fill_{piece.name}")(node, depth + 1)
+        return node
+
+    def verbatim(self, name, items, depth):
+        """A raw or a comment: its body is read first, where its tag has no items."""
+        text = ""
+        if items.is_over():
+            text = self.reader.raw() if name == "raw" else self.reader.skip_comment() or ""
+        require_room(depth)
+        items.end()
+        return Text(text)
+
+    def end(self):
+        """The block ends here, by a tag without items."""
+        Items(self.ended_by.items).end()
+
+    def fill_if(self, node, depth):
+        ends = ("endif", "elsif", "else")
+        node.branches[0][1].extend(self.nodes(depth, *ends))
+        while self.ended_by.name == "elsif":
+            condition = Items(self.ended_by.items).condition()
+            node.branches.append((condition, self.nodes(depth, *ends)))
+        self.fill_else(node, depth, "endif")
+
+    def fill_unless(self, node, depth):
+        node.branches[0][1].extend(self.nodes(depth, "endunless", "else"))
+        self.fill_else(node, depth, "endunless")
+
+    def fill_else(self, node, depth, end):
+        if self.ended_by.name == "else":
+            node.otherwise = self.nodes(depth, end)
+        self.end()
+
+    def fill_case(self, node, depth):
+        ends = ("endcase", "when", "else")
+        self.nodes(depth, *ends)
+        while self.ended_by.name == "when":
+            values = when(Items(self.ended_by.items))
+            node.parts.append((values, self.nodes(depth, *ends)))
+        self.fill_bare_else(node, depth, "endcase")
+
+    def fill_for(self, node, depth):
+        node.body = self.nodes(depth, "endfor", "else")
+        self.fill_bare_else(node, depth, "endfor")
+
+    def fill_bare_else(self, node, depth, end):
+        """An else that takes no items."""
+        if self.ended_by.name == "else":
+            self.end()
+        self.fill_else(node, depth, end)
+
+    def fill_tablerow(self, node, depth):
+        node.body = self.nodes(depth, "endtablerow")
+        self.end()
+
+    def fill_capture(self, node, depth):
+        node.body = self.nodes(depth, "endcapture")
+        self.end()
+
+    def fill_ifchanged(self, node, depth):
+        node.body = self.nodes(depth, "endifchanged")
+        self.end()
+
+
+def require_room(depth):
+    if depth >= MOST_BLOCKS:
+        raise Fault("TooNested")
