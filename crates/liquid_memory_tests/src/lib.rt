@@ -10,7 +10,8 @@ macro_rules! asked {
     ($rt:expr, $call:expr, $at:expr, $wanted:expr, $made:expr) => {{
         begin($rt);
         let answer = $made;
-        end($rt, $call, $at, $wanted, &answer);
+        let is_as_wanted = end($rt, $call, $at, $wanted, &answer);
+        assert!($rt; is_as_wanted, "the call that was told last");
         answer
     }};
 }

@@ -3,26 +3,26 @@ use liquid_core::{ErrorKind, Result, State, Value, ValueCow};
 use liquid_samples::kind_of;
 use liquid_site::data_from_json;
 use std::alloc::Global;
-use std::process::Abort;
 
 /// Prints the mark behind which requests for memory count.
 pub fn begin(rt: &impl Print) {
     let _ = println!(rt; "@refuse");
 }
 
-/// Prints the second mark, and behind it how the call ended: as it is wanted, or for want of memory.
+/// Prints the second mark, and behind it how the call ended. Whether it ended as it is wanted, or for want of memory.
+#[must_use]
 pub fn end<T>(
-    rt: &(impl Abort + Print),
+    rt: &impl Print,
     call: &str,
     at: &str,
     wanted: Option<ErrorKind>,
     answer: &Result<T>,
-) {
+) -> bool {
     let _ = println!(rt; "@allow");
     let kind = kind_of(answer);
     let name = kind.map_or("done", |kind| kind.name());
     let _ = println!(rt; "answer: {call} {at:?} {name}");
-    assert!(rt; kind == wanted || is_refused(answer), "{call} {at}");
+    kind == wanted || is_refused(answer)
 }
 
 /// Whether the call ended for want of memory.
