@@ -46,12 +46,13 @@ class Said:
 
 @dataclass
 class Crate:
-    """A crate, by its name, the libraries of the kit that it names, and the crates below it, lowest first."""
+    """A crate, by its name, the libraries of the kit that it names, the crates below it, lowest first, and whether it is a static library."""
 
     name: str
     of_kit: list
     named: list
     below: list = field(default_factory=list)
+    is_static: bool = False
 
     @property
     def folder(self):
@@ -88,12 +89,13 @@ def all_crates():
     """The crates that crates.txt names, by their names."""
     rows = [line.partition("#")[0].partition(":") for line in text_of(f"{TOP}/crates.txt").splitlines()]
     named = {name.split()[0]: words.split() for name, _, words in rows if name.strip()}
+    static = {name.split()[0] for name, _, _ in rows if "staticlib" in name.split()}
     made = {}
 
     def make(name):
         if name not in made:
             ours = [make(word) for word in named[name] if word in named]
-            made[name] = Crate(name, [word for word in named[name] if word not in named], [it.name for it in ours])
+            made[name] = Crate(name, [word for word in named[name] if word not in named], [it.name for it in ours], is_static=name in static)
             for it in ours:
                 made[name].below += [low for low in [*it.below, it] if low not in made[name].below]
         return made[name]
@@ -139,6 +141,7 @@ def words(crate, at):
         made += ["--extern", f"{low.name}={low.library}"] if low.name in crate.named else []
         made += ["-L", f"dependency={os.path.dirname(low.library)}"]
     made += ["--antt-project", f"{at}/rattle/logic/antt-project.json", "--logic-built", f"{at}/logic_built"]
+    made += ["--crate-type", "staticlib"] if crate.is_static else []
     return [*made, "--jobs", "1", "--links", f"{crate.name}="]
 
 

@@ -51,7 +51,8 @@ fn a_page_that_ends_by_a_fault(rt: HostRuntime) -> Result<()> {
     let template = parse(alloc, "{% include 'row' %}", &language)?;
     let page = render_page(alloc, &template, &partials, 1, &data(alloc)?)?;
     assert!(&rt; page.text.as_str() == "Ada, ");
-    assert!(&rt; page.fault == Some(ErrorKind::UnknownVariable));
+    let fault = page.fault.map(|fault| fault.kind);
+    assert!(&rt; fault == Some(ErrorKind::UnknownVariable));
     Ok(())
 }
 

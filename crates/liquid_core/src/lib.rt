@@ -1,6 +1,7 @@
 //! Expressions and the state of templates, over the values of `liquid_model`: what all other layers stand on.
 #![tactic(auto)]
 
+mod append_written;
 mod expression;
 mod filter;
 mod host_filters;
@@ -17,7 +18,8 @@ pub use filter::Filter;
 pub use host_filters::{HostFilters, NamedFilters};
 pub use interrupt::Interrupt;
 pub use liquid_model::{
-    Error, ErrorKind, Found, Object, Result, Value, ValueCow, copy_items, look_up, store, whole_of,
+    Error, ErrorKind, Found, Location, Object, Origin, Result, Value, ValueCow, copy_items,
+    look_up, store, whole_of,
 };
 pub use seen::{Scopes, Seen};
 pub use state::{Data, Parts, State};

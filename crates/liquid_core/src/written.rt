@@ -1,13 +1,12 @@
 //! The written form of an expression: how it stands in a template's source.
-ghost use Rattle.std.specs.Prelude.{◌≡◌, ◌++◌, Some, string_bytes};
+ghost use Rattle.std.specs.Prelude.{◌≡◌, ◌++◌, Some};
 ghost use Rattle.std.specs.Fmt.{WritesOnOk};
-ghost use Rattle.liquid_model.specs.Answer.{Gives};
 ghost use Rattle.liquid_core.specs.ExpressionView.{expression_view, variable_view, steps_view};
 ghost use Rattle.liquid_model.specs.View.{view};
 ghost use Rattle.liquid_core.specs.Written.{written_form, written_literal, written_steps};
 
 use crate::expression::{Expression, Variable};
-use liquid_model::{Result, Value, write_text};
+use liquid_model::{Value, write_text};
 use std::fmt;
 use std::fmt::{Formatter, Write};
 
@@ -27,15 +26,6 @@ impl fmt::Display for Variable {
 
     fn fmt<W: Write>(&self, f: &mut Formatter<W>) -> fmt::Result {
         write_variable(self, f)
-    }
-}
-
-impl Expression {
-    /// Appends the written form to `out`. Where there is no memory, a beginning of it may stand there.
-    pub fn append_written_form(&self, out: &mut String) -> Result<()>
-        ensures { Gives (λ _. string_bytes out.new) result (string_bytes out.old ++ written_form (expression_view self.now)) }
-    {
-        Ok(write!(out, "{self}")?)
     }
 }
 

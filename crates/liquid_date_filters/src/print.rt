@@ -135,6 +135,7 @@ fn short() -> Error
     Error {
         kind: ErrorKind::Memory,
         message: None,
+        location: None,
     }
 }
 

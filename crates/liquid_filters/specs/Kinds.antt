@@ -1,5 +1,5 @@
 -- The filters that exist: how many arguments each takes, what it answers and what Liquid calls it.
-use Rattle.std.specs.Prelude.{ℕ, Bool, ◌&&◌, ◌||◌, List, nat_eq, nat_le, codes}
+use Rattle.std.specs.Prelude.{ℕ, Bool, true, false, ◌&&◌, ◌||◌, List, nat_eq, nat_le, codes}
 use Rattle.liquid_model.specs.Data.{Datum}
 use Rattle.liquid_model.specs.Texts.{Text}
 use Rattle.liquid_date_filters.specs.Dates.{date_answer, date_in_tz_answer}
@@ -149,6 +149,22 @@ kind_answer (ArrayToSentenceString f) = array_to_sentence_string_answer
 kind_answer (Slugify f) = slugify_answer
 kind_answer (Pluralize f) = pluralize_answer
 kind_answer (DateInTz f) = date_in_tz_answer
+
+-- the filters whose answers are numbers, or faults
+abbrev pub answers_numbers : FilterKind → Bool
+answers_numbers (Abs f) = true
+answers_numbers (AtLeast f) = true
+answers_numbers (AtMost f) = true
+answers_numbers (Plus f) = true
+answers_numbers (Minus f) = true
+answers_numbers (Times f) = true
+answers_numbers (DividedBy f) = true
+answers_numbers (Modulo f) = true
+answers_numbers (Round f) = true
+answers_numbers (Ceil f) = true
+answers_numbers (Floor f) = true
+answers_numbers (Size f) = true
+answers_numbers _ = false
 
 abbrev pub kind_name : FilterKind → Text
 kind_name (Join f) = codes "join"

@@ -1,6 +1,8 @@
 //! The closed choice of filters.
-ghost use Rattle.std.specs.Prelude.{◌≡◌};
-ghost use Rattle.liquid_filters.specs.Kinds.{kind_name};
+ghost use Rattle.std.specs.Prelude.{◌≡◌, IsTrue, length, map};
+ghost use Rattle.liquid_filters.specs.Kinds.{answers_numbers, kind_answer, kind_counts, kind_name};
+ghost use Rattle.liquid_model.specs.Answer.{Answers, TakesNoMemory};
+ghost use Rattle.liquid_model.specs.View.{view};
 
 use crate::{extra, jekyll, shopify, stdlib};
 use liquid_core::{Filter, Result, Value};
@@ -136,8 +138,6 @@ impl FilterKind {
 }
 
 impl Filter for FilterKind {
-    ghost use Rattle.liquid_filters.specs.Kinds.{kind_counts, kind_answer};
-
     ghost counts = { kind_counts };
 
     ghost answer = { kind_answer };
@@ -204,7 +204,11 @@ impl Filter for FilterKind {
         }
     }
 
-    fn evaluate(&self, alloc: Global, input: &Value, args: &[Value]) -> Result<Value> {
+    fn evaluate(&self, alloc: Global, input: &Value, args: &[Value]) -> Result<Value>
+        requires { IsTrue (kind_counts self.now (length args.now)) }
+        ensures answer { Answers view result (kind_answer self.now (view input.now) (map view args.now)) }
+        ensures no_memory { IsTrue (answers_numbers self.now) → TakesNoMemory result (kind_answer self.now (view input.now) (map view args.now)) }
+    {
         match self {
             FilterKind::Join(filter) => filter.evaluate(alloc, input, args),
             FilterKind::Sort(filter) => filter.evaluate(alloc, input, args),

@@ -21,6 +21,7 @@ pub mod Registered
 pub mod RenderEach
 pub mod RenderKinds
 pub mod Renderings
+pub mod Retold
 pub mod Sinks
 pub mod SourceRuns
 pub mod Turning

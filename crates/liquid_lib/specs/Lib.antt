@@ -14,6 +14,7 @@ pub mod Pages
 pub mod Partials
 pub mod Performs
 pub mod Rendered
+pub mod Retold
 pub mod RuntimeView
 pub mod Sinks
 pub mod Standard

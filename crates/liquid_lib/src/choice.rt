@@ -6,13 +6,15 @@ ghost use Rattle.liquid_model.specs.View.{view};
 ghost use Rattle.liquid_core.specs.ExpressionView.{expression_view};
 ghost use Rattle.liquid_core.specs.States.{environment_of};
 ghost use Rattle.liquid_tree.specs.ConditionView.{condition_view};
+ghost use Rattle.liquid_tree.specs.Evaluation.{truth_of};
 ghost use Rattle.liquid_syntax.specs.Flats.{Maker, StandsAt, IsRange, nodes_of};
 ghost use Rattle.liquid_syntax.specs.Forest.{Forest};
 ghost use Rattle.liquid_tree.specs.Tree as tree;
 ghost use Rattle.liquid_lib.specs.Choices.{Meant, ComesTo, NodeComesTo, ListComesTo, CaseStands, IsCase, CaseLeft, equal_among};
 
+use crate::place::located;
 use liquid_core::{Expression, Result, State, Value};
-use liquid_syntax::{Arm, Condition, Node, TwoBodies};
+use liquid_syntax::{Arm, Condition, Node, Position, TwoBodies};
 use std::alloc::Global;
 
 /// The range that the `if` at `at` comes to: its body, where the condition holds, else what the nodes of `else` come to.
@@ -23,6 +25,7 @@ pub(crate) fn chosen_range(
     at: usize,
     condition: &Condition,
     bodies: TwoBodies,
+    positions: &[Position],
     state: &State<'_>,
 ) -> Result<(usize, usize)>
     requires body { IsRange nodes.now (at + 1) bodies.first_end }
@@ -34,7 +37,14 @@ pub(crate) fn chosen_range(
     if condition.holds(alloc, state)? {
         Ok((at + 1, bodies.first_end))
     } else {
-        else_range(alloc, nodes, bodies.first_end, bodies.last_end, state)
+        else_range(
+            alloc,
+            nodes,
+            bodies.first_end,
+            bodies.last_end,
+            positions,
+            state,
+        )
     }
 }
 
@@ -129,6 +139,7 @@ fn else_range(
     nodes: &[Node],
     from: usize,
     to: usize,
+    positions: &[Position],
     state: &State<'_>,
 ) -> Result<(usize, usize)>
     requires { IsRange nodes.now from to }
@@ -139,7 +150,7 @@ fn else_range(
     while at < to {
         match &nodes[at] {
             Node::If(condition, bodies) if bodies.last_end == to => {
-                if condition.holds(alloc, state)? {
+                if elsif_holds(alloc, condition, positions, at, state)? {
                     return Ok((at + 1, bodies.first_end));
                 }
                 at = bodies.first_end;
@@ -148,4 +159,20 @@ fn else_range(
         }
     }
     Ok((at, to))
+}
+
+/// Whether the condition of the `elsif` at an index holds. Its fault stands there, and not at its `if`.
+fn elsif_holds(
+    alloc: Global,
+    condition: &Condition,
+    positions: &[Position],
+    at: usize,
+    state: &State<'_>,
+) -> Result<bool>
+    ensures { Answers (λ b. b) result (truth_of (condition_view condition.now) (environment_of state.now)) }
+{
+    match condition.holds(alloc, state) {
+        Ok(holds) => Ok(holds),
+        Err(fault) => Err(located(alloc, positions, at, fault)),
+    }
 }

@@ -30,6 +30,7 @@ use crate::leaves::{run_assign, run_output, run_raw, run_text};
 use crate::nodes::next_after;
 use crate::output::Output;
 use crate::partial::{include_scope, pairs_scope, partial_called, partial_name, too_deep};
+use crate::place::{in_partial, located};
 use liquid_core::{Expression, Interrupt, NamedFilters, Object, Result, State, Value};
 use liquid_syntax::{Binding, Node, Template};
 use loops::{run_for, run_tablerow};
@@ -59,7 +60,9 @@ pub(crate) fn run_range<'d, W: CountedWrite, H: NamedFilters>(
 {
     let mut at = from;
     while at < to {
-        run_node(alloc, given, nodes, at, to, out, state)?;
+        if let Err(fault) = run_node(alloc, given, nodes, at, to, out, state) {
+            return Err(located(alloc, given.positions, at, fault));
+        }
         if state.interrupt.is_some() {
             return Ok(());
         }
@@ -96,7 +99,7 @@ fn run_node<'d, W: CountedWrite, H: NamedFilters>(
         Node::Raw(text) => run_raw(alloc, given, text.as_str(), out, state),
         Node::Comment => Ok(()),
         Node::If(condition, bodies) => {
-            let chosen = chosen_range(alloc, nodes, at, condition, *bodies, state);
+            let chosen = chosen_range(alloc, nodes, at, condition, *bodies, given.positions, state);
             run_chosen(alloc, given, nodes, at, to, chosen, out, state)
         }
         Node::Unless(condition, bodies) => {
@@ -256,7 +259,8 @@ fn run_include<'d, W: CountedWrite, H: NamedFilters>(
     let called = partial_name(alloc, name, state)?;
     let scope = pairs_scope(alloc, bindings, state)?;
     let partial = partial_called(alloc, given.partials, called.as_str())?;
-    run_partial(alloc, given, partial, scope, out, state)
+    let answer = run_partial(alloc, given, partial, scope, out, state);
+    in_partial(alloc, called.as_str(), answer)
 }
 
 /// Runs a partial over the caller's names, with the pairs in one object as a scope.
@@ -279,7 +283,8 @@ fn run_jekyll_include<'d, W: CountedWrite, H: NamedFilters>(
 {
     let scope = include_scope(alloc, bindings, state)?;
     let partial = partial_called(alloc, given.partials, name)?;
-    run_partial(alloc, given, partial, scope, out, state)
+    let answer = run_partial(alloc, given, partial, scope, out, state);
+    in_partial(alloc, name, answer)
 }
 
 /// Enters a partial, with a scope of its own over the caller's names.
@@ -308,6 +313,7 @@ fn run_partial<'d, W: CountedWrite, H: NamedFilters>(
         partials: given.partials,
         host: given.host,
         depth: given.depth - 1,
+        positions: partial.positions(),
     };
     state.push_scope(scope)?;
     let nodes = partial.nodes();

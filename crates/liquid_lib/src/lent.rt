@@ -42,6 +42,7 @@ pub(crate) fn run_template<W: CountedWrite, H: NamedFilters>(
         partials: given.partials,
         host: given.host,
         depth: given.depth,
+        positions: template.positions(),
     };
     let nodes = template.nodes();
     let answer = run_range(alloc, &inner, nodes, 0, nodes.len(), out, &mut lent);

@@ -21,6 +21,7 @@ mod output;
 mod own_state;
 mod page;
 mod partial;
+mod place;
 mod push_value;
 mod render;
 mod runtime;
@@ -33,7 +34,7 @@ mod write_all;
 
 pub use counted::{Counted, CountedWrite};
 pub use liquid_core::{
-    Error, ErrorKind, Filter, HostFilters, Object, Result, State, Value, ValueCow,
+    Error, ErrorKind, Filter, HostFilters, Location, Object, Origin, Result, State, Value, ValueCow,
 };
 pub use liquid_filters::FilterKind;
 pub use liquid_meaning::{isolation_laws, loop_laws, run_laws, worked_names, worked_runs};

@@ -13,7 +13,7 @@ use crate::counted::NoWriter;
 use crate::given::Given;
 use crate::lent::run_template;
 use crate::output::Output;
-use liquid_core::{Data, ErrorKind, HostFilters, NamedFilters, Object, Result, State};
+use liquid_core::{Data, Error, ErrorKind, HostFilters, NamedFilters, Object, Result, State};
 use liquid_syntax::{Partials, Template};
 use std::alloc::Global;
 use std::collections::BTreeMap;
@@ -23,8 +23,8 @@ use std::collections::BTreeMap;
 pub struct Page {
     /// The text, up to the fault.
     pub text: String,
-    /// The kind of the fault that the run ended by, where there is one.
-    pub fault: Option<ErrorKind>,
+    /// The fault that the run ended by, where there is one.
+    pub fault: Option<Error>,
 }
 
 /// The page of a template in a new run over this data, without filters of a host. The data is lent, so that nothing of it is
@@ -46,6 +46,7 @@ pub fn render_page(
         partials,
         host: &host,
         depth,
+        positions: template.positions(),
     };
     let mut state = state_over(alloc, facts);
     page_of_run(alloc, template, &given, &mut state)
@@ -92,9 +93,9 @@ fn page_of_end(text: String, answer: Result<()>) -> Result<Page>
         Ok(()) => Ok(Page { text, fault: None }),
         Err(error) => match error.kind {
             ErrorKind::Memory => Err(error),
-            kind => Ok(Page {
+            _ => Ok(Page {
                 text,
-                fault: Some(kind),
+                fault: Some(error),
             }),
         },
     }

@@ -2,7 +2,7 @@
 ghost use Rattle.std.specs.Prelude.{map, string_bytes};
 ghost use Rattle.std.specs.Cow.{cow_str_bytes};
 ghost use Rattle.std.specs.Char.{to_ascii_lowercase};
-ghost use Rattle.liquid_model.specs.Answer.{Answers, Gives};
+ghost use Rattle.liquid_model.specs.Answer.{Answers, Gives, TakesNoMemory};
 ghost use Rattle.liquid_model.specs.Data.{text_of};
 ghost use Rattle.liquid_model.specs.View.{view};
 ghost use Rattle.liquid_list_filters.specs.Arguments.{whole_or_fault};
@@ -29,9 +29,10 @@ pub fn text_of<'a>(alloc: Global, value: &'a Value) -> Result<CowStr<'a>>
     }
 }
 
-/// A whole-number argument: the whole number of the value, else `InvalidArgument`.
+/// A whole-number argument: the whole number of the value, else `InvalidArgument`. The fault alone takes memory.
 pub fn whole_argument(alloc: Global, value: &Value) -> Result<i64>
-    ensures { Answers (λ n. n) result (whole_or_fault (view value.now)) }
+    ensures answer { Answers (λ n. n) result (whole_or_fault (view value.now)) }
+    ensures no_memory { TakesNoMemory result (whole_or_fault (view value.now)) }
 {
     match value.to_integer() {
         Some(number) => Ok(number),

@@ -1,3 +1,4 @@
+pub mod Appending
 pub mod Compares
 pub mod Lawful
 pub mod Maps

@@ -1,4 +1,5 @@
 pub mod Answer
+pub mod Appended
 pub mod Compare
 pub mod Cow
 pub mod Data

@@ -1,9 +1,11 @@
 //! Faults: what kind one is, and a message for who reads it.
-ghost use Rattle.std.specs.Prelude.{◌≡◌, Some, IfSome};
-ghost use Rattle.liquid_model.specs.Errors.{HasMessageUnlessMemory, error_text};
-ghost use Rattle.liquid_model.specs.Told.{Told, number_of, name_of};
+ghost use Rattle.std.specs.Prelude.{◌≡◌, ◌⊎◌, false, Some, IfSome};
+ghost use Rattle.std.specs.Option.{option_map};
+ghost use Rattle.liquid_model.specs.Errors.{HasMessageUnlessMemory, error_text, location_text, partial_location_text};
+ghost use Rattle.liquid_model.specs.Told.{Told, is_memory, number_of, name_of};
 ghost use Rattle.liquid_model.specs.declared.error.ErrorKind.TheVariants.{Memory};
 
+use crate::location::Location;
 use std::alloc::{AllocError, AllocFailed, Global};
 use std::fmt;
 
@@ -149,11 +151,14 @@ impl ErrorKind {
     }
 }
 
-/// A fault: its kind, and a message that says what was found and what is wanted (none for `Memory` alone).
+/// A fault: its kind, a message that says what was found and what is wanted (none for `Memory` alone), and where it stands,
+/// where that is known.
 #[derive(Debug, Drop)]
 pub struct Error {
     pub kind: ErrorKind,
     pub message: Option<String>,
+    /// In a box, since most answers are no faults and shouldn't be larger for it.
+    pub location: Option<Box<Location>>,
 }
 
 impl Error {
@@ -176,6 +181,7 @@ impl Error {
         Error {
             kind,
             message: Some(message),
+            location: None,
         }
     }
 
@@ -190,6 +196,59 @@ impl Error {
             Err(refused) => Error::from(refused),
         }
     }
+
+    /// The same fault with where it stands. One that says where it stands already keeps that. `Memory`, without a message, where
+    /// there is no room for the location.
+    pub fn located(self, alloc: Global, location: Location) -> Error
+        ensures told { Told self.kind result.kind }
+        ensures whole { is_memory result.kind ≡ false → (result.message ≡ self.message) × IfSome result.location (λ told. (self.location ≡ Some told) ⊎ (told.value ≡ location)) }
+        ensures kept { IfSome self.location (λ known. result ≡ self) }
+    {
+        if self.location.is_some() {
+            return self;
+        }
+        match Box::new(alloc, location) {
+            Ok(location) => Error {
+                kind: self.kind,
+                message: self.message,
+                location: Some(location),
+            },
+            Err(refused) => Error::from(refused),
+        }
+    }
+
+    /// The same fault, told by the partial of this name: where it stands in the partial's own text, its location says so now.
+    /// `Memory`, without a message, where there is no room for that.
+    pub fn in_partial(self, alloc: Global, name: &str) -> Error
+        ensures told { Told self.kind result.kind }
+        ensures message { is_memory result.kind ≡ false → result.message ≡ self.message }
+        ensures location { is_memory result.kind ≡ false → option_map (λ l. location_text l.value) result.location ≡ option_map (λ l. partial_location_text name.now l.value) self.location }
+    {
+        let Error {
+            kind,
+            message,
+            location,
+        } = self;
+        let Some(location) = location else {
+            return Error {
+                kind,
+                message,
+                location: None,
+            };
+        };
+        let moved = match Box::into_inner(location).in_partial(alloc, name) {
+            Ok(moved) => moved,
+            Err(refused) => return Error::from(refused),
+        };
+        match Box::new(alloc, moved) {
+            Ok(location) => Error {
+                kind,
+                message,
+                location: Some(location),
+            },
+            Err(refused) => Error::from(refused),
+        }
+    }
 }
 
 /// The name of the kind.
@@ -201,15 +260,18 @@ impl fmt::Display for ErrorKind {
     }
 }
 
-/// `KIND: MESSAGE`, or the kind alone where there is no message.
+/// `KIND: LOCATION: MESSAGE`, without the parts that the fault doesn't have.
 impl fmt::Display for Error {
     ghost output = { λ e. Some (error_text e) };
 
     fn fmt<W: fmt::Write>(&self, f: &mut fmt::Formatter<W>) -> fmt::Result {
-        let kind = self.kind;
+        f.write_str(self.kind.name())?;
+        if let Some(location) = &self.location {
+            write!(f, ": {location}")?;
+        }
         match &self.message {
-            Some(message) => write!(f, "{kind}: {message}"),
-            None => write!(f, "{kind}"),
+            Some(message) => write!(f, ": {message}"),
+            None => Ok(()),
         }
     }
 }
@@ -223,6 +285,7 @@ impl From<AllocError> for Error {
         Error {
             kind: ErrorKind::Memory,
             message: None,
+            location: None,
         }
     }
 }
@@ -234,6 +297,7 @@ impl<T: Drop> From<AllocFailed<T>> for Error {
         Error {
             kind: ErrorKind::Memory,
             message: None,
+            location: None,
         }
     }
 }

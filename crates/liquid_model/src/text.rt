@@ -29,13 +29,6 @@ impl Value {
     {
         Ok(self.to_string(alloc)?)
     }
-
-    /// Appends the text of the value to `out`. Where there is no memory, a beginning of it may stand there.
-    pub fn append_text(&self, out: &mut String) -> Result<()>
-        ensures { Gives (λ _. string_bytes out.new) result (string_bytes out.old ++ text_of (view self.now)) }
-    {
-        Ok(write!(out, "{self}")?)
-    }
 }
 
 /// Writes the text of a value: nothing for nil, and of a list or a map the texts of its parts, one behind the other. Where

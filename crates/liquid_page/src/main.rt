@@ -2,12 +2,14 @@
 #![tactic(auto)]
 
 mod buffered;
+mod excerpt;
 mod outcome;
 mod page;
 mod words;
 
+use crate::excerpt::Excerpt;
 use crate::outcome::Outcome;
-use crate::page::{Texts, Unreadable, page};
+use crate::page::{ReadTexts, Texts, Unreadable, page};
 pub use liquid_site::{data_from_json, run};
 use std::alloc::AllocError;
 use std::process::ExitCode;
@@ -30,22 +32,40 @@ impl<'r> Texts for Files<'r> {
 }
 
 fn main(rt: HostRuntime) -> ExitCode {
-    let outcome = outcome_of(&rt);
+    let (outcome, read) = outcome_of(&rt);
     let status = outcome.status();
     if status != 0 {
         let _ = eprintln!(rt; "{outcome}");
     }
+    if let Some(excerpt) = excerpt_of(&outcome, &read) {
+        let _ = eprintln!(rt; "{excerpt}");
+    }
     ExitCode::from(status)
 }
 
-fn outcome_of(rt: &HostRuntime) -> Outcome {
+/// How the call ended, and the texts that it read.
+fn outcome_of(rt: &HostRuntime) -> (Outcome, Option<ReadTexts>) {
     let words = match words_given(rt) {
         Ok(words) => words,
-        Err(outcome) => return outcome,
+        Err(outcome) => return (outcome, None),
     };
     let mut files = Files { rt };
-    let (_, outcome) = page(rt.alloc(), &words, &mut files, io::writer(rt));
-    outcome
+    let (_, outcome, read) = page(rt.alloc(), &words, &mut files, io::writer(rt));
+    (outcome, read)
+}
+
+/// The line that the fault stands in, where it says where it stands. It takes no memory.
+fn excerpt_of<'t>(outcome: &Outcome, read: &'t Option<ReadTexts>) -> Option<Excerpt<'t>> {
+    let Outcome::Fault(fault) = outcome else {
+        return None;
+    };
+    let Some(location) = &fault.location else {
+        return None;
+    };
+    let Some(texts) = read else {
+        return None;
+    };
+    Excerpt::new(texts.text_of(&location.origin)?, location)
 }
 
 /// The words behind the program's own. A word that isn't UTF-8 makes no call.

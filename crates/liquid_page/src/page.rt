@@ -1,5 +1,5 @@
 //! From the words of a call to its page.
-ghost use Rattle.std.specs.Prelude.{◌≡◌, [], None, Option, false, IfSome, map, string_bytes};
+ghost use Rattle.std.specs.Prelude.{◌≡◌, [], None, Ok, Option, false, IfSome, map, string_bytes};
 ghost use Rattle.liquid_lib.specs.Performs.{is_refused};
 ghost use Rattle.liquid_page.specs.Files.{Files, Ends, Finds, Leaves, sources_from, text_at, texts_at, texts_of};
 ghost use Rattle.liquid_page.specs.Read.{IsTextOf, read_view};
@@ -10,7 +10,7 @@ ghost use Rattle.liquid_site.specs.Page.{sources_of};
 use crate::buffered::Buffered;
 use crate::outcome::Outcome;
 use crate::words::{Call, call_of};
-use liquid_core::{Error, ErrorKind, Result};
+use liquid_core::{Error, ErrorKind, Origin, Result};
 use liquid_lib::Counted;
 use liquid_site::run;
 use std::alloc::{AllocError, Global};
@@ -38,23 +38,49 @@ pub trait Texts {
 
 /// The texts that a call names.
 #[derive(Drop)]
-struct ReadTexts {
-    template: String,
-    data: String,
-    partials: Vec<(String, String)>,
+pub struct ReadTexts {
+    pub template: String,
+    pub data: String,
+    pub partials: Vec<(String, String)>,
+}
+
+impl ReadTexts {
+    /// The text that a location is in. A partial that is rendered may be found by its name with `.liquid`.
+    pub fn text_of(&self, origin: &Origin) -> Option<&str> {
+        match origin {
+            Origin::Template => Some(self.template.as_str()),
+            Origin::Data => Some(self.data.as_str()),
+            Origin::Partial(name) => match self.partial(name.as_str(), "") {
+                Some(text) => Some(text),
+                None => self.partial(name.as_str(), ".liquid"),
+            },
+        }
+    }
+
+    /// The last of the partials that have this name with this ending.
+    fn partial(&self, name: &str, ending: &str) -> Option<&str> {
+        let mut found = None;
+        for (known, text) in &self.partials {
+            if known.as_str().strip_suffix(ending) == Some(name) {
+                found = Some(text.as_str());
+            }
+        }
+        found
+    }
 }
 
 /// Judges the words, then reads the files in order, and then writes the page. It gives the writer back, which holds what it
 /// held and the page behind it. Where the writer refuses it holds a beginning of that, and where memory runs out too; no
-/// more than it held, where no page is begun.
+/// more than it held, where no page is begun. With it come how the call ended, and the texts, where all were read.
 pub fn page<T: Texts, W: Write + Drop>(
     alloc: Global,
     words: &[String],
     texts: &mut T,
     writer: W,
-) -> (W, Outcome)
+) -> (W, Outcome, Option<ReadTexts>)
     ensures page { IfSome (T.known texts.old) (λ files. Ends (texts_of files (map string_bytes words.now)) result.1 (W.contents writer) (W.contents result.0)) }
     ensures begun { IfSome (T.known texts.old) (λ files. Leaves (texts_of files (map string_bytes words.now)) (W.contents writer) (W.contents result.0)) }
+    ensures read { IfSome (T.known texts.old) (λ files. IfSome result.2 (λ read. texts_of files (map string_bytes words.now) ≡ Ok (read_view read))) }
 {
     match read_call(alloc, words, texts) {
         Ok(read) => {
@@ -65,12 +91,13 @@ pub fn page<T: Texts, W: Write + Drop>(
                 &read.partials,
                 writer,
             );
-            match answer {
-                Ok(()) => (writer, Outcome::Done),
-                Err(fault) => (writer, Outcome::Fault(fault)),
-            }
+            let outcome = match answer {
+                Ok(()) => Outcome::Done,
+                Err(fault) => Outcome::Fault(fault),
+            };
+            (writer, outcome, Some(read))
         }
-        Err(outcome) => (writer, outcome),
+        Err(outcome) => (writer, outcome, None),
     }
 }
 
@@ -113,7 +140,11 @@ fn read_partials<T: Texts>(
 {
     let mut sources = Vec::new(alloc);
     for (name, path) in partials {
-        let source = text_of(alloc, path, texts)?;
+        // No `?`, since the prover doesn't find its way out through the conversion of the error.
+        let source = match text_of(alloc, path, texts) {
+            Ok(source) => source,
+            Err(outcome) => return Err(outcome),
+        };
         sources.push((String::from_str(alloc, name)?, source))?;
     }
     Ok(sources)

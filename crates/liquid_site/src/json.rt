@@ -8,7 +8,7 @@ ghost use Rattle.serde_json.specs.View.{view as json_view, items_view as json_it
 use crate::json_place::{bytes_left, no_json, with_place};
 use liquid_core::{Error, ErrorKind, Object, Result, Value};
 use serde_json::Map;
-use std::alloc::Global;
+use std::alloc::{AllocError, Global};
 use std::collections::BTreeMap;
 
 /// The data that a text of JSON gives: an object without any number that isn't whole.
@@ -21,10 +21,7 @@ pub fn data_from_json(alloc: Global, text: &str) -> Result<Object>
             Err(error) => Err(with_place(alloc, text, error)),
         },
         Err(refused) => if refused.is_memory() {
-            Err(Error {
-                kind: ErrorKind::Memory,
-                message: None,
-            })
+            Err(Error::from(AllocError))
         } else {
             let left = bytes_left(text, refused.line(), refused.column());
             Err(no_json(alloc, text, left))

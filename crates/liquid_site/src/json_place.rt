@@ -2,7 +2,7 @@
 //! fault pays nothing.
 ghost use Rattle.liquid_model.specs.Told.{Told};
 
-use liquid_core::{Error, ErrorKind, whole_of};
+use liquid_core::{Error, ErrorKind, Location, Origin, whole_of};
 use liquid_source::excerpt;
 use std::alloc::{AllocError, Global};
 
@@ -11,47 +11,44 @@ pub fn no_json(alloc: Global, text: &str, left: usize) -> Error
     ensures { Told ErrorKind.InvalidInput result.kind }
 {
     match found_there(alloc, text, left) {
-        Ok(found) => Error::with_message(ErrorKind::InvalidInput, found),
+        Ok(found) => Error::with_message(ErrorKind::InvalidInput, found).located(
+            alloc,
+            location(text, left),
+        ),
         Err(refused) => Error::from(refused),
     }
 }
 
 fn found_there(alloc: Global, text: &str, left: usize) -> Result<String, AllocError> {
-    let (before, rest) = at_left(text, left);
-    let (line, column) = behind(before);
+    let (_, rest) = at_left(text, left);
     let found = excerpt(alloc, rest.split_whitespace().next().unwrap_or(""))?;
     if found.is_empty() {
-        return format!(in alloc;
-            "in the data: line {line}, column {column}: the data ends where JSON goes on"
-        );
+        return String::from_str(alloc, "the data ends where JSON goes on");
     }
-    format!(in alloc;
-        "in the data: line {line}, column {column}: found `{found}`, which is no JSON there"
-    )
+    format!(in alloc; "found `{found}`, which is no JSON there")
 }
 
-/// The fault of data that is JSON, with its place before its message: a number that isn't whole, or else its first value.
+/// The fault of data that is JSON, with where it stands: at a number that isn't whole, or else at the first value.
 pub fn with_place(alloc: Global, text: &str, error: Error) -> Error
     ensures { Told error.kind result.kind }
 {
-    let Error { kind, message } = error;
-    let Some(message) = message else {
-        return Error {
-            kind,
-            message: None,
-        };
-    };
-    let left = match kind {
+    let left = match error.kind {
+        ErrorKind::Memory => return error,
         ErrorKind::Float => past_whole_numbers(text).len(),
         _ => text.trim_start().len(),
     };
+    error.located(alloc, location(text, left))
+}
+
+/// Where the place with so many bytes left is.
+fn location(text: &str, left: usize) -> Location {
     let (before, _) = at_left(text, left);
     let (line, column) = behind(before);
-    Error::formatted(
-        alloc,
-        kind,
-        format_args!("in the data: line {line}, column {column}: {message}"),
-    )
+    Location {
+        origin: Origin::Data,
+        line,
+        column,
+    }
 }
 
 /// The text before the place with so many bytes left, and from it on.

@@ -1,7 +1,6 @@
 //! A page of its texts: a template, data and partials.
 ghost use Rattle.std.specs.Prelude.{◌≡◌, ◌<◌, ◌⊎◌, [], false, IfErr, IsErrAnd, string_bytes};
 ghost use Rattle.std.specs.Io.KnownBytes.{Appends};
-ghost use Rattle.liquid_model.specs.Told.{Told};
 ghost use Rattle.liquid_syntax.specs.Parsing.{MayRefuse, ParsesTo};
 ghost use Rattle.liquid_lib.specs.Added.{AppendsPart};
 ghost use Rattle.liquid_lib.specs.Failures.{OneFailed, AtMostOneFailed};
@@ -29,9 +28,8 @@ struct ReadTexts {
 /// Writes the page of a template, of data in JSON, and of partials by name, of which the later of one name wins.
 ///
 /// The template is parsed, then the data is read, then the partials are parsed in their order; the first that isn't read is
-/// the answer, and nothing is written: a kind of a source, or `InvalidInput` or `Float` of the data. The message of a
-/// partial's fault says which partial it is. Then the page is
-/// rendered in a new runtime, with at most 32 nested partials: the answer is its first fault, and what was written is the
+/// the answer, and nothing is written: a kind of a source, or `InvalidInput` or `Float` of the data. A partial's
+/// fault says which partial it stands in. Then the page is rendered in a new runtime, with at most 32 nested partials: the answer is its first fault, and what was written is the
 /// text up to there. `Memory` where a growth was refused, and `Write` where a write failed or took nothing: then a
 /// beginning of the text is written, and no failed write is tried again.
 pub fn run<W: CountedWrite>(
@@ -89,32 +87,14 @@ fn read_partials(
     Ok(partials)
 }
 
-/// The template of a partial. The message of its fault says which partial it is.
+/// The template of a partial. Its fault says which partial it stands in.
 fn read_partial(alloc: Global, language: &Language, name: &str, source: &str) -> Result<Template>
     ensures parses { ParsesTo language.now source.now result }
     ensures kinds { IfErr result (λ e. MayRefuse e.kind) }
 {
     match parse(alloc, source, language) {
         Ok(template) => Ok(template),
-        Err(error) => Err(told_of(alloc, name, error)),
-    }
-}
-
-/// The fault of a partial, with the partial's name before its message.
-fn told_of(alloc: Global, name: &str, error: Error) -> Error
-    ensures { Told error.kind result.kind }
-{
-    let Error { kind, message } = error;
-    match message {
-        Some(message) => Error::formatted(
-            alloc,
-            kind,
-            format_args!("in the partial `{name}`: {message}"),
-        ),
-        None => Error {
-            kind,
-            message: None,
-        },
+        Err(error) => Err(error.in_partial(alloc, name)),
     }
 }
 

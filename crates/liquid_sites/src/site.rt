@@ -35,6 +35,7 @@ impl Site {
     ghost use Rattle.liquid_model.specs.Answer.{Gives};
     ghost use Rattle.liquid_model.specs.Maps.{listed};
     ghost use Rattle.liquid_model.specs.View.{view};
+    ghost use Rattle.liquid_core.specs.Held.{held};
     ghost use Rattle.liquid_syntax.specs.Entries.{put, exchanged};
     ghost use Rattle.liquid_syntax.specs.Templates.{tree_of, places_of};
     ghost use Rattle.liquid_sites.specs.Applied.{Applies};
@@ -57,6 +58,31 @@ impl Site {
             pages: BTreeMap::new(alloc),
             rendered: 0,
         }
+    }
+
+    /// A site over this data, without pages and partials, of so many nested partials. It takes no memory.
+    pub fn over(alloc: Global, language: Language, depth: u32, facts: Object) -> Site
+        ensures contents { contents_of result ≡ record (no_contents depth) { facts = held facts } }
+        ensures language { language_of result ≡ language }
+        ensures rendered { count_of result ≡ 0 }
+    {
+        Site {
+            alloc,
+            language,
+            depth,
+            templates: BTreeMap::new(alloc),
+            partials: Partials::new(alloc),
+            facts,
+            pages: BTreeMap::new(alloc),
+            rendered: 0,
+        }
+    }
+
+    /// The data.
+    pub fn facts(&self) -> &Object
+        ensures { held result.now ≡ (contents_of self.now).facts }
+    {
+        &self.facts
     }
 
     /// The pages by name: what rendering all of them from nothing would show.

@@ -60,7 +60,7 @@ fn read_range(alloc: Global, text: &str) -> Result<(Item, &str), ParseError>
 
 /// The item at the front, and what follows it.
 #[tactic(auto, unfolding(crate::specs::ItemReading::item_at))]
-fn read_item<'s>(alloc: Global, text: &'s str) -> Result<(Item<'s>, &'s str), ParseError>
+pub(crate) fn read_item<'s>(alloc: Global, text: &'s str) -> Result<(Item<'s>, &'s str), ParseError>
     ensures { Parses (λ x. (item_view x.0, x.1.now)) result (item_at text.now) }
 {
     if let Some((symbol, rest)) = read_symbol(text) {

@@ -43,7 +43,7 @@ pub enum Body {
     Comment,
 }
 
-fn opener(text: &str) -> Option<(Delimiter, &str)>
+pub(crate) fn opener(text: &str) -> Option<(Delimiter, &str)>
     ensures { option_map (λ x. (x.0, x.1.now)) result ≡ opener_at text.now }
 {
     if let Some(rest) = past_byte(text, b'{') {

@@ -1,7 +1,7 @@
 //! The items of a piece, taken off the front one after another.
-ghost use Rattle.std.specs.Prelude.{◌≡◌, ◌≤◌, ◌<◌, nat_eq, length, map, option_map, string_bytes, MatchBool, ⊤, Bool};
+ghost use Rattle.std.specs.Prelude.{◌≡◌, ◌≤◌, ◌<◌, nat_eq, is_some, length, map, option_map, string_bytes, MatchBool, ⊤, Bool};
 ghost use Rattle.liquid_core.specs.ExpressionView.{expression_view};
-ghost use Rattle.liquid_source.specs.Tokens.{Token, tokens_view, value_first, word_first, word_in, token_of, is_symbol, is_word, is_that};
+ghost use Rattle.liquid_source.specs.Tokens.{Token, tokens_view, value_first, word_first, word_in, word_of, token_of, is_symbol, is_word, is_that};
 ghost use Rattle.liquid_source.specs.PieceView.{item_view};
 ghost use Rattle.liquid_source.specs.TokenReading.{Skips, SkipsWord};
 
@@ -17,11 +17,14 @@ pub fn is_over(items: &VecDeque<Item<'_>>) -> bool
     items.is_empty()
 }
 
-/// Takes the value at the front, if one stands there.
+/// Takes the value at the front, if one stands there; else takes nothing.
 pub fn next_value(items: &mut VecDeque<Item<'_>>) -> Option<Expression>
     ensures value { option_map (λ x. (expression_view x, tokens_view items.new.items)) result ≡ value_first (tokens_view items.old.items) }
     ensures shorter { length items.new.items ≤ length items.old.items }
 {
+    if !matches!(items.front()?, Item::Value(_, _)) {
+        return None;
+    }
     match items.pop_front()? {
         Item::Value(value, _) => Some(value),
         Item::Range(_, _) => None,
@@ -42,12 +45,41 @@ fn word_in(value: Expression) -> Option<String>
     }
 }
 
-/// Takes the value at the front, and answers the word that it is, if it is one.
+/// Takes the word at the front, if one stands there; else takes nothing.
 pub fn next_word(items: &mut VecDeque<Item<'_>>) -> Option<String>
     ensures value { option_map (λ w. (string_bytes w, tokens_view items.new.items)) result ≡ word_first (tokens_view items.old.items) }
     ensures shorter { length items.new.items ≤ length items.old.items }
 {
+    if !is_any_word(items.front()?) {
+        return None;
+    }
     word_in(next_value(items)?)
+}
+
+/// Whether the item is a word.
+fn is_any_word(item: &Item<'_>) -> bool
+    ensures { result ≡ is_some (word_of (token_of (item_view item.now))) }
+{
+    match item {
+        Item::Value(value, _) => is_one_word(value),
+        Item::Range(_, _) => false,
+        Item::Symbol(_) => false,
+    }
+}
+
+/// Whether the expression is a word.
+fn is_one_word(value: &Expression) -> bool
+    ensures { result ≡ is_some (word_in (expression_view value.now)) }
+{
+    match value {
+        Expression::Literal(_) => false,
+        Expression::Variable(variable) => {
+            if !variable.indexes.is_empty() {
+                return false;
+            }
+            true
+        }
+    }
 }
 
 fn is_symbol(item: &Item<'_>, wanted: Symbol) -> bool

@@ -14,9 +14,14 @@ use Rattle.liquid_syntax.specs.Flats.{Maker, flats, nodes_of}
 use Rattle.liquid_syntax.specs.declared.node.Node.{Node}
 use Rattle.liquid_syntax.specs.declared.template.Template.{Template}
 use Rattle.liquid_syntax.specs.declared.partials.Partials.{Partials}
+use Rattle.liquid_syntax.specs.declared.positions.Position.{Position}
 
 abbrev pub list_of : Template → List Node
 list_of t = t.nodes.items
+
+-- where each of them begins in the source, which nothing else depends on
+abbrev pub positions_of : Template → List Position
+positions_of t = t.positions.items
 
 abbrev pub forest_of : Template → Forest Maker
 forest_of t = laid.tree_of (flats t.nodes.items)

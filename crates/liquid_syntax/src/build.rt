@@ -12,6 +12,7 @@ ghost use Rattle.liquid_syntax.specs.declared.build.Stage.TheVariants as stages;
 use crate::block::{Block, Place};
 use crate::faults::{missing_end, no_body, too_nested};
 use crate::node::{Arm, Node};
+use crate::positions::Position;
 use crate::template::Template;
 use liquid_core::Expression;
 use liquid_source::ParseError;
@@ -283,13 +284,16 @@ impl Builder {
         }
     }
 
-    /// The template, where no block is open.
-    pub fn finish(self) -> Result<Template, ParseError>
+    /// The template, where no block is open. The positions are those of the nodes.
+    pub fn finish(self, positions: Vec<Position>) -> Result<Template, ParseError>
         requires { IsBuilt self }
         ensures { (ls : List Level) (cur : Nodes) → IsBuilding self ls cur → Finishes (at_end ls cur) result }
     {
         match self.blocks.last() {
-            None => Ok(Template { nodes: self.nodes }),
+            None => Ok(Template {
+                nodes: self.nodes,
+                positions,
+            }),
             Some(open) => Err(ParseError::Fault(missing_end(open.block))),
         }
     }

@@ -33,7 +33,7 @@ pub fn read_chain(
 {
     let mut items = items;
     let Some(entry) = next_value(&mut items) else {
-        return Err(expected(at, "a value"));
+        return Err(expected(at, items.len(), "a value"));
     };
     let filters = read_filters(alloc, filters, &mut items, at)?;
     Ok(FilterChain { entry, filters })
@@ -52,10 +52,10 @@ fn read_filters(
     let mut filters = Vec::new(alloc);
     'filters: while !is_over(items) {
         if !skip(items, Symbol::Bar) {
-            return Err(expected(at, "`|` or the end of the chain"));
+            return Err(expected(at, items.len(), "`|` or the closer"));
         }
         let Some(name) = next_word(items) else {
-            return Err(expected(at, "the name of a filter"));
+            return Err(expected(at, items.len(), "the name of a filter"));
         };
         let arguments = read_arguments(alloc, items, at)?;
         filters.push(accepted(known, name, arguments, at)?)?;
@@ -118,7 +118,7 @@ fn read_arguments(
     }
     'arguments: loop {
         let Some(argument) = next_value(items) else {
-            return Err(expected(at, "an argument of the filter"));
+            return Err(expected(at, items.len(), "an argument of the filter"));
         };
         arguments.push(argument)?;
         if !skip(items, Symbol::Comma) {
@@ -127,10 +127,15 @@ fn read_arguments(
     }
 }
 
-/// The fault that another item is wanted in the piece.
-pub fn expected(at: &str, wanted: &'static str) -> ParseError
+/// The fault that something else is wanted in the piece, at the item from which on so many of its items are left.
+pub fn expected(at: &str, items_left: usize, wanted: &'static str) -> ParseError
     ensures kind { IsOfKind FaultKind.Expected result }
     ensures place { IsAt (length at.now) result }
 {
-    ParseError::Fault(Fault::new(FaultKind::Expected, at, wanted))
+    ParseError::Fault(Fault {
+        kind: FaultKind::Expected,
+        left: at.len(),
+        wanted,
+        items_left,
+    })
 }

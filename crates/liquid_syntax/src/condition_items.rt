@@ -34,7 +34,7 @@ pub fn read_condition(
             return Ok(Condition { conjunctions });
         }
         if !skip_word(&mut items, "or") {
-            return Err(expected(at, "`and`, `or` or the end of the condition"));
+            return Err(expected(at, items.len(), "`and`, `or` or the closer"));
         }
     }
 }
@@ -68,13 +68,13 @@ fn read_atom(items: &mut VecDeque<Item<'_>>, at: &str) -> Result<Atom, ParseErro
     ensures place { FaultsAt (length at.now) result }
 {
     let Some(left) = next_value(items) else {
-        return Err(expected(at, "a value"));
+        return Err(expected(at, items.len(), "a value"));
     };
     let Some(operator) = next_operator(items) else {
         return Ok(Atom::Bare(left));
     };
     let Some(right) = next_value(items) else {
-        return Err(expected(at, "the value to compare with"));
+        return Err(expected(at, items.len(), "a value to compare with"));
     };
     Ok(Atom::Compared(left, operator, right))
 }

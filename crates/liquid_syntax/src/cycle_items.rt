@@ -28,7 +28,7 @@ pub fn read_cycle(
 {
     let mut items = items;
     let Some(first) = next_value(&mut items) else {
-        return Err(expected(at, "a value"));
+        return Err(expected(at, items.len(), "a value"));
     };
     if skip(&mut items, Symbol::Colon) {
         return read_named(alloc, first, items, at);
@@ -50,7 +50,12 @@ fn read_named(
     ensures place { FaultsAt (length at.now) result }
 {
     if !is_name(&name) {
-        return Err(expected(at, "an identifier or a literal before `:`"));
+        let from_name = items.len().saturating_add(2);
+        return Err(expected(
+            at,
+            from_name,
+            "a name without steps, a text or a number before `:`",
+        ));
     }
     let values = read_any_values(alloc, items, at)?;
     let group = named_group(alloc, &name, &values)?;

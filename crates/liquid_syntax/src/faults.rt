@@ -16,6 +16,7 @@ pub(crate) fn no_body(left: usize) -> Fault
         kind: FaultKind::UnknownTag,
         left,
         wanted: "the start of a block",
+        items_left: 0,
     }
 }
 
@@ -28,6 +29,7 @@ pub(crate) fn too_nested(left: usize) -> ParseError
         kind: FaultKind::TooNested,
         left,
         wanted: "at most 200 blocks in one another",
+        items_left: 0,
     })
 }
 
@@ -41,5 +43,6 @@ pub(crate) fn missing_end(block: Block) -> Fault
         kind: FaultKind::MissingEnd,
         left: 0,
         wanted: end_tag(block),
+        items_left: 0,
     }
 }

@@ -149,7 +149,7 @@ fn read_end(items: VecDeque<Item<'_>>, at: &str) -> Result<Label, ParseError>
     if items.is_empty() {
         Ok(Label::Ends)
     } else {
-        Err(expected(at, "an end without items"))
+        Err(expected(at, items.len(), "the closer"))
     }
 }
 

@@ -49,6 +49,9 @@ pub(crate) fn next_source(items: &mut VecDeque<Item<'_>>) -> Option<RangeExpress
     ensures value { option_map (λ s. (source_view s, tokens_view items.new.items)) result ≡ source_first (tokens_view items.old.items) }
     ensures shorter { length items.new.items ≤ length items.old.items }
 {
+    if matches!(items.front()?, Item::Symbol(_)) {
+        return None;
+    }
     match items.pop_front()? {
         Item::Value(value, _) => Some(RangeExpression::Array(value)),
         Item::Range(first, last) => Some(RangeExpression::Counted(first, last)),
@@ -65,6 +68,14 @@ fn behind_colon(items: &mut VecDeque<Item<'_>>) -> Option<Expression>
         return None;
     }
     next_value(items)
+}
+
+/// What may stand behind a loop's source.
+fn part_wanted(kind: LoopKind) -> &'static str {
+    match kind {
+        LoopKind::Each => "`limit: 1`, `offset: 1`, `reversed` or the closer",
+        LoopKind::Rows => "`cols: 1`, `limit: 1`, `offset: 1` or the closer",
+    }
 }
 
 /// Takes the part at the front, if one stands there that the loop may have.
@@ -120,13 +131,13 @@ pub fn read_loop(items: VecDeque<Item<'_>>, kind: LoopKind, at: &str) -> Result<
 {
     let mut items = items;
     let Some(variable) = next_word(&mut items) else {
-        return Err(expected(at, "the name of a variable"));
+        return Err(expected(at, items.len(), "the name of a variable"));
     };
     if !skip_word(&mut items, "in") {
-        return Err(expected(at, "`in` behind the name"));
+        return Err(expected(at, items.len(), "`in`"));
     }
     let Some(source) = next_source(&mut items) else {
-        return Err(expected(at, "what the loop goes over"));
+        return Err(expected(at, items.len(), "a list or a range"));
     };
     let mut read = Loop {
         variable,
@@ -140,7 +151,7 @@ pub fn read_loop(items: VecDeque<Item<'_>>, kind: LoopKind, at: &str) -> Result<
     };
     'parts: while !is_over(&items) {
         let Some(part) = next_part(&mut items, kind) else {
-            return Err(expected(at, "a part of the loop"));
+            return Err(expected(at, items.len(), part_wanted(kind)));
         };
         read.set(part);
     }

@@ -44,6 +44,14 @@ fn is_separated(style: PairStyle) -> bool
     }
 }
 
+/// What a pair is to look like.
+fn pair_wanted(style: PairStyle) -> &'static str {
+    match style {
+        PairStyle::Include | PairStyle::Render => "`, name: value`",
+        PairStyle::JekyllInclude => "`name=value`",
+    }
+}
+
 /// Takes a name, the symbol and a value off the front, if they stand there.
 pub(crate) fn next_pair(items: &mut VecDeque<Item<'_>>, symbol: Symbol) -> Option<Binding>
     ensures value { option_map (λ p. (binding_view p, tokens_view items.new.items)) result ≡ pair_first symbol (tokens_view items.old.items) }
@@ -102,7 +110,7 @@ pub(crate) fn read_pairs(
     let mut pairs = first;
     'pairs: while !ends_pairs(&items, style) {
         let Some(pair) = next_of(&mut items, style) else {
-            return Err(expected(at, "a name and its value"));
+            return Err(expected(at, items.len(), pair_wanted(style)));
         };
         pairs.push(pair)?;
     }

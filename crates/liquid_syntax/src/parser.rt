@@ -4,19 +4,23 @@ ghost use Rattle.liquid_source.specs.Readers.{TellsOf};
 ghost use Rattle.liquid_syntax.specs.Parsing.{MayRefuse, ParsesTo, ReadsTo};
 
 use crate::build::Builder;
+use crate::explain::explain;
 use crate::faults::too_nested;
-use crate::hint::hint;
 use crate::judge::{body_behind, judge, opens};
 use crate::language::Language;
+use crate::positions::Positions;
 use crate::template::Template;
 use liquid_core::{Error, Result};
-use liquid_source::{ParseError, past_byte, read_body, read_markup, stripped, text_before};
-use std::alloc::Global;
+use liquid_source::{
+    ParseError, location, past_byte, read_body, read_markup, stripped, text_before,
+};
+use std::alloc::{AllocError, Global};
 
 /// The template that a source is, in a language.
 ///
-/// The pieces are read and judged from left to right, and the first fault is the answer, with a message that says where it
-/// stands (line and column in characters, each from 1), what is found there and what is wanted. The kinds are:
+/// The pieces are read and judged from left to right, and the first fault is the answer, with its location (line and column in
+/// characters, each from 1) and a message that says what is found there and what is wanted, or what to write instead. A block
+/// without its end is told where it opens, and so is an output or a tag without its closer. The kinds are:
 /// `Unclosed`, `BadItem`, `NumberLiteral`, `FloatLiteral` and `StateWord` of items; `Expected`, `UnknownTag`,
 /// `UnknownFilter` and `FilterArguments` of outputs and tags; `MissingEnd` and `TooNested` of blocks. `Memory` where there
 /// is no room for the nodes or for a fault's message.
@@ -30,15 +34,18 @@ pub fn parse(alloc: Global, source: &str, language: &Language) -> Result<Templat
     }
 }
 
-/// The error that tells why the source could not be read, and of an unknown name which it is.
+/// The error that tells why the source could not be read: which fault it has, where, and what to write instead.
 fn told(alloc: Global, source: &str, language: &Language, error: ParseError) -> Error
     ensures { TellsOf error result.kind }
 {
     match error {
-        ParseError::Memory => ParseError::Memory.tell(alloc, source, ""),
-        ParseError::Fault(fault) => match hint(alloc, source, language, fault) {
-            Ok(more) => ParseError::Fault(fault).tell(alloc, source, more.as_str()),
-            Err(_) => ParseError::Memory.tell(alloc, source, ""),
+        ParseError::Memory => Error::from(AllocError),
+        ParseError::Fault(fault) => match explain(alloc, source, language, fault) {
+            Ok(told) => Error::with_message(fault.kind.kind(), told.message).located(
+                alloc,
+                location(source, told.left),
+            ),
+            Err(refused) => Error::from(refused),
         },
     }
 }
@@ -51,16 +58,19 @@ fn read_template(
     ensures { ReadsTo language.now source.now result }
 {
     let mut builder = Builder::new(alloc);
+    let mut positions = Positions::new(alloc, source);
     let mut front = false;
     let mut rest = source;
     'pieces: loop {
         let (text, behind) = text_before(rest);
         let Some(inside) = past_byte(behind, b'{') else {
             builder.text(alloc, stripped(front, text, false))?;
-            return builder.finish();
+            positions.mark(rest.len(), builder.nodes.len())?;
+            return builder.finish(positions.nodes);
         };
         let (markup, after) = read_markup(alloc, inside)?;
         builder.text(alloc, stripped(front, text, markup.before))?;
+        positions.mark(rest.len(), builder.nodes.len())?;
         let place = builder.place();
         let body = body_behind(language, place, &markup.piece);
         let (markup, after) = read_body(body, markup, after)?;
@@ -69,6 +79,7 @@ fn read_template(
         }
         let label = judge(alloc, language, place, markup.piece, behind)?;
         builder.add(label, behind.len())?;
+        positions.mark(behind.len(), builder.nodes.len())?;
         front = markup.after;
         rest = after;
     }

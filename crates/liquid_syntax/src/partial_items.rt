@@ -34,13 +34,13 @@ pub(crate) fn read_include(
 {
     let mut items = items;
     let Some(name) = next_value(&mut items) else {
-        return Err(expected(at, "the name of a partial"));
+        return Err(expected(at, items.len(), "the name of a partial"));
     };
     if is_over(&items) {
         return Ok(Label::Leaf(Node::Include(name, Vec::new(alloc))));
     }
     let Some(first) = next_pair(&mut items, Symbol::Colon) else {
-        return Err(expected(at, "a name, `:` and its value"));
+        return Err(expected(at, items.len(), "`name: value`"));
     };
     let all = read_pairs(only(alloc, first)?, items, PairStyle::Include, at)?;
     Ok(Label::Leaf(Node::Include(name, all)))
@@ -58,7 +58,7 @@ pub(crate) fn read_render(
 {
     let mut items = items;
     let Some(name) = next_value(&mut items) else {
-        return Err(expected(at, "the name of a partial"));
+        return Err(expected(at, items.len(), "the name of a partial"));
     };
     if skip_word(&mut items, "with") {
         return read_render_with(alloc, name, items, at);
@@ -83,7 +83,7 @@ fn read_render_with(
 {
     let mut items = items;
     let Some(first) = next_with(&mut items) else {
-        return Err(expected(at, "a value, `as` and its name"));
+        return Err(expected(at, items.len(), "`value as name`"));
     };
     let all = read_pairs(only(alloc, first)?, items, PairStyle::Render, at)?;
     Ok(Label::Leaf(Node::Render(name, all)))
@@ -102,7 +102,7 @@ fn read_render_each(
 {
     let mut items = items;
     let Some(each) = next_each(&mut items) else {
-        return Err(expected(at, "a list or a range, `as` and the name of an item"));
+        return Err(expected(at, items.len(), "`list as name`"));
     };
     let all = read_pairs(Vec::new(alloc), items, PairStyle::Render, at)?;
     Ok(Label::Leaf(Node::RenderEach(name, each, all)))
@@ -144,15 +144,16 @@ pub(crate) fn read_jekyll_include(
     ensures place { FaultsAt (length at.now) result }
 {
     let mut items = items;
+    let count = items.len();
     match items.pop_front() {
         Some(Item::Value(value, spelling)) => {
             let name = spelled_name(alloc, value, spelling)?;
             let all = read_pairs(Vec::new(alloc), items, PairStyle::JekyllInclude, at)?;
             Ok(Label::Leaf(Node::JekyllInclude(name, all)))
         }
-        Some(Item::Range(_, _)) => Err(expected(at, "the name of a partial")),
-        Some(Item::Symbol(_)) => Err(expected(at, "the name of a partial")),
-        None => Err(expected(at, "the name of a partial")),
+        Some(Item::Range(_, _)) => Err(expected(at, count, "the name of a partial")),
+        Some(Item::Symbol(_)) => Err(expected(at, count, "the name of a partial")),
+        None => Err(expected(at, count, "the name of a partial")),
     }
 }
 

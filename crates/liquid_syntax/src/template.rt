@@ -5,6 +5,7 @@ ghost use Rattle.liquid_syntax.specs.Nested.{AreNested, AreNested-prop};
 use crate::names::{Gather, Search};
 use crate::node::Node;
 use crate::partials::Partials;
+use crate::positions::Position;
 use crate::visit_nodes::visit_nodes;
 use liquid_core::{Error, Result};
 use std::alloc::{AllocError, Global};
@@ -14,6 +15,8 @@ use std::collections::BTreeSet;
 #[derive(Drop)]
 pub struct Template {
     pub(crate) nodes: Vec<Node>,
+    /// Where each node begins in the source, for the faults of runs. The meaning of a template doesn't depend on it.
+    pub(crate) positions: Vec<Position>,
     ghost nested: { AreNested (ends_of_nodes nodes.items) } by { AreNested-prop (ends_of_nodes nodes.items) },
 }
 
@@ -23,7 +26,7 @@ impl Template {
     ghost use Rattle.std.specs.String.{string_cmp};
     ghost use Rattle.liquid_model.specs.Answer.{Gives};
     ghost use Rattle.liquid_syntax.specs.NameSets.{held};
-    ghost use Rattle.liquid_syntax.specs.Templates.{list_of, partials_of, tree_of};
+    ghost use Rattle.liquid_syntax.specs.Templates.{list_of, partials_of, positions_of, tree_of};
     ghost use Rattle.liquid_tree.specs.Counts.{count_of_nodes};
     ghost use Rattle.liquid_tree.specs.Names.{mentioned, nodes_names, run_names};
 
@@ -32,6 +35,13 @@ impl Template {
         ensures { result.now ≡ list_of self.now }
     {
         &self.nodes
+    }
+
+    /// For each node, in the same order, where it begins in the source.
+    pub fn positions(&self) -> &[Position]
+        ensures { result.now ≡ positions_of self.now }
+    {
+        &self.positions
     }
 
     /// The number of nodes of the tree, in all depths, without memory.

@@ -59,6 +59,14 @@ fn ends_values(items: &VecDeque<Item<'_>>, separators: Separators) -> bool
     }
 }
 
+/// What is wanted behind a value.
+fn further_wanted(separators: Separators) -> &'static str {
+    match separators {
+        Separators::Commas => "`,` and a value",
+        Separators::CommasOr => "`,` or `or` and a value",
+    }
+}
+
 /// The values that all the items are: one or more.
 pub fn read_values(
     alloc: Global,
@@ -72,7 +80,7 @@ pub fn read_values(
 {
     let mut items = items;
     let Some(first) = next_value(&mut items) else {
-        return Err(expected(at, "a value"));
+        return Err(expected(at, items.len(), "a value"));
     };
     read_further(alloc, first, items, separators, at)
 }
@@ -94,7 +102,7 @@ pub fn read_further(
     values.push(first)?;
     'values: while !ends_values(&items, separators) {
         let Some(value) = next_further(&mut items, separators) else {
-            return Err(expected(at, "a value behind a separator"));
+            return Err(expected(at, items.len(), further_wanted(separators)));
         };
         values.push(value)?;
     }

@@ -1,11 +1,12 @@
 //! Chains of filters, as a template holds them.
 ghost use Rattle.std.specs.Prelude.{◌≡◌, [], IsTrue, length};
+ghost use Rattle.liquid_model.specs.Told.{Told};
 ghost use Rattle.liquid_tree.specs.StoredFilters.{stored_counts};
 
 use crate::any_filter::AnyFilter;
 use crate::filter_call::{FilterCall, apply_to};
 use crate::stored_filter::StoredFilter;
-use liquid_core::{Expression, HostFilters, NamedFilters, Result, State, Value, ValueCow};
+use liquid_core::{Error, Expression, HostFilters, NamedFilters, Result, State, Value, ValueCow};
 use std::alloc::Global;
 
 /// One filter of a chain with its arguments, of which it accepts the number.
@@ -58,8 +59,9 @@ impl FilterChain {
     /// The value of the chain: that of its entry, through its filters in order.
     ///
     /// A missing entry is nil before a filter, and `UnknownVariable` without one; so is a missing argument of a filter.
-    /// A filter's fault ends the chain. A filter of the host is `Unsupported` where `host` has none of its name that takes
-    /// so many arguments. `Memory` where a growth was refused.
+    /// A filter's fault ends the chain, and its message begins with the filter's name, as does that of an argument. A filter
+    /// of the host is `Unsupported` where `host` has none of its name that takes so many arguments. `Memory` where a growth
+    /// was refused.
     pub fn evaluate(
         &self,
         alloc: Global,
@@ -97,7 +99,10 @@ impl FilterChain {
     {
         let mut value = self.evaluate_entry(alloc, state)?;
         for stored in &self.filters {
-            value = apply_to(alloc, value, &[stored.call(host)], state)?;
+            value = match apply_to(alloc, value, &[stored.call(host)], state) {
+                Ok(next) => next,
+                Err(fault) => return Err(of_filter(alloc, stored.filter.name(), fault)),
+            };
         }
         Ok(value)
     }
@@ -115,5 +120,22 @@ impl FilterChain {
             Some(value) => Ok(value),
             None => Ok(ValueCow::Owned(Value::Nil)),
         }
+    }
+}
+
+/// The fault of the filter of this name, or of its arguments: its message begins with the name. `Memory` where there is no room for that.
+#[inline(never)]
+fn of_filter(alloc: Global, name: &str, fault: Error) -> Error
+    ensures { Told fault.kind result.kind }
+{
+    let Some(message) = &fault.message else {
+        return fault;
+    };
+    match format!(in alloc; "`{name}`: {message}") {
+        Ok(message) => Error {
+            message: Some(message),
+            ..fault
+        },
+        Err(refused) => Error::from(refused),
     }
 }

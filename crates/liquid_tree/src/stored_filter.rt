@@ -1,4 +1,7 @@
 //! The filters that a stored chain names.
+ghost use Rattle.std.specs.Prelude.{◌≡◌};
+ghost use Rattle.liquid_tree.specs.StoredFilters.{stored_name};
+
 use liquid_filters::FilterKind;
 
 /// What the name of a filter was registered as when a chain was read.
@@ -8,4 +11,16 @@ pub enum StoredFilter {
     Kind(FilterKind),
     /// A filter of the host, by its name.
     Host(String),
+}
+
+impl StoredFilter {
+    /// The name of the filter, which its faults tell.
+    pub fn name(&self) -> &str
+        ensures { result.now ≡ stored_name self.now }
+    {
+        match self {
+            StoredFilter::Kind(kind) => kind.name(),
+            StoredFilter::Host(name) => name.as_str(),
+        }
+    }
 }

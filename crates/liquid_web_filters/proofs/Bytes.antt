@@ -43,13 +43,3 @@ module _ (f : ℕ → List ℕ) where
 
   pub ascii_letter : (c : ℕ) → c < 128 → flat_map f (encode c) ≡ f c
   ascii_letter c l = ap (flat_map f) (encode_ascii c l) ∙ append-nil (f c)
-
-  -- one turn of a loop over the characters
-  pub letter_turn : (s rest out next all made : List ℕ) (c : ℕ) → s ≡ encode c ++ rest → flat_map f (encode c) ≡ made → next ≡ out ++ made → all ≡ out ++ flat_map f s → all ≡ next ++ flat_map f rest
-  letter_turn s rest out next all made c e m g inv =
-      inv ∙ ap (λ t. out ++ flat_map f t) e ∙ ap (λ t. out ++ t) (flat_map-append f (encode c) rest) ∙ sym (append_assoc out (flat_map f (encode c)) (flat_map f rest))
-      ∙ ap (λ t. (out ++ t) ++ flat_map f rest) m ∙ ap (λ t. t ++ flat_map f rest) (sym g)
-
-  pub letter_end : (s out all : List ℕ) → length s ≡ 0 → all ≡ out ++ flat_map f s → out ≡ all
-  letter_end [] out all z h = sym (append-nil out) ∙ sym h
-  letter_end (b ∷ s) out all z h = absurd (omega arith)

@@ -142,7 +142,7 @@ either_scalars : (t : Bool) (xs ys : List ℕ) → scalars xs ≡ true → scala
 either_scalars true xs ys h k = h
 either_scalars false xs ys h k = k
 
-kept_scalars : (o e : List ℕ) (b : Bool) (k : ℕ) (s : List ℕ) → scalars s ≡ true → scalars (kept o e b k s) ≡ true
+pub kept_scalars : (o e : List ℕ) (b : Bool) (k : ℕ) (s : List ℕ) → scalars s ≡ true → scalars (kept o e b k s) ≡ true
 kept_scalars o e b k [] h = refl
 kept_scalars o e b (suc k) (c ∷ s) h = kept_scalars o e b k s (and_split (scalar c) (scalars s) h).1
 kept_scalars o e false zero (c ∷ s) h =

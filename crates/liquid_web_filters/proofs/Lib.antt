@@ -2,9 +2,10 @@ pub mod Bytes
 pub mod Escapes
 pub mod Faults
 pub mod HtmlLaws
-pub mod Letters
+pub mod Marks
 pub mod LineBreaks
 pub mod Pairs
+pub mod Replaced
 pub mod Standing
 pub mod Tags
 pub mod UrlLaws

@@ -4,8 +4,8 @@ use Rattle.std.proofs.lemmas.Bool.Decides.{nat_tests}
 use Rattle.std.proofs.lemmas.Str.{encode_ascii}
 use Rattle.std.specs.List.{flat_map}
 use lib.Utf8.{encode}
-use Rattle.liquid_web_filters.specs.LineBreaks.{broken_byte, broken_letter, broken}
-use Rattle.liquid_web_filters.proofs.Bytes.{ascii_or_high, high_letter, ascii_letter, letter_turn, letter_end}
+use Rattle.liquid_web_filters.specs.LineBreaks.{broken_byte, broken_letter}
+use Rattle.liquid_web_filters.proofs.Bytes.{ascii_or_high, high_letter, ascii_letter}
 
 high_byte : (b : ℕ) → 128 ≤ b → broken_byte b ≡ b ∷ []
 high_byte b h = let e : b == 10 ≡ false = grind (arith, nat_tests) in rw e refl
@@ -17,9 +17,3 @@ pub letter_of : (c : ℕ) → flat_map broken_byte (encode c) ≡ broken_letter 
 letter_of c = ascii_or_high c
     (λ l. ascii_letter broken_byte c l ∙ ap (λ t. if c == 10 then codes "<br />" ++ (10 ∷ []) else t) (sym (encode_ascii c l)))
     (λ l. high_letter broken_byte high_byte c l ∙ sym (high_broken c l))
-
-pub broken_turn : (s rest out next all : List ℕ) (c : ℕ) → s ≡ encode c ++ rest → next ≡ out ++ broken_letter c → all ≡ out ++ broken s → all ≡ next ++ broken rest
-broken_turn s rest out next all c e g inv = letter_turn broken_byte s rest out next all (broken_letter c) c e (letter_of c) g inv
-
-pub broken_end : (s out all : List ℕ) → length s ≡ 0 → all ≡ out ++ broken s → out ≡ all
-broken_end = letter_end broken_byte

@@ -57,3 +57,8 @@ SplitsAtFirst p s r = MatchOption r (first_mark p s ≡ None) (λ q. (i : ℕ) �
 abbrev pub is_opener : List ℕ → Bool
 is_opener [] = false
 is_opener (x ∷ p) = x == 60 && list_all (λ y. not (y == 60)) p
+
+-- a mark begins with `<`, `-` or `>`, which stand for themselves alone
+abbrev pub is_mark : List ℕ → Bool
+is_mark [] = false
+is_mark (x ∷ p) = x == 60 || x == 45 || x == 62

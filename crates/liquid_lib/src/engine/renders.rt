@@ -21,6 +21,7 @@ use crate::loop_turns::ends_items;
 use crate::output::Output;
 use crate::own_state::{own_state, state_at, turn_at};
 use crate::partial::{pairs_scope, partial_name, partial_rendered, too_deep};
+use crate::place::in_partial;
 use liquid_core::{Expression, Interrupt, NamedFilters, Result, State, Turn};
 use liquid_syntax::{Binding, Each, Template};
 use std::alloc::Global;
@@ -45,7 +46,8 @@ pub(super) fn run_render<'d, W: CountedWrite, H: NamedFilters>(
     let scope = pairs_scope(alloc, bindings, state)?;
     let partial = partial_rendered(alloc, given.partials, called.as_str())?;
     let own = own_state(alloc, scope)?;
-    run_apart(alloc, given, partial, own, out)?;
+    let answer = run_apart(alloc, given, partial, own, out);
+    in_partial(alloc, called.as_str(), answer)?;
     Ok(())
 }
 
@@ -72,6 +74,7 @@ pub(super) fn run_render_each<'d, W: CountedWrite, H: NamedFilters>(
         partials: &*given.partials,
         host: &*given.host,
         depth: given.depth,
+        positions: given.positions,
     };
     let mut at = 0;
     while at < source.count {
@@ -106,7 +109,8 @@ fn run_item<'d, W: CountedWrite, H: NamedFilters>(
     let names = pairs_scope(alloc, bindings, state)?;
     let partial = partial_rendered(alloc, given.partials, name)?;
     let own = state_at(alloc, names, turn)?;
-    run_apart(alloc, given, partial, own, out)
+    let answer = run_apart(alloc, given, partial, own, out);
+    in_partial(alloc, name, answer)
 }
 
 /// Enters a partial in a state of its own, which holds certain names alone: the interrupt that it leaves.
@@ -133,6 +137,7 @@ fn run_apart<'d, W: CountedWrite, H: NamedFilters>(
         partials: given.partials,
         host: given.host,
         depth: given.depth - 1,
+        positions: partial.positions(),
     };
     let mut own = own;
     let nodes = partial.nodes();

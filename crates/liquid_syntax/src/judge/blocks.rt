@@ -60,7 +60,7 @@ pub(super) fn read_block(
             let node = read_table_row(alloc, items, at)?;
             Ok(Label::Begins(Block::TableRow, Stage::Last, node))
         }
-        BlockKind::Raw | BlockKind::Comment => Err(expected(at, "a tag without items")),
+        BlockKind::Raw | BlockKind::Comment => Err(expected(at, items.len(), "the closer")),
     }
 }
 
@@ -129,10 +129,10 @@ fn read_case(alloc: Global, items: VecDeque<Item<'_>>, at: &str) -> Result<Node,
 {
     let mut items = items;
     let Some(target) = next_value(&mut items) else {
-        return Err(expected(at, "a value"));
+        return Err(expected(at, items.len(), "a value"));
     };
     if is_over(&items) {
         return Ok(Node::Case(target, Vec::new(alloc), 0));
     }
-    Err(expected(at, "nothing behind the value"))
+    Err(expected(at, items.len(), "the closer"))
 }

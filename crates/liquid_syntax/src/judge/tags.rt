@@ -29,7 +29,7 @@ pub(super) fn read_bare(
     if items.is_empty() {
         Ok(label)
     } else {
-        Err(expected(at, "a tag without items"))
+        Err(expected(at, items.len(), "the closer"))
     }
 }
 
@@ -41,12 +41,12 @@ pub(super) fn read_word(items: VecDeque<Item<'_>>, at: &str) -> Result<String, P
 {
     let mut items = items;
     let Some(name) = next_word(&mut items) else {
-        return Err(expected(at, "the name of a variable"));
+        return Err(expected(at, items.len(), "the name of a variable"));
     };
     if is_over(&items) {
         return Ok(name);
     }
-    Err(expected(at, "nothing behind the name"))
+    Err(expected(at, items.len(), "the closer"))
 }
 
 /// `name = chain`
@@ -61,10 +61,10 @@ pub(super) fn read_assign(
 {
     let mut items = items;
     let Some(name) = next_word(&mut items) else {
-        return Err(expected(at, "the name of a variable"));
+        return Err(expected(at, items.len(), "the name of a variable"));
     };
     if !skip(&mut items, Symbol::Assign) {
-        return Err(expected(at, "`=` behind the name"));
+        return Err(expected(at, items.len(), "`=`"));
     }
     Ok(Label::Leaf(Node::Assign(name, read_chain(alloc, &language.filters, items, at)?)))
 }

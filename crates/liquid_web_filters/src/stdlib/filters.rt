@@ -1,3 +1,4 @@
 //! Filters by what they work on.
 pub mod html;
+mod replaced;
 pub mod url;

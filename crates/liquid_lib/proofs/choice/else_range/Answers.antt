@@ -18,10 +18,10 @@ offset_bounds-nodes-at c =
     let lt : c.loop-at.at < length c.args.nodes.now = range_within c.args.nodes.now c.loop-at.at c.args.to x.nodes x.stands c.loop-at-test.true in
     search rules
 
-pub returns-in_err-holds-in-If-clause-chosen : goal.returns-in_err-holds-in-If-clause-chosen
-returns-in_err-holds-in-If-clause-chosen c f stands =
+pub returns-in_err-elsif_holds-in-If-clause-chosen : goal.returns-in_err-elsif_holds-in-If-clause-chosen
+returns-in_err-elsif_holds-in-If-clause-chosen c f stands =
     let p = err_from_is_err_and c.from_residual.result c.from_residual.ensures.1 in
-    rw (p.1, p.2) (comes_fault c.args.nodes.now (environment_of c.args.state.now) (nodes_of f) c.loop-at.at c.args.to c.in-If.condition c.in-If.bodies c.index-nodes-at.result (c.loop-at.invariant.comes f stands) c.loop-at-test.true c.index-nodes-at.is c.in-If.is c.if-bodies-to.true c.in_err-holds-in-If.field-0.0 c.in_err-holds-in-If.ensures)
+    rw (p.1, p.2) (comes_fault c.args.nodes.now (environment_of c.args.state.now) (nodes_of f) c.loop-at.at c.args.to c.in-If.condition c.in-If.bodies c.index-nodes-at.result (c.loop-at.invariant.comes f stands) c.loop-at-test.true c.index-nodes-at.is c.in-If.is c.if-bodies-to.true c.in_err-elsif_holds-in-If.field-0.0 c.in_err-elsif_holds-in-If.ensures)
 
 pub returns-then-branch-clause-inside : goal.returns-then-branch-clause-inside
 returns-then-branch-clause-inside c =

@@ -49,6 +49,7 @@ use Rattle.liquid_lib.proofs.Kept.{kept_same, kept_after, kept_assigned, kept_in
 use Rattle.liquid_lib.proofs.PartialRuns.{reserve, reserve_step, deeper_is, scope_deep, apart_deep, found_some, pairs_refused, not_found, entered, include_refused, include_named, jekyll_met, render_refused, render_faulted, render_met, within_all, kept_around, partial_met}
 use Rattle.liquid_lib.proofs.ItemRuns.{items_left, item_on, item_breaks, item_faulted, items_end}
 use Rattle.liquid_lib.proofs.RenderEach.{item_run, items_run, name_refused, items_refused, items_met}
+use Rattle.liquid_lib.proofs.Retold.{fault_again, met_again}
 use Rattle.liquid_lib.proofs.Sinks.{Around}
 use Rattle.liquid_lib.proofs.Whole.{stood_in}
 use Rattle.liquid_syntax.specs.declared.loop_nodes.For as heads_For
@@ -69,19 +70,18 @@ run_range-run_node-requires g t c κs within =
     let place = place_of g.W.CountedWrite.contents g.W.CountedWrite.failure_count in
     (let lt : 4 * (c.args.to - c.loop-at.at) + reserve c.args.given.now.depth c.args.given.now.partials.now < t = omega arith in lt, (within.0, (within.1, going_node (setting_of g.H.NamedFilters.named c.args.given.now) c.args.given.now.depth c.args.nodes.now c.args.from c.loop-at.at c.args.to (place c.args.out.now c.args.state.now) (place c.loop-at.out c.loop-at.state) c.requires c.loop-at.invariant.going c.loop-at-test.true)))
 
-pub run_range-returns-in_err-run_node-clause-performs : goal.run_range-returns-in_err-run_node-clause-performs
-run_range-returns-in_err-run_node-clause-performs g t c =
+pub run_range-returns-in-Err-clause-performs : goal.run_range-returns-in-Err-clause-performs
+run_range-returns-in-Err-clause-performs g t c =
     let place = place_of g.W.CountedWrite.contents g.W.CountedWrite.failure_count in
-    let p = err_from_is_err_and c.from_residual.result c.from_residual.ensures.1 in
-    rw p.1 (going_fault (setting_of g.H.NamedFilters.named c.args.given.now) c.args.given.now.depth c.args.nodes.now c.args.from c.loop-at.at c.args.to _ (place c.args.out.now c.args.state.now) (place c.loop-at.out c.loop-at.state) (place c.run_node.new.out c.run_node.new.state) c.loop-at.invariant.going c.loop-at-test.true (rw p.2 c.in_err-run_node.ensures.performs))
+    going_fault (setting_of g.H.NamedFilters.named c.args.given.now) c.args.given.now.depth c.args.nodes.now c.args.from c.loop-at.at c.args.to _ (place c.args.out.now c.args.state.now) (place c.loop-at.out c.loop-at.state) (place c.run_node.new.out c.run_node.new.state) c.loop-at.invariant.going c.loop-at-test.true (λ n next there. fault_again c.in-Err.fault c.located.result c.located.ensures (c.in-Err.ensures.performs n next there))
 
-pub run_range-returns-in_err-run_node-clause-alone : goal.run_range-returns-in_err-run_node-clause-alone
-run_range-returns-in_err-run_node-clause-alone g t c f stood =
+pub run_range-returns-in-Err-clause-alone : goal.run_range-returns-in-Err-clause-alone
+run_range-returns-in-Err-clause-alone g t c f stood =
     let place = place_of g.W.CountedWrite.contents g.W.CountedWrite.failure_count in
     alone_step (setting_of g.H.NamedFilters.named c.args.given.now) c.args.given.now.depth c.args.nodes.now c.args.from c.loop-at.at c.args.to (place c.args.out.now c.args.state.now) (place c.loop-at.out c.loop-at.state) c.args.state.now c.loop-at.state c.run_node.new.state f stood c.loop-at.invariant.going c.loop-at-test.true c.run_node.ensures.alone (c.loop-at.invariant.alone f stood)
 
-pub run_range-returns-in_err-run_node-clause-kept : goal.run_range-returns-in_err-run_node-clause-kept
-run_range-returns-in_err-run_node-clause-kept g t c f stood =
+pub run_range-returns-in-Err-clause-kept : goal.run_range-returns-in-Err-clause-kept
+run_range-returns-in-Err-clause-kept g t c f stood =
     let place = place_of g.W.CountedWrite.contents g.W.CountedWrite.failure_count in
     kept_step (setting_of g.H.NamedFilters.named c.args.given.now) c.args.given.now.depth c.args.nodes.now c.args.from c.loop-at.at c.args.to (place c.args.out.now c.args.state.now) (place c.loop-at.out c.loop-at.state) c.args.state.now c.loop-at.state c.run_node.new.state f stood c.loop-at.invariant.going c.loop-at-test.true c.run_node.ensures.kept (c.loop-at.invariant.kept f stood)
 
@@ -89,7 +89,7 @@ pub run_range-returns-then-is_some-clause-performs : goal.run_range-returns-then
 run_range-returns-then-is_some-clause-performs g t c =
     let place = place_of g.W.CountedWrite.contents g.W.CountedWrite.failure_count in
     let some = some_of c.run_node.new.state.interrupt (search rules) in
-    going_halt (setting_of g.H.NamedFilters.named c.args.given.now) c.args.given.now.depth c.args.nodes.now c.args.from c.loop-at.at c.args.to c.in_ok-run_node.field-0 _ some.0 (place c.args.out.now c.args.state.now) (place c.loop-at.out c.loop-at.state) (place c.run_node.new.out c.run_node.new.state) c.loop-at.invariant.going c.loop-at-test.true c.in_ok-run_node.ensures.performs (interrupt_of c.run_node.new.state _ some.1)
+    going_halt (setting_of g.H.NamedFilters.named c.args.given.now) c.args.given.now.depth c.args.nodes.now c.args.from c.loop-at.at c.args.to _ _ some.0 (place c.args.out.now c.args.state.now) (place c.loop-at.out c.loop-at.state) (place c.run_node.new.out c.run_node.new.state) c.loop-at.invariant.going c.loop-at-test.true c.in_default.ensures.performs (interrupt_of c.run_node.new.state _ some.1)
 
 pub run_range-returns-then-is_some-clause-alone : goal.run_range-returns-then-is_some-clause-alone
 run_range-returns-then-is_some-clause-alone g t c f stood =
@@ -120,7 +120,7 @@ run_range-loop-at-preserved g t c =
     let none = none_of c.run_node.new.state.interrupt (search rules) in
     record {
       ordered = omega arith;
-      going = going_on (setting_of g.H.NamedFilters.named c.args.given.now) c.args.given.now.depth c.args.nodes.now c.args.from c.loop-at.at c.args.to c.next_after-at.result c.in_ok-run_node.field-0 (place c.args.out.now c.args.state.now) (place c.loop-at.out c.loop-at.state) (place c.run_node.new.out c.run_node.new.state) c.loop-at.invariant.going c.loop-at-test.true c.in_ok-run_node.ensures.performs (interrupt_of c.run_node.new.state _ none) c.next_after-at.ensures;
+      going = going_on (setting_of g.H.NamedFilters.named c.args.given.now) c.args.given.now.depth c.args.nodes.now c.args.from c.loop-at.at c.args.to c.next_after-at.result _ (place c.args.out.now c.args.state.now) (place c.loop-at.out c.loop-at.state) (place c.run_node.new.out c.run_node.new.state) c.loop-at.invariant.going c.loop-at-test.true c.in_default.ensures.performs (interrupt_of c.run_node.new.state _ none) c.next_after-at.ensures;
       kept = λ f stood. kept_step (setting_of g.H.NamedFilters.named c.args.given.now) c.args.given.now.depth c.args.nodes.now c.args.from c.loop-at.at c.args.to (place c.args.out.now c.args.state.now) (place c.loop-at.out c.loop-at.state) c.args.state.now c.loop-at.state c.run_node.new.state f stood c.loop-at.invariant.going c.loop-at-test.true c.run_node.ensures.kept (c.loop-at.invariant.kept f stood);
       alone = λ f stood. alone_step (setting_of g.H.NamedFilters.named c.args.given.now) c.args.given.now.depth c.args.nodes.now c.args.from c.loop-at.at c.args.to (place c.args.out.now c.args.state.now) (place c.loop-at.out c.loop-at.state) c.args.state.now c.loop-at.state c.run_node.new.state f stood c.loop-at.invariant.going c.loop-at-test.true c.run_node.ensures.alone (c.loop-at.invariant.alone f stood);
       loops = c.run_node.ensures.loops ∙ c.loop-at.invariant.loops;
@@ -421,13 +421,14 @@ run_include-returns-in_err-partial-clause-performs g t c =
 pub run_include-returns-clause-performs : goal.run_include-returns-clause-performs
 run_include-returns-clause-performs g t c =
     let place = place_of g.W.CountedWrite.contents g.W.CountedWrite.failure_count in
-    include_named (setting_of g.H.NamedFilters.named c.args.given.now) (deeper_meaning (setting_of g.H.NamedFilters.named c.args.given.now) c.args.given.now.depth) (expression_view c.args.name.now) (bindings_view c.args.bindings.now) c.run_partial.result (string_bytes c.in_ok-called.called) (place c.args.out.now c.args.state.now) (place c.run_partial.new.out c.run_partial.new.state) c.in_ok-called.ensures
-    (entered unit pairs_scope (bindings_view c.args.bindings.now) (partial_of (partials_of c.args.given.now.partials.now) (string_bytes c.in_ok-called.called)) (λ scope partial. with_scope scope (deeper_meaning (setting_of g.H.NamedFilters.named c.args.given.now) c.args.given.now.depth partial)) c.run_partial.result (held c.in_ok-scope.scope) (tree_of c.in_ok-partial.partial.now) (place c.args.out.now c.args.state.now) (place c.run_partial.new.out c.run_partial.new.state) c.in_ok-scope.ensures (subst (λ x. partial_of (partials_of c.args.given.now.partials.now) x ≡ Ok (tree_of c.in_ok-partial.partial.now)) c.as_str.ensures.value c.in_ok-partial.ensures.found) c.run_partial.ensures.performs)
+    met_again c.run_partial-answer.result c.in_partial.result c.in_partial.ensures
+    (include_named (setting_of g.H.NamedFilters.named c.args.given.now) (deeper_meaning (setting_of g.H.NamedFilters.named c.args.given.now) c.args.given.now.depth) (expression_view c.args.name.now) (bindings_view c.args.bindings.now) c.run_partial-answer.result (string_bytes c.in_ok-called.called) (place c.args.out.now c.args.state.now) (place c.run_partial-answer.new.out c.run_partial-answer.new.state) c.in_ok-called.ensures
+    (entered unit pairs_scope (bindings_view c.args.bindings.now) (partial_of (partials_of c.args.given.now.partials.now) (string_bytes c.in_ok-called.called)) (λ scope partial. with_scope scope (deeper_meaning (setting_of g.H.NamedFilters.named c.args.given.now) c.args.given.now.depth partial)) c.run_partial-answer.result (held c.in_ok-scope.scope) (tree_of c.in_ok-partial.partial.now) (place c.args.out.now c.args.state.now) (place c.run_partial-answer.new.out c.run_partial-answer.new.state) c.in_ok-scope.ensures (subst (λ x. partial_of (partials_of c.args.given.now.partials.now) x ≡ Ok (tree_of c.in_ok-partial.partial.now)) c.as_str.ensures.value c.in_ok-partial.ensures.found) c.run_partial-answer.ensures.performs))
 
 pub run_include-returns-clause-kept : goal.run_include-returns-clause-kept
 run_include-returns-clause-kept g t c N names inside =
     let found = subst (λ x. partial_of (partials_of c.args.given.now.partials.now) x ≡ Ok (tree_of c.in_ok-partial.partial.now)) c.as_str.ensures.value c.in_ok-partial.ensures.found in
-    c.run_partial.ensures.kept N (within_found N (partials_of c.args.given.now.partials.now) (string_bytes c.in_ok-called.called) (tree_of c.in_ok-partial.partial.now) inside (found_some _ UnknownPartial _ found)) inside
+    c.run_partial-answer.ensures.kept N (within_found N (partials_of c.args.given.now.partials.now) (string_bytes c.in_ok-called.called) (tree_of c.in_ok-partial.partial.now) inside (found_some _ UnknownPartial _ found)) inside
 
 pub run_jekyll_include-returns-in_err-scope-clause-performs : goal.run_jekyll_include-returns-in_err-scope-clause-performs
 run_jekyll_include-returns-in_err-scope-clause-performs g t c =
@@ -446,13 +447,14 @@ run_jekyll_include-returns-in_err-partial-clause-performs g t c =
 pub run_jekyll_include-returns-clause-performs : goal.run_jekyll_include-returns-clause-performs
 run_jekyll_include-returns-clause-performs g t c =
     let place = place_of g.W.CountedWrite.contents g.W.CountedWrite.failure_count in
-    let after = place c.run_partial.new.out c.run_partial.new.state in
-    jekyll_met (setting_of g.H.NamedFilters.named c.args.given.now) (deeper_meaning (setting_of g.H.NamedFilters.named c.args.given.now) c.args.given.now.depth) c.args.name.now (bindings_view c.args.bindings.now) c.run_partial.result (place c.args.out.now c.args.state.now) after
-    (entered unit include_scope (bindings_view c.args.bindings.now) (partial_of (partials_of c.args.given.now.partials.now) c.args.name.now) (λ scope partial. with_scope scope (deeper_meaning (setting_of g.H.NamedFilters.named c.args.given.now) c.args.given.now.depth partial)) c.run_partial.result (held c.in_ok-scope.scope) (tree_of c.in_ok-partial.partial.now) (place c.args.out.now c.args.state.now) after c.in_ok-scope.ensures c.in_ok-partial.ensures.found c.run_partial.ensures.performs)
+    let after = place c.run_partial-answer.new.out c.run_partial-answer.new.state in
+    met_again c.run_partial-answer.result c.in_partial.result c.in_partial.ensures
+    (jekyll_met (setting_of g.H.NamedFilters.named c.args.given.now) (deeper_meaning (setting_of g.H.NamedFilters.named c.args.given.now) c.args.given.now.depth) c.args.name.now (bindings_view c.args.bindings.now) c.run_partial-answer.result (place c.args.out.now c.args.state.now) after
+    (entered unit include_scope (bindings_view c.args.bindings.now) (partial_of (partials_of c.args.given.now.partials.now) c.args.name.now) (λ scope partial. with_scope scope (deeper_meaning (setting_of g.H.NamedFilters.named c.args.given.now) c.args.given.now.depth partial)) c.run_partial-answer.result (held c.in_ok-scope.scope) (tree_of c.in_ok-partial.partial.now) (place c.args.out.now c.args.state.now) after c.in_ok-scope.ensures c.in_ok-partial.ensures.found c.run_partial-answer.ensures.performs))
 
 pub run_jekyll_include-returns-clause-kept : goal.run_jekyll_include-returns-clause-kept
 run_jekyll_include-returns-clause-kept g t c N names inside =
-    c.run_partial.ensures.kept N (within_found N (partials_of c.args.given.now.partials.now) c.args.name.now (tree_of c.in_ok-partial.partial.now) inside (found_some _ UnknownPartial _ c.in_ok-partial.ensures.found)) inside
+    c.run_partial-answer.ensures.kept N (within_found N (partials_of c.args.given.now.partials.now) c.args.name.now (tree_of c.in_ok-partial.partial.now) inside (found_some _ UnknownPartial _ c.in_ok-partial.ensures.found)) inside
 
 pub run_partial-returns-then-given-eq0-clause-performs : goal.run_partial-returns-then-given-eq0-clause-performs
 run_partial-returns-then-given-eq0-clause-performs g t c =
@@ -510,18 +512,18 @@ renders::run_render-returns-in_err-partial-clause-performs g t c =
     rw (p.1, p.2) (render_faulted (setting_of g.H.NamedFilters.named c.args.given.now) (deeper_meaning (setting_of g.H.NamedFilters.named c.args.given.now) c.args.given.now.depth) (expression_view c.args.name.now) (bindings_view c.args.bindings.now) c.in_err-partial.field-0.0 (string_bytes c.in_ok-called.called) (place c.args.out.now c.args.state.now) (place c.args.out.now c.args.state.now) c.in_ok-called.ensures
     (not_found (λ (i : Option Interrupt). i) pairs_scope (bindings_view c.args.bindings.now) (rendered_of (partials_of c.args.given.now.partials.now) (string_bytes c.in_ok-called.called)) (λ scope partial. apart scope (deeper_meaning (setting_of g.H.NamedFilters.named c.args.given.now) c.args.given.now.depth partial)) c.in_err-partial.field-0.0 (held c.in_ok-scope.scope) (place c.args.out.now c.args.state.now) c.in_ok-scope.ensures (subst (λ x. Faulted c.in_err-partial.field-0.0.kind (rendered_of (partials_of c.args.given.now.partials.now) x)) c.as_str.ensures.value c.in_err-partial.ensures.found)))
 
-pub renders::run_render-returns-in_err-run_apart-clause-performs : goal.renders::run_render-returns-in_err-run_apart-clause-performs
-renders::run_render-returns-in_err-run_apart-clause-performs g t c =
+pub renders::run_render-returns-in_err-in_partial-clause-performs : goal.renders::run_render-returns-in_err-in_partial-clause-performs
+renders::run_render-returns-in_err-in_partial-clause-performs g t c =
     let place = place_of g.W.CountedWrite.contents g.W.CountedWrite.failure_count in
-    let p = err_from_is_err_and c.from_residual-in_err-run_apart.result c.from_residual-in_err-run_apart.ensures.1 in
-    rw (p.1, p.2) (render_faulted (setting_of g.H.NamedFilters.named c.args.given.now) (deeper_meaning (setting_of g.H.NamedFilters.named c.args.given.now) c.args.given.now.depth) (expression_view c.args.name.now) (bindings_view c.args.bindings.now) c.in_err-run_apart.field-0.0 (string_bytes c.in_ok-called.called) (place c.args.out.now c.args.state.now) (place c.run_apart.new.out c.args.state.now) c.in_ok-called.ensures
-    (entered (λ (i : Option Interrupt). i) pairs_scope (bindings_view c.args.bindings.now) (rendered_of (partials_of c.args.given.now.partials.now) (string_bytes c.in_ok-called.called)) (λ scope partial. apart scope (deeper_meaning (setting_of g.H.NamedFilters.named c.args.given.now) c.args.given.now.depth partial)) (Err c.in_err-run_apart.field-0.0) (held c.in_ok-scope.scope) (tree_of c.in_ok-partial.partial.now) (place c.args.out.now c.args.state.now) (place c.run_apart.new.out c.args.state.now) c.in_ok-scope.ensures (subst (λ x. rendered_of (partials_of c.args.given.now.partials.now) x ≡ Ok (tree_of c.in_ok-partial.partial.now)) c.as_str.ensures.value c.in_ok-partial.ensures.found) (c.in_err-run_apart.ensures.performs (held c.in_ok-scope.scope) (environment_of c.args.state.now) c.in_ok-own.ensures)))
+    let p = err_from_is_err_and c.from_residual-in_err-in_partial.result c.from_residual-in_err-in_partial.ensures.1 in
+    rw (p.1, p.2) (render_faulted (setting_of g.H.NamedFilters.named c.args.given.now) (deeper_meaning (setting_of g.H.NamedFilters.named c.args.given.now) c.args.given.now.depth) (expression_view c.args.name.now) (bindings_view c.args.bindings.now) c.in_err-in_partial.field-0.0 (string_bytes c.in_ok-called.called) (place c.args.out.now c.args.state.now) (place c.run_apart-answer.new.out c.args.state.now) c.in_ok-called.ensures
+    (entered (λ (i : Option Interrupt). i) pairs_scope (bindings_view c.args.bindings.now) (rendered_of (partials_of c.args.given.now.partials.now) (string_bytes c.in_ok-called.called)) (λ scope partial. apart scope (deeper_meaning (setting_of g.H.NamedFilters.named c.args.given.now) c.args.given.now.depth partial)) (Err c.in_err-in_partial.field-0.0) (held c.in_ok-scope.scope) (tree_of c.in_ok-partial.partial.now) (place c.args.out.now c.args.state.now) (place c.run_apart-answer.new.out c.args.state.now) c.in_ok-scope.ensures (subst (λ x. rendered_of (partials_of c.args.given.now.partials.now) x ≡ Ok (tree_of c.in_ok-partial.partial.now)) c.as_str.ensures.value c.in_ok-partial.ensures.found) (met_again c.run_apart-answer.result (Err c.in_err-in_partial.field-0.0) c.in_err-in_partial.ensures (c.run_apart-answer.ensures.performs (held c.in_ok-scope.scope) (environment_of c.args.state.now) c.in_ok-own.ensures))))
 
 pub renders::run_render-returns-clause-performs : goal.renders::run_render-returns-clause-performs
 renders::run_render-returns-clause-performs g t c =
     let place = place_of g.W.CountedWrite.contents g.W.CountedWrite.failure_count in
-    render_met (setting_of g.H.NamedFilters.named c.args.given.now) (deeper_meaning (setting_of g.H.NamedFilters.named c.args.given.now) c.args.given.now.depth) (expression_view c.args.name.now) (bindings_view c.args.bindings.now) tt c.in_ok-run_apart.field-0 (string_bytes c.in_ok-called.called) (place c.args.out.now c.args.state.now) (place c.run_apart.new.out c.args.state.now) c.in_ok-called.ensures
-    (entered (λ (i : Option Interrupt). i) pairs_scope (bindings_view c.args.bindings.now) (rendered_of (partials_of c.args.given.now.partials.now) (string_bytes c.in_ok-called.called)) (λ scope partial. apart scope (deeper_meaning (setting_of g.H.NamedFilters.named c.args.given.now) c.args.given.now.depth partial)) (Ok c.in_ok-run_apart.field-0) (held c.in_ok-scope.scope) (tree_of c.in_ok-partial.partial.now) (place c.args.out.now c.args.state.now) (place c.run_apart.new.out c.args.state.now) c.in_ok-scope.ensures (subst (λ x. rendered_of (partials_of c.args.given.now.partials.now) x ≡ Ok (tree_of c.in_ok-partial.partial.now)) c.as_str.ensures.value c.in_ok-partial.ensures.found) (c.in_ok-run_apart.ensures.performs (held c.in_ok-scope.scope) (environment_of c.args.state.now) c.in_ok-own.ensures))
+    render_met (setting_of g.H.NamedFilters.named c.args.given.now) (deeper_meaning (setting_of g.H.NamedFilters.named c.args.given.now) c.args.given.now.depth) (expression_view c.args.name.now) (bindings_view c.args.bindings.now) tt c.in_ok-in_partial.field-0 (string_bytes c.in_ok-called.called) (place c.args.out.now c.args.state.now) (place c.run_apart-answer.new.out c.args.state.now) c.in_ok-called.ensures
+    (entered (λ (i : Option Interrupt). i) pairs_scope (bindings_view c.args.bindings.now) (rendered_of (partials_of c.args.given.now.partials.now) (string_bytes c.in_ok-called.called)) (λ scope partial. apart scope (deeper_meaning (setting_of g.H.NamedFilters.named c.args.given.now) c.args.given.now.depth partial)) (Ok c.in_ok-in_partial.field-0) (held c.in_ok-scope.scope) (tree_of c.in_ok-partial.partial.now) (place c.args.out.now c.args.state.now) (place c.run_apart-answer.new.out c.args.state.now) c.in_ok-scope.ensures (subst (λ x. rendered_of (partials_of c.args.given.now.partials.now) x ≡ Ok (tree_of c.in_ok-partial.partial.now)) c.as_str.ensures.value c.in_ok-partial.ensures.found) (met_again c.run_apart-answer.result (Ok c.in_ok-in_partial.field-0) c.in_ok-in_partial.ensures (c.run_apart-answer.ensures.performs (held c.in_ok-scope.scope) (environment_of c.args.state.now) c.in_ok-own.ensures)))
 
 pub renders::run_apart-returns-then-given-eq0-clause-performs : goal.renders::run_apart-returns-then-given-eq0-clause-performs
 renders::run_apart-returns-then-given-eq0-clause-performs g t c names e is =
@@ -571,7 +573,8 @@ renders::run_item-returns-in_err-partial-clause-performs g t c over is =
 pub renders::run_item-returns-clause-performs : goal.renders::run_item-returns-clause-performs
 renders::run_item-returns-clause-performs g t c over is =
     let place = place_of g.W.CountedWrite.contents g.W.CountedWrite.failure_count in
-    entered (λ (i : Option Interrupt). i) pairs_scope (bindings_view c.args.bindings.now) (rendered_of (partials_of c.args.given.now.partials.now) c.args.name.now) (λ scope partial. apart (merged over scope) (deeper_meaning (setting_of g.H.NamedFilters.named c.args.given.now) c.args.given.now.depth partial)) c.run_apart.result (held c.in_ok-names.names) (tree_of c.in_ok-partial.partial.now) (place c.args.out.now c.args.state.now) (place c.run_apart.new.out c.args.state.now) c.in_ok-names.ensures c.in_ok-partial.ensures.found (c.run_apart.ensures.performs (merged over (held c.in_ok-names.names)) (environment_of c.args.state.now) (c.in_ok-own.ensures over is))
+    met_again c.run_apart-answer.result c.in_partial.result c.in_partial.ensures
+    (entered (λ (i : Option Interrupt). i) pairs_scope (bindings_view c.args.bindings.now) (rendered_of (partials_of c.args.given.now.partials.now) c.args.name.now) (λ scope partial. apart (merged over scope) (deeper_meaning (setting_of g.H.NamedFilters.named c.args.given.now) c.args.given.now.depth partial)) c.run_apart-answer.result (held c.in_ok-names.names) (tree_of c.in_ok-partial.partial.now) (place c.args.out.now c.args.state.now) (place c.run_apart-answer.new.out c.args.state.now) c.in_ok-names.ensures c.in_ok-partial.ensures.found (c.run_apart-answer.ensures.performs (merged over (held c.in_ok-names.names)) (environment_of c.args.state.now) (c.in_ok-own.ensures over is)))
 
 pub renders::run_render_each-returns-in_err-called-clause-performs : goal.renders::run_render_each-returns-in_err-called-clause-performs
 renders::run_render_each-returns-in_err-called-clause-performs g t c =

@@ -5,10 +5,5 @@ use Rattle.liquid_page.specs.Read.{read_view}
 use Rattle.liquid_page.proofs.Begun.{lent_begun}
 use Rattle.liquid_page.proofs.page.page.Goals as goal
 
--- src/page.rt:58:1
-pub returns-in-Ok-answer-clause-begun : goal.returns-in-Ok-answer-clause-begun
-returns-in-Ok-answer-clause-begun g c = lent_begun _ _ (read_view c.in-Ok.read) _ _ _ _ _ c.deref.ensures c.deref-in-Ok.ensures (ap sources_of c.deref-in-Ok-2.ensures.value) c.in-Ok.ensures c.write_page-writer.ensures.begun
-
--- src/page.rt:58:1
-pub returns-in-Ok-clause-begun : goal.returns-in-Ok-clause-begun
-returns-in-Ok-clause-begun g c = lent_begun _ _ (read_view c.in-Ok.read) _ _ _ _ _ c.deref.ensures c.deref-in-Ok.ensures (ap sources_of c.deref-in-Ok-2.ensures.value) c.in-Ok.ensures c.write_page-writer.ensures.begun
+pub returns-after-answer-clause-begun : goal.returns-after-answer-clause-begun
+returns-after-answer-clause-begun g c = lent_begun _ _ (read_view c.in-Ok.read) _ _ _ _ _ c.deref.ensures c.deref-in-Ok.ensures (ap sources_of c.deref-in-Ok-2.ensures.value) c.in-Ok.ensures c.write_page-writer.ensures.begun

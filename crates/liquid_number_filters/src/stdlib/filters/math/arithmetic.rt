@@ -40,7 +40,14 @@ fn plus_answer(alloc: Global, input: &Value, args: &[Value]) -> Result<Value>
     ensures answer { Answers view result (of_one plus (view input.now) (map view args.now)) }
     ensures no_memory { TakesNoMemory result (of_one plus (view input.now) (map view args.now)) }
 {
-    let (a, b) = operands(alloc, input, &args[0], false)?;
+    sum(alloc, input, &args[0])
+}
+
+fn sum(alloc: Global, input: &Value, operand: &Value) -> Result<Value>
+    ensures answer { Answers view result (plus (view input.now) (view operand.now)) }
+    ensures no_memory { TakesNoMemory result (plus (view input.now) (view operand.now)) }
+{
+    let (a, b) = operands(alloc, input, operand, false)?;
     within_range(alloc, a.checked_add(b))
 }
 
@@ -73,7 +80,14 @@ fn minus_answer(alloc: Global, input: &Value, args: &[Value]) -> Result<Value>
     ensures answer { Answers view result (of_one minus (view input.now) (map view args.now)) }
     ensures no_memory { TakesNoMemory result (of_one minus (view input.now) (map view args.now)) }
 {
-    let (a, b) = operands(alloc, input, &args[0], false)?;
+    difference(alloc, input, &args[0])
+}
+
+fn difference(alloc: Global, input: &Value, operand: &Value) -> Result<Value>
+    ensures answer { Answers view result (minus (view input.now) (view operand.now)) }
+    ensures no_memory { TakesNoMemory result (minus (view input.now) (view operand.now)) }
+{
+    let (a, b) = operands(alloc, input, operand, false)?;
     within_range(alloc, a.checked_sub(b))
 }
 
@@ -106,7 +120,14 @@ fn times_answer(alloc: Global, input: &Value, args: &[Value]) -> Result<Value>
     ensures answer { Answers view result (of_one times (view input.now) (map view args.now)) }
     ensures no_memory { TakesNoMemory result (of_one times (view input.now) (map view args.now)) }
 {
-    let (a, b) = operands(alloc, input, &args[0], false)?;
+    product(alloc, input, &args[0])
+}
+
+fn product(alloc: Global, input: &Value, operand: &Value) -> Result<Value>
+    ensures answer { Answers view result (times (view input.now) (view operand.now)) }
+    ensures no_memory { TakesNoMemory result (times (view input.now) (view operand.now)) }
+{
+    let (a, b) = operands(alloc, input, operand, false)?;
     within_range(alloc, a.checked_mul(b))
 }
 

@@ -39,6 +39,7 @@ impl Filter for Round {
         requires { IsTrue (nat_eq (length args.now) 0 || nat_eq (length args.now) 1) }
         ensures answer { Answers view result (round (view input.now) (map view args.now)) }
         ensures relation { Stands (Rounds (map view args.now) (view input.now)) result }
+        ensures no_memory { TakesNoMemory result (round (view input.now) (map view args.now)) }
     {
         round_answer(alloc, input, args)
     }
@@ -47,6 +48,7 @@ impl Filter for Round {
 fn round_answer(alloc: Global, input: &Value, args: &[Value]) -> Result<Value>
     requires { IsTrue (nat_eq (length args.now) 0 || nat_eq (length args.now) 1) }
     ensures answer { Answers view result (round (view input.now) (map view args.now)) }
+    ensures no_memory { TakesNoMemory result (round (view input.now) (map view args.now)) }
 {
     match args.first() {
         Some(places) => rounded_to(alloc, input, whole_argument(alloc, places)?),

@@ -13,7 +13,7 @@ use Rattle.liquid_tree.specs.Calls.{Call, applied}
 use Rattle.liquid_tree.specs.Tree.{FilterCall}
 use Rattle.liquid_tree.specs.ChainView.{chain_view, chain_filter_view}
 use Rattle.liquid_tree.specs.Evaluation.{answers_with, calls_by, chain_value, entry_value}
-use Rattle.liquid_tree.proofs.Calls.{chain_from, chain_faulted, filters_more, filters_stop, filters_end}
+use Rattle.liquid_tree.proofs.Calls.{chain_from, chain_faulted, faulted_told, filters_more, filters_stop, filters_end}
 use Rattle.liquid_tree.proofs.chain.FilterChain.evaluate_cow.Goals as goal
 
 pub returns-in_err-value-clause-value : goal.returns-in_err-value-clause-value
@@ -26,23 +26,22 @@ loop-stored-init g c =
     chain_from (answers_with (g.H.NamedFilters.named c.args.host.now)) (chain_view c.args.self.now) (environment_of c.args.state.now) (cow_view c.in_ok-value.value) c.in_ok-value.ensures.value
     ∙ ap (λ xs. applied (calls_by (answers_with (g.H.NamedFilters.named c.args.host.now)) (map chain_filter_view xs)) (cow_view c.in_ok-value.value) (environment_of c.args.state.now)) (sym c.deref-stored-items.ensures.value)
 
-pub returns-in_err-value-2-clause-value : goal.returns-in_err-value-2-clause-value
-returns-in_err-value-2-clause-value g c =
-    let p = err_from_is_err_and c.from_residual-in_err-value-2.result c.from_residual-in_err-value-2.ensures.1 in
+pub returns-in-Err-clause-value : goal.returns-in-Err-clause-value
+returns-in-Err-clause-value g c =
     let e = environment_of c.args.state.now in
     let value_with : Call → Result Datum ErrorKind = λ call. applied (call ∷ []) (cow_view c.loop-stored.value) e in
-    rw (p.1, p.2) (filters_stop (answers_with (g.H.NamedFilters.named c.args.host.now)) chain_filter_view (chain_value (answers_with (g.H.NamedFilters.named c.args.host.now)) (chain_view c.args.self.now) e) e c.deref-stored-items.result.now c.loop-stored.stored-index c.stored-item.result (cow_view c.loop-stored.value)
-    c.in_err-value-2.field-0.0.kind c.loop-stored-test.true c.stored-item.is
-    (subst (λ call. Faulted c.in_err-value-2.field-0.0.kind (value_with call)) c.call.ensures.call c.in_err-value-2.ensures)
-    c.loop-stored.invariant)
+    filters_stop (answers_with (g.H.NamedFilters.named c.args.host.now)) chain_filter_view (chain_value (answers_with (g.H.NamedFilters.named c.args.host.now)) (chain_view c.args.self.now) e) e c.deref-stored-items.result.now c.loop-stored.stored-index c.stored-item.result (cow_view c.loop-stored.value)
+    c.of_filter.result.kind c.loop-stored-test.true c.stored-item.is
+    (faulted_told c.in-Err.fault.kind c.of_filter.result.kind (value_with _) c.of_filter.ensures (subst (λ call. Faulted c.in-Err.fault.kind (value_with call)) c.call.ensures.call c.in-Err.ensures))
+    c.loop-stored.invariant
 
 pub loop-stored-preserved : goal.loop-stored-preserved
 loop-stored-preserved g c =
     let e = environment_of c.args.state.now in
     let value_with : Call → Result Datum ErrorKind = λ call. applied (call ∷ []) (cow_view c.loop-stored.value) e in
     filters_more (answers_with (g.H.NamedFilters.named c.args.host.now)) chain_filter_view (chain_value (answers_with (g.H.NamedFilters.named c.args.host.now)) (chain_view c.args.self.now) e) e c.deref-stored-items.result.now c.loop-stored.stored-index c.stored-item.result (cow_view c.loop-stored.value)
-    (cow_view c.in_ok-value-2.value) c.loop-stored-test.true c.stored-item.is
-    (ap value_with (sym c.call.ensures.call) ∙ c.in_ok-value-2.ensures)
+    (cow_view c.in-Ok.next) c.loop-stored-test.true c.stored-item.is
+    (ap value_with (sym c.call.ensures.call) ∙ c.in-Ok.ensures)
     c.loop-stored.invariant
 
 pub returns-clause-value : goal.returns-clause-value
@@ -63,6 +62,6 @@ pub returns-in_err-value-clause-no_memory : goal.returns-in_err-value-clause-no_
 returns-in_err-value-clause-no_memory g c = λ empty none there.
     absurd (false≢true (c.in_err-value.ensures.no_memory none (there_before (value_of (chain_view c.args.self.now).entry (environment_of c.args.state.now)) (chain_view c.args.self.now).filters there)))
 
-pub returns-in_err-value-2-clause-no_memory : goal.returns-in_err-value-2-clause-no_memory
-returns-in_err-value-2-clause-no_memory g c = λ empty none there.
+pub returns-in-Err-clause-no_memory : goal.returns-in-Err-clause-no_memory
+returns-in-Err-clause-no_memory g c = λ empty none there.
     absurd (none_at chain_filter_view c.deref-stored-items.result.now c.loop-stored.stored-index (ap (map chain_filter_view) c.deref-stored-items.ensures.value ∙ empty) c.loop-stored-test.true)

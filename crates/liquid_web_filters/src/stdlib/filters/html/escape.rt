@@ -1,14 +1,24 @@
 //! Filters that write the letters with a meaning in HTML by their escapes.
-ghost use Rattle.std.specs.Prelude.{◌≡◌, ◌++◌, nat_eq, option_map, string_bytes, IsTrue, length, map};
+ghost use Rattle.std.specs.Prelude.{◌≡◌, nat_eq, string_bytes, IsTrue, length, map};
 ghost use Rattle.liquid_model.specs.Answer.{Gives, Answers};
-ghost use Rattle.liquid_web_filters.specs.Escapes.{ends_escape, escape_answer, escape_of, escape_once_answer, escaped, escaped_letter, escaped_once, once_letter};
+ghost use Rattle.liquid_web_filters.specs.Escapes.{ends_escape, escape_answer, escape_once_answer, escaped, escaped_once, once_byte};
 ghost use Rattle.liquid_model.specs.View.{view};
 ghost use Rattle.liquid_list_filters.specs.Stands.{Stands};
 ghost use Rattle.liquid_web_filters.specs.HtmlLaws.{EscapesOnce, EscapesText};
 
+use crate::stdlib::filters::replaced::push_replaced;
 use liquid_core::{Filter, Result, Value};
 use liquid_list_filters::text_of;
 use std::alloc::Global;
+
+/// The characters that have an escape, each with its own. The `&` is the first.
+const ESCAPES: [(char, &str); 5] = [
+    ('&', "&amp;"),
+    ('<', "&lt;"),
+    ('>', "&gt;"),
+    ('\'', "&#39;"),
+    ('"', "&quot;"),
+];
 
 /// `escape`: the input's text with `&lt;`, `&gt;`, `&#39;`, `&quot;` and `&amp;` for `<`, `>`, `'`, `"` and `&`. Nil stays.
 #[derive(Clone, Copy, Drop)]
@@ -84,10 +94,7 @@ fn escaped(alloc: Global, text: &str) -> Result<String>
     ensures { Gives (λ s. string_bytes s) result (escaped text.now) }
 {
     let mut out = String::with_capacity(alloc, text.len())?;
-    let mut rest = text.chars();
-    while let Some(letter) = rest.next() {
-        push_escaped(&mut out, letter)?;
-    }
+    push_replaced(&mut out, text, &ESCAPES)?;
     Ok(out)
 }
 
@@ -95,21 +102,21 @@ fn escaped_once(alloc: Global, text: &str) -> Result<String>
     ensures { Gives (λ s. string_bytes s) result (escaped_once text.now) }
 {
     let mut out = String::with_capacity(alloc, text.len())?;
-    let mut rest = text.chars();
-    while let Some(letter) = rest.next() {
-        push_escaped_once(&mut out, letter, rest.as_str())?;
+    let mut rest = text;
+    while let Some((before, after)) = rest.split_once('&') {
+        push_replaced(&mut out, before, &ESCAPES[1..])?;
+        out.push_str(and_before(after))?;
+        rest = after;
     }
+    push_replaced(&mut out, rest, &ESCAPES[1..])?;
     Ok(out)
 }
 
-/// Appends a character, or the escape for it unless it is the `&` of one with the text after it.
-fn push_escaped_once(out: &mut String, letter: char, after: &str) -> Result<()>
-    ensures { Gives (λ _. string_bytes out.new) result (string_bytes out.old ++ once_letter letter after.now) }
+/// What stands for an `&`: itself where it begins an escape with the text after it, and else its own escape.
+fn and_before(after: &str) -> &'static str
+    ensures { result.now ≡ once_byte 38 after.now }
 {
-    if letter == '&' && ends_escape(after) {
-        return Ok(out.push(letter)?);
-    }
-    push_escaped(out, letter)
+    if ends_escape(after) { "&" } else { "&amp;" }
 }
 
 /// Whether the text begins with what follows the `&` of an escape.
@@ -121,27 +128,4 @@ fn ends_escape(after: &str) -> bool
         || after.starts_with("#39;")
         || after.starts_with("quot;")
         || after.starts_with("amp;")
-}
-
-/// Appends a character, or the escape for it.
-fn push_escaped(out: &mut String, letter: char) -> Result<()>
-    ensures { Gives (λ _. string_bytes out.new) result (string_bytes out.old ++ escaped_letter letter) }
-{
-    match escape_of(letter) {
-        Some(escape) => Ok(out.push_str(escape)?),
-        None => Ok(out.push(letter)?),
-    }
-}
-
-fn escape_of(letter: char) -> Option<&'static str>
-    ensures { option_map (λ t. t.now) result ≡ escape_of letter }
-{
-    match letter {
-        '<' => Some("&lt;"),
-        '>' => Some("&gt;"),
-        '\'' => Some("&#39;"),
-        '"' => Some("&quot;"),
-        '&' => Some("&amp;"),
-        _ => None,
-    }
 }

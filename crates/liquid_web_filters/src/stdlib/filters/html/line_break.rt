@@ -1,11 +1,12 @@
 //! The filter that breaks lines.
-ghost use Rattle.std.specs.Prelude.{◌++◌, nat_eq, string_bytes, IsTrue, length, map};
+ghost use Rattle.std.specs.Prelude.{nat_eq, string_bytes, IsTrue, length, map};
 ghost use Rattle.liquid_model.specs.Answer.{Gives, Answers};
-ghost use Rattle.liquid_web_filters.specs.LineBreaks.{broken, broken_letter, newline_to_br_answer};
+ghost use Rattle.liquid_web_filters.specs.LineBreaks.{broken, newline_to_br_answer};
 ghost use Rattle.liquid_model.specs.View.{view};
 ghost use Rattle.liquid_list_filters.specs.Stands.{Stands};
 ghost use Rattle.liquid_web_filters.specs.HtmlLaws.{BreaksLines};
 
+use crate::stdlib::filters::replaced::push_replaced;
 use liquid_core::{Filter, Result, Value};
 use liquid_list_filters::text_of;
 use std::alloc::Global;
@@ -44,19 +45,6 @@ fn broken(alloc: Global, text: &str) -> Result<String>
     ensures { Gives (λ s. string_bytes s) result (broken text.now) }
 {
     let mut out = String::with_capacity(alloc, text.len())?;
-    let mut rest = text.chars();
-    while let Some(letter) = rest.next() {
-        push_broken(&mut out, letter)?;
-    }
+    push_replaced(&mut out, text, &[('\n', "<br />\n")])?;
     Ok(out)
-}
-
-/// Appends a character, and before an LF a break.
-fn push_broken(out: &mut String, letter: char) -> Result<()>
-    ensures { Gives (λ _. string_bytes out.new) result (string_bytes out.old ++ broken_letter letter) }
-{
-    if letter == '\n' {
-        return Ok(out.push_str("<br />\n")?);
-    }
-    Ok(out.push(letter)?)
 }

@@ -1,10 +1,13 @@
 //! Marks of HTML, which open and close what is cut: found in characters, in either case.
-ghost use Rattle.std.specs.Prelude.{◌≡◌, ◌++◌, ◌<◌, IsTrue, MatchOption, drop, false, length, option_map, true};
+ghost use Rattle.std.specs.Prelude.{◌≡◌, ◌++◌, ◌<◌, ◌≤◌, IfSome, IsTrue, MatchOption, drop, false, length, option_map, string_bytes, true};
+ghost use Rattle.std.specs.Cow.{cow_str_bytes};
+ghost use Rattle.std.specs.Str.{chars, encode_utf8_all};
 ghost use Rattle.liquid_model.specs.Answer.{Gives};
-ghost use Rattle.liquid_web_filters.specs.Tags.{SplitsAtFirst, begins_mark, is_opener, stands_for, without_pairs, without_tags};
+ghost use Rattle.liquid_web_filters.specs.Tags.{SplitsAtFirst, begins_mark, is_mark, is_opener, stands_for, strip_html, without_pairs};
 
 use liquid_core::Result;
 use std::alloc::Global;
+use std::borrow::CowStr;
 
 const SCRIPT: [char; 7] = ['<', 's', 'c', 'r', 'i', 'p', 't'];
 
@@ -22,48 +25,60 @@ const TAG: [char; 1] = ['<'];
 
 const TAG_END: [char; 1] = ['>'];
 
-/// The characters without scripts, then without styles, comments and tags.
-pub fn without_tags(alloc: Global, text: &[char]) -> Result<Vec<char>>
-    ensures { Gives (λ v. v.items) result (without_tags text.now) }
+/// The text without scripts, then without styles, comments and tags.
+pub fn without_tags(alloc: Global, text: &str) -> Result<String>
+    ensures { Gives (λ s. string_bytes s) result (strip_html text.now) }
 {
     let no_scripts = without_pairs(alloc, text, &SCRIPT, &SCRIPT_END)?;
     let no_styles = without_pairs(alloc, &no_scripts, &STYLE, &STYLE_END)?;
     let no_comments = without_pairs(alloc, &no_styles, &COMMENT, &COMMENT_END)?;
-    without_pairs(alloc, &no_comments, &TAG, &TAG_END)
+    let no_tags = without_pairs(alloc, &no_comments, &TAG, &TAG_END)?;
+    Ok(no_tags.into_owned(alloc)?)
 }
 
-/// One pass: each opener is cut with what follows it, up to the end of the first closer after it.
-fn without_pairs(
+/// One pass: each opener is cut with what follows it, up to the end of the first closer after it. A text without a pair of
+/// them is lent.
+fn without_pairs<'a>(
     alloc: Global,
-    text: &[char],
+    text: &'a str,
     opener: &[char],
     closer: &[char],
-) -> Result<Vec<char>>
+) -> Result<CowStr<'a>>
     requires opens { IsTrue (is_opener opener.now) }
-    requires closes { 0 < length closer.now }
-    ensures { Gives (λ v. v.items) result (without_pairs opener.now closer.now text.now) }
+    requires closes { IsTrue (is_mark closer.now) }
+    ensures { Gives (λ s. cow_str_bytes s) result (encode_utf8_all (without_pairs opener.now closer.now (chars text.now))) }
 {
-    let mut out = Vec::with_capacity(alloc, text.len())?;
+    let Some((before, after)) = split_at_pair(text, opener, closer) else {
+        return Ok(CowStr::Borrowed(text));
+    };
+    let mut out = String::with_capacity(alloc, text.len())?;
+    out.push_str(before)?;
+    push_without_pairs(&mut out, after, opener, closer)?;
+    Ok(CowStr::Owned(out))
+}
+
+/// Appends what a pass leaves of a text.
+fn push_without_pairs(out: &mut String, text: &str, opener: &[char], closer: &[char]) -> Result<()>
+    requires opens { IsTrue (is_opener opener.now) }
+    requires closes { IsTrue (is_mark closer.now) }
+    ensures { Gives (λ _. string_bytes out.new) result (string_bytes out.old ++ encode_utf8_all (without_pairs opener.now closer.now (chars text.now))) }
+{
     let mut rest = text;
     while let Some((before, after)) = split_at_pair(rest, opener, closer) {
-        out.extend_from_slice(before)?;
+        out.push_str(before)?;
         rest = after;
     }
-    out.extend_from_slice(rest)?;
-    Ok(out)
+    Ok(out.push_str(rest)?)
 }
 
 /// The text before the first opener and the text after the first closer that follows it. Where none follows the first
 /// opener, none follows a later one, so the search ends there.
-fn split_at_pair<'a>(
-    text: &'a [char],
-    opener: &[char],
-    closer: &[char],
-) -> Option<(&'a [char], &'a [char])>
+fn split_at_pair<'a>(text: &'a str, opener: &[char], closer: &[char]) -> Option<(&'a str, &'a str)>
     requires opens { IsTrue (is_opener opener.now) }
-    requires closes { 0 < length closer.now }
-    ensures { MatchOption result (without_pairs opener.now closer.now text.now ≡ text.now)
-        (λ p. (without_pairs opener.now closer.now text.now ≡ p.0.now ++ without_pairs opener.now closer.now p.1.now) × (length p.1.now < length text.now)) }
+    requires closes { IsTrue (is_mark closer.now) }
+    ensures cases { MatchOption result (without_pairs opener.now closer.now (chars text.now) ≡ chars text.now)
+        (λ p. without_pairs opener.now closer.now (chars text.now) ≡ chars p.0.now ++ without_pairs opener.now closer.now (chars p.1.now)) }
+    ensures shorter { IfSome result (λ p. length p.1.now < length text.now) }
 {
     match split_at_mark(text, opener) {
         Some((before, body)) => match split_at_mark(body, closer) {
@@ -74,34 +89,39 @@ fn split_at_pair<'a>(
     }
 }
 
-/// The text before the first place of the mark, and what follows the mark there.
-fn split_at_mark<'a>(text: &'a [char], mark: &[char]) -> Option<(&'a [char], &'a [char])>
-    ensures { SplitsAtFirst mark.now text.now (option_map (λ p. (p.0.now, p.1.now)) result) }
+/// The text before the first place of the mark, and what follows the mark there. Only where the mark's first character
+/// stands is the rest of it looked for.
+fn split_at_mark<'a>(text: &'a str, mark: &[char]) -> Option<(&'a str, &'a str)>
+    requires { IsTrue (is_mark mark.now) }
+    ensures splits { SplitsAtFirst mark.now (chars text.now) (option_map (λ p. (chars p.0.now, chars p.1.now)) result) }
+    ensures shorter { IfSome result (λ p. length p.1.now < length text.now) }
 {
+    let (first, others) = mark.split_first()?;
     let mut rest = text;
-    let mut place = 0;
-    while let Some((_, more)) = rest.split_first() {
-        if let Some(left) = after_mark(rest, mark) {
-            return Some((&text[..place], left));
+    while let Some((_, after)) = rest.split_once(*first) {
+        if let Some(left) = after_mark(after, others) {
+            let (before, _) = text.split_at(text.len() - after.len() - 1);
+            return Some((before, left));
         }
-        rest = more;
-        place += 1;
+        rest = after;
     }
     None
 }
 
 /// What follows the mark, where the text begins with it.
-fn after_mark<'a>(text: &'a [char], mark: &[char]) -> Option<&'a [char]>
-    ensures { MatchOption result (begins_mark mark.now text.now ≡ false) (λ r. (begins_mark mark.now text.now ≡ true) × (r.now ≡ drop (length mark.now) text.now)) }
+fn after_mark<'a>(text: &'a str, mark: &[char]) -> Option<&'a str>
+    ensures cases { MatchOption result (begins_mark mark.now (chars text.now) ≡ false)
+        (λ r. (begins_mark mark.now (chars text.now) ≡ true) × (chars r.now ≡ drop (length mark.now) (chars text.now))) }
+    ensures within { IfSome result (λ r. length r.now ≤ length text.now) }
 {
-    let mut rest = text;
+    let mut rest = text.chars();
     for wanted in mark {
-        match rest.split_first() {
-            Some((found, more)) if stands_for(*wanted, *found) => rest = more,
+        match rest.next() {
+            Some(found) if stands_for(*wanted, found) => {}
             _ => return None,
         }
     }
-    Some(rest)
+    Some(rest.as_str())
 }
 
 /// Whether a character of a mark stands for this one.

@@ -1,8 +1,7 @@
 //! The filter that cuts tags.
-ghost use Rattle.std.specs.Prelude.{nat_eq, string_bytes, IsTrue, length, map};
-ghost use Rattle.std.specs.Str.{chars, encode_utf8_all};
-ghost use Rattle.liquid_model.specs.Answer.{Gives, Answers};
-ghost use Rattle.liquid_web_filters.specs.Tags.{strip_html, strip_html_answer};
+ghost use Rattle.std.specs.Prelude.{nat_eq, IsTrue, length, map};
+ghost use Rattle.liquid_model.specs.Answer.{Answers};
+ghost use Rattle.liquid_web_filters.specs.Tags.{strip_html_answer};
 ghost use Rattle.liquid_model.specs.View.{view};
 ghost use Rattle.liquid_list_filters.specs.Stands.{Stands};
 ghost use Rattle.liquid_web_filters.specs.HtmlLaws.{StripsTags};
@@ -40,33 +39,5 @@ fn strip_html_answer(alloc: Global, input: &Value, _args: &[Value]) -> Result<Va
     ensures { Answers view result (strip_html_answer (view input.now) (map view _args.now)) }
 {
     let text = text_of(alloc, input)?;
-    Ok(Value::Text(stripped(alloc, text.as_str())?))
-}
-
-fn stripped(alloc: Global, text: &str) -> Result<String>
-    ensures { Gives (λ s. string_bytes s) result (strip_html text.now) }
-{
-    let all = letters(alloc, text)?;
-    spelled(alloc, &without_tags(alloc, &all)?)
-}
-
-fn letters(alloc: Global, text: &str) -> Result<Vec<char>>
-    ensures { Gives (λ v. v.items) result (chars text.now) }
-{
-    let mut letters = Vec::with_capacity(alloc, text.len())?;
-    let mut rest = text.chars();
-    while let Some(letter) = rest.next() {
-        letters.push(letter)?;
-    }
-    Ok(letters)
-}
-
-fn spelled(alloc: Global, letters: &[char]) -> Result<String>
-    ensures { Gives (λ s. string_bytes s) result (encode_utf8_all letters.now) }
-{
-    let mut out = String::with_capacity(alloc, letters.len())?;
-    for letter in letters {
-        out.push(*letter)?;
-    }
-    Ok(out)
+    Ok(Value::Text(without_tags(alloc, text.as_str())?))
 }

@@ -1,0 +1,250 @@
+"""Bikleinu for Python: Liquid templates over data.
+
+    >>> import bikleinu
+    >>> bikleinu.render("Hello {{ name }}!", {"name": "Ada"})
+    'Hello Ada!'
+
+A Template is parsed once and renders many times, and Data is read once for many templates. What can't be done raises a
+LiquidError. Each object may be used in any thread; calls that share one wait for one another, and others run side by side.
+
+The library stands beside this file, as libbikleinu.so, or where bindings/build puts it, or where the variable BIKLEINU_LIBRARY says.
+"""
+from __future__ import annotations
+
+import ctypes
+import json
+import os
+import threading
+from collections.abc import Iterator, Mapping
+from contextlib import ExitStack, contextmanager
+from dataclasses import dataclass
+from typing import Any
+
+__all__ = ["Data", "Language", "LiquidError", "Page", "Partials", "Place", "Template", "render"]
+
+MEMORY = 17
+NO_TEXT = 101
+OTHER_HANDLE = 102
+
+_TEXT, _MESSAGE, _NAME, _PARTIAL = range(4)
+_ORIGINS = {1: "template", 2: "partial", 3: "data"}
+_NAMES = {MEMORY: "Memory", NO_TEXT: "NoText", OTHER_HANDLE: "OtherHandle"}
+
+
+class _Handle(ctypes.Structure):
+    _fields_ = [("there", ctypes.c_bool), ("at", ctypes.c_void_p)]
+
+
+def _loaded() -> ctypes.CDLL:
+    here = os.path.dirname(os.path.abspath(__file__))
+    places = [os.path.join(here, folder, "libbikleinu.so") for folder in ("", "../out")]
+    there = next(filter(os.path.exists, places), places[0])
+    library = ctypes.CDLL(os.environ.get("BIKLEINU_LIBRARY", there))
+    handle, text, size, number = ctypes.POINTER(_Handle), ctypes.c_char_p, ctypes.c_size_t, ctypes.c_uint32
+    calls = {
+        "language": ([handle], number),
+        "parse": ([handle, text, size, handle], number),
+        "data": ([text, size, handle], number),
+        "partials": ([handle], number),
+        "insert": ([handle, text, size, handle], number),
+        "render": ([handle, handle, handle, number, handle], number),
+        "length": ([handle, number], size),
+        "copy": ([handle, number, text, size], size),
+        "location": ([handle, ctypes.POINTER(size), ctypes.POINTER(size)], number),
+        "free": ([handle], None),
+    }
+    for name, (takes, gives) in calls.items():
+        call = getattr(library, f"bikleinu_{name}")
+        call.argtypes, call.restype = takes, gives
+    return library
+
+
+_library = _loaded()
+
+
+@dataclass(frozen=True)
+class Place:
+    """Where a fault stands: in the "template", a "partial" or the "data", with line and column in characters, each from 1."""
+
+    origin: str
+    line: int
+    column: int
+    partial: str | None = None
+
+
+class LiquidError(Exception):
+    """Why there is no page: the kind's number and name, a message, and the place where that is known. After a run that ended by the
+    fault, text has what the page wrote up to it."""
+
+    def __init__(self, number: int, name: str, message: str | None = None, place: Place | None = None, text: str | None = None) -> None:
+        super().__init__(number, name, message, place, text)
+        self.number, self.name, self.message, self.place, self.text = number, name, message, place, text
+
+    def __str__(self) -> str:
+        told = [self.name]
+        if self.place:
+            among = {"template": "", "partial": f"in the partial `{self.place.partial}`: ", "data": "in the data: "}[self.place.origin]
+            told.append(f"{among}line {self.place.line}, column {self.place.column}")
+        return ": ".join([*told, *([self.message] if self.message else [])])
+
+
+def _bytes(text: str) -> bytes:
+    """The text as UTF-8. Half a pair of UTF-16, which Python's texts may hold, stays as bytes that the library refuses."""
+    return text.encode("utf-8", "surrogatepass")
+
+
+class _Owner:
+    """What lies behind a handle of the library's, with the lock that keeps it to one call at a time."""
+
+    def __init__(self) -> None:
+        self._handle = _Handle()
+        self._lock = threading.Lock()
+
+    def __del__(self, free: Any = _library.bikleinu_free) -> None:
+        if hasattr(self, "_handle"):
+            free(self._handle)
+
+    def _part(self, part: int) -> str:
+        length = _library.bikleinu_length(self._handle, part)
+        if not length:
+            return ""
+        room = ctypes.create_string_buffer(length)
+        _library.bikleinu_copy(self._handle, part, room, length)
+        return room.raw.decode()
+
+    def _place(self, partial: str | None) -> Place | None:
+        line, column = ctypes.c_size_t(), ctypes.c_size_t()
+        origin = _ORIGINS.get(_library.bikleinu_location(self._handle, line, column))
+        if origin is None:
+            return None
+        if origin == "template" and partial is not None:
+            return Place("partial", line.value, column.value, partial)
+        return Place(origin, line.value, column.value, self._part(_PARTIAL) if origin == "partial" else None)
+
+    def _error(self, number: int, partial: str | None = None, text: str | None = None) -> LiquidError:
+        """The error of a call that answered the number and put its fault here."""
+        name = self._part(_NAME) or _NAMES.get(number, str(number))
+        return LiquidError(number, name, self._part(_MESSAGE) or None, self._place(partial), text)
+
+    def _need(self, number: int, partial: str | None = None) -> None:
+        if number:
+            raise self._error(number, partial)
+
+
+@contextmanager
+def _locked(*owners: _Owner) -> Iterator[None]:
+    """All of these are kept for this thread. They are locked in one order everywhere, so that no two threads wait for each other."""
+    with ExitStack() as locks:
+        for owner in sorted({id(owner): owner for owner in owners}.values(), key=id):
+            locks.enter_context(owner._lock)
+        yield
+
+
+class Language(_Owner):
+    """The standard language: its tags, blocks and filters."""
+
+    def __init__(self) -> None:
+        super().__init__()
+        self._need(_library.bikleinu_language(self._handle))
+
+
+class Template(_Owner):
+    """A template, which can be rendered any number of times."""
+
+    def __init__(self, source: str, language: Language | None = None) -> None:
+        super().__init__()
+        self._parse(source, language or _standard())
+
+    def _parse(self, source: str, language: Language, partial: str | None = None) -> None:
+        text = _bytes(source)
+        with _locked(language):
+            answer = _library.bikleinu_parse(language._handle, text, len(text), self._handle)
+        self._need(answer, partial)
+
+    @classmethod
+    def _of_partial(cls, name: str, source: str, language: Language) -> Template:
+        made = cls.__new__(cls)
+        _Owner.__init__(made)
+        made._parse(source, language, name)
+        return made
+
+    def page(self, data: Data | Mapping[str, Any] | str | None = None, partials: Partials | None = None, depth: int = 32) -> Page:
+        """The page, with the fault that it ended by, where there is one. Only refused memory raises an error."""
+        facts, others, page = _data(data), partials or _Owner(), _Owner()
+        with _locked(self, facts, others):
+            answer = _library.bikleinu_render(self._handle, facts._handle, others._handle, depth, page._handle)
+        if answer in (MEMORY, OTHER_HANDLE):
+            raise page._error(answer)
+        text = page._part(_TEXT)
+        return Page(text, page._error(answer, text=text) if answer else None)
+
+    def render(self, data: Data | Mapping[str, Any] | str | None = None, partials: Partials | None = None, depth: int = 32) -> str:
+        """The page's text, or the fault that it ended by as an error."""
+        page = self.page(data, partials, depth)
+        if page.fault:
+            raise page.fault
+        return page.text
+
+
+@dataclass(frozen=True)
+class Page:
+    """What a template shows: the text up to the fault, and the fault that the run ended by, where there is one."""
+
+    text: str
+    fault: LiquidError | None = None
+
+
+class Data(_Owner):
+    """Data for templates: a mapping that JSON can hold, or a text of JSON."""
+
+    def __init__(self, data: Mapping[str, Any] | str) -> None:
+        super().__init__()
+        text = _bytes(data if isinstance(data, str) else json.dumps(data, ensure_ascii=False))
+        self._need(_library.bikleinu_data(text, len(text), self._handle))
+
+
+class Partials(_Owner):
+    """Templates by name, for the tags include and render. Of two with one name the later counts."""
+
+    def __init__(self, sources: Mapping[str, str] | None = None, language: Language | None = None) -> None:
+        super().__init__()
+        self._language = language
+        self._need(_library.bikleinu_partials(self._handle))
+        for name, source in (sources or {}).items():
+            self.insert(name, source)
+
+    def insert(self, name: str, source: str) -> None:
+        """Puts a template of this source at a name."""
+        template = Template._of_partial(name, source, self._language or _standard())
+        text = _bytes(name)
+        with _locked(self):
+            answer = _library.bikleinu_insert(self._handle, text, len(text), template._handle)
+        if answer:
+            raise LiquidError(answer, _NAMES.get(answer, str(answer)))
+
+
+class _Shared(threading.local):
+    language: Language | None = None
+
+
+_shared = _Shared()
+
+
+def _standard() -> Language:
+    """This thread's language."""
+    if _shared.language is None:
+        _shared.language = Language()
+    return _shared.language
+
+
+def _data(data: Data | Mapping[str, Any] | str | None) -> _Owner:
+    """The data, where a handle that holds nothing stands for none."""
+    if data is None or isinstance(data, Data):
+        return data or _Owner()
+    return Data(data)
+
+
+def render(source: str, data: Data | Mapping[str, Any] | str | None = None, partials: Mapping[str, str] | None = None, depth: int = 32) -> str:
+    """The page of a source that is rendered once."""
+    template = Template(source)
+    return template.render(data, Partials(partials) if partials else None, depth)

@@ -1,0 +1,5 @@
+pub mod Calls
+pub mod Numbers
+pub mod Owned
+pub mod Parts
+pub mod Settled

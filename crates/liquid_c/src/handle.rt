@@ -1,0 +1,107 @@
+//! What a caller in C holds.
+ghost use Rattle.std.specs.Prelude.{◌≡◌, Option, Some, None, option_map};
+ghost use Rattle.std.specs.Coded.{coded_option};
+ghost use Rattle.liquid_c.specs.Owned.{held_code, owned};
+ghost use Rattle.liquid_c.specs.declared.held.Held.{Held};
+
+use crate::held::Held;
+use crate::kept::Kept;
+use std::alloc::Global;
+use std::marker::Model;
+use std::mem;
+
+/// A place in the caller's memory that holds nothing or owns what lies behind it. A caller in C begins with one whose bytes are
+/// all 0, which holds nothing, and copies none.
+#[repr(C)]
+pub struct Handle {
+    there: bool,
+    at: *mut (),
+    alloc: Global,
+    ghost held: { Option Held } by { coded_option held_code },
+}
+
+impl Model for Handle {
+    ghost also_owns = { λ h. owned h.alloc h.there h.at h.held };
+}
+
+impl Handle {
+    /// A handle that holds nothing.
+    pub(crate) fn none(alloc: Global) -> Handle
+        ensures { result.held ≡ None }
+    {
+        Handle {
+            there: false,
+            at: std::ptr::null_mut(),
+            alloc,
+        }
+    }
+
+    /// A handle on what the box holds.
+    pub(crate) fn of(held: Box<Held>) -> Handle
+        ensures { result.held ≡ Some held.value }
+    {
+        Handle::seal(Kept::of(held))
+    }
+
+    fn seal(held: Kept<Held, Global>) -> Handle
+        ensures { result.held ≡ Some held.value }
+    {
+        let Kept { ptr, alloc } = held;
+        Handle {
+            there: true,
+            at: ptr as *mut (),
+            alloc,
+        }
+    }
+
+    fn unseal(self) -> Option<Kept<Held, Global>>
+        ensures { option_map (λ k. k.value) result ≡ self.held }
+    {
+        let Handle { there, at, alloc } = self;
+        if there {
+            Some(Kept {
+                ptr: at as *mut Held,
+                alloc,
+            })
+        } else {
+            None
+        }
+    }
+
+    fn into_box(self) -> Option<Box<Held>>
+        ensures { option_map (λ b. b.value) result ≡ self.held }
+    {
+        match self.unseal() {
+            Some(kept) => Some(kept.into_box()),
+            None => None,
+        }
+    }
+
+    /// Takes out what the handle holds, so that a call can use it. It takes no memory.
+    pub(crate) fn take(&mut self, alloc: Global) -> Option<Box<Held>>
+        ensures taken { option_map (λ b. b.value) result ≡ self.old.held }
+        ensures left { self.new.held ≡ None }
+    {
+        mem::replace(self, Handle::none(alloc)).into_box()
+    }
+
+    /// Puts in what the handle is to hold. It takes no memory.
+    pub(crate) fn put(&mut self, alloc: Global, held: Option<Box<Held>>)
+        ensures { self.new.held ≡ option_map (λ b. b.value) held }
+    {
+        let handle = match held {
+            Some(held) => Handle::of(held),
+            None => Handle::none(alloc),
+        };
+        drop(mem::replace(self, handle));
+    }
+}
+
+impl Drop for Handle {
+    fn drop(self) {
+        match self.unseal() {
+            Some(kept) => drop(kept.into_box()),
+            None => {}
+        }
+    }
+}

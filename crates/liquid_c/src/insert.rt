@@ -1,0 +1,89 @@
+//! Templates that become partials.
+ghost use Rattle.std.specs.Prelude.{◌≡◌, Some, IsSome, IsTrue, option_map};
+ghost use Rattle.liquid_model.specs.Maps.{listed};
+ghost use Rattle.liquid_syntax.specs.Templates.{partials_of, places_of};
+ghost use Rattle.liquid_c.specs.declared.held.Held.TheVariants as held;
+ghost use Rattle.liquid_c.specs.Calls.{IsPut};
+
+use crate::handle::Handle;
+use crate::held::Held;
+use crate::refusal::Refusal;
+use liquid_core::ErrorKind;
+use liquid_lib::Partials;
+use std::alloc::Global;
+
+/// Puts a template among partials at a name; the one of that name before is dropped. 0, and the template's handle then holds
+/// nothing. After any other answer nothing changed; `Memory` is such a one.
+#[unsafe(no_mangle)]
+pub extern "C" fn bikleinu_insert(
+    alloc: Global,
+    partials: &mut Handle,
+    name: &[u8],
+    template: &mut Handle,
+) -> u32
+    ensures { IsPut partials.old.held name.now template.old.held result partials.new.held template.new.held }
+{
+    let mut held = partials.take(alloc);
+    let (number, left) = put(alloc, &mut held, name, template.take(alloc));
+    partials.put(alloc, held);
+    template.put(alloc, left);
+    number
+}
+
+/// Puts it there, and answers the number with what is left of the template.
+fn put(
+    alloc: Global,
+    partials: &mut Option<Box<Held>>,
+    name: &[u8],
+    template: Option<Box<Held>>,
+) -> (u32, Option<Box<Held>>)
+    ensures { IsPut (option_map (λ b. b.value) partials.old) name.now (option_map (λ b. b.value) template) result.0 (option_map (λ b. b.value) partials.new) (option_map (λ b. b.value) result.1) }
+{
+    let Some(template) = template else {
+        return (Refusal::OtherHandle.number(), None);
+    };
+    match partials {
+        Some(held) => match &mut **held {
+            Held::Partials(partials) => put_template(alloc, partials, name, template),
+            _ => (Refusal::OtherHandle.number(), Some(template)),
+        },
+        None => (Refusal::OtherHandle.number(), Some(template)),
+    }
+}
+
+/// Makes a place of the name, where there is none. Without the memory for it nothing changes.
+fn is_reserved(alloc: Global, partials: &mut Partials, name: &str) -> bool
+    ensures place { IsTrue result → IsSome (listed (places_of partials.new) name.now) }
+    ensures same { partials_of partials.new ≡ partials_of partials.old }
+{
+    match String::from_str(alloc, name) {
+        Ok(name) => partials.reserve(name).is_ok(),
+        Err(_) => false,
+    }
+}
+
+fn put_template(
+    alloc: Global,
+    partials: &mut Partials,
+    name: &[u8],
+    template: Box<Held>,
+) -> (u32, Option<Box<Held>>)
+    ensures { IsPut (Some (held.Partials partials.old)) name.now (Some template.value) result.0 (Some (held.Partials partials.new)) (option_map (λ b. b.value) result.1) }
+{
+    if !matches!(&*template, Held::Template(_)) {
+        return (Refusal::OtherHandle.number(), Some(template));
+    }
+    let Ok(name) = str::from_utf8(name) else {
+        return (Refusal::NoText.number(), Some(template));
+    };
+    if !is_reserved(alloc, partials, name) {
+        return (u32::from(ErrorKind::Memory.number()), Some(template));
+    }
+    match Box::into_inner(template) {
+        Held::Template(template) => {
+            drop(partials.exchange(name, Some(template)));
+            (0, None)
+        }
+        _ => (0, None),
+    }
+}

@@ -1,0 +1,70 @@
+//! Languages, partials and data.
+ghost use Rattle.std.specs.Prelude.{◌≡◌, None};
+ghost use Rattle.liquid_c.specs.Calls.{AreNoPartials, IsData, IsLanguage};
+ghost use Rattle.liquid_c.specs.Settled.{Settled};
+
+use crate::handle::Handle;
+use crate::held::Held;
+use crate::refusal::{Refusal, settle};
+use liquid_lib::{Partials, language};
+use liquid_site::data_from_json;
+use std::alloc::Global;
+
+/// Makes the standard language. 0, or `Memory`.
+#[unsafe(no_mangle)]
+pub extern "C" fn bikleinu_language(alloc: Global, made: &mut Handle) -> u32
+    ensures { Settled IsLanguage result made.new.held }
+{
+    settle(alloc, standard(alloc), made)
+}
+
+fn standard(alloc: Global) -> Result<Held, Refusal>
+    ensures { IsLanguage result }
+{
+    match language(alloc) {
+        Ok(language) => Ok(Held::Language(language)),
+        Err(fault) => Ok(Held::Fault(fault)),
+    }
+}
+
+/// Makes partials, of which there are none yet. 0, or `Memory`.
+#[unsafe(no_mangle)]
+pub extern "C" fn bikleinu_partials(alloc: Global, made: &mut Handle) -> u32
+    ensures { Settled AreNoPartials result made.new.held }
+{
+    settle(alloc, no_partials(alloc), made)
+}
+
+fn no_partials(alloc: Global) -> Result<Held, Refusal>
+    ensures { AreNoPartials result }
+{
+    Ok(Held::Partials(Partials::new(alloc)))
+}
+
+/// Reads data from a text of JSON. 0, or the number of the fault that `made` then has: `InvalidInput`, `Float` or `Memory`.
+#[unsafe(no_mangle)]
+pub extern "C" fn bikleinu_data(alloc: Global, json: &[u8], made: &mut Handle) -> u32
+    ensures { Settled (IsData json.now) result made.new.held }
+{
+    settle(alloc, data(alloc, json), made)
+}
+
+fn data(alloc: Global, json: &[u8]) -> Result<Held, Refusal>
+    ensures { IsData json.now result }
+{
+    match str::from_utf8(json) {
+        Ok(text) => match data_from_json(alloc, text) {
+            Ok(data) => Ok(Held::Data(data)),
+            Err(fault) => Ok(Held::Fault(fault)),
+        },
+        Err(_) => Err(Refusal::NoText),
+    }
+}
+
+/// Frees what lies behind the handle, which then holds nothing.
+#[unsafe(no_mangle)]
+pub extern "C" fn bikleinu_free(alloc: Global, handle: &mut Handle)
+    ensures { handle.new.held ≡ None }
+{
+    handle.put(alloc, None);
+}

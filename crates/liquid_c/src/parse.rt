@@ -1,0 +1,42 @@
+//! Templates from their sources.
+ghost use Rattle.std.specs.Prelude.{◌≡◌, option_map};
+ghost use Rattle.liquid_c.specs.Calls.{IsParse};
+ghost use Rattle.liquid_c.specs.Settled.{Settled};
+
+use crate::handle::Handle;
+use crate::held::{Held, seen};
+use crate::refusal::{Refusal, settle};
+use liquid_lib::parse;
+use std::alloc::Global;
+
+/// Parses a source in a language. 0, or the number of the fault that `made` then has: a kind of a source, or `Memory`.
+#[unsafe(no_mangle)]
+pub extern "C" fn bikleinu_parse(
+    alloc: Global,
+    language: &mut Handle,
+    source: &[u8],
+    made: &mut Handle,
+) -> u32
+    ensures parsed { Settled (IsParse language.old.held source.now) result made.new.held }
+    ensures same { language.new.held ≡ language.old.held }
+{
+    let held = language.take(alloc);
+    let answer = template(alloc, seen(&held), source);
+    language.put(alloc, held);
+    settle(alloc, answer, made)
+}
+
+fn template(alloc: Global, language: Option<&Held>, source: &[u8]) -> Result<Held, Refusal>
+    ensures { IsParse (option_map (λ h. h.now) language.entry) source.now result }
+{
+    match language {
+        Some(Held::Language(language)) => match str::from_utf8(source) {
+            Ok(source) => match parse(alloc, source, language) {
+                Ok(template) => Ok(Held::Template(template)),
+                Err(fault) => Ok(Held::Fault(fault)),
+            },
+            Err(_) => Err(Refusal::NoText),
+        },
+        _ => Err(Refusal::OtherHandle),
+    }
+}

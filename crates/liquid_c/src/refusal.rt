@@ -1,0 +1,56 @@
+//! What a call answers.
+ghost use Rattle.std.specs.Prelude.{◌≡◌};
+ghost use Rattle.liquid_c.specs.Numbers.{number_of_refusal};
+ghost use Rattle.liquid_c.specs.Settled.{Settles};
+
+use crate::handle::Handle;
+use crate::held::Held;
+use liquid_core::ErrorKind;
+use std::alloc::Global;
+
+/// Why a call can't be.
+#[derive(Clone, Copy, Debug, Drop)]
+pub enum Refusal {
+    /// The bytes are no UTF-8.
+    NoText,
+    /// A handle holds another kind of thing than the call needs, or nothing.
+    OtherHandle,
+}
+
+impl Refusal {
+    /// The number that a call answers by.
+    pub(crate) fn number(self) -> u32
+        ensures { result ≡ number_of_refusal self }
+    {
+        match self {
+            Refusal::NoText => 101,
+            Refusal::OtherHandle => 102,
+        }
+    }
+}
+
+/// Puts what a call made behind the handle, in place of what it held, and answers its number. Where there is no room for it, the
+/// handle holds nothing and the answer is `Memory`.
+pub(crate) fn settle(alloc: Global, answer: Result<Held, Refusal>, made: &mut Handle) -> u32
+    ensures { Settles answer result made.new.held }
+{
+    let held = match answer {
+        Ok(held) => held,
+        Err(refusal) => {
+            made.put(alloc, None);
+            return refusal.number();
+        }
+    };
+    let number = held.number();
+    match Box::new(alloc, held) {
+        Ok(held) => {
+            made.put(alloc, Some(held));
+            number
+        }
+        Err(refused) => {
+            drop(refused);
+            made.put(alloc, None);
+            u32::from(ErrorKind::Memory.number())
+        }
+    }
+}

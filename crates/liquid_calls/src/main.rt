@@ -1,0 +1,119 @@
+//! Makes calls that rows tell, and tells each that doesn't end as its row says.
+//!
+//! A row is a line of JSON on standard input: `call`, the type and the name of a call; what it is made with, `on`, `with`, the
+//! `source` of a template whose part is called, and the `data` of the state; and `answer`, or `fault`, the kind of the fault that
+//! it ends by. `none` says that the call takes no memory. With a word each call stands between marks, for `tests/refusals/run`,
+//! and how it ended behind them.
+#![tactic(auto)]
+
+mod arguments;
+mod expressions;
+mod faults;
+mod loops;
+mod states;
+mod templates;
+mod values;
+
+use crate::arguments::argument_call;
+use crate::expressions::{chain_call, condition_call, expression_call, variable_call};
+use crate::faults::{fault_call, no_call};
+use crate::loops::{range_call, source_call, window_call};
+use crate::states::made_in_turn;
+use crate::templates::{group_call, template_call};
+use crate::values::{order_call, test_call, value_call};
+use liquid_core::{Expression, Result, State, Value};
+use liquid_lib::language;
+use liquid_refusals::{Row, Told, read_row};
+use liquid_syntax::{Language, Node, Template, parse};
+use std::alloc::Global;
+use std::env;
+
+fn main(rt: HostRuntime) -> Result<()> {
+    let told = Told {
+        rt: &rt,
+        alloc: rt.alloc(),
+        marked: env::args(&rt).is_ok_and(|words| words.count() > 1),
+    };
+    let language = language(rt.alloc())?;
+    for line in rt.lines(rt.alloc()) {
+        match line {
+            Ok(line) => line_made(&told, &language, line.as_str()),
+            Err(_) => {
+                let _ = println!(rt; "a line that can't be read");
+            }
+        }
+    }
+    Ok(())
+}
+
+/// Makes the call that the line tells.
+fn line_made<R: Print>(told: &Told<'_, R>, language: &Language, line: &str) {
+    if let Err(fault) = row_made(told, language, line) {
+        let _ = println!(told.rt; "no row, by {}: {line}", fault.kind.name());
+    }
+}
+
+/// Makes the call of the row, over its template and its state.
+fn row_made<R: Print>(told: &Told<'_, R>, language: &Language, line: &str) -> Result<()> {
+    let (row, data) = read_row(told.alloc, line)?;
+    let template = parse(told.alloc, row.source.as_str(), language)?;
+    let mut state = State::new(told.alloc, data);
+    if row.call.as_str() == "State" {
+        made_in_turn(told, &row.with, &mut state);
+        return Ok(());
+    }
+    told.begin();
+    let answer = called(told.alloc, &row, language, &template, &state);
+    told.end();
+    told.answered(line, &row, &answer);
+    Ok(())
+}
+
+/// What the call of the row answers.
+fn called(
+    alloc: Global,
+    row: &Row,
+    language: &Language,
+    template: &Template,
+    state: &State<'_>,
+) -> Result<Value> {
+    let call = row.call.as_str();
+    match call.split_once("::") {
+        Some(("Value", name)) => value_call(alloc, name, row),
+        Some(("Test", name)) => test_call(alloc, name, &row.on),
+        Some(("Order", name)) => order_call(alloc, name, &row.on, &row.with),
+        Some(("Error", name)) => fault_call(alloc, name, row),
+        Some(("argument", name)) => argument_call(alloc, name, row),
+        Some(("Template", name)) => template_call(alloc, name, row, language, template),
+        Some((part, _)) => match template.nodes().first() {
+            Some(node) => node_call(alloc, part, row, node, state),
+            None => no_call(alloc),
+        },
+        None => no_call(alloc),
+    }
+}
+
+/// What the call of a part of the template's first node answers.
+fn node_call(
+    alloc: Global,
+    part: &str,
+    row: &Row,
+    node: &Node,
+    state: &State<'_>,
+) -> Result<Value> {
+    let (_, name) = row.call.as_str().split_once("::").unwrap_or(("", ""));
+    match (part, node) {
+        ("Expression", Node::Output(chain)) => expression_call(alloc, name, &chain.entry, state),
+        ("Variable", Node::Output(chain)) => match &chain.entry {
+            Expression::Variable(variable) => variable_call(alloc, name, variable, state),
+            Expression::Literal(_) => no_call(alloc),
+        },
+        ("FilterChain", Node::Output(chain)) => chain_call(alloc, chain, state),
+        ("Condition", Node::If(condition, _)) => condition_call(alloc, name, condition, state),
+        ("RangeExpression", Node::For(head, _)) => source_call(alloc, name, &head.source, state),
+        ("Range", Node::For(head, _)) => range_call(alloc, name, row, &head.source, state),
+        ("Window", Node::For(head, _)) => window_call(alloc, name, row, &head.window, state),
+        ("Cycle", Node::Cycle(group, values)) => group_call(alloc, group, values),
+        _ => no_call(alloc),
+    }
+}

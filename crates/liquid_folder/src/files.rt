@@ -1,0 +1,35 @@
+//! The files of the system.
+use liquid_folders::{Disk, DiskFault};
+use std::{fs, io};
+
+/// The files of the system. That they are what reading them says, and hold what was written to them, is trusted.
+#[derive(Drop)]
+pub struct Files<'r> {
+    pub rt: &'r HostRuntime,
+}
+
+impl<'r> Disk for Files<'r> {
+    fn read(&self, path: &str) -> Result<Option<String>, DiskFault> {
+        match fs::read_to_string(self.rt, path) {
+            Ok(text) => Ok(Some(text)),
+            Err(refused) => match refused.kind() {
+                io::ErrorKind::NotFound => Ok(None),
+                kind => Err(fault_of(kind)),
+            },
+        }
+    }
+
+    fn write(&mut self, path: &str, text: &str) -> Result<(), DiskFault> {
+        match fs::write(self.rt, path, text) {
+            Ok(()) => Ok(()),
+            Err(refused) => Err(fault_of(refused.kind())),
+        }
+    }
+}
+
+fn fault_of(kind: io::ErrorKind) -> DiskFault {
+    match kind {
+        io::ErrorKind::OutOfMemory => DiskFault::Memory,
+        _ => DiskFault::Refused,
+    }
+}

@@ -1,0 +1,93 @@
+-- A file that is put where it stands already.
+use Rattle.std.specs.Prelude.{◌≡◌, ℕ, ◌∷◌, ◌++◌, ◌||◌, not, Bool, true, false, cond, bytes_eq, Option, Some, None, IfSome}
+use Rattle.std.proofs.lemmas.Slice.Eq.{bytes_eq-Decides}
+use mathlib.Core.Path.{refl, sym, ap, subst, fun_ext, ◌∙◌}
+use Rattle.liquid_model.specs.Texts.{Text}
+use Rattle.liquid_lib.specs.Pages.{Shown}
+use Rattle.liquid_sites.specs.Contents.{Pages}
+use Rattle.liquid_sites.specs.Steps.{raised}
+use Rattle.liquid_folders.specs.Written.{all_written, count_from, is_page_path, KeepsOthers}
+use Rattle.liquid_folders.specs.Files.{File, Files, gone, holds, unread, with_file, is_held, ChangesAt}
+
+pub file_there : (files : Files) (path : Text) (file : File) → files path ≡ file → with_file files path file ≡ files
+unfolding with_file
+file_there files path file h = fun_ext (λ q. at q (bytes_eq path q) refl)
+  where
+    at : (q : Text) (b : Bool) → bytes_eq path q ≡ b → cond b file (files q) ≡ files q
+    at q true e = sym h ∙ ap files ((bytes_eq-Decides path q).0 e)
+    at q false e = refl
+
+holding : (file : File) (text : Text) → is_held file text ≡ true → file ≡ holds text
+holding (holds held) text k = ap holds ((bytes_eq-Decides held text).0 k)
+holding gone text k = absurd cc
+holding unread text k = absurd cc
+
+pub unchanged_at : (o : Option Files) (path : Text) → IfSome o (λ f. ChangesAt path f o)
+unchanged_at None path = tt
+unchanged_at (Some f) path = (f path, ap Some (sym (file_there f path (f path) refl)))
+
+pub already : (o : Option Files) (path given text : Text) (b : Bool) → given ≡ path → IfSome o (λ f. b ≡ is_held (f given) text) → b ≡ true → IfSome o (λ f. o ≡ Some (with_file f path (holds text)))
+already None path given text b is h k = tt
+already (Some f) path given text b is h k = ap Some (sym (file_there f path (holds text) (holding (f path) text (ap (λ p. is_held (f p) text) (sym is) ∙ sym h ∙ k))))
+
+-- ---- pages so far
+
+-- after some of the pages were written: what is left gives what the whole gives, and no other file changed
+pub record IsOn (out : Text) (all left : Pages) (n : ℕ) (old new : Files) : Type 0 where
+  pub written : all_written out left new ≡ all_written out all old
+  pub counted : count_from n out left new ≡ count_from 0 out all old
+  pub later : (q : Text) → is_page_path out all q ≡ false → is_page_path out left q ≡ false
+  pub others : (q : Text) → is_page_path out all q ≡ false → new q ≡ old q
+
+abbrev pub Progress : Text → Pages → Pages → ℕ → Files → Option Files → Type 0
+Progress out all left n old None = ⊥
+Progress out all left n old (Some new) = IsOn out all left n old new
+
+neither : (a b : Bool) → (a || b) ≡ false → (a ≡ false) × (b ≡ false)
+neither true b h = absurd cc
+neither false b h = (refl, h)
+
+elsewhere : (f : Files) (path q : Text) (file : File) → bytes_eq path q ≡ false → with_file f path file q ≡ f q
+unfolding with_file
+elsewhere f path q file h = ap (λ b. cond b file (f q)) h
+
+-- a page's file alone changes
+others_kept : (out : Text) (all rest : Pages) (p : Text × Shown) (n : ℕ) (old g : Files) (file : File) → IsOn out all (p ∷ rest) n old g → (q : Text) → is_page_path out all q ≡ false → with_file g (out ++ p.0) file q ≡ old q
+others_kept out all rest p n old g file on q h = elsewhere g (out ++ p.0) q file (neither (bytes_eq (out ++ p.0) q) (is_page_path out rest q) (on.later q h)).0 ∙ on.others q h
+
+step : (out : Text) (all rest : Pages) (p : Text × Shown) (n m : ℕ) (old g : Files) → IsOn out all (p ∷ rest) n old g → m ≡ cond (is_held (g (out ++ p.0)) p.1.text) n (raised n 1)
+    → IsOn out all rest m old (with_file g (out ++ p.0) (holds p.1.text))
+step out all rest p n m old g on count = record {
+  written = on.written;
+  counted = ap (λ k. count_from k out rest (with_file g (out ++ p.0) (holds p.1.text))) count ∙ on.counted;
+  later = λ q h. (neither (bytes_eq (out ++ p.0) q) (is_page_path out rest q) (on.later q h)).1;
+  others = others_kept out all rest p n old g (holds p.1.text) on;
+}
+
+turned : {X : Type 0} (b h : Bool) (x y : X) → b ≡ not h → cond b x y ≡ cond h y x
+turned true true x y e = absurd cc
+turned true false x y e = refl
+turned false true x y e = refl
+turned false false x y e = absurd cc
+
+-- a page was written, or its file had its text
+pub moved_on : (o w v : Option Files) (out : Text) (all left rest : Pages) (p : Text × Shown) (name text : Text) (n m : ℕ) (b : Bool) → left ≡ p ∷ rest → name ≡ p.0 → text ≡ p.1.text
+    → IfSome o (λ f. Progress out all left n f w) → IfSome w (λ f. v ≡ Some (with_file f (out ++ name) (holds text))) → IfSome w (λ f. b ≡ not (is_held (f (out ++ name)) text)) → m ≡ cond b (raised n 1) n
+    → IfSome o (λ f. Progress out all rest m f v)
+moved_on None w v out all left rest p name text n m b is named told on put needed count = tt
+moved_on (Some f) None v out all left rest p name text n m b is named told on put needed count = absurd on
+moved_on (Some f) (Some g) v out all left rest p name text n m b is named told on put needed count =
+    let here : b ≡ not (is_held (g (out ++ p.0)) p.1.text) = needed ∙ (λ i. not (is_held (g (out ++ named i)) (told i))) in
+    let on_it : IsOn out all (p ∷ rest) n f g = subst (λ l. IsOn out all l n f g) is on in
+    let there : v ≡ Some (with_file g (out ++ p.0) (holds p.1.text)) = put ∙ (λ i. Some (with_file g (out ++ named i) (holds (told i)))) in
+    subst (λ x. Progress out all rest m f x) (sym there) (step out all rest p n m f g on_it (count ∙ turned b (is_held (g (out ++ p.0)) p.1.text) (raised n 1) n here))
+
+-- the writing ended at a page
+pub ended_at : (o w v : Option Files) (out : Text) (all left rest : Pages) (p : Text × Shown) (name : Text) (n : ℕ) → left ≡ p ∷ rest → name ≡ p.0 → IfSome o (λ f. Progress out all left n f w) → IfSome w (λ f. ChangesAt (out ++ name) f v)
+    → IfSome o (λ f. KeepsOthers out all f v)
+ended_at None w v out all left rest p name n is named on changed = tt
+ended_at (Some f) None v out all left rest p name n is named on changed = absurd on
+ended_at (Some f) (Some g) v out all left rest p name n is named on changed =
+    let on_it : IsOn out all (p ∷ rest) n f g = subst (λ l. IsOn out all l n f g) is on in
+    let there : v ≡ Some (with_file g (out ++ p.0) changed.0) = changed.1 ∙ (λ i. Some (with_file g (out ++ named i) changed.0)) in
+    subst (λ x. KeepsOthers out all f x) (sym there) (others_kept out all rest p n f g changed.0 on_it)

@@ -1,0 +1,5 @@
+pub mod Disks
+pub mod Gone
+pub mod Known
+pub mod NewFacts
+pub mod Takes

@@ -1,0 +1,82 @@
+//! The files of pages.
+ghost use Rattle.std.specs.Prelude.{◌≡◌, ◌++◌, not, Some, IfSome, IfOk, IfErr, OnOk};
+ghost use Rattle.liquid_model.specs.Answer.{Gives};
+ghost use Rattle.liquid_sites.specs.Parts.{pages_in};
+ghost use Rattle.liquid_folders.specs.Files.{ChangesAt, is_held, holds, with_file};
+ghost use Rattle.liquid_folders.specs.Written.{IsStop, all_written, count_from, KeepsOthers};
+
+use crate::disk::{Disk, DiskFault};
+use crate::folder::joined;
+use liquid_core::{Error, ErrorKind, Result};
+use liquid_sites::Page;
+use std::alloc::{AllocError, Global};
+use std::collections::BTreeMap;
+
+/// Writes each page into its file, unless the file holds the page's text already. The answer is how many were written, up
+/// to the greatest value; or the first file that was refused, as `Write`, or `Memory`.
+pub(crate) fn write_pages<D: Disk>(
+    alloc: Global,
+    pages: &BTreeMap<String, Page>,
+    out: &str,
+    disk: &mut D,
+) -> Result<u64>
+    ensures written { IfSome (D.files disk.old) (λ f. OnOk result (D.files disk.new ≡ Some (all_written out.now (pages_in pages.now) f))) }
+    ensures count { IfSome (D.files disk.old) (λ f. IfOk result (λ n. n ≡ count_from 0 out.now (pages_in pages.now) f)) }
+    ensures others { IfSome (D.files disk.old) (λ f. KeepsOthers out.now (pages_in pages.now) f (D.files disk.new)) }
+    ensures stop { IfErr result (λ e. IsStop e.kind) }
+{
+    let mut written: u64 = 0;
+    for (name, page) in pages.iter() {
+        if write_page(alloc, out, name.as_str(), page.text.as_str(), disk)? {
+            written = written.saturating_add(1);
+        }
+    }
+    Ok(written)
+}
+
+/// Writes a text into the file of a page. Whether the file held another text.
+fn write_page<D: Disk>(
+    alloc: Global,
+    out: &str,
+    name: &str,
+    text: &str,
+    disk: &mut D,
+) -> Result<bool>
+    ensures written { IfSome (D.files disk.old) (λ f. OnOk result (D.files disk.new ≡ Some (with_file f (out.now ++ name.now) (holds text.now)))) }
+    ensures needed { IfSome (D.files disk.old) (λ f. IfOk result (λ b. b ≡ not (is_held (f (out.now ++ name.now)) text.now))) }
+    ensures others { IfSome (D.files disk.old) (λ f. ChangesAt (out.now ++ name.now) f (D.files disk.new)) }
+    ensures stop { IfErr result (λ e. IsStop e.kind) }
+{
+    let path = joined(alloc, out, name)?;
+    if holds(disk, path.as_str(), text)? {
+        return Ok(false);
+    }
+    match disk.write(path.as_str(), text) {
+        Ok(()) => Ok(true),
+        Err(DiskFault::Memory) => Err(Error::from(AllocError)),
+        Err(DiskFault::Refused) => Err(unwritten(alloc, path.as_str())),
+    }
+}
+
+/// Whether the file at a path holds this text.
+fn holds<D: Disk>(disk: &D, path: &str, text: &str) -> Result<bool>
+    ensures held { IfSome (D.files disk.now) (λ f. Gives (λ b. b) result (is_held (f path.now) text.now)) }
+    ensures memory { IfErr result (λ e. e.kind ≡ ErrorKind.Memory) }
+{
+    match disk.read(path) {
+        Ok(Some(held)) => Ok(held.as_str() == text),
+        Ok(None) | Err(DiskFault::Refused) => Ok(false),
+        Err(DiskFault::Memory) => Err(Error::from(AllocError)),
+    }
+}
+
+/// The fault of a file that isn't written.
+fn unwritten(alloc: Global, path: &str) -> Error
+    ensures { IsStop result.kind }
+{
+    Error::formatted(
+        alloc,
+        ErrorKind::Write,
+        format_args!("the file `{path}` can't be written"),
+    )
+}

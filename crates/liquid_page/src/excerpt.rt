@@ -1,0 +1,103 @@
+//! The line of a text in which a fault stands, as it is shown behind the fault: with its number, and a mark under the column.
+use liquid_core::Location;
+use std::fmt;
+
+/// How many characters of a line are shown at most.
+const SHOWN: usize = 100;
+
+/// How many of them stand before the column, in a line that isn't shown from its start.
+const BEFORE: usize = 60;
+
+/// A line of a text, and the column in it that is meant, in characters and from 1.
+#[derive(Drop)]
+pub struct Excerpt<'t> {
+    text: &'t str,
+    line: usize,
+    column: usize,
+}
+
+impl<'t> Excerpt<'t> {
+    /// The line of the location, where the text has it. A mark of the byte order at the start is no part of the text.
+    pub fn new(text: &'t str, location: &Location) -> Option<Excerpt<'t>> {
+        let lines = text.strip_prefix('\u{feff}').unwrap_or(text);
+        let before = location.line.checked_sub(1)?;
+        Some(Excerpt {
+            text: lines.split('\n').nth(before)?.trim_end(),
+            line: location.line,
+            column: location.column,
+        })
+    }
+}
+
+/// Three lines: an empty one, the line with its number, and the mark.
+impl fmt::Display for Excerpt<'_> {
+    fn fmt<W: fmt::Write>(&self, f: &mut fmt::Formatter<W>) -> fmt::Result {
+        let before = self.column.saturating_sub(1);
+        let hidden = if before >= SHOWN {
+            before.saturating_sub(BEFORE)
+        } else {
+            0
+        };
+        let front = if hidden > 0 { ".." } else { "" };
+        let mark = Blank(before.saturating_sub(hidden).saturating_add(front.len()));
+        let margin = Blank(digits(self.line));
+        let shown = Shown {
+            text: self.text,
+            hidden,
+        };
+        let line = self.line;
+        write!(f, "{margin} |\n{line} | {front}{shown}\n{margin} | {mark}^")
+    }
+}
+
+/// So many spaces.
+#[derive(Drop)]
+struct Blank(usize);
+
+impl fmt::Display for Blank {
+    fn fmt<W: fmt::Write>(&self, f: &mut fmt::Formatter<W>) -> fmt::Result {
+        for _ in 0..self.0 {
+            f.write_str(" ")?;
+        }
+        Ok(())
+    }
+}
+
+/// A part of a line behind its hidden characters, with `..` where it goes on. What has no width or moves the cursor, as a tab,
+/// is a space.
+#[derive(Drop)]
+struct Shown<'t> {
+    text: &'t str,
+    hidden: usize,
+}
+
+impl fmt::Display for Shown<'_> {
+    fn fmt<W: fmt::Write>(&self, f: &mut fmt::Formatter<W>) -> fmt::Result {
+        for (place, c) in self.text.chars().skip(self.hidden).enumerate() {
+            if place == SHOWN {
+                return f.write_str("..");
+            }
+            f.write_char(if is_visible(c) { c } else { ' ' })?;
+        }
+        Ok(())
+    }
+}
+
+fn is_visible(c: char) -> bool {
+    let invisible = matches!(
+        c,
+        '\u{ad}' | '\u{200b}'..='\u{200f}' | '\u{2028}'..='\u{202e}' | '\u{2060}'..='\u{206f}' | '\u{feff}'
+    );
+    !invisible && !c.is_control()
+}
+
+/// How many decimal digits a number has.
+fn digits(number: usize) -> usize {
+    let mut count = 1;
+    let mut rest = number;
+    while rest >= 10 {
+        rest /= 10;
+        count += 1;
+    }
+    count
+}

@@ -1,0 +1,73 @@
+//! Makes calls of languages, runtimes, pages, filters of a host and sites as rows tell them, and tells each that doesn't end as its row says.
+//!
+//! A row is a line of JSON on standard input: `call`, and of a page its `source`, its `data`, and `on`, with `partials`, `tags` that
+//! are registered beside the standard ones, `host` (names that stand for filters of a host), the `depth`, the `writes` that its
+//! writer takes, of at most so many bytes each, and what is rendered `then` on the same runtime; its page as `answer`, and the
+//! kind of its `fault`. Of all other calls `with` is a list of steps. With a word each call stands between marks, for
+//! `tests/refusals/run`, and how it ended behind them.
+#![tactic(auto)]
+
+mod filters;
+mod given;
+mod hosts;
+mod pages;
+mod registers;
+mod runtimes;
+mod sites;
+mod writers;
+
+use crate::hosts::hosted;
+use crate::pages::pages_made;
+use crate::registers::{forloop_made, language_made, registered};
+use crate::runtimes::runtime_made;
+use crate::sites::site_made;
+use liquid_core::{Object, Result};
+use liquid_refusals::{Row, Told, read_row};
+use std::env;
+
+fn main(rt: HostRuntime) -> Result<()> {
+    let told = Told {
+        rt: &rt,
+        alloc: rt.alloc(),
+        marked: env::args(&rt).is_ok_and(|words| words.count() > 1),
+    };
+    for line in rt.lines(rt.alloc()) {
+        match line {
+            Ok(line) => line_made(&told, line.as_str()),
+            Err(_) => {
+                let _ = println!(rt; "a line that can't be read");
+            }
+        }
+    }
+    Ok(())
+}
+
+/// Makes the calls that the line tells.
+fn line_made<R: Print>(told: &Told<'_, R>, line: &str) {
+    let made = match read_row(told.alloc, line) {
+        Ok((row, data)) => row_made(told, line, &row, data),
+        Err(fault) => Err(fault),
+    };
+    if let Err(fault) = made {
+        let _ = println!(told.rt; "no row, by {}: {line}", fault.kind.name());
+    }
+}
+
+/// Makes the calls of the row.
+fn row_made<R: Print>(told: &Told<'_, R>, line: &str, row: &Row, data: Object) -> Result<()> {
+    match row.call.as_str() {
+        "page" => pages_made(told, row, data),
+        "hosted page" | "filters" => hosted(told, row),
+        "runtime" => runtime_made(told, row, data),
+        "site" => site_made(told, row),
+        "registers" => registered(told, row),
+        "forloop" => {
+            forloop_made(told, line, row);
+            Ok(())
+        }
+        _ => {
+            language_made(told, line, row);
+            Ok(())
+        }
+    }
+}

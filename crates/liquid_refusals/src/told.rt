@@ -1,0 +1,95 @@
+//! How a call ends, and how that is told.
+use crate::row::Row;
+use liquid_core::{ErrorKind, Result, Value};
+use std::alloc::Global;
+
+/// Where answers are told, and whether each call stands between marks.
+#[derive(Drop)]
+pub struct Told<'r, R> {
+    pub rt: &'r R,
+    pub alloc: Global,
+    pub marked: bool,
+}
+
+impl<R: Print> Told<'_, R> {
+    /// The first mark, behind which requests for memory count.
+    pub fn begin(&self) {
+        if self.marked {
+            let _ = println!(self.rt; "@refuse");
+        }
+    }
+
+    /// The second mark.
+    pub fn end(&self) {
+        if self.marked {
+            let _ = println!(self.rt; "@allow");
+        }
+    }
+
+    /// How the row's call ended.
+    pub fn answered(&self, line: &str, row: &Row, answer: &Result<Value>) {
+        let wanted = Some(row.fault.as_str()).filter(|fault| !fault.is_empty());
+        self.ended(row.call.as_str(), line, ending(answer, &row.answer, wanted));
+    }
+
+    /// How a call ended: behind the second mark, or without marks only where it isn't as wanted.
+    pub fn ended(&self, call: &str, at: &str, end: &str) {
+        if self.marked {
+            let _ = println!(self.rt; "answer: {call} {at:?} {end}");
+        } else if end != "done" {
+            let _ = println!(self.rt; "{call} ends by {end}: {at}");
+        }
+    }
+}
+
+/// `done` where the answer is the wanted value, or the wanted fault.
+pub fn ending(answer: &Result<Value>, wanted: &Value, fault: Option<&str>) -> &'static str {
+    match (answer, fault) {
+        (Ok(value), None) => if *value == *wanted {
+            "done"
+        } else {
+            "another_answer"
+        },
+        (Ok(_), Some(_)) => "an_answer_in_place_of_a_fault",
+        (Err(told), Some(name)) => if told.kind.name() == name && told.kind != ErrorKind::Memory {
+            "done"
+        } else {
+            told.kind.name()
+        },
+        (Err(told), None) => told.kind.name(),
+    }
+}
+
+/// The kind of the fault that the answer is, if it is one.
+pub fn kind_of<T>(answer: &Result<T>) -> Option<ErrorKind> {
+    match answer {
+        Ok(_) => None,
+        Err(fault) => Some(fault.kind),
+    }
+}
+
+/// A truth as a value.
+pub fn flag(truth: Result<bool>) -> Result<Value> {
+    Ok(Value::Bool(truth?))
+}
+
+/// A text as a value.
+pub fn text(text: Result<String>) -> Result<Value> {
+    Ok(Value::Text(text?))
+}
+
+/// A number as a value, or nil where there is none.
+pub fn number(number: Option<i64>) -> Value {
+    match number {
+        Some(number) => Value::Integer(number),
+        None => Value::Nil,
+    }
+}
+
+/// A copy of the value, or nil where there is none.
+pub fn optional(alloc: Global, value: Option<&Value>) -> Result<Value> {
+    match value {
+        Some(value) => value.copy(alloc),
+        None => Ok(Value::Nil),
+    }
+}

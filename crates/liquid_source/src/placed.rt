@@ -1,0 +1,82 @@
+//! The items of one piece with their places, which is asked for only where a fault is told.
+use crate::cut::{past_byte, past_white, word};
+use crate::fault::ParseError;
+use crate::item::{Delimiter, Item, closer, read_item};
+use crate::mark::dashed;
+use crate::piece::opener;
+use std::alloc::{AllocError, Global};
+
+/// An item, and where it stands.
+#[derive(Drop)]
+pub struct PlacedItem<'s> {
+    pub item: Item<'s>,
+    /// The item as it stands in the source.
+    pub spelling: &'s str,
+    /// The source from the item on.
+    pub from: &'s str,
+}
+
+/// A piece as far as its items can be read.
+#[derive(Drop)]
+pub struct PlacedPiece<'s> {
+    pub kind: Delimiter,
+    /// The name of a tag; other pieces have an empty one.
+    pub name: &'s str,
+    pub items: Vec<PlacedItem<'s>>,
+    /// The source from the closer on, or from what can't be read.
+    pub rest: &'s str,
+}
+
+/// The items of the piece with which the text begins, up to its closer or to what can't be read, each with its place.
+pub fn placed_piece<'s>(alloc: Global, text: &'s str) -> Result<PlacedPiece<'s>, AllocError> {
+    let (kind, inside) = past_byte(text, b'{')
+        .and_then(opener)
+        .unwrap_or((Delimiter::Output, text));
+    let (_, inside) = dashed(inside);
+    let (name, inside) = match kind {
+        Delimiter::Output => ("", inside),
+        Delimiter::Tag => word(past_white(inside)).unwrap_or(("", inside)),
+    };
+    let (items, rest) = placed_items(alloc, inside, kind)?;
+    Ok(PlacedPiece {
+        kind,
+        name,
+        items,
+        rest,
+    })
+}
+
+fn placed_items<'s>(
+    alloc: Global,
+    text: &'s str,
+    kind: Delimiter,
+) -> Result<(Vec<PlacedItem<'s>>, &'s str), AllocError> {
+    let mut items = Vec::new(alloc);
+    let mut rest = past_white(text);
+    // each item takes a byte at least
+    for _ in 0..text.len() {
+        if closer(rest, kind).is_some() {
+            return Ok((items, rest));
+        }
+        match read_item(alloc, rest) {
+            Ok((item, after)) => {
+                let spelling = front_before(rest, after);
+                items.push(PlacedItem {
+                    item,
+                    spelling,
+                    from: rest,
+                })?;
+                rest = past_white(after);
+            }
+            Err(ParseError::Fault(_)) => return Ok((items, rest)),
+            Err(ParseError::Memory) => return Err(AllocError),
+        }
+    }
+    Ok((items, rest))
+}
+
+/// What a text has before its rest.
+fn front_before<'s>(text: &'s str, rest: &str) -> &'s str {
+    text.get(..text.len().saturating_sub(rest.len()))
+        .unwrap_or(text)
+}

@@ -1,0 +1,128 @@
+//! What people write who know another language, and what to write here.
+mod conditions;
+mod outputs;
+mod pieces;
+mod tags;
+
+use conditions::CONDITION;
+use liquid_source::{Delimiter, PlacedPiece};
+use outputs::OUTPUT;
+use pieces::ANYWHERE;
+use tags::{ASSIGN, ELSE, LOOP, NAME, PARTIAL, TAG};
+
+/// What kind of piece a fault is in.
+#[derive(Clone, Copy, Debug, PartialEq, Eq)]
+pub enum Site {
+    Output,
+    /// A tag, where its name is wanted.
+    Name,
+    Else,
+    /// `if`, `elsif` and `unless`.
+    Condition,
+    Assign,
+    /// `for` and `tablerow`.
+    Loop,
+    /// `include` and `render`.
+    Partial,
+    /// Any other tag.
+    Tag,
+}
+
+/// A habit: what stands before the fault (`^` for no item, empty for any), what stands at it (empty for anything), and what is
+/// told.
+#[derive(Clone, Copy)]
+pub struct Habit(pub &'static str, pub &'static str, pub &'static str);
+
+/// Where a fault is, and what stands around it.
+#[derive(Clone, Copy)]
+pub struct Spot<'s> {
+    pub site: Site,
+    /// The item before it, or `^` where there is none.
+    pub before: &'s str,
+    /// The item at it, as far as one can be read.
+    pub found: &'s str,
+    /// The source from it on.
+    pub rest: &'s str,
+}
+
+/// What is told of a habit, where one is met.
+pub fn advice(spot: &Spot<'_>) -> Option<&'static str> {
+    match spot.site {
+        Site::Name => first_of(&NAME, spot),
+        Site::Output => first_of(&OUTPUT, spot).or(of_any_piece(spot)),
+        _ => first_of(&TAG, spot).or(of_tag(spot)).or(of_any_piece(spot)),
+    }
+}
+
+fn of_tag(spot: &Spot<'_>) -> Option<&'static str> {
+    match spot.site {
+        Site::Else => first_of(&ELSE, spot),
+        Site::Condition => first_of(&CONDITION, spot),
+        Site::Assign => first_of(&ASSIGN, spot),
+        Site::Loop => first_of(&LOOP, spot),
+        Site::Partial => first_of(&PARTIAL, spot),
+        Site::Name | Site::Output | Site::Tag => None,
+    }
+}
+
+fn of_any_piece(spot: &Spot<'_>) -> Option<&'static str> {
+    first_of(&ANYWHERE, spot).or(list_or_index(spot))
+}
+
+/// What is told of the first of these habits that fits.
+fn first_of(habits: &[Habit], spot: &Spot<'_>) -> Option<&'static str> {
+    for habit in habits {
+        let Habit(before, found, told) = habit;
+        if (before.is_empty() || *before == spot.before) && is_found(found, spot) {
+            return Some(*told);
+        }
+    }
+    None
+}
+
+/// Whether what a habit has at a fault stands there: all of the item that is found, and no beginning of a longer word.
+fn is_found(found: &str, spot: &Spot<'_>) -> bool {
+    if found.is_empty() {
+        return true;
+    }
+    let Some(behind) = spot.rest.strip_prefix(found) else {
+        return false;
+    };
+    let is_word = found.ends_with(|c: char| c.is_ascii_alphabetic());
+    let goes_on = behind.starts_with(|c: char| c.is_ascii_alphanumeric() || c == '_' || c == '-');
+    found.len() >= spot.found.len() && !(is_word && goes_on)
+}
+
+/// A `[` or a `.` that stands where no step of a name does.
+fn list_or_index(spot: &Spot<'_>) -> Option<&'static str> {
+    if spot.rest.starts_with("[") {
+        return match spot.before {
+            "^" | "=" | "in" | ":" | "," | "|" => Some(
+                "a list can't be written in a template; `'a,b' | split: ','` makes one",
+            ),
+            _ => Some("`[` stands right behind a name, without white space"),
+        };
+    }
+    let behind = spot.rest.strip_prefix(".")?;
+    if behind.starts_with(|c: char| c.is_ascii_digit()) {
+        return Some("a place in a list stands in brackets, as `a[0]`");
+    }
+    if behind.starts_with(|c: char| c.is_ascii_alphabetic() || c == '_' || c == ' ') {
+        return Some("`.` stands between two names, without white space");
+    }
+    None
+}
+
+/// The site of a piece.
+pub fn site_of(piece: &PlacedPiece<'_>) -> Site {
+    match (piece.kind, piece.name) {
+        (Delimiter::Output, _) => Site::Output,
+        (Delimiter::Tag, "") => Site::Name,
+        (Delimiter::Tag, "if" | "elsif" | "unless") => Site::Condition,
+        (Delimiter::Tag, "else") => Site::Else,
+        (Delimiter::Tag, "assign") => Site::Assign,
+        (Delimiter::Tag, "for" | "tablerow") => Site::Loop,
+        (Delimiter::Tag, "include" | "render") => Site::Partial,
+        (Delimiter::Tag, _) => Site::Tag,
+    }
+}

@@ -1,0 +1,70 @@
+//! Where the nodes of a template begin in its source, which a fault of a run tells.
+use std::alloc::{AllocError, Global};
+
+/// A place in a source: its line and its column, in characters and each from 1. A mark of the byte order at the very start
+/// of a source is no column.
+#[derive(Clone, Copy, Debug, PartialEq, Eq, Drop)]
+pub struct Position {
+    pub line: u32,
+    pub column: u32,
+}
+
+impl Position {
+    /// The place behind a text that begins here.
+    fn behind(self, text: &str) -> Position {
+        match text.rsplit_once('\n') {
+            None => Position {
+                line: self.line,
+                column: further(self.column, characters(text)),
+            },
+            Some((lines, last)) => Position {
+                line: further(further(self.line, 1), line_ends(lines)),
+                column: further(1, characters(last)),
+            },
+        }
+    }
+}
+
+/// So much more, up to the greatest value.
+fn further(from: u32, count: usize) -> u32 {
+    from.saturating_add(u32::try_from(count).unwrap_or(u32::MAX))
+}
+
+fn line_ends(text: &str) -> usize {
+    text.bytes().filter(|byte| *byte == b'\n').count()
+}
+
+/// How many characters a text has: as many as bytes that begin one.
+fn characters(text: &str) -> usize {
+    text.bytes().filter(|byte| *byte & 0xc0 != 0x80).count()
+}
+
+/// The places of the nodes that are read so far. The source is gone through once, piece by piece.
+#[derive(Drop)]
+pub(crate) struct Positions<'s> {
+    /// For each node of the list, where the piece begins that it is.
+    pub(crate) nodes: Vec<Position>,
+    /// The place that is reached, and the source from there on.
+    reached: Position,
+    rest: &'s str,
+}
+
+impl<'s> Positions<'s> {
+    pub(crate) fn new(alloc: Global, source: &'s str) -> Positions<'s> {
+        Positions {
+            nodes: Vec::new(alloc),
+            reached: Position { line: 1, column: 1 },
+            rest: source.strip_prefix('\u{feff}').unwrap_or(source),
+        }
+    }
+
+    /// A piece begins where so many bytes of the source are left, and the list has so many nodes with it.
+    pub(crate) fn mark(&mut self, left: usize, count: usize) -> Result<(), AllocError> {
+        let passed = self.rest.len().saturating_sub(left);
+        if let Some((before, rest)) = self.rest.split_at_checked(passed) {
+            self.reached = self.reached.behind(before);
+            self.rest = rest;
+        }
+        self.nodes.resize(count, self.reached)
+    }
+}

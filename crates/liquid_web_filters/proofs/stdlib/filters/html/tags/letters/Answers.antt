@@ -1,8 +1,0 @@
-use Rattle.liquid_web_filters.proofs.Letters.{read_turn, read_end}
-use Rattle.liquid_web_filters.proofs.stdlib.filters.html.tags.letters.Goals as goal
-
-pub loop-letter-preserved : goal.loop-letter-preserved
-loop-letter-preserved c = read_turn c.loop-letter.rest.rest.now _ _ _ _ c.in-Some.letter c.in-Some.ensures.steps.0 c.in_ok-push.ensures.items c.loop-letter.invariant
-
-pub returns : goal.returns
-returns c = read_end c.loop-letter.rest.rest.now _ _ c.in_default.ensures.steps.0.0 c.loop-letter.invariant

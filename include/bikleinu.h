@@ -1,0 +1,130 @@
+/* Bikleinu for C: Liquid templates over data in JSON.
+ *
+ * What a call makes lies behind a bikleinu_handle of the caller's:
+ *
+ *   - A handle begins with all its bytes 0 (BIKLEINU_NONE, or a static one). Then it holds nothing.
+ *   - A call that makes something puts it behind its last handle. What the handle held before is freed.
+ *   - bikleinu_free frees what a handle holds. Then the handle holds nothing again, and can be used again.
+ *   - A handle isn't copied: two copies would both own what is behind them. Pass it by its address.
+ *
+ * Most calls answer a number: 0 where all is well, and else a kind below. Whatever is told besides is read behind the handle
+ * that the call made: after a kind of a template, of its source or of the data that handle holds the fault, with its message
+ * and its place. A page that ends by a fault holds both, the text up to the fault and the fault. After BIKLEINU_MEMORY a handle
+ * may hold nothing; all else is as it was, and the same call can be tried again.
+ *
+ * Bytes are given by a pointer and a length, and needn't end by a 0. The pointer isn't null, also where the length is 0, and
+ * lengths are below 2^63. No handle's address is null, and no handle is given twice to one call.
+ *
+ * There is no state outside of the handles. Calls may run at the same time in several threads, as long as no two of them are
+ * given the same handle; a handle may be used in one thread and then in another, where a lock or a join stands between. No call
+ * is made from a signal handler.
+ */
+#ifndef BIKLEINU_H
+#define BIKLEINU_H
+
+#include <stdbool.h>
+#include <stddef.h>
+#include <stdint.h>
+
+#ifdef __cplusplus
+extern "C" {
+#endif
+
+typedef struct {
+    bool there; /* whether it holds something; for the library alone to change */
+    void *at;
+} bikleinu_handle;
+
+#define BIKLEINU_NONE {0}
+
+/* Kinds of faults. */
+enum {
+    BIKLEINU_DONE = 0,
+
+    /* of a run */
+    BIKLEINU_UNKNOWN_VARIABLE = 1,
+    BIKLEINU_INVALID_INPUT = 2, /* also data that is no JSON, or no object */
+    BIKLEINU_INVALID_ARGUMENT = 3,
+    BIKLEINU_UNEXPECTED_VALUE = 4,
+    BIKLEINU_NUMBER_RANGE = 5,
+    BIKLEINU_DIVIDE_BY_ZERO = 6,
+    BIKLEINU_FLOAT = 7, /* also a number of the data that isn't whole, or is past 64 bits */
+    BIKLEINU_CYCLE_BOUNDS = 8,
+    BIKLEINU_ZERO_COLUMNS = 9,
+    BIKLEINU_RANGE_TOO_LONG = 10,
+    BIKLEINU_UNKNOWN_PARTIAL = 11,
+    BIKLEINU_PARTIAL_NAME = 12,
+    BIKLEINU_TOO_DEEP = 13,
+    BIKLEINU_DATE_FORMAT = 14,
+    BIKLEINU_TIMEZONE_RANGE = 15,
+    BIKLEINU_UNSUPPORTED = 16,
+
+    BIKLEINU_MEMORY = 17, /* no memory was to be had */
+
+    /* of a source */
+    BIKLEINU_UNCLOSED = 21,
+    BIKLEINU_BAD_ITEM = 22,
+    BIKLEINU_NUMBER_LITERAL = 23,
+    BIKLEINU_FLOAT_LITERAL = 24,
+    BIKLEINU_STATE_WORD = 25,
+    BIKLEINU_UNKNOWN_TAG = 26,
+    BIKLEINU_UNKNOWN_FILTER = 27,
+    BIKLEINU_FILTER_ARGUMENTS = 28,
+    BIKLEINU_EXPECTED = 29,
+    BIKLEINU_MISSING_END = 30,
+    BIKLEINU_TOO_NESTED = 31,
+
+    /* of a call that can't be: it changed nothing but the handle for what it makes, which then holds nothing */
+    BIKLEINU_NO_TEXT = 101,     /* bytes that are no UTF-8 */
+    BIKLEINU_OTHER_HANDLE = 102 /* a handle that holds another kind of thing than the call needs, or nothing */
+};
+
+/* Makes the standard language. */
+uint32_t bikleinu_language(bikleinu_handle *made);
+
+/* Parses the source of a template in a language. The template doesn't need the language any more, or the source. */
+uint32_t bikleinu_parse(bikleinu_handle *language, const uint8_t *source, size_t length, bikleinu_handle *made);
+
+/* Reads data from a text of JSON, which is an object. */
+uint32_t bikleinu_data(const uint8_t *json, size_t length, bikleinu_handle *made);
+
+/* Makes partials, of which there are none yet. */
+uint32_t bikleinu_partials(bikleinu_handle *made);
+
+/* Puts a template among the partials, by a name; the one of that name before is freed. The template moves: after 0 its handle holds
+ * nothing, and after anything else both are as they were. */
+uint32_t bikleinu_insert(bikleinu_handle *partials, const uint8_t *name, size_t length, bikleinu_handle *template_);
+
+/* Renders a template over data and with partials, of which at most depth may be nested. A handle that holds nothing stands for
+ * empty data, or for no partials. All three can be used again. The answer is how the page ended. */
+uint32_t bikleinu_render(bikleinu_handle *template_, bikleinu_handle *data, bikleinu_handle *partials, uint32_t depth, bikleinu_handle *page);
+
+/* Parts of what a handle holds, each as UTF-8. */
+enum {
+    BIKLEINU_TEXT = 0,    /* the text of a page */
+    BIKLEINU_MESSAGE = 1, /* the message of a fault, or of a page's fault */
+    BIKLEINU_NAME = 2,    /* the name of its kind, as UnknownVariable */
+    BIKLEINU_PARTIAL = 3  /* the name of the partial that it stands in */
+};
+
+/* How many bytes such a part has; 0 where there is none. */
+size_t bikleinu_length(bikleinu_handle *handle, uint32_t part);
+
+/* Copies a part into bytes of the caller's, as far as it goes and they have room. The answer is how many bytes were copied. */
+size_t bikleinu_copy(bikleinu_handle *handle, uint32_t part, uint8_t *into, size_t room);
+
+/* Texts that a fault may stand in. */
+enum { BIKLEINU_NOWHERE = 0, BIKLEINU_IN_TEMPLATE = 1, BIKLEINU_IN_PARTIAL = 2, BIKLEINU_IN_DATA = 3 };
+
+/* In which text the fault behind the handle stands, and its line and column there, in characters and each from 1. Where that isn't
+ * known, the answer is BIKLEINU_NOWHERE, and line and column stay as they were. */
+uint32_t bikleinu_location(bikleinu_handle *handle, size_t *line, size_t *column);
+
+/* Frees what the handle holds, if it holds anything. */
+void bikleinu_free(bikleinu_handle *handle);
+
+#ifdef __cplusplus
+}
+#endif
+
+#endif
