@@ -93,11 +93,5 @@ fn is_visible(c: char) -> bool {
 
 /// How many decimal digits a number has.
 fn digits(number: usize) -> usize {
-    let mut count = 1;
-    let mut rest = number;
-    while rest >= 10 {
-        rest /= 10;
-        count += 1;
-    }
-    count
+    number.checked_ilog10().map_or(1, |log| log as usize + 1)
 }
