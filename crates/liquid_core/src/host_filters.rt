@@ -65,7 +65,7 @@ impl HostFilters {
     {
         match self.accepts(name, args.len()) {
             Some(true) => self.evaluate(alloc, name, input, args),
-            _ => Err(unsupported(alloc, name)),
+            _ => Err(unsupported(alloc)),
         }
     }
 
@@ -121,19 +121,19 @@ impl<H: NamedFilters> NamedFilters for Option<&H> {
     ) -> Result<Value> {
         match self {
             Some(filters) => filters.call_named(alloc, name, input, args),
-            None => Err(unsupported(alloc, name)),
+            None => Err(unsupported(alloc)),
         }
     }
 }
 
-/// The fault of a call where no filter of the name takes this many arguments.
-fn unsupported(alloc: Global, name: &str) -> Error
+/// The fault of a call where no filter of the name takes this many arguments. A chain puts the name before it.
+fn unsupported(alloc: Global) -> Error
     ensures { Told Unsupported result.kind }
 {
-    Error::formatted(
+    Error::new(
         alloc,
         ErrorKind::Unsupported,
-        format_args!("the host has no filter `{name}` that takes so many arguments"),
+        "the host hands in no filter of this name that takes so many arguments",
     )
 }
 

@@ -7,14 +7,16 @@ mod items;
 mod names;
 mod near;
 mod outline;
+mod unread;
 
 use crate::language::Language;
 use blocks::{missing_end, unknown_tag};
 use filters::{miscounted, unknown_filter};
-use items::{misplaced, unread};
+use items::misplaced;
 use liquid_source::{Fault, FaultKind, placed_piece};
 use outline::outline_at;
 use std::alloc::{AllocError, Global};
+use unread::unread;
 
 /// What is told of a fault: of which place, as so many bytes of the source from it on, and the message.
 #[derive(Drop)]

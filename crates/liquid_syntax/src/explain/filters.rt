@@ -1,6 +1,6 @@
 //! Faults of filters: of one that isn't known, and of one with more or fewer arguments than it takes.
 use super::Told;
-use super::names::meant_filter;
+use super::names::{lacking_filter, meant_filter};
 use super::near::nearest;
 use crate::language::Language;
 use crate::registered_filter::{FilterRegistry, RegisteredFilter};
@@ -49,6 +49,9 @@ fn unknown_name(alloc: Global, language: &Language, name: &str) -> Result<String
         if language.filters.get(meant).is_some() {
             return format!(in alloc; "no filter is named `{quoted}`; write `{meant}`");
         }
+    }
+    if let Some(told) = lacking_filter(name) {
+        return format!(in alloc; "no filter is named `{quoted}`; {told}");
     }
     match nearest(alloc, language.filters.names(), name, None)? {
         Some(near) => {

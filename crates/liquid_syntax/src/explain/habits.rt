@@ -6,9 +6,9 @@ mod tags;
 
 use conditions::CONDITION;
 use liquid_source::{Delimiter, PlacedPiece};
-use outputs::OUTPUT;
+use outputs::{OUTPUT, VALUE};
 use pieces::ANYWHERE;
-use tags::{ASSIGN, ELSE, LOOP, NAME, PARTIAL, TAG};
+use tags::{ASSIGN, ELSE, LOOP, NAME, PARTIAL, SETTING, TAG};
 
 /// What kind of piece a fault is in.
 #[derive(Clone, Copy, Debug, PartialEq, Eq)]
@@ -43,14 +43,31 @@ pub struct Spot<'s> {
     pub found: &'s str,
     /// The source from it on.
     pub rest: &'s str,
+    /// How many items stand before it.
+    pub count: usize,
+    /// Whether it is where an item begins, and not inside one.
+    pub at_item: bool,
 }
 
 /// What is told of a habit, where one is met.
 pub fn advice(spot: &Spot<'_>) -> Option<&'static str> {
     match spot.site {
         Site::Name => first_of(&NAME, spot),
-        Site::Output => first_of(&OUTPUT, spot).or(of_any_piece(spot)),
+        Site::Output => of_output(spot).or(of_any_piece(spot)),
         _ => first_of(&TAG, spot).or(of_tag(spot)).or(of_any_piece(spot)),
+    }
+}
+
+fn of_output(spot: &Spot<'_>) -> Option<&'static str> {
+    of_map(spot).or(first_of(&OUTPUT, spot)).or(of_value(spot))
+}
+
+fn of_assign(spot: &Spot<'_>) -> Option<&'static str> {
+    let told = first_of(&ASSIGN, spot);
+    if spot.count < 2 {
+        told.or(first_of(&SETTING, spot))
+    } else {
+        told.or(of_value(spot))
     }
 }
 
@@ -58,7 +75,7 @@ fn of_tag(spot: &Spot<'_>) -> Option<&'static str> {
     match spot.site {
         Site::Else => first_of(&ELSE, spot),
         Site::Condition => first_of(&CONDITION, spot),
-        Site::Assign => first_of(&ASSIGN, spot),
+        Site::Assign => of_assign(spot),
         Site::Loop => first_of(&LOOP, spot),
         Site::Partial => first_of(&PARTIAL, spot),
         Site::Name | Site::Output | Site::Tag => None,
@@ -66,7 +83,46 @@ fn of_tag(spot: &Spot<'_>) -> Option<&'static str> {
 }
 
 fn of_any_piece(spot: &Spot<'_>) -> Option<&'static str> {
-    first_of(&ANYWHERE, spot).or(list_or_index(spot))
+    of_sum(spot).or(first_of(&ANYWHERE, spot)).or(of_step(spot))
+}
+
+fn of_value(spot: &Spot<'_>) -> Option<&'static str> {
+    if spot.rest.starts_with(">") && spot.before.ends_with("-") {
+        return Some("`a->b` is written `a.b`");
+    }
+    if spot.rest.starts_with("(") && !spot.found.is_empty() {
+        return Some("a range is no value; a loop goes over one, as `{% for i in (1..5) %}`");
+    }
+    first_of(&VALUE, spot)
+}
+
+/// A brace at the beginning of an output that begins a map, and no third brace.
+fn of_map(spot: &Spot<'_>) -> Option<&'static str> {
+    let inside = spot.rest.strip_prefix("{")?;
+    if spot.count > 0 {
+        return None;
+    }
+    let end = inside.find('}').unwrap_or(inside.len());
+    let inside = inside.get(..end).unwrap_or("");
+    let is_map = inside.contains(':') && !inside.contains('|');
+    if is_map || inside.trim().is_empty() {
+        return Some("a map can't be written in a template; it comes with the data");
+    }
+    None
+}
+
+/// A `+` beside a text.
+fn of_sum(spot: &Spot<'_>) -> Option<&'static str> {
+    let behind = spot.rest.strip_prefix("+")?;
+    let is_text = spot.before.starts_with(is_quote) || behind.trim_start().starts_with(is_quote);
+    if is_text && spot.site != Site::Condition {
+        return Some("texts are joined by a filter, as `a | append: 'text'`");
+    }
+    None
+}
+
+fn is_quote(c: char) -> bool {
+    c == '\'' || c == '"'
 }
 
 /// What is told of the first of these habits that fits.
@@ -94,7 +150,7 @@ fn is_found(found: &str, spot: &Spot<'_>) -> bool {
 }
 
 /// A `[` or a `.` that stands where no step of a name does.
-fn list_or_index(spot: &Spot<'_>) -> Option<&'static str> {
+fn of_step(spot: &Spot<'_>) -> Option<&'static str> {
     if spot.rest.starts_with("[") {
         return match spot.before {
             "^" | "=" | "in" | ":" | "," | "|" => Some(
@@ -104,13 +160,19 @@ fn list_or_index(spot: &Spot<'_>) -> Option<&'static str> {
         };
     }
     let behind = spot.rest.strip_prefix(".")?;
+    if behind.starts_with("[") {
+        return Some("`[` stands right behind a name, without `.`");
+    }
     if behind.starts_with(|c: char| c.is_ascii_digit()) {
         return Some("a place in a list stands in brackets, as `a[0]`");
     }
-    if behind.starts_with(|c: char| c.is_ascii_alphabetic() || c == '_' || c == ' ') {
-        return Some("`.` stands between two names, without white space");
+    if !behind.starts_with(|c: char| c.is_ascii_alphabetic() || c == '_' || c == ' ') {
+        return None;
     }
-    None
+    if spot.count == 0 && spot.at_item {
+        return Some("a path begins with a name: `.a` is written `a`");
+    }
+    Some("`.` stands between two names, without white space")
 }
 
 /// The site of a piece.

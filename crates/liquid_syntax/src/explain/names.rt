@@ -1,7 +1,7 @@
 //! Names of tags and filters of other languages, and what to write here.
 
 /// The name of a tag, and what is told of it.
-static TAGS: [(&str, &str); 47] = [
+static TAGS: [(&str, &str); 48] = [
     ("elseif", "`elseif` is written `elsif`"),
     ("elif", "`elif` is written `elsif`"),
     ("else_if", "`else_if` is written `elsif`"),
@@ -111,11 +111,12 @@ static TAGS: [(&str, &str); 47] = [
     ("post_url", "`post_url` is of Jekyll, and isn't known"),
     ("do", "`do` isn't known; `assign` sets a name"),
     ("then", "a condition ends without `then`"),
+    ("next", "`next` is written `continue`"),
     ("fi", "an end is written as `{% endif %}`"),
 ];
 
 /// The name of a filter, and the one that does here what it does elsewhere.
-static FILTERS: [(&str, &str); 38] = [
+static FILTERS: [(&str, &str); 41] = [
     ("length", "size"),
     ("count", "size"),
     ("upper", "upcase"),
@@ -154,6 +155,25 @@ static FILTERS: [(&str, &str); 38] = [
     ("pluck", "map"),
     ("substring", "slice"),
     ("default_if_none", "default"),
+    ("sort_by", "sort"),
+    ("concatenate", "append"),
+    ("ceiling", "ceil"),
+];
+
+/// The name of a filter that has no like here, and what is told of it.
+static LACKING: [(&str, &str); 12] = [
+    ("json", "a `for` shows a list or a map piece by piece"),
+    ("to_json", "a `for` shows a list or a map piece by piece"),
+    ("tojson", "a `for` shows a list or a map piece by piece"),
+    ("jsonify", "a `for` shows a list or a map piece by piece"),
+    ("money", "it is of Shopify's themes"),
+    ("t", "it is of Shopify's themes"),
+    ("img_url", "it is of Shopify's themes"),
+    ("asset_url", "it is of Shopify's themes"),
+    ("markdownify", "it is of Jekyll"),
+    ("relative_url", "it is of Jekyll"),
+    ("absolute_url", "it is of Jekyll"),
+    ("to_s", "an output shows any value as a text"),
 ];
 
 /// What is told of a tag of another language.
@@ -171,6 +191,16 @@ pub fn meant_filter(name: &str) -> Option<&'static str> {
     for (known, meant) in &FILTERS {
         if *known == name {
             return Some(*meant);
+        }
+    }
+    None
+}
+
+/// What is told of a filter of another language that has no like here.
+pub fn lacking_filter(name: &str) -> Option<&'static str> {
+    for (known, told) in &LACKING {
+        if *known == name {
+            return Some(*told);
         }
     }
     None

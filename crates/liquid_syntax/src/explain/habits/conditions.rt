@@ -2,7 +2,7 @@
 use super::Habit;
 
 /// In `if`, `elsif` and `unless`.
-pub static CONDITION: [Habit; 33] = [
+pub static CONDITION: [Habit; 35] = [
     Habit("", "||", "`||` is written `or`"),
     Habit(
         "",
@@ -18,6 +18,16 @@ pub static CONDITION: [Habit; 33] = [
         "",
         "!",
         "`!` isn't known; write `{% unless a %}` or `a == false`",
+    ),
+    Habit(
+        "",
+        "not",
+        "`not` isn't known; write `!=`, or `{% unless a contains b %}`",
+    ),
+    Habit(
+        "",
+        "?",
+        "no `?` stands here; compare with `nil`, or `.size` with 0",
     ),
     Habit("=", "~", "`=~` isn't known; write `a contains 'text'`"),
     Habit("", "=>", "`=>` is written `>=`"),

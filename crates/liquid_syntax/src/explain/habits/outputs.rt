@@ -2,7 +2,7 @@
 use super::Habit;
 
 /// In an output.
-pub static OUTPUT: [Habit; 26] = [
+pub static OUTPUT: [Habit; 17] = [
     Habit("^", "#", "`{{#if a}}` is written `{% if a %}`"),
     Habit("^", "/", "`{{/if}}` is written `{% endif %}`"),
     Habit("^", ">", "`{{> name}}` is written `{% render 'name' %}`"),
@@ -24,6 +24,28 @@ pub static OUTPUT: [Habit; 26] = [
     Habit("", "%}", "an output ends with `}}`, and not with `%}`"),
     Habit("", "-%}", "an output ends with `-}}`, and not with `-%}`"),
     Habit("", "}", "an output ends with `}}`"),
+    Habit("^", "-", "a name has no sign; write `a | times: -1`"),
+    Habit(
+        "",
+        "=>",
+        "`=>` isn't known; arguments have a `,` between them, as `'a', 'b'`",
+    ),
+    Habit(
+        "",
+        "=",
+        "an output sets no name; write `{% assign a = b %}`",
+    ),
+    Habit("", ",", "an output shows one value; write `{{ a }}{{ b }}`"),
+];
+
+/// In an output or behind the `=` of an `assign`.
+pub static VALUE: [Habit; 13] = [
+    Habit("|", ">", "`|>` is written `|`"),
+    Habit(
+        "not",
+        "",
+        "`not` isn't known; `{% unless a %}` asks for the opposite",
+    ),
     Habit(
         "|",
         "|",
@@ -79,10 +101,4 @@ pub static OUTPUT: [Habit; 26] = [
         "if",
         "a choice is written `{% if a %}b{% else %}c{% endif %}`",
     ),
-    Habit(
-        "",
-        "=",
-        "an output sets no name; write `{% assign a = b %}`",
-    ),
-    Habit("", ",", "an output shows one value; write `{{ a }}{{ b }}`"),
 ];

@@ -2,7 +2,7 @@
 use super::Habit;
 
 /// In any output or tag.
-pub static ANYWHERE: [Habit; 28] = [
+pub static ANYWHERE: [Habit; 33] = [
     Habit("", "“", "a text stands between plain quotes, `'` or `\"`"),
     Habit("", "”", "a text stands between plain quotes, `'` or `\"`"),
     Habit("", "„", "a text stands between plain quotes, `'` or `\"`"),
@@ -42,7 +42,24 @@ pub static ANYWHERE: [Habit; 28] = [
     Habit("", "+", "`+` is written as a filter, `a | plus: 1`"),
     Habit("", "-", "`-` is written as a filter, `a | minus: 1`"),
     Habit("", "*", "`*` is written as a filter, `a | times: 2`"),
+    Habit(
+        "",
+        "//",
+        "a comment is written `{% comment %}text{% endcomment %}`",
+    ),
+    Habit(
+        "",
+        "/*",
+        "a comment is written `{% comment %}text{% endcomment %}`",
+    ),
+    Habit(
+        "",
+        "#",
+        "a comment is written `{% comment %}text{% endcomment %}`",
+    ),
+    Habit("", "::", "`::` is written `.`, as `a.b`"),
     Habit("", "/", "`/` is written as a filter, `a | divided_by: 2`"),
+    Habit(":", "%", "a text stands between quotes, as `date: '%Y'`"),
     Habit("", "%", "`%` is written as a filter, `a | modulo: 2`"),
     Habit("", "..", "a range stands in parentheses, as `(1..5)`"),
     Habit(

@@ -2,7 +2,8 @@
 use super::Habit;
 
 /// Where the name of a tag is wanted.
-pub static NAME: [Habit; 3] = [
+pub static NAME: [Habit; 4] = [
+    Habit("", "%", "a tag begins with `{%`, with one `%`"),
     Habit(
         "",
         "#",
@@ -25,10 +26,14 @@ pub static TAG: [Habit; 6] = [
 /// In an `else`.
 pub static ELSE: [Habit; 1] = [Habit("^", "if", "`else if` is written `elsif`")];
 
-/// In an `assign`.
-pub static ASSIGN: [Habit; 6] = [
+/// Before the value of an `assign`.
+pub static SETTING: [Habit; 2] = [
     Habit("", "==", "`assign` has one `=`"),
     Habit("", ":", "`assign` has a `=` behind the name"),
+];
+
+/// In an `assign`.
+pub static ASSIGN: [Habit; 4] = [
     Habit(
         "",
         "+=",
@@ -44,7 +49,7 @@ pub static ASSIGN: [Habit; 6] = [
 ];
 
 /// In `for` and `tablerow`.
-pub static LOOP: [Habit; 9] = [
+pub static LOOP: [Habit; 13] = [
     Habit("", "of", "`of` is written `in`"),
     Habit(
         "",
@@ -52,16 +57,31 @@ pub static LOOP: [Habit; 9] = [
         "a loop has no filters; `assign` the filtered list before it",
     ),
     Habit("", ",", "a loop has one name, and no `,` before its parts"),
-    Habit("", "=", "a part of a loop has a `:`, as `limit: 2`"),
+    Habit("each", "", "`for each` is written `for`"),
+    Habit("reversed", ":", "`reversed` has no value: write it alone"),
+    Habit(":", "%}", "a value is wanted behind `:`, as `limit: 2`"),
+    Habit(":", "-%}", "a value is wanted behind `:`, as `limit: 2`"),
     Habit("limit", "", "a part of a loop has a `:`, as `limit: 2`"),
     Habit("offset", "", "a part of a loop has a `:`, as `offset: 2`"),
     Habit("cols", "", "a part of a loop has a `:`, as `cols: 2`"),
+    Habit(
+        "",
+        "=",
+        "a loop is written `{% for i in list %}`, and over numbers `{% for i in (1..5) %}`",
+    ),
     Habit("", "cols", "`cols` is a part of a `tablerow`"),
     Habit("", "reversed", "`reversed` is a part of a `for`"),
 ];
 
 /// In `include` and `render`.
-pub static PARTIAL: [Habit; 4] = [
+pub static PARTIAL: [Habit; 7] = [
+    Habit(
+        "",
+        "|",
+        "a partial is handed values without filters; `assign` the filtered value before it",
+    ),
+    Habit(":", "%}", "a value is wanted behind `:`, as `name: value`"),
+    Habit(":", "-%}", "a value is wanted behind `:`, as `name: value`"),
     Habit(
         "",
         ",",
