@@ -2,3 +2,4 @@ pub mod Json
 pub mod Page
 pub mod PageLaw
 pub mod Shown
+pub mod Tokens

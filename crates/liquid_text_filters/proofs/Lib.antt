@@ -1,4 +1,5 @@
 pub mod Characters
+mod Newlines
 pub mod Occurrences
 pub mod Ones
 pub mod Pieces

@@ -12,6 +12,10 @@ is_newline c = c == 10 || c == 13
 abbrev pub without_newlines : List ℕ → List ℕ
 without_newlines s = encode_utf8_all (filter (λ c. not (is_newline c)) (chars s))
 
+-- without CRs alone
+abbrev pub without_returns : List ℕ → List ℕ
+without_returns s = encode_utf8_all (filter (λ c. not (c == 13)) (chars s))
+
 abbrev pub strip_answer : Datum → List Datum → Answer
 strip_answer = of_text trim
 

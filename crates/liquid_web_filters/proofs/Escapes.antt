@@ -1,14 +1,14 @@
 -- Escapes of HTML: over characters, and a second time.
-use Rattle.std.proofs.Common.{◌≡◌, ℕ, zero, suc, ◌<◌, ◌≤◌, Bool, true, false, ◌&&◌, ◌||◌, ◌==◌, List, [], ◌∷◌, ◌++◌, codes, length, take, take_all, get_or, None, ap, ap₂, refl, sym, ◌∙◌, arith, append_assoc, append-nil, if◌then◌else◌}
+use Rattle.std.proofs.Common.{◌≡◌, ℕ, zero, suc, ◌<◌, ◌≤◌, Bool, true, false, ◌&&◌, ◌||◌, ◌==◌, List, [], ◌∷◌, ◌++◌, codes, Option, Some, None, ap, ap₂, refl, sym, ◌∙◌, arith, append_assoc, append-nil, if◌then◌else◌}
 use Rattle.std.proofs.lemmas.Bool.Decides.{nat_tests}
 use Rattle.std.proofs.lemmas.Str.{encode_ascii}
-use Rattle.std.proofs.lemmas.List.Sums.{split_at_first, fails_before_first, passes_at_first}
-use Rattle.std.specs.List.{flat_map, position_or_len, before_first, after_first}
+use Rattle.std.proofs.lemmas.List.Elements.{All-head, All-tail}
+use Rattle.std.specs.Prelude.{All, IfSome, IsSome}
+use Rattle.std.specs.List.{flat_map}
 use lib.Utf8.{encode}
 use Rattle.liquid_list_filters.specs.Text.{begins}
 use Rattle.liquid_web_filters.specs.Escapes.{ends_escape, escape_of, escape_or, escaped_byte, escaped_letter, escaped, once_byte, once_letter, escaped_once}
 use Rattle.liquid_web_filters.proofs.Bytes.{AllHigh, high_bytes, ascii_or_high, high_letter, ascii_letter}
-use Rattle.liquid_web_filters.proofs.Replaced.{agree_first, cut_none}
 
 -- ---- over characters
 no_escape : (c : ℕ) → 128 ≤ c → escape_of c ≡ None
@@ -46,64 +46,62 @@ once_past c rest = ascii_or_high c
     (λ l. ap (λ t. escaped_once (t ++ rest)) (encode_ascii c l) ∙ ap (λ t. t ++ escaped_once rest) (once_ascii c rest (c == 38 && ends_escape rest) l))
     (λ l. once_kept (encode c) rest (high_bytes c l) ∙ ap (λ t. t ++ escaped_once rest) (once_letter_high c rest l))
 
--- ---- cut at the first `&`
+-- ---- cut at the first byte that has an escape
 eq_from : (x y : ℕ) → (x == y) ≡ true → y ≡ x
 eq_from x y h = grind (arith, nat_tests)
 
-abbrev is_and : ℕ → Bool
-is_and b = b == 38
+abbrev pub IsPlain : ℕ → Type 0
+IsPlain b = escape_of b ≡ None
 
-once_other : (b : ℕ) (s : List ℕ) → is_and b ≡ false → once_byte b s ≡ escaped_byte b
-once_other b s e = ap (λ t. if t && ends_escape s then b ∷ [] else escaped_byte b) e
+plain_byte : (b : ℕ) → IsPlain b → escaped_byte b ≡ b ∷ []
+plain_byte b h = ap (λ e. escape_or e (b ∷ [])) h
 
-once_run : (s : List ℕ) (n : ℕ) (rest : List ℕ) → ((k : ℕ) → k < n → is_and (get_or s k 0) ≡ false) → escaped_once (take n s ++ rest) ≡ flat_map escaped_byte (take n s) ++ escaped_once rest
-once_run s zero rest h = refl
-once_run [] (suc n) rest h = refl
-once_run (b ∷ s) (suc n) rest h =
-    ap₂ (λ x y. x ++ y) (once_other b (take n s ++ rest) (h 0 (omega arith))) (once_run s n rest (λ k l. h (suc k) (omega arith)))
-    ∙ sym (append_assoc (escaped_byte b) (flat_map escaped_byte (take n s)) (escaped_once rest))
+once_either_way : (b : ℕ) (t : Bool) → IsPlain b → (if t then b ∷ [] else escaped_byte b) ≡ b ∷ []
+once_either_way b true h = refl
+once_either_way b false h = plain_byte b h
 
-once_cut : (s : List ℕ) → position_or_len (λ b. b == 38) s < length s → escaped_once s ≡ flat_map escaped_byte (before_first (λ b. b == 38) s) ++ (once_byte 38 (after_first (λ b. b == 38) s) ++ escaped_once (after_first (λ b. b == 38) s))
-once_cut s l =
-    let n = position_or_len is_and s in
-    let b = get_or s n 0 in
-    let is : b ≡ 38 = sym (eq_from b 38 (passes_at_first is_and s 0 l)) in
-    let after = after_first is_and s in
-    ap escaped_once (split_at_first is_and s 0 l) ∙ once_run s n (b ∷ after) (λ k i. fails_before_first is_and s k 0 i)
-    ∙ ap (λ x. flat_map escaped_byte (before_first is_and s) ++ (once_byte x after ++ escaped_once after)) is
+plain_first : (p s : List ℕ) → All IsPlain p → escaped (p ++ s) ≡ p ++ escaped s
+plain_first [] s h = refl
+plain_first (b ∷ p) s h = ap (λ t. t ++ escaped (p ++ s)) (plain_byte b (All-head IsPlain b p h)) ∙ ap (λ t. b ∷ t) (plain_first p s (All-tail IsPlain b p h))
 
-once_whole : (s : List ℕ) → position_or_len (λ b. b == 38) s ≡ length s → escaped_once s ≡ flat_map escaped_byte s
-once_whole s e =
-    let all : take (length s) s ≡ s = take_all (length s) s (omega arith) in
-    ap escaped_once (sym (append-nil s)) ∙ ap (λ x. escaped_once (x ++ [])) (sym all) ∙ once_run s (length s) [] (λ k l. fails_before_first is_and s k 0 (omega arith)) ∙ ap (λ x. flat_map escaped_byte x ++ []) all ∙ append-nil (flat_map escaped_byte s)
+once_first : (p s : List ℕ) → All IsPlain p → escaped_once (p ++ s) ≡ p ++ escaped_once s
+once_first [] s h = refl
+once_first (b ∷ p) s h =
+    ap (λ t. t ++ escaped_once (p ++ s)) (once_either_way b (b == 38 && ends_escape (p ++ s)) (All-head IsPlain b p h)) ∙ ap (λ t. b ∷ t) (once_first p s (All-tail IsPlain b p h))
 
--- what the code's list makes of a byte that is no `&`
-others_at : (b : ℕ) (t1 t2 t3 t4 : Bool) → (b == 60) ≡ t1 → (b == 62) ≡ t2 → (b == 39) ≡ t3 → (b == 34) ≡ t4 → (b == 38) ≡ false
-    → (if b == 60 then codes "&lt;" else (if b == 62 then codes "&gt;" else (if b == 39 then codes "&#39;" else (if b == 34 then codes "&quot;" else b ∷ [])))) ≡ escaped_byte b
-others_at b true t2 t3 t4 e1 e2 e3 e4 e5 = rw e1 refl
-others_at b false true t3 t4 e1 e2 e3 e4 e5 = rw (e1, e2) refl
-others_at b false false true t4 e1 e2 e3 e4 e5 = rw (e1, e2, e3) refl
-others_at b false false false true e1 e2 e3 e4 e5 = rw (e1, e2, e3, e4) refl
-others_at b false false false false e1 e2 e3 e4 e5 = rw (e1, e2, e3, e4, e5) refl
+mark_small : (b : ℕ) (o : Option (List ℕ)) → escape_of b ≡ o → IsSome o → 128 ≤ b → ⊥
+mark_small b None is h l = cc
+mark_small b (Some x) is h l = let none = no_escape b l in cc
 
-pub others : (b : ℕ) → (b == 38) ≡ false → (if b == 60 then codes "&lt;" else (if b == 62 then codes "&gt;" else (if b == 39 then codes "&#39;" else (if b == 34 then codes "&quot;" else b ∷ [])))) ≡ escaped_byte b
-others b e = others_at b (b == 60) (b == 62) (b == 39) (b == 34) refl refl refl refl e
+pub mark_ascii : (b : ℕ) → IsSome (escape_of b) → b < 128
+mark_ascii b h = ascii_or_high b (λ l. l) (λ l. absurd (mark_small b (escape_of b) refl h l))
 
--- where the text between is written by a step that agrees on all bytes but the `&`
-module _ (f : ℕ → List ℕ) (h : (b : ℕ) → (b == 38) ≡ false → f b ≡ escaped_byte b) where
-  pub once_turn : (s before after out mid next all : List ℕ) → before ≡ before_first (λ b. b == 38) s → after ≡ after_first (λ b. b == 38) s → position_or_len (λ b. b == 38) s < length s
-      → mid ≡ out ++ flat_map f before → next ≡ mid ++ once_byte 38 after → all ≡ out ++ escaped_once s → all ≡ next ++ escaped_once after
-  once_turn s before after out mid next all b a l m n inv =
-      let run : flat_map f before ≡ flat_map escaped_byte before = ap (flat_map f) b ∙ agree_first f escaped_byte is_and h s (position_or_len is_and s) (λ k i. fails_before_first is_and s k 0 i) ∙ ap (flat_map escaped_byte) (sym b) in
-      let made = once_byte 38 after in
-      let left = escaped_once after in
-      inv ∙ ap (λ t. out ++ t) (once_cut s l)
-      ∙ ap₂ (λ x y. out ++ (flat_map escaped_byte x ++ (once_byte 38 y ++ escaped_once y))) (sym b) (sym a)
-      ∙ ap (λ t. out ++ (t ++ (made ++ left))) (sym run)
-      ∙ sym (append_assoc out (flat_map f before) (made ++ left)) ∙ ap (λ t. t ++ (made ++ left)) (sym m) ∙ sym (append_assoc mid made left) ∙ ap (λ t. t ++ left) (sym n)
+-- what a byte with an escape becomes
+pub mark_is : (b : ℕ) (made : List ℕ) (o : Option (List ℕ)) → escape_of b ≡ o → IsSome o → IfSome o (λ x. made ≡ x) → made ≡ escaped_byte b
+mark_is b made None is h f = absurd (cc)
+mark_is b made (Some x) is h f = f ∙ ap (λ o. escape_or o (b ∷ [])) (sym is)
 
-  pub once_end : (s out next all : List ℕ) → position_or_len (λ b. b == 38) s ≡ length s → next ≡ out ++ flat_map f s → all ≡ out ++ escaped_once s → next ≡ all
-  once_end s out next all e n inv = n ∙ ap (λ t. out ++ t) (cut_none f escaped_byte is_and h s e ∙ sym (once_whole s e)) ∙ sym inv
+pub some_of : {P : Type 0} (b : ℕ) (o : Option (List ℕ)) → escape_of b ≡ o → IsSome o → IfSome o (λ e. P) → P
+some_of b None is h f = absurd (cc)
+some_of b (Some x) is h f = f
+
+pub escaped_turn : (s plain after out mid next made all : List ℕ) (b : ℕ) → s ≡ plain ++ (b ∷ after) → All IsPlain plain → made ≡ escaped_byte b → mid ≡ out ++ plain → next ≡ mid ++ made → all ≡ out ++ escaped s → all ≡ next ++ escaped after
+escaped_turn s plain after out mid next made all b cut kept is m n inv =
+    inv ∙ ap (λ t. out ++ escaped t) cut ∙ ap (λ t. out ++ t) (plain_first plain (b ∷ after) kept) ∙ sym (append_assoc out plain (escaped_byte b ++ escaped after))
+    ∙ ap₂ (λ x y. x ++ (y ++ escaped after)) (sym m) (sym is) ∙ sym (append_assoc mid made (escaped after)) ∙ ap (λ t. t ++ escaped after) (sym n)
+
+pub escaped_end : (s out next all : List ℕ) → All IsPlain s → next ≡ out ++ s → all ≡ out ++ escaped s → next ≡ all
+escaped_end s out next all kept n inv =
+    n ∙ ap (λ t. out ++ t) (sym (append-nil s) ∙ sym (plain_first s [] kept) ∙ ap escaped (append-nil s)) ∙ sym inv
+
+pub once_turn : (s plain after out mid next made all : List ℕ) (b : ℕ) → s ≡ plain ++ (b ∷ after) → All IsPlain plain → made ≡ once_byte b after → mid ≡ out ++ plain → next ≡ mid ++ made → all ≡ out ++ escaped_once s → all ≡ next ++ escaped_once after
+once_turn s plain after out mid next made all b cut kept is m n inv =
+    inv ∙ ap (λ t. out ++ escaped_once t) cut ∙ ap (λ t. out ++ t) (once_first plain (b ∷ after) kept) ∙ sym (append_assoc out plain (once_byte b after ++ escaped_once after))
+    ∙ ap₂ (λ x y. x ++ (y ++ escaped_once after)) (sym m) (sym is) ∙ sym (append_assoc mid made (escaped_once after)) ∙ ap (λ t. t ++ escaped_once after) (sym n)
+
+pub once_end : (s out next all : List ℕ) → All IsPlain s → next ≡ out ++ s → all ≡ out ++ escaped_once s → next ≡ all
+once_end s out next all kept n inv =
+    n ∙ ap (λ t. out ++ t) (sym (append-nil s) ∙ sym (once_first s [] kept) ∙ ap escaped_once (append-nil s)) ∙ sym inv
 
 -- ---- a second time
 -- the texts that pass as they are, whatever follows

@@ -10,7 +10,8 @@ use Rattle.std.specs.Str.Pattern.{FindsChar, SplitsAroundMatch}
 use lib.Utf8.{scalars}
 use Rattle.liquid_web_filters.specs.Tags.{SplitsAtFirst, begins_mark, first_mark, is_mark, is_opener, stands_for, strip_html, without_pairs}
 use Rattle.liquid_web_filters.proofs.HtmlLaws.{kept_scalars}
-use Rattle.liquid_web_filters.proofs.Tags.{Seeks, after_more, seeks_start, seeks_more, seeks_found, seeks_none}
+use Rattle.liquid_web_filters.specs.HtmlLaws.{HasNoTag, has_close}
+use Rattle.liquid_web_filters.proofs.Tags.{Seeks, no_change, after_more, seeks_start, seeks_more, seeks_found, seeks_none}
 
 -- ---- a mark's first character
 -- it is ASCII, and stands for itself alone
@@ -163,6 +164,22 @@ mark_nowhere mark q x e h text rest s n = ap (λ m. first_mark m (chars text)) e
 pub mark_long : (e : List ℕ) → is_mark e ≡ true → 0 < length e
 mark_long [] h = let u : ⊥ = cc in absurd u
 mark_long (x ∷ p) h = omega arith
+
+-- ---- a text without `>`
+no_close : (cs : List ℕ) → NonePass (λ d. d == 62) cs → has_close cs ≡ false
+no_close [] h = refl
+no_close (c ∷ cs) h = ap (λ t. t || has_close cs) h.0 ∙ no_close cs h.1
+
+neither : (a b : Bool) → b ≡ false → (a && b) ≡ false
+neither true b h = h
+neither false b h = refl
+
+no_tag : (cs : List ℕ) → NonePass (λ d. d == 62) cs → HasNoTag cs
+no_tag [] h = tt
+no_tag (c ∷ cs) h = (neither (c == 60) (has_close cs) (no_close cs h.1), no_tag cs h.1)
+
+pub without_close : (s : List ℕ) → IsUtf8 s → NoCharPasses (λ d. d == 62) s → s ≡ strip_html s
+without_close s u h = sym (ap encode_utf8_all (no_change (chars s) (no_tag (chars s) (none_pass 62 s u h))) ∙ encodes-chars s u)
 
 -- ---- the passes
 module _ (o e : List ℕ) where

@@ -1,8 +1,7 @@
 //! Filters that cut white space, which is Unicode's White_Space, and newlines.
-ghost use Rattle.std.specs.Prelude.{[], ◌++◌, if◌then◌else◌, nat_eq, string_bytes, IsTrue, length, map};
-ghost use Rattle.std.specs.Char.{encode_utf8};
+ghost use Rattle.std.specs.Prelude.{◌++◌, nat_eq, string_bytes, IsTrue, length, map};
 ghost use Rattle.liquid_model.specs.Answer.{Gives, Answers};
-ghost use Rattle.liquid_text_filters.specs.Strip.{is_newline, lstrip_answer, rstrip_answer, strip_answer, strip_newlines_answer, without_newlines};
+ghost use Rattle.liquid_text_filters.specs.Strip.{lstrip_answer, rstrip_answer, strip_answer, strip_newlines_answer, without_newlines, without_returns};
 ghost use Rattle.liquid_model.specs.View.{view};
 ghost use Rattle.liquid_list_filters.specs.Stands.{Stands};
 ghost use Rattle.liquid_text_filters.specs.Laws.{StripsLines, StripsText, StripsTextAtEnd, StripsTextAtStart};
@@ -135,19 +134,23 @@ fn without_newlines(alloc: Global, text: &str) -> Result<String>
     ensures { Gives (λ s. string_bytes s) result (without_newlines text.now) }
 {
     let mut out = String::with_capacity(alloc, text.len())?;
-    let mut rest = text.chars();
-    while let Some(letter) = rest.next() {
-        push_kept(&mut out, letter)?;
+    let mut rest = text;
+    while let Some((line, after)) = rest.split_once('\n') {
+        push_without_returns(&mut out, line)?;
+        rest = after;
     }
+    push_without_returns(&mut out, rest)?;
     Ok(out)
 }
 
-/// Appends a character, unless it is a newline.
-fn push_kept(out: &mut String, letter: char) -> Result<()>
-    ensures { Gives (λ _. string_bytes out.new) result (string_bytes out.old ++ (if is_newline letter then [] else encode_utf8 letter)) }
+/// Appends a text without its CRs. What stays is copied in runs.
+fn push_without_returns(out: &mut String, text: &str) -> Result<()>
+    ensures { Gives (λ _. string_bytes out.new) result (string_bytes out.old ++ without_returns text.now) }
 {
-    if letter == '\n' || letter == '\r' {
-        return Ok(());
+    let mut rest = text;
+    while let Some((before, after)) = rest.split_once('\r') {
+        out.push_str(before)?;
+        rest = after;
     }
-    Ok(out.push(letter)?)
+    Ok(out.push_str(rest)?)
 }

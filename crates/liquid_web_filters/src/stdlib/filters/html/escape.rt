@@ -1,24 +1,14 @@
 //! Filters that write the letters with a meaning in HTML by their escapes.
-ghost use Rattle.std.specs.Prelude.{◌≡◌, nat_eq, string_bytes, IsTrue, length, map};
+ghost use Rattle.std.specs.Prelude.{◌≡◌, ◌<◌, ◌≤◌, ◌∷◌, ◌++◌, All, IfNone, IfSome, IsSome, IsTrue, None, length, map, nat_eq, option_map, slice_index, string_bytes, take};
 ghost use Rattle.liquid_model.specs.Answer.{Gives, Answers};
-ghost use Rattle.liquid_web_filters.specs.Escapes.{ends_escape, escape_answer, escape_once_answer, escaped, escaped_once, once_byte};
+ghost use Rattle.liquid_web_filters.specs.Escapes.{ends_escape, escape_answer, escape_of, escape_once_answer, escaped, escaped_once, once_byte};
 ghost use Rattle.liquid_model.specs.View.{view};
 ghost use Rattle.liquid_list_filters.specs.Stands.{Stands};
 ghost use Rattle.liquid_web_filters.specs.HtmlLaws.{EscapesOnce, EscapesText};
 
-use crate::stdlib::filters::replaced::push_replaced;
 use liquid_core::{Filter, Result, Value};
 use liquid_list_filters::text_of;
 use std::alloc::Global;
-
-/// The characters that have an escape, each with its own. The `&` is the first.
-const ESCAPES: [(char, &str); 5] = [
-    ('&', "&amp;"),
-    ('<', "&lt;"),
-    ('>', "&gt;"),
-    ('\'', "&#39;"),
-    ('"', "&quot;"),
-];
 
 /// `escape`: the input's text with `&lt;`, `&gt;`, `&#39;`, `&quot;` and `&amp;` for `<`, `>`, `'`, `"` and `&`. Nil stays.
 #[derive(Clone, Copy, Drop)]
@@ -94,7 +84,13 @@ fn escaped(alloc: Global, text: &str) -> Result<String>
     ensures { Gives (λ s. string_bytes s) result (escaped text.now) }
 {
     let mut out = String::with_capacity(alloc, text.len())?;
-    push_replaced(&mut out, text, &ESCAPES)?;
+    let mut rest = text;
+    while let Some((plain, mark, after)) = split_at_mark(rest) {
+        out.push_str(plain)?;
+        out.push_str(escape_of_mark(mark))?;
+        rest = after;
+    }
+    out.push_str(rest)?;
     Ok(out)
 }
 
@@ -103,13 +99,78 @@ fn escaped_once(alloc: Global, text: &str) -> Result<String>
 {
     let mut out = String::with_capacity(alloc, text.len())?;
     let mut rest = text;
-    while let Some((before, after)) = rest.split_once('&') {
-        push_replaced(&mut out, before, &ESCAPES[1..])?;
-        out.push_str(and_before(after))?;
+    while let Some((plain, mark, after)) = split_at_mark(rest) {
+        out.push_str(plain)?;
+        out.push_str(mark_before(mark, after))?;
         rest = after;
     }
-    push_replaced(&mut out, rest, &ESCAPES[1..])?;
+    out.push_str(rest)?;
     Ok(out)
+}
+
+/// The text before the first byte that has an escape, that byte, and the text behind it. Texts with few marks and texts of
+/// little else both cost a few instructions for each byte.
+fn split_at_mark(text: &str) -> Option<(&str, u8, &str)>
+    ensures none { IfNone result (All (λ b. escape_of b ≡ None) text.now) }
+    ensures splits { IfSome result (λ p. text.now ≡ p.0.now ++ (p.1 ∷ p.2.now)) }
+    ensures plain { IfSome result (λ p. All (λ b. escape_of b ≡ None) p.0.now) }
+    ensures mark { IfSome result (λ p. IsSome (escape_of p.1)) }
+{
+    let bytes = text.as_bytes();
+    let at = plain_len(bytes);
+    if at == bytes.len() {
+        return None;
+    }
+    let (plain, marked) = text.split_at(at);
+    let (_, after) = marked.split_at(1);
+    Some((plain, bytes[at], after))
+}
+
+/// How many bytes stand before the first that has an escape.
+fn plain_len(bytes: &[u8]) -> usize
+    ensures within { result ≤ length bytes.now }
+    ensures plain { All (λ b. escape_of b ≡ None) (take result bytes.now) }
+    ensures mark { result < length bytes.now → IsSome (escape_of (slice_index bytes.now result)) }
+{
+    for i in 0..bytes.len() {
+        if escape_of(bytes[i]).is_some() {
+            return i;
+        }
+    }
+    bytes.len()
+}
+
+/// The escape of a byte that has one.
+#[inline(always)]
+fn escape_of(byte: u8) -> Option<&'static str>
+    ensures { option_map (λ s. s.now) result ≡ escape_of byte }
+{
+    match byte {
+        b'<' => Some("&lt;"),
+        b'>' => Some("&gt;"),
+        b'\'' => Some("&#39;"),
+        b'"' => Some("&quot;"),
+        b'&' => Some("&amp;"),
+        _ => None,
+    }
+}
+
+/// The escape of a byte that has one, without the choice.
+fn escape_of_mark(mark: u8) -> &'static str
+    ensures { IfSome (escape_of mark) (λ e. result.now ≡ e) }
+{
+    escape_of(mark).unwrap_or("")
+}
+
+/// What stands for a byte with an escape, before the text after it.
+fn mark_before(mark: u8, after: &str) -> &'static str
+    ensures { IfSome (escape_of mark) (λ e. result.now ≡ once_byte mark after.now) }
+{
+    if mark == b'&' {
+        and_before(after)
+    } else {
+        escape_of_mark(mark)
+    }
 }
 
 /// What stands for an `&`: itself where it begins an escape with the text after it, and else its own escape.

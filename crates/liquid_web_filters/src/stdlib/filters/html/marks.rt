@@ -25,10 +25,13 @@ const TAG: [char; 1] = ['<'];
 
 const TAG_END: [char; 1] = ['>'];
 
-/// The text without scripts, then without styles, comments and tags.
+/// The text without scripts, then without styles, comments and tags. Each of them ends by a `>`, so a text without one stays.
 pub fn without_tags(alloc: Global, text: &str) -> Result<String>
     ensures { Gives (λ s. string_bytes s) result (strip_html text.now) }
 {
+    if !text.contains('>') {
+        return Ok(String::from_str(alloc, text)?);
+    }
     let no_scripts = without_pairs(alloc, text, &SCRIPT, &SCRIPT_END)?;
     let no_styles = without_pairs(alloc, &no_scripts, &STYLE, &STYLE_END)?;
     let no_comments = without_pairs(alloc, &no_styles, &COMMENT, &COMMENT_END)?;

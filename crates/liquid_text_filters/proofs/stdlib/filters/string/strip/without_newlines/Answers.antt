@@ -1,8 +1,14 @@
-use Rattle.liquid_text_filters.proofs.Characters.{without_newlines_turn, without_newlines_end}
+use Rattle.std.proofs.Common.{arith, not, ◌==◌, rules}
+use Rattle.liquid_text_filters.specs.Strip.{is_newline}
+use Rattle.liquid_text_filters.proofs.Newlines.{piece_turn, piece_end, agree_lf, gone_lf}
 use Rattle.liquid_text_filters.proofs.stdlib.filters.string.strip.without_newlines.Goals as goal
 
-pub loop-letter-preserved : goal.loop-letter-preserved
-loop-letter-preserved c = without_newlines_turn c.loop-letter.rest.rest.now _ _ _ _ c.in-Some.letter c.in-Some.ensures.steps.0 c.in_ok-push_kept.ensures c.loop-letter.invariant
+pub loop-line-preserved : goal.loop-line-preserved
+loop-line-preserved c =
+    let cut = c.in-Some.ensures.byte (omega arith) (λ w o f. f) in
+    (search rules, piece_turn (λ d. not (is_newline d)) (λ d. not (d == 13)) 10 (omega arith) agree_lf gone_lf c.loop-line.rest.now c.in-Some.line.now c.in-Some.after.now _ _ _ (search rules) (search rules) cut.0 cut.1 cut.2 c.in_ok-push_without_returns.ensures c.loop-line.invariant.1)
 
 pub returns : goal.returns
-returns c = without_newlines_end c.loop-letter.rest.rest.now _ _ c.in_default.ensures.steps.0.0 c.loop-letter.invariant.1
+returns c =
+    let none = c.in_default.ensures.byte (omega arith) (λ w o f. f) in
+    piece_end (λ d. not (is_newline d)) (λ d. not (d == 13)) 10 (omega arith) agree_lf c.loop-line.rest.now _ _ _ (search rules) none c.in_ok-push_without_returns-2.ensures c.loop-line.invariant.1

@@ -6,6 +6,7 @@ ghost use Rattle.liquid_site.specs.Json.{datum_of, items_of, pairs_of, object_of
 ghost use Rattle.serde_json.specs.View.{view as json_view, items_view as json_items, members_view as json_members};
 
 use crate::json_place::{bytes_left, no_json, with_place};
+use crate::tokens::data_from_tokens;
 use liquid_core::{Error, ErrorKind, Object, Result, Value};
 use serde_json::Map;
 use std::alloc::{AllocError, Global};
@@ -13,6 +14,16 @@ use std::collections::BTreeMap;
 
 /// The data that a text of JSON gives: an object without any number that isn't whole.
 pub fn data_from_json(alloc: Global, text: &str) -> Result<Object>
+    ensures { Answers (λ m. pairs_view m.entries) result (data_of text.now) }
+{
+    if let Some(data) = data_from_tokens(alloc, text)? {
+        return Ok(data);
+    }
+    data_from_tree(alloc, text)
+}
+
+/// The same by the tree of the whole text, which tells each fault.
+fn data_from_tree(alloc: Global, text: &str) -> Result<Object>
     ensures { Answers (λ m. pairs_view m.entries) result (data_of text.now) }
 {
     match serde_json::Value::from_str(alloc, text) {

@@ -1,0 +1,72 @@
+-- The loops over tokens, a turn at a time.
+use Rattle.std.proofs.Common.{◌≡◌, ℕ, ◌-◌, ◌<◌, ◌≤◌, List, [], ◌∷◌, ◌++◌, length, Option, Some, None, option_map, refl, ap, ◌∙◌}
+use Rattle.json.specs.Token.{Token}
+use Rattle.json.specs.Json as json
+use Rattle.json.specs.Json.{Parse, parse_map, after_end_array, read_key, items, members}
+use Rattle.json.proofs.Grammar.{items_end, items_more, members_end, members_more}
+use Rattle.serde_json.specs.Read.{converted}
+use Rattle.liquid_model.specs.Data.{Datum, array, object, Items, no_items, item, Pairs, no_pairs, put}
+use Rattle.liquid_model.specs.View.{view}
+use Rattle.liquid_model.specs.declared.value.Value.{Value}
+use Rattle.liquid_site.specs.Tokens.{datum_of, items_of, pairs_of}
+use Rattle.liquid_site.proofs.After.{after, after_next}
+
+abbrev pick : {A : Type 0} → A → Option A → A
+pick d None = d
+pick d (Some a) = a
+
+found : {B : Type 0} (r s : List Token) (x : Option B) (b : B) → option_map {U = B × List Token} (λ y. (y, r)) x ≡ Some (b, s) → (r ≡ s) × (x ≡ Some b)
+found r s None b e = absurd (cc)
+found r s (Some y) b e = let same = ap (pick (y, r)) e in (ap (λ p. p.1) same, ap (λ p. Some p.0) same)
+
+-- what was read, before it was converted
+pub converted_some : {A B : Type 0} (f : A → Option B) (o : Option (A × List Token)) (b : B) (r : List Token) → converted f o ≡ Some (b, r) → (a : A) × (o ≡ Some (a, r)) × (f a ≡ Some b)
+converted_some f None b r e = absurd (cc)
+converted_some f (Some p) b r e = let both = found p.1 r (f p.0) b e in (p.0, ap (λ s. Some (p.0, s)) both.0, both.1)
+
+twice : {A B : Type 0} (g : A → B) (r : List Token) (x : Option A) → option_map (λ b. (b, r)) (option_map g x) ≡ parse_map g (option_map (λ a. (a, r)) x)
+twice g r None = refl
+twice g r (Some a) = refl
+
+pub converted-array : (o : Option (json.Items × List Token)) → converted datum_of (parse_map json.array o) ≡ parse_map array (converted items_of o)
+converted-array None = refl
+converted-array (Some p) = twice array p.1 (items_of p.0)
+
+pub converted-object : (o : Option (json.Members × List Token)) → converted datum_of (parse_map json.object o) ≡ parse_map object (converted (λ ms. pairs_of ms no_pairs) o)
+converted-object None = refl
+converted-object (Some p) = twice object p.1 (pairs_of p.0 no_pairs)
+
+with_item : (j : json.Json) (d : Datum) → datum_of j ≡ Some d → (o : Option (json.Items × List Token)) → converted items_of (parse_map (json.item j) o) ≡ parse_map (item d) (converted items_of o)
+with_item j d e None = refl
+with_item j d e (Some p) = rw e (twice (item d) p.1 (items_of p.0))
+
+with_pair : (k : List ℕ) (j : json.Json) (d : Datum) (old : Pairs) → datum_of j ≡ Some d → (o : Option (json.Members × List Token))
+    → converted (λ ms. pairs_of ms old) (parse_map (json.member k j) o) ≡ converted (λ ms. pairs_of ms (put k d old)) o
+with_pair k j d old e None = refl
+with_pair k j d old e (Some p) = rw e
+
+module _ (p : Parse json.Json) where
+  pub item_read : (n : ℕ) (ts r : List Token) (d : Datum) → 0 < n → after_end_array ts ≡ None → converted datum_of (p ts) ≡ Some (d, r)
+      → converted items_of (items p n ts) ≡ parse_map (item d) (converted items_of (items p (n - 1) r))
+  item_read n ts r d some going e = let j = converted_some datum_of (p ts) d r e in ap (converted items_of) (items_more p n ts r j.0 some going j.1) ∙ with_item j.0 d j.2 _
+
+  pub items_over : (n : ℕ) (ts r : List Token) → length ts ≤ n → after_end_array ts ≡ Some r → converted items_of (items p n ts) ≡ Some (no_items, r)
+  items_over n ts r enough e = ap (converted items_of) (items_end p n ts r enough e)
+
+  module _ (old : Pairs) where
+    pub pair_read : (n : ℕ) (k : List ℕ) (ts s r : List Token) (d : Datum) → 0 < n → read_key ts ≡ Some (Some k, s) → converted datum_of (p s) ≡ Some (d, r)
+        → converted (λ ms. pairs_of ms old) (members p n ts) ≡ converted (λ ms. pairs_of ms (put k d old)) (members p (n - 1) r)
+    pair_read n k ts s r d some key e =
+        let j = converted_some datum_of (p s) d r e in
+        ap (converted (λ ms. pairs_of ms old)) (members_more p n k ts s r j.0 some key j.1) ∙ with_pair k j.0 d old j.2 _
+
+    pub pairs_over : (n : ℕ) (ts r : List Token) → length ts ≤ n → read_key ts ≡ Some (None, r) → converted (λ ms. pairs_of ms old) (members p n ts) ≡ Some (old, r)
+    pairs_over n ts r enough e = ap (converted (λ ms. pairs_of ms old)) (members_end p n ts r enough e)
+
+pub one_more_item : (vs : List Value) (v : Value) (r : Option (Items × List Token)) → parse_map (after vs) (parse_map (item (view v)) r) ≡ parse_map (after (vs ++ v ∷ [])) r
+one_more_item vs v None = refl
+one_more_item vs v (Some p) = ap (λ ds. Some (ds, p.1)) (after_next vs v p.0)
+
+pub none_before : (r : Option (Items × List Token)) → r ≡ parse_map (λ a. a) r
+none_before None = refl
+none_before (Some p) = refl

@@ -1,0 +1,38 @@
+-- The data that tokens of JSON give where each number is whole.
+use Rattle.std.specs.Prelude.{ℕ, ℤ, List, Option, Some, None, option_map, option_and_then}
+use Rattle.liquid_model.specs.Data.{Datum, nil, truth, number, text, array, object, Items, no_items, item, Pairs, no_pairs, put}
+use Rattle.json.specs.Token.{Token}
+use Rattle.json.specs.Json as json
+use Rattle.serde_json.specs.Find.{as_i64}
+use Rattle.serde_json.specs.Read.{converted, number_of}
+
+abbrev pub integer_of : List ℕ → Option ℤ
+integer_of s = option_and_then as_i64 (number_of s)
+
+-- The pairs go in one after another, so the last value of a key stays.
+abbrev mutual
+  pub datum_of : json.Json → Option Datum
+  datum_of json.null = Some nil
+  datum_of (json.boolean b) = Some (truth b)
+  datum_of (json.number s) = option_map number (integer_of s)
+  datum_of (json.string s) = Some (text s)
+  datum_of (json.array js) = option_map array (items_of js)
+  datum_of (json.object ms) = option_map object (pairs_of ms no_pairs)
+
+  pub items_of : json.Items → Option Items
+  items_of json.no_items = Some no_items
+  items_of (json.item j js) = option_and_then (λ d. option_map (item d) (items_of js)) (datum_of j)
+
+  pub pairs_of : json.Members → Pairs → Option Pairs
+  pairs_of json.no_members found = Some found
+  pairs_of (json.member k j ms) found = option_and_then (λ d. pairs_of ms (put k d found)) (datum_of j)
+
+-- what stands at the front of the tokens, and the tokens behind it
+abbrev pub datum_at : ℕ → List Token → Option (Datum × List Token)
+datum_at depth ts = converted datum_of (json.value depth ts)
+
+abbrev pub items_at : ℕ → ℕ → List Token → Option (Items × List Token)
+items_at depth n ts = converted items_of (json.items (json.value depth) n ts)
+
+abbrev pub pairs_at : ℕ → Pairs → ℕ → List Token → Option (Pairs × List Token)
+pairs_at depth found n ts = converted (λ ms. pairs_of ms found) (json.members (json.value depth) n ts)

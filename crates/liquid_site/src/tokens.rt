@@ -1,0 +1,122 @@
+//! Data straight from the tokens of a text of JSON, where each number is whole.
+ghost use Rattle.std.specs.Prelude.{◌≡◌, ◌<◌, length, Ok, Some, IfOk, IfSome, OnOk};
+ghost use Rattle.json.specs.Json.{value, items, members};
+ghost use Rattle.serde_json.specs.Read.{converted};
+ghost use Rattle.liquid_model.specs.Data.{no_pairs};
+ghost use Rattle.liquid_model.specs.View.{view, items_view, pairs_view};
+ghost use Rattle.liquid_site.specs.Json.{data_of};
+ghost use Rattle.liquid_site.specs.Tokens.{datum_at, items_at, pairs_at, integer_of};
+
+use crate::whole::integer_of;
+use json::{Invalid, Reader, Scratch, Token};
+use liquid_core::{Object, Value};
+use std::alloc::{AllocError, AllocFailed, Global};
+use std::collections::BTreeMap;
+
+/// How deep lists and maps may stand in one another, as where the whole text is read to a tree.
+const MAX_DEPTH: usize = 127;
+
+/// Why the tokens gave no data: memory was refused, or they have what only the tree tells.
+#[derive(Clone, Copy, Drop)]
+enum Stop {
+    Memory,
+    Other,
+}
+
+impl From<AllocError> for Stop {
+    fn from(_refused: AllocError) -> Stop {
+        Stop::Memory
+    }
+}
+
+impl<T: Drop> From<AllocFailed<T>> for Stop {
+    fn from(_refused: AllocFailed<T>) -> Stop {
+        Stop::Memory
+    }
+}
+
+impl From<Invalid> for Stop {
+    fn from(_invalid: Invalid) -> Stop {
+        Stop::Other
+    }
+}
+
+/// The data of a text, or none where it isn't plain: no JSON, no object, or with a number that isn't whole.
+pub fn data_from_tokens(alloc: Global, text: &str) -> Result<Option<Object>, AllocError>
+    ensures { IfOk result (λ o. IfSome o (λ m. data_of text.now ≡ Ok (pairs_view m.entries))) }
+{
+    let mut scratch = Scratch::new(alloc);
+    let mut reader = Reader::new(text, &mut scratch)?;
+    let value = match read(alloc, &mut reader, MAX_DEPTH) {
+        Ok(value) => value,
+        Err(Stop::Memory) => return Err(AllocError),
+        Err(Stop::Other) => return Ok(None),
+    };
+    if reader.next().is_some() {
+        return Ok(None);
+    }
+    match value {
+        Value::Object(data) => Ok(Some(data)),
+        _ => Ok(None),
+    }
+}
+
+#[cycle(read)]
+#[inline(always)]
+fn read(alloc: Global, reader: &mut Reader<'_>, depth: usize) -> Result<Value, Stop>
+    ensures ok { IfOk result (λ v. datum_at depth reader.old ≡ Some (view v, reader.new)) }
+    ensures shorter { OnOk result (length reader.new < length reader.old) }
+{
+    let token = reader.next().ok_or(Stop::Other)?;
+    match token {
+        Token::String(text) => Ok(Value::Text(String::from_str(alloc, text)?)),
+        Token::Number(text) => match integer_of(text) {
+            Some(n) => Ok(Value::Integer(n)),
+            None => Err(Stop::Other),
+        },
+        Token::Bool(b) => Ok(Value::Bool(b)),
+        Token::Null => Ok(Value::Nil),
+        Token::EndObject | Token::EndArray | Token::Key(_) | Token::Bad => Err(Stop::Other),
+        Token::BeginArray => {
+            if depth == 0 {
+                return Err(Stop::Other);
+            }
+            Ok(Value::Array(read_items(alloc, reader, depth - 1)?))
+        }
+        Token::BeginObject => {
+            if depth == 0 {
+                return Err(Stop::Other);
+            }
+            Ok(Value::Object(read_pairs(alloc, reader, depth - 1)?))
+        }
+    }
+}
+
+#[cycle(read)]
+#[inline(never)]
+fn read_items(alloc: Global, reader: &mut Reader<'_>, depth: usize) -> Result<Vec<Value>, Stop>
+    ensures ok { IfOk result (λ v. items_at depth (length reader.old) reader.old ≡ Some (items_view v.items, reader.new)) }
+    ensures shorter { OnOk result (length reader.new < length reader.old) }
+{
+    let mut found = Vec::new(alloc);
+    'items: while !reader.take_end_array() {
+        let item = read(alloc, reader, depth)?;
+        found.push(item)?;
+    }
+    Ok(found)
+}
+
+#[cycle(read)]
+#[inline(never)]
+fn read_pairs(alloc: Global, reader: &mut Reader<'_>, depth: usize) -> Result<Object, Stop>
+    ensures ok { IfOk result (λ m. pairs_at depth no_pairs (length reader.old) reader.old ≡ Some (pairs_view m.entries, reader.new)) }
+    ensures shorter { OnOk result (length reader.new < length reader.old) }
+{
+    let mut found: Object = BTreeMap::new(alloc);
+    'pairs: while let Some(name) = reader.next_key()? {
+        let key = String::from_str(alloc, name)?;
+        let member = read(alloc, reader, depth)?;
+        drop(found.insert(key, member)?);
+    }
+    Ok(found)
+}
