@@ -2,7 +2,7 @@
 import re
 from dataclasses import dataclass
 
-FUNCTION = re.compile(r"^( *)(?:pub(?:\([^)]*\))? )?(const )?(?:unsafe )?fn (\w+)")
+FUNCTION = re.compile(r'^( *)(?:pub(?:\([^)]*\))? )?(const )?(?:unsafe )?(?:extern "C" )?fn (\w+)')
 HEAD = re.compile(r"^(?:unsafe )?(?:pub )?(impl|trait)\b")
 CYCLE = re.compile(r"^ *#\[cycle\((\w+)\)\]")
 ENSURES = re.compile(r"^ *ensures\b")
