@@ -5,7 +5,7 @@ use Rattle.std.proofs.lemmas.Str.{encode_ascii}
 use Rattle.std.proofs.lemmas.List.Sums.{split_at_first, fails_before_first, passes_at_first}
 use Rattle.std.specs.List.{flat_map, position_or_len, before_first, after_first}
 use lib.Utf8.{encode}
-use Rattle.liquid_list_filters.specs.Text.{begins}
+use Rattle.liquid_filter_base.specs.Text.{begins}
 use Rattle.liquid_web_filters.specs.Escapes.{ends_escape, escape_of, escape_or, escaped_byte, escaped_letter, escaped, once_byte, once_letter, escaped_once}
 use Rattle.liquid_web_filters.proofs.Bytes.{AllHigh, high_bytes, ascii_or_high, high_letter, ascii_letter}
 use Rattle.liquid_web_filters.proofs.Replaced.{agree_first, cut_none}

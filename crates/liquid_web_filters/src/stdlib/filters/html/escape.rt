@@ -3,12 +3,12 @@ ghost use Rattle.std.specs.Prelude.{◌≡◌, nat_eq, string_bytes, IsTrue, len
 ghost use Rattle.liquid_model.specs.Answer.{Gives, Answers};
 ghost use Rattle.liquid_web_filters.specs.Escapes.{ends_escape, escape_answer, escape_once_answer, escaped, escaped_once, once_byte};
 ghost use Rattle.liquid_model.specs.View.{view};
-ghost use Rattle.liquid_list_filters.specs.Stands.{Stands};
+ghost use Rattle.liquid_filter_base.specs.Stands.{Stands};
 ghost use Rattle.liquid_web_filters.specs.HtmlLaws.{EscapesOnce, EscapesText};
 
 use crate::stdlib::filters::replaced::push_replaced;
 use liquid_core::{Filter, Result, Value};
-use liquid_list_filters::text_of;
+use liquid_filter_base::text_of;
 use std::alloc::Global;
 
 /// The characters that have an escape, each with its own. The `&` is the first.
