@@ -1,8 +1,8 @@
 //! The readers of arguments, and filters by their names.
 use crate::faults::no_call;
 use liquid_core::{Filter, Result, Value};
+use liquid_filter_base::{lower_case, text_argument, whole_argument};
 use liquid_lib::STANDARD_FILTERS;
-use liquid_list_filters::{lower_case, text_argument, whole_argument};
 use liquid_refusals::{Row, items, text};
 use std::alloc::Global;
 

@@ -5,7 +5,7 @@ use Rattle.liquid_model.specs.Fallible.{◌>>=◌}
 use Rattle.liquid_model.specs.Texts.{Text}
 use Rattle.liquid_model.specs.declared.error.ErrorKind.{ErrorKind}
 use Rattle.liquid_model.specs.declared.error.ErrorKind.TheVariants.{InvalidInput, InvalidArgument, TimezoneRange}
-use Rattle.liquid_list_filters.specs.Arguments.{Answer, text_or, whole_or_fault}
+use Rattle.liquid_filter_base.specs.Arguments.{Answer, text_or, whole_or_fault}
 use Rattle.liquid_date_filters.specs.Clock.{Clock, instant}
 use Rattle.liquid_date_filters.specs.Instant.{clock_at}
 use Rattle.liquid_date_filters.specs.Printed.{printed}

@@ -11,6 +11,7 @@ use Rattle.liquid_model.specs.Texts.{Text}
 use Rattle.liquid_model.specs.Whole.{whole}
 use Rattle.liquid_model.specs.declared.error.ErrorKind.{ErrorKind}
 use Rattle.liquid_model.specs.declared.error.ErrorKind.TheVariants.{Float, InvalidArgument}
+use Rattle.liquid_filter_base.specs.Arguments.{Answer, number_or_fault, text_or, first_of}
 use Rattle.liquid_date_filters.specs.Clock.{Clock}
 use Rattle.liquid_date_filters.specs.Dates.{date_of, as_text, or_input, dated, is_zone, in_zone, date_in_tz_answer}
 use Rattle.liquid_date_filters.specs.Printed.{printed}
@@ -21,7 +22,6 @@ use Rattle.liquid_jekyll_filters.specs.Pluralize.{numbered, pluralize_answer}
 use Rattle.liquid_jekyll_filters.specs.Sentence.{sentence_by}
 use Rattle.liquid_jekyll_filters.specs.Slugs.{mode_named, slugify_answer}
 use Rattle.liquid_jekyll_filters.specs.Sorting.{nils_given, or_no_path, sort_items}
-use Rattle.liquid_list_filters.specs.Arguments.{Answer, number_or_fault, text_or, first_of}
 use Rattle.liquid_list_filters.specs.Ends.{first_answer, last_answer}
 use Rattle.liquid_list_filters.specs.Joined.{join_by}
 use Rattle.liquid_list_filters.specs.Keeping.{compact, compact_by, compact_answer, where_by, where_answer, map_of, map_answer, uniq}
@@ -40,7 +40,7 @@ use Rattle.liquid_web_filters.specs.Urls.{text_of_bytes, unescaped, url_encode_a
 use Rattle.liquid_filters.specs.Kinds.{kind_answer}
 use Rattle.liquid_filters.specs.RunKinds.{is_run_kind, KindsOfAnswers}
 use Rattle.liquid_filters.specs.declared.kind.FilterKind.{FilterKind}
-use Rattle.liquid_filters.specs.declared.kind.FilterKind.TheVariants.{Join, Sort, SortNatural, Where, Uniq, Reverse, Map, Compact, Concat, First, Last, Abs, AtLeast, AtMost, Plus, Minus, Times, DividedBy, Modulo, Round, Ceil, Floor, Size, Default, Slice, Split, Replace, ReplaceFirst, Remove, RemoveFirst, Append, Prepend, Strip, Lstrip, Rstrip, StripNewlines, Downcase, Upcase, Capitalize, Truncate, TruncateWords, Escape, EscapeOnce, StripHtml, NewlineToBr, UrlEncode, UrlDecode, Date, JekyllSort, Push, Unshift, Pop, Shift, ArrayToSentenceString, Slugify, Pluralize, DateInTz}
+use Rattle.liquid_filters.specs.declared.kind.FilterKind.TheVariants.{Join, Sort, SortNatural, Where, Uniq, Reverse, Map, Compact, Concat, First, Last, Abs, AtLeast, AtMost, Plus, Minus, Times, DividedBy, Modulo, Round, Ceil, Floor, Slice, Truncate, TruncateWords, Escape, EscapeOnce, UrlEncode, UrlDecode, Date, JekyllSort, Push, Unshift, Pop, Shift, ArrayToSentenceString, Slugify, Pluralize, DateInTz}
 use Rattle.liquid_filters.proofs.Ended.{Ended, ended_ok, ended_err, ended_then, ended_cond}
 
 -- ---- arguments
@@ -284,7 +284,7 @@ ended_sort_items ds [] = ended_ok _
 ended_sort_items ds (name ∷ args) =
     ended_cond (all_maps ds) (ended_then (ended_nils (first_of args)) (λ n. ended_then (ended_path (path (text_of name))) (λ p. ended_ok _))) (ended_err _ tt)
 
--- ---- all of them
+-- ---- all of them: the last line is for all that refuse nothing
 
 ended_answer : (filter : FilterKind) (d : Datum) (args : List Datum) → Ended (kind_answer filter d args)
 ended_answer (Join f) d args = ended_join (text_or (codes " ") args) d
@@ -326,24 +326,7 @@ ended_answer (ArrayToSentenceString f) d args = ended_sentence (text_or (codes "
 ended_answer (Slugify f) d args = ended_slugify d args
 ended_answer (Pluralize f) d args = ended_pluralize d args
 ended_answer (DateInTz f) d args = ended_date_in_tz d args
-ended_answer (Size f) d args = ended_ok _
-ended_answer (Default f) d args = ended_ok _
-ended_answer (Split f) d args = ended_ok _
-ended_answer (Replace f) d args = ended_ok _
-ended_answer (ReplaceFirst f) d args = ended_ok _
-ended_answer (Remove f) d args = ended_ok _
-ended_answer (RemoveFirst f) d args = ended_ok _
-ended_answer (Append f) d args = ended_ok _
-ended_answer (Prepend f) d args = ended_ok _
-ended_answer (Strip f) d args = ended_ok _
-ended_answer (Lstrip f) d args = ended_ok _
-ended_answer (Rstrip f) d args = ended_ok _
-ended_answer (StripNewlines f) d args = ended_ok _
-ended_answer (Downcase f) d args = ended_ok _
-ended_answer (Upcase f) d args = ended_ok _
-ended_answer (Capitalize f) d args = ended_ok _
-ended_answer (StripHtml f) d args = ended_ok _
-ended_answer (NewlineToBr f) d args = ended_ok _
+ended_answer _ d args = ended_ok _
 
 pub kinds_of_answers : KindsOfAnswers
 kinds_of_answers filter d args = (ended_answer filter d args).ended

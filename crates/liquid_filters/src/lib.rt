@@ -11,5 +11,5 @@ pub mod shopify;
 pub mod stdlib;
 
 pub use kind::FilterKind;
-pub use laws::answer_law;
+pub use laws::{answer_law, join_gives_back};
 pub use liquid_date_filters::read_date;

@@ -7,7 +7,7 @@ use Rattle.std.specs.Char.{is_whitespace, to_ascii_lowercase}
 use Rattle.std.specs.Str.{all_scalars, chars, drop_trailing_whitespace, encode_utf8_all, skip_leading_whitespace, trim, trim_end, trim_start}
 use lib.Utf8.{low_scalar}
 use Rattle.liquid_model.specs.Data.{Datum, text, text_of}
-use Rattle.liquid_list_filters.specs.Arguments.{Answer}
+use Rattle.liquid_filter_base.specs.Arguments.{Answer}
 use Rattle.liquid_jekyll_filters.specs.Laws.{AsciiSlugs}
 use Rattle.liquid_jekyll_filters.specs.Runs.{AreSingle, AreSlugLetters, EndsOther, IsSlug, StartsOther, is_slug_letter}
 use Rattle.liquid_jekyll_filters.specs.Slugs.{hyphened, inner, keeps, shown, slug, without_last}

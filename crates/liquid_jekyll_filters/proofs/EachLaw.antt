@@ -11,12 +11,13 @@ use Rattle.liquid_model.specs.Texts.{Text}
 use Rattle.liquid_model.specs.View.{items_of}
 use Rattle.liquid_model.specs.declared.error.ErrorKind.{ErrorKind}
 use Rattle.liquid_model.specs.declared.error.ErrorKind.TheVariants.{InvalidInput}
-use Rattle.liquid_list_filters.specs.Arguments.{Answer, first_of, text_or}
+use Rattle.liquid_filter_base.specs.Arguments.{Answer, first_of, text_or}
+use Rattle.liquid_filter_base.proofs.Ones.{one, image_one, same_one, either_one}
 use Rattle.liquid_list_filters.specs.Laws.{Lists}
 use Rattle.liquid_list_filters.specs.Sequences.{list, sequence, all_maps, is_map}
 use Rattle.liquid_list_filters.specs.Sorting.{Key, place, sort_by, sorted}
 use Rattle.liquid_list_filters.proofs.Keys.{keys_order}
-use Rattle.liquid_list_filters.proofs.Ones.{one, image_one, same_one, either_one, followed_one}
+use Rattle.liquid_list_filters.proofs.Ones.{followed_one}
 use Rattle.liquid_list_filters.proofs.Sorts.{sorted_twice, all_sorted}
 use Rattle.liquid_list_filters.proofs.SortsByKey.{sort_one}
 use Rattle.liquid_jekyll_filters.specs.Ends.{without_last}

@@ -2,7 +2,7 @@
 use Rattle.std.specs.Prelude.{◌-◌, List, [], ◌∷◌, ◌++◌, length, take, drop, Err}
 use Rattle.liquid_model.specs.Data.{Datum}
 use Rattle.liquid_model.specs.declared.error.ErrorKind.TheVariants.{InvalidArgument}
-use Rattle.liquid_list_filters.specs.Arguments.{Answer}
+use Rattle.liquid_filter_base.specs.Arguments.{Answer}
 use Rattle.liquid_list_filters.specs.Sequences.{of_list}
 
 abbrev pub without_last : List Datum → List Datum

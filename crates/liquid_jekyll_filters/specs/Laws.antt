@@ -5,12 +5,12 @@ use Rattle.liquid_model.specs.Data.{Datum, text, text_of}
 use Rattle.liquid_model.specs.Texts.{Text}
 use Rattle.liquid_model.specs.declared.error.ErrorKind.{ErrorKind}
 use Rattle.liquid_model.specs.declared.error.ErrorKind.TheVariants.{InvalidInput}
-use Rattle.liquid_list_filters.specs.Arguments.{Answer, first_of, text_or}
+use Rattle.liquid_filter_base.specs.Arguments.{Answer, first_of, text_or}
+use Rattle.liquid_filter_base.specs.Text.{Texts}
 use Rattle.liquid_list_filters.specs.Laws.{Lists, OfList, OfMaps}
 use Rattle.liquid_list_filters.specs.Places.{IsFollowed}
 use Rattle.liquid_list_filters.specs.Sequences.{sequence}
 use Rattle.liquid_list_filters.specs.Sorts.{IsSort}
-use Rattle.liquid_list_filters.specs.Text.{Texts}
 use Rattle.liquid_jekyll_filters.specs.Ends.{pop_answer, push_answer, shift_answer, unshift_answer}
 use Rattle.liquid_jekyll_filters.specs.Runs.{IsSlug, IsSlugOf}
 use Rattle.liquid_jekyll_filters.specs.Sentence.{array_to_sentence_string_answer}

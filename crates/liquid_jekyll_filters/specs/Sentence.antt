@@ -4,7 +4,7 @@ use Rattle.liquid_model.specs.Data.{Datum, text, array, text_of}
 use Rattle.liquid_model.specs.Lists.{list_of}
 use Rattle.liquid_model.specs.Texts.{Text}
 use Rattle.liquid_model.specs.declared.error.ErrorKind.TheVariants.{InvalidInput}
-use Rattle.liquid_list_filters.specs.Arguments.{Answer, text_or}
+use Rattle.liquid_filter_base.specs.Arguments.{Answer, text_or}
 
 -- a text that isn't the first; before the last stands the connector as well
 abbrev pub next_text : Text → Bool → Text → Text

@@ -8,7 +8,7 @@ use Rattle.liquid_model.specs.Fallible.{◌>>=◌}
 use Rattle.liquid_model.specs.Texts.{Text}
 use Rattle.liquid_model.specs.declared.error.ErrorKind.{ErrorKind}
 use Rattle.liquid_model.specs.declared.error.ErrorKind.TheVariants.{Unsupported}
-use Rattle.liquid_list_filters.specs.Arguments.{Answer}
+use Rattle.liquid_filter_base.specs.Arguments.{Answer}
 use Rattle.liquid_jekyll_filters.specs.declared.jekyll.slugify.Mode.{Mode}
 use Rattle.liquid_jekyll_filters.specs.declared.jekyll.slugify.Mode.TheVariants.{Default, Raw, Pretty, Ascii, Nothing}
 

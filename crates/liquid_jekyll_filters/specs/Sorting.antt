@@ -6,7 +6,7 @@ use Rattle.liquid_model.specs.Find.{find}
 use Rattle.liquid_model.specs.Texts.{Text}
 use Rattle.liquid_model.specs.declared.error.ErrorKind.{ErrorKind}
 use Rattle.liquid_model.specs.declared.error.ErrorKind.TheVariants.{InvalidInput, InvalidArgument}
-use Rattle.liquid_list_filters.specs.Arguments.{Answer, first_of}
+use Rattle.liquid_filter_base.specs.Arguments.{Answer, first_of}
 use Rattle.liquid_list_filters.specs.Ends.{or_nil}
 use Rattle.liquid_list_filters.specs.Sequences.{list, sequence, all_maps}
 use Rattle.liquid_list_filters.specs.Sorting.{Key, given, sort_by}

@@ -11,7 +11,8 @@ use Rattle.liquid_model.specs.OrderLaws.{same_Decides}
 use Rattle.liquid_model.specs.Texts.{Text}
 use Rattle.liquid_model.specs.View.{items_of}
 use Rattle.liquid_model.specs.declared.error.ErrorKind.TheVariants.{InvalidInput, InvalidArgument}
-use Rattle.liquid_list_filters.specs.Arguments.{Answer, first_of, text_or}
+use Rattle.liquid_filter_base.specs.Arguments.{Answer, first_of, text_or}
+use Rattle.liquid_filter_base.proofs.Ones.{image_one, same_one, either_one}
 use Rattle.liquid_list_filters.specs.Ends.{character, or_nil}
 use Rattle.liquid_list_filters.specs.Keeping.{is_nil, is_given, is_wanted, compact_of, where_of}
 use Rattle.liquid_list_filters.specs.Laws.{Lists, Has, Wants, JoinIsOne, SortIsOne, SortNaturalIsOne, SortTwiceIsOnce, SortNaturalTwiceIsOnce, CompactIsOne, WhereIsOne, MapIsOne, UniqIsOne, ReverseIsOne, ConcatIsOne, FirstIsOne, LastIsOne}
@@ -19,7 +20,7 @@ use Rattle.liquid_list_filters.specs.Places.{IsJoined, Keeps, StartsWith, EndsWi
 use Rattle.liquid_list_filters.specs.Sequences.{list, sequence, all_maps, is_map, property}
 use Rattle.liquid_list_filters.specs.Sorting.{Key, key_of, natural_key_of, sort_by}
 use Rattle.liquid_list_filters.proofs.Keys.{keys_order}
-use Rattle.liquid_list_filters.proofs.Ones.{image_one, same_one, either_one, keeps_one, values_one, firsts_one, joined_one, followed_one, starts_one, ends_one}
+use Rattle.liquid_list_filters.proofs.Ones.{keeps_one, values_one, firsts_one, joined_one, followed_one, starts_one, ends_one}
 use Rattle.liquid_list_filters.proofs.Reversals.{reversed_one}
 use Rattle.liquid_list_filters.proofs.Sorts.{sorted_twice, all_sorted}
 use Rattle.liquid_list_filters.proofs.SortsByKey.{sort_one}

@@ -1,5 +1,5 @@
--- Relations that hold of one thing alone.
-use Rattle.std.proofs.Common.{◌≡◌, ◌-◌, ◌⊎◌, inl, inr, ⊎_elim, ◌||◌, Bool, true, false, cond, List, [], ◌∷◌, ◌++◌, length, drop, slice_get, Option, Some, None, MatchBool, if◌then◌else◌, ap, refl, sym, subst, ◌∙◌}
+-- Relations of lists that hold of one thing alone.
+use Rattle.std.proofs.Common.{◌≡◌, ◌-◌, ◌⊎◌, inl, inr, ⊎_elim, ◌||◌, Bool, true, false, cond, List, [], ◌∷◌, ◌++◌, length, drop, slice_get, Option, Some, None, ap, refl, sym, subst, ◌∙◌}
 use Rattle.std.specs.Bool.{Decides}
 use Rattle.std.specs.List.{filter, filter_map, cons_option}
 use Rattle.std.proofs.lemmas.List.{append-nil, take-append-drop}
@@ -9,24 +9,11 @@ use Rattle.liquid_model.specs.Data.{Datum}
 use Rattle.liquid_model.specs.Order.{same}
 use Rattle.liquid_model.specs.OrderLaws.{same_Decides}
 use Rattle.liquid_model.specs.Texts.{Text}
-use Rattle.liquid_list_filters.specs.Joined.{joined}
+use Rattle.liquid_filter_base.specs.Joined.{joined}
+use Rattle.liquid_filter_base.proofs.Ones.{one, same_one}
 use Rattle.liquid_list_filters.specs.Keeping.{has_same, uniq_after}
 use Rattle.liquid_list_filters.specs.Places.{StartsWith, EndsWith, IsFollowed, IsJoined, Keeps, KeepsValues, IsAmong, KeepsFirsts}
 use Rattle.liquid_list_filters.proofs.Ends.{slice_get_last}
-
-pub one : {X : Type 0} (R : X → Type 0) (a : X) → R a → ((b : X) → R b → b ≡ a) → IsTheOne R a
-one R a meets unique = λ b. (unique b, λ e. subst R (sym e) meets)
-
--- what f makes of the one thing
-pub image_one : {X Y : Type 0} (R : X → Type 0) (f : X → Y) (x : X) → IsTheOne R x → IsTheOne (λ a. (y : X) × (a ≡ f y) × R y) (f x)
-image_one {X} R f x h = one (λ a. (y : X) × (a ≡ f y) × R y) (f x) (x, refl, (h x).1 refl) (λ a m. m.1 ∙ ap f ((h m.0).0 m.2))
-
-pub same_one : {X : Type 0} (x : X) → IsTheOne (λ a. a ≡ x) x
-same_one x = λ a. (λ e. e, λ e. e)
-
-pub either_one : {X : Type 0} (b : Bool) (R S : X → Type 0) (x y : X) → IsTheOne R x → IsTheOne S y → IsTheOne (λ a. MatchBool b (R a) (S a)) (if b then x else y)
-either_one true R S x y h k = h
-either_one false R S x y h k = k
 
 -- ---- the items of which a test holds
 kept_at : (P : Datum → Type 0) (d : Datum) (ds rest : List Datum) (b : Bool) → Decides b (P d) → Keeps P ds rest → Keeps P (d ∷ ds) (cond b (d ∷ rest) rest)

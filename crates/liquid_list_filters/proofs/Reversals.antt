@@ -3,8 +3,8 @@ use Rattle.std.proofs.Common.{◌≡◌, ℕ, zero, suc, ◌-◌, ◌<◌, List,
 use Rattle.std.proofs.lemmas.List.{get_or-reverse, length-reverse}
 use Rattle.liquid_model.specs.Answer.{IsTheOne}
 use Rattle.liquid_model.specs.Data.{Datum}
+use Rattle.liquid_filter_base.proofs.Ones.{one}
 use Rattle.liquid_list_filters.specs.Places.{IsReversed}
-use Rattle.liquid_list_filters.proofs.Ones.{one}
 
 got : {X : Type 0} (xs : List X) (i : ℕ) (d : X) → i < length xs → slice_get xs i ≡ Some (get_or xs i d)
 got [] i d h = absurd (omega arith)

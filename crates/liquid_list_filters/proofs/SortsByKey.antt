@@ -7,10 +7,10 @@ use Rattle.std.specs.declared.cmp.Ordering.{Ordering}
 use Rattle.std.specs.declared.cmp.Ordering.TheVariants.{Less, Equal, Greater}
 use Rattle.liquid_model.specs.Answer.{IsTheOne}
 use Rattle.liquid_model.specs.Data.{Datum}
+use Rattle.liquid_filter_base.proofs.Ones.{one}
 use Rattle.liquid_list_filters.specs.Sorting.{Key, key_order, sort_by}
 use Rattle.liquid_list_filters.specs.Sorts.{NeverFall, with_key, IsSort}
 use Rattle.liquid_list_filters.proofs.Keys.{key_order_total, keys_order}
-use Rattle.liquid_list_filters.proofs.Ones.{one}
 use Rattle.liquid_list_filters.proofs.Sorts.{Rises, TellsApart, none_through, one_order, sorted_keeps, sorted_rises}
 
 abbrev below : (Datum → Key) → Datum → Datum → Bool

@@ -1,14 +1,14 @@
--- An answer stands in the relation that holds of it alone.
-use Rattle.std.proofs.Common.{◌≡◌, true, false, Bool, List, [], ◌∷◌, refl, subst}
-use Rattle.std.specs.Prelude.{MatchBool, ⊤, Result, Ok, Err}
-use Rattle.liquid_model.specs.Answer.{Answers, IsTheOne}
+-- A list filter's answer stands in the relation that holds of it alone.
+use Rattle.std.proofs.Common.{List, [], ◌∷◌}
+use Rattle.std.specs.Prelude.{Result}
+use Rattle.liquid_model.specs.Answer.{Answers}
 use Rattle.liquid_model.specs.Data.{Datum, text_of}
-use Rattle.liquid_model.specs.Told.{is_memory, is_refusal}
 use Rattle.liquid_model.specs.View.{view}
 use Rattle.liquid_model.specs.declared.error.Error.{Error}
-use Rattle.liquid_model.specs.declared.error.ErrorKind.{ErrorKind}
 use Rattle.liquid_model.specs.declared.value.Value.{Value}
-use Rattle.liquid_list_filters.specs.Arguments.{Answer, first_of}
+use Rattle.liquid_filter_base.specs.Arguments.{first_of}
+use Rattle.liquid_filter_base.specs.Stands.{Stands, WithFirst}
+use Rattle.liquid_filter_base.proofs.Standing.{none_given, stands}
 use Rattle.liquid_list_filters.specs.Ends.{first_answer, last_answer}
 use Rattle.liquid_list_filters.specs.Joined.{join_answer}
 use Rattle.liquid_list_filters.specs.Keeping.{compact_answer, where_answer, map_answer, uniq_answer}
@@ -16,25 +16,7 @@ use Rattle.liquid_list_filters.specs.Laws.{Joins, Sorts, Compacts, Wheres, Maps,
 use Rattle.liquid_list_filters.specs.Places.{StartsWith, EndsWith}
 use Rattle.liquid_list_filters.specs.Rows.{reverse_answer, concat_answer}
 use Rattle.liquid_list_filters.specs.Sorting.{key_of, natural_key_of, sort_answer, sort_natural_answer}
-use Rattle.liquid_list_filters.specs.Stands.{Stands, WithFirst}
 use Rattle.liquid_list_filters.proofs.EachLaw.{join_is_one, sort_is_one, sort_natural_is_one, compact_is_one, where_is_one, map_is_one, uniq_is_one, reverse_is_one, concat_is_one, first_is_one, last_is_one}
-
-faulted : (R : Answer → Type 0) (a : Answer) (k : ErrorKind) (m : Bool) → R a → MatchBool m ⊤ ((a ≡ Err k) × (is_refusal k ≡ false)) → MatchBool m ⊤ (R (Err k))
-faulted R a k true h w = tt
-faulted R a k false h w = subst R w.0 h
-
-pub stands : (R : Answer → Type 0) (a : Answer) (r : Result Value Error) → IsTheOne R a → Answers view r a → Stands R r
-stands R a (Ok v) one w = subst R w ((one a).1 refl)
-stands R a (Err e) one w = faulted R a e.kind (is_memory e.kind) ((one a).1 refl) w
-
--- nothing is said of a call without arguments
-unsaid : (m : Bool) → MatchBool m ⊤ (Unit {0})
-unsaid true = tt
-unsaid false = tt
-
-pub none_given : (R : Datum → List Datum → Answer → Type 0) (r : Result Value Error) → Stands (WithFirst R []) r
-none_given R (Ok v) = tt
-none_given R (Err e) = unsaid (is_memory e.kind)
 
 pub joins : (d : Datum) (args : List Datum) (r : Result Value Error) → Answers view r (join_answer d args) → Stands (Joins d args) r
 joins d args r = stands (Joins d args) (join_answer d args) r (join_is_one d args)

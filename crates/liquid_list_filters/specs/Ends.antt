@@ -6,7 +6,7 @@ use Rattle.liquid_model.specs.Data.{Datum, nil, text, array, object, Items, text
 use Rattle.liquid_model.specs.Find.{item_at, item_back}
 use Rattle.liquid_model.specs.Texts.{Text}
 use Rattle.liquid_model.specs.declared.error.ErrorKind.TheVariants.{InvalidInput}
-use Rattle.liquid_list_filters.specs.Arguments.{Answer}
+use Rattle.liquid_filter_base.specs.Arguments.{Answer}
 
 -- the text of a character, or the empty text
 abbrev pub character : Option ℕ → Text

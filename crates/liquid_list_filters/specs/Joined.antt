@@ -1,20 +1,11 @@
--- Texts in a row with a separator between them, and the filter `join`.
-use Rattle.std.specs.Prelude.{List, [], ◌∷◌, ◌++◌, map, codes, Ok, Err}
+-- The filter `join`.
+use Rattle.std.specs.Prelude.{List, map, codes, Ok, Err}
 use Rattle.liquid_model.specs.Data.{Datum, text, array, text_of}
 use Rattle.liquid_model.specs.Lists.{list_of}
 use Rattle.liquid_model.specs.Texts.{Text}
 use Rattle.liquid_model.specs.declared.error.ErrorKind.TheVariants.{InvalidInput}
-use Rattle.liquid_list_filters.specs.Arguments.{Answer, text_or}
-
--- each text with the separator before it
-abbrev pub joined_rest : Text → List Text → Text
-joined_rest separator [] = []
-joined_rest separator (t ∷ ts) = separator ++ (t ++ joined_rest separator ts)
-
--- the texts with the separator between them
-abbrev pub joined : Text → List Text → Text
-joined separator [] = []
-joined separator (t ∷ ts) = t ++ joined_rest separator ts
+use Rattle.liquid_filter_base.specs.Arguments.{Answer, text_or}
+use Rattle.liquid_filter_base.specs.Joined.{joined}
 
 abbrev pub join_by : Text → Datum → Answer
 join_by separator (array ds) = Ok (text (joined separator (map text_of (list_of ds))))

@@ -5,7 +5,7 @@ use Rattle.liquid_model.specs.Lists.{list_of}
 use Rattle.liquid_model.specs.Order.{same}
 use Rattle.liquid_model.specs.Texts.{Text}
 use Rattle.liquid_model.specs.declared.error.ErrorKind.TheVariants.{InvalidInput, InvalidArgument}
-use Rattle.liquid_list_filters.specs.Arguments.{Answer, first_of}
+use Rattle.liquid_filter_base.specs.Arguments.{Answer, first_of}
 use Rattle.liquid_list_filters.specs.Sequences.{list, all_maps, property, of_list}
 
 -- `compact`: the items that aren't nil

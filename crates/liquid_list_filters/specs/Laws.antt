@@ -6,7 +6,7 @@ use Rattle.liquid_model.specs.Data.{Datum, nil, text, array, object, text_of, tr
 use Rattle.liquid_model.specs.Lists.{list_of}
 use Rattle.liquid_model.specs.Texts.{Text}
 use Rattle.liquid_model.specs.declared.error.ErrorKind.TheVariants.{InvalidInput, InvalidArgument}
-use Rattle.liquid_list_filters.specs.Arguments.{Answer, first_of, text_or}
+use Rattle.liquid_filter_base.specs.Arguments.{Answer, first_of, text_or}
 use Rattle.liquid_list_filters.specs.Ends.{character, or_nil, first_answer, last_answer}
 use Rattle.liquid_list_filters.specs.Joined.{join_answer}
 use Rattle.liquid_list_filters.specs.Keeping.{compact_answer, where_answer, map_answer, uniq_answer}

@@ -1,6 +1,4 @@
-pub mod Arguments
 pub mod Ends
-pub mod Faults
 pub mod Joined
 pub mod Keeping
 pub mod Keyed
@@ -10,5 +8,3 @@ pub mod Rows
 pub mod Sequences
 pub mod Sorting
 pub mod Sorts
-pub mod Stands
-pub mod Text

@@ -3,7 +3,7 @@ use Rattle.std.specs.Prelude.{List, [], ◌∷◌, ◌++◌, reverse, Ok, Err}
 use Rattle.liquid_model.specs.Data.{Datum, array}
 use Rattle.liquid_model.specs.Lists.{list_of}
 use Rattle.liquid_model.specs.declared.error.ErrorKind.TheVariants.{InvalidInput, InvalidArgument}
-use Rattle.liquid_list_filters.specs.Arguments.{Answer}
+use Rattle.liquid_filter_base.specs.Arguments.{Answer}
 use Rattle.liquid_list_filters.specs.Sequences.{list, of_list}
 
 abbrev pub reverse_answer : Datum → List Datum → Answer

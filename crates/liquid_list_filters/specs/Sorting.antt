@@ -8,7 +8,7 @@ use Rattle.liquid_model.specs.Data.{Datum, nil, text, text_of}
 use Rattle.liquid_model.specs.Order.{order}
 use Rattle.liquid_model.specs.Texts.{Text}
 use Rattle.liquid_model.specs.declared.error.ErrorKind.TheVariants.{InvalidInput}
-use Rattle.liquid_list_filters.specs.Arguments.{Answer}
+use Rattle.liquid_filter_base.specs.Arguments.{Answer}
 use Rattle.liquid_list_filters.specs.Sequences.{list, sequence, all_maps, property}
 
 -- an item put before the first that is not below it

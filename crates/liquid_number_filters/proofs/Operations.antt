@@ -11,7 +11,7 @@ use Rattle.liquid_model.specs.Fallible.{◌>>=◌}
 use Rattle.liquid_model.specs.Whole.{whole, fits}
 use Rattle.liquid_model.specs.declared.error.ErrorKind.{ErrorKind}
 use Rattle.liquid_model.specs.declared.error.ErrorKind.TheVariants.{InvalidInput, InvalidArgument, DivideByZero, Float}
-use Rattle.liquid_list_filters.specs.Arguments.{Answer}
+use Rattle.liquid_filter_base.specs.Arguments.{Answer}
 use Rattle.liquid_number_filters.specs.Decimals.{is_decimal_text}
 use Rattle.liquid_number_filters.specs.Numbers.{operands_of, both_or, or_range, in_range, unlike, plus, minus, times, divided_by, modulo, at_least, at_most, absolute, abs}
 use Rattle.liquid_number_filters.specs.NumberLaws.{StepsOf, Steps, IsSum, IsDifference, IsProduct, IsQuotient, IsRemainder, IsGreater, IsLesser, AbsoluteOf}

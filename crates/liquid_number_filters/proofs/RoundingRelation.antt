@@ -8,7 +8,7 @@ use Rattle.liquid_model.specs.Data.{Datum, nil, truth, number, text, array, obje
 use Rattle.liquid_model.specs.Whole.{whole}
 use Rattle.liquid_model.specs.declared.error.ErrorKind.TheVariants.{Float, InvalidArgument, InvalidInput}
 use Rattle.liquid_model.specs.Fallible.{◌>>=◌}
-use Rattle.liquid_list_filters.specs.Arguments.{number_or_fault}
+use Rattle.liquid_filter_base.specs.Arguments.{number_or_fault}
 use Rattle.liquid_number_filters.specs.Decimals.{is_decimal, is_decimal_text, whole_digits, fraction_digits}
 use Rattle.liquid_number_filters.specs.Numbers.{in_range}
 use Rattle.liquid_number_filters.specs.Rounding.{signed, nearest, magnitude, size, round, rounded, rounded_of, rounded_decimal, rounded_to, unrounded_of}

@@ -7,9 +7,9 @@ use Rattle.liquid_model.specs.View.{view}
 use Rattle.liquid_model.specs.Whole.{whole}
 use Rattle.liquid_model.specs.declared.error.Error.{Error}
 use Rattle.liquid_model.specs.declared.value.Value.{Value}
-use Rattle.liquid_list_filters.specs.Arguments.{Answer}
-use Rattle.liquid_list_filters.specs.Stands.{Stands}
-use Rattle.liquid_list_filters.proofs.Standing.{none_given, stands}
+use Rattle.liquid_filter_base.specs.Arguments.{Answer}
+use Rattle.liquid_filter_base.specs.Stands.{Stands}
+use Rattle.liquid_filter_base.proofs.Standing.{none_given, stands}
 use Rattle.liquid_number_filters.specs.Decimals.{is_decimal_text}
 use Rattle.liquid_number_filters.specs.NumberLaws.{AbsoluteOf, Steps, StepsWith}
 use Rattle.liquid_number_filters.specs.Numbers.{abs, of_none, of_one}

@@ -6,8 +6,8 @@ use Rattle.liquid_model.specs.Data.{Datum, number, scalar}
 use Rattle.liquid_model.specs.Whole.{whole}
 use Rattle.liquid_model.specs.declared.error.ErrorKind.{ErrorKind}
 use Rattle.liquid_model.specs.declared.error.ErrorKind.TheVariants.{InvalidInput, InvalidArgument, DivideByZero, Float}
-use Rattle.liquid_list_filters.specs.Arguments.{Answer}
-use Rattle.liquid_list_filters.specs.Stands.{WithFirst}
+use Rattle.liquid_filter_base.specs.Arguments.{Answer}
+use Rattle.liquid_filter_base.specs.Stands.{WithFirst}
 use Rattle.liquid_number_filters.specs.Decimals.{is_decimal_text}
 use Rattle.liquid_number_filters.specs.Division.{IsDivision}
 use Rattle.liquid_number_filters.specs.Numbers.{in_range, unlike, plus, minus, times, divided_by, modulo, at_least, at_most, abs}

@@ -6,7 +6,7 @@ use Rattle.liquid_model.specs.Data.{Datum, number, text}
 use Rattle.liquid_model.specs.Fallible.{◌>>=◌}
 use Rattle.liquid_model.specs.Whole.{whole}
 use Rattle.liquid_model.specs.declared.error.ErrorKind.TheVariants.{InvalidInput, Float}
-use Rattle.liquid_list_filters.specs.Arguments.{Answer, whole_or_fault}
+use Rattle.liquid_filter_base.specs.Arguments.{Answer, whole_or_fault}
 use Rattle.liquid_number_filters.specs.Decimals.{is_decimal, is_decimal_text, whole_digits, fraction_digits}
 use Rattle.liquid_number_filters.specs.Numbers.{in_range}
 use Rattle.liquid_number_filters.specs.declared.stdlib.filters.math.decimal.Rounding.{Rounding}

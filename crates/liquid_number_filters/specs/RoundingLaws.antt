@@ -5,7 +5,7 @@ use Rattle.liquid_model.specs.Answer.{IsTheOne}
 use Rattle.liquid_model.specs.Data.{Datum, number, text}
 use Rattle.liquid_model.specs.Whole.{whole}
 use Rattle.liquid_model.specs.declared.error.ErrorKind.TheVariants.{Float, InvalidArgument, InvalidInput}
-use Rattle.liquid_list_filters.specs.Arguments.{Answer}
+use Rattle.liquid_filter_base.specs.Arguments.{Answer}
 use Rattle.liquid_number_filters.specs.Decimals.{is_decimal, is_decimal_text, whole_digits, fraction_digits}
 use Rattle.liquid_number_filters.specs.Numbers.{in_range}
 use Rattle.liquid_number_filters.specs.Rounding.{signed, round, rounded}

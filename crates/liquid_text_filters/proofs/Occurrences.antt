@@ -6,8 +6,8 @@ use Rattle.std.specs.Char.{encode_utf8}
 use Rattle.std.specs.Str.{chars, encode_utf8_all, IsUtf8}
 use Rattle.std.specs.Str.Pattern.{LacksTextAt}
 use Rattle.liquid_model.specs.Answer.{IsTheOne}
-use Rattle.liquid_list_filters.specs.Joined.{joined, joined_rest}
-use Rattle.liquid_list_filters.specs.Text.{begins}
+use Rattle.liquid_filter_base.specs.Joined.{joined, joined_rest}
+use Rattle.liquid_filter_base.specs.Text.{begins}
 use Rattle.liquid_text_filters.specs.Occurrences.{AreCharacters, ArePieces, Lacks, Splits}
 use Rattle.liquid_text_filters.specs.Pieces.{push, pieces, single_characters, split_by}
 use Rattle.liquid_text_filters.proofs.Pieces.{begins_is, begins_own, drop_pred, joined-pieces, pieces_found, pieces_none}

@@ -13,14 +13,14 @@ use Rattle.liquid_model.specs.Fallible.{◌>>=◌}
 use Rattle.liquid_model.specs.Lists.{list_of}
 use Rattle.liquid_model.specs.View.{items_of}
 use Rattle.liquid_model.specs.declared.error.ErrorKind.{ErrorKind}
-use Rattle.liquid_list_filters.specs.Arguments.{Answer, text_or}
-use Rattle.liquid_list_filters.specs.Joined.{joined}
-use Rattle.liquid_list_filters.specs.Text.{begins, Makes, Texts}
-use Rattle.liquid_list_filters.proofs.Ones.{image_one, same_one}
+use Rattle.liquid_filter_base.specs.Arguments.{Answer, text_or}
+use Rattle.liquid_filter_base.specs.Joined.{joined}
+use Rattle.liquid_filter_base.specs.Text.{begins, Makes, Texts}
+use Rattle.liquid_filter_base.proofs.Ones.{image_one, same_one}
 use Rattle.liquid_text_filters.specs.Arguments.{whole_or}
 use Rattle.liquid_text_filters.specs.Case.{capitalize_answer, downcase_answer, upcase_answer}
 use Rattle.liquid_text_filters.specs.Strip.{lstrip_answer, rstrip_answer, strip_answer, strip_newlines_answer}
-use Rattle.liquid_text_filters.specs.Laws.{CapitalizesText, Divides, Downcases, JoinGivesBack, KeepsClusters, KeepsWords, Reads, RemoveFirstIsOne, RemovesAll, ReplaceFirstIsOne, ReplacesAll, SliceIsOne, Slices, SplitsText, StripsLines, StripsText, StripsTextAtEnd, StripsTextAtStart, TakesPart, TruncateIsOne, TruncateWordsIsOne, Truncates, TruncatesWords, Upcases}
+use Rattle.liquid_text_filters.specs.Laws.{CapitalizesText, Divides, Downcases, KeepsClusters, KeepsWords, Reads, RemoveFirstIsOne, RemovesAll, ReplaceFirstIsOne, ReplacesAll, SliceIsOne, Slices, SplitsText, StripsLines, StripsText, StripsTextAtEnd, StripsTextAtStart, TakesPart, TruncateIsOne, TruncateWordsIsOne, Truncates, TruncatesWords, Upcases}
 use Rattle.liquid_text_filters.specs.Occurrences.{Lacks, Replaces, ReplacesFirst}
 use Rattle.liquid_text_filters.specs.Operate.{replaced, replaced_first, remove_answer, replace_answer}
 use Rattle.liquid_text_filters.specs.Parts.{AreFirst, FollowFirst, IsPart}
@@ -48,16 +48,13 @@ divides_one p (b ∷ s) u = split_one p (b ∷ s) u
 pub split_relates : (d : Datum) (args : List Datum) → IsUtf8 (text_of d) → IsTheOne (SplitsText d args) (split_answer d args)
 split_relates d args u = image_one (Divides (text_or [] args) (text_of d)) (λ ps. Ok (texts ps)) _ (divides_one (text_or [] args) (text_of d) u)
 
-texts_of : (ts : List (List ℕ)) → map text_of (list_of (items_of (map (λ t. text t) ts))) ≡ ts
+pub texts_of : (ts : List (List ℕ)) → map text_of (list_of (items_of (map (λ t. text t) ts))) ≡ ts
 texts_of [] = refl
 texts_of (t ∷ ts) = ap (λ us. t ∷ us) (texts_of ts)
 
-given_back : (p s : List ℕ) → IsUtf8 s → joined p (divided p s) ≡ s
+pub given_back : (p s : List ℕ) → IsUtf8 s → joined p (divided p s) ≡ s
 given_back p [] u = refl
 given_back p (b ∷ s) u = joined-split_by p (b ∷ s) u
-
-pub join_law : JoinGivesBack
-join_law s p u = ap (λ ts. Ok (text (joined p ts))) (texts_of (divided p s)) ∙ ap (λ t. Ok (text t)) (given_back p s u)
 
 replaces_one : (p r s : List ℕ) → IsUtf8 s → IsTheOne (Replaces p r s) (replaced p r s)
 replaces_one p r s u = λ t. ((λ h. h.2 ∙ ap (joined r) ((split_one p s u h.0).0 h.1)), λ e. (split_by p s, (split_one p s u (split_by p s)).1 refl, e))

@@ -1,8 +1,8 @@
 -- The pieces of a text: where a search for p cuts, the pieces are cut, and joining them gives the text back.
 use Rattle.std.proofs.Common.{◌≡◌, ◌≢◌, ℕ, zero, suc, ◌-◌, ◌<◌, ◌≤◌, Bool, true, false, ◌&&◌, ◌==◌, List, [], ◌∷◌, ◌++◌, length, take, drop, ap, refl, sym, ◌∙◌, arith, if◌then◌else◌}
 use Rattle.std.proofs.lemmas.Bool.Decides.{nat_tests}
-use Rattle.liquid_list_filters.specs.Joined.{joined, joined_rest}
-use Rattle.liquid_list_filters.specs.Text.{begins}
+use Rattle.liquid_filter_base.specs.Joined.{joined, joined_rest}
+use Rattle.liquid_filter_base.specs.Text.{begins}
 use Rattle.liquid_text_filters.specs.Pieces.{push, pieces, split_by}
 
 joined-push : (p : List ℕ) (b : ℕ) (ps : List (List ℕ)) → joined p (push b ps) ≡ b ∷ joined p ps

@@ -6,8 +6,8 @@ use Rattle.std.specs.Char.{encode_utf8}
 use Rattle.std.specs.Str.{chars, IsUtf8}
 use Rattle.std.specs.Str.Pattern.{FindsText, LacksTextAt}
 use Rattle.std.specs.Str.Replace.{ContinuesAfterMatch, ReplacesMatches, ReplacesFirstMatches}
-use Rattle.liquid_list_filters.specs.Joined.{joined, joined_rest}
-use Rattle.liquid_list_filters.specs.Text.{begins}
+use Rattle.liquid_filter_base.specs.Joined.{joined, joined_rest}
+use Rattle.liquid_filter_base.specs.Text.{begins}
 use Rattle.liquid_text_filters.specs.Occurrences.{Lacks}
 use Rattle.liquid_text_filters.specs.Operate.{replaced, replaced_first}
 use Rattle.liquid_text_filters.specs.Pieces.{pieces}

@@ -7,8 +7,8 @@ use Rattle.liquid_model.specs.View.{view}
 use Rattle.liquid_model.specs.declared.error.Error.{Error}
 use Rattle.liquid_model.specs.declared.value.Value.{Value}
 use Rattle.liquid_model.proofs.Utf8.{text_is_utf8}
-use Rattle.liquid_list_filters.specs.Stands.{Stands}
-use Rattle.liquid_list_filters.proofs.Standing.{stands}
+use Rattle.liquid_filter_base.specs.Stands.{Stands}
+use Rattle.liquid_filter_base.proofs.Standing.{stands}
 use Rattle.liquid_text_filters.specs.Case.{capitalize_answer, downcase_answer, upcase_answer}
 use Rattle.liquid_text_filters.specs.Operate.{remove_answer, remove_first_answer, replace_answer, replace_first_answer}
 use Rattle.liquid_text_filters.specs.Slice.{slice_answer}

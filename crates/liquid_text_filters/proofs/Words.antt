@@ -10,8 +10,8 @@ use Rattle.unicode_segmentation.proofs.SegmentsLemmas.{concat-segments}
 use Rattle.std.proofs.lemmas.Str.{IsCharBoundary-before_ascii, IsCharBoundary-start}
 use Rattle.std.specs.Str.{IsCharBoundary, IsUtf8}
 use Rattle.std.specs.Str.Pattern.{FindsText, SplitsAroundMatch}
-use Rattle.liquid_list_filters.specs.Joined.{joined, joined_rest}
-use Rattle.liquid_list_filters.specs.Text.{begins}
+use Rattle.liquid_filter_base.specs.Joined.{joined, joined_rest}
+use Rattle.liquid_filter_base.specs.Text.{begins}
 use Rattle.liquid_text_filters.specs.Pieces.{push, pieces}
 use Rattle.liquid_text_filters.specs.Truncate.{first_clusters, first_words, words_of}
 use Rattle.liquid_text_filters.proofs.Pieces.{joined-pieces, pieces_found, pieces_none}

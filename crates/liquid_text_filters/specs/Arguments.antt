@@ -2,7 +2,7 @@
 use Rattle.std.specs.Prelude.{ℤ, List, [], ◌∷◌, Result, Ok}
 use Rattle.liquid_model.specs.Data.{Datum}
 use Rattle.liquid_model.specs.declared.error.ErrorKind.{ErrorKind}
-use Rattle.liquid_list_filters.specs.Arguments.{whole_or_fault}
+use Rattle.liquid_filter_base.specs.Arguments.{whole_or_fault}
 
 -- a whole-number argument, or where none is given the number that the filter takes in its place
 abbrev pub whole_or : ℤ → List Datum → Result ℤ ErrorKind

@@ -1,7 +1,7 @@
 -- The filter `default`. A missing argument, which no call can make, counts as nil.
 use Rattle.std.specs.Prelude.{List, [], ◌∷◌, Ok, if◌then◌else◌}
 use Rattle.liquid_model.specs.Data.{Datum, nil, is_default_datum}
-use Rattle.liquid_list_filters.specs.Arguments.{Answer}
+use Rattle.liquid_filter_base.specs.Arguments.{Answer}
 
 abbrev pub or_nil : List Datum → Datum
 or_nil [] = nil

@@ -2,20 +2,19 @@
 use Rattle.std.specs.Prelude.{◌≡◌, ℕ, zero, suc, ◌-◌, ◌<◌, ◌≤◌, ◌⊎◌, true, ℤ, pos, negsuc, List, [], ◌∷◌, ◌++◌, length, drop, codes, Result, Ok, Err}
 use Rattle.std.specs.Char.{to_ascii_lowercase, to_ascii_uppercase}
 use Rattle.std.specs.List.{concat}
-use Rattle.std.specs.Str.{chars, encode_utf8_all, IsUtf8}
+use Rattle.std.specs.Str.{chars, encode_utf8_all}
 use Rattle.unicode_segmentation.specs.Grapheme.{graphemes}
 use Rattle.liquid_model.specs.Answer.{IsTheOne}
 use Rattle.liquid_model.specs.Data.{Datum, text, array, text_of}
-use Rattle.liquid_model.specs.Fallible.{◌>>=◌}
 use Rattle.liquid_model.specs.Lists.{list_of}
 use Rattle.liquid_model.specs.Texts.{Text}
 use Rattle.liquid_model.specs.View.{items_of, view}
 use Rattle.liquid_model.specs.declared.value.Value.{Value}
 use Rattle.liquid_model.specs.declared.error.ErrorKind.{ErrorKind}
 use Rattle.liquid_model.specs.declared.error.ErrorKind.TheVariants.{InvalidArgument}
-use Rattle.liquid_list_filters.specs.Arguments.{Answer, text_or}
-use Rattle.liquid_list_filters.specs.Joined.{join_answer, joined}
-use Rattle.liquid_list_filters.specs.Text.{Makes, Texts}
+use Rattle.liquid_filter_base.specs.Arguments.{Answer, text_or}
+use Rattle.liquid_filter_base.specs.Joined.{joined}
+use Rattle.liquid_filter_base.specs.Text.{Makes, Texts}
 use Rattle.liquid_text_filters.specs.Arguments.{whole_or}
 use Rattle.liquid_text_filters.specs.Case.{capitalize_answer, downcase_answer, upcase_answer}
 use Rattle.liquid_text_filters.specs.Occurrences.{ArePieces, Replaces, ReplacesFirst, Splits}
@@ -44,10 +43,6 @@ SplitsText d args = Makes (λ ps. Ok (texts ps)) (Divides (text_or [] args) (tex
 
 abbrev pub SplitIsOne : Type 0
 SplitIsOne = (input : Value) (args : List Datum) → IsTheOne (SplitsText (view input) args) (split_answer (view input) args)
-
--- joining the pieces by what parted them gives the text back, for all texts, also where they are parted by the empty text
-abbrev pub JoinGivesBack : Type 0
-JoinGivesBack = (s p : Text) → IsUtf8 s → split_answer (text s) (text p ∷ []) >>= (λ pieces. join_answer pieces (text p ∷ [])) ≡ Ok (text s)
 
 -- `replace`: the second argument in place of each occurrence of the first
 abbrev pub ReplacesAll : Datum → List Datum → Answer → Type 0

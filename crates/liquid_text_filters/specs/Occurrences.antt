@@ -4,7 +4,7 @@ use Rattle.std.specs.Char.{encode_utf8}
 use Rattle.std.specs.Str.{all_scalars, encode_utf8_all}
 use Rattle.std.specs.Str.Pattern.{LacksTextAt}
 use Rattle.liquid_model.specs.Texts.{Text}
-use Rattle.liquid_list_filters.specs.Joined.{joined}
+use Rattle.liquid_filter_base.specs.Joined.{joined}
 
 -- p occurs nowhere in s
 abbrev pub Lacks : Text → Text → Type 0

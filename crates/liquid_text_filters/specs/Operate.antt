@@ -2,9 +2,9 @@
 use Rattle.std.specs.Prelude.{List, [], ◌∷◌, ◌++◌, length, drop, Ok, if◌then◌else◌}
 use Rattle.liquid_model.specs.Data.{Datum, text, text_of}
 use Rattle.liquid_model.specs.Texts.{Text}
-use Rattle.liquid_list_filters.specs.Arguments.{Answer, text_or}
-use Rattle.liquid_list_filters.specs.Joined.{joined}
-use Rattle.liquid_list_filters.specs.Text.{begins}
+use Rattle.liquid_filter_base.specs.Arguments.{Answer, text_or}
+use Rattle.liquid_filter_base.specs.Joined.{joined}
+use Rattle.liquid_filter_base.specs.Text.{begins}
 use Rattle.liquid_text_filters.specs.Pieces.{split_by}
 
 -- `append`: the input's text, then the argument's

@@ -3,7 +3,7 @@ use Rattle.std.specs.Prelude.{ℕ, List, length, Ok}
 use Rattle.liquid_model.specs.Data.{Datum, nil, truth, number, text, array, object, text_of}
 use Rattle.liquid_model.specs.Digest.{items_len, pairs_len}
 use Rattle.liquid_model.specs.Find.{counted}
-use Rattle.liquid_list_filters.specs.Arguments.{Answer}
+use Rattle.liquid_filter_base.specs.Arguments.{Answer}
 
 -- the bytes of a scalar's text, the items of a list, the pairs of a map, and 0 for nil
 abbrev pub size_of : Datum → ℕ

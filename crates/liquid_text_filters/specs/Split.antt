@@ -3,7 +3,7 @@ use Rattle.std.specs.Prelude.{List, [], ◌∷◌, map, Ok}
 use Rattle.liquid_model.specs.Data.{Datum, text, array, text_of}
 use Rattle.liquid_model.specs.Texts.{Text}
 use Rattle.liquid_model.specs.View.{items_of}
-use Rattle.liquid_list_filters.specs.Arguments.{Answer, text_or}
+use Rattle.liquid_filter_base.specs.Arguments.{Answer, text_or}
 use Rattle.liquid_text_filters.specs.Pieces.{split_by}
 
 -- a list of texts

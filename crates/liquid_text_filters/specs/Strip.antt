@@ -2,8 +2,8 @@
 use Rattle.std.specs.Prelude.{ℕ, List, Bool, ◌==◌, ◌||◌, not, filter}
 use Rattle.std.specs.Str.{chars, encode_utf8_all, trim, trim_start, trim_end}
 use Rattle.liquid_model.specs.Data.{Datum}
-use Rattle.liquid_list_filters.specs.Arguments.{Answer}
-use Rattle.liquid_list_filters.specs.Text.{of_text}
+use Rattle.liquid_filter_base.specs.Arguments.{Answer}
+use Rattle.liquid_filter_base.specs.Text.{of_text}
 
 -- LF and CR
 abbrev pub is_newline : ℕ → Bool

@@ -5,8 +5,8 @@ use Rattle.unicode_segmentation.specs.Grapheme.{graphemes}
 use Rattle.liquid_model.specs.Data.{Datum, text, text_of}
 use Rattle.liquid_model.specs.Fallible.{◌>>=◌}
 use Rattle.liquid_model.specs.Texts.{Text}
-use Rattle.liquid_list_filters.specs.Arguments.{Answer, text_or}
-use Rattle.liquid_list_filters.specs.Joined.{joined}
+use Rattle.liquid_filter_base.specs.Arguments.{Answer, text_or}
+use Rattle.liquid_filter_base.specs.Joined.{joined}
 use Rattle.liquid_text_filters.specs.Arguments.{whole_or}
 use Rattle.liquid_text_filters.specs.Pieces.{pieces}
 

@@ -3,11 +3,11 @@ ghost use Rattle.std.specs.Prelude.{drop, map};
 ghost use Rattle.std.specs.Cow.{cow_str_bytes};
 ghost use Rattle.liquid_model.specs.Answer.{Answers, Gives};
 ghost use Rattle.liquid_model.specs.View.{view};
-ghost use Rattle.liquid_list_filters.specs.Arguments.{text_or};
+ghost use Rattle.liquid_filter_base.specs.Arguments.{text_or};
 ghost use Rattle.liquid_text_filters.specs.Arguments.{whole_or};
 
 use liquid_core::{Result, Value};
-use liquid_list_filters::{text_of, whole_argument};
+use liquid_filter_base::{text_of, whole_argument};
 use std::alloc::Global;
 use std::borrow::CowStr;
 

@@ -3,16 +3,11 @@
 //! `NAME_is_one` says what the filter's answer is without the filter's own steps, and that nothing else is. The answers
 //! of `size`, `default`, `append` and `prepend` are told in such words from the beginning: a length, one of two values,
 //! two texts joined.
-ghost use Rattle.liquid_text_filters.specs.Laws.{CapitalizeIsOne, DowncaseIsOne, JoinGivesBack, LstripIsOne, RemoveFirstIsOne, RemoveIsOne, ReplaceFirstIsOne, ReplaceIsOne, RstripIsOne, SliceIsOne, SplitIsOne, StripIsOne, StripNewlinesIsOne, TruncateIsOne, TruncateWordsIsOne, UpcaseIsOne};
+ghost use Rattle.liquid_text_filters.specs.Laws.{CapitalizeIsOne, DowncaseIsOne, LstripIsOne, RemoveFirstIsOne, RemoveIsOne, ReplaceFirstIsOne, ReplaceIsOne, RstripIsOne, SliceIsOne, SplitIsOne, StripIsOne, StripNewlinesIsOne, TruncateIsOne, TruncateWordsIsOne, UpcaseIsOne};
 
 /// `split`: the pieces between the occurrences, from left to right and without overlap.
 pub fn split_is_one()
     ensures { SplitIsOne }
-{}
-
-/// Joining what `split` gave, by the same text, gives the text back.
-pub fn join_gives_back()
-    ensures { JoinGivesBack }
 {}
 
 /// `replace`: the pieces between the occurrences, with the other text between them.

@@ -6,7 +6,7 @@ use Rattle.std.proofs.lemmas.List.Elements.{All-head, All-tail}
 use Rattle.std.specs.Prelude.{All, IfSome, IsSome}
 use Rattle.std.specs.List.{flat_map}
 use lib.Utf8.{encode}
-use Rattle.liquid_list_filters.specs.Text.{begins}
+use Rattle.liquid_filter_base.specs.Text.{begins}
 use Rattle.liquid_web_filters.specs.Escapes.{ends_escape, escape_of, escape_or, escaped_byte, escaped_letter, escaped, once_byte, once_letter, escaped_once}
 use Rattle.liquid_web_filters.proofs.Bytes.{AllHigh, high_bytes, ascii_or_high, high_letter, ascii_letter}
 

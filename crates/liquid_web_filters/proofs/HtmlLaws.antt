@@ -10,8 +10,9 @@ use Rattle.liquid_model.specs.Answer.{IsTheOne}
 use Rattle.liquid_model.specs.Data.{Datum, nil, truth, number, text, array, object, text_of}
 use Rattle.liquid_model.specs.Fallible.{◌>>=◌}
 use Rattle.liquid_model.specs.Texts.{Text}
-use Rattle.liquid_list_filters.specs.Arguments.{Answer}
-use Rattle.liquid_list_filters.specs.Text.{Texts}
+use Rattle.liquid_filter_base.specs.Arguments.{Answer}
+use Rattle.liquid_filter_base.specs.Text.{Texts}
+use Rattle.liquid_filter_base.proofs.Ones.{image_one, same_one}
 use Rattle.liquid_web_filters.specs.Escapes.{escape_answer, escape_once_answer, escaped, escaped_byte, escaped_letter, escaped_once, once_letter}
 use Rattle.liquid_web_filters.specs.HtmlLaws.{Concatenates, NilOrTexts, has_close, HasNoTag}
 use Rattle.liquid_web_filters.specs.LineBreaks.{broken, broken_byte, broken_letter, newline_to_br_answer}
@@ -19,7 +20,6 @@ use Rattle.liquid_web_filters.specs.Tags.{begins_mark, has_mark, kept, without_p
 use Rattle.liquid_web_filters.proofs.Bytes.{AllHigh, high_bytes, ascii_or_high}
 use Rattle.liquid_web_filters.proofs.Escapes.{letter_of as escaped_letter_of, once_past, once-once, once-escaped}
 use Rattle.liquid_web_filters.proofs.LineBreaks.{letter_of as broken_letter_of}
-use Rattle.liquid_list_filters.proofs.Ones.{image_one, same_one}
 use Rattle.liquid_web_filters.proofs.Tags.{nothing_left, twice}
 
 -- ---- concatenations

@@ -5,10 +5,10 @@ use Rattle.std.specs.Str.{chars, encode_utf8_all}
 use Rattle.liquid_model.specs.Answer.{IsTheOne}
 use Rattle.liquid_model.specs.Data.{Datum, text, text_of}
 use Rattle.liquid_model.specs.Texts.{Text}
-use Rattle.liquid_list_filters.specs.Text.{Texts}
+use Rattle.liquid_filter_base.specs.Text.{Texts}
+use Rattle.liquid_filter_base.proofs.Ones.{image_one}
 use Rattle.liquid_web_filters.specs.HtmlLaws.{CutsPairs, IsFirstPair, OpensPair, Passes, StripsHtml}
 use Rattle.liquid_web_filters.specs.Tags.{begins_mark, first_mark, is_opener, strip_html, strip_html_answer, without_pairs}
-use Rattle.liquid_list_filters.proofs.Ones.{image_one}
 use Rattle.liquid_web_filters.proofs.Tags.{cut_body, cut_no_close, drop_drop, drop_past, no_open, none_suc, opener_long, some_suc}
 
 -- ---- the first place of a mark

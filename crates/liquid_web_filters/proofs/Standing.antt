@@ -7,8 +7,8 @@ use Rattle.liquid_model.specs.View.{view}
 use Rattle.liquid_model.specs.declared.error.Error.{Error}
 use Rattle.liquid_model.specs.declared.value.Value.{Value}
 use Rattle.liquid_model.proofs.Utf8.{text_is_utf8}
-use Rattle.liquid_list_filters.specs.Stands.{Stands}
-use Rattle.liquid_list_filters.proofs.Standing.{stands}
+use Rattle.liquid_filter_base.specs.Stands.{Stands}
+use Rattle.liquid_filter_base.proofs.Standing.{stands}
 use Rattle.liquid_web_filters.specs.Escapes.{escape_answer, escape_once_answer}
 use Rattle.liquid_web_filters.specs.HtmlLaws.{BreaksLines, EscapeIsOne, EscapeOnceIsOne, EscapesOnce, EscapesText, NewlineToBrIsOne, StripsTags}
 use Rattle.liquid_web_filters.specs.LineBreaks.{newline_to_br_answer}

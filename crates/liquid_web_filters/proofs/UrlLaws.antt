@@ -12,13 +12,13 @@ use Rattle.liquid_model.specs.Data.{Datum, nil, truth, number, text, array, obje
 use Rattle.liquid_model.specs.Fallible.{◌>>=◌}
 use Rattle.liquid_model.specs.Texts.{Text}
 use Rattle.liquid_model.specs.declared.error.ErrorKind.{ErrorKind}
-use Rattle.liquid_list_filters.specs.Arguments.{Answer}
-use Rattle.liquid_list_filters.specs.Text.{Texts}
+use Rattle.liquid_filter_base.specs.Arguments.{Answer}
+use Rattle.liquid_filter_base.specs.Text.{Texts}
+use Rattle.liquid_filter_base.proofs.Ones.{image_one, same_one}
 use Rattle.liquid_web_filters.specs.HtmlLaws.{Concatenates, NilOrTexts}
 use Rattle.liquid_web_filters.specs.UrlLaws.{BeginsNoEscape, Decodes, UrlDecodes}
 use Rattle.liquid_web_filters.specs.Urls.{plus_to_space, text_of_bytes, unescaped, url_decode_answer, url_encode_answer, url_escaped, url_escaped_byte}
 use Rattle.liquid_web_filters.proofs.HtmlLaws.{concatenation}
-use Rattle.liquid_list_filters.proofs.Ones.{image_one, same_one}
 use Rattle.liquid_web_filters.proofs.Urls.{of_bytes_text, url_round_trip}
 
 and_parts : (a b : Bool) → (a && b) ≡ true → (a ≡ true) × (b ≡ true)

@@ -7,8 +7,8 @@ use Rattle.liquid_model.specs.Fallible.{◌>>=◌}
 use Rattle.liquid_model.specs.Texts.{Text}
 use Rattle.liquid_model.specs.View.{view}
 use Rattle.liquid_model.specs.declared.value.Value.{Value}
-use Rattle.liquid_list_filters.specs.Arguments.{Answer}
-use Rattle.liquid_list_filters.specs.Text.{Texts}
+use Rattle.liquid_filter_base.specs.Arguments.{Answer}
+use Rattle.liquid_filter_base.specs.Text.{Texts}
 use Rattle.liquid_web_filters.specs.Escapes.{escape_answer, escape_once_answer, escaped_letter, once_letter}
 use Rattle.liquid_web_filters.specs.LineBreaks.{broken_letter, newline_to_br_answer}
 use Rattle.liquid_web_filters.specs.Tags.{begins_mark, strip_html, strip_html_answer}

@@ -4,8 +4,8 @@ use Rattle.std.specs.Char.{encode_utf8}
 use Rattle.std.specs.List.{flat_map}
 use Rattle.liquid_model.specs.Data.{Datum}
 use Rattle.liquid_model.specs.Texts.{Text}
-use Rattle.liquid_list_filters.specs.Arguments.{Answer}
-use Rattle.liquid_list_filters.specs.Text.{of_text}
+use Rattle.liquid_filter_base.specs.Arguments.{Answer}
+use Rattle.liquid_filter_base.specs.Text.{of_text}
 
 abbrev pub broken_letter : ℕ → Text
 broken_letter c = if c == 10 then codes "<br />" ++ (10 ∷ []) else encode_utf8 c

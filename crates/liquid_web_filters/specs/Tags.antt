@@ -5,8 +5,8 @@ use Rattle.std.specs.List.{list_all}
 use Rattle.std.specs.Str.{chars, encode_utf8_all}
 use Rattle.liquid_model.specs.Data.{Datum}
 use Rattle.liquid_model.specs.Texts.{Text}
-use Rattle.liquid_list_filters.specs.Arguments.{Answer}
-use Rattle.liquid_list_filters.specs.Text.{of_text}
+use Rattle.liquid_filter_base.specs.Arguments.{Answer}
+use Rattle.liquid_filter_base.specs.Text.{of_text}
 
 -- the mark's character x stands for c: in either case, and `s` for U+017F too
 abbrev pub stands_for : ℕ → ℕ → Bool

@@ -6,8 +6,8 @@ use Rattle.liquid_model.specs.Answer.{IsTheOne}
 use Rattle.liquid_model.specs.Data.{Datum, nil, text, text_of}
 use Rattle.liquid_model.specs.Fallible.{◌>>=◌}
 use Rattle.liquid_model.specs.Texts.{Text}
-use Rattle.liquid_list_filters.specs.Arguments.{Answer}
-use Rattle.liquid_list_filters.specs.Text.{Makes}
+use Rattle.liquid_filter_base.specs.Arguments.{Answer}
+use Rattle.liquid_filter_base.specs.Text.{Makes}
 use Rattle.liquid_web_filters.specs.HtmlLaws.{Concatenates, NilOrTexts}
 use Rattle.liquid_web_filters.specs.Urls.{text_of_bytes, url_decode_answer, url_encode_answer, url_escaped_byte}
 

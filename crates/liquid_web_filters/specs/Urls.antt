@@ -8,7 +8,7 @@ use Rattle.liquid_model.specs.Fallible.{◌>>=◌}
 use Rattle.liquid_model.specs.Texts.{Text}
 use Rattle.liquid_model.specs.declared.error.ErrorKind.{ErrorKind}
 use Rattle.liquid_model.specs.declared.error.ErrorKind.TheVariants.{InvalidInput}
-use Rattle.liquid_list_filters.specs.Arguments.{Answer}
+use Rattle.liquid_filter_base.specs.Arguments.{Answer}
 
 -- an ASCII letter or digit, `-`, `.` or `_`
 abbrev pub is_kept : ℕ → Bool

@@ -13,7 +13,7 @@ use crate::read::date_of;
 use jiff::Zoned;
 use jiff::tz::{Offset, TimeZone};
 use liquid_core::{Error, ErrorKind, Filter, Result, Value};
-use liquid_list_filters::{invalid_input, text_of, whole_argument};
+use liquid_filter_base::{invalid_input, text_of, whole_argument};
 use std::alloc::Global;
 
 /// `date_in_tz`: the input printed by a pattern of strftime, at an offset of so many hours.

@@ -6,7 +6,7 @@ ghost use Rattle.liquid_model.specs.View.{view};
 ghost use Rattle.liquid_jekyll_filters.specs.Slugs.{hyphened, inner, is_pretty, keeps, mode_named, shown, slug, slug_in, slugify_answer, without_first, without_last};
 
 use liquid_core::{Error, ErrorKind, Filter, Result, Value};
-use liquid_list_filters::text_of;
+use liquid_filter_base::text_of;
 use std::alloc::Global;
 use unicode::properties::is_alphabetic;
 

@@ -3,7 +3,7 @@ ghost use Rattle.std.specs.Prelude.{nat_eq};
 ghost use Rattle.liquid_jekyll_filters.specs.Pluralize.{pluralize_answer};
 
 use liquid_core::{Filter, Result, Value};
-use liquid_list_filters::invalid_input;
+use liquid_filter_base::invalid_input;
 use std::alloc::Global;
 
 /// `pluralize`: the first argument where the input's whole number is 1, else the second.

@@ -7,7 +7,7 @@ ghost use Rattle.liquid_date_filters.specs.Dates.{date_answer, dated};
 use crate::print::print_value;
 use crate::read::date_of;
 use liquid_core::{Filter, Result, Value};
-use liquid_list_filters::text_of;
+use liquid_filter_base::text_of;
 use std::alloc::Global;
 
 /// `date`: the input printed by a pattern of strftime, at the offset that the date is written with; the input itself

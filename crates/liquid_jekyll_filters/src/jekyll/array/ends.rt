@@ -6,7 +6,8 @@ ghost use Rattle.liquid_model.specs.View.{view, items_view};
 ghost use Rattle.liquid_jekyll_filters.specs.Ends.{pop_answer, push_answer, shift_answer, unshift_answer, without_last};
 
 use liquid_core::{Filter, Result, Value};
-use liquid_list_filters::{invalid_input, push_copies};
+use liquid_filter_base::invalid_input;
+use liquid_list_filters::push_copies;
 use std::alloc::Global;
 
 /// `push`: a list with the argument as its last item.

@@ -7,7 +7,7 @@ ghost use Rattle.liquid_model.specs.View.{view, items_view};
 ghost use Rattle.liquid_jekyll_filters.specs.Sentence.{array_to_sentence_string_answer, next_text, sentence, sentence_by};
 
 use liquid_core::{Filter, Result, Value};
-use liquid_list_filters::{invalid_input, text_of};
+use liquid_filter_base::{invalid_input, text_of};
 use std::alloc::Global;
 
 /// `array_to_sentence_string`: the texts of a list's items with `, ` between them, and the argument's text, or `and`,

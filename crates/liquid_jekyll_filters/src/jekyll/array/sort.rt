@@ -12,7 +12,8 @@ ghost use Rattle.liquid_jekyll_filters.specs.Sorting.{found, found_key, nils_giv
 
 use super::path::read_path;
 use liquid_core::{Error, ErrorKind, Filter, Result, Value, ValueCow};
-use liquid_list_filters::{Keyed, all_maps, invalid_input, items_by_key, sequence, text_of};
+use liquid_filter_base::{invalid_input, text_of};
+use liquid_list_filters::{Keyed, all_maps, items_by_key, sequence};
 use std::alloc::Global;
 
 /// `sort`: the input's sequence in the total order of values; items alike keep their order.

@@ -2,15 +2,15 @@
 ghost use Rattle.std.specs.Prelude.{◌&&◌, ◌≡◌, ◌≤◌, IfSome, length, map, nat_le, IsTrue};
 ghost use Rattle.liquid_model.specs.Answer.{Gives, Answers};
 ghost use Rattle.liquid_model.specs.View.{view};
+ghost use Rattle.liquid_filter_base.specs.Stands.{Stands};
 ghost use Rattle.liquid_text_filters.specs.Places.{start};
 ghost use Rattle.liquid_text_filters.specs.Slice.{items_part, part, slice_answer, text_part};
-ghost use Rattle.liquid_list_filters.specs.Stands.{Stands};
 ghost use Rattle.liquid_text_filters.specs.Laws.{SlicesInput};
 
 use crate::argument::whole_or;
 use crate::part::{after_characters, first_characters};
 use liquid_core::{Error, ErrorKind, Filter, Result, Value};
-use liquid_list_filters::text_of;
+use liquid_filter_base::text_of;
 use std::alloc::Global;
 
 /// `slice`: the items of a list, or the characters of another value's text, from an offset on, as many as the length

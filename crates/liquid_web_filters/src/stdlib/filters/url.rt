@@ -3,11 +3,11 @@ ghost use Rattle.std.specs.Prelude.{◌≡◌, ◌==◌, if◌then◌else◌, ma
 ghost use Rattle.liquid_model.specs.Answer.{Answers, Gives};
 ghost use Rattle.liquid_web_filters.specs.Urls.{plus_to_space, text_of_bytes, unescaped, url_decode_answer, url_encode_answer, url_escaped};
 ghost use Rattle.liquid_model.specs.View.{view};
-ghost use Rattle.liquid_list_filters.specs.Stands.{Stands};
+ghost use Rattle.liquid_filter_base.specs.Stands.{Stands};
 ghost use Rattle.liquid_web_filters.specs.UrlLaws.{EncodesUrl, UrlDecodes};
 
 use liquid_core::{Error, ErrorKind, Filter, Result, Value};
-use liquid_list_filters::text_of;
+use liquid_filter_base::text_of;
 use percent_encoding::{AsciiSet, DecodeError, NON_ALPHANUMERIC, percent_decode, percent_encode};
 use std::alloc::Global;
 

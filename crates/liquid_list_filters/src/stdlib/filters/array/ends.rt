@@ -3,14 +3,13 @@ ghost use Rattle.std.specs.Prelude.{◌≡◌, ◌++◌, ◌∷◌, [], MatchOpt
 ghost use Rattle.std.specs.Str.{chars};
 ghost use Rattle.liquid_model.specs.Answer.{Answers, Gives};
 ghost use Rattle.liquid_model.specs.View.{view, items_view};
+ghost use Rattle.liquid_filter_base.specs.Stands.{Stands};
 ghost use Rattle.liquid_list_filters.specs.Laws.{OfEnds};
 ghost use Rattle.liquid_list_filters.specs.Places.{EndsWith, StartsWith};
-ghost use Rattle.liquid_list_filters.specs.Stands.{Stands};
 ghost use Rattle.liquid_list_filters.specs.Ends.{first_answer, last_answer, first_item, last_item, first_character, last_character, character, or_nil};
 
-use crate::argument::text_of;
-use crate::fault::invalid_input;
 use liquid_core::{Filter, Result, Value};
+use liquid_filter_base::{invalid_input, text_of};
 use std::alloc::Global;
 
 /// `first`: a list's first item, or nil where it is empty; the first character of a scalar's text.

@@ -4,13 +4,13 @@ ghost use Rattle.liquid_model.specs.Answer.{Answers, Gives};
 ghost use Rattle.liquid_model.specs.Data.{text_of};
 ghost use Rattle.liquid_model.specs.Lists.{list_of};
 ghost use Rattle.liquid_model.specs.View.{view, items_view};
+ghost use Rattle.liquid_filter_base.specs.Joined.{joined};
+ghost use Rattle.liquid_filter_base.specs.Stands.{Stands};
 ghost use Rattle.liquid_list_filters.specs.Laws.{Joins};
-ghost use Rattle.liquid_list_filters.specs.Stands.{Stands};
-ghost use Rattle.liquid_list_filters.specs.Joined.{join_answer, join_by, joined};
+ghost use Rattle.liquid_list_filters.specs.Joined.{join_answer, join_by};
 
-use crate::argument::text_of;
-use crate::fault::invalid_input;
 use liquid_core::{Filter, Result, Value};
+use liquid_filter_base::{invalid_input, text_of};
 use std::alloc::Global;
 use std::fmt::Write;
 

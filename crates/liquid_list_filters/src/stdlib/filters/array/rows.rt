@@ -3,12 +3,12 @@ ghost use Rattle.std.specs.Prelude.{◌++◌, nat_eq, map, reverse, IsTrue, leng
 ghost use Rattle.liquid_model.specs.Answer.{Answers, Gives};
 ghost use Rattle.liquid_model.specs.Lists.{list_of};
 ghost use Rattle.liquid_model.specs.View.{view, items_view};
+ghost use Rattle.liquid_filter_base.specs.Stands.{Stands, WithFirst};
 ghost use Rattle.liquid_list_filters.specs.Laws.{Concats, Reverses};
-ghost use Rattle.liquid_list_filters.specs.Stands.{Stands, WithFirst};
 ghost use Rattle.liquid_list_filters.specs.Rows.{concat_by, concat_answer, reverse_answer};
 
-use crate::fault::{invalid_argument, invalid_input};
 use liquid_core::{Filter, Result, Value};
+use liquid_filter_base::{invalid_argument, invalid_input};
 use std::alloc::Global;
 
 /// `reverse`: a list, the last item first.

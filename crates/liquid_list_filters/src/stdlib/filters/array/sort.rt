@@ -4,15 +4,14 @@ ghost use Rattle.liquid_model.specs.Answer.{Answers, Gives};
 ghost use Rattle.liquid_model.specs.Cow.{cow_view};
 ghost use Rattle.liquid_model.specs.Lists.{list_of};
 ghost use Rattle.liquid_model.specs.View.{view, items_view};
+ghost use Rattle.liquid_filter_base.specs.Stands.{Stands};
 ghost use Rattle.liquid_list_filters.specs.Laws.{Sorts};
-ghost use Rattle.liquid_list_filters.specs.Stands.{Stands};
 ghost use Rattle.liquid_list_filters.specs.Keyed.{key_view, keyed_view, keyed_below};
 ghost use Rattle.liquid_list_filters.specs.Sorting.{given, key_order, key_of, natural_key_of, sort_by, sorted, sort_answer, sort_natural_answer, sort_named};
 
 use super::sequence::{all_maps, property, sequence};
-use crate::argument::text_of;
-use crate::fault::invalid_input;
 use liquid_core::{Filter, Result, Value, ValueCow};
+use liquid_filter_base::{invalid_input, text_of};
 use std::alloc::Global;
 use std::cmp::Ordering;
 

@@ -2,7 +2,7 @@
 ghost use Rattle.std.specs.Prelude.{◌≡◌, ◌≢◌, IsTrue, false, length, map, nat_eq, pos, int_div, true};
 ghost use Rattle.liquid_model.specs.Answer.{Answers, TakesNoMemory};
 ghost use Rattle.liquid_model.specs.View.{view};
-ghost use Rattle.liquid_list_filters.specs.Stands.{Stands};
+ghost use Rattle.liquid_filter_base.specs.Stands.{Stands};
 ghost use Rattle.liquid_number_filters.specs.Decimals.{if_fits};
 ghost use Rattle.liquid_number_filters.specs.NumberLaws.{IsDifference, IsProduct, IsQuotient, IsRemainder, IsSum, StepsWith};
 ghost use Rattle.liquid_number_filters.specs.Numbers.{of_one, plus, minus, times, divided_by, modulo};

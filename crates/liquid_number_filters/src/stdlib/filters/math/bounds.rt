@@ -4,14 +4,14 @@ ghost use Rattle.liquid_model.specs.Answer.{Answers, TakesNoMemory};
 ghost use Rattle.liquid_model.specs.Data.{scalar};
 ghost use Rattle.liquid_model.specs.View.{view};
 ghost use Rattle.liquid_model.specs.Whole.{whole};
-ghost use Rattle.liquid_list_filters.specs.Stands.{Stands};
+ghost use Rattle.liquid_filter_base.specs.Stands.{Stands};
 ghost use Rattle.liquid_number_filters.specs.Decimals.{is_decimal_text};
 ghost use Rattle.liquid_number_filters.specs.NumberLaws.{AbsoluteOf, IsGreater, IsLesser, StepsWith};
 ghost use Rattle.liquid_number_filters.specs.Numbers.{of_none, of_one, at_least, at_most, abs};
 
 use super::operands::{decimal_refused, is_decimal_text, operands, within_range};
 use liquid_core::{Filter, Result, Value};
-use liquid_list_filters::invalid_input;
+use liquid_filter_base::invalid_input;
 use std::alloc::Global;
 
 /// `at_least`: the greater of two whole numbers.

@@ -9,7 +9,7 @@ ghost use Rattle.liquid_number_filters.specs.Numbers.{operands, is_numeric, unli
 
 use super::decimal::Decimal;
 use liquid_core::{Error, ErrorKind, Result, Value};
-use liquid_list_filters::{invalid_argument, invalid_input};
+use liquid_filter_base::{invalid_argument, invalid_input};
 use std::alloc::Global;
 
 /// Whether the value is a decimal text.

@@ -3,7 +3,7 @@ ghost use Rattle.std.specs.Prelude.{IsTrue, ◌||◌, length, map, nat_eq};
 ghost use Rattle.liquid_model.specs.Answer.{Answers, TakesNoMemory};
 ghost use Rattle.liquid_model.specs.View.{view};
 ghost use Rattle.liquid_model.specs.Whole.{whole};
-ghost use Rattle.liquid_list_filters.specs.Stands.{Stands};
+ghost use Rattle.liquid_filter_base.specs.Stands.{Stands};
 ghost use Rattle.liquid_number_filters.specs.Numbers.{of_none};
 ghost use Rattle.liquid_number_filters.specs.declared.stdlib.filters.math.decimal.Rounding.TheVariants.{Nearest, Up, Down};
 ghost use Rattle.liquid_number_filters.specs.Rounding.{round, rounded, rounded_to};
@@ -12,7 +12,7 @@ ghost use Rattle.liquid_number_filters.specs.RoundingLaws.{IsRounded, Rounds};
 use super::decimal::{Decimal, Rounding};
 use super::operands::{decimal_refused, is_decimal_text, within_range};
 use liquid_core::{Error, ErrorKind, Filter, Result, Value};
-use liquid_list_filters::{invalid_input, whole_argument};
+use liquid_filter_base::{invalid_input, whole_argument};
 use std::alloc::Global;
 
 /// The most places to which `round` is asked to round.

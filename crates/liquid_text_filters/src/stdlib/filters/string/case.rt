@@ -3,11 +3,11 @@ ghost use Rattle.std.specs.Prelude.{nat_eq, string_bytes, IsTrue, length, map};
 ghost use Rattle.liquid_model.specs.Answer.{Gives, Answers};
 ghost use Rattle.liquid_text_filters.specs.Case.{capitalize_answer, capitalized, downcase_answer, upcase_answer};
 ghost use Rattle.liquid_model.specs.View.{view};
-ghost use Rattle.liquid_list_filters.specs.Stands.{Stands};
+ghost use Rattle.liquid_filter_base.specs.Stands.{Stands};
 ghost use Rattle.liquid_text_filters.specs.Laws.{CapitalizesText, Downcases, Upcases};
 
 use liquid_core::{Filter, Result, Value};
-use liquid_list_filters::text_of;
+use liquid_filter_base::text_of;
 use std::alloc::Global;
 
 /// `downcase`: the input's text with `A` to `Z` as `a` to `z`.

@@ -3,13 +3,13 @@ ghost use Rattle.std.specs.Prelude.{◌&&◌, ◌++◌, nat_eq, nat_le, string_b
 ghost use Rattle.liquid_model.specs.Answer.{Gives, Answers};
 ghost use Rattle.liquid_text_filters.specs.Operate.{append_answer, prepend_answer, remove_answer, remove_first_answer, replace_answer, replace_first_answer, replaced, replaced_first};
 ghost use Rattle.liquid_model.specs.View.{view};
-ghost use Rattle.liquid_list_filters.specs.Stands.{Stands};
+ghost use Rattle.liquid_filter_base.specs.Stands.{Stands};
 ghost use Rattle.liquid_text_filters.specs.Laws.{RemovesAll, RemovesOne, ReplacesAll, ReplacesOne};
 
 use crate::argument::text_or;
 use crate::part::joined;
 use liquid_core::{Filter, Result, Value};
-use liquid_list_filters::text_of;
+use liquid_filter_base::text_of;
 use std::alloc::Global;
 
 /// `append`: the input's text, then the argument's.

@@ -3,14 +3,14 @@ ghost use Rattle.std.specs.Prelude.{◌<◌, length, map, nat_eq, IsTrue};
 ghost use Rattle.liquid_model.specs.Answer.{Gives, Answers};
 ghost use Rattle.liquid_model.specs.Data.{text as text_datum};
 ghost use Rattle.liquid_model.specs.View.{view};
+ghost use Rattle.liquid_filter_base.specs.Stands.{Stands};
 ghost use Rattle.liquid_text_filters.specs.Pieces.{pieces, single_characters, split_by};
 ghost use Rattle.liquid_text_filters.specs.Split.{divided, split_answer};
-ghost use Rattle.liquid_list_filters.specs.Stands.{Stands};
 ghost use Rattle.liquid_text_filters.specs.Laws.{SplitsText};
 
 use crate::argument::text_or;
 use liquid_core::{Filter, Result, Value};
-use liquid_list_filters::text_of;
+use liquid_filter_base::text_of;
 use std::alloc::Global;
 
 /// `split`: the pieces of the input's text between the occurrences of the argument's, from left to right. By the

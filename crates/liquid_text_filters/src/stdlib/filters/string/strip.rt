@@ -3,11 +3,11 @@ ghost use Rattle.std.specs.Prelude.{◌++◌, nat_eq, string_bytes, IsTrue, leng
 ghost use Rattle.liquid_model.specs.Answer.{Gives, Answers};
 ghost use Rattle.liquid_text_filters.specs.Strip.{lstrip_answer, rstrip_answer, strip_answer, strip_newlines_answer, without_newlines, without_returns};
 ghost use Rattle.liquid_model.specs.View.{view};
-ghost use Rattle.liquid_list_filters.specs.Stands.{Stands};
+ghost use Rattle.liquid_filter_base.specs.Stands.{Stands};
 ghost use Rattle.liquid_text_filters.specs.Laws.{StripsLines, StripsText, StripsTextAtEnd, StripsTextAtStart};
 
 use liquid_core::{Filter, Result, Value};
-use liquid_list_filters::text_of;
+use liquid_filter_base::text_of;
 use std::alloc::Global;
 
 /// `strip`: the input's text without the white space at both ends.

@@ -3,13 +3,13 @@ ghost use Rattle.std.specs.Prelude.{◌≡◌, Some, None, if◌then◌else◌, 
 ghost use Rattle.liquid_text_filters.specs.Truncate.{first_clusters, first_words, truncate_answer, truncatewords_answer, words_of};
 ghost use Rattle.liquid_model.specs.Answer.{Answers};
 ghost use Rattle.liquid_model.specs.View.{view};
-ghost use Rattle.liquid_list_filters.specs.Stands.{Stands};
+ghost use Rattle.liquid_filter_base.specs.Stands.{Stands};
 ghost use Rattle.liquid_text_filters.specs.Laws.{TruncatesText, TruncatesTextByWords};
 
 use crate::argument::{text_or, whole_or};
 use crate::part::{before, joined};
 use liquid_core::{Filter, Result, Value};
-use liquid_list_filters::text_of;
+use liquid_filter_base::text_of;
 use std::alloc::Global;
 use unicode_segmentation::UnicodeSegmentation;
 

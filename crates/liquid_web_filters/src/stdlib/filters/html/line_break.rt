@@ -3,12 +3,12 @@ ghost use Rattle.std.specs.Prelude.{nat_eq, string_bytes, IsTrue, length, map};
 ghost use Rattle.liquid_model.specs.Answer.{Gives, Answers};
 ghost use Rattle.liquid_web_filters.specs.LineBreaks.{broken, newline_to_br_answer};
 ghost use Rattle.liquid_model.specs.View.{view};
-ghost use Rattle.liquid_list_filters.specs.Stands.{Stands};
+ghost use Rattle.liquid_filter_base.specs.Stands.{Stands};
 ghost use Rattle.liquid_web_filters.specs.HtmlLaws.{BreaksLines};
 
 use crate::stdlib::filters::replaced::push_replaced;
 use liquid_core::{Filter, Result, Value};
-use liquid_list_filters::text_of;
+use liquid_filter_base::text_of;
 use std::alloc::Global;
 
 /// `newline_to_br`: the input's text with `<br />` before each LF.

@@ -3,12 +3,12 @@ ghost use Rattle.std.specs.Prelude.{nat_eq, IsTrue, length, map};
 ghost use Rattle.liquid_model.specs.Answer.{Answers};
 ghost use Rattle.liquid_web_filters.specs.Tags.{strip_html_answer};
 ghost use Rattle.liquid_model.specs.View.{view};
-ghost use Rattle.liquid_list_filters.specs.Stands.{Stands};
+ghost use Rattle.liquid_filter_base.specs.Stands.{Stands};
 ghost use Rattle.liquid_web_filters.specs.HtmlLaws.{StripsTags};
 
 use super::marks::without_tags;
 use liquid_core::{Filter, Result, Value};
-use liquid_list_filters::text_of;
+use liquid_filter_base::text_of;
 use std::alloc::Global;
 
 /// `strip_html`: the input's text without scripts, then without styles, comments and tags, each from its opener to the

@@ -2,7 +2,7 @@ use Rattle.std.proofs.Common.{map, string_bytes, ◌≡◌, ◌++◌, drop}
 use Rattle.liquid_model.specs.Data.{text_of}
 use Rattle.liquid_model.specs.Lists.{list_of}
 use Rattle.liquid_model.specs.View.{items_view}
-use Rattle.liquid_list_filters.specs.Joined.{joined, joined_rest}
+use Rattle.liquid_filter_base.specs.Joined.{joined, joined_rest}
 use Rattle.liquid_list_filters.proofs.stdlib.filters.array.join.joined.Given as goal
 
 abbrev pub invariant-loop-item : goal.invariant-loop-item

@@ -5,7 +5,7 @@ ghost use Rattle.std.specs.Char.{to_ascii_lowercase};
 ghost use Rattle.liquid_model.specs.Answer.{Answers, Gives, TakesNoMemory};
 ghost use Rattle.liquid_model.specs.Data.{text_of};
 ghost use Rattle.liquid_model.specs.View.{view};
-ghost use Rattle.liquid_list_filters.specs.Arguments.{whole_or_fault};
+ghost use Rattle.liquid_filter_base.specs.Arguments.{whole_or_fault};
 
 use crate::fault::invalid_argument;
 use liquid_core::{Result, Value};

@@ -4,7 +4,7 @@ ghost use Rattle.liquid_model.specs.Errors.{HasMessageUnlessMemory};
 ghost use Rattle.liquid_model.specs.Told.{Told};
 ghost use Rattle.liquid_model.specs.View.{view};
 ghost use Rattle.liquid_model.specs.declared.error.ErrorKind.TheVariants.{InvalidArgument, InvalidInput};
-ghost use Rattle.liquid_list_filters.specs.Faults.{kind_name, must_be};
+ghost use Rattle.liquid_filter_base.specs.Faults.{kind_name, must_be};
 
 use liquid_core::{Error, ErrorKind, Value};
 use std::alloc::Global;

@@ -5,7 +5,7 @@ use Rattle.liquid_model.specs.Told.{is_memory}
 use Rattle.liquid_model.specs.View.{view}
 use Rattle.liquid_model.specs.declared.error.Error.{Error}
 use Rattle.liquid_model.specs.declared.value.Value.{Value}
-use Rattle.liquid_list_filters.specs.Arguments.{Answer}
+use Rattle.liquid_filter_base.specs.Arguments.{Answer}
 
 -- memory aside, R holds of the answer
 abbrev pub Stands : (Answer → Type 0) → Result Value Error → Type 0
