@@ -1,7 +1,7 @@
 -- The numbers that calls answer, and what a caller reads behind a handle.
 use Rattle.std.specs.Prelude.{ℕ, Option, Some, None, [], string_bytes}
 use Rattle.liquid_model.specs.Texts.{Text}
-use Rattle.liquid_model.specs.Told.{number_of}
+use Rattle.liquid_model.specs.ErrorKinds.{number_of}
 use Rattle.liquid_model.specs.declared.error.Error.{Error}
 use Rattle.liquid_c.specs.declared.held.Held.{Held}
 use Rattle.liquid_c.specs.declared.held.Held.TheVariants as held

@@ -3,7 +3,7 @@
 use Rattle.std.specs.Prelude.{ℕ, Option, Some, None, [], String, nat_eq, if◌then◌else◌, option_map, string_bytes}
 use Rattle.std.specs.declared.alloc.Global.{Global}
 use Rattle.liquid_model.specs.Texts.{Text}
-use Rattle.liquid_model.specs.Told.{name_of}
+use Rattle.liquid_model.specs.ErrorKinds.{name_of}
 use Rattle.liquid_model.specs.declared.error.Error.{Error}
 use Rattle.liquid_model.specs.declared.location.Location.{Location}
 use Rattle.liquid_model.specs.declared.location.Origin.{Origin}

@@ -1,7 +1,7 @@
 -- What a call leaves behind the handle for what it makes, and the number that it answers.
 --     Settled R number left      some answer of which R holds was settled so
 use Rattle.std.specs.Prelude.{◌≡◌, ◌⊎◌, ℕ, Option, Some, None, Result, Ok, Err}
-use Rattle.liquid_model.specs.Told.{number_of}
+use Rattle.liquid_model.specs.ErrorKinds.{number_of}
 use Rattle.liquid_model.specs.declared.error.ErrorKind.TheVariants.{Memory}
 use Rattle.liquid_c.specs.Numbers.{number_of_held, number_of_refusal}
 use Rattle.liquid_c.specs.declared.held.Held.{Held}

@@ -1,7 +1,7 @@
 //! Templates that become partials.
 ghost use Rattle.std.specs.Prelude.{◌≡◌, Some, IsSome, IsTrue, option_map};
 ghost use Rattle.liquid_model.specs.Maps.{listed};
-ghost use Rattle.liquid_syntax.specs.Templates.{partials_of, places_of};
+ghost use Rattle.liquid_syntax.specs.Templates.{partials_of, slots_of};
 ghost use Rattle.liquid_c.specs.declared.held.Held.TheVariants as held;
 ghost use Rattle.liquid_c.specs.Calls.{IsPut};
 
@@ -51,9 +51,9 @@ fn put(
     }
 }
 
-/// Makes a place of the name, where there is none. Without the memory for it nothing changes.
+/// Makes a slot of the name, where there is none. Without the memory for it nothing changes.
 fn is_reserved(alloc: Global, partials: &mut Partials, name: &str) -> bool
-    ensures place { IsTrue result → IsSome (listed (places_of partials.new) name.now) }
+    ensures slot { IsTrue result → IsSome (listed (slots_of partials.new) name.now) }
     ensures same { partials_of partials.new ≡ partials_of partials.old }
 {
     match String::from_str(alloc, name) {

@@ -5,46 +5,46 @@ use Rattle.std.specs.Option.{option_map}
 use Rattle.liquid_model.specs.Data.{Datum}
 use Rattle.liquid_core.specs.Environment.{local_of}
 use Rattle.liquid_core.specs.Held.{Outer, held}
-use Rattle.liquid_core.specs.Seen.{IsAmong, IsHeld, depth, seen_view}
+use Rattle.liquid_core.specs.Resolved.{IsAmong, IsHeld, depth, resolved_view}
 use Rattle.liquid_core.specs.States.{loops_of, FindsLoop, IsPlain}
-use Rattle.liquid_core.specs.Turns.{standing, turn_object}
-use Rattle.liquid_core.specs.declared.seen.Seen.{Seen}
-use Rattle.liquid_core.specs.declared.seen.Seen.TheVariants.{Lent, Near, Loop}
+use Rattle.liquid_core.specs.LoopFrames.{standing, frame_object}
+use Rattle.liquid_core.specs.declared.resolved.Resolved.{Resolved}
+use Rattle.liquid_core.specs.declared.resolved.Resolved.TheVariants.{Lent, Near, Loop}
 use Rattle.liquid_core.specs.declared.state.State.{State}
-use Rattle.liquid_core.specs.declared.turn.Scope.{Scope}
-use Rattle.liquid_core.specs.declared.turn.Scope.TheVariants as variants
+use Rattle.liquid_core.specs.declared.frame.Scope.{Scope}
+use Rattle.liquid_core.specs.declared.frame.Scope.TheVariants as variants
 
 -- where no loop is under way, no look-up finds one
 pub plain_finds_none : (s : State) (found : Option Datum) → IsPlain s → FindsLoop s found → ⊥
 plain_finds_none s found plain finds = none finds.below (sym plain ∙ finds.among)
   where
-    none : (below : List Scope) → [] ≡ below ++ variants.Turn finds.loop ∷ finds.above → ⊥
+    none : (below : List Scope) → [] ≡ below ++ variants.LoopFrame finds.loop ∷ finds.above → ⊥
     none [] e = cc
     none (b ∷ bs) e = cc
 
-pub held_among : (scopes : List Scope) (outer : List Outer) (x : Seen) → IsHeld x → IsAmong scopes outer x
+pub held_among : (scopes : List Scope) (outer : List Outer) (x : Resolved) → IsHeld x → IsAmong scopes outer x
 held_among scopes outer (Lent f) h = tt
 held_among scopes outer (Near f) h = tt
-held_among scopes outer (Loop turn behind) h = absurd h
+held_among scopes outer (Loop frame behind) h = absurd h
 
-pub flat_among : (scopes : List Scope) (outer : List Outer) (x : Seen) → depth x ≡ 0 → IsAmong scopes outer x
+pub flat_among : (scopes : List Scope) (outer : List Outer) (x : Resolved) → depth x ≡ 0 → IsAmong scopes outer x
 flat_among scopes outer (Lent f) h = tt
 flat_among scopes outer (Near f) h = tt
-flat_among scopes outer (Loop turn behind) h = absurd (omega (arith, h))
+flat_among scopes outer (Loop frame behind) h = absurd (omega (arith, h))
 
 -- what is among the lower scopes is among all of them
-wider : (scopes below above : List Scope) (outer : List Outer) (x : Seen) → scopes ≡ below ++ above → IsAmong below outer x → IsAmong scopes outer x
+wider : (scopes below above : List Scope) (outer : List Outer) (x : Resolved) → scopes ≡ below ++ above → IsAmong below outer x → IsAmong scopes outer x
 wider scopes below above outer (Lent f) e h = tt
 wider scopes below above outer (Near f) e h = tt
-wider scopes below above outer (Loop turn behind) e h =
-    (h.0 ++ above, (e ∙ ap (λ l. l ++ above) h.1.0 ∙ append_assoc behind.turns.now (variants.Turn turn.now ∷ h.0) above, h.1.1))
+wider scopes below above outer (Loop frame behind) e h =
+    (h.0 ++ above, (e ∙ ap (λ l. l ++ above) h.1.0 ∙ append_assoc behind.frames.now (variants.LoopFrame frame.now ∷ h.0) above, h.1.1))
 
-each_wider : (scopes below above : List Scope) (outer : List Outer) (o : Option Seen) → scopes ≡ below ++ above → IfSome o (IsAmong below outer) → IfSome o (IsAmong scopes outer)
+each_wider : (scopes below above : List Scope) (outer : List Outer) (o : Option Resolved) → scopes ≡ below ++ above → IfSome o (IsAmong below outer) → IfSome o (IsAmong scopes outer)
 each_wider scopes below above outer None e h = tt
 each_wider scopes below above outer (Some x) e h = wider scopes below above outer x e h
 
 -- what is found at a place is among all
-pub found_at : (scopes : List Scope) (i : ℕ) (s d : Scope) (outer : List Outer) (o : Option Seen) → i < length scopes → s ≡ get_or scopes i d → IfSome o (IsAmong (take i scopes ++ s ∷ []) outer) → IfSome o (IsAmong scopes outer)
+pub found_at : (scopes : List Scope) (i : ℕ) (s d : Scope) (outer : List Outer) (o : Option Resolved) → i < length scopes → s ≡ get_or scopes i d → IfSome o (IsAmong (take i scopes ++ s ∷ []) outer) → IfSome o (IsAmong scopes outer)
 found_at scopes i s d outer o within at h = each_wider scopes (take i scopes ++ s ∷ []) (drop (i + 1) scopes) outer o parts h
   where
     parts : scopes ≡ (take i scopes ++ s ∷ []) ++ drop (i + 1) scopes
@@ -54,17 +54,17 @@ found_at scopes i s d outer o within at h = each_wider scopes (take i scopes ++ 
         ∙ sym (append_assoc (take i scopes) (s ∷ []) (drop (i + 1) scopes))
 
 -- a loop's object that is found is the object of a loop that is under way
-pub held_unless_loop : (s : State) (x : Seen) → IsAmong (loops_of s) s.scopes.items x → (FindsLoop s (Some (seen_view x)) → ⊥) → IsHeld x
+pub held_unless_loop : (s : State) (x : Resolved) → IsAmong (loops_of s) s.scopes.items x → (FindsLoop s (Some (resolved_view x)) → ⊥) → IsHeld x
 held_unless_loop s (Lent f) a none = tt
 held_unless_loop s (Near f) a none = tt
-held_unless_loop s (Loop turn behind) a none = none (record {
-  loop = turn.now;
-  below = behind.turns.now;
+held_unless_loop s (Loop frame behind) a none = none (record {
+  loop = frame.now;
+  below = behind.frames.now;
   above = a.0;
   among = a.1.0;
-  whole = ap (λ o. Some (turn_object turn.now (local_of (standing behind.turns.now (reverse (map held o)))))) a.1.1;
+  whole = ap (λ o. Some (frame_object frame.now (local_of (standing behind.frames.now (reverse (map held o)))))) a.1.1;
 })
 
-pub each_held : (s : State) (o : Option Seen) (d : Option Datum) → option_map seen_view o ≡ d → IfSome o (IsAmong (loops_of s) s.scopes.items) → (FindsLoop s d → ⊥) → IfSome o IsHeld
+pub each_held : (s : State) (o : Option Resolved) (d : Option Datum) → option_map resolved_view o ≡ d → IfSome o (IsAmong (loops_of s) s.scopes.items) → (FindsLoop s d → ⊥) → IfSome o IsHeld
 each_held s None d e a none = tt
 each_held s (Some x) d e a none = held_unless_loop s x a (rw e none)

@@ -5,7 +5,7 @@ use Rattle.std.proofs.lemmas.List.{take_more, take_all}
 use Rattle.liquid_model.specs.Answer.{Faulted}
 use Rattle.liquid_model.specs.Data.{Datum}
 use Rattle.liquid_model.specs.Texts.{Text, same_text, ◌else◌}
-use Rattle.liquid_model.specs.Told.{Told, is_memory, is_refusal, number_of}
+use Rattle.liquid_model.specs.ErrorKinds.{IsKindOrMemory, is_memory, is_refusal, number_of}
 use Rattle.liquid_model.specs.declared.error.Error.{Error}
 use Rattle.liquid_model.specs.declared.error.ErrorKind.{ErrorKind}
 use Rattle.liquid_model.specs.declared.error.ErrorKind.TheVariants.{UnknownVariable, InvalidInput, InvalidArgument, UnexpectedValue, NumberRange, DivideByZero, Float, CycleBounds, ZeroColumns, RangeTooLong, UnknownPartial, PartialName, TooDeep, DateFormat, TimezoneRange, Unsupported, Memory, Write, Unclosed, BadItem, NumberLiteral, FloatLiteral, StateWord, UnknownTag, UnknownFilter, FilterArguments, Expected, MissingEnd, TooNested}
@@ -111,7 +111,7 @@ not_memory kind h = absurd cc
 
 -- any other kind is InvalidInput
 pub kind_replaced : (kind told : ErrorKind) (wanted : Result Datum ErrorKind) → nat_le (number_of kind) 17 ≡ false
-    → MatchBool (is_memory kind) ⊤ (wanted ≡ Err kind) → Told InvalidInput told → Faulted told (of_host wanted)
+    → MatchBool (is_memory kind) ⊤ (wanted ≡ Err kind) → IsKindOrMemory InvalidInput told → Faulted told (of_host wanted)
 kind_replaced kind told wanted h m t = on (is_memory told) t
   where
     same : (b : Bool) → is_memory kind ≡ b → b ≡ false → MatchBool b ⊤ (wanted ≡ Err kind) → wanted ≡ Err kind

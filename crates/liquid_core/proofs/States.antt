@@ -22,11 +22,11 @@ use Rattle.std.specs.Ordering.{nat_cmp}
 use Rattle.liquid_core.specs.Held.{held, map_of}
 use Rattle.liquid_core.specs.Loops.{loop_scope}
 use Rattle.liquid_core.specs.Places.{place_of}
-use Rattle.liquid_core.specs.Turns.{loop_name, loop_object, item_of, standing, scope_map, turn_map_at, with_names, without_innermost, EndsIn, IsNext}
-use Rattle.liquid_core.specs.declared.turn.Scope.TheVariants as variants
-use Rattle.liquid_core.specs.declared.turn.Turn.{Turn}
-use Rattle.liquid_core.specs.declared.turn.Scope.{Scope}
-use Rattle.liquid_core.specs.States.{data_held, held_beside, IsPlain, layers_of, environment_of, new_layers, with_scope_popped, with_scope_pushed, with_turn_at, scopes_behind, layers_with, with_interrupt, with_changed, with_cycle}
+use Rattle.liquid_core.specs.LoopFrames.{loop_name, loop_object, item_of, standing, scope_map, frame_map_at, with_names, without_innermost, EndsIn, IsNext}
+use Rattle.liquid_core.specs.declared.frame.Scope.TheVariants as variants
+use Rattle.liquid_core.specs.declared.frame.LoopFrame.{LoopFrame}
+use Rattle.liquid_core.specs.declared.frame.Scope.{Scope}
+use Rattle.liquid_core.specs.States.{data_held, held_beside, IsPlain, layers_of, environment_of, new_layers, with_scope_popped, with_scope_pushed, with_frame_at, scopes_behind, layers_with, with_interrupt, with_changed, with_cycle}
 use Rattle.std.proofs.lemmas.List.{reverse-append, length-append}
 use Rattle.std.proofs.Math.Seq.{take-append_seam}
 use Rattle.std.proofs.lemmas.Slice.Eq.{bytes_eq-Decides}
@@ -86,15 +86,15 @@ named_off [] names = refl
 named_off (s ∷ ss) names = all_but_last (s ∷ ss) (variants.Names names)
 
 -- so does a loop that ends
-pub turn_off : (ss : List Scope) (t : Turn) → without_innermost (ss ++ variants.Turn t ∷ []) ≡ ss
-turn_off ss t = all_but_last ss (variants.Turn t)
+pub turn_off : (ss : List Scope) (t : LoopFrame) → without_innermost (ss ++ variants.LoopFrame t ∷ []) ≡ ss
+turn_off ss t = all_but_last ss (variants.LoopFrame t)
 
-pub popped : (s t : State) (o : Option (BTreeMap (String Global) Value)) → s.turns.items ≡ [] → t.turns ≡ s.turns → s.scopes.items ≡ t.scopes.items ++ option_to_list o → (0 < length s.scopes.items → IsSome o)
+pub popped : (s t : State) (o : Option (BTreeMap (String Global) Value)) → s.frames.items ≡ [] → t.frames ≡ s.frames → s.scopes.items ≡ t.scopes.items ++ option_to_list o → (0 < length s.scopes.items → IsSome o)
     → t.assigned ≡ s.assigned → t.counters ≡ s.counters → t.«data» ≡ s.«data» → t.interrupt ≡ s.interrupt → t.cycles ≡ s.cycles → t.changed ≡ s.changed → layers_of t ≡ with_scope_popped (layers_of s)
 unfolding layers_of
 popped s t o n m e v a b c d f g =
-    let plain : standing t.turns.items (reverse (map held t.scopes.items)) ≡ reverse (map held t.scopes.items) = ap (λ l. standing l (reverse (map held t.scopes.items))) (ap (λ v. v.items) m ∙ n) in
-    let before : standing s.turns.items (reverse (map held s.scopes.items)) ≡ reverse (map held s.scopes.items) = ap (λ l. standing l (reverse (map held s.scopes.items))) n in
+    let plain : standing t.frames.items (reverse (map held t.scopes.items)) ≡ reverse (map held t.scopes.items) = ap (λ l. standing l (reverse (map held t.scopes.items))) (ap (λ v. v.items) m ∙ n) in
+    let before : standing s.frames.items (reverse (map held s.scopes.items)) ≡ reverse (map held s.scopes.items) = ap (λ l. standing l (reverse (map held s.scopes.items))) n in
     λ i. record {
       scopes = (plain ∙ behind held s.scopes.items t.scopes.items o e v ∙ ap scopes_behind (sym before)) i;
       assigned = held (a i);
@@ -103,13 +103,13 @@ popped s t o n m e v a b c d f g =
       registers = record { interrupt = d i; cycles = (λ group. get_by_text (f i) group); changed = option_map string_bytes (g i) };
     }
 
-pub popped_turn : (s t : State) (o : Option Scope) → s.turns.items ≡ t.turns.items ++ option_to_list o → IsSome o → t.scopes ≡ s.scopes
+pub popped_turn : (s t : State) (o : Option Scope) → s.frames.items ≡ t.frames.items ++ option_to_list o → IsSome o → t.scopes ≡ s.scopes
     → t.assigned ≡ s.assigned → t.counters ≡ s.counters → t.«data» ≡ s.«data» → t.interrupt ≡ s.interrupt → t.cycles ≡ s.cycles → t.changed ≡ s.changed → layers_of t ≡ with_scope_popped (layers_of s)
 unfolding layers_of
 popped_turn s t o e v m a b c d f g =
     let outer : reverse (map held t.scopes.items) ≡ reverse (map held s.scopes.items) = ap (λ v. reverse (map held v.items)) m in
     λ i. record {
-      scopes = (ap (standing t.turns.items) outer ∙ behind_turns s.turns.items t.turns.items o (reverse (map held s.scopes.items)) e v) i;
+      scopes = (ap (standing t.frames.items) outer ∙ behind_turns s.frames.items t.frames.items o (reverse (map held s.scopes.items)) e v) i;
       assigned = held (a i);
       counters = held (b i);
       globals = data_held (c i);
@@ -118,27 +118,27 @@ popped_turn s t o e v m a b c d f g =
 
 -- ---- pushes
 
-pub pushed_turn : (s t : State) (x : Scope) → t.turns.items ≡ s.turns.items ++ x ∷ [] → t.scopes ≡ s.scopes
+pub pushed_turn : (s t : State) (x : Scope) → t.frames.items ≡ s.frames.items ++ x ∷ [] → t.scopes ≡ s.scopes
     → t.assigned ≡ s.assigned → t.counters ≡ s.counters → t.«data» ≡ s.«data» → t.interrupt ≡ s.interrupt → t.cycles ≡ s.cycles → t.changed ≡ s.changed
     → layers_of t ≡ with_scope_pushed (scope_map x (environment_of s).local) (layers_of s)
 unfolding layers_of
 pushed_turn s t x e m a b c d f g =
     let outer : reverse (map held t.scopes.items) ≡ reverse (map held s.scopes.items) = ap (λ v. reverse (map held v.items)) m in
     λ i. record {
-      scopes = (ap (standing t.turns.items) outer ∙ ap (λ l. standing l (reverse (map held s.scopes.items))) e ∙ standing_last s.turns.items x (reverse (map held s.scopes.items))) i;
+      scopes = (ap (standing t.frames.items) outer ∙ ap (λ l. standing l (reverse (map held s.scopes.items))) e ∙ standing_last s.frames.items x (reverse (map held s.scopes.items))) i;
       assigned = held (a i);
       counters = held (b i);
       globals = data_held (c i);
       registers = record { interrupt = d i; cycles = (λ group. get_by_text (f i) group); changed = option_map string_bytes (g i) };
     }
 
-pub pushed_scope : (s t : State) (x : BTreeMap (String Global) Value) → s.turns.items ≡ [] → t.turns ≡ s.turns → t.scopes.items ≡ s.scopes.items ++ x ∷ []
+pub pushed_scope : (s t : State) (x : BTreeMap (String Global) Value) → s.frames.items ≡ [] → t.frames ≡ s.frames → t.scopes.items ≡ s.scopes.items ++ x ∷ []
     → t.assigned ≡ s.assigned → t.counters ≡ s.counters → t.«data» ≡ s.«data» → t.interrupt ≡ s.interrupt → t.cycles ≡ s.cycles → t.changed ≡ s.changed
     → layers_of t ≡ with_scope_pushed (held x) (layers_of s)
 unfolding layers_of
 pushed_scope s t x n m e a b c d f g =
-    let plain : standing t.turns.items (reverse (map held t.scopes.items)) ≡ reverse (map held t.scopes.items) = ap (λ l. standing l (reverse (map held t.scopes.items))) (ap (λ v. v.items) m ∙ n) in
-    let before : standing s.turns.items (reverse (map held s.scopes.items)) ≡ reverse (map held s.scopes.items) = ap (λ l. standing l (reverse (map held s.scopes.items))) n in
+    let plain : standing t.frames.items (reverse (map held t.scopes.items)) ≡ reverse (map held t.scopes.items) = ap (λ l. standing l (reverse (map held t.scopes.items))) (ap (λ v. v.items) m ∙ n) in
+    let before : standing s.frames.items (reverse (map held s.scopes.items)) ≡ reverse (map held s.scopes.items) = ap (λ l. standing l (reverse (map held s.scopes.items))) n in
     λ i. record {
       scopes = (plain ∙ ap (λ l. reverse (map held l)) e ∙ reverse_push held s.scopes.items x ∙ ap (λ l. held x ∷ l) (sym before)) i;
       assigned = held (a i);
@@ -148,7 +148,7 @@ pushed_scope s t x n m e a b c d f g =
     }
 
 -- nothing changed
-pub unchanged : (s t : State) → t.turns.items ≡ s.turns.items → t.scopes.items ≡ s.scopes.items
+pub unchanged : (s t : State) → t.frames.items ≡ s.frames.items → t.scopes.items ≡ s.scopes.items
     → t.assigned ≡ s.assigned → t.counters ≡ s.counters → t.«data» ≡ s.«data» → t.interrupt ≡ s.interrupt → t.cycles ≡ s.cycles → t.changed ≡ s.changed → layers_of t ≡ layers_of s
 unfolding layers_of
 unchanged s t m n a b c d f g = λ i. record {
@@ -160,11 +160,11 @@ unchanged s t m n a b c d f g = λ i. record {
 }
 
 -- the parts of a state without loops
-pub taken_apart : (s : State) (p : Parts) → s.turns.items ≡ [] → p.scopes ≡ s.scopes
+pub taken_apart : (s : State) (p : Parts) → s.frames.items ≡ [] → p.scopes ≡ s.scopes
     → p.assigned ≡ s.assigned → p.counters ≡ s.counters → p.interrupt ≡ s.interrupt → p.cycles ≡ s.cycles → p.changed ≡ s.changed → layers_with p (data_held s.«data») ≡ layers_of s
 unfolding layers_of
 taken_apart s p n m a b d f g =
-    let plain : standing s.turns.items (reverse (map held s.scopes.items)) ≡ reverse (map held s.scopes.items) = ap (λ l. standing l (reverse (map held s.scopes.items))) n in
+    let plain : standing s.frames.items (reverse (map held s.scopes.items)) ≡ reverse (map held s.scopes.items) = ap (λ l. standing l (reverse (map held s.scopes.items))) n in
     λ i. record {
       scopes = (ap (λ v. reverse (map held v.items)) m ∙ sym plain) i;
       assigned = held (a i);
@@ -173,27 +173,27 @@ taken_apart s p n m a b d f g =
       registers = record { interrupt = d i; cycles = (λ group. get_by_text (f i) group); changed = option_map string_bytes (g i) };
     }
 
-pub put_together : (s : State) (p : Parts) → s.turns.items ≡ [] → s.scopes ≡ p.scopes
+pub put_together : (s : State) (p : Parts) → s.frames.items ≡ [] → s.scopes ≡ p.scopes
     → s.assigned ≡ p.assigned → s.counters ≡ p.counters → s.interrupt ≡ p.interrupt → s.cycles ≡ p.cycles → s.changed ≡ p.changed → layers_of s ≡ layers_with p (data_held s.«data»)
 put_together s p n m a b d f g = sym (taken_apart s p n (sym m) (sym a) (sym b) (sym d) (sym f) (sym g))
 
 -- a loop at its next item binds what it binds there
-next_map : (t u : Turn) (local : Map Datum) → IsNext t u → turn_map_at u u.at local ≡ turn_map_at t (t.at + 1) local
+next_map : (t u : LoopFrame) (local : Map Datum) → IsNext t u → frame_map_at u u.at local ≡ frame_map_at t (t.at + 1) local
 next_map t u local n = λ i. loop_scope (loop_name (n.kind i)) (loop_object (n.kind i) (n.at i) (n.count i) local) (n.name i).now (item_of (n.items i) (place_of (n.reversed i) (n.from i) (n.count i) (n.at i)))
 
-pub advanced : (s n : State) (before : List Scope) (t u : Turn) → EndsIn s.turns.items before t → EndsIn n.turns.items before u → IsNext t u → n.scopes ≡ s.scopes
+pub advanced : (s n : State) (before : List Scope) (t u : LoopFrame) → EndsIn s.frames.items before t → EndsIn n.frames.items before u → IsNext t u → n.scopes ≡ s.scopes
     → n.assigned ≡ s.assigned → n.counters ≡ s.counters → n.«data» ≡ s.«data» → n.interrupt ≡ s.interrupt → n.cycles ≡ s.cycles → n.changed ≡ s.changed
-    → layers_of n ≡ with_turn_at t (t.at + 1) (layers_of s)
+    → layers_of n ≡ with_frame_at t (t.at + 1) (layers_of s)
 unfolding layers_of
 advanced s n before t u old new next m a b c d f g =
     let outer = reverse (map held s.scopes.items) in
     let same : reverse (map held n.scopes.items) ≡ outer = ap (λ v. reverse (map held v.items)) m in
-    let was : standing s.turns.items outer ≡ turn_map_at t t.at (local_of (standing before outer)) ∷ standing before outer = ap (λ l. standing l outer) old ∙ standing_last before (variants.Turn t) outer in
-    let now : standing n.turns.items (reverse (map held n.scopes.items)) ≡ turn_map_at u u.at (local_of (standing before outer)) ∷ standing before outer = ap (standing n.turns.items) same ∙ ap (λ l. standing l outer) new ∙ standing_last before (variants.Turn u) outer in
+    let was : standing s.frames.items outer ≡ frame_map_at t t.at (local_of (standing before outer)) ∷ standing before outer = ap (λ l. standing l outer) old ∙ standing_last before (variants.LoopFrame t) outer in
+    let now : standing n.frames.items (reverse (map held n.scopes.items)) ≡ frame_map_at u u.at (local_of (standing before outer)) ∷ standing before outer = ap (standing n.frames.items) same ∙ ap (λ l. standing l outer) new ∙ standing_last before (variants.LoopFrame u) outer in
     λ i. record {
       scopes = (now
           ∙ ap (λ x. x ∷ standing before outer) (next_map t u (local_of (standing before outer)) next)
-          ∙ sym (ap (λ l. turn_map_at t (t.at + 1) (local_of (scopes_behind l)) ∷ scopes_behind l) was)) i;
+          ∙ sym (ap (λ l. frame_map_at t (t.at + 1) (local_of (scopes_behind l)) ∷ scopes_behind l) was)) i;
       assigned = held (a i);
       counters = held (b i);
       globals = data_held (c i);
@@ -223,7 +223,7 @@ pub missing_in_none : (q : Text) (left : List Outer) → left ≡ [] → None �
 unfolding empty
 missing_in_none q left e = sym (ap (λ l. local_of (reverse (map held l)) q) e)
 
-pub local_in : (s : State) → (environment_of s).local ≡ local_of (standing s.turns.items (reverse (map held s.scopes.items)))
+pub local_in : (s : State) → (environment_of s).local ≡ local_of (standing s.frames.items (reverse (map held s.scopes.items)))
 unfolding layers_of
 local_in s = refl
 
@@ -268,7 +268,7 @@ plain_beside s q plain = beside_as s q (sym (ap (λ m. m q) (local_in s) ∙ ap 
 
 -- and so it is for a name that no scope holds
 pub none_beside : (s : State) (q : Text) → (environment_of s).local q ≡ None → held_beside s q ≡ lookup (environment_of s) q
-none_beside s q none = beside_as s q (behind_none s.turns.items (reverse (map held s.scopes.items)) q (sym (ap (λ m. m q) (local_in s)) ∙ none) ∙ sym none)
+none_beside s q none = beside_as s q (behind_none s.frames.items (reverse (map held s.scopes.items)) q (sym (ap (λ m. m q) (local_in s)) ∙ none) ∙ sym none)
 
 pub held_at : (o : Outer) (q : Text) → held o q ≡ value_at q (pairs_view o.entries)
 unfolding map_of
@@ -280,7 +280,7 @@ counter_of s q = refl
 
 -- ---- a new state
 
-pub all_empty : (s : State) → s.turns.items ≡ [] → s.scopes.items ≡ [] → s.assigned.entries ≡ [] → s.counters.entries ≡ [] → s.interrupt ≡ None → s.cycles.entries ≡ [] → s.changed ≡ None → layers_of s ≡ new_layers (data_held s.«data»)
+pub all_empty : (s : State) → s.frames.items ≡ [] → s.scopes.items ≡ [] → s.assigned.entries ≡ [] → s.counters.entries ≡ [] → s.interrupt ≡ None → s.cycles.entries ≡ [] → s.changed ≡ None → layers_of s ≡ new_layers (data_held s.«data»)
 unfolding layers_of map_of empty
 all_empty s n a b c d e f = λ i. record {
   scopes = standing (n i) (reverse (map held (a i)));
@@ -317,7 +317,7 @@ pub cycle_set : (s : State) (m : BTreeMap (String Global) ℕ) (group : Text) (i
     → layers_of (record s { cycles = m }) ≡ with_cycle group index (layers_of s)
 unfolding layers_of insert
 cycle_set s m group index h = λ i. record {
-  scopes = standing s.turns.items (reverse (map held s.scopes.items));
+  scopes = standing s.frames.items (reverse (map held s.scopes.items));
   assigned = held s.assigned;
   counters = held s.counters;
   globals = data_held s.«data»;

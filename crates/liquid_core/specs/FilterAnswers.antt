@@ -2,7 +2,7 @@
 use Rattle.std.specs.Prelude.{◌≡◌, Bool, true, false, List, MatchBool, ⊤, Result, Ok, Err}
 use Rattle.liquid_model.specs.Answer.{Answers}
 use Rattle.liquid_model.specs.Data.{Datum}
-use Rattle.liquid_model.specs.Told.{is_memory}
+use Rattle.liquid_model.specs.ErrorKinds.{is_memory}
 use Rattle.liquid_model.specs.declared.error.Error.{Error}
 use Rattle.liquid_model.specs.declared.error.ErrorKind.{ErrorKind}
 

@@ -9,7 +9,7 @@ use Rattle.liquid_model.specs.Texts.{Text, same_text, ◌else◌}
 use Rattle.liquid_model.specs.Data.{Datum}
 use Rattle.liquid_core.specs.FilterAnswers.{FilterAnswer}
 use Rattle.liquid_core.specs.declared.host_filters.HostFilters.{HostFilters}
-use Rattle.liquid_model.specs.Told.{number_of}
+use Rattle.liquid_model.specs.ErrorKinds.{number_of}
 use Rattle.liquid_model.specs.declared.error.ErrorKind.{ErrorKind}
 use Rattle.liquid_model.specs.declared.error.ErrorKind.TheVariants.{InvalidInput, Unsupported}
 

@@ -6,9 +6,9 @@ pub mod FilterAnswers
 pub mod Held
 pub mod Hosts
 pub mod Laws
+pub mod LoopFrames
 pub mod Loops
 pub mod Places
-pub mod Seen
+pub mod Resolved
 pub mod States
-pub mod Turns
 pub mod Written

@@ -7,10 +7,10 @@ use Rattle.liquid_model.specs.Data.{Datum}
 use Rattle.liquid_model.specs.Maps.{Map, empty, insert}
 use Rattle.liquid_core.specs.Environment.{Environment, Registers, new_registers, local_of}
 use Rattle.liquid_core.specs.Held.{held}
-use Rattle.liquid_core.specs.Turns.{standing, turn_map_at, turn_object}
-use Rattle.liquid_core.specs.declared.turn.Scope.{Scope}
-use Rattle.liquid_core.specs.declared.turn.Scope.TheVariants as variants
-use Rattle.liquid_core.specs.declared.turn.Turn.{Turn}
+use Rattle.liquid_core.specs.LoopFrames.{standing, frame_map_at, frame_object}
+use Rattle.liquid_core.specs.declared.frame.Scope.{Scope}
+use Rattle.liquid_core.specs.declared.frame.Scope.TheVariants as variants
+use Rattle.liquid_core.specs.declared.frame.LoopFrame.{LoopFrame}
 use Rattle.liquid_core.specs.declared.state.State.{State}
 use Rattle.liquid_core.specs.declared.state.Parts.{Parts}
 use Rattle.liquid_core.specs.declared.state.Data.{Data}
@@ -32,7 +32,7 @@ pub record Layers : Type 0 where
 
 unfoldable pub layers_of : State → Layers
 layers_of s = record {
-  scopes = standing s.turns.items (reverse (map held s.scopes.items));
+  scopes = standing s.frames.items (reverse (map held s.scopes.items));
   assigned = held s.assigned;
   counters = held s.counters;
   globals = data_held s.data;
@@ -78,14 +78,14 @@ abbrev pub with_cycle : Text → ℕ → Layers → Layers
 with_cycle group index l = record l { registers = record (l.registers) { cycles = insert l.registers.cycles group index } }
 
 -- the innermost loop at its item k
-abbrev pub with_turn_at : Turn → ℕ → Layers → Layers
-with_turn_at t k l = with_scope_pushed (turn_map_at t k (local_of (scopes_behind l.scopes))) (with_scope_popped l)
+abbrev pub with_frame_at : LoopFrame → ℕ → Layers → Layers
+with_frame_at t k l = with_scope_pushed (frame_map_at t k (local_of (scopes_behind l.scopes))) (with_scope_popped l)
 
 -- ---- loops
 
 -- the loops that are under way, and the scopes that stand over one; the innermost last
 abbrev pub loops_of : State → List Scope
-loops_of s = s.turns.items
+loops_of s = s.frames.items
 
 -- no loop is among the scopes
 abbrev pub IsPlain : State → Type 0
@@ -93,12 +93,12 @@ IsPlain s = loops_of s ≡ []
 
 -- what was found is the whole object of a loop that is under way
 pub record FindsLoop (s : State) (found : Option Datum) : Type 0 where
-  pub loop : Turn
+  pub loop : LoopFrame
   -- the loops and scopes that it stands over, and those that stand over it
   pub below : List Scope
   pub above : List Scope
-  pub among : loops_of s ≡ below ++ variants.Turn loop ∷ above
-  pub whole : found ≡ Some (turn_object loop (local_of (standing below (reverse (map held s.scopes.items)))))
+  pub among : loops_of s ≡ below ++ variants.LoopFrame loop ∷ above
+  pub whole : found ≡ Some (frame_object loop (local_of (standing below (reverse (map held s.scopes.items)))))
 
 -- what is held beside the loops and the scopes over them
 abbrev pub held_beside : State → Text → Option Datum

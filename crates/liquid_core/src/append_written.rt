@@ -2,7 +2,7 @@
 ghost use Rattle.std.specs.Prelude.{◌++◌, codes, string_bytes};
 ghost use Rattle.liquid_core.specs.ExpressionView.{expression_view, variable_view, steps_view};
 ghost use Rattle.liquid_core.specs.Written.{written_form, written_literal, written_steps};
-ghost use Rattle.liquid_model.specs.Answer.{Gives};
+ghost use Rattle.liquid_model.specs.Answer.{IsValueOrMemory};
 ghost use Rattle.liquid_model.specs.Appended.{Appended, Begun};
 ghost use Rattle.liquid_model.specs.View.{view};
 
@@ -13,7 +13,7 @@ impl Expression {
     /// Appends the written form to `out`. Where there is no memory, a beginning of it may stand there, behind what was
     /// there before.
     pub fn append_written_form(&self, out: &mut String) -> Result<()>
-        ensures appended { Gives (λ _. string_bytes out.new) result (string_bytes out.old ++ written_form (expression_view self.now)) }
+        ensures appended { IsValueOrMemory (λ _. string_bytes out.new) result (string_bytes out.old ++ written_form (expression_view self.now)) }
         ensures begun { Begun (string_bytes out.old) (string_bytes out.new) (written_form (expression_view self.now)) }
     {
         append_expression(self, out)

@@ -1,17 +1,17 @@
 //! Expressions: literals, and variables with their steps.
 ghost use Rattle.std.specs.Prelude.{◌≡◌, option_map, map, IsOk, IfSome, IfErr};
-ghost use Rattle.liquid_model.specs.Answer.{Answers, Gives, TakesNoMemory};
+ghost use Rattle.liquid_model.specs.Answer.{Answers, IsValueOrMemory, TakesNoMemory};
 ghost use Rattle.liquid_model.specs.Cow.{cow_view};
 ghost use Rattle.liquid_model.specs.Errors.{HasMessageUnlessMemory, without_value_message};
 ghost use Rattle.liquid_core.specs.Expressions.{value_of, required};
 ghost use Rattle.liquid_core.specs.ExpressionView.{expression_view, variable_view, steps_view};
 ghost use Rattle.liquid_core.specs.States.{environment_of, loops_of, FindsLoop};
-ghost use Rattle.liquid_core.specs.Seen.{seen_view, IsAmong, IsHeld};
-ghost use Rattle.liquid_model.specs.Told.{Told};
+ghost use Rattle.liquid_core.specs.Resolved.{resolved_view, IsAmong, IsHeld};
+ghost use Rattle.liquid_model.specs.ErrorKinds.{IsKindOrMemory};
 ghost use Rattle.liquid_core.specs.Written.{written_form};
 ghost use Rattle.liquid_model.specs.declared.error.ErrorKind.TheVariants.{UnknownVariable};
 
-use crate::seen::Seen;
+use crate::resolved::Resolved;
 use crate::state::State;
 use liquid_model::{Error, ErrorKind, Found, Result, Value, ValueCow};
 use std::alloc::Global;
@@ -48,7 +48,7 @@ impl Expression {
         alloc: Global,
         state: &'a State<'_>,
     ) -> Result<Option<ValueCow<'a>>>
-        ensures value { Gives (λ r. option_map cow_view r) result (value_of (expression_view self.now) (environment_of state.now)) }
+        ensures value { IsValueOrMemory (λ r. option_map cow_view r) result (value_of (expression_view self.now) (environment_of state.now)) }
         ensures no_memory { (FindsLoop state.now (value_of (expression_view self.now) (environment_of state.now)) → ⊥) → IsOk result }
     {
         valued(alloc, expression_value(self, state))
@@ -68,19 +68,23 @@ impl Expression {
 
     /// What the expression leads to, as it is lent: for the whole run where the data lends it. Else as `evaluate`. Only the
     /// fault takes memory.
-    pub fn see<'a, 'd>(&'a self, alloc: Global, state: &'a State<'d>) -> Result<Seen<'a, 'd>>
-        ensures value { Answers seen_view result (required (expression_view self.now) (environment_of state.now)) }
+    pub fn resolve<'a, 'd>(
+        &'a self,
+        alloc: Global,
+        state: &'a State<'d>,
+    ) -> Result<Resolved<'a, 'd>>
+        ensures value { Answers resolved_view result (required (expression_view self.now) (environment_of state.now)) }
         ensures no_memory { TakesNoMemory result (required (expression_view self.now) (environment_of state.now)) }
     {
         match expression_value(self, state) {
-            Some(seen) => Ok(seen),
+            Some(resolved) => Ok(resolved),
             None => Err(without_value(alloc, self)),
         }
     }
 
     /// An equal expression that owns its parts.
     pub fn copy(&self, alloc: Global) -> Result<Expression>
-        ensures { Gives expression_view result (expression_view self.now) }
+        ensures { IsValueOrMemory expression_view result (expression_view self.now) }
     {
         copied(alloc, self)
     }
@@ -93,7 +97,7 @@ impl Variable {
         alloc: Global,
         state: &'a State<'_>,
     ) -> Result<Option<ValueCow<'a>>>
-        ensures value { Gives (λ r. option_map cow_view r) result (value_of (variable_view self.now) (environment_of state.now)) }
+        ensures value { IsValueOrMemory (λ r. option_map cow_view r) result (value_of (variable_view self.now) (environment_of state.now)) }
         ensures no_memory { (FindsLoop state.now (value_of (variable_view self.now) (environment_of state.now)) → ⊥) → IsOk result }
     {
         valued(alloc, variable_value(self, state))
@@ -113,7 +117,7 @@ impl Variable {
 
     /// An equal variable that owns its parts.
     pub fn copy(&self, alloc: Global) -> Result<Variable>
-        ensures { Gives variable_view result (variable_view self.now) }
+        ensures { IsValueOrMemory variable_view result (variable_view self.now) }
     {
         copied_variable(alloc, self)
     }
@@ -121,7 +125,7 @@ impl Variable {
 
 /// The fault of an expression or a variable that has no value.
 fn without_value<D: Display>(alloc: Global, written: &D) -> Error
-    ensures told { Told UnknownVariable result.kind }
+    ensures told { IsKindOrMemory UnknownVariable result.kind }
     ensures message { IfSome (D.output written.now) (λ form. HasMessageUnlessMemory (without_value_message form) result) }
 {
     Error::formatted(
@@ -135,22 +139,22 @@ fn without_value<D: Display>(alloc: Global, written: &D) -> Error
 fn expression_value<'a, 'd>(
     expression: &'a Expression,
     state: &'a State<'d>,
-) -> Option<Seen<'a, 'd>>
-    ensures value { option_map seen_view result ≡ value_of (expression_view expression.now) (environment_of state.now) }
+) -> Option<Resolved<'a, 'd>>
+    ensures value { option_map resolved_view result ≡ value_of (expression_view expression.now) (environment_of state.now) }
     ensures among { IfSome result (IsAmong (loops_of state.now) state.now.scopes.items) }
 {
     match expression {
-        Expression::Literal(value) => Some(Seen::Near(Found::Held(value))),
+        Expression::Literal(value) => Some(Resolved::Near(Found::Held(value))),
         Expression::Variable(variable) => variable_value(variable, state),
     }
 }
 
 #[cycle(value)]
-fn variable_value<'a, 'd>(variable: &'a Variable, state: &'a State<'d>) -> Option<Seen<'a, 'd>>
-    ensures value { option_map seen_view result ≡ value_of (variable_view variable.now) (environment_of state.now) }
+fn variable_value<'a, 'd>(variable: &'a Variable, state: &'a State<'d>) -> Option<Resolved<'a, 'd>>
+    ensures value { option_map resolved_view result ≡ value_of (variable_view variable.now) (environment_of state.now) }
     ensures among { IfSome result (IsAmong (loops_of state.now) state.now.scopes.items) }
 {
-    let mut found = state.seen(variable.name.as_str())?;
+    let mut found = state.resolve(variable.name.as_str())?;
     for index in &variable.indexes {
         let part = expression_value(index, state)?;
         found = found.stepped_by(part)?;
@@ -159,19 +163,19 @@ fn variable_value<'a, 'd>(variable: &'a Variable, state: &'a State<'d>) -> Optio
 }
 
 /// The value of what was found.
-fn valued<'a, 'd>(alloc: Global, found: Option<Seen<'a, 'd>>) -> Result<Option<ValueCow<'a>>>
-    ensures value { Gives (λ r. option_map cow_view r) result (option_map seen_view found.entry) }
+fn valued<'a, 'd>(alloc: Global, found: Option<Resolved<'a, 'd>>) -> Result<Option<ValueCow<'a>>>
+    ensures value { IsValueOrMemory (λ r. option_map cow_view r) result (option_map resolved_view found.entry) }
     ensures no_memory { IfSome found.entry IsHeld → IsOk result }
 {
     match found {
-        Some(seen) => Ok(Some(seen.into_value(alloc)?)),
+        Some(resolved) => Ok(Some(resolved.into_value(alloc)?)),
         None => Ok(None),
     }
 }
 
 #[cycle(copied)]
 fn copied(alloc: Global, expression: &Expression) -> Result<Expression>
-    ensures { Gives expression_view result (expression_view expression.now) }
+    ensures { IsValueOrMemory expression_view result (expression_view expression.now) }
 {
     match expression {
         Expression::Literal(value) => Ok(Expression::Literal(value.copy(alloc)?)),
@@ -183,7 +187,7 @@ fn copied(alloc: Global, expression: &Expression) -> Result<Expression>
 
 #[cycle(copied)]
 fn copied_variable(alloc: Global, variable: &Variable) -> Result<Variable>
-    ensures { Gives variable_view result (variable_view variable.now) }
+    ensures { IsValueOrMemory variable_view result (variable_view variable.now) }
 {
     let name = String::from_str(alloc, variable.name.as_str())?;
     let indexes = copied_indexes(alloc, &variable.indexes)?;
@@ -192,7 +196,7 @@ fn copied_variable(alloc: Global, variable: &Variable) -> Result<Variable>
 
 #[cycle(copied)]
 fn copied_indexes(alloc: Global, indexes: &Vec<Expression>) -> Result<Vec<Expression>>
-    ensures { Gives (λ v. map expression_view v.items) result (map expression_view indexes.now.items) }
+    ensures { IsValueOrMemory (λ v. map expression_view v.items) result (map expression_view indexes.now.items) }
 {
     let mut copies = Vec::with_capacity(alloc, indexes.len())?;
     for index in indexes {

@@ -4,7 +4,7 @@ ghost use Rattle.std.specs.Prelude.{◌≡◌, IsTrue, Err, MatchOption, Some, l
 ghost use Rattle.liquid_model.specs.Answer.{Answers};
 ghost use Rattle.liquid_model.specs.Data.{Datum};
 ghost use Rattle.liquid_model.specs.Texts.{Text};
-ghost use Rattle.liquid_model.specs.Told.{Told};
+ghost use Rattle.liquid_model.specs.ErrorKinds.{IsKindOrMemory};
 ghost use Rattle.liquid_model.specs.View.{view};
 ghost use Rattle.liquid_model.specs.declared.error.ErrorKind.{ErrorKind};
 ghost use Rattle.liquid_model.specs.declared.error.ErrorKind.TheVariants.{Unsupported};
@@ -128,7 +128,7 @@ impl<H: NamedFilters> NamedFilters for Option<&H> {
 
 /// The fault of a call where no filter of the name takes this many arguments. A chain puts the name before it.
 fn unsupported(alloc: Global) -> Error
-    ensures { Told Unsupported result.kind }
+    ensures { IsKindOrMemory Unsupported result.kind }
 {
     Error::new(
         alloc,

@@ -4,23 +4,23 @@
 mod append_written;
 mod expression;
 mod filter;
+mod frame;
 mod host_filters;
 mod interrupt;
 pub mod laws;
 mod loop_object;
-mod seen;
+mod resolved;
 mod state;
-mod turn;
 mod written;
 
 pub use expression::{Expression, Variable};
 pub use filter::Filter;
+pub use frame::{Columns, Items, LoopFrame, LoopKind, Scope};
 pub use host_filters::{HostFilters, NamedFilters};
 pub use interrupt::Interrupt;
 pub use liquid_model::{
     Error, ErrorKind, Found, Location, Object, Origin, Result, Value, ValueCow, copy_items,
     look_up, store, whole_of,
 };
-pub use seen::{Scopes, Seen};
+pub use resolved::{Resolved, Scopes};
 pub use state::{Data, Parts, State};
-pub use turn::{Columns, Items, LoopKind, Scope, Turn};

@@ -1,6 +1,6 @@
 //! The object of a loop as a value, for where a template asks for the whole of it.
 ghost use Rattle.std.specs.Prelude.{◌≡◌, ◌<◌, ◌≤◌, ◌+◌, ◌-◌, ◌%◌, ◌==◌, ◌||◌, codes};
-ghost use Rattle.liquid_model.specs.Answer.{Gives};
+ghost use Rattle.liquid_model.specs.Answer.{IsValueOrMemory};
 ghost use Rattle.liquid_model.specs.Data.{object, put, truth};
 ghost use Rattle.liquid_model.specs.View.{view, pairs_view};
 ghost use Rattle.liquid_core.specs.Loops.{count, forloop_object, is_last_column, tablerow_object};
@@ -18,7 +18,7 @@ pub(crate) fn forloop_object(
 ) -> Result<Object>
     requires item { at < total }
     requires within { total ≤ 9223372036854775807 }
-    ensures { Gives (λ o. object (pairs_view o.entries)) result (forloop_object at total (view parent)) }
+    ensures { IsValueOrMemory (λ o. object (pairs_view o.entries)) result (forloop_object at total (view parent)) }
 {
     let mut object: Object = BTreeMap::new(alloc);
     put_number(alloc, &mut object, "length", total)?;
@@ -39,7 +39,7 @@ pub(crate) fn tablerow_object(
     requires within { total ≤ 9223372036854775807 }
     requires some { 0 < columns }
     requires few { columns ≤ 9223372036854775807 }
-    ensures { Gives (λ o. object (pairs_view o.entries)) result (tablerow_object at total columns) }
+    ensures { IsValueOrMemory (λ o. object (pairs_view o.entries)) result (tablerow_object at total columns) }
 {
     let mut object: Object = BTreeMap::new(alloc);
     put_number(alloc, &mut object, "length", total)?;
@@ -53,7 +53,7 @@ pub(crate) fn tablerow_object(
 fn put_places(alloc: Global, object: &mut Object, at: usize, total: usize) -> Result<()>
     requires item { at < total }
     requires within { total ≤ 9223372036854775807 }
-    ensures { Gives (λ _. pairs_view object.new.entries) result
+    ensures { IsValueOrMemory (λ _. pairs_view object.new.entries) result
         (put (codes "rindex") (count (total - at)) (put (codes "rindex0") (count (total - at - 1))
         (put (codes "index") (count (at + 1)) (put (codes "index0") (count at) (pairs_view object.old.entries))))) }
 {
@@ -67,7 +67,7 @@ fn put_places(alloc: Global, object: &mut Object, at: usize, total: usize) -> Re
 /// Whether the item is the first, and the last.
 fn put_ends(alloc: Global, object: &mut Object, at: usize, total: usize) -> Result<()>
     requires { at < total }
-    ensures { Gives (λ _. pairs_view object.new.entries) result
+    ensures { IsValueOrMemory (λ _. pairs_view object.new.entries) result
         (put (codes "last") (truth (at + 1 == total)) (put (codes "first") (truth (at == 0)) (pairs_view object.old.entries))) }
 {
     put(alloc, object, "first", Value::Bool(at == 0))?;
@@ -84,7 +84,7 @@ fn put_columns(
 ) -> Result<()>
     requires inside { column < columns }
     requires few { columns ≤ 9223372036854775807 }
-    ensures { Gives (λ _. pairs_view object.new.entries) result
+    ensures { IsValueOrMemory (λ _. pairs_view object.new.entries) result
         (put (codes "col_last") (truth ((column + 1 == columns) || is_end)) (put (codes "col_first") (truth (column == 0))
         (put (codes "col") (count (column + 1)) (put (codes "col0") (count column) (pairs_view object.old.entries))))) }
 {
@@ -101,13 +101,13 @@ fn put_columns(
 
 fn put_number(alloc: Global, object: &mut Object, name: &str, number: usize) -> Result<()>
     requires { number ≤ 9223372036854775807 }
-    ensures { Gives (λ _. pairs_view object.new.entries) result (put name.now (count number) (pairs_view object.old.entries)) }
+    ensures { IsValueOrMemory (λ _. pairs_view object.new.entries) result (put name.now (count number) (pairs_view object.old.entries)) }
 {
     put(alloc, object, name, Value::Integer(number as i64))
 }
 
 fn put(alloc: Global, object: &mut Object, name: &str, value: Value) -> Result<()>
-    ensures { Gives (λ _. pairs_view object.new.entries) result (put name.now (view value) (pairs_view object.old.entries)) }
+    ensures { IsValueOrMemory (λ _. pairs_view object.new.entries) result (put name.now (view value) (pairs_view object.old.entries)) }
 {
     store(object, String::from_str(alloc, name)?, value)
 }

@@ -2,7 +2,7 @@
 use Rattle.std.proofs.Common.{◌≡◌, Bool, true, false, sym, ap, ◌∙◌}
 use Rattle.std.specs.Prelude.{MatchBool, ⊤, Result, Err}
 use Rattle.liquid_model.specs.Answer.{Faulted}
-use Rattle.liquid_model.specs.Told.{Told, is_memory, is_refusal}
+use Rattle.liquid_model.specs.ErrorKinds.{IsKindOrMemory, is_memory, is_refusal}
 use Rattle.liquid_model.specs.declared.error.ErrorKind.{ErrorKind}
 
 at : {Y : Type 0} (b : Bool) (wanted k : ErrorKind) (a : Result Y ErrorKind) → is_refusal wanted ≡ false → a ≡ Err wanted → MatchBool b ⊤ (wanted ≡ k)
@@ -10,5 +10,5 @@ at : {Y : Type 0} (b : Bool) (wanted k : ErrorKind) (a : Result Y ErrorKind) →
 at true wanted k a plain e h = tt
 at false wanted k a plain e h = (e ∙ ap Err h, sym (ap is_refusal h) ∙ plain)
 
-pub told_faulted : {Y : Type 0} (wanted k : ErrorKind) (a : Result Y ErrorKind) → is_refusal wanted ≡ false → a ≡ Err wanted → Told wanted k → Faulted k a
+pub told_faulted : {Y : Type 0} (wanted k : ErrorKind) (a : Result Y ErrorKind) → is_refusal wanted ≡ false → a ≡ Err wanted → IsKindOrMemory wanted k → Faulted k a
 told_faulted wanted k a plain e h = at (is_memory k) wanted k a plain e h

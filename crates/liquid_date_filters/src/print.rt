@@ -5,7 +5,7 @@ ghost use Rattle.jiff_core.specs.DateTime.{civil_nanos};
 ghost use Rattle.jiff_core.specs.Timestamp.{nanos_of_seconds};
 ghost use Rattle.jiff_strtime.specs.Text.{parts_of};
 ghost use Rattle.liquid_model.specs.Answer.{Answers};
-ghost use Rattle.liquid_model.specs.Told.{Told};
+ghost use Rattle.liquid_model.specs.ErrorKinds.{IsKindOrMemory};
 ghost use Rattle.liquid_model.specs.View.{view};
 ghost use Rattle.liquid_model.specs.declared.error.ErrorKind.TheVariants.{DateFormat};
 ghost use Rattle.liquid_date_filters.specs.Clock.{clock_of, parts, week, week_year, zone_name, zone_text};
@@ -140,7 +140,7 @@ fn short() -> Error
 }
 
 fn refused(alloc: Global) -> Error
-    ensures { Told DateFormat result.kind }
+    ensures { IsKindOrMemory DateFormat result.kind }
 {
     Error::new(
         alloc,

@@ -3,7 +3,7 @@ use Rattle.std.proofs.Common.{◌≡◌, true, false, Bool, List, [], refl, subs
 use Rattle.std.specs.Prelude.{MatchBool, ⊤, Result, Ok, Err}
 use Rattle.liquid_model.specs.Answer.{Answers, IsTheOne}
 use Rattle.liquid_model.specs.Data.{Datum}
-use Rattle.liquid_model.specs.Told.{is_memory, is_refusal}
+use Rattle.liquid_model.specs.ErrorKinds.{is_memory, is_refusal}
 use Rattle.liquid_model.specs.View.{view}
 use Rattle.liquid_model.specs.declared.error.Error.{Error}
 use Rattle.liquid_model.specs.declared.error.ErrorKind.{ErrorKind}

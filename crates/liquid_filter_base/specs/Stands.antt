@@ -1,7 +1,7 @@
 -- What a filter answers, told by the relation that its answer stands in.
 use Rattle.std.specs.Prelude.{MatchBool, ⊤, List, [], ◌∷◌, Result, Ok, Err}
 use Rattle.liquid_model.specs.Data.{Datum}
-use Rattle.liquid_model.specs.Told.{is_memory}
+use Rattle.liquid_model.specs.ErrorKinds.{is_memory}
 use Rattle.liquid_model.specs.View.{view}
 use Rattle.liquid_model.specs.declared.error.Error.{Error}
 use Rattle.liquid_model.specs.declared.value.Value.{Value}

@@ -2,7 +2,7 @@
 ghost use Rattle.std.specs.Prelude.{map, string_bytes};
 ghost use Rattle.std.specs.Cow.{cow_str_bytes};
 ghost use Rattle.std.specs.Char.{to_ascii_lowercase};
-ghost use Rattle.liquid_model.specs.Answer.{Answers, Gives, TakesNoMemory};
+ghost use Rattle.liquid_model.specs.Answer.{Answers, IsValueOrMemory, TakesNoMemory};
 ghost use Rattle.liquid_model.specs.Data.{text_of};
 ghost use Rattle.liquid_model.specs.View.{view};
 ghost use Rattle.liquid_filter_base.specs.Arguments.{whole_or_fault};
@@ -14,14 +14,14 @@ use std::borrow::CowStr;
 
 /// A text argument: the text of whatever value is given. `Memory` alone where it can't be made.
 pub fn text_argument(alloc: Global, value: &Value) -> Result<String>
-    ensures { Gives (λ s. string_bytes s) result (text_of (view value.now)) }
+    ensures { IsValueOrMemory (λ s. string_bytes s) result (text_of (view value.now)) }
 {
     value.text(alloc)
 }
 
 /// The text of a value, lent where the value is a text already.
 pub fn text_of<'a>(alloc: Global, value: &'a Value) -> Result<CowStr<'a>>
-    ensures { Gives cow_str_bytes result (text_of (view value.now)) }
+    ensures { IsValueOrMemory cow_str_bytes result (text_of (view value.now)) }
 {
     match value {
         Value::Text(text) => Ok(CowStr::Borrowed(text.as_str())),
@@ -42,7 +42,7 @@ pub fn whole_argument(alloc: Global, value: &Value) -> Result<i64>
 
 /// A text with `A` to `Z` as `a` to `z`; other characters stay. `Memory` alone where it can't be made.
 pub fn lower_case(alloc: Global, text: &str) -> Result<String>
-    ensures { Gives (λ s. string_bytes s) result (map to_ascii_lowercase text.now) }
+    ensures { IsValueOrMemory (λ s. string_bytes s) result (map to_ascii_lowercase text.now) }
 {
     Ok(text.to_ascii_lowercase(alloc)?)
 }

@@ -1,7 +1,7 @@
 -- The kinds of faults that a run has, and that the filters that exist answer no others.
 use Rattle.std.specs.Prelude.{◌≡◌, Bool, T, nat_le, List, Result, Err}
 use Rattle.liquid_model.specs.Data.{Datum}
-use Rattle.liquid_model.specs.Told.{number_of}
+use Rattle.liquid_model.specs.ErrorKinds.{number_of}
 use Rattle.liquid_model.specs.declared.error.ErrorKind.{ErrorKind}
 use Rattle.liquid_filters.specs.Kinds.{kind_answer}
 use Rattle.liquid_filters.specs.declared.kind.FilterKind.{FilterKind}

@@ -14,7 +14,7 @@ use Rattle.liquid_model.specs.declared.value.Value.{Value}
 use Rattle.liquid_model.proofs.Views.{Entry}
 use Rattle.liquid_core.specs.Held.{map_of}
 use Rattle.liquid_sites.specs.Steps.{with_fact}
-use Rattle.liquid_folders.specs.Facts.{texts, all_removed}
+use Rattle.liquid_folders.specs.inside.Facts.{texts, all_removed}
 
 -- ---- which names are gone, name after name
 

@@ -3,11 +3,11 @@ use Rattle.std.specs.Prelude.{◌≡◌, Bool, true, false, cond, List, [], ◌�
 use Rattle.std.proofs.lemmas.Slice.Eq.{bytes_eq-Decides}
 use Rattle.std.specs.Map.{keys_of}
 use mathlib.Core.Path.{refl, sym, ap, fun_ext, ◌∙◌}
-use Rattle.liquid_model.specs.Answer.{Gives}
+use Rattle.liquid_model.specs.Answer.{IsValueOrMemory}
 use Rattle.liquid_model.specs.Texts.{Text, ◌else◌}
 use Rattle.liquid_model.specs.Data.{Datum, Pairs, no_pairs, put}
 use Rattle.liquid_model.specs.Maps.{Map, insert, merged, retain_keys}
-use Rattle.liquid_model.specs.Told.{is_memory}
+use Rattle.liquid_model.specs.ErrorKinds.{is_memory}
 use Rattle.liquid_model.specs.View.{view, pairs_view}
 use Rattle.liquid_model.proofs.Views.{Entry}
 use Rattle.liquid_model.specs.declared.error.Error.{Error}
@@ -22,7 +22,7 @@ use Rattle.liquid_sites.specs.SiteViews.{contents_of}
 use Rattle.liquid_sites.specs.Steps.{stepped, with_fact}
 use Rattle.liquid_sites.specs.declared.change.Change.TheVariants.{SetValue, RemoveValue}
 use Rattle.liquid_sites.specs.declared.site.Site.{Site}
-use Rattle.liquid_folders.specs.Facts.{texts, all_removed}
+use Rattle.liquid_folders.specs.inside.Facts.{texts, all_removed}
 use Rattle.liquid_folders.proofs.Gone.{names_removed}
 
 -- ---- what an answer of a change of a value says
@@ -35,12 +35,12 @@ no_source : (kind : ErrorKind) (P : Type 0) (b : Bool) → is_memory kind ≡ b 
 no_source kind P true h why = memory_is kind h
 no_source kind P false h why = absurd why.0
 
-pub removal : (r : Result (Unit {0}) Error) (name : String _) (old new : Site) → Applies (RemoveValue name) r old new → Gives (λ u. contents_of new) r (record (contents_of old) { facts = with_fact (contents_of old).facts (string_bytes name) None })
+pub removal : (r : Result (Unit {0}) Error) (name : String _) (old new : Site) → Applies (RemoveValue name) r old new → IsValueOrMemory (λ u. contents_of new) r (record (contents_of old) { facts = with_fact (contents_of old).facts (string_bytes name) None })
 removal (Ok u) name old new done = done.contents ∙ ap (λ s. stepped s (contents_of old)) done.is_step
 removal (Err e) name old new done = no_source e.kind _ (is_memory e.kind) refl done.why
 
 pub setting : (r : Result (Unit {0}) Error) (name : String _) (value : Value) (old new : Site) → Applies (SetValue name value) r old new
-    → Gives (λ u. contents_of new) r (record (contents_of old) { facts = with_fact (contents_of old).facts (string_bytes name) (Some (view value)) })
+    → IsValueOrMemory (λ u. contents_of new) r (record (contents_of old) { facts = with_fact (contents_of old).facts (string_bytes name) (Some (view value)) })
 setting (Ok u) name value old new done = done.contents ∙ ap (λ s. stepped s (contents_of old)) done.is_step
 setting (Err e) name value old new done = no_source e.kind _ (is_memory e.kind) refl done.why
 

@@ -5,7 +5,7 @@ use Rattle.std.specs.declared.alloc.Global.{Global}
 use mathlib.Core.Path.{sym, ap, subst, ◌∙◌}
 use Rattle.liquid_model.specs.Answer.{Faulted}
 use Rattle.liquid_model.specs.Texts.{Text}
-use Rattle.liquid_model.specs.Told.{is_memory, is_refusal}
+use Rattle.liquid_model.specs.ErrorKinds.{is_memory, is_refusal}
 use Rattle.liquid_model.specs.declared.error.Error.{Error}
 use Rattle.liquid_model.specs.declared.error.ErrorKind.{ErrorKind}
 use Rattle.liquid_syntax.specs.Parsing.{IsOfSource}

@@ -1,6 +1,6 @@
-pub mod Facts
 pub mod Files
 pub mod Paths
 pub mod Start
 pub mod Taken
 pub mod Written
+pub mod inside

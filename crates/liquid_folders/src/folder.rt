@@ -1,5 +1,5 @@
 //! The files of a site.
-ghost use Rattle.liquid_model.specs.Answer.{Gives};
+ghost use Rattle.liquid_model.specs.Answer.{IsValueOrMemory};
 ghost use Rattle.std.specs.Prelude.{◌++◌, string_bytes};
 ghost use Rattle.liquid_folders.specs.Paths.{path_of};
 
@@ -32,7 +32,7 @@ pub struct Folder {
 
 /// The path of a file of the site.
 pub(crate) fn path_of(alloc: Global, folder: &Folder, changed: &Changed) -> Result<String>
-    ensures { Gives string_bytes result (path_of folder.now changed.now) }
+    ensures { IsValueOrMemory string_bytes result (path_of folder.now changed.now) }
 {
     match changed {
         Changed::Page(name) => joined(alloc, folder.pages.as_str(), name.as_str()),
@@ -43,7 +43,7 @@ pub(crate) fn path_of(alloc: Global, folder: &Folder, changed: &Changed) -> Resu
 
 /// Both texts as one.
 pub(crate) fn joined(alloc: Global, front: &str, name: &str) -> Result<String>
-    ensures { Gives string_bytes result (front.now ++ name.now) }
+    ensures { IsValueOrMemory string_bytes result (front.now ++ name.now) }
 {
     let mut path = String::from_str(alloc, front)?;
     path.push_str(name)?;

@@ -1,7 +1,7 @@
 //! What a site takes of a file that changed.
 ghost use Rattle.std.specs.Prelude.{◌≡◌, false, IfOk, OnOk, IfErr, IfSome};
-ghost use Rattle.liquid_model.specs.Answer.{Gives};
-ghost use Rattle.liquid_model.specs.Told.{is_memory};
+ghost use Rattle.liquid_model.specs.Answer.{IsValueOrMemory};
+ghost use Rattle.liquid_model.specs.ErrorKinds.{is_memory};
 ghost use Rattle.liquid_sites.specs.SiteViews.{contents_of, language_of};
 ghost use Rattle.liquid_sites.specs.Steps.{set_page, remove_page, set_partial, remove_partial};
 ghost use Rattle.liquid_folders.specs.Files.{found_view};
@@ -68,7 +68,7 @@ pub(crate) fn take<D: Disk>(
 
 /// What stands at a path, or `Memory`.
 fn found_at<D: Disk>(disk: &D, path: &str) -> Result<Found>
-    ensures found { IfSome (D.files disk.now) (λ f. Gives found_view result (f path.now)) }
+    ensures found { IfSome (D.files disk.now) (λ f. IsValueOrMemory found_view result (f path.now)) }
     ensures memory { IfErr result (λ e. e.kind ≡ ErrorKind.Memory) }
 {
     match disk.read(path) {

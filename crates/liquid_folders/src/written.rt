@@ -1,6 +1,6 @@
 //! The files of pages.
 ghost use Rattle.std.specs.Prelude.{◌≡◌, ◌++◌, not, Some, IfSome, IfOk, IfErr, OnOk};
-ghost use Rattle.liquid_model.specs.Answer.{Gives};
+ghost use Rattle.liquid_model.specs.Answer.{IsValueOrMemory};
 ghost use Rattle.liquid_sites.specs.Parts.{pages_in};
 ghost use Rattle.liquid_folders.specs.Files.{ChangesAt, is_held, holds, with_file};
 ghost use Rattle.liquid_folders.specs.Written.{IsStop, all_written, count_from, KeepsOthers};
@@ -60,7 +60,7 @@ fn write_page<D: Disk>(
 
 /// Whether the file at a path holds this text.
 fn holds<D: Disk>(disk: &D, path: &str, text: &str) -> Result<bool>
-    ensures held { IfSome (D.files disk.now) (λ f. Gives (λ b. b) result (is_held (f path.now) text.now)) }
+    ensures held { IfSome (D.files disk.now) (λ f. IsValueOrMemory (λ b. b) result (is_held (f path.now) text.now)) }
     ensures memory { IfErr result (λ e. e.kind ≡ ErrorKind.Memory) }
 {
     match disk.read(path) {

@@ -15,7 +15,7 @@ use Rattle.liquid_filter_base.specs.Arguments.{Answer, first_of, text_or}
 use Rattle.liquid_filter_base.proofs.Ones.{one, image_one, same_one, either_one}
 use Rattle.liquid_list_filters.specs.Laws.{Lists}
 use Rattle.liquid_list_filters.specs.Sequences.{list, sequence, all_maps, is_map}
-use Rattle.liquid_list_filters.specs.Sorting.{Key, place, sort_by, sorted}
+use Rattle.liquid_list_filters.specs.Sorting.{Key, insert_in_order, sort_by, sorted}
 use Rattle.liquid_list_filters.proofs.Keys.{keys_order}
 use Rattle.liquid_list_filters.proofs.Ones.{followed_one}
 use Rattle.liquid_list_filters.proofs.Sorts.{sorted_twice, all_sorted}
@@ -156,11 +156,11 @@ items_sort ds (name ∷ args) =
 pub sort_is_one : SortIsOne
 sort_is_one d args = either_one (length (sequence d) == 0) _ _ _ _ (refused (Err InvalidInput)) (items_sort (sequence d) args)
 
-placed_length : (lt : Datum → Datum → Bool) (x : Datum) (ys : List Datum) → length (place lt x ys) ≡ suc (length ys)
+placed_length : (lt : Datum → Datum → Bool) (x : Datum) (ys : List Datum) → length (insert_in_order lt x ys) ≡ suc (length ys)
 placed_length lt x [] = refl
 placed_length lt x (y ∷ ys) = either (lt y x) (placed_length lt x ys)
   where
-    either : (t : Bool) → length (place lt x ys) ≡ suc (length ys) → length (if t then y ∷ place lt x ys else x ∷ y ∷ ys) ≡ suc (suc (length ys))
+    either : (t : Bool) → length (insert_in_order lt x ys) ≡ suc (length ys) → length (if t then y ∷ insert_in_order lt x ys else x ∷ y ∷ ys) ≡ suc (suc (length ys))
     either true e = ap suc e
     either false e = refl
 

@@ -1,9 +1,9 @@
 pub mod Ends
 pub mod Laws
 pub mod Path
-pub mod PathView
 pub mod Pluralize
 pub mod Runs
 pub mod Sentence
 pub mod Slugs
 pub mod Sorting
+pub mod inside

@@ -8,7 +8,7 @@ use Rattle.liquid_model.specs.View.{pairs_view}
 use Rattle.liquid_model.specs.Lists.{object_of, put_each}
 use Rattle.liquid_model.specs.Maps.{Map, empty, insert}
 use Rattle.liquid_model.specs.Answer.{Answers, Faulted}
-use Rattle.liquid_model.specs.Told.{is_memory, is_refusal}
+use Rattle.liquid_model.specs.ErrorKinds.{is_memory, is_refusal}
 use Rattle.liquid_model.specs.declared.error.Error.{Error}
 use Rattle.liquid_model.specs.Fallible.{◌>>=◌}
 use Rattle.liquid_model.specs.declared.error.ErrorKind.{ErrorKind}
@@ -20,7 +20,7 @@ use Rattle.liquid_core.specs.Held.{held, map_of}
 use Rattle.liquid_core.proofs.States.{map_of_put}
 use Rattle.liquid_tree.specs.Evaluation.{bound_values}
 use Rattle.liquid_meaning.specs.Meaning.{include_scope, pairs_scope}
-use Rattle.liquid_lib.specs.Partials.{bound_include, bound_object}
+use Rattle.liquid_lib.specs.inside.Partials.{bound_include, bound_object}
 use Rattle.liquid_tree.proofs.Calls.{faulted_as, faulted_then}
 
 abbrev Pair : Type 0

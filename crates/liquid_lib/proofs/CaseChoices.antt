@@ -7,7 +7,7 @@ use Rattle.liquid_model.specs.Data.{Datum}
 use Rattle.liquid_model.specs.Fallible as fallible
 use Rattle.liquid_model.specs.Order.{same}
 use Rattle.liquid_model.specs.Texts.{Text}
-use Rattle.liquid_model.specs.Told.{is_memory, is_refusal}
+use Rattle.liquid_model.specs.ErrorKinds.{is_memory, is_refusal}
 use Rattle.liquid_model.specs.declared.error.Error.{Error}
 use Rattle.liquid_model.specs.declared.error.ErrorKind.{ErrorKind}
 use Rattle.liquid_core.specs.Environment.{Environment, Names}
@@ -21,7 +21,7 @@ use Rattle.liquid_syntax.specs.Forest.{Forest}
 use Rattle.liquid_syntax.specs.declared.node.Arm.{Arm}
 use Rattle.liquid_syntax.specs.declared.node.Node.{Node}
 use Rattle.liquid_syntax.proofs.Places.{Stands-le}
-use Rattle.liquid_lib.specs.Choices.{Meant, Chosen, Refused, ComesTo, CaseLeft, CaseStands, equal_among}
+use Rattle.liquid_lib.specs.inside.Choices.{Meant, Chosen, Refused, ComesTo, CaseLeft, CaseStands, equal_among}
 use Rattle.liquid_lib.proofs.Choices.{node_meant}
 use Rattle.liquid_meaning.specs.Meaning.{Setting, has_equal, nodes_meaning, whens_meaning}
 use Rattle.liquid_meaning.specs.Runs.{Nothing, Outcome, Run, done, evaluate, go_on, ◌>>=◌}

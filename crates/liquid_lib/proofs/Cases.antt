@@ -12,8 +12,8 @@ use Rattle.liquid_syntax.specs.Laid.{Stands, StandBodies, last_end}
 use Rattle.liquid_syntax.specs.declared.node.Arm.{Arm}
 use Rattle.liquid_syntax.specs.declared.node.Node.{Node}
 use Rattle.liquid_syntax.proofs.Places.{one_body}
-use Rattle.liquid_lib.specs.Choices.{CaseStands, IsCase}
-use Rattle.liquid_lib.specs.Engine.{node_meant}
+use Rattle.liquid_lib.specs.inside.Choices.{CaseStands, IsCase}
+use Rattle.liquid_lib.specs.inside.Engine.{node_meant}
 use Rattle.liquid_lib.specs.Kept.{Keeps, IsRender}
 use Rattle.liquid_lib.specs.Performs.{Place, Performs}
 use Rattle.liquid_meaning.specs.Meaning.{Setting}

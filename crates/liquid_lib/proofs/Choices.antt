@@ -6,7 +6,7 @@ use Rattle.liquid_model.specs.Texts.{Text}
 use Rattle.liquid_model.specs.declared.error.Error.{Error}
 use Rattle.liquid_model.specs.declared.error.ErrorKind.{ErrorKind}
 use Rattle.liquid_model.specs.Answer.{Answers}
-use Rattle.liquid_model.specs.Told.{is_memory, is_refusal}
+use Rattle.liquid_model.specs.ErrorKinds.{is_memory, is_refusal}
 use Rattle.liquid_core.specs.Environment.{Environment, Names}
 use Rattle.liquid_tree.specs.ConditionView.{condition_view}
 use Rattle.liquid_tree.specs.Evaluation.{truth_of}
@@ -19,8 +19,8 @@ use Rattle.liquid_syntax.specs.declared.node.Node.{Node}
 use Rattle.liquid_syntax.specs.declared.node.Node.TheVariants.{If}
 use Rattle.liquid_syntax.specs.declared.node.TwoBodies.{TwoBodies}
 use Rattle.liquid_syntax.proofs.Places.{Stands-le, first-within, nothing_left}
-use Rattle.liquid_lib.specs.Choices.{Meant, Chosen, Refused, ComesTo}
-use Rattle.liquid_lib.specs.Engine.{nodes_meant}
+use Rattle.liquid_lib.specs.inside.Choices.{Meant, Chosen, Refused, ComesTo}
+use Rattle.liquid_lib.specs.inside.Engine.{nodes_meant}
 use Rattle.liquid_meaning.specs.Meaning.{Setting, node_meaning, nodes_meaning, deeper_meaning}
 use Rattle.liquid_lib.specs.Performs.{Place, MeetsAt, Performs, unit}
 use Rattle.liquid_meaning.specs.Runs.{Nothing, Run, evaluate}

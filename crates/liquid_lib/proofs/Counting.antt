@@ -7,12 +7,12 @@ use Rattle.liquid_model.specs.Data.{number}
 use Rattle.liquid_model.specs.Texts.{Text}
 use Rattle.liquid_model.specs.View.{view}
 use Rattle.liquid_model.specs.declared.value.Value.{Integer, the_lemmas}
-use Rattle.liquid_model.specs.Told.{is_memory, is_refusal}
+use Rattle.liquid_model.specs.ErrorKinds.{is_memory, is_refusal}
 use Rattle.liquid_model.specs.Whole.{fits}
 use Rattle.liquid_model.specs.declared.error.Error.{Error}
 use Rattle.liquid_model.specs.declared.error.ErrorKind.{ErrorKind}
 use Rattle.liquid_model.specs.declared.error.ErrorKind.TheVariants.{NumberRange}
-use Rattle.liquid_lib.specs.Counters.{in_i64, shown_and_stored}
+use Rattle.liquid_lib.specs.inside.Counters.{in_i64, shown_and_stored}
 use Rattle.liquid_lib.specs.Performs.{Place, Performs, unit}
 use Rattle.liquid_lib.proofs.Joined.{bind_met, bind_faulted, done_met, memory_of, no_value_met, read_met}
 use Rattle.liquid_lib.proofs.Sinks.{AddsPart-none}

@@ -8,7 +8,7 @@ use Rattle.std.specs.Option.{option_map, unwrap_or}
 use Rattle.std.specs.Ordering.{nat_cmp}
 use Rattle.std.proofs.lemmas.Option.{slice_get-map, slice_get_past, slice_get_read}
 use Rattle.liquid_model.specs.Texts.{Text}
-use Rattle.liquid_model.specs.Told.{Told}
+use Rattle.liquid_model.specs.ErrorKinds.{IsKindOrMemory}
 use Rattle.liquid_model.specs.declared.error.Error.{Error}
 use Rattle.liquid_model.specs.declared.error.ErrorKind.TheVariants.{CycleBounds}
 use Rattle.liquid_core.specs.Environment.{Environment}
@@ -25,7 +25,7 @@ use Rattle.liquid_meaning.specs.Meaning.{cycle_meaning, write_item}
 use Rattle.liquid_meaning.specs.Runs.{Nothing, Run, change, ◌>>=◌}
 
 -- no values
-pub cycle_without : (group : Text) (values : List Expression) (e : Error) (p : Place) → length values ≡ 0 → Told CycleBounds e.kind → Performs (Err e) (cycle_meaning group values) p p
+pub cycle_without : (group : Text) (values : List Expression) (e : Error) (p : Place) → length values ≡ 0 → IsKindOrMemory CycleBounds e.kind → Performs (Err e) (cycle_meaning group values) p p
 cycle_without group [] e p none told = fault_met CycleBounds e p refl told
 cycle_without group (x ∷ xs) e p none told = absurd (omega (arith, none))
 
@@ -46,7 +46,7 @@ cycle_met group (x ∷ xs) r i s t e g h some is moved done =
     (bind_met unit unit tt r (change step) (λ a. write_item (slice_get (x ∷ xs) i0)) p q u (change_met (Ok tt) step s e g (sym moved)) (subst (λ j. Performs r (write_item (slice_get (x ∷ xs) j)) q u) is done))
 
 -- no value stands there
-pub none_there : (item : Option Expression) (e : Error) (p : Place) → item ≡ None → Told CycleBounds e.kind → Performs (Err e) (write_item item) p p
+pub none_there : (item : Option Expression) (e : Error) (p : Place) → item ≡ None → IsKindOrMemory CycleBounds e.kind → Performs (Err e) (write_item item) p p
 none_there (Some x) e p is told = absurd cc
 none_there None e p is told = fault_met CycleBounds e p refl told
 

@@ -20,7 +20,7 @@ use Rattle.liquid_meaning.specs.Within.{Within}
 use Rattle.liquid_core.specs.States.{layers_of}
 use Rattle.liquid_lib.specs.Kept.{Keeps, IsRender, AreRenders}
 use Rattle.liquid_lib.specs.Performs.{Place, Performs}
-use Rattle.liquid_lib.specs.Engine.{node_meant, nodes_meant}
+use Rattle.liquid_lib.specs.inside.Engine.{node_meant, nodes_meant}
 use Rattle.liquid_meaning.specs.Meaning.{Setting, deeper_meaning}
 use Rattle.liquid_meaning.proofs.Within.{left, right}
 use Rattle.liquid_lib.proofs.Joined.{list_on, list_halt, list_fault, list_end}

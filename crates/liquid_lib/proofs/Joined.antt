@@ -8,8 +8,8 @@ use Rattle.liquid_model.specs.declared.error.Error.{Error}
 use Rattle.liquid_model.specs.declared.error.ErrorKind.{ErrorKind}
 use Rattle.liquid_model.specs.declared.error.ErrorKind.TheVariants.{Memory}
 use Rattle.liquid_core.specs.declared.interrupt.Interrupt.{Interrupt}
-use Rattle.liquid_model.specs.Told.{Told, is_memory, is_refusal}
-use Rattle.liquid_model.specs.Answer.{Answers, Gives}
+use Rattle.liquid_model.specs.ErrorKinds.{IsKindOrMemory, is_memory, is_refusal}
+use Rattle.liquid_model.specs.Answer.{Answers, IsValueOrMemory}
 use Rattle.liquid_core.specs.Environment.{Environment}
 use Rattle.liquid_core.specs.States.{Layers, merged_layers}
 use Rattle.liquid_tree.specs.Tree.{Node, Nodes, no_nodes, node}
@@ -94,7 +94,7 @@ no_value_met view e f p h = on (is_memory e.kind) refl h
     on false is h = inl (record { end = sym h.0; within = h.1; adds = Adds-nil p.sink; none_failed = refl; same = refl })
 
 -- a fault of this kind
-pub told_as : {X Y : Type 0} (view : X → Y) (wanted : ErrorKind) (e : Error) → is_refusal wanted ≡ false → Told wanted e.kind → Answers view (Err e) (Err wanted)
+pub told_as : {X Y : Type 0} (view : X → Y) (wanted : ErrorKind) (e : Error) → is_refusal wanted ≡ false → IsKindOrMemory wanted e.kind → Answers view (Err e) (Err wanted)
 told_as {Y = Y} view wanted e within h = on (is_memory e.kind) h
   where
     err : ErrorKind → Result Y ErrorKind
@@ -104,7 +104,7 @@ told_as {Y = Y} view wanted e within h = on (is_memory e.kind) h
     on true k = tt
     on false k = ((ap (λ x. Err x) k), (sym (ap is_refusal k) ∙ within))
 
-pub fault_met : (wanted : ErrorKind) (e : Error) (p : Place) → is_refusal wanted ≡ false → Told wanted e.kind → Performs (Err e) (fault wanted) p p
+pub fault_met : (wanted : ErrorKind) (e : Error) (p : Place) → is_refusal wanted ≡ false → IsKindOrMemory wanted e.kind → Performs (Err e) (fault wanted) p p
 unfolding fault evaluate
 fault_met wanted e p within h = no_value_met {V = Unit {0}} unit e (λ g. Err wanted) p (told_as {X = Unit {0}} unit wanted e within h)
 
@@ -128,12 +128,12 @@ pub write_met : (r : Result (Unit {0}) Error) (t : Text) (s u : Sink) (e : Envir
 unfolding write
 write_met r t s u e h = h e
 
-pub change_met : (r : Result (Unit {0}) Error) (f : Environment → Environment) (s : Sink) (e g : Environment) → Gives (λ _. g) r (f e) → Performs r (change f) (record { sink = s; environment = e }) (record { sink = s; environment = g })
+pub change_met : (r : Result (Unit {0}) Error) (f : Environment → Environment) (s : Sink) (e g : Environment) → IsValueOrMemory (λ _. g) r (f e) → Performs r (change f) (record { sink = s; environment = e }) (record { sink = s; environment = g })
 unfolding change
 change_met (Ok value) f s e g h = inl (record { end = refl; within = refl; adds = Adds-nil s; none_failed = refl; same = h })
 change_met (Err x) f s e g h = inr (record { cause = inl (h, inl refl); adds = AddsPart-none s [] })
 
-pub gives_merged : (r : Result (Unit {0}) Error) (l m : Layers) → Gives (λ _. l) r m → Gives (λ _. merged_layers l) r (merged_layers m)
+pub gives_merged : (r : Result (Unit {0}) Error) (l m : Layers) → IsValueOrMemory (λ _. l) r m → IsValueOrMemory (λ _. merged_layers l) r (merged_layers m)
 gives_merged (Ok value) l m h = ap merged_layers h
 gives_merged (Err x) l m h = h
 

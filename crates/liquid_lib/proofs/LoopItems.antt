@@ -11,15 +11,15 @@ use Rattle.liquid_model.specs.declared.error.ErrorKind.{ErrorKind}
 use Rattle.liquid_core.specs.Environment.{Environment, lookup}
 use Rattle.liquid_core.specs.Expression.{Expression}
 use Rattle.liquid_core.specs.Places.{place_of}
-use Rattle.liquid_core.specs.Turns.{item_of, parent_of}
-use Rattle.liquid_core.specs.declared.turn.Items.{Items}
+use Rattle.liquid_core.specs.LoopFrames.{item_of, parent_of}
+use Rattle.liquid_core.specs.declared.frame.Items.{Items}
 use Rattle.liquid_tree.specs.Evaluation.{amount, asked_for, skipped, source_items, wanted, window_items}
 use Rattle.liquid_tree.specs.ItemLists.{all_items}
 use Rattle.liquid_tree.specs.Tree.{Source, Window}
 use Rattle.liquid_tree.proofs.Calls.{faulted_as, faulted_then}
 use Rattle.liquid_tree.proofs.ItemPlaces.{item_by_place}
 use Rattle.liquid_tree.proofs.Windows.{window_by_place}
-use Rattle.liquid_lib.specs.LoopTurns.{cells_asked, each_from, in_columns, items_asked, placed, some_columns}
+use Rattle.liquid_lib.specs.inside.LoopTurns.{cells_asked, each_from, in_columns, items_asked, placed, some_columns}
 use Rattle.liquid_meaning.specs.Effects.{value_or_nil}
 use Rattle.liquid_meaning.specs.Loops.{columns_of}
 

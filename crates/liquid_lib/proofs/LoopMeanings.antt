@@ -12,9 +12,9 @@ use Rattle.liquid_model.specs.declared.error.ErrorKind.TheVariants.{ZeroColumns}
 use Rattle.liquid_core.specs.Environment.{Environment}
 use Rattle.liquid_core.specs.Expression.{Expression}
 use Rattle.liquid_core.specs.Loops.{loop_scope, forloop_object, tablerow_object}
-use Rattle.liquid_core.specs.Turns.{turn_item_at, turn_map_at}
+use Rattle.liquid_core.specs.LoopFrames.{frame_item_at, frame_map_at}
 use Rattle.liquid_core.specs.declared.interrupt.Interrupt.{Interrupt}
-use Rattle.liquid_core.specs.declared.turn.Turn.{Turn}
+use Rattle.liquid_core.specs.declared.frame.LoopFrame.{LoopFrame}
 use Rattle.liquid_tree.specs.Evaluation.{amount, asked_for, source_items}
 use Rattle.liquid_tree.specs.Tree as tree
 use Rattle.liquid_meaning.specs.Effects.{is_break, take_interrupt, value_or_nil}
@@ -22,8 +22,8 @@ use Rattle.liquid_meaning.specs.Loops.{cell_end, cell_start, columns_of, for_all
 use Rattle.liquid_meaning.specs.Meaning.{Setting, node_meaning, nodes_meaning}
 use Rattle.liquid_meaning.specs.Runs.{Nothing, Run, done, evaluate, fault, read, write, go_on, ◌>>=◌, with_scope}
 use Rattle.liquid_meaning.proofs.Rules.{all_more, all_none, for_rule, joined, tablerow_rule, until_more, until_none}
-use Rattle.liquid_lib.specs.LoopRuns.{cells_meant, one_cell, one_turn, turns_meant}
-use Rattle.liquid_lib.specs.LoopTurns.{IsFor, IsRow, cells_asked, each_from, in_columns, items_asked, turn_items}
+use Rattle.liquid_lib.specs.inside.LoopRuns.{cells_meant, one_cell, one_turn, turns_meant}
+use Rattle.liquid_lib.specs.inside.LoopTurns.{IsFor, IsRow, cells_asked, each_from, in_columns, items_asked, turn_items}
 use Rattle.liquid_lib.specs.Performs.{Place, Performs, unit}
 use Rattle.liquid_lib.proofs.Joined.{by_rule, done_met, given_met, read_met, refused_met}
 use Rattle.liquid_lib.proofs.LoopItems.{each_count}
@@ -51,12 +51,12 @@ some_items item zero x y lt = absurd (omega arith)
 some_items item (suc m) x y lt = refl
 
 -- a loop is the turns of the turn that binds what it binds
-turns_are : (t : Turn) (name : Text) (parent : Datum) (local : Map Datum) (body : Run Nothing)
-    → ((k : ℕ) → turn_map_at t k local ≡ loop_scope (codes "forloop") (forloop_object k t.count parent) name (turn_item_at t k)) → loop name parent (turn_items t) body ≡ turns_meant t local body
+turns_are : (t : LoopFrame) (name : Text) (parent : Datum) (local : Map Datum) (body : Run Nothing)
+    → ((k : ℕ) → frame_map_at t k local ≡ loop_scope (codes "forloop") (forloop_object k t.count parent) name (frame_item_at t k)) → loop name parent (turn_items t) body ≡ turns_meant t local body
 unfolding loop
 turns_are t name parent local body names =
-    until_by (λ k d. with_scope (loop_scope (codes "forloop") (forloop_object k (length (turn_items t)) parent) name d) body >>= (λ a. take_interrupt)) (one_turn t local body) (turn_item_at t) 0 t.count
-    (λ k. ap (λ n. with_scope (loop_scope (codes "forloop") (forloop_object k n parent) name (turn_item_at t k)) body >>= (λ a. take_interrupt)) (each_count (turn_item_at t) 0 t.count)
+    until_by (λ k d. with_scope (loop_scope (codes "forloop") (forloop_object k (length (turn_items t)) parent) name d) body >>= (λ a. take_interrupt)) (one_turn t local body) (frame_item_at t) 0 t.count
+    (λ k. ap (λ n. with_scope (loop_scope (codes "forloop") (forloop_object k n parent) name (frame_item_at t k)) body >>= (λ a. take_interrupt)) (each_count (frame_item_at t) 0 t.count)
     ∙ ap (λ scope. with_scope scope body >>= (λ a. take_interrupt)) (sym (names k)))
 
 module _ (setting : Setting) (deeper : tree.Nodes → Run Nothing) (name : Text) (source : tree.Source) (window : tree.Window) (body otherwise : tree.Nodes) where
@@ -76,12 +76,12 @@ module _ (setting : Setting) (deeper : tree.Nodes → Run Nothing) (name : Text)
       by_rule for_asks (given_met {V = List Datum} (λ x. x) unit [] r (items_asked source window) for_items p q is
       (read_met unit r (value_or_nil (codes "forloop")) (λ parent. if_empty [] (nodes_meaning setting deeper otherwise) (loop name parent [] (nodes_meaning setting deeper body))) p q h))
 
-  pub for_some : (t : Turn) (r : Result (Unit {0}) Error) (p q : Place) → 0 < t.count → items_asked source window p.environment ≡ Ok (turn_items t) → IsFor name p.environment t
+  pub for_some : (t : LoopFrame) (r : Result (Unit {0}) Error) (p q : Place) → 0 < t.count → items_asked source window p.environment ≡ Ok (turn_items t) → IsFor name p.environment t
       → Performs r (turns_meant t p.environment.local (nodes_meaning setting deeper body)) p q → Performs r (node_meaning setting deeper (tree.for_each name source window body otherwise)) p q
   for_some t r p q some is binds h =
       let parent = value_or_nil (codes "forloop") p.environment in
       let turns : if_empty (turn_items t) (nodes_meaning setting deeper otherwise) (loop name parent (turn_items t) (nodes_meaning setting deeper body)) ≡ turns_meant t p.environment.local (nodes_meaning setting deeper body) =
-      some_items (turn_item_at t) t.count (nodes_meaning setting deeper otherwise) (loop name parent (turn_items t) (nodes_meaning setting deeper body)) some
+      some_items (frame_item_at t) t.count (nodes_meaning setting deeper otherwise) (loop name parent (turn_items t) (nodes_meaning setting deeper body)) some
       ∙ turns_are t name parent p.environment.local (nodes_meaning setting deeper body) binds.names in
       by_rule for_asks (given_met {V = List Datum} (λ x. x) unit (turn_items t) r (items_asked source window) for_items p q is
       (read_met unit r (value_or_nil (codes "forloop")) (λ parent. if_empty (turn_items t) (nodes_meaning setting deeper otherwise) (loop name parent (turn_items t) (nodes_meaning setting deeper body))) p q (by_rule turns h)))
@@ -103,11 +103,11 @@ rows_known name columns (d ∷ ds) body = on (columns == 0)
     on true = refl
     on false = refl
 
-cells_are : (t : Turn) (name : Text) (columns : ℕ) (local : Map Datum) (body : Run Nothing) → IsRow name columns t → cells name body (Some (turn_items t, columns)) ≡ cells_meant t columns local body
+cells_are : (t : LoopFrame) (name : Text) (columns : ℕ) (local : Map Datum) (body : Run Nothing) → IsRow name columns t → cells name body (Some (turn_items t, columns)) ≡ cells_meant t columns local body
 cells_are t name columns local body binds =
     let one : ℕ → ℕ → Map Datum → Run Nothing = λ k n scope. write (cell_start k columns) >>= (λ a. with_scope scope body >>= (λ b. write (cell_end k n columns))) in
-    all_by (λ k d. one k (length (turn_items t)) (loop_scope (codes "tablerow") (tablerow_object k (length (turn_items t)) columns) name d)) (one_cell t columns local body) (turn_item_at t) 0 t.count
-    (λ k. ap (λ n. one k n (loop_scope (codes "tablerow") (tablerow_object k n columns) name (turn_item_at t k))) (each_count (turn_item_at t) 0 t.count)
+    all_by (λ k d. one k (length (turn_items t)) (loop_scope (codes "tablerow") (tablerow_object k (length (turn_items t)) columns) name d)) (one_cell t columns local body) (frame_item_at t) 0 t.count
+    (λ k. ap (λ n. one k n (loop_scope (codes "tablerow") (tablerow_object k n columns) name (frame_item_at t k))) (each_count (frame_item_at t) 0 t.count)
     ∙ ap (one k t.count) (sym (binds.names k local)))
 
 module _ (setting : Setting) (deeper : tree.Nodes → Run Nothing) (name : Text) (source : tree.Source) (window : tree.Window) (columns : Option Expression) (body : tree.Nodes) where
@@ -128,7 +128,7 @@ module _ (setting : Setting) (deeper : tree.Nodes → Run Nothing) (name : Text)
   row_none value p is =
       by_rule row_asks (given_met {V = Option (List Datum × ℕ)} (λ x. x) unit None (Ok value) (cells_asked source window columns) (cells name (nodes_meaning setting deeper body)) p p is (done_met value p))
 
-  pub row_some : (t : Turn) (many : ℕ) (r : Result (Unit {0}) Error) (p q : Place) → cells_asked source window columns p.environment ≡ Ok (Some (turn_items t, many)) → IsRow name many t
+  pub row_some : (t : LoopFrame) (many : ℕ) (r : Result (Unit {0}) Error) (p q : Place) → cells_asked source window columns p.environment ≡ Ok (Some (turn_items t, many)) → IsRow name many t
       → Performs r (cells_meant t many p.environment.local (nodes_meaning setting deeper body)) p q → Performs r (node_meaning setting deeper (tree.tablerow name source window columns body)) p q
   row_some t many r p q is binds h =
       by_rule row_asks (given_met {V = Option (List Datum × ℕ)} (λ x. x) unit (Some (turn_items t, many)) r (cells_asked source window columns) (cells name (nodes_meaning setting deeper body)) p q is

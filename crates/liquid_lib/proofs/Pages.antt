@@ -2,8 +2,8 @@
 use Rattle.std.proofs.lemmas.Bool.{true≢false}
 use Rattle.std.proofs.Common.{◌≡◌, ℕ, false, Result, Ok, Err, ◌⊎◌, inl, inr, refl, sym, ap, ◌∙◌, String, Global, string_bytes}
 use Rattle.std.specs.Prelude.{IfErr, IfOk}
-use Rattle.liquid_model.specs.Answer.{Gives}
-use Rattle.liquid_model.specs.Told.{is_memory}
+use Rattle.liquid_model.specs.Answer.{IsValueOrMemory}
+use Rattle.liquid_model.specs.ErrorKinds.{is_memory}
 use Rattle.liquid_model.specs.Texts.{Text}
 use Rattle.liquid_model.specs.declared.error.Error.{Error}
 use Rattle.liquid_model.specs.declared.error.ErrorKind.TheVariants.{Memory, Write}
@@ -29,6 +29,6 @@ module _ (text : Text) (m : Run Nothing) (s p q u : Sink) (e g : Environment) (a
   -- the page of what a run wrote is the run's, unless memory ran out
   pub page_met : (result : Result Page Error) (answer : Result (Unit {0}) Error) → Performs answer m (record { sink = p; environment = e }) (record { sink = q; environment = g })
       → IfOk result (λ page. page_view page ≡ ended_page text answer) → IfOk result (λ page. IfErr answer (λ x. is_memory x.kind ≡ false)) → IfErr result (λ x. x.kind ≡ Memory)
-      → Gives page_view result (shown (m e))
+      → IsValueOrMemory page_view result (shown (m e))
   page_met (Ok page) answer performs is ran memory = is ∙ whole answer performs ran
   page_met (Err x) answer performs is ran memory = memory

@@ -6,7 +6,7 @@ use Rattle.liquid_model.specs.Answer.{Faulted}
 use Rattle.liquid_model.specs.Data.{Datum}
 use Rattle.liquid_model.specs.Maps.{Map}
 use Rattle.liquid_model.specs.Texts.{Text}
-use Rattle.liquid_model.specs.Told.{Told}
+use Rattle.liquid_model.specs.ErrorKinds.{IsKindOrMemory}
 use Rattle.liquid_model.specs.declared.error.Error.{Error}
 use Rattle.liquid_model.specs.declared.error.ErrorKind.{ErrorKind}
 use Rattle.liquid_model.specs.declared.error.ErrorKind.TheVariants.{TooDeep}
@@ -25,9 +25,9 @@ use Rattle.liquid_meaning.specs.Runs as runs
 use Rattle.liquid_meaning.specs.Runs.{Nothing, Run, apart, done, evaluate, fault, with_scope}
 use Rattle.liquid_meaning.specs.Within.{Within}
 use Rattle.liquid_meaning.proofs.Rules.{include_rule, jekyll_rule, render_rule}
-use Rattle.liquid_lib.specs.Engine.{nodes_meant}
+use Rattle.liquid_lib.specs.inside.Engine.{nodes_meant}
 use Rattle.liquid_lib.specs.Kept.{LayersKept}
-use Rattle.liquid_lib.specs.Partials.{bound_as, partial_of, rendered_of}
+use Rattle.liquid_lib.specs.inside.Partials.{bound_as, partial_of, rendered_of}
 use Rattle.liquid_lib.specs.Performs.{Place, Meets, Performs, unit}
 use Rattle.liquid_lib.specs.Sinks.{Sink}
 use Rattle.liquid_lib.proofs.Apart.{apart_faulted}
@@ -56,18 +56,18 @@ deeper_is setting (suc d) nodes some =
     let e : suc d - 1 ≡ d = omega arith in
     ap (λ k. nodes_meant setting k nodes) (sym e)
 
-no_depth : (setting : Setting) (nodes : tree.Nodes) (e : Error) (p : Place) → Told TooDeep e.kind → Performs (Err e) (deeper_meaning setting zero nodes) p p
+no_depth : (setting : Setting) (nodes : tree.Nodes) (e : Error) (p : Place) → IsKindOrMemory TooDeep e.kind → Performs (Err e) (deeper_meaning setting zero nodes) p p
 unfolding deeper_meaning fault evaluate
 no_depth setting nodes e p told = no_value_met {V = Unit {0}} unit e (λ g. Err TooDeep) p (told_as {X = Unit {0}} unit TooDeep e refl told)
 
 -- no depth is left
-pub scope_deep : (setting : Setting) (depth : ℕ) (nodes : tree.Nodes) (scope : Map Datum) (e : Error) (s : Sink) (g : Environment) → depth ≡ 0 → Told TooDeep e.kind
+pub scope_deep : (setting : Setting) (depth : ℕ) (nodes : tree.Nodes) (scope : Map Datum) (e : Error) (s : Sink) (g : Environment) → depth ≡ 0 → IsKindOrMemory TooDeep e.kind
     → Performs (Err e) (with_scope scope (deeper_meaning setting depth nodes)) (record { sink = s; environment = g }) (record { sink = s; environment = g })
 unfolding deeper_meaning with_scope fault evaluate
 scope_deep setting (suc d) nodes scope e s g none told = absurd cc
 scope_deep setting zero nodes scope e s g none told = no_value_met {V = Unit {0}} unit e (λ h. Err TooDeep) (record { sink = s; environment = g }) (told_as {X = Unit {0}} unit TooDeep e refl told)
 
-pub apart_deep : (setting : Setting) (depth : ℕ) (nodes : tree.Nodes) (names : Map Datum) (e : Error) (s : Sink) (g : Environment) → depth ≡ 0 → Told TooDeep e.kind
+pub apart_deep : (setting : Setting) (depth : ℕ) (nodes : tree.Nodes) (names : Map Datum) (e : Error) (s : Sink) (g : Environment) → depth ≡ 0 → IsKindOrMemory TooDeep e.kind
     → Meets (λ (i : Option Interrupt). i) (Err e) (apart names (deeper_meaning setting depth nodes)) (record { sink = s; environment = g }) (record { sink = s; environment = g })
 apart_deep setting (suc d) nodes names e s g none told = absurd cc
 apart_deep setting zero nodes names e s g none told =

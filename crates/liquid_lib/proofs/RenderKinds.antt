@@ -6,7 +6,7 @@ use Rattle.std.proofs.Math.Facts.{leb_yes, yes_leb}
 use Rattle.liquid_model.specs.Answer.{Answers}
 use Rattle.liquid_model.specs.Data.{Datum}
 use Rattle.liquid_model.specs.Texts.{Text}
-use Rattle.liquid_model.specs.Told.{is_memory, is_refusal, number_of}
+use Rattle.liquid_model.specs.ErrorKinds.{is_memory, is_refusal, number_of}
 use Rattle.liquid_model.specs.declared.error.Error.{Error}
 use Rattle.liquid_model.specs.declared.error.ErrorKind.{ErrorKind}
 use Rattle.liquid_model.specs.declared.error.ErrorKind.TheVariants.{InvalidInput, Unsupported, Memory, Write}

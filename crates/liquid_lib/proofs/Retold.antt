@@ -2,11 +2,11 @@
 use Rattle.std.proofs.Common.{◌≡◌, ℕ, Bool, true, false, [], Result, Ok, Err, inl, inr, refl, sym, ap, subst, ◌∙◌, append-nil}
 use Rattle.std.specs.Prelude.{MatchBool, ⊤}
 use Rattle.liquid_model.specs.declared.error.Error.{Error}
-use Rattle.liquid_model.specs.Told.{Told, is_memory, is_refusal}
+use Rattle.liquid_model.specs.ErrorKinds.{IsKindOrMemory, is_memory, is_refusal}
 use Rattle.liquid_core.specs.Environment.{Environment}
 use Rattle.liquid_lib.specs.Failures.{AtMostOneFailed}
 use Rattle.liquid_lib.specs.Performs.{IsCut, MeetsAt}
-use Rattle.liquid_lib.specs.Retold.{Retold}
+use Rattle.liquid_lib.specs.inside.Retold.{Retold}
 use Rattle.liquid_lib.specs.Sinks.{Sink}
 use Rattle.liquid_meaning.specs.Runs.{Outcome}
 use Rattle.liquid_lib.proofs.Joined.{memory_of}
@@ -20,7 +20,7 @@ cut_again V e f old new same (inl (is, failed)) = inl (sym same ∙ is, failed)
 cut_again V e f old new same (inr (is, failed)) = inr (sym same ∙ is, failed)
 
 -- the same fault, or memory ran out for telling it
-pub fault_again : {V A : Type 0} {view : V → A} {o : Outcome A} {s u : Sink} {g : Environment} (e f : Error) → Told e.kind f.kind → MeetsAt view (Err e) o s u g → MeetsAt view (Err f) o s u g
+pub fault_again : {V A : Type 0} {view : V → A} {o : Outcome A} {s u : Sink} {g : Environment} (e f : Error) → IsKindOrMemory e.kind f.kind → MeetsAt view (Err e) o s u g → MeetsAt view (Err f) o s u g
 fault_again {V = V} {view = view} {o = o} {s = s} {u = u} {g = g} e f told met = on (is_memory f.kind) refl told met
   where
     on : (b : Bool) → is_memory f.kind ≡ b → MatchBool b ⊤ (e.kind ≡ f.kind) → MeetsAt view (Err e) o s u g → MeetsAt view (Err f) o s u g

@@ -7,7 +7,7 @@ use Rattle.liquid_model.specs.Texts.{Text}
 use Rattle.liquid_model.specs.declared.error.Error.{Error}
 use Rattle.liquid_model.specs.declared.error.ErrorKind.{ErrorKind}
 use Rattle.liquid_model.specs.declared.error.ErrorKind.TheVariants.{Memory, Write}
-use Rattle.liquid_model.specs.Told.{is_refusal}
+use Rattle.liquid_model.specs.ErrorKinds.{is_refusal}
 use Rattle.liquid_core.specs.Environment.{Environment}
 use Rattle.liquid_core.specs.States.{environment_of}
 use Rattle.liquid_core.specs.declared.state.State.{State}

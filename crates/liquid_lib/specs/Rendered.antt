@@ -1,6 +1,6 @@
 -- What a whole rendering has done.
 use Rattle.std.specs.Prelude.{◌≡◌, ℕ, nat_le, Bool, List, Result, ◌⊎◌, Option, None}
-use Rattle.liquid_model.specs.Told.{number_of}
+use Rattle.liquid_model.specs.ErrorKinds.{number_of}
 use Rattle.liquid_model.specs.declared.error.Error.{Error}
 use Rattle.liquid_model.specs.declared.error.ErrorKind.{ErrorKind}
 use Rattle.liquid_core.specs.Environment.{Names, Environment, cut}

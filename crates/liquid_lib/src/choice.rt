@@ -10,9 +10,9 @@ ghost use Rattle.liquid_tree.specs.Evaluation.{truth_of};
 ghost use Rattle.liquid_syntax.specs.Flats.{Maker, StandsAt, IsRange, nodes_of};
 ghost use Rattle.liquid_syntax.specs.Forest.{Forest};
 ghost use Rattle.liquid_tree.specs.Tree as tree;
-ghost use Rattle.liquid_lib.specs.Choices.{Meant, ComesTo, NodeComesTo, ListComesTo, CaseStands, IsCase, CaseLeft, equal_among};
+ghost use Rattle.liquid_lib.specs.inside.Choices.{Meant, ComesTo, NodeComesTo, ListComesTo, CaseStands, IsCase, CaseLeft, equal_among};
 
-use crate::place::located;
+use crate::fault_location::located;
 use liquid_core::{Expression, Result, State, Value};
 use liquid_syntax::{Arm, Condition, Node, Position, TwoBodies};
 use std::alloc::Global;

@@ -7,14 +7,14 @@ ghost use Rattle.liquid_core.specs.Environment.{Names};
 ghost use Rattle.liquid_core.specs.States.{environment_of, layers_of, loops_of};
 ghost use Rattle.liquid_tree.specs.Names.{node_names};
 ghost use Rattle.liquid_tree.specs.Tree as tree;
-ghost use Rattle.liquid_lib.specs.Counters.{in_i64, shown_and_stored};
-ghost use Rattle.liquid_lib.specs.Engine.{setting_of, node_in};
+ghost use Rattle.liquid_lib.specs.inside.Counters.{in_i64, shown_and_stored};
+ghost use Rattle.liquid_lib.specs.inside.Engine.{setting_of, node_in};
 ghost use Rattle.liquid_lib.specs.Kept.{Keeps, LayersKept};
 ghost use Rattle.liquid_lib.specs.Performs.{Performs, place_of};
 ghost use Rattle.liquid_meaning.specs.Effects.{counter_number};
 
+use crate::context::RunContext;
 use crate::counted::CountedWrite;
-use crate::given::Given;
 use crate::output::Output;
 use crate::push_value::push_number;
 use liquid_core::{Error, ErrorKind, NamedFilters, Result, State, Value};
@@ -25,16 +25,16 @@ use std::alloc::Global;
 #[inline(never)]
 pub(crate) fn run_increment<W: CountedWrite, H: NamedFilters>(
     alloc: Global,
-    given: &Given<'_, H>,
+    context: &RunContext<'_, H>,
     name: &str,
     out: &mut Output<'_, W>,
     state: &mut State<'_>,
 ) -> Result<()>
-    ensures performs { Performs result (node_in H.named given.now (tree.increment name.now))
+    ensures performs { Performs result (node_in H.named context.now (tree.increment name.now))
         (place_of W.contents W.failure_count out.old state.old)
         (place_of W.contents W.failure_count out.new state.new) }
     ensures same_writer { out.new.writer.ghost_name ≡ out.old.writer.ghost_name }
-    ensures kept { Keeps (node_names (tree.increment name.now)) (setting_of H.named given.now) state.old state.new }
+    ensures kept { Keeps (node_names (tree.increment name.now)) (setting_of H.named context.now) state.old state.new }
     ensures loops { loops_of state.new ≡ loops_of state.old }
 {
     let number = number_of(name, state);
@@ -47,16 +47,16 @@ pub(crate) fn run_increment<W: CountedWrite, H: NamedFilters>(
 #[inline(never)]
 pub(crate) fn run_decrement<W: CountedWrite, H: NamedFilters>(
     alloc: Global,
-    given: &Given<'_, H>,
+    context: &RunContext<'_, H>,
     name: &str,
     out: &mut Output<'_, W>,
     state: &mut State<'_>,
 ) -> Result<()>
-    ensures performs { Performs result (node_in H.named given.now (tree.decrement name.now))
+    ensures performs { Performs result (node_in H.named context.now (tree.decrement name.now))
         (place_of W.contents W.failure_count out.old state.old)
         (place_of W.contents W.failure_count out.new state.new) }
     ensures same_writer { out.new.writer.ghost_name ≡ out.old.writer.ghost_name }
-    ensures kept { Keeps (node_names (tree.decrement name.now)) (setting_of H.named given.now) state.old state.new }
+    ensures kept { Keeps (node_names (tree.decrement name.now)) (setting_of H.named context.now) state.old state.new }
     ensures loops { loops_of state.new ≡ loops_of state.old }
 {
     let less = one_less(alloc, number_of(name, state))?;

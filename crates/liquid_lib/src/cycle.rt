@@ -1,18 +1,18 @@
 //! Runs of `cycle`.
 ghost use Rattle.std.specs.Prelude.{◌≡◌, ◌+◌, ◌%◌, ◌<◌, map, IfOk, OnErr};
-ghost use Rattle.liquid_model.specs.Answer.{Gives};
-ghost use Rattle.liquid_model.specs.Told.{Told};
+ghost use Rattle.liquid_model.specs.Answer.{IsValueOrMemory};
+ghost use Rattle.liquid_model.specs.ErrorKinds.{IsKindOrMemory};
 ghost use Rattle.liquid_core.specs.ExpressionView.{expression_view};
 ghost use Rattle.liquid_core.specs.States.{environment_of, layers_of, loops_of, with_cycle};
 ghost use Rattle.liquid_tree.specs.Names.{node_names};
 ghost use Rattle.liquid_tree.specs.Tree as tree;
-ghost use Rattle.liquid_lib.specs.Engine.{setting_of, node_in};
+ghost use Rattle.liquid_lib.specs.inside.Engine.{setting_of, node_in};
 ghost use Rattle.liquid_lib.specs.Kept.{Keeps};
 ghost use Rattle.liquid_lib.specs.Performs.{Performs, place_of};
 ghost use Rattle.liquid_meaning.specs.Effects.{cycle_index};
 
+use crate::context::RunContext;
 use crate::counted::CountedWrite;
-use crate::given::Given;
 use crate::output::Output;
 use crate::push_value::push_value;
 use liquid_core::{Error, ErrorKind, Expression, NamedFilters, Result, State};
@@ -23,17 +23,17 @@ use std::alloc::Global;
 #[inline(never)]
 pub(crate) fn run_cycle<W: CountedWrite, H: NamedFilters>(
     alloc: Global,
-    given: &Given<'_, H>,
+    context: &RunContext<'_, H>,
     group: &str,
     values: &[Expression],
     out: &mut Output<'_, W>,
     state: &mut State<'_>,
 ) -> Result<()>
-    ensures performs { Performs result (node_in H.named given.now (tree.cycle group.now (map expression_view values.now)))
+    ensures performs { Performs result (node_in H.named context.now (tree.cycle group.now (map expression_view values.now)))
         (place_of W.contents W.failure_count out.old state.old)
         (place_of W.contents W.failure_count out.new state.new) }
     ensures same_writer { out.new.writer.ghost_name ≡ out.old.writer.ghost_name }
-    ensures kept { Keeps (node_names (tree.cycle group.now (map expression_view values.now))) (setting_of H.named given.now) state.old state.new }
+    ensures kept { Keeps (node_names (tree.cycle group.now (map expression_view values.now))) (setting_of H.named context.now) state.old state.new }
     ensures loops { loops_of state.new ≡ loops_of state.old }
 {
     if values.is_empty() {
@@ -53,7 +53,7 @@ pub(crate) fn run_cycle<W: CountedWrite, H: NamedFilters>(
 fn move_on(alloc: Global, group: &str, count: usize, state: &mut State<'_>) -> Result<usize>
     requires { 0 < count }
     ensures index { IfOk result (λ i. i ≡ cycle_index group.now (environment_of state.old)) }
-    ensures moved { Gives (λ _. layers_of state.new) result (with_cycle group.now ((cycle_index group.now (environment_of state.old) + 1) % count) (layers_of state.old)) }
+    ensures moved { IsValueOrMemory (λ _. layers_of state.new) result (with_cycle group.now ((cycle_index group.now (environment_of state.old) + 1) % count) (layers_of state.old)) }
     ensures unchanged { OnErr result (layers_of state.new ≡ layers_of state.old) }
     ensures loops { loops_of state.new ≡ loops_of state.old }
 {
@@ -72,7 +72,7 @@ fn move_on(alloc: Global, group: &str, count: usize, state: &mut State<'_>) -> R
 }
 
 fn out_of_bounds(alloc: Global) -> Error
-    ensures { Told ErrorKind.CycleBounds result.kind }
+    ensures { IsKindOrMemory ErrorKind.CycleBounds result.kind }
 {
     Error::new(
         alloc,

@@ -11,8 +11,8 @@ ghost use Rattle.liquid_syntax.specs.Forest.{Forest};
 ghost use Rattle.liquid_syntax.specs.Templates.{list_of, most_of, tree_of};
 ghost use Rattle.liquid_tree.specs.Names.{node_names, nodes_names};
 ghost use Rattle.liquid_tree.specs.Tree as tree;
-ghost use Rattle.liquid_lib.specs.Choices.{NodeComesTo};
-ghost use Rattle.liquid_lib.specs.Engine.{setting_of, node_in, nodes_in, partial_in};
+ghost use Rattle.liquid_lib.specs.inside.Choices.{NodeComesTo};
+ghost use Rattle.liquid_lib.specs.inside.Engine.{setting_of, node_in, nodes_in, partial_in};
 ghost use Rattle.liquid_lib.specs.Kept.{Keeps, IsRender, AreRenders};
 ghost use Rattle.liquid_lib.specs.Performs.{Performs, place_of};
 ghost use Rattle.liquid_meaning.specs.Runs.{with_scope};
@@ -21,16 +21,16 @@ mod loops;
 mod renders;
 
 use crate::choice::{case_range, chosen_range, unless_range};
+use crate::context::RunContext;
 use crate::counted::CountedWrite;
 use crate::counters::{run_decrement, run_increment};
 use crate::cycle::run_cycle;
-use crate::given::Given;
+use crate::fault_location::{in_partial, located};
 use crate::ifchanged::show_if_changed;
 use crate::leaves::{run_assign, run_output, run_raw, run_text};
 use crate::nodes::next_after;
 use crate::output::Output;
 use crate::partial::{include_scope, pairs_scope, partial_called, partial_name, too_deep};
-use crate::place::{in_partial, located};
 use liquid_core::{Expression, Interrupt, NamedFilters, Object, Result, State, Value};
 use liquid_syntax::{Binding, Node, Template};
 use loops::{run_for, run_tablerow};
@@ -41,7 +41,7 @@ use std::alloc::Global;
 #[cycle(run)]
 pub(crate) fn run_range<'d, W: CountedWrite, H: NamedFilters>(
     alloc: Global,
-    given: &Given<'d, H>,
+    context: &RunContext<'d, H>,
     nodes: &'d [Node],
     from: usize,
     to: usize,
@@ -50,18 +50,18 @@ pub(crate) fn run_range<'d, W: CountedWrite, H: NamedFilters>(
 ) -> Result<()>
     requires { IsRange nodes.now from to }
     ensures performs { (f : Forest Maker) → StandsAt nodes.now from f to →
-        Performs result (nodes_in H.named given.now (nodes_of f))
+        Performs result (nodes_in H.named context.now (nodes_of f))
         (place_of W.contents W.failure_count out.old state.old)
         (place_of W.contents W.failure_count out.new state.new) }
     ensures same_writer { out.new.writer.ghost_name ≡ out.old.writer.ghost_name }
-    ensures kept { (f : Forest Maker) → StandsAt nodes.now from f to → Keeps (nodes_names (nodes_of f)) (setting_of H.named given.now) state.old state.new }
+    ensures kept { (f : Forest Maker) → StandsAt nodes.now from f to → Keeps (nodes_names (nodes_of f)) (setting_of H.named context.now) state.old state.new }
     ensures alone { (f : Forest Maker) → StandsAt nodes.now from f to → AreRenders (nodes_of f) → layers_of state.new ≡ layers_of state.old }
     ensures loops { loops_of state.new ≡ loops_of state.old }
 {
     let mut at = from;
     while at < to {
-        if let Err(fault) = run_node(alloc, given, nodes, at, to, out, state) {
-            return Err(located(alloc, given.positions, at, fault));
+        if let Err(fault) = run_node(alloc, context, nodes, at, to, out, state) {
+            return Err(located(alloc, context.positions, at, fault));
         }
         if state.interrupt.is_some() {
             return Ok(());
@@ -75,7 +75,7 @@ pub(crate) fn run_range<'d, W: CountedWrite, H: NamedFilters>(
 #[cycle(run)]
 fn run_node<'d, W: CountedWrite, H: NamedFilters>(
     alloc: Global,
-    given: &Given<'d, H>,
+    context: &RunContext<'d, H>,
     nodes: &'d [Node],
     at: usize,
     to: usize,
@@ -84,27 +84,35 @@ fn run_node<'d, W: CountedWrite, H: NamedFilters>(
 ) -> Result<()>
     requires { IsNode nodes.now at to }
     ensures performs { (n : tree.Node) (next : ℕ) → NodeAt nodes.now at n next →
-        Performs result (node_in H.named given.now n)
+        Performs result (node_in H.named context.now n)
         (place_of W.contents W.failure_count out.old state.old)
         (place_of W.contents W.failure_count out.new state.new) }
     ensures same_writer { out.new.writer.ghost_name ≡ out.old.writer.ghost_name }
-    ensures kept { (n : tree.Node) (next : ℕ) → NodeAt nodes.now at n next → Keeps (node_names n) (setting_of H.named given.now) state.old state.new }
+    ensures kept { (n : tree.Node) (next : ℕ) → NodeAt nodes.now at n next → Keeps (node_names n) (setting_of H.named context.now) state.old state.new }
     ensures alone { (n : tree.Node) (next : ℕ) → NodeAt nodes.now at n next → IsRender n → layers_of state.new ≡ layers_of state.old }
     ensures loops { loops_of state.new ≡ loops_of state.old }
 {
     match &nodes[at] {
-        Node::Text(text) => run_text(alloc, given, text.as_str(), out, state),
-        Node::Output(chain) => run_output(alloc, given, chain, out, state),
-        Node::Assign(name, chain) => run_assign(alloc, given, name.as_str(), chain, out, state),
-        Node::Raw(text) => run_raw(alloc, given, text.as_str(), out, state),
+        Node::Text(text) => run_text(alloc, context, text.as_str(), out, state),
+        Node::Output(chain) => run_output(alloc, context, chain, out, state),
+        Node::Assign(name, chain) => run_assign(alloc, context, name.as_str(), chain, out, state),
+        Node::Raw(text) => run_raw(alloc, context, text.as_str(), out, state),
         Node::Comment => Ok(()),
         Node::If(condition, bodies) => {
-            let chosen = chosen_range(alloc, nodes, at, condition, *bodies, given.positions, state);
-            run_chosen(alloc, given, nodes, at, to, chosen, out, state)
+            let chosen = chosen_range(
+                alloc,
+                nodes,
+                at,
+                condition,
+                *bodies,
+                context.positions,
+                state,
+            );
+            run_chosen(alloc, context, nodes, at, to, chosen, out, state)
         }
         Node::Unless(condition, bodies) => {
             let chosen = unless_range(alloc, nodes, at, condition, *bodies, state);
-            run_chosen(alloc, given, nodes, at, to, chosen, out, state)
+            run_chosen(alloc, context, nodes, at, to, chosen, out, state)
         }
         Node::Break => {
             state.interrupt = Some(Interrupt::Break);
@@ -114,12 +122,12 @@ fn run_node<'d, W: CountedWrite, H: NamedFilters>(
             state.interrupt = Some(Interrupt::Continue);
             Ok(())
         }
-        Node::Increment(name) => run_increment(alloc, given, name.as_str(), out, state),
-        Node::Decrement(name) => run_decrement(alloc, given, name.as_str(), out, state),
-        Node::IfChanged(end) => run_ifchanged(alloc, given, nodes, at, *end, out, state),
+        Node::Increment(name) => run_increment(alloc, context, name.as_str(), out, state),
+        Node::Decrement(name) => run_decrement(alloc, context, name.as_str(), out, state),
+        Node::IfChanged(end) => run_ifchanged(alloc, context, nodes, at, *end, out, state),
         Node::Capture(name, end) => run_capture(
             alloc,
-            given,
+            context,
             nodes,
             at,
             name.as_str(),
@@ -127,27 +135,27 @@ fn run_node<'d, W: CountedWrite, H: NamedFilters>(
             out,
             state,
         ),
-        Node::Include(name, bindings) => { run_include(alloc, given, name, bindings, out, state) }
+        Node::Include(name, bindings) => { run_include(alloc, context, name, bindings, out, state) }
         Node::JekyllInclude(name, bindings) => run_jekyll_include(
             alloc,
-            given,
+            context,
             name.as_str(),
             bindings,
             out,
             state,
         ),
-        Node::Render(name, bindings) => run_render(alloc, given, name, &*bindings, out, &*state),
+        Node::Render(name, bindings) => run_render(alloc, context, name, &*bindings, out, &*state),
         Node::RenderEach(name, each, bindings) => {
-            run_render_each(alloc, given, name, each, &*bindings, out, &*state)
+            run_render_each(alloc, context, name, each, &*bindings, out, &*state)
         }
-        Node::Cycle(group, values) => run_cycle(alloc, given, group.as_str(), values, out, state),
+        Node::Cycle(group, values) => run_cycle(alloc, context, group.as_str(), values, out, state),
         Node::Case(target, arms, last) => {
             let chosen = case_range(alloc, nodes, at, target, arms, *last, state);
-            run_chosen(alloc, given, nodes, at, to, chosen, out, state)
+            run_chosen(alloc, context, nodes, at, to, chosen, out, state)
         }
-        Node::For(head, bodies) => { run_for(alloc, given, nodes, at, head, *bodies, out, state) }
+        Node::For(head, bodies) => { run_for(alloc, context, nodes, at, head, *bodies, out, state) }
         Node::TableRow(head, end) => {
-            run_tablerow(alloc, given, nodes, at, head, *end, out, state)
+            run_tablerow(alloc, context, nodes, at, head, *end, out, state)
         }
     }
 }
@@ -156,7 +164,7 @@ fn run_node<'d, W: CountedWrite, H: NamedFilters>(
 #[cycle(run)]
 fn run_chosen<'d, W: CountedWrite, H: NamedFilters>(
     alloc: Global,
-    given: &Given<'d, H>,
+    context: &RunContext<'d, H>,
     nodes: &'d [Node],
     at: usize,
     to: usize,
@@ -166,15 +174,15 @@ fn run_chosen<'d, W: CountedWrite, H: NamedFilters>(
 ) -> Result<()>
     requires { IfOk chosen (λ range. (at < range.0) × (range.1 ≤ to) × IsRange nodes.now range.0 range.1) }
     ensures performs { (n : tree.Node) → NodeComesTo nodes.now (environment_of state.old) n chosen →
-        Performs result (node_in H.named given.now n)
+        Performs result (node_in H.named context.now n)
         (place_of W.contents W.failure_count out.old state.old)
         (place_of W.contents W.failure_count out.new state.new) }
     ensures same_writer { out.new.writer.ghost_name ≡ out.old.writer.ghost_name }
-    ensures kept { (n : tree.Node) → NodeComesTo nodes.now (environment_of state.old) n chosen → Keeps (node_names n) (setting_of H.named given.now) state.old state.new }
+    ensures kept { (n : tree.Node) → NodeComesTo nodes.now (environment_of state.old) n chosen → Keeps (node_names n) (setting_of H.named context.now) state.old state.new }
     ensures loops { loops_of state.new ≡ loops_of state.old }
 {
     match chosen {
-        Ok(range) => run_range(alloc, given, nodes, range.0, range.1, out, state),
+        Ok(range) => run_range(alloc, context, nodes, range.0, range.1, out, state),
         Err(fault) => Err(fault),
     }
 }
@@ -184,7 +192,7 @@ fn run_chosen<'d, W: CountedWrite, H: NamedFilters>(
 #[inline(never)]
 fn run_capture<'d, W: CountedWrite, H: NamedFilters>(
     alloc: Global,
-    given: &Given<'d, H>,
+    context: &RunContext<'d, H>,
     nodes: &'d [Node],
     at: usize,
     name: &str,
@@ -194,16 +202,16 @@ fn run_capture<'d, W: CountedWrite, H: NamedFilters>(
 ) -> Result<()>
     requires body { IsRange nodes.now (at + 1) end }
     ensures performs { (b : Forest Maker) → StandsAt nodes.now (at + 1) b end →
-        Performs result (node_in H.named given.now (tree.capture name.now (nodes_of b)))
+        Performs result (node_in H.named context.now (tree.capture name.now (nodes_of b)))
         (place_of W.contents W.failure_count out.old state.old)
         (place_of W.contents W.failure_count out.new state.new) }
     ensures same_writer { out.new.writer.ghost_name ≡ out.old.writer.ghost_name }
     ensures kept { (b : Forest Maker) → StandsAt nodes.now (at + 1) b end →
-        Keeps (node_names (tree.capture name.now (nodes_of b))) (setting_of H.named given.now) state.old state.new }
+        Keeps (node_names (tree.capture name.now (nodes_of b))) (setting_of H.named context.now) state.old state.new }
     ensures loops { loops_of state.new ≡ loops_of state.old }
 {
     let outer = out.open(alloc);
-    let answer = run_range(alloc, given, nodes, at + 1, end, out, state);
+    let answer = run_range(alloc, context, nodes, at + 1, end, out, state);
     let text = out.close(outer);
     answer?;
     state.set_global(String::from_str(alloc, name)?, Value::Text(text))
@@ -214,7 +222,7 @@ fn run_capture<'d, W: CountedWrite, H: NamedFilters>(
 #[inline(never)]
 fn run_ifchanged<'d, W: CountedWrite, H: NamedFilters>(
     alloc: Global,
-    given: &Given<'d, H>,
+    context: &RunContext<'d, H>,
     nodes: &'d [Node],
     at: usize,
     end: usize,
@@ -223,16 +231,16 @@ fn run_ifchanged<'d, W: CountedWrite, H: NamedFilters>(
 ) -> Result<()>
     requires { IsRange nodes.now (at + 1) end }
     ensures performs { (b : Forest Maker) → StandsAt nodes.now (at + 1) b end →
-        Performs result (node_in H.named given.now (tree.ifchanged (nodes_of b)))
+        Performs result (node_in H.named context.now (tree.ifchanged (nodes_of b)))
         (place_of W.contents W.failure_count out.old state.old)
         (place_of W.contents W.failure_count out.new state.new) }
     ensures same_writer { out.new.writer.ghost_name ≡ out.old.writer.ghost_name }
     ensures kept { (b : Forest Maker) → StandsAt nodes.now (at + 1) b end →
-        Keeps (node_names (tree.ifchanged (nodes_of b))) (setting_of H.named given.now) state.old state.new }
+        Keeps (node_names (tree.ifchanged (nodes_of b))) (setting_of H.named context.now) state.old state.new }
     ensures loops { loops_of state.new ≡ loops_of state.old }
 {
     let outer = out.open(alloc);
-    let ended = run_range(alloc, given, nodes, at + 1, end, out, state);
+    let ended = run_range(alloc, context, nodes, at + 1, end, out, state);
     let text = out.close(outer);
     ended?;
     show_if_changed(alloc, text, out, state)
@@ -243,23 +251,23 @@ fn run_ifchanged<'d, W: CountedWrite, H: NamedFilters>(
 #[inline(never)]
 fn run_include<'d, W: CountedWrite, H: NamedFilters>(
     alloc: Global,
-    given: &Given<'d, H>,
+    context: &RunContext<'d, H>,
     name: &Expression,
     bindings: &[Binding],
     out: &mut Output<'_, W>,
     state: &mut State<'d>,
 ) -> Result<()>
-    ensures performs { Performs result (node_in H.named given.now (tree.include (expression_view name.now) (bindings_view bindings.now)))
+    ensures performs { Performs result (node_in H.named context.now (tree.include (expression_view name.now) (bindings_view bindings.now)))
         (place_of W.contents W.failure_count out.old state.old)
         (place_of W.contents W.failure_count out.new state.new) }
     ensures same_writer { out.new.writer.ghost_name ≡ out.old.writer.ghost_name }
-    ensures kept { Keeps (node_names (tree.include (expression_view name.now) (bindings_view bindings.now))) (setting_of H.named given.now) state.old state.new }
+    ensures kept { Keeps (node_names (tree.include (expression_view name.now) (bindings_view bindings.now))) (setting_of H.named context.now) state.old state.new }
     ensures loops { loops_of state.new ≡ loops_of state.old }
 {
     let called = partial_name(alloc, name, state)?;
     let scope = pairs_scope(alloc, bindings, state)?;
-    let partial = partial_called(alloc, given.partials, called.as_str())?;
-    let answer = run_partial(alloc, given, partial, scope, out, state);
+    let partial = partial_called(alloc, context.partials, called.as_str())?;
+    let answer = run_partial(alloc, context, partial, scope, out, state);
     in_partial(alloc, called.as_str(), answer)
 }
 
@@ -268,22 +276,22 @@ fn run_include<'d, W: CountedWrite, H: NamedFilters>(
 #[inline(never)]
 fn run_jekyll_include<'d, W: CountedWrite, H: NamedFilters>(
     alloc: Global,
-    given: &Given<'d, H>,
+    context: &RunContext<'d, H>,
     name: &str,
     bindings: &[Binding],
     out: &mut Output<'_, W>,
     state: &mut State<'d>,
 ) -> Result<()>
-    ensures performs { Performs result (node_in H.named given.now (tree.jekyll_include name.now (bindings_view bindings.now)))
+    ensures performs { Performs result (node_in H.named context.now (tree.jekyll_include name.now (bindings_view bindings.now)))
         (place_of W.contents W.failure_count out.old state.old)
         (place_of W.contents W.failure_count out.new state.new) }
     ensures same_writer { out.new.writer.ghost_name ≡ out.old.writer.ghost_name }
-    ensures kept { Keeps (node_names (tree.jekyll_include name.now (bindings_view bindings.now))) (setting_of H.named given.now) state.old state.new }
+    ensures kept { Keeps (node_names (tree.jekyll_include name.now (bindings_view bindings.now))) (setting_of H.named context.now) state.old state.new }
     ensures loops { loops_of state.new ≡ loops_of state.old }
 {
     let scope = include_scope(alloc, bindings, state)?;
-    let partial = partial_called(alloc, given.partials, name)?;
-    let answer = run_partial(alloc, given, partial, scope, out, state);
+    let partial = partial_called(alloc, context.partials, name)?;
+    let answer = run_partial(alloc, context, partial, scope, out, state);
     in_partial(alloc, name, answer)
 }
 
@@ -292,27 +300,27 @@ fn run_jekyll_include<'d, W: CountedWrite, H: NamedFilters>(
 #[inline(never)]
 fn run_partial<'d, W: CountedWrite, H: NamedFilters>(
     alloc: Global,
-    given: &Given<'d, H>,
+    context: &RunContext<'d, H>,
     partial: &'d Template,
     scope: Object,
     out: &mut Output<'_, W>,
     state: &mut State<'d>,
 ) -> Result<()>
-    requires small { length (list_of partial.now) ≤ most_of given.now.partials.now }
-    ensures performs { Performs result (with_scope (held scope) (partial_in H.named given.now (tree_of partial.now)))
+    requires small { length (list_of partial.now) ≤ most_of context.now.partials.now }
+    ensures performs { Performs result (with_scope (held scope) (partial_in H.named context.now (tree_of partial.now)))
         (place_of W.contents W.failure_count out.old state.old)
         (place_of W.contents W.failure_count out.new state.new) }
     ensures same_writer { out.new.writer.ghost_name ≡ out.old.writer.ghost_name }
-    ensures kept { Keeps (nodes_names (tree_of partial.now)) (setting_of H.named given.now) state.old state.new }
+    ensures kept { Keeps (nodes_names (tree_of partial.now)) (setting_of H.named context.now) state.old state.new }
     ensures loops { loops_of state.new ≡ loops_of state.old }
 {
-    if given.depth == 0 {
+    if context.depth == 0 {
         return Err(too_deep(alloc));
     }
-    let inner = Given {
-        partials: given.partials,
-        host: given.host,
-        depth: given.depth - 1,
+    let inner = RunContext {
+        partials: context.partials,
+        host: context.host,
+        depth: context.depth - 1,
         positions: partial.positions(),
     };
     state.push_scope(scope)?;

@@ -4,12 +4,12 @@ ghost use Rattle.liquid_core.specs.States.{loops_of};
 ghost use Rattle.liquid_tree.specs.ChainView.{chain_view};
 ghost use Rattle.liquid_tree.specs.Names.{node_names};
 ghost use Rattle.liquid_tree.specs.Tree as tree;
-ghost use Rattle.liquid_lib.specs.Engine.{setting_of, node_in};
+ghost use Rattle.liquid_lib.specs.inside.Engine.{setting_of, node_in};
 ghost use Rattle.liquid_lib.specs.Kept.{Keeps};
 ghost use Rattle.liquid_lib.specs.Performs.{Performs, place_of};
 
+use crate::context::RunContext;
 use crate::counted::CountedWrite;
-use crate::given::Given;
 use crate::output::Output;
 use crate::push_value::push_value;
 use liquid_core::{NamedFilters, Result, State};
@@ -19,16 +19,16 @@ use std::alloc::Global;
 /// Writes a text.
 pub(crate) fn run_text<W: CountedWrite, H: NamedFilters>(
     alloc: Global,
-    given: &Given<'_, H>,
+    context: &RunContext<'_, H>,
     text: &str,
     out: &mut Output<'_, W>,
     state: &mut State<'_>,
 ) -> Result<()>
-    ensures performs { Performs result (node_in H.named given.now (tree.plain text.now))
+    ensures performs { Performs result (node_in H.named context.now (tree.plain text.now))
         (place_of W.contents W.failure_count out.old state.old)
         (place_of W.contents W.failure_count out.new state.new) }
     ensures same_writer { out.new.writer.ghost_name ≡ out.old.writer.ghost_name }
-    ensures kept { Keeps (node_names (tree.plain text.now)) (setting_of H.named given.now) state.old state.new }
+    ensures kept { Keeps (node_names (tree.plain text.now)) (setting_of H.named context.now) state.old state.new }
     ensures loops { loops_of state.new ≡ loops_of state.old }
 {
     out.push_text(alloc, text)
@@ -37,16 +37,16 @@ pub(crate) fn run_text<W: CountedWrite, H: NamedFilters>(
 /// Writes the body of a `raw`.
 pub(crate) fn run_raw<W: CountedWrite, H: NamedFilters>(
     alloc: Global,
-    given: &Given<'_, H>,
+    context: &RunContext<'_, H>,
     text: &str,
     out: &mut Output<'_, W>,
     state: &mut State<'_>,
 ) -> Result<()>
-    ensures performs { Performs result (node_in H.named given.now (tree.raw text.now))
+    ensures performs { Performs result (node_in H.named context.now (tree.raw text.now))
         (place_of W.contents W.failure_count out.old state.old)
         (place_of W.contents W.failure_count out.new state.new) }
     ensures same_writer { out.new.writer.ghost_name ≡ out.old.writer.ghost_name }
-    ensures kept { Keeps (node_names (tree.raw text.now)) (setting_of H.named given.now) state.old state.new }
+    ensures kept { Keeps (node_names (tree.raw text.now)) (setting_of H.named context.now) state.old state.new }
     ensures loops { loops_of state.new ≡ loops_of state.old }
 {
     out.push_text(alloc, text)
@@ -56,19 +56,19 @@ pub(crate) fn run_raw<W: CountedWrite, H: NamedFilters>(
 #[inline(never)]
 pub(crate) fn run_output<W: CountedWrite, H: NamedFilters>(
     alloc: Global,
-    given: &Given<'_, H>,
+    context: &RunContext<'_, H>,
     chain: &FilterChain,
     out: &mut Output<'_, W>,
     state: &mut State<'_>,
 ) -> Result<()>
-    ensures performs { Performs result (node_in H.named given.now (tree.output (chain_view chain.now)))
+    ensures performs { Performs result (node_in H.named context.now (tree.output (chain_view chain.now)))
         (place_of W.contents W.failure_count out.old state.old)
         (place_of W.contents W.failure_count out.new state.new) }
     ensures same_writer { out.new.writer.ghost_name ≡ out.old.writer.ghost_name }
-    ensures kept { Keeps (node_names (tree.output (chain_view chain.now))) (setting_of H.named given.now) state.old state.new }
+    ensures kept { Keeps (node_names (tree.output (chain_view chain.now))) (setting_of H.named context.now) state.old state.new }
     ensures loops { loops_of state.new ≡ loops_of state.old }
 {
-    let value = chain.evaluate_cow(alloc, state, given.host)?;
+    let value = chain.evaluate_cow(alloc, state, context.host)?;
     push_value(alloc, value.as_value(), out)
 }
 
@@ -76,19 +76,19 @@ pub(crate) fn run_output<W: CountedWrite, H: NamedFilters>(
 #[inline(never)]
 pub(crate) fn run_assign<W: CountedWrite, H: NamedFilters>(
     alloc: Global,
-    given: &Given<'_, H>,
+    context: &RunContext<'_, H>,
     name: &str,
     chain: &FilterChain,
     out: &mut Output<'_, W>,
     state: &mut State<'_>,
 ) -> Result<()>
-    ensures performs { Performs result (node_in H.named given.now (tree.assign name.now (chain_view chain.now)))
+    ensures performs { Performs result (node_in H.named context.now (tree.assign name.now (chain_view chain.now)))
         (place_of W.contents W.failure_count out.old state.old)
         (place_of W.contents W.failure_count out.new state.new) }
     ensures same_writer { out.new.writer.ghost_name ≡ out.old.writer.ghost_name }
-    ensures kept { Keeps (node_names (tree.assign name.now (chain_view chain.now))) (setting_of H.named given.now) state.old state.new }
+    ensures kept { Keeps (node_names (tree.assign name.now (chain_view chain.now))) (setting_of H.named context.now) state.old state.new }
     ensures loops { loops_of state.new ≡ loops_of state.old }
 {
-    let value = chain.evaluate_by(alloc, state, given.host)?;
+    let value = chain.evaluate_by(alloc, state, context.host)?;
     state.set_global(String::from_str(alloc, name)?, value)
 }

@@ -3,13 +3,13 @@ ghost use Rattle.std.specs.Prelude.{◌≡◌, length};
 ghost use Rattle.liquid_core.specs.States.{layers_of, loops_of};
 ghost use Rattle.liquid_syntax.specs.Templates.{tree_of};
 ghost use Rattle.liquid_tree.specs.Names.{nodes_names};
-ghost use Rattle.liquid_lib.specs.Engine.{setting_of, nodes_in};
+ghost use Rattle.liquid_lib.specs.inside.Engine.{setting_of, nodes_in};
 ghost use Rattle.liquid_lib.specs.Kept.{Keeps, AreRenders};
 ghost use Rattle.liquid_lib.specs.Performs.{Performs, place_of};
 
+use crate::context::RunContext;
 use crate::counted::CountedWrite;
 use crate::engine::run_range;
-use crate::given::Given;
 use crate::output::Output;
 use liquid_core::{Data, NamedFilters, Result, State};
 use liquid_syntax::Template;
@@ -22,26 +22,26 @@ use std::mem;
 pub(crate) fn run_template<W: CountedWrite, H: NamedFilters>(
     alloc: Global,
     template: &Template,
-    given: &Given<'_, H>,
+    context: &RunContext<'_, H>,
     out: &mut Output<'_, W>,
     state: &mut State<'_>,
 ) -> Result<()>
     requires plain { length (loops_of state.old) ≡ 0 }
-    ensures performs { Performs result (nodes_in H.named given.now (tree_of template.now))
+    ensures performs { Performs result (nodes_in H.named context.now (tree_of template.now))
         (place_of W.contents W.failure_count out.old state.old)
         (place_of W.contents W.failure_count out.new state.new) }
     ensures same_writer { out.new.writer.ghost_name ≡ out.old.writer.ghost_name }
-    ensures kept { Keeps (nodes_names (tree_of template.now)) (setting_of H.named given.now) state.old state.new }
+    ensures kept { Keeps (nodes_names (tree_of template.now)) (setting_of H.named context.now) state.old state.new }
     ensures alone { AreRenders (tree_of template.now) → layers_of state.new ≡ layers_of state.old }
     ensures plain { length (loops_of state.new) ≡ 0 }
 {
     let empty = State::new(alloc, BTreeMap::new(alloc));
     let (parts, data) = mem::replace(state, empty).into_parts();
     let mut lent = State::from_parts(alloc, parts, Data::Lent(data.object()));
-    let inner = Given {
-        partials: given.partials,
-        host: given.host,
-        depth: given.depth,
+    let inner = RunContext {
+        partials: context.partials,
+        host: context.host,
+        depth: context.depth,
         positions: template.positions(),
     };
     let nodes = template.nodes();

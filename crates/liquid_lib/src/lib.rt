@@ -5,12 +5,13 @@
 #![tactic(auto)]
 
 mod choice;
+mod context;
 mod counted;
 mod counters;
 mod cycle;
 mod engine;
 pub mod extra;
-mod given;
+mod fault_location;
 mod ifchanged;
 pub mod jekyll;
 mod leaves;
@@ -21,7 +22,6 @@ mod output;
 mod own_state;
 mod page;
 mod partial;
-mod place;
 mod push_value;
 mod render;
 mod runtime;

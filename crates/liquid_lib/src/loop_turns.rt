@@ -1,30 +1,32 @@
 //! What stands before the first turn of a loop, and what ends one.
 ghost use Rattle.std.specs.Prelude.{◌≡◌, ◌<◌, ◌≤◌, List, IfOk, IfSome, None, codes, length, option_map, string_bytes};
-ghost use Rattle.liquid_model.specs.Answer.{Answers, Gives};
+ghost use Rattle.liquid_model.specs.Answer.{Answers, IsValueOrMemory};
 ghost use Rattle.liquid_model.specs.Data.{Datum};
-ghost use Rattle.liquid_model.specs.Told.{Told};
+ghost use Rattle.liquid_model.specs.ErrorKinds.{IsKindOrMemory};
 ghost use Rattle.liquid_model.specs.View.{view};
 ghost use Rattle.liquid_core.specs.ExpressionView.{expression_view};
 ghost use Rattle.liquid_core.specs.States.{environment_of, layers_of, loops_of, with_interrupt};
-ghost use Rattle.liquid_core.specs.Turns.{parent_of};
+ghost use Rattle.liquid_core.specs.LoopFrames.{parent_of};
 ghost use Rattle.liquid_tree.specs.Evaluation.{asked_for};
 ghost use Rattle.liquid_tree.specs.SourceView.{source_view};
 ghost use Rattle.liquid_syntax.specs.Flats.{window_view};
-ghost use Rattle.liquid_lib.specs.LoopTurns.{AreRows, IsFor, cells_asked, cells_of, items_asked, placed, some_columns, turns_of};
+ghost use Rattle.liquid_lib.specs.inside.LoopTurns.{AreRows, IsFor, cells_asked, cells_of, items_asked, placed, some_columns, turns_of};
 ghost use Rattle.liquid_meaning.specs.Effects.{is_break, value_or_nil};
 ghost use Rattle.liquid_meaning.specs.Loops.{columns_of};
 
-use liquid_core::{Columns, Error, ErrorKind, Interrupt, LoopKind, Result, State, Turn, Value};
+use liquid_core::{
+    Columns, Error, ErrorKind, Interrupt, LoopFrame, LoopKind, Result, State, Value,
+};
 use liquid_syntax::{For, TableRow, Window, WindowExpression, evaluate_amount};
 use std::alloc::Global;
 
 /// The first turn of a `for`, or nothing where no items are asked for. The source is evaluated before the window.
 #[inline(never)]
-pub(crate) fn for_turn<'d>(
+pub(crate) fn for_frame<'d>(
     alloc: Global,
     head: &'d For,
     state: &State<'d>,
-) -> Result<Option<Turn<'d>>>
+) -> Result<Option<LoopFrame<'d>>>
     ensures items { Answers turns_of result (items_asked (source_view head.now.source) (window_view head.now.window) (environment_of state.now)) }
     ensures begins { IfOk result (λ t. IfSome t (IsFor (string_bytes head.now.variable) (environment_of state.now))) }
 {
@@ -34,7 +36,7 @@ pub(crate) fn for_turn<'d>(
         return Ok(None);
     }
     let parent = forloop_elsewhere(alloc, state)?;
-    Ok(Some(Turn {
+    Ok(Some(LoopFrame {
         name: head.variable.as_str(),
         items: all.items,
         from: window.from,
@@ -48,11 +50,11 @@ pub(crate) fn for_turn<'d>(
 /// The first turn of a `tablerow` and its columns, or nothing where no items are asked for. The source is evaluated first,
 /// then the number of columns, then the window; `ZeroColumns` where there are items and no column.
 #[inline(never)]
-pub(crate) fn row_turn<'d>(
+pub(crate) fn row_frame<'d>(
     alloc: Global,
     head: &'d TableRow,
     state: &State<'d>,
-) -> Result<Option<(Turn<'d>, Columns)>>
+) -> Result<Option<(LoopFrame<'d>, Columns)>>
     ensures items { Answers cells_of result (cells_asked (source_view head.now.source) (window_view head.now.window) (option_map expression_view head.now.cols) (environment_of state.now)) }
     ensures begins { IfOk result (AreRows (string_bytes head.now.variable)) }
 {
@@ -63,7 +65,7 @@ pub(crate) fn row_turn<'d>(
         return Ok(None);
     }
     let columns = checked_columns(alloc, asked, window.count)?;
-    let turn = Turn {
+    let frame = LoopFrame {
         name: head.variable.as_str(),
         items: all.items,
         from: window.from,
@@ -72,7 +74,7 @@ pub(crate) fn row_turn<'d>(
         at: 0,
         kind: LoopKind::TableRow(columns),
     };
-    Ok(Some((turn, columns)))
+    Ok(Some((frame, columns)))
 }
 
 /// Which of so many items are asked for. The limit is evaluated before the offset.
@@ -93,7 +95,7 @@ fn evaluate_window(
 
 /// What `forloop` is outside of any loop that is under way, for the `parentloop` of one that begins.
 fn forloop_elsewhere(alloc: Global, state: &State<'_>) -> Result<Value>
-    ensures { Gives (λ v. parent_of ((environment_of state.now).local (codes "forloop")) (view v)) result (value_or_nil (codes "forloop") (environment_of state.now)) }
+    ensures { IsValueOrMemory (λ v. parent_of ((environment_of state.now).local (codes "forloop")) (view v)) result (value_or_nil (codes "forloop") (environment_of state.now)) }
 {
     match state.look_up("forloop") {
         Some(value) => value.copy(alloc),

@@ -1,16 +1,16 @@
 //! Pages: what a template shows in a run of its own, with how that run ended.
 ghost use Rattle.std.specs.Prelude.{◌≡◌, [], false, length, IfErr, IfOk, string_bytes};
-ghost use Rattle.liquid_model.specs.Answer.{Gives};
-ghost use Rattle.liquid_model.specs.Told.{is_memory};
+ghost use Rattle.liquid_model.specs.Answer.{IsValueOrMemory};
+ghost use Rattle.liquid_model.specs.ErrorKinds.{is_memory};
 ghost use Rattle.liquid_core.specs.Held.{held};
 ghost use Rattle.liquid_core.specs.States.{environment_of, layers_of, loops_of, new_layers};
 ghost use Rattle.liquid_syntax.specs.Templates.{partials_of, tree_of};
 ghost use Rattle.liquid_meaning.specs.Meaning.{meaning};
-ghost use Rattle.liquid_lib.specs.Engine.{setting_of};
+ghost use Rattle.liquid_lib.specs.inside.Engine.{setting_of};
 ghost use Rattle.liquid_lib.specs.Pages.{ended_page, page_over, page_view, shown};
 
+use crate::context::RunContext;
 use crate::counted::NoWriter;
-use crate::given::Given;
 use crate::lent::run_template;
 use crate::output::Output;
 use liquid_core::{Data, Error, ErrorKind, HostFilters, NamedFilters, Object, Result, State};
@@ -39,17 +39,17 @@ pub fn render_page(
     depth: u32,
     facts: &Object,
 ) -> Result<Page>
-    ensures { Gives page_view result (page_over depth (partials_of partials.now) (held facts.now) (tree_of template.now)) }
+    ensures { IsValueOrMemory page_view result (page_over depth (partials_of partials.now) (held facts.now) (tree_of template.now)) }
 {
     let host: Option<&HostFilters> = None;
-    let given = Given {
+    let context = RunContext {
         partials,
         host: &host,
         depth,
         positions: template.positions(),
     };
     let mut state = state_over(alloc, facts);
-    page_of_run(alloc, template, &given, &mut state)
+    page_of_run(alloc, template, &context, &mut state)
 }
 
 /// A new state over data that is lent. It takes no memory.
@@ -66,11 +66,11 @@ fn state_over<'d>(alloc: Global, facts: &'d Object) -> State<'d>
 fn page_of_run<H: NamedFilters>(
     alloc: Global,
     template: &Template,
-    given: &Given<'_, H>,
+    context: &RunContext<'_, H>,
     state: &mut State<'_>,
 ) -> Result<Page>
     requires plain { length (loops_of state.old) ≡ 0 }
-    ensures { Gives page_view result (shown (meaning (setting_of H.named given.now) given.now.depth (tree_of template.now) (environment_of state.old))) }
+    ensures { IsValueOrMemory page_view result (shown (meaning (setting_of H.named context.now) context.now.depth (tree_of template.now) (environment_of state.old))) }
 {
     let mut writer = NoWriter;
     let mut out = Output {
@@ -78,7 +78,7 @@ fn page_of_run<H: NamedFilters>(
         buffer: None,
     };
     let outer = out.open(alloc);
-    let answer = run_template(alloc, template, given, &mut out, state);
+    let answer = run_template(alloc, template, context, &mut out, state);
     let text = out.close(outer);
     page_of_end(text, answer)
 }

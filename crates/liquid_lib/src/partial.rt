@@ -1,14 +1,14 @@
 //! What a tag that runs a partial names: the partial, and the scope of its pairs.
 ghost use Rattle.std.specs.Prelude.{◌≤◌, IfOk, length, string_bytes};
 ghost use Rattle.liquid_model.specs.Answer.{Answers};
-ghost use Rattle.liquid_model.specs.Told.{Told};
+ghost use Rattle.liquid_model.specs.ErrorKinds.{IsKindOrMemory};
 ghost use Rattle.liquid_model.specs.View.{pairs_view};
 ghost use Rattle.liquid_core.specs.ExpressionView.{expression_view};
 ghost use Rattle.liquid_core.specs.Held.{held};
 ghost use Rattle.liquid_core.specs.States.{environment_of};
 ghost use Rattle.liquid_syntax.specs.Flats.{bindings_view};
 ghost use Rattle.liquid_syntax.specs.Templates.{list_of, most_of, partials_of, tree_of};
-ghost use Rattle.liquid_lib.specs.Partials.{bound_include, bound_object, bound_scope, partial_of, rendered_of};
+ghost use Rattle.liquid_lib.specs.inside.Partials.{bound_include, bound_object, bound_scope, partial_of, rendered_of};
 ghost use Rattle.liquid_meaning.specs.Meaning.{name_of};
 
 use liquid_core::{Error, ErrorKind, Expression, Object, Result, State, Value, store};
@@ -116,7 +116,7 @@ pub(crate) fn partial_rendered<'p>(
 }
 
 fn unknown(alloc: Global, name: &str) -> Error
-    ensures { Told ErrorKind.UnknownPartial result.kind }
+    ensures { IsKindOrMemory ErrorKind.UnknownPartial result.kind }
 {
     Error::formatted(
         alloc,
@@ -127,7 +127,7 @@ fn unknown(alloc: Global, name: &str) -> Error
 
 /// The fault of a partial that is entered with no depth left.
 pub(crate) fn too_deep(alloc: Global) -> Error
-    ensures { Told ErrorKind.TooDeep result.kind }
+    ensures { IsKindOrMemory ErrorKind.TooDeep result.kind }
 {
     Error::new(
         alloc,

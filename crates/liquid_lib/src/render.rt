@@ -7,7 +7,7 @@ ghost use Rattle.liquid_core.specs.States.{environment_of, layers_of, loops_of};
 ghost use Rattle.liquid_syntax.specs.Templates.{tree_of};
 ghost use Rattle.liquid_tree.specs.Tree.{Nodes};
 ghost use Rattle.liquid_lib.specs.Added.{AppendsPart};
-ghost use Rattle.liquid_lib.specs.Engine.{setting_of};
+ghost use Rattle.liquid_lib.specs.inside.Engine.{setting_of};
 ghost use Rattle.liquid_lib.specs.Failures.{OneFailed, AtMostOneFailed};
 ghost use Rattle.liquid_meaning.specs.Isolation.{changes, names_of_run};
 ghost use Rattle.liquid_lib.specs.Kept.{LayersKept, AreRenders};
@@ -17,8 +17,8 @@ ghost use Rattle.liquid_lib.specs.Rendered.{PerformsForCut, run_in, outcome_in, 
 ghost use Rattle.liquid_meaning.specs.Runs.{buffered, ended_with};
 ghost use Rattle.liquid_lib.specs.RuntimeView.{SettingKept, layers_in, environment_in};
 
+use crate::context::RunContext;
 use crate::counted::{CountedWrite, NoWriter};
-use crate::given::Given;
 use crate::lent::run_template;
 use crate::output::Output;
 use crate::runtime::Runtime;
@@ -110,7 +110,7 @@ impl Renderable for Template {
             Some(partials) => write_template(
                 alloc,
                 self,
-                &Given {
+                &RunContext {
                     partials,
                     host: &runtime.host,
                     depth: runtime.depth,
@@ -122,7 +122,7 @@ impl Renderable for Template {
             None => write_template(
                 alloc,
                 self,
-                &Given {
+                &RunContext {
                     partials: &Partials::new(alloc),
                     host: &runtime.host,
                     depth: runtime.depth,
@@ -139,7 +139,7 @@ impl Renderable for Template {
             Some(partials) => template_text(
                 alloc,
                 self,
-                &Given {
+                &RunContext {
                     partials,
                     host: &runtime.host,
                     depth: runtime.depth,
@@ -150,7 +150,7 @@ impl Renderable for Template {
             None => template_text(
                 alloc,
                 self,
-                &Given {
+                &RunContext {
                     partials: &Partials::new(alloc),
                     host: &runtime.host,
                     depth: runtime.depth,
@@ -166,15 +166,15 @@ impl Renderable for Template {
 fn write_template<W: CountedWrite, H: NamedFilters>(
     alloc: Global,
     template: &Template,
-    given: &Given<'_, H>,
+    context: &RunContext<'_, H>,
     writer: &mut W,
     state: &mut State<'_>,
 ) -> Result<()>
     requires plain { length (loops_of state.old) ≡ 0 }
-    ensures performs { Performs result (meaning (setting_of H.named given.now) given.now.depth (tree_of template.now))
+    ensures performs { Performs result (meaning (setting_of H.named context.now) context.now.depth (tree_of template.now))
         (at_writer W.contents W.failure_count writer.old (environment_of state.old))
         (at_writer W.contents W.failure_count writer.new (environment_of state.new)) }
-    ensures kept { LayersKept (names_of_run (setting_of H.named given.now) (tree_of template.now)) (layers_of state.old) (layers_of state.new) }
+    ensures kept { LayersKept (names_of_run (setting_of H.named context.now) (tree_of template.now)) (layers_of state.old) (layers_of state.new) }
     ensures alone { AreRenders (tree_of template.now) → layers_of state.new ≡ layers_of state.old }
     ensures plain { length (loops_of state.new) ≡ 0 }
 {
@@ -182,7 +182,7 @@ fn write_template<W: CountedWrite, H: NamedFilters>(
         writer,
         buffer: None,
     };
-    let answer = run_template(alloc, template, given, &mut out, state);
+    let answer = run_template(alloc, template, context, &mut out, state);
     let Output {
         writer: written,
         buffer,
@@ -197,14 +197,14 @@ fn write_template<W: CountedWrite, H: NamedFilters>(
 fn template_text<H: NamedFilters>(
     alloc: Global,
     template: &Template,
-    given: &Given<'_, H>,
+    context: &RunContext<'_, H>,
     state: &mut State<'_>,
 ) -> Result<String>
     requires plain { length (loops_of state.old) ≡ 0 }
-    ensures performs { Meets (λ t. string_bytes t) result (buffered (meaning (setting_of H.named given.now) given.now.depth (tree_of template.now)))
+    ensures performs { Meets (λ t. string_bytes t) result (buffered (meaning (setting_of H.named context.now) context.now.depth (tree_of template.now)))
         (nowhere (environment_of state.old))
         (nowhere (environment_of state.new)) }
-    ensures kept { LayersKept (names_of_run (setting_of H.named given.now) (tree_of template.now)) (layers_of state.old) (layers_of state.new) }
+    ensures kept { LayersKept (names_of_run (setting_of H.named context.now) (tree_of template.now)) (layers_of state.old) (layers_of state.new) }
     ensures alone { AreRenders (tree_of template.now) → layers_of state.new ≡ layers_of state.old }
     ensures plain { length (loops_of state.new) ≡ 0 }
 {
@@ -214,7 +214,7 @@ fn template_text<H: NamedFilters>(
         buffer: None,
     };
     let outer = out.open(alloc);
-    let answer = run_template(alloc, template, given, &mut out, state);
+    let answer = run_template(alloc, template, context, &mut out, state);
     let text = out.close(outer);
     answer?;
     Ok(text)

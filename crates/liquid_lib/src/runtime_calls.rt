@@ -1,7 +1,7 @@
 //! What a template is run in: how it is made, read and changed.
 ghost use Rattle.std.specs.Prelude.{◌≡◌, [], Some, map, option_map, string_bytes, IfErr, IsOk, IsTrue, OnErr};
 ghost use Rattle.std.specs.Option.{ok_or};
-ghost use Rattle.liquid_model.specs.Answer.{Answers, Gives, TakesNoMemory};
+ghost use Rattle.liquid_model.specs.Answer.{Answers, IsValueOrMemory, TakesNoMemory};
 ghost use Rattle.liquid_model.specs.Cow.{cow_view};
 ghost use Rattle.liquid_model.specs.Errors.{HasMessageUnlessMemory, nowhere_message};
 ghost use Rattle.liquid_core.specs.Expressions.{value_along, begins_with_text};
@@ -124,7 +124,7 @@ impl<'p> Runtime<'p> {
     /// What a path leads to, as `State::try_get`. It refuses for `Memory` alone, and takes memory only for the text of a
     /// first step that is no text itself.
     pub fn try_get<'a>(&'a self, alloc: Global, path: &[Value]) -> Result<Option<ValueCow<'a>>>
-        ensures value { Gives (λ r. option_map cow_view r) result (value_along (environment_in self.now) (map view path.now)) }
+        ensures value { IsValueOrMemory (λ r. option_map cow_view r) result (value_along (environment_in self.now) (map view path.now)) }
         ensures no_memory { IsTrue (begins_with_text (map view path.now)) → IsOk result }
     {
         self.state.try_get(alloc, path)
@@ -141,7 +141,7 @@ impl<'p> Runtime<'p> {
 
     /// Sets an assigned variable. Without the memory for it nothing changes.
     pub fn set_global(&mut self, name: String, value: Value) -> Result<()>
-        ensures set { Gives (λ _. layers_in self.new) result (with_assigned (string_bytes name) (view value) (layers_in self.old)) }
+        ensures set { IsValueOrMemory (λ _. layers_in self.new) result (with_assigned (string_bytes name) (view value) (layers_in self.old)) }
         ensures unchanged { OnErr result (layers_in self.new ≡ layers_in self.old) }
         ensures same { SettingKept self.old self.new }
     {
@@ -157,7 +157,7 @@ impl<'p> Runtime<'p> {
 
     /// Sets a counter. Without the memory for it nothing changes.
     pub fn set_index(&mut self, name: String, value: Value) -> Result<()>
-        ensures set { Gives (λ _. layers_in self.new) result (with_counter (string_bytes name) (view value) (layers_in self.old)) }
+        ensures set { IsValueOrMemory (λ _. layers_in self.new) result (with_counter (string_bytes name) (view value) (layers_in self.old)) }
         ensures unchanged { OnErr result (layers_in self.new ≡ layers_in self.old) }
         ensures same { SettingKept self.old self.new }
     {
@@ -166,7 +166,7 @@ impl<'p> Runtime<'p> {
 
     /// Adds an innermost scope. Without the memory for it nothing changes.
     pub fn push_scope(&mut self, scope: Object) -> Result<()>
-        ensures pushed { Gives (λ _. layers_in self.new) result (with_scope_pushed (held scope) (layers_in self.old)) }
+        ensures pushed { IsValueOrMemory (λ _. layers_in self.new) result (with_scope_pushed (held scope) (layers_in self.old)) }
         ensures unchanged { OnErr result (layers_in self.new ≡ layers_in self.old) }
         ensures same { SettingKept self.old self.new }
     {

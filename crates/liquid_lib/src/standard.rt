@@ -1,6 +1,6 @@
 //! The language of the standard library.
 ghost use Rattle.std.specs.Prelude.{◌≡◌, IfOk, IfErr};
-ghost use Rattle.liquid_model.specs.Answer.{Gives};
+ghost use Rattle.liquid_model.specs.Answer.{IsValueOrMemory};
 ghost use Rattle.liquid_model.specs.Maps.{insert, listed};
 ghost use Rattle.liquid_core.specs.Environment.{bind_each};
 ghost use Rattle.liquid_lib.specs.Standard.{IsStandard, standard_blocks, standard_tags, with_filters};
@@ -94,7 +94,7 @@ pub fn language(alloc: Global) -> Result<Language>
 
 /// Registers the standard tags.
 fn register_tags(alloc: Global, tags: &mut Registry<TagKind>) -> Result<()>
-    ensures { Gives (λ _. listed (kinds_of tags.new)) result (bind_each standard_tags (listed (kinds_of tags.old))) }
+    ensures { IsValueOrMemory (λ _. listed (kinds_of tags.new)) result (bind_each standard_tags (listed (kinds_of tags.old))) }
 {
     let assign = AssignTag::new();
     register(alloc, tags, assign.tag(), TagKind::from(assign))?;
@@ -116,7 +116,7 @@ fn register_tags(alloc: Global, tags: &mut Registry<TagKind>) -> Result<()>
 
 /// Registers the standard blocks.
 fn register_blocks(alloc: Global, blocks: &mut Registry<BlockKind>) -> Result<()>
-    ensures { Gives (λ _. listed (kinds_of blocks.new)) result (bind_each standard_blocks (listed (kinds_of blocks.old))) }
+    ensures { IsValueOrMemory (λ _. listed (kinds_of blocks.new)) result (bind_each standard_blocks (listed (kinds_of blocks.old))) }
 {
     let raw = RawBlock::new();
     register(alloc, blocks, raw.start_tag(), BlockKind::from(raw))?;
@@ -160,14 +160,14 @@ fn register<K: Copy + Drop>(
     name: &str,
     kind: K,
 ) -> Result<()>
-    ensures { Gives (λ _. listed (kinds_of kinds.new)) result (insert (listed (kinds_of kinds.old)) name.now kind) }
+    ensures { IsValueOrMemory (λ _. listed (kinds_of kinds.new)) result (insert (listed (kinds_of kinds.old)) name.now kind) }
 {
     kinds.register(String::from_str(alloc, name)?, kind)
 }
 
 /// Registers each filter under its own name.
 fn register_filters(alloc: Global, filters: &mut FilterRegistry, kinds: &[FilterKind]) -> Result<()>
-    ensures { Gives (λ _. listed (registered_in filters.new)) result (with_filters (listed (registered_in filters.old)) kinds.now) }
+    ensures { IsValueOrMemory (λ _. listed (registered_in filters.new)) result (with_filters (listed (registered_in filters.old)) kinds.now) }
 {
     for kind in kinds {
         register_filter(alloc, filters, kind.name(), *kind)?;
@@ -182,7 +182,7 @@ fn register_filter(
     name: &str,
     kind: FilterKind,
 ) -> Result<()>
-    ensures { Gives (λ _. listed (registered_in filters.new)) result (insert (listed (registered_in filters.old)) name.now (Kind kind)) }
+    ensures { IsValueOrMemory (λ _. listed (registered_in filters.new)) result (insert (listed (registered_in filters.old)) name.now (Kind kind)) }
 {
     filters.register(String::from_str(alloc, name)?, kind)
 }

@@ -4,7 +4,7 @@ use Rattle.std.specs.Cmp.{IsStrictWeakOrder}
 use Rattle.std.specs.List.{filter, list_all}
 use Rattle.std.specs.List.Sorted.{ties, IsSortedBy, IsStableBy}
 use Rattle.std.proofs.lemmas.List.Sorted.{sorted_far}
-use Rattle.liquid_list_filters.specs.Sorting.{place, sorted}
+use Rattle.liquid_list_filters.specs.Sorting.{insert_in_order, sorted}
 
 -- no item of the list is below x
 abbrev pub NoneBelow : {X : Type 0} → (X → X → Bool) → X → List X → Type 0
@@ -91,12 +91,12 @@ one_order lt o (y ∷ ys) (z ∷ zs) ry rz h =
     ap (λ w. w ∷ ys) s ∙ ap (λ w. z ∷ w) t
 
 -- ---- the function is such a list
-none_either : {X : Type 0} (lt : X → X → Bool) (v x y : X) (ys : List X) (t : Bool) → lt x v ≡ false → NoneBelow lt v (y ∷ ys) → NoneBelow lt v (place lt x ys)
-    → NoneBelow lt v (if t then y ∷ place lt x ys else x ∷ y ∷ ys)
+none_either : {X : Type 0} (lt : X → X → Bool) (v x y : X) (ys : List X) (t : Bool) → lt x v ≡ false → NoneBelow lt v (y ∷ ys) → NoneBelow lt v (insert_in_order lt x ys)
+    → NoneBelow lt v (if t then y ∷ insert_in_order lt x ys else x ∷ y ∷ ys)
 none_either lt v x y ys true h n m = (n.0, m)
 none_either lt v x y ys false h n m = (h, n)
 
-none_more : {X : Type 0} (lt : X → X → Bool) (v x : X) (ys : List X) → lt x v ≡ false → NoneBelow lt v ys → NoneBelow lt v (place lt x ys)
+none_more : {X : Type 0} (lt : X → X → Bool) (v x : X) (ys : List X) → lt x v ≡ false → NoneBelow lt v ys → NoneBelow lt v (insert_in_order lt x ys)
 none_more lt v x [] h n = (h, tt)
 none_more lt v x (y ∷ ys) h n = none_either lt v x y ys (lt y x) h n (none_more lt v x ys h n.1)
 
@@ -104,12 +104,12 @@ pub none_through : {X : Type 0} (lt : X → X → Bool) (o : IsStrictWeakOrder l
 none_through lt o x y [] h n = tt
 none_through lt o x y (w ∷ ys) h n = (o.chain w y x n.0 h, none_through lt o x y ys h n.1)
 
-rises_either : {X : Type 0} (lt : X → X → Bool) (o : IsStrictWeakOrder lt) (x y : X) (ys : List X) (t : Bool) → lt y x ≡ t → Rises lt (y ∷ ys) → Rises lt (place lt x ys)
-    → Rises lt (if t then y ∷ place lt x ys else x ∷ y ∷ ys)
+rises_either : {X : Type 0} (lt : X → X → Bool) (o : IsStrictWeakOrder lt) (x y : X) (ys : List X) (t : Bool) → lt y x ≡ t → Rises lt (y ∷ ys) → Rises lt (insert_in_order lt x ys)
+    → Rises lt (if t then y ∷ insert_in_order lt x ys else x ∷ y ∷ ys)
 rises_either lt o x y ys true e r m = (none_more lt y x ys (o.one_way y x e) r.0, m)
 rises_either lt o x y ys false e r m = ((e, none_through lt o x y ys e r.0), r)
 
-place_rises : {X : Type 0} (lt : X → X → Bool) (o : IsStrictWeakOrder lt) (x : X) (ys : List X) → Rises lt ys → Rises lt (place lt x ys)
+place_rises : {X : Type 0} (lt : X → X → Bool) (o : IsStrictWeakOrder lt) (x : X) (ys : List X) → Rises lt ys → Rises lt (insert_in_order lt x ys)
 place_rises lt o x [] r = (tt, tt)
 place_rises lt o x (y ∷ ys) r = rises_either lt o x y ys (lt y x) refl r (place_rises lt o x ys r.1)
 
@@ -129,12 +129,12 @@ swapped p x y zs false true ex ey h = rw (ex, ey) refl
 swapped p x y zs false false ex ey h = rw (ex, ey) refl
 
 keeps_either : {X : Type 0} (lt : X → X → Bool) (p : X → Bool) (apart : TellsApart lt p) (x y : X) (ys : List X) (t : Bool) → lt y x ≡ t
-    → filter p (place lt x ys) ≡ filter p (x ∷ ys) → filter p (if t then y ∷ place lt x ys else x ∷ y ∷ ys) ≡ filter p (x ∷ y ∷ ys)
+    → filter p (insert_in_order lt x ys) ≡ filter p (x ∷ ys) → filter p (if t then y ∷ insert_in_order lt x ys else x ∷ y ∷ ys) ≡ filter p (x ∷ y ∷ ys)
 keeps_either lt p apart x y ys true e m =
     ap (λ t. cond (p y) (y ∷ t) t) m ∙ swapped p x y ys (p x) (p y) refl refl (λ a b. apart x y e a b)
 keeps_either lt p apart x y ys false e m = refl
 
-place_keeps : {X : Type 0} (lt : X → X → Bool) (p : X → Bool) (apart : TellsApart lt p) (x : X) (ys : List X) → filter p (place lt x ys) ≡ filter p (x ∷ ys)
+place_keeps : {X : Type 0} (lt : X → X → Bool) (p : X → Bool) (apart : TellsApart lt p) (x : X) (ys : List X) → filter p (insert_in_order lt x ys) ≡ filter p (x ∷ ys)
 place_keeps lt p apart x [] = refl
 place_keeps lt p apart x (y ∷ ys) = keeps_either lt p apart x y ys (lt y x) refl (place_keeps lt p apart x ys)
 
@@ -179,13 +179,13 @@ map_either : {X Y : Type 0} (f : X → Y) (x y : X) (ys zs : List X) (us : List 
 map_either f x y ys zs us true e = ap (λ l. f y ∷ l) e
 map_either f x y ys zs us false e = refl
 
-map_place : {X Y : Type 0} (f : X → Y) (lt : Y → Y → Bool) (x : X) (ys : List X) → map f (place (λ a b. lt (f a) (f b)) x ys) ≡ place lt (f x) (map f ys)
+map_place : {X Y : Type 0} (f : X → Y) (lt : Y → Y → Bool) (x : X) (ys : List X) → map f (insert_in_order (λ a b. lt (f a) (f b)) x ys) ≡ insert_in_order lt (f x) (map f ys)
 map_place f lt x [] = refl
 map_place f lt x (y ∷ ys) = map_either f x y ys _ _ (lt (f y) (f x)) (map_place f lt x ys)
 
 pub map_sorted : {X Y : Type 0} (f : X → Y) (lt : Y → Y → Bool) (xs : List X) → map f (sorted (λ a b. lt (f a) (f b)) xs) ≡ sorted lt (map f xs)
 map_sorted f lt [] = refl
-map_sorted f lt (x ∷ xs) = map_place f lt x _ ∙ ap (place lt (f x)) (map_sorted f lt xs)
+map_sorted f lt (x ∷ xs) = map_place f lt x _ ∙ ap (insert_in_order lt (f x)) (map_sorted f lt xs)
 
 -- a sort has the items of its list
 and_swapped : (a b c : Bool) → (a && (b && c)) ≡ (b && (a && c))
@@ -198,7 +198,7 @@ all_either : {X : Type 0} (p : X → Bool) (x y : X) (ys zs : List X) (t : Bool)
 all_either p x y ys zs true e = ap (λ b. p y && b) e ∙ and_swapped (p y) (p x) (list_all p ys)
 all_either p x y ys zs false e = refl
 
-all_placed : {X : Type 0} (lt : X → X → Bool) (p : X → Bool) (x : X) (ys : List X) → list_all p (place lt x ys) ≡ list_all p (x ∷ ys)
+all_placed : {X : Type 0} (lt : X → X → Bool) (p : X → Bool) (x : X) (ys : List X) → list_all p (insert_in_order lt x ys) ≡ list_all p (x ∷ ys)
 all_placed lt p x [] = refl
 all_placed lt p x (y ∷ ys) = all_either p x y ys _ (lt y x) (all_placed lt p x ys)
 

@@ -12,13 +12,13 @@ use Rattle.liquid_filter_base.specs.Arguments.{Answer}
 use Rattle.liquid_list_filters.specs.Sequences.{list, sequence, all_maps, property}
 
 -- an item put before the first that is not below it
-abbrev pub place : {X : Type 0} → (X → X → Bool) → X → List X → List X
-place below x [] = x ∷ []
-place below x (y ∷ ys) = if below y x then y ∷ place below x ys else x ∷ y ∷ ys
+abbrev pub insert_in_order : {X : Type 0} → (X → X → Bool) → X → List X → List X
+insert_in_order below x [] = x ∷ []
+insert_in_order below x (y ∷ ys) = if below y x then y ∷ insert_in_order below x ys else x ∷ y ∷ ys
 
 abbrev pub sorted : {X : Type 0} → (X → X → Bool) → List X → List X
 sorted below [] = []
-sorted below (x ∷ xs) = place below x (sorted below xs)
+sorted below (x ∷ xs) = insert_in_order below x (sorted below xs)
 
 -- what an item is sorted by: a value, or none for nil
 abbrev pub Key : Type 0

@@ -25,7 +25,7 @@ use Rattle.std.proofs.Math.Facts.{leb_yes, yes_leb}
 use Rattle.liquid_filters.specs.RunKinds.{is_run_kind, EndsAsRun}
 use Rattle.liquid_filters.proofs.AnswerKinds.{kinds_of_answers}
 use Rattle.liquid_model.specs.Fallible as fallible
-use Rattle.liquid_model.specs.Told.{number_of}
+use Rattle.liquid_model.specs.ErrorKinds.{number_of}
 use Rattle.liquid_core.specs.Hosts.{no_host}
 use Rattle.liquid_tree.specs.Evaluation.{answers_with}
 use Rattle.liquid_tree.specs.Tree.{existing, hosted}

@@ -3,12 +3,12 @@ use Rattle.std.specs.Prelude.{◌≡◌, ◌↔◌, false, MatchBool, ⊤, Resul
 use Rattle.liquid_model.specs.declared.error.Error.{Error}
 use Rattle.liquid_model.specs.declared.error.ErrorKind.{ErrorKind}
 use Rattle.liquid_model.specs.declared.error.ErrorKind.TheVariants.{Memory}
-use Rattle.liquid_model.specs.Told.{is_memory, is_refusal}
+use Rattle.liquid_model.specs.ErrorKinds.{is_memory, is_refusal}
 
 -- the answer is the wanted one, seen by view, unless memory ran out
-abbrev pub Gives : {X Y : Type 0} → (X → Y) → Result X Error → Y → Type 0
-Gives view (Ok x) wanted = view x ≡ wanted
-Gives view (Err e) wanted = e.kind ≡ Memory
+abbrev pub IsValueOrMemory : {X Y : Type 0} → (X → Y) → Result X Error → Y → Type 0
+IsValueOrMemory view (Ok x) wanted = view x ≡ wanted
+IsValueOrMemory view (Err e) wanted = e.kind ≡ Memory
 
 -- memory ran out, or the kind is the wanted answer
 abbrev pub Faulted : {Y : Type 0} → ErrorKind → Result Y ErrorKind → Type 0

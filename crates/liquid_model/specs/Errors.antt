@@ -3,7 +3,7 @@ use Rattle.std.specs.Prelude.{◌≡◌, ◌++◌, List, ℕ, [], ◌∷◌, cod
 use Rattle.std.specs.Fmt.{decimal}
 use Rattle.std.specs.Option.{option_map, option_map_or}
 use Rattle.liquid_model.specs.Data.{Datum, text_of}
-use Rattle.liquid_model.specs.Told.{is_memory, name_of}
+use Rattle.liquid_model.specs.ErrorKinds.{is_memory, name_of}
 use Rattle.liquid_model.specs.declared.error.Error.{Error}
 use Rattle.liquid_model.specs.declared.location.Location.{Location}
 use Rattle.liquid_model.specs.declared.location.Origin.{Origin}

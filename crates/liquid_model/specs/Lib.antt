@@ -4,6 +4,7 @@ pub mod Compare
 pub mod Cow
 pub mod Data
 pub mod Digest
+pub mod ErrorKinds
 pub mod Errors
 pub mod Fallible
 pub mod Find
@@ -14,6 +15,5 @@ pub mod Maps
 pub mod Order
 pub mod OrderLaws
 pub mod Texts
-pub mod Told
 pub mod View
 pub mod Whole

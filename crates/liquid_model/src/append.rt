@@ -1,6 +1,6 @@
 //! The text of a value, put behind a text that is there, part by part.
 ghost use Rattle.std.specs.Prelude.{◌++◌, string_bytes};
-ghost use Rattle.liquid_model.specs.Answer.{Gives};
+ghost use Rattle.liquid_model.specs.Answer.{IsValueOrMemory};
 ghost use Rattle.liquid_model.specs.Appended.{Appended, Begun};
 ghost use Rattle.liquid_model.specs.Data.{text_of, items_text, pairs_text};
 ghost use Rattle.liquid_model.specs.View.{view, items_view, pairs_view};
@@ -13,7 +13,7 @@ impl Value {
     /// Appends the text of the value to `out`. Where there is no memory, a beginning of it may stand there, behind what
     /// was there before.
     pub fn append_text(&self, out: &mut String) -> Result<()>
-        ensures appended { Gives (λ _. string_bytes out.new) result (string_bytes out.old ++ text_of (view self.now)) }
+        ensures appended { IsValueOrMemory (λ _. string_bytes out.new) result (string_bytes out.old ++ text_of (view self.now)) }
         ensures begun { Begun (string_bytes out.old) (string_bytes out.new) (text_of (view self.now)) }
     {
         append_value(self, out)

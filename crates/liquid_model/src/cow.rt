@@ -1,6 +1,6 @@
 //! A value that is owned or borrowed.
 ghost use Rattle.std.specs.Prelude.{◌≡◌, IsTrue, IsOk};
-ghost use Rattle.liquid_model.specs.Answer.{Gives};
+ghost use Rattle.liquid_model.specs.Answer.{IsValueOrMemory};
 ghost use Rattle.liquid_model.specs.Cow.{cow_view, is_owned};
 ghost use Rattle.liquid_model.specs.View.{view};
 
@@ -30,7 +30,7 @@ impl<'a> ValueCow<'a> {
 
     /// The value itself, which takes no memory, or a copy of a borrowed one.
     pub fn into_owned(self, alloc: Global) -> Result<Value>
-        ensures value { Gives view result (cow_view self.entry) }
+        ensures value { IsValueOrMemory view result (cow_view self.entry) }
         ensures no_memory { IsTrue (is_owned self.entry) → IsOk result }
     {
         match self {

@@ -2,7 +2,7 @@
 ghost use Rattle.std.specs.Prelude.{◌≡◌, ◌⊎◌, false, Some, IfSome};
 ghost use Rattle.std.specs.Option.{option_map};
 ghost use Rattle.liquid_model.specs.Errors.{HasMessageUnlessMemory, error_text, location_text, partial_location_text};
-ghost use Rattle.liquid_model.specs.Told.{Told, is_memory, number_of, name_of};
+ghost use Rattle.liquid_model.specs.ErrorKinds.{IsKindOrMemory, is_memory, number_of, name_of};
 ghost use Rattle.liquid_model.specs.declared.error.ErrorKind.TheVariants.{Memory};
 
 use crate::location::Location;
@@ -164,7 +164,7 @@ pub struct Error {
 impl Error {
     /// A fault of this kind with this message, or `Memory` where there is no room for the message.
     pub fn new(alloc: Global, kind: ErrorKind, message: &str) -> Error
-        ensures told { Told kind result.kind }
+        ensures told { IsKindOrMemory kind result.kind }
         ensures message { HasMessageUnlessMemory message.now result }
     {
         match String::from_str(alloc, message) {
@@ -188,7 +188,7 @@ impl Error {
     /// A fault of this kind with a message that is written out, as a `format_args!` is, or `Memory` where
     /// there is no room for the message.
     pub fn formatted<M: fmt::Display + Drop>(alloc: Global, kind: ErrorKind, message: M) -> Error
-        ensures told { Told kind result.kind }
+        ensures told { IsKindOrMemory kind result.kind }
         ensures message { IfSome (M.output message) (λ written. HasMessageUnlessMemory written result) }
     {
         match message.to_string(alloc) {
@@ -200,7 +200,7 @@ impl Error {
     /// The same fault with where it stands. One that says where it stands already keeps that. `Memory`, without a message, where
     /// there is no room for the location.
     pub fn located(self, alloc: Global, location: Location) -> Error
-        ensures told { Told self.kind result.kind }
+        ensures told { IsKindOrMemory self.kind result.kind }
         ensures whole { is_memory result.kind ≡ false → (result.message ≡ self.message) × IfSome result.location (λ told. (self.location ≡ Some told) ⊎ (told.value ≡ location)) }
         ensures kept { IfSome self.location (λ known. result ≡ self) }
     {
@@ -220,7 +220,7 @@ impl Error {
     /// The same fault, told by the partial of this name: where it stands in the partial's own text, its location says so now.
     /// `Memory`, without a message, where there is no room for that.
     pub fn in_partial(self, alloc: Global, name: &str) -> Error
-        ensures told { Told self.kind result.kind }
+        ensures told { IsKindOrMemory self.kind result.kind }
         ensures message { is_memory result.kind ≡ false → result.message ≡ self.message }
         ensures location { is_memory result.kind ≡ false → option_map (λ l. location_text l.value) result.location ≡ option_map (λ l. partial_location_text name.now l.value) self.location }
     {

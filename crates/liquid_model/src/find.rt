@@ -1,6 +1,6 @@
 //! Finding along a path: step by step, with nothing copied and no memory taken.
 ghost use Rattle.std.specs.Prelude.{◌≡◌, ℕ, pos, length, map, Some, option_map, string_bytes, codes, true, IsOk};
-ghost use Rattle.liquid_model.specs.Answer.{Gives};
+ghost use Rattle.liquid_model.specs.Answer.{IsValueOrMemory};
 ghost use Rattle.liquid_model.specs.Cow.{cow_view};
 ghost use Rattle.liquid_model.specs.Data.{truth, number, array, object, text_of};
 ghost use Rattle.liquid_model.specs.Digest.{pairs_len};
@@ -40,7 +40,7 @@ impl Value {
     /// What is found is lent, and a length is owned. It takes no memory and is never refused, though the
     /// signature leaves room for it.
     pub fn find<'a>(&'a self, _alloc: Global, path: &[Value]) -> Result<Option<ValueCow<'a>>>
-        ensures value { Gives (λ r. option_map cow_view r) result (find (view self.now) (map view path.now)) }
+        ensures value { IsValueOrMemory (λ r. option_map cow_view r) result (find (view self.now) (map view path.now)) }
         ensures no_memory { IsOk result }
     {
         Ok(found_along(self, path))

@@ -1,6 +1,6 @@
 //! Maps from texts to values.
 ghost use Rattle.std.specs.Prelude.{◌≡◌, IfOk, IfErr, OnOk, OnErr, string_bytes, option_map};
-ghost use Rattle.liquid_model.specs.Answer.{Gives};
+ghost use Rattle.liquid_model.specs.Answer.{IsValueOrMemory};
 ghost use Rattle.liquid_model.specs.Data.{put};
 ghost use Rattle.liquid_model.specs.Find.{value_at};
 ghost use Rattle.liquid_model.specs.View.{view, pairs_view};
@@ -10,7 +10,7 @@ use crate::value::{Object, Value};
 
 /// Puts the value at the key, in place of one that stands there. Without the memory for it nothing changes.
 pub fn store(object: &mut Object, key: String, value: Value) -> Result<()>
-    ensures stored { Gives (λ _. pairs_view object.new.entries) result (put (string_bytes key) (view value) (pairs_view object.old.entries)) }
+    ensures stored { IsValueOrMemory (λ _. pairs_view object.new.entries) result (put (string_bytes key) (view value) (pairs_view object.old.entries)) }
     ensures unchanged { OnErr result (object.new.entries ≡ object.old.entries) }
 {
     drop(object.insert(key, value)?);

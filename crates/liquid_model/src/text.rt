@@ -1,7 +1,7 @@
 //! The text of a value: what an output writes.
 ghost use Rattle.std.specs.Prelude.{◌≡◌, ◌++◌, Some, string_bytes};
 ghost use Rattle.std.specs.Fmt.{WritesOnOk};
-ghost use Rattle.liquid_model.specs.Answer.{Gives};
+ghost use Rattle.liquid_model.specs.Answer.{IsValueOrMemory};
 ghost use Rattle.liquid_model.specs.Data.{text_of, items_text, pairs_text};
 ghost use Rattle.liquid_model.specs.View.{view, items_view, pairs_view};
 
@@ -25,7 +25,7 @@ impl Value {
     /// The text of the value: of nil it is empty, of a list its items' texts joined by nothing, and of a map
     /// key and value text, pair after pair.
     pub fn text(&self, alloc: Global) -> Result<String>
-        ensures { Gives (λ s. string_bytes s) result (text_of (view self.now)) }
+        ensures { IsValueOrMemory (λ s. string_bytes s) result (text_of (view self.now)) }
     {
         Ok(self.to_string(alloc)?)
     }

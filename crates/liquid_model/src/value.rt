@@ -1,6 +1,6 @@
 //! Values of templates.
 ghost use Rattle.std.specs.Prelude.{◌≡◌, map};
-ghost use Rattle.liquid_model.specs.Answer.{Gives};
+ghost use Rattle.liquid_model.specs.Answer.{IsValueOrMemory};
 ghost use Rattle.liquid_model.specs.Data.{truthy, is_default_datum, scalar};
 ghost use Rattle.liquid_model.specs.Lists.{list_of};
 ghost use Rattle.liquid_model.specs.View.{view, items_view, pairs_view};
@@ -32,7 +32,7 @@ pub enum Value {
 impl Value {
     /// An equal value that owns its parts.
     pub fn copy(&self, alloc: Global) -> Result<Value>
-        ensures { Gives view result (view self.now) }
+        ensures { IsValueOrMemory view result (view self.now) }
     {
         copied(alloc, self)
     }
@@ -72,7 +72,7 @@ impl Value {
 
 #[cycle(copied)]
 fn copied(alloc: Global, value: &Value) -> Result<Value>
-    ensures { Gives view result (view value.now) }
+    ensures { IsValueOrMemory view result (view value.now) }
 {
     match value {
         Value::Nil => Ok(Value::Nil),
@@ -86,7 +86,7 @@ fn copied(alloc: Global, value: &Value) -> Result<Value>
 
 #[cycle(copied)]
 fn copied_items(alloc: Global, items: &Vec<Value>) -> Result<Vec<Value>>
-    ensures { Gives (λ v. items_view v.items) result (items_view items.now.items) }
+    ensures { IsValueOrMemory (λ v. items_view v.items) result (items_view items.now.items) }
 {
     let mut copies = Vec::with_capacity(alloc, items.len())?;
     for item in items {
@@ -97,7 +97,7 @@ fn copied_items(alloc: Global, items: &Vec<Value>) -> Result<Vec<Value>>
 
 #[cycle(copied)]
 fn copied_pairs(alloc: Global, pairs: &Object) -> Result<Object>
-    ensures { Gives (λ m. pairs_view m.entries) result (pairs_view pairs.now.entries) }
+    ensures { IsValueOrMemory (λ m. pairs_view m.entries) result (pairs_view pairs.now.entries) }
 {
     let mut copies: Object = BTreeMap::new(alloc);
     for (key, value) in pairs.iter() {
@@ -110,7 +110,7 @@ fn copied_pairs(alloc: Global, pairs: &Object) -> Result<Object>
 /// Equal items that own their parts.
 #[tactic(auto, using(crate::proofs::Views::list_of_view))]
 pub fn copy_items(alloc: Global, list: &Vec<Value>) -> Result<Vec<Value>>
-    ensures { Gives (λ v. map view v.items) result (list_of (items_view list.now.items)) }
+    ensures { IsValueOrMemory (λ v. map view v.items) result (list_of (items_view list.now.items)) }
 {
     copied_items(alloc, list)
 }

@@ -3,7 +3,7 @@ use Rattle.std.specs.Prelude.{◌≡◌, ℕ, List, [], ◌∷◌, ◌++◌, Opt
 use Rattle.std.specs.Io.KnownBytes.{Keeps}
 use Rattle.std.specs.Option.{ok_or}
 use Rattle.liquid_model.specs.Texts.{Text}
-use Rattle.liquid_model.specs.Told.{is_refusal}
+use Rattle.liquid_model.specs.ErrorKinds.{is_refusal}
 use Rattle.liquid_model.specs.declared.error.ErrorKind.TheVariants.{Memory}
 use Rattle.liquid_page.specs.Words.{Named, NamedFiles, call_of}
 use Rattle.liquid_page.specs.Written.{IsBegun, IsWritten}

@@ -50,7 +50,7 @@ impl<W: Write> Buffered<W> {
     }
 
     /// Hands on what is held back, once. After a failure it hands on nothing and fails again.
-    pub fn hand_on(&mut self) -> io::Result<()>
+    pub fn flush_buffer(&mut self) -> io::Result<()>
         ensures bytes { Keeps (behind W.contents self.old) (behind W.contents self.new) }
         ensures empty { OnOk result (self.new.held.items ≡ []) }
         ensures told { self.new.failed ≡ is_err result }
@@ -88,7 +88,7 @@ impl<W: Write> Write for Buffered<W> {
         ensures stopped { self.old.failed ≡ true → self.new ≡ self.old }
     {
         if bytes.len() > ROOM.saturating_sub(self.held.len()) {
-            self.hand_on()?;
+            self.flush_buffer()?;
         }
         if self.failed {
             return Err(io::Error::from(io::ErrorKind::BrokenPipe));
@@ -105,7 +105,7 @@ impl<W: Write> Write for Buffered<W> {
         ensures empty { OnOk result (self.new.held.items ≡ []) }
         ensures stopped { self.old.failed ≡ true → self.new ≡ self.old }
     {
-        self.hand_on()?;
+        self.flush_buffer()?;
         self.writer.flush()
     }
 }

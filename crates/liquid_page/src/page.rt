@@ -186,11 +186,11 @@ pub fn write_page<W: Write + Drop>(
     let mut counted = Counted::new(buffered);
     let answer = run(alloc, template, data, partials, &mut counted);
     let mut buffered = counted.into_inner();
-    let handed_on = match &answer {
+    let flushed = match &answer {
         Ok(()) => buffered.flush(),
-        Err(_) => buffered.hand_on(),
+        Err(_) => buffered.flush_buffer(),
     };
-    let answer = match handed_on {
+    let answer = match flushed {
         Ok(()) => answer,
         Err(_) => Err(Error::new(alloc, ErrorKind::Write, "the writer refused the page")),
     };

@@ -4,7 +4,7 @@ use Rattle.std.specs.Prelude.{⊤, ◌⊎◌}
 use Rattle.std.specs.Io.KnownBytes.{Appends, Keeps}
 use Rattle.liquid_model.specs.Answer.{Faulted}
 use Rattle.liquid_model.specs.Data.{Pairs}
-use Rattle.liquid_model.specs.Told.{Told, is_memory, is_refusal, number_of}
+use Rattle.liquid_model.specs.ErrorKinds.{IsKindOrMemory, is_memory, is_refusal, number_of}
 use Rattle.liquid_model.specs.declared.error.Error.{Error}
 use Rattle.liquid_model.specs.declared.error.ErrorKind.{ErrorKind}
 use Rattle.liquid_model.specs.declared.error.ErrorKind.TheVariants.{Memory, Write}
@@ -50,14 +50,14 @@ told_by : (l : Language) (source : List ℕ) (e f : Error) (b : Bool) → is_mem
 told_by l source e f true is same h = tt
 told_by l source e f false is same h = subst (λ b. MatchBool b ⊤ (HasNoTree l source)) (ap is_memory same ∙ is) h
 
-pub told_parses : (l : Language) (source : List ℕ) (e f : Error) → Told e.kind f.kind → ParsesTo l source (Err e) → ParsesTo l source (Err f)
+pub told_parses : (l : Language) (source : List ℕ) (e f : Error) → IsKindOrMemory e.kind f.kind → ParsesTo l source (Err e) → ParsesTo l source (Err f)
 told_parses l source e f same h = told_by l source e f (is_memory f.kind) refl same h
 
 told_source_by : (e f : Error) (b : Bool) → is_memory f.kind ≡ b → MatchBool b ⊤ (e.kind ≡ f.kind) → MayRefuse e.kind → MatchBool b ⊤ (IsOfSource f.kind)
 told_source_by e f true is same h = tt
 told_source_by e f false is same h = subst (λ b. MatchBool b ⊤ (IsOfSource f.kind)) is (subst MayRefuse same h)
 
-pub told_source : (e f : Error) → Told e.kind f.kind → MayRefuse e.kind → MayRefuse f.kind
+pub told_source : (e f : Error) → IsKindOrMemory e.kind f.kind → MayRefuse e.kind → MayRefuse f.kind
 told_source e f same h = told_source_by e f (is_memory f.kind) refl same h
 
 -- ---- the page

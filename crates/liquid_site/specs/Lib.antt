@@ -2,4 +2,4 @@ pub mod Json
 pub mod Page
 pub mod PageLaw
 pub mod Shown
-pub mod Tokens
+pub mod inside

@@ -1,6 +1,6 @@
 //! Where the data has a fault, and its message with that place. The data is read once more for it, so that data without a
 //! fault pays nothing.
-ghost use Rattle.liquid_model.specs.Told.{Told};
+ghost use Rattle.liquid_model.specs.ErrorKinds.{IsKindOrMemory};
 
 use liquid_core::{Error, ErrorKind, Location, Origin, whole_of};
 use liquid_source::excerpt;
@@ -8,7 +8,7 @@ use std::alloc::{AllocError, Global};
 
 /// The fault of a text that is no JSON from the place on with so many bytes left.
 pub fn no_json(alloc: Global, text: &str, left: usize) -> Error
-    ensures { Told ErrorKind.InvalidInput result.kind }
+    ensures { IsKindOrMemory ErrorKind.InvalidInput result.kind }
 {
     match found_there(alloc, text, left) {
         Ok(found) => Error::with_message(ErrorKind::InvalidInput, found).located(
@@ -30,7 +30,7 @@ fn found_there(alloc: Global, text: &str, left: usize) -> Result<String, AllocEr
 
 /// The fault of data that is JSON, with where it stands: at a number that isn't whole, or else at the first value.
 pub fn with_place(alloc: Global, text: &str, error: Error) -> Error
-    ensures { Told error.kind result.kind }
+    ensures { IsKindOrMemory error.kind result.kind }
 {
     let left = match error.kind {
         ErrorKind::Memory => return error,

@@ -47,7 +47,7 @@ pub fn run<W: CountedWrite>(
 {
     let language = language(alloc)?;
     let read = read_texts(alloc, &language, template, data, partials)?;
-    show(alloc, read, writer)
+    render_texts(alloc, read, writer)
 }
 
 /// The three kinds of texts are read in this order.
@@ -99,7 +99,7 @@ fn read_partial(alloc: Global, language: &Language, name: &str, source: &str) ->
 }
 
 /// Renders what was read, in a new runtime.
-fn show<W: CountedWrite>(alloc: Global, read: ReadTexts, writer: &mut W) -> Result<()>
+fn render_texts<W: CountedWrite>(alloc: Global, read: ReadTexts, writer: &mut W) -> Result<()>
     ensures whole { is_refused result ≡ false → Appends (W.contents writer.old) (W.contents writer.new) (page_outcome (read_view read)).text }
     ensures end { is_refused result ≡ false → answer_of unit result ≡ (page_outcome (read_view read)).end }
     ensures begun { AppendsPart (W.contents writer.old) (W.contents writer.new) (page_outcome (read_view read)).text }

@@ -9,9 +9,9 @@ use Rattle.liquid_model.specs.declared.value.Value.{Value}
 use Rattle.liquid_model.proofs.Views.{view-lookup}
 use Rattle.liquid_core.specs.Held.{map_of, held}
 use mathlib.Core.Path.{refl, sym, ap, subst, ◌∙◌}
-use Rattle.liquid_model.specs.Answer.{Gives}
+use Rattle.liquid_model.specs.Answer.{IsValueOrMemory}
 use Rattle.liquid_model.specs.Texts.{Text, same_text}
-use Rattle.liquid_model.specs.Told.{is_memory}
+use Rattle.liquid_model.specs.ErrorKinds.{is_memory}
 use Rattle.liquid_model.specs.Maps.{listed}
 use Rattle.liquid_model.specs.declared.error.Error.{Error}
 use Rattle.liquid_syntax.specs.Parsing.{IsOfSource}
@@ -26,10 +26,10 @@ use Rattle.liquid_sites.specs.declared.change.Change.{Change}
 use Rattle.liquid_sites.specs.declared.site.Site.{Site}
 
 pub applied : (change : Change) (r : Result (Unit {0}) Error) (old new : Site) (s : Step) → IsStep (language_of old) change s
-    → Gives (λ u. contents_of new) r (stepped s (contents_of old)) → OnOk r (count_of new ≡ raised (count_of old) (rendered_by s (contents_of old)))
+    → IsValueOrMemory (λ u. contents_of new) r (stepped s (contents_of old)) → OnOk r (count_of new ≡ raised (count_of old) (rendered_by s (contents_of old)))
     → OnErr r (contents_of new ≡ contents_of old) → OnErr r (count_of new ≡ count_of old) → Applies change r old new
-applied change (Ok u) old new s is given counted same uncounted = record { step = s; is_step = is; contents = given; rendered = counted }
-applied change (Err e) old new s is given counted same uncounted = record { contents = same; rendered = uncounted; why = subst (λ k. MatchBool (is_memory k) ⊤ (HasBadSource (language_of old) change × IsOfSource k)) (sym given) tt }
+applied change (Ok u) old new s is context counted same uncounted = record { step = s; is_step = is; contents = context; rendered = counted }
+applied change (Err e) old new s is context counted same uncounted = record { contents = same; rendered = uncounted; why = subst (λ k. MatchBool (is_memory k) ⊤ (HasBadSource (language_of old) change × IsOfSource k)) (sym context) tt }
 
 -- ---- places
 

@@ -12,10 +12,10 @@ use Rattle.liquid_syntax.specs.Entries.{seen, placed}
 use Rattle.liquid_syntax.specs.Templates.{tree_of}
 use Rattle.liquid_syntax.specs.declared.template.Template.{Template}
 use Rattle.liquid_syntax.proofs.Held.{AllAbove, Ascend, apart, below_other, names, same_itself}
-use Rattle.liquid_syntax.specs.NameVisitors.{mentioned_both}
+use Rattle.liquid_syntax.specs.inside.NameVisitors.{mentioned_both}
 use Rattle.liquid_lib.specs.Pages.{Shown, page_over}
 use Rattle.liquid_sites.specs.Contents.{Trees, Contents, Pages, page_of, all_pages, pages_from_scratch, mentions}
-use Rattle.liquid_sites.specs.Fresh.{wanted, wanted_of, all_placed}
+use Rattle.liquid_sites.specs.inside.Fresh.{wanted, wanted_of, all_placed}
 use Rattle.liquid_sites.specs.Steps.{refreshed, with_fact}
 use Rattle.liquid_sites.proofs.Kept.{refreshed_all}
 use Rattle.liquid_sites.proofs.Untouched.{untouched}

@@ -1,6 +1,6 @@
 //! The data of a site.
 ghost use Rattle.std.specs.Prelude.{◌≡◌, Some, None, option_map};
-ghost use Rattle.liquid_model.specs.Answer.{Gives};
+ghost use Rattle.liquid_model.specs.Answer.{IsValueOrMemory};
 ghost use Rattle.liquid_model.specs.View.{view, pairs_view};
 ghost use Rattle.liquid_core.specs.Held.{held};
 ghost use Rattle.liquid_sites.specs.Steps.{with_fact};
@@ -11,7 +11,7 @@ use std::collections::BTreeMap;
 
 /// The same data, with parts of its own.
 fn copied(alloc: Global, facts: &Object) -> Result<Object>
-    ensures { Gives (λ m. pairs_view m.entries) result (pairs_view facts.now.entries) }
+    ensures { IsValueOrMemory (λ m. pairs_view m.entries) result (pairs_view facts.now.entries) }
 {
     let mut copies: Object = BTreeMap::new(alloc);
     for (key, value) in facts.iter() {
@@ -28,7 +28,7 @@ pub(crate) fn changed(
     name: &str,
     value: Option<Value>,
 ) -> Result<Object>
-    ensures { Gives held result (with_fact (held facts.now) name.now (option_map view value)) }
+    ensures { IsValueOrMemory held result (with_fact (held facts.now) name.now (option_map view value)) }
 {
     let copies = copied(alloc, facts)?;
     match value {
@@ -38,7 +38,7 @@ pub(crate) fn changed(
 }
 
 fn set(alloc: Global, facts: Object, name: &str, value: Value) -> Result<Object>
-    ensures { Gives held result (with_fact (held facts) name.now (Some (view value))) }
+    ensures { IsValueOrMemory held result (with_fact (held facts) name.now (Some (view value))) }
 {
     let mut facts = facts;
     store(&mut facts, String::from_str(alloc, name)?, value)?;

@@ -3,13 +3,13 @@ ghost use Rattle.std.specs.Prelude.{◌≡◌, map, OnOk, OnErr, IfErr, string_b
 ghost use Rattle.std.specs.List.Sorted.{IsStrictlySortedBy};
 ghost use Rattle.std.specs.Map.{keys_of};
 ghost use Rattle.std.specs.String.{string_cmp};
-ghost use Rattle.liquid_model.specs.Answer.{Gives};
+ghost use Rattle.liquid_model.specs.Answer.{IsValueOrMemory};
 ghost use Rattle.liquid_core.specs.Held.{held};
 ghost use Rattle.liquid_syntax.specs.Entries.{put, placed};
 ghost use Rattle.liquid_syntax.specs.Templates.{tree_of, partials_of};
 ghost use Rattle.liquid_lib.specs.Pages.{page_over, page_view};
 ghost use Rattle.liquid_sites.specs.Contents.{all_pages};
-ghost use Rattle.liquid_sites.specs.Fresh.{wanted, wanted_of, all_placed};
+ghost use Rattle.liquid_sites.specs.inside.Fresh.{wanted, wanted_of, all_placed};
 ghost use Rattle.liquid_sites.specs.Parts.{pages_in, trees_in, named_page, listed_pages};
 
 use liquid_core::{Error, ErrorKind, Object, Result};
@@ -20,7 +20,7 @@ use std::collections::BTreeMap;
 
 /// What pages are rendered over: the partials, how many of them may be nested, and the data.
 #[derive(Drop)]
-pub(crate) struct Given<'g> {
+pub(crate) struct RenderContext<'g> {
     pub partials: &'g Partials,
     pub depth: u32,
     pub facts: &'g Object,
@@ -30,18 +30,18 @@ pub(crate) struct Given<'g> {
 pub(crate) fn rendered_pages(
     alloc: Global,
     templates: &BTreeMap<String, Template>,
-    given: &Given<'_>,
+    context: &RenderContext<'_>,
     all: bool,
     name: &str,
 ) -> Result<Vec<(String, Page)>>
-    ensures pages { Gives (λ v. listed_pages v.items) result
-        (all_pages (page_over given.now.depth (partials_of given.now.partials.now) (held given.now.facts.now)) (wanted_of (wanted all name.now) (trees_in templates.now))) }
+    ensures pages { IsValueOrMemory (λ v. listed_pages v.items) result
+        (all_pages (page_over context.now.depth (partials_of context.now.partials.now) (held context.now.facts.now)) (wanted_of (wanted all name.now) (trees_in templates.now))) }
     ensures ascend { IsStrictlySortedBy string_cmp (keys_of templates.now.entries) }
 {
     let mut pages = Vec::new(alloc);
     for (page, template) in templates.iter() {
         if all || template.mentions(name) {
-            let fresh = rendered_page(alloc, page.as_str(), template, given)?;
+            let fresh = rendered_page(alloc, page.as_str(), template, context)?;
             pages.push(fresh)?;
         }
     }
@@ -53,27 +53,33 @@ fn rendered_page(
     alloc: Global,
     name: &str,
     template: &Template,
-    given: &Given<'_>,
+    context: &RenderContext<'_>,
 ) -> Result<(String, Page)>
-    ensures { Gives named_page result
-        (name.now, page_over given.now.depth (partials_of given.now.partials.now) (held given.now.facts.now) (tree_of template.now)) }
+    ensures { IsValueOrMemory named_page result
+        (name.now, page_over context.now.depth (partials_of context.now.partials.now) (held context.now.facts.now) (tree_of template.now)) }
 {
-    let page = render_page(alloc, template, given.partials, given.depth, given.facts)?;
+    let page = render_page(
+        alloc,
+        template,
+        context.partials,
+        context.depth,
+        context.facts,
+    )?;
     let own = String::from_str(alloc, name)?;
     Ok((own, page))
 }
 
 /// Puts each of these pages in the place of the one of its name. It takes no memory.
-pub(crate) fn show_all(pages: &mut BTreeMap<String, Page>, fresh: Vec<(String, Page)>)
+pub(crate) fn replace_pages(pages: &mut BTreeMap<String, Page>, fresh: Vec<(String, Page)>)
     ensures { pages_in pages.new ≡ all_placed (listed_pages fresh.items) (pages_in pages.old) }
 {
     for (name, page) in fresh {
-        show(pages, name.as_str(), page);
+        replace_page(pages, name.as_str(), page);
     }
 }
 
 /// Puts a page in the place of the one of its name.
-fn show(pages: &mut BTreeMap<String, Page>, name: &str, page: Page)
+fn replace_page(pages: &mut BTreeMap<String, Page>, name: &str, page: Page)
     ensures { pages_in pages.new ≡ placed name.now (page_view page) (pages_in pages.old) }
 {
     match pages.get_mut(name) {

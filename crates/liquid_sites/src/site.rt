@@ -6,7 +6,7 @@ ghost use Rattle.liquid_sites.specs.Parts.{pages_in, contents_in};
 
 use crate::change::Change;
 use crate::facts::changed;
-use crate::refresh::{Given, put_page, rendered_pages, show_all};
+use crate::refresh::{RenderContext, put_page, rendered_pages, replace_pages};
 use liquid_core::{Object, Result, Value};
 use liquid_lib::{Page, render_page};
 use liquid_syntax::{Language, Partials, Template, parse};
@@ -32,12 +32,12 @@ pub struct Site {
 
 impl Site {
     ghost use Rattle.std.specs.Prelude.{IsSome, OnOk, OnErr, length, option_map, string_bytes};
-    ghost use Rattle.liquid_model.specs.Answer.{Gives};
+    ghost use Rattle.liquid_model.specs.Answer.{IsValueOrMemory};
     ghost use Rattle.liquid_model.specs.Maps.{listed};
     ghost use Rattle.liquid_model.specs.View.{view};
     ghost use Rattle.liquid_core.specs.Held.{held};
     ghost use Rattle.liquid_syntax.specs.Entries.{put, exchanged};
-    ghost use Rattle.liquid_syntax.specs.Templates.{tree_of, places_of};
+    ghost use Rattle.liquid_syntax.specs.Templates.{tree_of, slots_of};
     ghost use Rattle.liquid_sites.specs.Applied.{Applies};
     ghost use Rattle.liquid_sites.specs.SiteViews.{contents_of, language_of, count_of};
     ghost use Rattle.liquid_sites.specs.Steps.{no_contents, remove_page, stepped, raised, mentioning, with_fact};
@@ -143,7 +143,7 @@ impl Site {
 
     /// Renders a page and puts it, with its template, at its name.
     fn set_page(&mut self, name: String, template: Template) -> Result<()>
-        ensures set { Gives (λ _. contents_of self.new) result (record (contents_of self.old) { pages = put (string_bytes name) (tree_of template) (contents_of self.old).pages }) }
+        ensures set { IsValueOrMemory (λ _. contents_of self.new) result (record (contents_of self.old) { pages = put (string_bytes name) (tree_of template) (contents_of self.old).pages }) }
         ensures counted { OnOk result (count_of self.new ≡ raised (count_of self.old) 1) }
         ensures unchanged { OnErr result (contents_of self.new ≡ contents_of self.old) }
         ensures uncounted { OnErr result (count_of self.new ≡ count_of self.old) }
@@ -180,24 +180,24 @@ impl Site {
     /// Puts what is held into the place of a partial, and renders every page again. Where there is no memory the partial is
     /// as it was.
     fn exchange_partial(&mut self, name: &str, held: Option<Template>) -> Result<()>
-        requires { IsSome (listed (places_of self.old.partials) name.now) }
-        ensures set { Gives (λ _. contents_of self.new) result (record (contents_of self.old) { partials = exchanged name.now (option_map tree_of held) (contents_of self.old).partials }) }
+        requires { IsSome (listed (slots_of self.old.partials) name.now) }
+        ensures set { IsValueOrMemory (λ _. contents_of self.new) result (record (contents_of self.old) { partials = exchanged name.now (option_map tree_of held) (contents_of self.old).partials }) }
         ensures counted { OnOk result (count_of self.new ≡ raised (count_of self.old) (length (contents_of self.old).pages)) }
         ensures unchanged { OnErr result (contents_of self.new ≡ contents_of self.old) }
         ensures uncounted { OnErr result (count_of self.new ≡ count_of self.old) }
         ensures language { language_of self.new ≡ language_of self.old }
     {
         let before = self.partials.exchange(name, held);
-        let given = Given {
+        let context = RenderContext {
             partials: &self.partials,
             depth: self.depth,
             facts: &self.facts,
         };
-        let rendered = rendered_pages(self.alloc, &self.templates, &given, true, name);
+        let rendered = rendered_pages(self.alloc, &self.templates, &context, true, name);
         match rendered {
             Ok(fresh) => {
                 self.rendered = self.rendered.saturating_add(fresh.len() as u64);
-                show_all(&mut self.pages, fresh);
+                replace_pages(&mut self.pages, fresh);
                 Ok(())
             }
             Err(error) => {
@@ -209,7 +209,7 @@ impl Site {
 
     /// Sets a value of the data, or removes it, and renders again the pages that can see it.
     fn change_value(&mut self, name: &str, value: Option<Value>) -> Result<()>
-        ensures set { Gives (λ _. contents_of self.new) result (record (contents_of self.old) { facts = with_fact (contents_of self.old).facts name.now (option_map view value) }) }
+        ensures set { IsValueOrMemory (λ _. contents_of self.new) result (record (contents_of self.old) { facts = with_fact (contents_of self.old).facts name.now (option_map view value) }) }
         ensures counted { OnOk result (count_of self.new ≡ raised (count_of self.old) (mentioning (contents_of self.old) name.now)) }
         ensures unchanged { OnErr result (contents_of self.new ≡ contents_of self.old) }
         ensures uncounted { OnErr result (count_of self.new ≡ count_of self.old) }
@@ -217,14 +217,14 @@ impl Site {
     {
         let facts = changed(self.alloc, &self.facts, name, value)?;
         let all = self.partials.mention(name);
-        let given = Given {
+        let context = RenderContext {
             partials: &self.partials,
             depth: self.depth,
             facts: &facts,
         };
-        let fresh = rendered_pages(self.alloc, &self.templates, &given, all, name)?;
+        let fresh = rendered_pages(self.alloc, &self.templates, &context, all, name)?;
         self.rendered = self.rendered.saturating_add(fresh.len() as u64);
-        show_all(&mut self.pages, fresh);
+        replace_pages(&mut self.pages, fresh);
         self.facts = facts;
         Ok(())
     }

@@ -5,7 +5,7 @@ use Rattle.liquid_core.specs.Expression.{Expression}
 use Rattle.liquid_source.specs.Words.{Blank}
 use Rattle.liquid_source.specs.ValueReading.{past_white, past_byte, value_at, word_at, literal_at, quoted_at, number_at}
 use Rattle.liquid_source.specs.Items.{Item, value, range, spelling_of, IsSymbol, IsRange, is_range, mark, dash_if, IsItem, is_symbol, is_interval, is_value, NoCloser, AreItems, closed, item}
-use Rattle.liquid_source.specs.ItemReading.{two_at, closer_by, closer_at, two_bytes, one_byte, long_symbol_at, short_symbol_at, symbol_at, range_at, before, range_or_value, item_by, item_at, ReadItems, items_by, items_at}
+use Rattle.liquid_source.specs.ItemReading.{bare_closer_at, closer_by, closer_at, two_bytes, one_byte, long_symbol_at, short_symbol_at, symbol_at, range_at, before, range_or_value, item_by, item_at, ReadItems, items_by, items_at}
 use Rattle.liquid_source.specs.declared.symbol.Symbol.{Symbol}
 use Rattle.liquid_source.specs.declared.symbol.Symbol.TheVariants.{Equals, NotEquals, LessOrGreater, LessThanEquals, GreaterThanEquals, LessThan, GreaterThan, Assign, Colon, Comma, Bar}
 use Rattle.liquid_source.specs.declared.item.Delimiter.{Delimiter}
@@ -18,12 +18,12 @@ use Rattle.std.proofs.Math.Seq.{take-append_seam}
 
 -- ---- closers
 
-two_takes : (k : Delimiter) (bs rest : List ℕ) → two_at k bs ≡ Some rest → bs ≡ mark k ∷ 125 ∷ rest
+two_takes : (k : Delimiter) (bs rest : List ℕ) → bare_closer_at k bs ≡ Some rest → bs ≡ mark k ∷ 125 ∷ rest
 two_takes k bs rest h = let a = bind_some (past_byte (mark k) bs) (past_byte 125) rest h in byte_some (mark k) bs a.0 a.1 ∙ ap (λ l. mark k ∷ l) (byte_some 125 a.0 rest a.2)
 
 closer_takes_by : (k : Delimiter) (bs : List ℕ) (o : Option (List ℕ)) (x : Bool × List ℕ) → past_byte 45 bs ≡ o → closer_by k bs o ≡ Some x → bs ≡ dash_if x.0 ++ (mark k ∷ 125 ∷ x.1)
-closer_takes_by k bs (Some r) x e h = let a = map_some (two_at k r) _ x h in subst (λ (x : Bool × List ℕ). bs ≡ dash_if x.0 ++ (mark k ∷ 125 ∷ x.1)) a.2 (byte_some 45 bs r e ∙ ap (λ l. 45 ∷ l) (two_takes k r a.0 a.1))
-closer_takes_by k bs None x e h = let a = map_some (two_at k bs) _ x h in subst (λ (x : Bool × List ℕ). bs ≡ dash_if x.0 ++ (mark k ∷ 125 ∷ x.1)) a.2 (two_takes k bs a.0 a.1)
+closer_takes_by k bs (Some r) x e h = let a = map_some (bare_closer_at k r) _ x h in subst (λ (x : Bool × List ℕ). bs ≡ dash_if x.0 ++ (mark k ∷ 125 ∷ x.1)) a.2 (byte_some 45 bs r e ∙ ap (λ l. 45 ∷ l) (two_takes k r a.0 a.1))
+closer_takes_by k bs None x e h = let a = map_some (bare_closer_at k bs) _ x h in subst (λ (x : Bool × List ℕ). bs ≡ dash_if x.0 ++ (mark k ∷ 125 ∷ x.1)) a.2 (two_takes k bs a.0 a.1)
 
 pub closer_takes : (k : Delimiter) (bs : List ℕ) (x : Bool × List ℕ) → closer_at k bs ≡ Some x → bs ≡ dash_if x.0 ++ (mark k ∷ 125 ∷ x.1)
 unfolding closer_at

@@ -51,12 +51,12 @@ item_by bs None = range_or_value bs (past_byte open_parenthesis bs)
 unfoldable pub item_at : Reads Item
 item_at bs = item_by bs (symbol_at bs)
 
-abbrev pub two_at : Delimiter → List ℕ → Option (List ℕ)
-two_at k bs = option_and_then (past_byte close_brace) (past_byte (mark k) bs)
+abbrev pub bare_closer_at : Delimiter → List ℕ → Option (List ℕ)
+bare_closer_at k bs = option_and_then (past_byte close_brace) (past_byte (mark k) bs)
 
 abbrev pub closer_by : Delimiter → List ℕ → Option (List ℕ) → Option (Bool × List ℕ)
-closer_by k bs (Some rest) = option_map (λ r. (true, r)) (two_at k rest)
-closer_by k bs None = option_map (λ r. (false, r)) (two_at k bs)
+closer_by k bs (Some rest) = option_map (λ r. (true, r)) (bare_closer_at k rest)
+closer_by k bs None = option_map (λ r. (false, r)) (bare_closer_at k bs)
 
 -- a closer at the front: whether it has a dash, and what follows it
 unfoldable pub closer_at : Delimiter → List ℕ → Option (Bool × List ℕ)

@@ -9,8 +9,8 @@ pub mod ReadingLaws
 pub mod SourceReading
 pub mod TokenReading
 pub mod Tokens
-pub mod ValueFaults
 pub mod ValueReading
 pub mod Values
 pub mod Verbatim
 pub mod Words
+pub mod inside

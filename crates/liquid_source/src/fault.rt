@@ -1,6 +1,6 @@
 //! Why a source could not be read.
 ghost use Rattle.std.specs.Prelude.{◌≡◌, ◌≤◌, length};
-ghost use Rattle.liquid_model.specs.Told.{number_of};
+ghost use Rattle.liquid_model.specs.ErrorKinds.{number_of};
 ghost use Rattle.liquid_source.specs.Readers.{kind_of};
 ghost use Rattle.liquid_source.specs.declared.fault.ParseError.TheVariants.{Memory};
 

@@ -2,14 +2,14 @@
 ghost use Rattle.std.specs.Prelude.{◌≡◌, ◌≤◌, length};
 ghost use Rattle.std.specs.Option.{option_map};
 ghost use Rattle.liquid_source.specs.Items.{mark};
-ghost use Rattle.liquid_source.specs.ItemReading.{range_at, item_at, two_at, closer_at, items_at};
+ghost use Rattle.liquid_source.specs.ItemReading.{range_at, item_at, bare_closer_at, closer_at, items_at};
 ghost use Rattle.liquid_source.specs.Readers.{Parses};
 ghost use Rattle.liquid_source.specs.PieceView.{item_view, items_view};
 
 use crate::cut::{before, past_byte, past_white};
 use crate::fault::{Fault, FaultKind, ParseError};
 use crate::symbol::{Symbol, read_symbol};
-use crate::value::{missing, read_value};
+use crate::value::{read_value, unexpected};
 use liquid_core::Expression;
 use std::alloc::Global;
 use std::collections::VecDeque;
@@ -45,15 +45,15 @@ fn read_range(alloc: Global, text: &str) -> Result<(Item, &str), ParseError>
     let (first, rest) = read_value(alloc, past_white(text), MAX_BRACKETS)?;
     let rest = past_white(rest);
     let Some(dot) = past_byte(rest, b'.') else {
-        return Err(ParseError::Fault(missing(rest, "`..`")));
+        return Err(ParseError::Fault(unexpected(rest, "`..`")));
     };
     let Some(after) = past_byte(dot, b'.') else {
-        return Err(ParseError::Fault(missing(dot, "the second `.` of `..`")));
+        return Err(ParseError::Fault(unexpected(dot, "the second `.` of `..`")));
     };
     let (last, rest) = read_value(alloc, past_white(after), MAX_BRACKETS)?;
     let rest = past_white(rest);
     let Some(after) = past_byte(rest, b')') else {
-        return Err(ParseError::Fault(missing(rest, "`)`")));
+        return Err(ParseError::Fault(unexpected(rest, "`)`")));
     };
     Ok((Item::Range(first, last), after))
 }
@@ -83,8 +83,8 @@ fn mark(kind: Delimiter) -> u8
     }
 }
 
-fn two(text: &str, kind: Delimiter) -> Option<&str>
-    ensures { option_map (λ x. x.now) result ≡ two_at kind text.now }
+fn bare_closer(text: &str, kind: Delimiter) -> Option<&str>
+    ensures { option_map (λ x. x.now) result ≡ bare_closer_at kind text.now }
 {
     past_byte(past_byte(text, mark(kind))?, b'}')
 }
@@ -95,8 +95,8 @@ pub fn closer(text: &str, kind: Delimiter) -> Option<(bool, &str)>
     ensures { option_map (λ x. (x.0, x.1.now)) result ≡ closer_at kind text.now }
 {
     match past_byte(text, b'-') {
-        Some(rest) => Some((true, two(rest, kind)?)),
-        None => Some((false, two(text, kind)?)),
+        Some(rest) => Some((true, bare_closer(rest, kind)?)),
+        None => Some((false, bare_closer(text, kind)?)),
     }
 }
 

@@ -9,7 +9,7 @@ use crate::cut::{past_byte, past_white, stripped, word};
 use crate::fault::{Fault, FaultKind, ParseError};
 use crate::item::{Delimiter, Item, read_items};
 use crate::mark::{dashed, read_comment, read_raw};
-use crate::value::missing;
+use crate::value::unexpected;
 use std::alloc::Global;
 use std::collections::VecDeque;
 
@@ -58,7 +58,7 @@ pub fn read_markup<'s>(alloc: Global, text: &'s str) -> Result<(Markup<'s>, &'s 
     ensures { Parses (λ x. (markup_view x.0, x.1.now)) result (markup_at text.now) }
 {
     let Some((kind, rest)) = opener(text) else {
-        return Err(ParseError::Fault(missing(text, "`{{` or `{%`")));
+        return Err(ParseError::Fault(unexpected(text, "`{{` or `{%`")));
     };
     let (before, inside) = dashed(rest);
     match kind {

@@ -3,7 +3,7 @@ ghost use Rattle.std.specs.Prelude.{◌≡◌, [], length};
 ghost use Rattle.liquid_model.specs.View.{view};
 ghost use Rattle.liquid_core.specs.ExpressionView.{expression_view, steps_view};
 ghost use Rattle.liquid_model.specs.Whole.{whole_text};
-ghost use Rattle.liquid_source.specs.ValueFaults.{number_fault, value_fault};
+ghost use Rattle.liquid_source.specs.inside.ValueFaults.{number_fault, value_fault};
 ghost use Rattle.liquid_source.specs.Values.{word_kind};
 ghost use Rattle.liquid_source.specs.ValueReading.{literal_at, named_by, inner_of, value_at, step_at, steps_at};
 ghost use Rattle.liquid_source.specs.Readers.{Parses};
@@ -186,7 +186,7 @@ fn read_step(
         let (step, rest) = read_value(alloc, past_white(inside), depth - 1)?;
         let rest = past_white(rest);
         let Some(after) = past_byte(rest, b']') else {
-            return Err(ParseError::Fault(missing(rest, "`]`")));
+            return Err(ParseError::Fault(unexpected(rest, "`]`")));
         };
         return Ok(Some((step, after)));
     }
@@ -201,7 +201,7 @@ fn read_step(
 }
 
 /// The fault of a text that doesn't begin as it must: `Unclosed` where nothing is left, else `BadItem`.
-pub fn missing(text: &str, wanted: &'static str) -> Fault
+pub fn unexpected(text: &str, wanted: &'static str) -> Fault
     ensures unclosed { text.now ≡ [] → result.kind ≡ FaultKind.Unclosed }
     ensures bad_item { (text.now ≡ [] → ⊥) → result.kind ≡ FaultKind.BadItem }
     ensures place { result.left ≡ length text.now }

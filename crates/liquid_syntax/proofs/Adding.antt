@@ -7,11 +7,11 @@ use Rattle.liquid_source.specs.declared.fault.ParseError.TheVariants as errors
 use Rattle.liquid_tree.specs.Tree.{Node, Nodes, no_nodes}
 use Rattle.liquid_syntax.specs.Flats.{flat_of}
 use Rattle.liquid_syntax.specs.OpenBlocks.{State, last, begun, ended, Level, level, depth, deeper, with_node, close, step, to_else, to_elsif}
-use Rattle.liquid_syntax.specs.Building.{Begins, IsFirst, Steps, IsBuilding, IsMemory, IsStack, Closes, IsPrepared, IsSound, label_view, opening}
+use Rattle.liquid_syntax.specs.inside.Building.{Begins, IsFirst, Steps, IsBuilding, IsMemory, IsStack, Closes, IsPrepared, IsSound, statement_view, opening}
 use Rattle.liquid_syntax.specs.declared.block.Block.{Block}
 use Rattle.liquid_syntax.specs.declared.build.Builder.{Builder}
-use Rattle.liquid_syntax.specs.declared.build.Label.{Label}
-use Rattle.liquid_syntax.specs.declared.build.Label.TheVariants as labels
+use Rattle.liquid_syntax.specs.declared.build.Statement.{Statement}
+use Rattle.liquid_syntax.specs.declared.build.Statement.TheVariants as statements
 use Rattle.liquid_syntax.specs.declared.build.Stage.{Stage}
 use Rattle.liquid_syntax.specs.declared.build.Stage.TheVariants.{First}
 use Rattle.liquid_syntax.specs.declared.node.Node as code
@@ -31,14 +31,14 @@ pub chain_none : (b : Builder) (chained : Bool) (ls ms : List Level) (cur now : 
 chain_none b chained ls [] cur now t e h = e ∙ ap (λ (x : Bool). close x [] now) t
 chain_none b chained ls (level r f k ∷ ms) cur now t e h = absurd h
 
-pub begins_step : (b : Block) (stage : Stage) (n : code.Node) (label : Label) (ls : List Level) (cur : Nodes) → label ≡ labels.Begins b stage n → depth ls < 200
-    → step (label_view label) ls cur ≡ Some (level (begun (opening b stage n)) cur false ∷ ls, no_nodes)
-begins_step b stage n label ls cur is room =
-    ap (λ (l : Label). step (label_view l) ls cur) is ∙ ap (λ (x : Bool). cond x (Some (level (begun (opening b stage n)) cur false ∷ ls, no_nodes)) None) (some_room (depth ls) room)
+pub begins_step : (b : Block) (stage : Stage) (n : code.Node) (statement : Statement) (ls : List Level) (cur : Nodes) → statement ≡ statements.Begins b stage n → depth ls < 200
+    → step (statement_view statement) ls cur ≡ Some (level (begun (opening b stage n)) cur false ∷ ls, no_nodes)
+begins_step b stage n statement ls cur is room =
+    ap (λ (l : Statement). step (statement_view l) ls cur) is ∙ ap (λ (x : Bool). cond x (Some (level (begun (opening b stage n)) cur false ∷ ls, no_nodes)) None) (some_room (depth ls) room)
 
--- what is asked of the label of a block is asked of its node
-pub prepared_begins : {b : Block} {stage : Stage} {n : code.Node} {label : Label} → label ≡ labels.Begins b stage n → IsSound label → IsPrepared stage n
-prepared_begins is sound = subst (λ (l : Label). IsSound l) is sound
+-- what is asked of the statement of a block is asked of its node
+pub prepared_begins : {b : Block} {stage : Stage} {n : code.Node} {statement : Statement} → statement ≡ statements.Begins b stage n → IsSound statement → IsPrepared stage n
+prepared_begins is sound = subst (λ (l : Statement). IsSound l) is sound
 
 -- a block that is opened behind an `elsif`
 pub elsif_opens : (r : Result (Unit {0}) ParseError) (b was : Builder) (block : Block) (n : code.Node) (read : Option State) (s : State) → IsMemory r → read ≡ Some (level (begun (opening block First n)) s.1 true ∷ s.0, no_nodes)
@@ -52,9 +52,9 @@ pub elsif_fails : (e : ParseError) (next : Nodes → Nodes → Node) (ls : List 
 elsif_fails errors.Memory next ls cur b is h = tt
 elsif_fails (errors.Fault f) next ls cur b (make, g, k, rest, is) h = let e : to_else ls cur ≡ Some (level (last b (make cur)) g k ∷ rest, no_nodes) = ap (λ ls. to_else ls cur) is in absurd cc
 
-pub closed_step : (n : code.Node) (label : Label) (ls : List Level) (cur : Nodes) → label ≡ labels.Closed n → depth ls < 200 → step (label_view label) ls cur ≡ Some (ls, with_node cur ((flat_of n).head []))
-closed_step n label ls cur is room =
-    ap (λ (l : Label). step (label_view l) ls cur) is ∙ ap (λ (x : Bool). cond x (Some (ls, with_node cur ((flat_of n).head []))) None) (some_room (depth ls) room)
+pub closed_step : (n : code.Node) (statement : Statement) (ls : List Level) (cur : Nodes) → statement ≡ statements.Closed n → depth ls < 200 → step (statement_view statement) ls cur ≡ Some (ls, with_node cur ((flat_of n).head []))
+closed_step n statement ls cur is room =
+    ap (λ (l : Statement). step (statement_view l) ls cur) is ∙ ap (λ (x : Bool). cond x (Some (ls, with_node cur ((flat_of n).head []))) None) (some_room (depth ls) room)
 
 -- a builder that isn't full has room for a block
 pub has_room : (n m : ℕ) (full : Bool) → full ≡ nat_le 200 n → full ≡ false → n ≡ m → m < 200

@@ -4,7 +4,7 @@ use Rattle.std.specs.Option.{option_and_then, option_map}
 use Rattle.liquid_core.specs.Expression.{Expression}
 use Rattle.liquid_model.specs.Texts.{Text}
 use Rattle.liquid_source.specs.Tokens.{Token, value, word, value_first, word_first}
-use Rattle.liquid_syntax.specs.Judging.{alone, word_alone, value_alone}
+use Rattle.liquid_syntax.specs.Classification.{alone, word_alone, value_alone}
 use Rattle.liquid_syntax.specs.Loops.{is_nothing}
 use Rattle.std.specs.Prelude.{Err}
 use Rattle.liquid_source.specs.Readers.{IsOfKind}
@@ -12,8 +12,8 @@ use Rattle.liquid_source.specs.declared.fault.FaultKind.TheVariants.{Expected}
 use Rattle.liquid_source.specs.declared.fault.ParseError.{ParseError}
 use Rattle.liquid_source.specs.declared.fault.ParseError.TheVariants as errors
 use Rattle.liquid_tree.specs.Tree.{case_of}
-use Rattle.liquid_syntax.specs.Judges.{ReadsBlock}
-use Rattle.liquid_syntax.specs.Judging.{case_for, many_or}
+use Rattle.liquid_syntax.specs.inside.Classifies.{ReadsBlock}
+use Rattle.liquid_syntax.specs.Classification.{case_for, many_or}
 use Rattle.liquid_syntax.specs.declared.block.Block.TheVariants.{Case}
 use Rattle.liquid_syntax.specs.declared.build.Stage.TheVariants.{Unkept}
 use Rattle.liquid_syntax.proofs.Printed.{bind_some, from_some, first_word}

@@ -4,7 +4,7 @@ use Rattle.std.proofs.lemmas.List.{map-append}
 use Rattle.std.proofs.Math.Seq.{set-append_seam}
 use Rattle.liquid_core.specs.Expression.{Expression}
 use Rattle.liquid_core.specs.ExpressionView.{expression_view}
-use Rattle.liquid_syntax.specs.Building.{IsAdded, last_ended, set_before_last}
+use Rattle.liquid_syntax.specs.inside.Building.{IsAdded, last_ended, set_before_last}
 use Rattle.liquid_syntax.specs.Flats.{Maker, arm_ends, arm_values, values_in, case_flat, flat_of, with_arms, with_one, with_two}
 use Rattle.liquid_syntax.specs.Laid.{Flat}
 use Rattle.liquid_tree.specs.Tree as tree

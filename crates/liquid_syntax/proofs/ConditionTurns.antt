@@ -3,7 +3,7 @@ use Rattle.std.proofs.Common.{◌≡◌, List, [], ◌∷◌, ◌++◌, length, 
 use Rattle.std.proofs.lemmas.List.{append-nil}
 use Rattle.std.specs.Option.{option_and_then, option_map}
 use Rattle.liquid_core.specs.Expression.{Expression}
-use Rattle.liquid_syntax.specs.ConditionAnswers.{operator_before, operator_first, before_alternatives}
+use Rattle.liquid_syntax.specs.inside.ConditionAnswers.{operator_before, operator_first, before_alternatives}
 use Rattle.liquid_syntax.specs.ConditionReading.{operator_of, with_atom, joined, compared_or, condition_of, behind_value, behind_operator, behind_atom, alternatives_of}
 use Rattle.liquid_source.specs.Readers.{Fails}
 use Rattle.liquid_source.specs.Tokens.{Token, value, range, symbol, value_first, is_word, past_word}

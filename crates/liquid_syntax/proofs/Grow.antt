@@ -9,17 +9,17 @@ use Rattle.liquid_syntax.specs.Forest.{Forest, Bodies, empty, node, no_bodies, b
 use Rattle.liquid_syntax.specs.Laid.{Flat, ends_of, laid, laid_bodies}
 use Rattle.liquid_syntax.proofs.Round as round
 use Rattle.liquid_syntax.proofs.Round.{length-laid, length-laid_bodies}
-use Rattle.liquid_syntax.specs.OpenBlocks.{append, Reading, last, first, unkept, armed, begun, to_elsif, to_when, place_in, ended, Level, level, place_of, depth, State, with_node, to_else, at_end}
+use Rattle.liquid_syntax.specs.OpenBlocks.{append, Reading, last, first, unkept, armed, begun, to_elsif, to_when, context_in, ended, Level, level, context_of, depth, State, with_node, to_else, at_end}
 use Rattle.liquid_tree.specs.Tree as tree
 use Rattle.liquid_tree.specs.Tree.{Nodes, no_nodes, Whens, no_whens, when}
 use Rattle.liquid_syntax.specs.Flats.{case_flat, flat_of, flats, with_arms}
 use Rattle.liquid_core.specs.Expression.{Expression}
 use Rattle.std.specs.Prelude.{take, true, false}
-use Rattle.liquid_syntax.specs.Building.{IsPrepared, opening, set_before_last, set_last, before_last_ended, last_ended, behind_arms, armed_with, IsCase, IsAdded, IsFirst, EndIsSet, BodyEnded, takes_else, takes_when, Fits, Builds, Closes, stage_place, place_at}
+use Rattle.liquid_syntax.specs.inside.Building.{IsPrepared, opening, set_before_last, set_last, before_last_ended, last_ended, behind_arms, armed_with, IsCase, IsAdded, IsFirst, EndIsSet, BodyEnded, takes_else, takes_when, Fits, Builds, Closes, stage_context, context_at}
 use Rattle.liquid_syntax.specs.declared.block.Block.{Block}
 use Rattle.liquid_syntax.specs.declared.build.Builder.{Builder}
-use Rattle.liquid_syntax.specs.declared.block.Place.{Place}
-use Rattle.liquid_syntax.specs.declared.block.Place.TheVariants.{Outside, InBody, InLast}
+use Rattle.liquid_syntax.specs.declared.block.BlockContext.{BlockContext}
+use Rattle.liquid_syntax.specs.declared.block.BlockContext.TheVariants.{Outside, InBody, InLast}
 use Rattle.liquid_syntax.specs.declared.build.Open.{Open}
 use Rattle.liquid_syntax.specs.declared.node.Node as code
 use Rattle.liquid_syntax.specs.declared.build.Stage.{Stage}
@@ -156,12 +156,12 @@ leaf ns ms x os ls cur e none b =
     subst (λ l. Builds l os ls (with_node cur (x.head []))) (sym all) (grow ns os ls cur (node x.head no_bodies empty) b)
 
 -- a block begins
-pub begin : (ns ms : Flats) (x : Flat Maker) (r : Reading) (o : Open) (os : List Open) (ls : List Level) (cur : Nodes) → ms ≡ ns ++ x ∷ [] → o.place ≡ length ns → Fits o r x no_bodies (length ns + 1) → Builds ns os ls cur
+pub begin : (ns ms : Flats) (x : Flat Maker) (r : Reading) (o : Open) (os : List Open) (ls : List Level) (cur : Nodes) → ms ≡ ns ++ x ∷ [] → o.node_index ≡ length ns → Fits o r x no_bodies (length ns + 1) → Builds ns os ls cur
     → Builds ms (o ∷ os) (level r cur o.chained ∷ ls) no_nodes
 begin ns ms x r o os ls cur e at fits b = (ns, x, no_bodies, empty, refl, at, refl, fits, e, b)
 
 -- the place of an open block is inside the list
-pub open-within : (ns : Flats) (o : Open) (os : List Open) (ls : List Level) (cur : Nodes) → Builds ns (o ∷ os) ls cur → o.place < length ns
+pub open-within : (ns : Flats) (o : Open) (os : List Open) (ls : List Level) (cur : Nodes) → Builds ns (o ∷ os) ls cur → o.node_index < length ns
 open-within ns o os [] cur b = absurd b
 open-within ns o os (level r f k ∷ ls) cur (pre, x, bs, c, is, at, chained, fits, e, below) = omega (arith, level-length pre x bs c ns e)
 
@@ -174,20 +174,20 @@ changed pre x y rest ns at is e = ap (λ n. slice_set ns n y) is ∙ ap (λ m. s
 
 -- a first body ends, and the last begins
 otherwise : (ns ms : Flats) (o p : Open) (os : List Open) (b : Block) (make : Nodes → Nodes → tree.Node) (f : Nodes) (k : Bool) (ls : List Level) (cur : Nodes) (old y : Flat Maker)
-    → ms ≡ slice_set ns o.place y → old ≡ get_or ns o.place old → y ≡ before_last_ended (length ns) old
-    → p.place ≡ o.place → p.chained ≡ o.chained → p.block ≡ o.block → p.stage ≡ Last
+    → ms ≡ slice_set ns o.node_index y → old ≡ get_or ns o.node_index old → y ≡ before_last_ended (length ns) old
+    → p.node_index ≡ o.node_index → p.chained ≡ o.chained → p.block ≡ o.block → p.stage ≡ Last
     → Builds ns (o ∷ os) (level (first b make) f k ∷ ls) cur → Builds ms (p ∷ os) (level (last b (make cur)) f k ∷ ls) no_nodes
 otherwise ns ms o p os b make f k ls cur old y set was is at ch bl st (pre, x, bs, c, is_c, at', chained, (stage, block, nob, (y1, z1, ends), makes), e, below) =
     let n = length pre + 1 in
     let e0 : ns ≡ pre ++ x ∷ laid (n + 0) c = e ∙ ap (λ (bs : Bodies Maker). pre ++ x ∷ (laid_bodies n bs ++ laid (n + sizes bs) c)) nob in
     let long : length ns ≡ n + size c = omega (arith, level-length pre x no_bodies c ns e0) in
     let new : Flat Maker = record { head = x.head; ends = (n + size c) ∷ z1 ∷ [] } in
-    let old_is : old ≡ x = there pre x (laid (n + 0) c) ns o.place old at' e0 was in
+    let old_is : old ≡ x = there pre x (laid (n + 0) c) ns o.node_index old at' e0 was in
     let new_is : y ≡ new =
     is ∙ ap (before_last_ended (length ns)) old_is ∙ ap (λ (es : List ℕ). record { head = x.head; ends = set_before_last (length ns) es }) ends ∙ ap (λ (l : ℕ). record { head = x.head; ends = l ∷ z1 ∷ [] }) long in
     let z : n + 0 ≡ n = omega arith in
     let all : ms ≡ pre ++ new ∷ ((laid n c ++ []) ++ []) =
-    set ∙ changed pre x y (laid (n + 0) c) ns o.place at' e0 ∙ ap (λ (v : Flat Maker). pre ++ v ∷ laid (n + 0) c) new_is
+    set ∙ changed pre x y (laid (n + 0) c) ns o.node_index at' e0 ∙ ap (λ (v : Flat Maker). pre ++ v ∷ laid (n + 0) c) new_is
     ∙ ap (λ m. pre ++ new ∷ laid m c) z ∙ ap (λ l. pre ++ new ∷ l) (sym (append-nil (laid n c ++ []) ∙ append-nil (laid n c))) in (
       pre,
       new,
@@ -203,7 +203,7 @@ otherwise ns ms o p os b make f k ls cur old y set was is at ch bl st (pre, x, b
 
 -- a block ends in its last body
 close_last : (ns ms : Flats) (o : Open) (os : List Open) (b : Block) (make : Nodes → tree.Node) (f : Nodes) (k : Bool) (ls : List Level) (cur : Nodes) (old y : Flat Maker)
-    → ms ≡ slice_set ns o.place y → old ≡ get_or ns o.place old → y ≡ last_ended (length ns) old
+    → ms ≡ slice_set ns o.node_index y → old ≡ get_or ns o.node_index old → y ≡ last_ended (length ns) old
     → Builds ns (o ∷ os) (level (last b make) f k ∷ ls) cur → (o.chained ≡ k) × Builds ms os ls (with_node f (make cur))
 close_last ns ms o os b make f k ls cur old y set was is (pre, x, bs, c, is_c, at, chained, (stage, block, (z, ends), makes), e, below) =
     let n = length pre + 1 in
@@ -211,12 +211,12 @@ close_last ns ms o os b make f k ls cur old y set was is (pre, x, bs, c, is_c, a
     let long : length ns ≡ n + sizes bs + size c = level-length pre x bs c ns e in
     let rest = laid_bodies n bs ++ laid (n + sizes bs) c in
     let new : Flat Maker = record { head = x.head; ends = ends_of n cs } in
-    let old_is : old ≡ x = there pre x rest ns o.place old at e was in
+    let old_is : old ≡ x = there pre x rest ns o.node_index old at e was in
     let new_is : y ≡ new =
     is ∙ ap (last_ended (length ns)) old_is
     ∙ ap (λ (es : List ℕ). record { head = x.head; ends = es }) (ap (set_last (length ns)) ends ∙ set_last_seam (length ns) (ends_of n bs) z ∙ ap (λ (l : ℕ). ends_of n bs ++ l ∷ []) long ∙ sym (ends_with n bs c)) in
     let all : ms ≡ pre ++ laid (length pre) (node x.head cs empty) =
-    set ∙ changed pre x y rest ns o.place at e ∙ ap (λ (v : Flat Maker). pre ++ v ∷ rest) new_is
+    set ∙ changed pre x y rest ns o.node_index at e ∙ ap (λ (v : Flat Maker). pre ++ v ∷ rest) new_is
     ∙ ap (λ l. pre ++ new ∷ l) (sym (laid_with n bs c) ∙ sym (append-nil (laid_bodies n cs))) in
     let made : make cur ≡ x.head (bodies_of cs) = makes cur ∙ ap (λ l. x.head (bodies_of bs ++ l ∷ [])) is_c ∙ ap x.head (sym (bodies_with bs c)) in (
       chained,
@@ -227,16 +227,16 @@ close_last ns ms o os b make f k ls cur old y set was is (pre, x, bs, c, is_c, a
 -- the node of a `case` stands between two bodies
 Pauses : Flats → Open → List Open → Block → (Whens → Nodes → tree.Node) → Nodes → Bool → List Level → Type 0
 Pauses ns o os b make f k ls =
-    (pre : Flats) × (x : Flat Maker) × (bs : Bodies Maker) × (o.place ≡ length pre) × (o.block ≡ b) × (o.chained ≡ k) × IsCase x bs (length pre + 1) make × (ns ≡ pre ++ x ∷ laid_bodies (length pre + 1) bs) × Builds pre os ls f
+    (pre : Flats) × (x : Flat Maker) × (bs : Bodies Maker) × (o.node_index ≡ length pre) × (o.block ≡ b) × (o.chained ≡ k) × IsCase x bs (length pre + 1) make × (ns ≡ pre ++ x ∷ laid_bodies (length pre + 1) bs) × Builds pre os ls f
 
-unkept_pauses : (ns ms : Flats) (o : Open) (os : List Open) (b : Block) (make : Whens → Nodes → tree.Node) (f : Nodes) (k : Bool) (ls : List Level) (cur : Nodes) → ms ≡ take (o.place + 1) ns
+unkept_pauses : (ns ms : Flats) (o : Open) (os : List Open) (b : Block) (make : Whens → Nodes → tree.Node) (f : Nodes) (k : Bool) (ls : List Level) (cur : Nodes) → ms ≡ take (o.node_index + 1) ns
     → Builds ns (o ∷ os) (level (unkept b make) f k ∷ ls) cur → Pauses ms o os b make f k ls
 unfolding Pauses
 unkept_pauses ns ms o os b make f k ls cur is (pre, x, bs, c, is_c, at, chained, (stage, block, nob, whole), e, below) =
-    let n : o.place + 1 ≡ suc (length pre) = omega (arith, at) in
+    let n : o.node_index + 1 ≡ suc (length pre) = omega (arith, at) in
     (pre, x, no_bodies, at, block, chained, whole, is ∙ ap (λ n. take n ns) n ∙ ap (take (suc (length pre))) e ∙ take_seam pre x (laid_bodies (length pre + 1) bs ++ laid (length pre + 1 + sizes bs) c), below)
 
-armed_pauses : (ns ms : Flats) (o : Open) (os : List Open) (b : Block) (make : Nodes → Whens → Nodes → tree.Node) (f : Nodes) (k : Bool) (ls : List Level) (cur : Nodes) → EndIsSet o.place ns ms
+armed_pauses : (ns ms : Flats) (o : Open) (os : List Open) (b : Block) (make : Nodes → Whens → Nodes → tree.Node) (f : Nodes) (k : Bool) (ls : List Level) (cur : Nodes) → EndIsSet o.node_index ns ms
     → Builds ns (o ∷ os) (level (armed b make) f k ∷ ls) cur → Pauses ms o os b (make cur) f k ls
 unfolding Pauses
 armed_pauses ns ms o os b make f k ls cur (old, was, set) (pre, x, bs, c, is_c, at, chained, (stage, block, t, vss, vs, y, z, count, x_is, makes), e, below) =
@@ -245,13 +245,13 @@ armed_pauses ns ms o os b make f k ls cur (old, was, set) (pre, x, bs, c, is_c, 
     let long : length ns ≡ n + sizes bs + size c = level-length pre x bs c ns e in
     let rest = laid_bodies n bs ++ laid (n + sizes bs) c in
     let new : Flat Maker = case_flat t (vss ++ vs ∷ []) (ends_of n cs) z in
-    let old_is : old ≡ x = there pre x rest ns o.place old at e was in
+    let old_is : old ≡ x = there pre x rest ns o.node_index old at e was in
     let new_is : before_last_ended (length ns) old ≡ new =
     ap (before_last_ended (length ns)) (old_is ∙ x_is)
     ∙ ap (λ (es : List ℕ). record { head = with_arms (λ ws o. tree.case_of t ws o) (vss ++ vs ∷ []); ends = es })
     (set_before_seam (length ns) (ends_of n bs) y z ∙ ap (λ (es : List ℕ). es ++ z ∷ []) (ap (λ (l : ℕ). ends_of n bs ++ l ∷ []) long ∙ sym (ends_with n bs c))) in
     let all : ms ≡ pre ++ new ∷ laid_bodies n cs =
-    set ∙ changed pre x (before_last_ended (length ns) old) rest ns o.place at e ∙ ap (λ (v : Flat Maker). pre ++ v ∷ rest) new_is ∙ ap (λ l. pre ++ new ∷ l) (sym (laid_with n bs c)) in
+    set ∙ changed pre x (before_last_ended (length ns) old) rest ns o.node_index at e ∙ ap (λ (v : Flat Maker). pre ++ v ∷ rest) new_is ∙ ap (λ l. pre ++ new ∷ l) (sym (laid_with n bs c)) in
     let many : length (vss ++ vs ∷ []) ≡ length (bodies_of cs) =
     let a : length (vss ++ vs ∷ []) ≡ length vss + 1 = length-append vss (vs ∷ []) in
     let d : length (bodies_of cs) ≡ length (bodies_of bs) + 1 = ap length (bodies_with bs c) ∙ length-append (bodies_of bs) (nodes_of c ∷ []) in
@@ -263,7 +263,7 @@ armed_pauses ns ms o os b make f k ls cur (old, was, set) (pre, x, bs, c, is_c, 
 
 -- behind it the else list begins
 last_goes : (ns : Flats) (o p : Open) (os : List Open) (b : Block) (make : Whens → Nodes → tree.Node) (f : Nodes) (k : Bool) (ls : List Level)
-    → p.place ≡ o.place → p.chained ≡ o.chained → p.block ≡ o.block → p.stage ≡ Last → Pauses ns o os b make f k ls → Builds ns (p ∷ os) (level (last b (make no_whens)) f k ∷ ls) no_nodes
+    → p.node_index ≡ o.node_index → p.chained ≡ o.chained → p.block ≡ o.block → p.stage ≡ Last → Pauses ns o os b make f k ls → Builds ns (p ∷ os) (level (last b (make no_whens)) f k ∷ ls) no_nodes
 unfolding Pauses
 last_goes ns o p os b make f k ls at' ch bl st (pre, x, bs, at, block, chained, (t, vss, z, count, x_is, makes), e, below) =
     let n = length pre + 1 in (
@@ -286,17 +286,17 @@ last_goes ns o p os b make f k ls at' ch bl st (pre, x, bs, at, block, chained, 
 
 -- or a further `when`
 when_goes : (ns ms : Flats) (o p : Open) (os : List Open) (b : Block) (make : Whens → Nodes → tree.Node) (f : Nodes) (k : Bool) (ls : List Level) (vs : List Expression) (old y : Flat Maker)
-    → ms ≡ slice_set ns o.place y → old ≡ get_or ns o.place old → IsAdded vs old y
-    → p.place ≡ o.place → p.chained ≡ o.chained → p.block ≡ o.block → p.stage ≡ Armed → Pauses ns o os b make f k ls
+    → ms ≡ slice_set ns o.node_index y → old ≡ get_or ns o.node_index old → IsAdded vs old y
+    → p.node_index ≡ o.node_index → p.chained ≡ o.chained → p.block ≡ o.block → p.stage ≡ Armed → Pauses ns o os b make f k ls
     → Builds ms (p ∷ os) (level (armed b (λ g ws o. make (when vs g ws) o)) f k ∷ ls) no_nodes
 unfolding Pauses
 when_goes ns ms o p os b make f k ls vs old y set was added at' ch bl st (pre, x, bs, at, block, chained, (t, vss, z, count, x_is, makes), e, below) =
     let n = length pre + 1 in
     let new : Flat Maker = case_flat t (vss ++ vs ∷ []) (ends_of n bs ++ 0 ∷ []) z in
-    let old_is : old ≡ x = there pre x (laid_bodies n bs) ns o.place old at e was in
+    let old_is : old ≡ x = there pre x (laid_bodies n bs) ns o.node_index old at e was in
     let y_is : y ≡ new = added t vss (ends_of n bs) z (count ∙ sym (ends_count n bs)) (old_is ∙ x_is) in
     let all : ms ≡ pre ++ new ∷ (laid_bodies n bs ++ []) =
-    set ∙ changed pre x y (laid_bodies n bs) ns o.place at e ∙ ap (λ (v : Flat Maker). pre ++ v ∷ laid_bodies n bs) y_is ∙ ap (λ l. pre ++ new ∷ l) (sym (append-nil (laid_bodies n bs))) in
+    set ∙ changed pre x y (laid_bodies n bs) ns o.node_index at e ∙ ap (λ (v : Flat Maker). pre ++ v ∷ laid_bodies n bs) y_is ∙ ap (λ l. pre ++ new ∷ l) (sym (append-nil (laid_bodies n bs))) in
     (pre, new, bs, empty, refl, at' ∙ at, ch ∙ chained, (st, bl ∙ block, t, vss, vs, 0, z, count, refl, λ g ws o. makes (when vs g ws) o), all, below)
 
 -- ---- on the code's stack, whose last block is the innermost
@@ -305,22 +305,22 @@ reverse-last : {A : Type 0} (xs : List A) (x : A) → reverse (xs ++ x ∷ []) �
 reverse-last xs x = reverse-append xs (x ∷ [])
 
 -- where the next piece stands
-top_place : List Open → Place
-top_place [] = Outside
-top_place (o ∷ os) = stage_place o.stage o.block
+top_context : List Open → BlockContext
+top_context [] = Outside
+top_context (o ∷ os) = stage_context o.stage o.block
 
-fits_place : (o : Open) (r : Reading) (x : Flat Maker) (bs : Bodies Maker) (n : ℕ) → Fits o r x bs n → stage_place o.stage o.block ≡ place_in r
-fits_place o (last b make) x bs n (stage, block, ends, makes) = ap (λ (s : Stage). stage_place s o.block) stage ∙ ap InLast block
-fits_place o (first b make) x bs n (stage, block, none, ends, makes) = ap (λ (s : Stage). stage_place s o.block) stage ∙ ap InBody block
-fits_place o (unkept b make) x bs n h = ap (λ (s : Stage). stage_place s o.block) h.0 ∙ ap InBody h.1
-fits_place o (armed b make) x bs n h = ap (λ (s : Stage). stage_place s o.block) h.0 ∙ ap InBody h.1
+fits_context : (o : Open) (r : Reading) (x : Flat Maker) (bs : Bodies Maker) (n : ℕ) → Fits o r x bs n → stage_context o.stage o.block ≡ context_in r
+fits_context o (last b make) x bs n (stage, block, ends, makes) = ap (λ (s : Stage). stage_context s o.block) stage ∙ ap InLast block
+fits_context o (first b make) x bs n (stage, block, none, ends, makes) = ap (λ (s : Stage). stage_context s o.block) stage ∙ ap InBody block
+fits_context o (unkept b make) x bs n h = ap (λ (s : Stage). stage_context s o.block) h.0 ∙ ap InBody h.1
+fits_context o (armed b make) x bs n h = ap (λ (s : Stage). stage_context s o.block) h.0 ∙ ap InBody h.1
 
-top_is : (ns : Flats) (os : List Open) (ls : List Level) (cur : Nodes) → Builds ns os ls cur → top_place os ≡ place_of ls
-unfolding top_place
+top_is : (ns : Flats) (os : List Open) (ls : List Level) (cur : Nodes) → Builds ns os ls cur → top_context os ≡ context_of ls
+unfolding top_context
 top_is ns [] [] cur b = refl
 top_is ns (o ∷ os) [] cur b = absurd b
 top_is ns [] (l ∷ ls) cur b = absurd b
-top_is ns (o ∷ os) (level r f k ∷ ls) cur (pre, x, bs, c, is, at, chained, fits, e, below) = fits_place o r x bs (length pre + 1) fits
+top_is ns (o ∷ os) (level r f k ∷ ls) cur (pre, x, bs, c, is, at, chained, fits, e, below) = fits_context o r x bs (length pre + 1) fits
 
 last_get : (ys : List Open) (o : Open) → slice_get (ys ++ o ∷ []) (length (ys ++ o ∷ []) - 1) ≡ Some o
 last_get ys o =
@@ -328,15 +328,15 @@ last_get ys o =
     let w : length ys < length (ys ++ o ∷ []) = omega (arith, length-append ys (o ∷ [])) in
     ap (slice_get (ys ++ o ∷ [])) e ∙ slice_get-get_or (ys ++ o ∷ []) (length ys) o w ∙ ap Some (get_or-append_seam ys o [] o)
 
-last_top : (os : List Open) → place_at (slice_get (reverse os) (length (reverse os) - 1)) ≡ top_place os
-unfolding top_place
+last_top : (os : List Open) → context_at (slice_get (reverse os) (length (reverse os) - 1)) ≡ top_context os
+unfolding top_context
 last_top [] = refl
-last_top (o ∷ os) = let e : reverse (o ∷ os) ≡ reverse os ++ o ∷ [] = reverse-append (o ∷ []) os in ap (λ l. place_at (slice_get l (length l - 1))) e ∙ ap place_at (last_get (reverse os) o)
+last_top (o ∷ os) = let e : reverse (o ∷ os) ≡ reverse os ++ o ∷ [] = reverse-append (o ∷ []) os in ap (λ l. context_at (slice_get l (length l - 1))) e ∙ ap context_at (last_get (reverse os) o)
 
-pub place_is : (ns : Flats) (xs : List Open) (ls : List Level) (cur : Nodes) → Builds ns (reverse xs) ls cur → place_at (slice_get xs (length xs - 1)) ≡ place_of ls
-place_is ns xs ls cur b = ap (λ l. place_at (slice_get l (length l - 1))) (sym (reverse-reverse xs)) ∙ last_top (reverse xs) ∙ top_is ns (reverse xs) ls cur b
+pub context_is : (ns : Flats) (xs : List Open) (ls : List Level) (cur : Nodes) → Builds ns (reverse xs) ls cur → context_at (slice_get xs (length xs - 1)) ≡ context_of ls
+context_is ns xs ls cur b = ap (λ l. context_at (slice_get l (length l - 1))) (sym (reverse-reverse xs)) ∙ last_top (reverse xs) ∙ top_is ns (reverse xs) ls cur b
 
-pub within_on : (ns : Flats) (all rest : List Open) (o : Open) (ls : List Level) (cur : Nodes) → all ≡ rest ++ o ∷ [] → Builds ns (reverse all) ls cur → o.place < length ns
+pub within_on : (ns : Flats) (all rest : List Open) (o : Open) (ls : List Level) (cur : Nodes) → all ≡ rest ++ o ∷ [] → Builds ns (reverse all) ls cur → o.node_index < length ns
 within_on ns all rest o ls cur e h = open-within ns o (reverse rest) ls cur (subst (λ os. Builds ns os ls cur) (ap reverse e ∙ reverse-last rest o) h)
 
 -- the last body begins
@@ -345,14 +345,14 @@ pub record Goes (ms : Flats) (os : List Open) (ls : List Level) (cur : Nodes) (s
   pub built : Builds ms os s.0 s.1
   pub deep : depth ls ≡ depth s.0
 
-else_by : (ns ms : Flats) (o p : Open) (os : List Open) → BodyEnded o.stage o.place ns ms → takes_else o.stage ≡ true
-    → p.place ≡ o.place → p.chained ≡ o.chained → p.block ≡ o.block → p.stage ≡ Last
+else_by : (ns ms : Flats) (o p : Open) (os : List Open) → BodyEnded o.stage o.node_index ns ms → takes_else o.stage ≡ true
+    → p.node_index ≡ o.node_index → p.chained ≡ o.chained → p.block ≡ o.block → p.stage ≡ Last
     → (ls : List Level) (cur : Nodes) → Builds ns (o ∷ os) ls cur → (s : State) × Goes ms (p ∷ os) ls cur s
 else_by ns ms o p os done takes at ch bl st [] cur h = absurd h
 else_by ns ms o p os done takes at ch bl st (level (last b make) f k ∷ ls) cur h =
     let no : false ≡ true = subst (λ (s : Stage). takes_else s ≡ true) h.7.0 takes in absurd cc
 else_by ns ms o p os done takes at ch bl st (level (first b make) f k ∷ ls) cur h =
-    let d = subst (λ (s : Stage). BodyEnded s o.place ns ms) h.7.0 done in (
+    let d = subst (λ (s : Stage). BodyEnded s o.node_index ns ms) h.7.0 done in (
       (level (last b (make cur)) f k ∷ ls, no_nodes),
       record {
         read = refl;
@@ -361,7 +361,7 @@ else_by ns ms o p os done takes at ch bl st (level (first b make) f k ∷ ls) cu
       },
     )
 else_by ns ms o p os done takes at ch bl st (level (unkept b make) f k ∷ ls) cur h =
-    let d = subst (λ (s : Stage). BodyEnded s o.place ns ms) h.7.0 done in (
+    let d = subst (λ (s : Stage). BodyEnded s o.node_index ns ms) h.7.0 done in (
       (level (last b (make no_whens)) f k ∷ ls, no_nodes),
       record {
         read = refl;
@@ -370,7 +370,7 @@ else_by ns ms o p os done takes at ch bl st (level (unkept b make) f k ∷ ls) c
       },
     )
 else_by ns ms o p os done takes at ch bl st (level (armed b make) f k ∷ ls) cur h =
-    let d = subst (λ (s : Stage). BodyEnded s o.place ns ms) h.7.0 done in (
+    let d = subst (λ (s : Stage). BodyEnded s o.node_index ns ms) h.7.0 done in (
       (level (last b (make cur no_whens)) f k ∷ ls, no_nodes),
       record {
         read = refl;
@@ -379,8 +379,8 @@ else_by ns ms o p os done takes at ch bl st (level (armed b make) f k ∷ ls) cu
       },
     )
 
-pub else_on : (ns ms : Flats) (all rest now : List Open) (o p : Open) → all ≡ rest ++ o ∷ [] → now ≡ rest ++ p ∷ [] → BodyEnded o.stage o.place ns ms → takes_else o.stage ≡ true
-    → p.place ≡ o.place → p.chained ≡ o.chained → p.block ≡ o.block → p.stage ≡ Last
+pub else_on : (ns ms : Flats) (all rest now : List Open) (o p : Open) → all ≡ rest ++ o ∷ [] → now ≡ rest ++ p ∷ [] → BodyEnded o.stage o.node_index ns ms → takes_else o.stage ≡ true
+    → p.node_index ≡ o.node_index → p.chained ≡ o.chained → p.block ≡ o.block → p.stage ≡ Last
     → (ls : List Level) (cur : Nodes) → Builds ns (reverse all) ls cur → (s : State) × (to_else ls cur ≡ Some s) × Builds ms (reverse now) s.0 s.1 × (depth ls ≡ depth s.0)
 else_on ns ms all rest now o p e e2 done takes at ch bl st ls cur h =
     let h' = subst (λ os. Builds ns os ls cur) (ap reverse e ∙ reverse-last rest o) h in
@@ -398,9 +398,9 @@ pub no_else : (ns : Flats) (all rest : List Open) (o : Open) → all ≡ rest ++
 no_else ns all rest o e st ls cur h = no_else_by ns o (reverse rest) st ls cur (subst (λ os. Builds ns os ls cur) (ap reverse e ∙ reverse-last rest o) h)
 
 -- a `when`
-when_by : (ns mid ms : Flats) (o p : Open) (os : List Open) (vs : List Expression) (old y : Flat Maker) → BodyEnded o.stage o.place ns mid → takes_when o.stage ≡ true
-    → ms ≡ slice_set mid o.place y → old ≡ get_or mid o.place old → IsAdded vs old y
-    → p.place ≡ o.place → p.chained ≡ o.chained → p.block ≡ o.block → p.stage ≡ Armed
+when_by : (ns mid ms : Flats) (o p : Open) (os : List Open) (vs : List Expression) (old y : Flat Maker) → BodyEnded o.stage o.node_index ns mid → takes_when o.stage ≡ true
+    → ms ≡ slice_set mid o.node_index y → old ≡ get_or mid o.node_index old → IsAdded vs old y
+    → p.node_index ≡ o.node_index → p.chained ≡ o.chained → p.block ≡ o.block → p.stage ≡ Armed
     → (ls : List Level) (cur : Nodes) → Builds ns (o ∷ os) ls cur → (s : State) × (to_when vs ls cur ≡ Some s) × Builds ms (p ∷ os) s.0 s.1 × (depth ls ≡ depth s.0)
 when_by ns mid ms o p os vs old y done takes set was added at ch bl st [] cur h = absurd h
 when_by ns mid ms o p os vs old y done takes set was added at ch bl st (level (last b make) f k ∷ ls) cur h =
@@ -408,23 +408,23 @@ when_by ns mid ms o p os vs old y done takes set was added at ch bl st (level (l
 when_by ns mid ms o p os vs old y done takes set was added at ch bl st (level (first b make) f k ∷ ls) cur h =
     let no : false ≡ true = subst (λ (s : Stage). takes_when s ≡ true) h.7.0 takes in absurd cc
 when_by ns mid ms o p os vs old y done takes set was added at ch bl st (level (unkept b make) f k ∷ ls) cur h =
-    let d = subst (λ (s : Stage). BodyEnded s o.place ns mid) h.7.0 done in (
+    let d = subst (λ (s : Stage). BodyEnded s o.node_index ns mid) h.7.0 done in (
       (level (armed b (λ g ws o. make (when vs g ws) o)) f k ∷ ls, no_nodes),
       refl,
       when_goes mid ms o p os b make f k ls vs old y set was added at ch bl st (unkept_pauses ns mid o os b make f k ls cur d h),
       refl,
     )
 when_by ns mid ms o p os vs old y done takes set was added at ch bl st (level (armed b make) f k ∷ ls) cur h =
-    let d = subst (λ (s : Stage). BodyEnded s o.place ns mid) h.7.0 done in (
+    let d = subst (λ (s : Stage). BodyEnded s o.node_index ns mid) h.7.0 done in (
       (level (armed b (λ g ws o. make cur (when vs g ws) o)) f k ∷ ls, no_nodes),
       refl,
       when_goes mid ms o p os b (make cur) f k ls vs old y set was added at ch bl st (armed_pauses ns mid o os b make f k ls cur d h),
       refl,
     )
 
-pub when_on : (ns mid ms : Flats) (all rest now : List Open) (o p : Open) (vs : List Expression) (old y : Flat Maker) → all ≡ rest ++ o ∷ [] → now ≡ rest ++ p ∷ [] → BodyEnded o.stage o.place ns mid → takes_when o.stage ≡ true
-    → ms ≡ slice_set mid o.place y → old ≡ get_or mid o.place old → IsAdded vs old y
-    → p.place ≡ o.place → p.chained ≡ o.chained → p.block ≡ o.block → p.stage ≡ Armed
+pub when_on : (ns mid ms : Flats) (all rest now : List Open) (o p : Open) (vs : List Expression) (old y : Flat Maker) → all ≡ rest ++ o ∷ [] → now ≡ rest ++ p ∷ [] → BodyEnded o.stage o.node_index ns mid → takes_when o.stage ≡ true
+    → ms ≡ slice_set mid o.node_index y → old ≡ get_or mid o.node_index old → IsAdded vs old y
+    → p.node_index ≡ o.node_index → p.chained ≡ o.chained → p.block ≡ o.block → p.stage ≡ Armed
     → (ls : List Level) (cur : Nodes) → Builds ns (reverse all) ls cur → (s : State) × (to_when vs ls cur ≡ Some s) × Builds ms (reverse now) s.0 s.1 × (depth ls ≡ depth s.0)
 when_on ns mid ms all rest now o p vs old y e e2 done takes set was added at ch bl st ls cur h =
     let h' = subst (λ os. Builds ns os ls cur) (ap reverse e ∙ reverse-last rest o) h in
@@ -443,34 +443,34 @@ no_when ns all rest o vs e st ls cur h = no_when_by ns o (reverse rest) vs st ls
 
 -- a block ends: its last body, or another, behind which the last is empty
 last_open : Open → Open
-last_open o = record { place = o.place; block = o.block; stage = Last; chained = o.chained }
+last_open o = record { node_index = o.node_index; block = o.block; stage = Last; chained = o.chained }
 
-close : (ns mid ms : Flats) (o : Open) (os : List Open) (r : Reading) (f : Nodes) (k : Bool) (ls : List Level) (cur : Nodes) (old y : Flat Maker) → BodyEnded o.stage o.place ns mid
-    → ms ≡ slice_set mid o.place y → old ≡ get_or mid o.place old → y ≡ last_ended (length mid) old
+close : (ns mid ms : Flats) (o : Open) (os : List Open) (r : Reading) (f : Nodes) (k : Bool) (ls : List Level) (cur : Nodes) (old y : Flat Maker) → BodyEnded o.stage o.node_index ns mid
+    → ms ≡ slice_set mid o.node_index y → old ≡ get_or mid o.node_index old → y ≡ last_ended (length mid) old
     → Builds ns (o ∷ os) (level r f k ∷ ls) cur → (o.chained ≡ k) × Builds ms os ls (with_node f (ended r cur))
 unfolding last_open
 close ns mid ms o os (last b make) f k ls cur old y done set was is h =
-    let same : mid ≡ ns = subst (λ (s : Stage). BodyEnded s o.place ns mid) h.7.0 done in
+    let same : mid ≡ ns = subst (λ (s : Stage). BodyEnded s o.node_index ns mid) h.7.0 done in
     close_last mid ms o os b make f k ls cur old y set was is (subst (λ (m : Flats). Builds m (o ∷ os) (level (last b make) f k ∷ ls) cur) (sym same) h)
 close ns mid ms o os (first b make) f k ls cur old y done set was is h =
-    let d = subst (λ (s : Stage). BodyEnded s o.place ns mid) h.7.0 done in
+    let d = subst (λ (s : Stage). BodyEnded s o.node_index ns mid) h.7.0 done in
     close_last mid ms (last_open o) os b (make cur) f k ls no_nodes old y set was is (otherwise ns mid o (last_open o) os b make f k ls cur d.0 (before_last_ended (length ns) d.0) d.2 d.1 refl refl refl refl refl h)
 close ns mid ms o os (unkept b make) f k ls cur old y done set was is h =
-    let d = subst (λ (s : Stage). BodyEnded s o.place ns mid) h.7.0 done in
+    let d = subst (λ (s : Stage). BodyEnded s o.node_index ns mid) h.7.0 done in
     close_last mid ms (last_open o) os b (make no_whens) f k ls no_nodes old y set was is (last_goes mid o (last_open o) os b make f k ls refl refl refl refl (unkept_pauses ns mid o os b make f k ls cur d h))
 close ns mid ms o os (armed b make) f k ls cur old y done set was is h =
-    let d = subst (λ (s : Stage). BodyEnded s o.place ns mid) h.7.0 done in
+    let d = subst (λ (s : Stage). BodyEnded s o.node_index ns mid) h.7.0 done in
     close_last mid ms (last_open o) os b (make cur no_whens) f k ls no_nodes old y set was is (last_goes mid o (last_open o) os b (make cur) f k ls refl refl refl refl (armed_pauses ns mid o os b make f k ls cur d h))
 
-closes_by : (ns mid : Flats) (o : Open) (os : List Open) (b : Builder) (old y : Flat Maker) → BodyEnded o.stage o.place ns mid → flats b.nodes.items ≡ slice_set mid o.place y → old ≡ get_or mid o.place old → y ≡ last_ended (length mid) old → reverse b.blocks.items ≡ os
+closes_by : (ns mid : Flats) (o : Open) (os : List Open) (b : Builder) (old y : Flat Maker) → BodyEnded o.stage o.node_index ns mid → flats b.nodes.items ≡ slice_set mid o.node_index y → old ≡ get_or mid o.node_index old → y ≡ last_ended (length mid) old → reverse b.blocks.items ≡ os
     → (ls : List Level) (cur : Nodes) → Builds ns (o ∷ os) ls cur → Closes ls cur b (Some o.chained)
 closes_by ns mid o os b old y done set was is stack [] cur h = absurd h
 closes_by ns mid o os b old y done set was is stack (level r f k ∷ ls) cur h =
     let d = close ns mid (flats b.nodes.items) o os r f k ls cur old y done set was is h in
     (d.0, subst (λ (os : List Open). Builds (flats b.nodes.items) os ls (with_node f (ended r cur))) (sym stack) d.1)
 
-pub closes_on : (ns mid : Flats) (all : List Open) (o : Open) (b : Builder) (old y : Flat Maker) (long : ℕ) → all ≡ b.blocks.items ++ o ∷ [] → long ≡ length mid → BodyEnded o.stage o.place ns mid → flats b.nodes.items ≡ slice_set mid o.place y
-    → old ≡ get_or mid o.place old → y ≡ last_ended long old → (ls : List Level) (cur : Nodes) → Builds ns (reverse all) ls cur → Closes ls cur b (Some o.chained)
+pub closes_on : (ns mid : Flats) (all : List Open) (o : Open) (b : Builder) (old y : Flat Maker) (long : ℕ) → all ≡ b.blocks.items ++ o ∷ [] → long ≡ length mid → BodyEnded o.stage o.node_index ns mid → flats b.nodes.items ≡ slice_set mid o.node_index y
+    → old ≡ get_or mid o.node_index old → y ≡ last_ended long old → (ls : List Level) (cur : Nodes) → Builds ns (reverse all) ls cur → Closes ls cur b (Some o.chained)
 closes_on ns mid all o b old y long e n done set was is ls cur h =
     closes_by ns mid o (reverse b.blocks.items) b old y done set was (is ∙ ap (λ k. last_ended k old) n) refl ls cur (subst (λ os. Builds ns os ls cur) (ap reverse e ∙ reverse-last b.blocks.items o) h)
 
@@ -496,7 +496,7 @@ prepared_fits o b Unkept n k st bl (t, z, is, makes) = (st, bl, refl, (t, [], z,
 prepared_fits o b Armed n k st bl prepared = absurd prepared
 
 -- a block begins behind the nodes
-pub begins_on : (ns ms : Flats) (n : code.Node) (all now : List Open) (o : Open) (b : Block) (stage : Stage) (ls : List Level) (cur : Nodes) → ms ≡ ns ++ flat_of n ∷ [] → now ≡ all ++ o ∷ [] → o.place ≡ length ns
+pub begins_on : (ns ms : Flats) (n : code.Node) (all now : List Open) (o : Open) (b : Block) (stage : Stage) (ls : List Level) (cur : Nodes) → ms ≡ ns ++ flat_of n ∷ [] → now ≡ all ++ o ∷ [] → o.node_index ≡ length ns
     → o.stage ≡ stage → o.block ≡ b → IsPrepared stage n → Builds ns (reverse all) ls cur → Builds ms (reverse now) (level (begun (opening b stage n)) cur o.chained ∷ ls) no_nodes
 begins_on ns ms n all now o b stage ls cur e stack at st bl prepared built =
     subst (λ os. Builds ms os (level (begun (opening b stage n)) cur o.chained ∷ ls) no_nodes) (sym (ap reverse stack ∙ reverse-last all o))

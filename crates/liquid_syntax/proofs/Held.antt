@@ -107,7 +107,7 @@ unfolding listed
 absent_below a [] h = refl
 absent_below a (e ∷ es) h = ap (λ b. cond b (Some e.1) (listed es a)) (above_other a e.0 h.0) ∙ absent_below a es h.1
 
--- a place that is there is given something
+-- a slot that is there is given something
 present_above : {X : Type 0} (name other : Text) (es : List (Text × X)) → AllAbove name es → IsSome (listed es other) → order name other ≡ Less
 unfolding listed
 present_above name other [] h k = absurd (apart (sym k))
@@ -147,7 +147,7 @@ module _ {Y : Type 0} where
       on : (o : Ordering) → order name e.0 ≡ o → (v : Option Y) → filled (put name (Some y) es) ≡ put name y (filled es) → filled (match_ordering (order name e.0) ((name, Some y) ∷ (e.0, v) ∷ es) ((e.0, Some y) ∷ es) ((e.0, v) ∷ put name (Some y) es)) ≡ put name y (with_held e.0 v (filled es))
       on o k v rest = ap (λ x. filled (match_ordering x ((name, Some y) ∷ (e.0, v) ∷ es) ((e.0, Some y) ∷ es) ((e.0, v) ∷ put name (Some y) es))) k ∙ at o v k rest
 
-  -- a new place that holds nothing
+  -- a new slot that holds nothing
   pub filled_reserved : (name : Text) (es : List (Text × Option Y)) → listed es name ≡ None → filled (put name None es) ≡ filled es
   unfolding listed
   filled_reserved name [] h = refl
@@ -188,7 +188,7 @@ module _ {Y : Type 0} where
       on false s (Some z) rest = ap (λ b. cond b (Some z) (listed (filled es) name)) s ∙ rest
       on false s None rest = rest
 
--- what stood in a place, put back, leaves all as it was
+-- what stood in a slot, put back, leaves all as it was
 pub placed_back : {X : Type 0} (name : Text) (x y : X) (es : List (Text × X)) → listed es name ≡ Some x → placed name x (placed name y es) ≡ es
 unfolding listed
 placed_back name x y [] h = refl

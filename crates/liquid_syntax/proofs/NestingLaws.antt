@@ -3,11 +3,11 @@ use Rattle.std.proofs.Common.{◌≡◌, ℕ, suc, ◌+◌, ◌-◌, ◌<◌, �
 use Rattle.std.proofs.lemmas.Bool.Decides.{nat_tests}
 use Rattle.liquid_core.specs.Expression.{Expression}
 use Rattle.liquid_tree.specs.Tree.{Node, Nodes, no_nodes, node, Whens, no_whens, when}
-use Rattle.liquid_syntax.specs.Nesting.{Opening, of_one, of_two, of_many, Label, leaf, closed, begins, elsif, arm, otherwise, ends, refused, AreNodes, none, is_leaf, is_closed, is_block, IsBlock, one, two, many, IsLast, no_else, is_else, IsElse, is_last, is_elsif, AreWhens, no_more, is_when}
-use Rattle.liquid_syntax.specs.OpenBlocks.{append, with_node, Reading, last, first, unkept, armed, begun, place_in, ended, else_of, when_of, elsif_of, Level, level, place_of, deeper, depth, close, step, to_closed, to_begin, go, read}
+use Rattle.liquid_syntax.specs.Nesting.{Opening, of_one, of_two, of_many, Statement, leaf, closed, begins, elsif, arm, otherwise, ends, refused, AreNodes, none, is_leaf, is_closed, is_block, IsBlock, one, two, many, IsLast, no_else, is_else, IsElse, is_last, is_elsif, AreWhens, no_more, is_when}
+use Rattle.liquid_syntax.specs.OpenBlocks.{append, with_node, Reading, last, first, unkept, armed, begun, context_in, ended, else_of, when_of, elsif_of, Level, level, context_of, deeper, depth, close, step, to_closed, to_begin, go, read}
 use Rattle.liquid_syntax.specs.declared.block.Block.{Block}
-use Rattle.liquid_syntax.specs.declared.block.Place.{Place}
-use Rattle.liquid_syntax.specs.declared.block.Place.TheVariants.{Outside, InBody, InLast}
+use Rattle.liquid_syntax.specs.declared.block.BlockContext.{BlockContext}
+use Rattle.liquid_syntax.specs.declared.block.BlockContext.TheVariants.{Outside, InBody, InLast}
 
 pub append-assoc : (f g h : Nodes) → append (append f g) h ≡ append f (append g h)
 append-assoc no_nodes g h = refl
@@ -23,8 +23,8 @@ some_room d h = grind (arith, nat_tests)
 room_is : (d : ℕ) → nat_lt d 200 ≡ true → d < 200
 room_is d h = grind (arith, nat_tests)
 
--- a label by which a piece stands in the grammar
-abbrev pub Stands : Label → Type 0
+-- a statement by which a piece stands in the grammar
+abbrev pub Stands : Statement → Type 0
 Stands (leaf n) = Unit {0}
 Stands (closed n) = Unit {0}
 Stands (begins o) = Unit {0}
@@ -34,11 +34,11 @@ Stands otherwise = Unit {0}
 Stands ends = Unit {0}
 Stands refused = ⊥
 
-module _ {P : Type 0} (Is : Place → P → Label → Type 0) (reads : Place → P → Label) (says : (x : Place) (p : P) (l : Label) → Is x p l → reads x p ≡ l) (stands : (x : Place) (p : P) (l : Label) → Stands l → reads x p ≡ l → Is x p l) where
+module _ {P : Type 0} (Is : BlockContext → P → Statement → Type 0) (reads : BlockContext → P → Statement) (says : (x : BlockContext) (p : P) (l : Statement) → Is x p l → reads x p ≡ l) (stands : (x : BlockContext) (p : P) (l : Statement) → Stands l → reads x p ≡ l → Is x p l) where
   -- ---- what stands in the grammar is read
 
-  turn : (x : Place) (p : P) (l : Label) (ps : List P) (ls : List Level) (cur : Nodes) → place_of ls ≡ x → Is x p l → read reads (p ∷ ps) ls cur ≡ go (read reads ps) (step l ls cur)
-  turn x p l ps ls cur e h = ap (λ (y : Place). go (read reads ps) (step (reads y p) ls cur)) e ∙ ap (λ (l : Label). go (read reads ps) (step l ls cur)) (says x p l h)
+  turn : (x : BlockContext) (p : P) (l : Statement) (ps : List P) (ls : List Level) (cur : Nodes) → context_of ls ≡ x → Is x p l → read reads (p ∷ ps) ls cur ≡ go (read reads ps) (step l ls cur)
+  turn x p l ps ls cur e h = ap (λ (y : BlockContext). go (read reads ps) (step (reads y p) ls cur)) e ∙ ap (λ (l : Statement). go (read reads ps) (step l ls cur)) (says x p l h)
 
   begin_turn : (o : Opening) (ps : List P) (ls : List Level) (cur : Nodes) → depth ls < 200 → go (read reads ps) (to_begin o ls cur) ≡ read reads ps (level (begun o) cur false ∷ ls) no_nodes
   begin_turn o ps ls cur h = ap (λ (b : Bool). go (read reads ps) (cond b (Some (level (begun o) cur false ∷ ls, no_nodes)) None)) (some_room (depth ls) h)
@@ -48,13 +48,13 @@ module _ {P : Type 0} (Is : Place → P → Label → Type 0) (reads : Place →
 
   -- the body that is being read can be ended by a `when` and an `else`, with this node
   record Arms (b : Block) (r : Reading) (cur : Nodes) (make : Whens → Nodes → Node) : Type 0 where
-    place : place_in r ≡ InBody b
+    context : context_in r ≡ InBody b
     at_end : ended r cur ≡ make no_whens no_nodes
     at_else : else_of r cur ≡ Some (last b (make no_whens))
     at_when : (vs : List Expression) → when_of vs r cur ≡ Some (armed b (λ g ws o. make (when vs g ws) o))
 
   mutual
-    pub nodes_again : {x : Place} {d : ℕ} {f : Nodes} {ps rest : List P} → AreNodes Is x d f ps rest → (ls : List Level) (cur : Nodes) → place_of ls ≡ x → depth ls + d ≤ 200
+    pub nodes_again : {x : BlockContext} {d : ℕ} {f : Nodes} {ps rest : List P} → AreNodes Is x d f ps rest → (ls : List Level) (cur : Nodes) → context_of ls ≡ x → depth ls + d ≤ 200
         → read reads ps ls cur ≡ read reads rest ls (append cur f)
     nodes_again (none {ps = ps}) ls cur e m = ap (read reads ps ls) (sym (append-none cur))
     nodes_again (is_leaf {x = x} {p = p} {n = n} {f = f} {ps = ps} {rest = rest} r ns) ls cur e m =
@@ -79,7 +79,7 @@ module _ {P : Type 0} (Is : Place → P → Label → Type 0) (reads : Place →
         nodes_again ns (level (first b make) cur false ∷ ls) no_nodes refl m ∙ else_again os make cur false ls f m
     block_again (many {b = b} {make = make} {unkept = f} ns ws) cur ls m =
         nodes_again ns (level (unkept b make) cur false ∷ ls) no_nodes refl m
-        ∙ whens_again ws (unkept b make) make cur false ls f (record { place = refl; at_end = refl; at_else = refl; at_when = λ vs. refl }) m
+        ∙ whens_again ws (unkept b make) make cur false ls f (record { context = refl; at_end = refl; at_else = refl; at_when = λ vs. refl }) m
 
     else_again : {b : Block} {d : ℕ} {o : Nodes} {ps rest : List P} → IsElse Is b d o ps rest → (make : Nodes → Nodes → Node) (f : Nodes) (k : Bool) (ls : List Level) (cur : Nodes) → deeper k (depth ls) + d ≤ 200
         → read reads ps (level (first b make) f k ∷ ls) cur ≡ go (read reads rest) (close k ls (with_node f (make cur o)))
@@ -90,7 +90,7 @@ module _ {P : Type 0} (Is : Place → P → Label → Type 0) (reads : Place →
         ∙ else_again os next no_nodes true (level (last b (make cur)) f k ∷ ls) g m
 
     last_again : {b : Block} {d : ℕ} {o : Nodes} {ps rest : List P} → IsLast Is b d o ps rest → (r : Reading) (make : Nodes → Node) (f : Nodes) (k : Bool) (ls : List Level) (cur : Nodes)
-        → place_in r ≡ InBody b → ended r cur ≡ make no_nodes → else_of r cur ≡ Some (last b make) → deeper k (depth ls) + d ≤ 200
+        → context_in r ≡ InBody b → ended r cur ≡ make no_nodes → else_of r cur ≡ Some (last b make) → deeper k (depth ls) + d ≤ 200
         → read reads ps (level r f k ∷ ls) cur ≡ go (read reads rest) (close k ls (with_node f (make o)))
     last_again (no_else {b = b} {p = p} {rest = rest} s) r make f k ls cur x e h m =
         turn (InBody b) p ends rest (level r f k ∷ ls) cur x s ∙ ap (λ (n : Node). go (read reads rest) (close k ls (with_node f n))) e
@@ -103,13 +103,13 @@ module _ {P : Type 0} (Is : Place → P → Label → Type 0) (reads : Place →
     whens_again : {b : Block} {d : ℕ} {ws : Whens} {o : Nodes} {ps rest : List P} → AreWhens Is b d ws o ps rest → (r : Reading) (make : Whens → Nodes → Node) (f : Nodes) (k : Bool) (ls : List Level) (cur : Nodes)
         → Arms b r cur make → deeper k (depth ls) + d ≤ 200
         → read reads ps (level r f k ∷ ls) cur ≡ go (read reads rest) (close k ls (with_node f (make ws o)))
-    whens_again (no_more os) r make f k ls cur a m = last_again os r (make no_whens) f k ls cur a.place a.at_end a.at_else m
+    whens_again (no_more os) r make f k ls cur a m = last_again os r (make no_whens) f k ls cur a.context a.at_end a.at_else m
     whens_again (is_when {b = b} {p = p} {vs = vs} {f = g} {ps = ps} s ns ws) r make f k ls cur a m =
         let next : Nodes → Whens → Nodes → Node = λ g ws o. make (when vs g ws) o in
-        turn (InBody b) p (arm vs) ps (level r f k ∷ ls) cur a.place s
+        turn (InBody b) p (arm vs) ps (level r f k ∷ ls) cur a.context s
         ∙ ap (λ (o : Option Reading). go (read reads ps) (option_map (λ s. (level s f k ∷ ls, no_nodes)) o)) (a.at_when vs)
         ∙ nodes_again ns (level (armed b next) f k ∷ ls) no_nodes refl m
-        ∙ whens_again ws (armed b next) (next g) f k ls g (record { place = refl; at_end = refl; at_else = refl; at_when = λ us. refl }) m
+        ∙ whens_again ws (armed b next) (next g) f k ls g (record { context = refl; at_end = refl; at_else = refl; at_when = λ us. refl }) m
 
   -- ---- what is read stands in the grammar
 
@@ -127,21 +127,21 @@ module _ {P : Type 0} (Is : Place → P → Label → Type 0) (reads : Place →
   Completes false [] cur ps t = (f : Nodes) × AreNodes Is Outside 200 f ps [] × (t ≡ append cur f)
   Completes false (level r f k ∷ ls) cur ps t = (n : Node) × (rest : List P) × Rest r (200 - deeper k (depth ls)) cur n ps rest × Completes k ls (with_node f n) rest t
 
-  rest_leaf : (p : P) (m : Node) (r : Reading) (d : ℕ) (cur : Nodes) (n : Node) (ps rest : List P) → Is (place_in r) p (leaf m) → Rest r d (with_node cur m) n ps rest → Rest r d cur n (p ∷ ps) rest
+  rest_leaf : (p : P) (m : Node) (r : Reading) (d : ℕ) (cur : Nodes) (n : Node) (ps rest : List P) → Is (context_in r) p (leaf m) → Rest r d (with_node cur m) n ps rest → Rest r d cur n (p ∷ ps) rest
   unfolding Rest
   rest_leaf p m (last b make) d cur n ps rest s (g, q, ns, e, is) = (node m g, q, is_leaf s ns, e, is ∙ ap make (append-assoc cur (node m no_nodes) g))
   rest_leaf p m (first b make) d cur n ps rest s (g, after, o, ns, os, is) = (node m g, after, o, is_leaf s ns, os, is ∙ ap (λ (f : Nodes). make f o) (append-assoc cur (node m no_nodes) g))
   rest_leaf p m (unkept b make) d cur n ps rest s (g, after, ws, o, ns, os, is) = (node m g, after, ws, o, is_leaf s ns, os, is)
   rest_leaf p m (armed b make) d cur n ps rest s (g, after, ws, o, ns, os, is) = (node m g, after, ws, o, is_leaf s ns, os, is ∙ ap (λ (f : Nodes). make f ws o) (append-assoc cur (node m no_nodes) g))
 
-  rest_closed : (p : P) (m : Node) (r : Reading) (d : ℕ) (cur : Nodes) (n : Node) (ps rest : List P) → Is (place_in r) p (closed m) → Rest r (suc d) (with_node cur m) n ps rest → Rest r (suc d) cur n (p ∷ ps) rest
+  rest_closed : (p : P) (m : Node) (r : Reading) (d : ℕ) (cur : Nodes) (n : Node) (ps rest : List P) → Is (context_in r) p (closed m) → Rest r (suc d) (with_node cur m) n ps rest → Rest r (suc d) cur n (p ∷ ps) rest
   unfolding Rest
   rest_closed p m (last b make) d cur n ps rest s (g, q, ns, e, is) = (node m g, q, is_closed s ns, e, is ∙ ap make (append-assoc cur (node m no_nodes) g))
   rest_closed p m (first b make) d cur n ps rest s (g, after, o, ns, os, is) = (node m g, after, o, is_closed s ns, os, is ∙ ap (λ (f : Nodes). make f o) (append-assoc cur (node m no_nodes) g))
   rest_closed p m (unkept b make) d cur n ps rest s (g, after, ws, o, ns, os, is) = (node m g, after, ws, o, is_closed s ns, os, is)
   rest_closed p m (armed b make) d cur n ps rest s (g, after, ws, o, ns, os, is) = (node m g, after, ws, o, is_closed s ns, os, is ∙ ap (λ (f : Nodes). make f ws o) (append-assoc cur (node m no_nodes) g))
 
-  rest_block : (p : P) (o : Opening) (m : Node) (r : Reading) (d : ℕ) (cur : Nodes) (n : Node) (ps after rest : List P) → Is (place_in r) p (begins o) → IsBlock Is d o m ps after
+  rest_block : (p : P) (o : Opening) (m : Node) (r : Reading) (d : ℕ) (cur : Nodes) (n : Node) (ps after rest : List P) → Is (context_in r) p (begins o) → IsBlock Is d o m ps after
       → Rest r (suc d) (with_node cur m) n after rest → Rest r (suc d) cur n (p ∷ ps) rest
   unfolding Rest
   rest_block p o m (last b make) d cur n ps after rest s is_b (g, q, ns, e, is) = (node m g, q, is_block s is_b ns, e, is ∙ ap make (append-assoc cur (node m no_nodes) g))
@@ -156,14 +156,14 @@ module _ {P : Type 0} (Is : Place → P → Label → Type 0) (reads : Place →
   rest_begun (of_two b make) d n ps rest (g, after, o, ns, os, is) = subst (λ (m : Node). IsBlock Is d (of_two b make) m ps rest) (sym is) (two ns os)
   rest_begun (of_many b make) d n ps rest (g, after, ws, o, ns, os, is) = subst (λ (m : Node). IsBlock Is d (of_many b make) m ps rest) (sym is) (many ns os)
 
-  rest_ends : (p : P) (r : Reading) (d : ℕ) (cur : Nodes) (rest : List P) → Is (place_in r) p ends → Rest r d cur (ended r cur) (p ∷ rest) rest
+  rest_ends : (p : P) (r : Reading) (d : ℕ) (cur : Nodes) (rest : List P) → Is (context_in r) p ends → Rest r d cur (ended r cur) (p ∷ rest) rest
   unfolding Rest
   rest_ends p (last b make) d cur rest s = (no_nodes, p, none, s, ap make (sym (append-none cur)))
   rest_ends p (first b make) d cur rest s = (no_nodes, p ∷ rest, no_nodes, none, is_last (no_else s), ap (λ (f : Nodes). make f no_nodes) (sym (append-none cur)))
   rest_ends p (unkept b make) d cur rest s = (no_nodes, p ∷ rest, no_whens, no_nodes, none, no_more (no_else s), refl)
   rest_ends p (armed b make) d cur rest s = (no_nodes, p ∷ rest, no_whens, no_nodes, none, no_more (no_else s), ap (λ (f : Nodes). make f no_whens no_nodes) (sym (append-none cur)))
 
-  rest_else : (p : P) (r s : Reading) (d : ℕ) (cur : Nodes) (n : Node) (ps rest : List P) → Is (place_in r) p otherwise → else_of r cur ≡ Some s → Rest s d no_nodes n ps rest → Rest r d cur n (p ∷ ps) rest
+  rest_else : (p : P) (r s : Reading) (d : ℕ) (cur : Nodes) (n : Node) (ps rest : List P) → Is (context_in r) p otherwise → else_of r cur ≡ Some s → Rest s d no_nodes n ps rest → Rest r d cur n (p ∷ ps) rest
   unfolding Rest
   rest_else p (last b make) s d cur n ps rest w e h = absurd cc
   rest_else p (first b make) s d cur n ps rest w e h =
@@ -179,7 +179,7 @@ module _ {P : Type 0} (Is : Place → P → Label → Type 0) (reads : Place →
       let (g, q, ns, t, is) = subst (λ (s : Reading). Rest s d no_nodes n ps rest) same h in
       (no_nodes, p ∷ ps, no_whens, g, none, no_more (is_else w ns t), is ∙ ap (λ (f : Nodes). make f no_whens g) (sym (append-none cur)))
 
-  rest_when : (p : P) (vs : List Expression) (r s : Reading) (d : ℕ) (cur : Nodes) (n : Node) (ps rest : List P) → Is (place_in r) p (arm vs) → when_of vs r cur ≡ Some s → Rest s d no_nodes n ps rest → Rest r d cur n (p ∷ ps) rest
+  rest_when : (p : P) (vs : List Expression) (r s : Reading) (d : ℕ) (cur : Nodes) (n : Node) (ps rest : List P) → Is (context_in r) p (arm vs) → when_of vs r cur ≡ Some s → Rest s d no_nodes n ps rest → Rest r d cur n (p ∷ ps) rest
   unfolding Rest
   rest_when p vs (last b make) s d cur n ps rest w e h = absurd cc
   rest_when p vs (first b make) s d cur n ps rest w e h = absurd cc
@@ -192,28 +192,28 @@ module _ {P : Type 0} (Is : Place → P → Label → Type 0) (reads : Place →
       let (g, after, ws, o, ns, t, is) = subst (λ (s : Reading). Rest s d no_nodes n ps rest) same h in
       (no_nodes, p ∷ ps, when vs g ws, o, none, is_when w ns t, is ∙ ap (λ (f : Nodes). make f (when vs g ws) o) (sym (append-none cur)))
 
-  more_leaf : (p : P) (m : Node) (ls : List Level) (cur : Nodes) (ps : List P) (t : Nodes) → Is (place_of ls) p (leaf m) → Completes false ls (with_node cur m) ps t → Completes false ls cur (p ∷ ps) t
+  more_leaf : (p : P) (m : Node) (ls : List Level) (cur : Nodes) (ps : List P) (t : Nodes) → Is (context_of ls) p (leaf m) → Completes false ls (with_node cur m) ps t → Completes false ls cur (p ∷ ps) t
   unfolding Completes
   more_leaf p m [] cur ps t s (f, ns, e) = (node m f, is_leaf s ns, e ∙ append-assoc cur (node m no_nodes) f)
   more_leaf p m (level r f k ∷ ls) cur ps t s (n, rest, h, c) = (n, rest, rest_leaf p m r (200 - deeper k (depth ls)) cur n ps rest s h, c)
 
-  rest_deeper : (p : P) (o : Opening) (m : Node) (r : Reading) (e : ℕ) (cur : Nodes) (n : Node) (ps after rest : List P) → e < 200 → Is (place_in r) p (begins o) → IsBlock Is (200 - suc e) o m ps after
+  rest_deeper : (p : P) (o : Opening) (m : Node) (r : Reading) (e : ℕ) (cur : Nodes) (n : Node) (ps after rest : List P) → e < 200 → Is (context_in r) p (begins o) → IsBlock Is (200 - suc e) o m ps after
       → Rest r (200 - e) (with_node cur m) n after rest → Rest r (200 - e) cur n (p ∷ ps) rest
   rest_deeper p o m r e cur n ps after rest l s b h =
       let is : 200 - e ≡ suc (200 - suc e) = omega (arith, l) in
       subst (λ (d : ℕ). Rest r d cur n (p ∷ ps) rest) (sym is) (rest_block p o m r (200 - suc e) cur n ps after rest s b (subst (λ (d : ℕ). Rest r d (with_node cur m) n after rest) is h))
 
-  rest_closed_deeper : (p : P) (m : Node) (r : Reading) (e : ℕ) (cur : Nodes) (n : Node) (ps rest : List P) → e < 200 → Is (place_in r) p (closed m) → Rest r (200 - e) (with_node cur m) n ps rest → Rest r (200 - e) cur n (p ∷ ps) rest
+  rest_closed_deeper : (p : P) (m : Node) (r : Reading) (e : ℕ) (cur : Nodes) (n : Node) (ps rest : List P) → e < 200 → Is (context_in r) p (closed m) → Rest r (200 - e) (with_node cur m) n ps rest → Rest r (200 - e) cur n (p ∷ ps) rest
   rest_closed_deeper p m r e cur n ps rest l s h =
       let is : 200 - e ≡ suc (200 - suc e) = omega (arith, l) in
       subst (λ (d : ℕ). Rest r d cur n (p ∷ ps) rest) (sym is) (rest_closed p m r (200 - suc e) cur n ps rest s (subst (λ (d : ℕ). Rest r d (with_node cur m) n ps rest) is h))
 
-  more_closed : (p : P) (m : Node) (ls : List Level) (cur : Nodes) (ps : List P) (t : Nodes) → depth ls < 200 → Is (place_of ls) p (closed m) → Completes false ls (with_node cur m) ps t → Completes false ls cur (p ∷ ps) t
+  more_closed : (p : P) (m : Node) (ls : List Level) (cur : Nodes) (ps : List P) (t : Nodes) → depth ls < 200 → Is (context_of ls) p (closed m) → Completes false ls (with_node cur m) ps t → Completes false ls cur (p ∷ ps) t
   unfolding Completes
   more_closed p m [] cur ps t l s (f, ns, e) = (node m f, is_closed s ns, e ∙ append-assoc cur (node m no_nodes) f)
   more_closed p m (level r f k ∷ ls) cur ps t l s (n, rest, h, c) = (n, rest, rest_closed_deeper p m r (deeper k (depth ls)) cur n ps rest l s h, c)
 
-  more_block : (p : P) (o : Opening) (m : Node) (ls : List Level) (cur : Nodes) (ps after : List P) (t : Nodes) → depth ls < 200 → Is (place_of ls) p (begins o) → IsBlock Is (200 - suc (depth ls)) o m ps after
+  more_block : (p : P) (o : Opening) (m : Node) (ls : List Level) (cur : Nodes) (ps after : List P) (t : Nodes) → depth ls < 200 → Is (context_of ls) p (begins o) → IsBlock Is (200 - suc (depth ls)) o m ps after
       → Completes false ls (with_node cur m) after t → Completes false ls cur (p ∷ ps) t
   unfolding Completes
   more_block p o m [] cur ps after t l s b (f, ns, e) = (node m f, is_block s b ns, e ∙ append-assoc cur (node m no_nodes) f)
@@ -226,7 +226,7 @@ module _ {P : Type 0} (Is : Place → P → Label → Type 0) (reads : Place →
     close_takes true [] cur h = absurd cc
     close_takes true (level r f k ∷ ls) cur h = close_takes k ls (with_node f (ended r cur)) h
 
-    begin_takes : (p : P) (o : Opening) (ls : List Level) (cur : Nodes) (room : Bool) → nat_lt (depth ls) 200 ≡ room → Is (place_of ls) p (begins o)
+    begin_takes : (p : P) (o : Opening) (ls : List Level) (cur : Nodes) (room : Bool) → nat_lt (depth ls) 200 ≡ room → Is (context_of ls) p (begins o)
         → go (read reads ps) (cond room (Some (level (begun o) cur false ∷ ls, no_nodes)) None) ≡ Some t → Completes false ls cur (p ∷ ps) t
     unfolding Completes
     begin_takes p o ls cur false e s h = absurd cc
@@ -234,12 +234,12 @@ module _ {P : Type 0} (Is : Place → P → Label → Type 0) (reads : Place →
         let (n, rest, r, c) = more (level (begun o) cur false ∷ ls) no_nodes h in
         more_block p o n ls cur ps rest t (room_is (depth ls) e) s (rest_begun o (200 - suc (depth ls)) n ps rest r) c
 
-    closed_takes : (p : P) (m : Node) (ls : List Level) (cur : Nodes) (room : Bool) → nat_lt (depth ls) 200 ≡ room → Is (place_of ls) p (closed m)
+    closed_takes : (p : P) (m : Node) (ls : List Level) (cur : Nodes) (room : Bool) → nat_lt (depth ls) 200 ≡ room → Is (context_of ls) p (closed m)
         → go (read reads ps) (cond room (Some (ls, with_node cur m)) None) ≡ Some t → Completes false ls cur (p ∷ ps) t
     closed_takes p m ls cur false e s h = absurd cc
     closed_takes p m ls cur true e s h = more_closed p m ls cur ps t (room_is (depth ls) e) s (more ls (with_node cur m) h)
 
-    else_takes : (p : P) (r : Reading) (f : Nodes) (k : Bool) (ls : List Level) (cur : Nodes) (to : Option Reading) → else_of r cur ≡ to → Is (place_in r) p otherwise
+    else_takes : (p : P) (r : Reading) (f : Nodes) (k : Bool) (ls : List Level) (cur : Nodes) (to : Option Reading) → else_of r cur ≡ to → Is (context_in r) p otherwise
         → go (read reads ps) (option_map (λ s. (level s f k ∷ ls, no_nodes)) to) ≡ Some t → Completes false (level r f k ∷ ls) cur (p ∷ ps) t
     unfolding Completes
     else_takes p r f k ls cur None e s h = absurd cc
@@ -247,7 +247,7 @@ module _ {P : Type 0} (Is : Place → P → Label → Type 0) (reads : Place →
         let (n, rest, d, c) = more (level to f k ∷ ls) no_nodes h in
         (n, rest, rest_else p r to (200 - deeper k (depth ls)) cur n ps rest s e d, c)
 
-    when_takes : (p : P) (vs : List Expression) (r : Reading) (f : Nodes) (k : Bool) (ls : List Level) (cur : Nodes) (to : Option Reading) → when_of vs r cur ≡ to → Is (place_in r) p (arm vs)
+    when_takes : (p : P) (vs : List Expression) (r : Reading) (f : Nodes) (k : Bool) (ls : List Level) (cur : Nodes) (to : Option Reading) → when_of vs r cur ≡ to → Is (context_in r) p (arm vs)
         → go (read reads ps) (option_map (λ s. (level s f k ∷ ls, no_nodes)) to) ≡ Some t → Completes false (level r f k ∷ ls) cur (p ∷ ps) t
     unfolding Completes
     when_takes p vs r f k ls cur None e s h = absurd cc
@@ -255,7 +255,7 @@ module _ {P : Type 0} (Is : Place → P → Label → Type 0) (reads : Place →
         let (n, rest, d, c) = more (level to f k ∷ ls) no_nodes h in
         (n, rest, rest_when p vs r to (200 - deeper k (depth ls)) cur n ps rest s e d, c)
 
-    elsif_takes : (p : P) (next : Nodes → Nodes → Node) (r : Reading) (f : Nodes) (k : Bool) (ls : List Level) (cur : Nodes) → Is (place_in r) p (elsif next)
+    elsif_takes : (p : P) (next : Nodes → Nodes → Node) (r : Reading) (f : Nodes) (k : Bool) (ls : List Level) (cur : Nodes) → Is (context_in r) p (elsif next)
         → go (read reads ps) (option_map (λ s. (level s.1 no_nodes true ∷ level s.0 f k ∷ ls, no_nodes)) (elsif_of next r cur)) ≡ Some t → Completes false (level r f k ∷ ls) cur (p ∷ ps) t
     unfolding Completes Rest
     elsif_takes p next (last b make) f k ls cur s h = absurd cc
@@ -266,26 +266,26 @@ module _ {P : Type 0} (Is : Place → P → Label → Type 0) (reads : Place →
     elsif_takes p next (unkept b make) f k ls cur s h = absurd cc
     elsif_takes p next (armed b make) f k ls cur s h = absurd cc
 
-    step_takes : (p : P) (l : Label) (ls : List Level) (cur : Nodes) → reads (place_of ls) p ≡ l → go (read reads ps) (step l ls cur) ≡ Some t → Completes false ls cur (p ∷ ps) t
+    step_takes : (p : P) (l : Statement) (ls : List Level) (cur : Nodes) → reads (context_of ls) p ≡ l → go (read reads ps) (step l ls cur) ≡ Some t → Completes false ls cur (p ∷ ps) t
     unfolding Completes
-    step_takes p (leaf m) ls cur s h = more_leaf p m ls cur ps t (stands (place_of ls) p (leaf m) tt s) (more ls (with_node cur m) h)
-    step_takes p (closed m) ls cur s h = closed_takes p m ls cur (nat_lt (depth ls) 200) refl (stands (place_of ls) p (closed m) tt s) h
-    step_takes p (begins o) ls cur s h = begin_takes p o ls cur (nat_lt (depth ls) 200) refl (stands (place_of ls) p (begins o) tt s) h
+    step_takes p (leaf m) ls cur s h = more_leaf p m ls cur ps t (stands (context_of ls) p (leaf m) tt s) (more ls (with_node cur m) h)
+    step_takes p (closed m) ls cur s h = closed_takes p m ls cur (nat_lt (depth ls) 200) refl (stands (context_of ls) p (closed m) tt s) h
+    step_takes p (begins o) ls cur s h = begin_takes p o ls cur (nat_lt (depth ls) 200) refl (stands (context_of ls) p (begins o) tt s) h
     step_takes p (elsif next) [] cur s h = absurd cc
-    step_takes p (elsif next) (level r f k ∷ ls) cur s h = elsif_takes p next r f k ls cur (stands (place_in r) p (elsif next) tt s) h
+    step_takes p (elsif next) (level r f k ∷ ls) cur s h = elsif_takes p next r f k ls cur (stands (context_in r) p (elsif next) tt s) h
     step_takes p (arm vs) [] cur s h = absurd cc
-    step_takes p (arm vs) (level r f k ∷ ls) cur s h = when_takes p vs r f k ls cur (when_of vs r cur) refl (stands (place_in r) p (arm vs) tt s) h
+    step_takes p (arm vs) (level r f k ∷ ls) cur s h = when_takes p vs r f k ls cur (when_of vs r cur) refl (stands (context_in r) p (arm vs) tt s) h
     step_takes p otherwise [] cur s h = absurd cc
-    step_takes p otherwise (level r f k ∷ ls) cur s h = else_takes p r f k ls cur (else_of r cur) refl (stands (place_in r) p otherwise tt s) h
+    step_takes p otherwise (level r f k ∷ ls) cur s h = else_takes p r f k ls cur (else_of r cur) refl (stands (context_in r) p otherwise tt s) h
     step_takes p ends [] cur s h = absurd cc
-    step_takes p ends (level r f k ∷ ls) cur s h = (ended r cur, ps, rest_ends p r (200 - deeper k (depth ls)) cur ps (stands (place_in r) p ends tt s), close_takes k ls (with_node f (ended r cur)) h)
+    step_takes p ends (level r f k ∷ ls) cur s h = (ended r cur, ps, rest_ends p r (200 - deeper k (depth ls)) cur ps (stands (context_in r) p ends tt s), close_takes k ls (with_node f (ended r cur)) h)
     step_takes p refused ls cur s h = absurd cc
 
   read_takes : (t : Nodes) (ps : List P) (ls : List Level) (cur : Nodes) → read reads ps ls cur ≡ Some t → Completes false ls cur ps t
   unfolding Completes
   read_takes t [] [] cur h = let e : cur ≡ t = cc in (no_nodes, none, sym e ∙ sym (append-none cur))
   read_takes t [] (l ∷ ls) cur h = absurd cc
-  read_takes t (p ∷ ps) ls cur h = step_takes t ps (read_takes t ps) p (reads (place_of ls) p) ls cur refl h
+  read_takes t (p ∷ ps) ls cur h = step_takes t ps (read_takes t ps) p (reads (context_of ls) p) ls cur refl h
 
   pub tree_takes : (t : Nodes) (ps : List P) → read reads ps [] no_nodes ≡ Some t → AreNodes Is Outside 200 t ps []
   unfolding Completes

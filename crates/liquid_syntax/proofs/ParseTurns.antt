@@ -4,20 +4,20 @@ use Rattle.std.proofs.lemmas.Bool.Decides.{nat_tests}
 use Rattle.std.specs.Option.{option_and_then}
 use Rattle.std.specs.Prelude.{Result, Ok, Err}
 use Rattle.liquid_model.specs.Texts.{Text}
-use Rattle.liquid_syntax.specs.Building.{IsBuilding, Finishes, text_added}
-use Rattle.liquid_syntax.specs.Judges.{Judges}
-use Rattle.liquid_syntax.specs.Judging.{if_of, unless_of, bare, capture_of, case_for, for_of, rows_of, one_or, many_or, two_or, tag_label, raw_label, comment_label, reads, is_start, opens}
+use Rattle.liquid_syntax.specs.inside.Building.{IsBuilding, Finishes, text_added}
+use Rattle.liquid_syntax.specs.inside.Classifies.{Classifies}
+use Rattle.liquid_syntax.specs.Classification.{if_of, unless_of, bare, capture_of, case_for, for_of, rows_of, one_or, many_or, two_or, tag_statement, raw_statement, comment_statement, reads, is_start, opens}
 use Rattle.liquid_syntax.specs.Roles.{role_of, unread_body}
 use Rattle.liquid_source.specs.Items.{Item}
 use Rattle.liquid_source.specs.Tokens.{Token, tokens_of}
 use Rattle.liquid_syntax.specs.declared.block.Block.{Block}
 use Rattle.liquid_syntax.specs.declared.block.Block.TheVariants.{If, Unless, Capture, Case, For, TableRow}
-use Rattle.liquid_syntax.specs.declared.block.Place.{Place}
+use Rattle.liquid_syntax.specs.declared.block.BlockContext.{BlockContext}
 use Rattle.liquid_syntax.specs.declared.block.Role.{Role}
 use Rattle.liquid_syntax.specs.declared.block.Role.TheVariants.{End, Control as Word, Tag, Block as Start}
 use Rattle.liquid_syntax.specs.declared.language.BlockKind.TheVariants as blocks
-use Rattle.liquid_syntax.specs.Nesting.{Opening, Label, leaf, closed, begins, elsif, arm, otherwise, ends, refused}
-use Rattle.liquid_syntax.specs.OpenBlocks.{Level, level, State, begun, depth, place_of, step, at_end, with_node}
+use Rattle.liquid_syntax.specs.Nesting.{Opening, Statement, leaf, closed, begins, elsif, arm, otherwise, ends, refused}
+use Rattle.liquid_syntax.specs.OpenBlocks.{Level, level, State, begun, depth, context_of, step, at_end, with_node}
 use Rattle.liquid_syntax.specs.Parsing.{ReadsTo}
 use Rattle.liquid_syntax.proofs.TemplateReading.{body_of, piece_step, template_at}
 use Rattle.liquid_source.specs.Pieces as pieces
@@ -48,9 +48,9 @@ fails_by (errors.Fault g) o p f h = f h
 pub after_text : (b : Builder) (ls : List Level) (now : Nodes) → ((s : State) × (Some (ls, now) ≡ Some s) × IsBuilding b s.0 s.1) → IsBuilding b ls now
 after_text b ls now (s, e, h) = let same : (ls, now) ≡ s = cc in subst (λ (s : State). IsBuilding b s.0 s.1) (sym same) h
 
-pub label_refused : (e : ParseError) (l : Label) (ls : List Level) (cur : Nodes) → Judges l (Err e) → Fails e (step l ls cur)
-label_refused errors.Memory l ls cur h = tt
-label_refused (errors.Fault f) l ls cur h = ap (λ (l : Label). step l ls cur) h
+pub statement_refused : (e : ParseError) (l : Statement) (ls : List Level) (cur : Nodes) → Classifies l (Err e) → Fails e (step l ls cur)
+statement_refused errors.Memory l ls cur h = tt
+statement_refused (errors.Fault f) l ls cur h = ap (λ (l : Statement). step l ls cur) h
 
 pub refused_all : (l : Language) (e : ParseError) (source : Text) → Fails e (template_at l source) → ReadsTo l source (Err e)
 refused_all l errors.Memory source h = tt
@@ -60,18 +60,18 @@ refused_all l (errors.Fault f) source h = no_tree l source h
 full : (n : ℕ) → nat_le 200 n ≡ true → nat_lt n 200 ≡ false
 full n h = grind (arith, nat_tests)
 
-start_label : Label → Type 0
-start_label (leaf n) = ⊥
-start_label (closed n) = Unit {0}
-start_label (begins o) = Unit {0}
-start_label (elsif next) = ⊥
-start_label (arm vs) = ⊥
-start_label otherwise = ⊥
-start_label ends = ⊥
-start_label refused = Unit {0}
+start_statement : Statement → Type 0
+start_statement (leaf n) = ⊥
+start_statement (closed n) = Unit {0}
+start_statement (begins o) = Unit {0}
+start_statement (elsif next) = ⊥
+start_statement (arm vs) = ⊥
+start_statement otherwise = ⊥
+start_statement ends = ⊥
+start_statement refused = Unit {0}
 
-start_refused : (x : Label) (ls : List Level) (cur : Nodes) → start_label x → nat_lt (depth ls) 200 ≡ false → step x ls cur ≡ None
-unfolding start_label
+start_refused : (x : Statement) (ls : List Level) (cur : Nodes) → start_statement x → nat_lt (depth ls) 200 ≡ false → step x ls cur ≡ None
+unfolding start_statement
 start_refused (leaf n) ls cur s h = absurd s
 start_refused (closed n) ls cur s h = ap (λ (b : Bool). cond b (Some (ls, with_node cur n)) None) h
 start_refused (begins o) ls cur s h = ap (λ (b : Bool). cond b (Some (level (begun o) cur false ∷ ls, no_nodes)) None) h
@@ -81,28 +81,28 @@ start_refused otherwise ls cur s h = absurd s
 start_refused ends ls cur s h = absurd s
 start_refused refused ls cur s h = refl
 
-two_starts : (b : Block) (o : Option (Nodes → Nodes → Node)) → start_label (two_or b o)
-unfolding start_label
+two_starts : (b : Block) (o : Option (Nodes → Nodes → Node)) → start_statement (two_or b o)
+unfolding start_statement
 two_starts b None = tt
 two_starts b (Some make) = tt
 
-one_starts : (b : Block) (o : Option (Nodes → Node)) → start_label (one_or b o)
-unfolding start_label
+one_starts : (b : Block) (o : Option (Nodes → Node)) → start_statement (one_or b o)
+unfolding start_statement
 one_starts b None = tt
 one_starts b (Some make) = tt
 
-many_starts : (b : Block) (o : Option (Whens → Nodes → Node)) → start_label (many_or b o)
-unfolding start_label
+many_starts : (b : Block) (o : Option (Whens → Nodes → Node)) → start_statement (many_or b o)
+unfolding start_statement
 many_starts b None = tt
 many_starts b (Some make) = tt
 
-bare_starts : (o : Opening) (ts : List Token) → start_label (bare (begins o) ts)
-unfolding start_label
+bare_starts : (o : Opening) (ts : List Token) → start_statement (bare (begins o) ts)
+unfolding start_statement
 bare_starts o [] = tt
 bare_starts o (t ∷ ts) = tt
 
-tag_starts : (l : Language) (is : List Item) (ts : List Token) (role : Option Role) → is_start role ≡ true → start_label (tag_label l is ts role)
-unfolding start_label
+tag_starts : (l : Language) (is : List Item) (ts : List Token) (role : Option Role) → is_start role ≡ true → start_statement (tag_statement l is ts role)
+unfolding start_statement
 tag_starts l is ts None h = absurd cc
 tag_starts l is ts (Some End) h = absurd cc
 tag_starts l is ts (Some (Word word)) h = absurd cc
@@ -117,26 +117,26 @@ tag_starts l is ts (Some (Start blocks.TableRow)) h = one_starts TableRow (rows_
 tag_starts l is ts (Some (Start blocks.Raw)) h = tt
 tag_starts l is ts (Some (Start blocks.Comment)) h = tt
 
-raw_starts : (t : Text) (body : Option Body) → start_label (raw_label t body)
-unfolding start_label
+raw_starts : (t : Text) (body : Option Body) → start_statement (raw_statement t body)
+unfolding start_statement
 raw_starts t None = tt
 raw_starts t (Some bodies.Raw) = tt
 raw_starts t (Some bodies.Comment) = tt
 
-comment_starts : (body : Option Body) → start_label (comment_label body)
-unfolding start_label
+comment_starts : (body : Option Body) → start_statement (comment_statement body)
+unfolding start_statement
 comment_starts None = tt
 comment_starts (Some bodies.Raw) = tt
 comment_starts (Some bodies.Comment) = tt
 
-piece_starts : (l : Language) (x : Place) (p : Piece) → opens l x p ≡ true → start_label (reads l x p)
+piece_starts : (l : Language) (x : BlockContext) (p : Piece) → opens l x p ≡ true → start_statement (reads l x p)
 piece_starts l x (pieces.text t) h = absurd cc
 piece_starts l x (pieces.output is) h = absurd cc
 piece_starts l x (pieces.tag w is) h = tag_starts l is (tokens_of is) (role_of l x w) h
 piece_starts l x (pieces.raw w t) h = raw_starts t (unread_body (role_of l x w))
 piece_starts l x (pieces.comment w) h = comment_starts (unread_body (role_of l x w))
 
-pub no_room : (l : Language) (x : Place) (p : Piece) (ls : List Level) (cur : Nodes) → opens l x p ≡ true → nat_le 200 (depth ls) ≡ true → step (reads l x p) ls cur ≡ None
+pub no_room : (l : Language) (x : BlockContext) (p : Piece) (ls : List Level) (cur : Nodes) → opens l x p ≡ true → nat_le 200 (depth ls) ≡ true → step (reads l x p) ls cur ≡ None
 no_room l x p ls cur o d = start_refused (reads l x p) ls cur (piece_starts l x p o) (full (depth ls) d)
 
 text_taken : (l : Language) (t : Text) (ls : List Level) (cur : Nodes) → text_step (piece_step l) t (ls, cur) ≡ Some (ls, text_added t cur)
@@ -177,12 +177,12 @@ module _ (l : Language) (source rest t behind : Text) (n : ℕ) (front : Bool) (
           (λ g. whole ∙ ap tree_in (no_body rest t behind cut (body_of l) (piece_step l) n front (ls, cur) inside (sym is) m found (ls, text_added st cur) texted g)) h)
 
       module _ (v : Markup × List ℕ) (closed : body_at (wanted_body (body_of l (ls, text_added st cur)) m.0.piece) m.0 m.1 ≡ Some v) where
-        pub piece_refused : (e : ParseError) → Fails e (step (reads l (place_of ls) v.0.piece) ls (text_added st cur)) → ReadsTo l source (Err e)
+        pub piece_refused : (e : ParseError) → Fails e (step (reads l (context_of ls) v.0.piece) ls (text_added st cur)) → ReadsTo l source (Err e)
         piece_refused e h =
-            refused_all l e source (fails_by e (step (reads l (place_of ls) v.0.piece) ls (text_added st cur)) (template_at l source)
+            refused_all l e source (fails_by e (step (reads l (context_of ls) v.0.piece) ls (text_added st cur)) (template_at l source)
             (λ g. whole ∙ ap tree_in (no_step rest t behind cut (body_of l) (piece_step l) n front (ls, cur) inside (sym is) m found (ls, text_added st cur) texted v closed g)) h)
 
-        pub went_on : (s : State) → length rest ≤ n → step (reads l (place_of ls) v.0.piece) ls (text_added st cur) ≡ Some s
+        pub went_on : (s : State) → length rest ≤ n → step (reads l (context_of ls) v.0.piece) ls (text_added st cur) ≡ Some s
             → template_at l source ≡ tree_in (source_at (body_of l) (piece_step l) (n - 1) v.0.after s v.1)
         went_on s le g =
             whole ∙ ap tree_in (next_turn rest t behind cut (body_of l) (piece_step l) n front (ls, cur) inside (sym is) m found (ls, text_added st cur) texted v closed le s g)

@@ -18,8 +18,8 @@ use Rattle.liquid_source.specs.declared.fault.ParseError.TheVariants as errors
 use Rattle.liquid_source.specs.declared.symbol.Symbol.TheVariants.{Colon}
 use Rattle.liquid_tree.specs.Tree.{Bindings, Node}
 use Rattle.liquid_syntax.specs.Bound.{pair_first, pairs_of}
-use Rattle.liquid_syntax.specs.Judges.{Judges}
-use Rattle.liquid_syntax.specs.Judging.{leaf_or}
+use Rattle.liquid_syntax.specs.inside.Classifies.{Classifies}
+use Rattle.liquid_syntax.specs.Classification.{leaf_or}
 use Rattle.liquid_syntax.specs.Loops.{is_nothing}
 use Rattle.liquid_syntax.specs.PartialItems.{include_of, included_pairs, jekyll_of, spelled_name}
 use Rattle.liquid_syntax.specs.Flats.{bindings_view}
@@ -28,7 +28,7 @@ use Rattle.liquid_syntax.specs.declared.pair_items.PairStyle.TheVariants.{Includ
 
 -- ---- faults
 
-pub unread : {A : Type 0} (make : A → Node) (o : Option A) (e : ParseError) → Fails e o → Judges (leaf_or (option_map make o)) (Err e)
+pub unread : {A : Type 0} (make : A → Node) (o : Option A) (e : ParseError) → Fails e o → Classifies (leaf_or (option_map make o)) (Err e)
 unread make o errors.Memory h = tt
 unread make o (errors.Fault f) h = ap (λ (o : Option _). leaf_or (option_map make o)) h
 

@@ -9,7 +9,7 @@ use Rattle.liquid_syntax.specs.declared.registered_filter.RegisteredFilter.{Regi
 use Rattle.liquid_syntax.specs.ChainReading.{accepted_call, call_with, filters_of, call_of, called_of, arguments_of, further_of, chain_of}
 use Rattle.liquid_syntax.specs.Chains.{Filters, further_arguments, arguments, AreFilters, none, filter, IsChain, IsAssign}
 use Rattle.liquid_source.specs.Tokens.{Token, value, range, symbol, word, word_of, word_first, past, is_symbol}
-use Rattle.liquid_syntax.specs.Judging.{assign_of}
+use Rattle.liquid_syntax.specs.Classification.{assign_of}
 use Rattle.liquid_syntax.specs.Registered.{registered_in}
 use Rattle.liquid_tree.specs.Tree.{FilterCall, Chain, assign}
 use Rattle.liquid_syntax.specs.declared.language.Language.{Language}

@@ -11,9 +11,9 @@ use mathlib.Core.Path.{refl, sym, ap, ◌∙◌, fun_ext}
 use Rattle.liquid_model.specs.Texts.{Text}
 use Rattle.liquid_tree.specs.Names.{mentioned, nodes_names, partials_names, run_names}
 use Rattle.liquid_syntax.specs.Entries.{seen, filled, with_held}
-use Rattle.liquid_syntax.specs.Mentions.{held_names, list_names, partials_list_names}
+use Rattle.liquid_syntax.specs.inside.Mentions.{held_names, list_names, partials_list_names}
 use Rattle.liquid_syntax.specs.NameSets.{added, held}
-use Rattle.liquid_syntax.specs.NameVisitors.{mentioned_both}
+use Rattle.liquid_syntax.specs.inside.NameVisitors.{mentioned_both}
 use Rattle.liquid_syntax.specs.Templates.{list_of, tree_of}
 use Rattle.liquid_syntax.specs.declared.template.Template.{Template}
 use Rattle.liquid_syntax.proofs.TreeNames.{template_mentions}

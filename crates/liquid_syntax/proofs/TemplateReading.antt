@@ -5,19 +5,19 @@ use Rattle.liquid_model.specs.Texts.{Text}
 use Rattle.liquid_source.specs.Pieces.{Piece}
 use Rattle.liquid_source.specs.SourceReading.{source_at}
 use Rattle.liquid_source.specs.declared.piece.Body.{Body}
-use Rattle.liquid_syntax.specs.Judging.{reads}
-use Rattle.liquid_syntax.specs.OpenBlocks.{State, place_of, step, at_end}
+use Rattle.liquid_syntax.specs.Classification.{reads}
+use Rattle.liquid_syntax.specs.OpenBlocks.{State, context_of, step, at_end}
 use Rattle.liquid_syntax.specs.Roles.{body_behind}
 use Rattle.liquid_syntax.specs.declared.language.Language.{Language}
 use Rattle.liquid_tree.specs.Tree.{Nodes, no_nodes}
 
 -- the verbatim body behind a tag of the name, where one is to be
 abbrev pub body_of : Language → State → Text → Option Body
-body_of l s w = body_behind l (place_of s.0) w
+body_of l s w = body_behind l (context_of s.0) w
 
 -- the next piece
 abbrev pub piece_step : Language → State → Piece → Option State
-piece_step l s p = step (reads l (place_of s.0) p) s.0 s.1
+piece_step l s p = step (reads l (context_of s.0) p) s.0 s.1
 
 abbrev pub begun_with : State
 begun_with = ([], no_nodes)

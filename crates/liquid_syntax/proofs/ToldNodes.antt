@@ -4,7 +4,7 @@ use Rattle.liquid_core.specs.ExpressionView.{expression_view}
 use Rattle.liquid_tree.specs.Names.{all_names, bound_names, expression_names, include_name, target_names}
 use Rattle.liquid_tree.proofs.Telling.{IsEach}
 use Rattle.liquid_syntax.specs.Flats.{arm_values, bindings_view}
-use Rattle.liquid_syntax.specs.Mentions.{arms_names, held_names, list_names, own_names, partials_list_names}
+use Rattle.liquid_syntax.specs.inside.Mentions.{arms_names, held_names, list_names, own_names, partials_list_names}
 use Rattle.liquid_syntax.specs.declared.node.Arm.{Arm}
 use Rattle.liquid_syntax.specs.declared.node.Binding.{Binding}
 
@@ -24,9 +24,9 @@ pub each_value : IsEach (λ (pair : Binding). expression_names (expression_view 
 unfolding bound_names
 each_value = record { none = refl; more = λ pair pairs. refl }
 
-pub each_place : IsEach held_names partials_list_names
+pub each_slot : IsEach held_names partials_list_names
 unfolding partials_list_names
-each_place = record { none = refl; more = λ held more. refl }
+each_slot = record { none = refl; more = λ held more. refl }
 
 -- ---- the name of a jekyll `include` with pairs
 

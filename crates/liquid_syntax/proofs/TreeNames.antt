@@ -11,14 +11,14 @@ use Rattle.liquid_tree.specs.Names.{mentioned, all_names, condition_names, expre
 use Rattle.liquid_tree.specs.SourceView.{source_view}
 use Rattle.liquid_tree.specs.Tree as tree
 use Rattle.liquid_syntax.specs.Flats.{arm_values, bindings_view, each_view, flat_of, leaf, window_view}
-use Rattle.liquid_syntax.specs.Mentions.{arms_names, each_names, for_names, head_names, jekyll_names, list_names, own_names, pairs_names, row_names}
+use Rattle.liquid_syntax.specs.inside.Mentions.{arms_names, each_names, for_names, head_names, jekyll_names, list_names, own_names, pairs_names, row_names}
 use Rattle.liquid_syntax.specs.Templates.{list_of, tree_of}
 use Rattle.liquid_syntax.specs.declared.loop_nodes.For as loops
 use Rattle.liquid_syntax.specs.declared.loop_nodes.TableRow as rows
 use Rattle.liquid_syntax.specs.declared.node.Node.{Node}
 use Rattle.liquid_syntax.specs.declared.node.Node.TheVariants.{Text as Plain, Output, Assign, Raw, Comment, If, Unless, Capture, Case, For, TableRow, Break, Continue, Increment, Decrement, Cycle, IfChanged, Include, JekyllInclude, Render, RenderEach}
 use Rattle.liquid_syntax.specs.declared.template.Template.{Template}
-use Rattle.liquid_syntax.specs.NameVisitors.{mentioned_both, or_assoc, or_false}
+use Rattle.liquid_syntax.specs.inside.NameVisitors.{mentioned_both, or_assoc, or_false}
 use Rattle.liquid_syntax.proofs.Totals.{IsTotal, Makes, leaf_makes, one_makes, two_makes, of_arms, case_makes, list_total, tree_total}
 
 or_swapped : (a b : Bool) → (a || b) ≡ (b || a)

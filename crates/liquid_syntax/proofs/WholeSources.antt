@@ -8,7 +8,7 @@ use Rattle.liquid_source.specs.Pieces.{last}
 use Rattle.liquid_source.specs.Words.{IsRun}
 use Rattle.liquid_source.specs.declared.item.Delimiter.{Delimiter}
 use Rattle.liquid_source.specs.declared.item.Delimiter.TheVariants.{Output, Tag}
-use Rattle.liquid_syntax.specs.Labels.{is_text}
+use Rattle.liquid_syntax.specs.Statements.{is_text}
 use Rattle.liquid_syntax.specs.Nesting.{none, is_leaf}
 use Rattle.liquid_syntax.specs.Parsing.{IsTemplate}
 use Rattle.liquid_syntax.specs.TemplateLaw.{HasNoOpener, PlainSources, AtMostOneTemplate}

@@ -3,7 +3,7 @@ use Rattle.std.specs.Prelude.{◌≡◌, ◌↔◌, List, Some}
 use Rattle.liquid_model.specs.Texts.{Text}
 use Rattle.liquid_syntax.specs.ChainReading.{chain_of}
 use Rattle.liquid_syntax.specs.Chains.{Filters, IsChain, IsAssign}
-use Rattle.liquid_syntax.specs.Judging.{assign_of}
+use Rattle.liquid_syntax.specs.Classification.{assign_of}
 use Rattle.liquid_syntax.specs.Registered.{registered_in}
 use Rattle.liquid_source.specs.Tokens.{Token}
 use Rattle.liquid_tree.specs.Tree.{Chain, assign}

@@ -25,7 +25,7 @@ without name es = remove_entry (λ k. same_text k name) es
 
 -- ---- places by name, of which some hold nothing
 
--- entries behind a place, with what it holds
+-- entries behind a slot, with what it holds
 abbrev pub with_held : {Y : Type 0} → Text → Option Y → List (Text × Y) → List (Text × Y)
 with_held name None es = es
 with_held name (Some y) es = (name, y) ∷ es
@@ -35,7 +35,7 @@ abbrev pub filled : {Y : Type 0} → List (Text × Option Y) → List (Text × Y
 filled [] = []
 filled (e ∷ es) = with_held e.0 e.1 (filled es)
 
--- what is held, after a place was given this
+-- what is held, after a slot was given this
 abbrev pub exchanged : {Y : Type 0} → Text → Option Y → List (Text × Y) → List (Text × Y)
 exchanged name None es = without name es
 exchanged name (Some y) es = put name y es

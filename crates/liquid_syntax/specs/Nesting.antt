@@ -3,8 +3,8 @@ use Rattle.std.specs.Prelude.{ℕ, suc, List, ◌∷◌}
 use Rattle.liquid_core.specs.Expression.{Expression}
 use Rattle.liquid_tree.specs.Tree.{Node, Nodes, no_nodes, node, Whens, no_whens, when}
 use Rattle.liquid_syntax.specs.declared.block.Block.{Block}
-use Rattle.liquid_syntax.specs.declared.block.Place.{Place}
-use Rattle.liquid_syntax.specs.declared.block.Place.TheVariants.{InBody, InLast}
+use Rattle.liquid_syntax.specs.declared.block.BlockContext.{BlockContext}
+use Rattle.liquid_syntax.specs.declared.block.BlockContext.TheVariants.{InBody, InLast}
 
 -- a block that begins: the bodies that it has, and the node that it makes of them
 pub data Opening : Type 0 where
@@ -13,26 +13,26 @@ pub data Opening : Type 0 where
   of_many : Block → (Whens → Nodes → Node) → Opening  -- `when` parts, and an else list that may be missing
 
 -- what a piece is, where it stands
-pub data Label : Type 0 where
-  leaf : Node → Label  -- a node without bodies
-  closed : Node → Label  -- a block whose body isn't read, as a whole
-  begins : Opening → Label  -- the start of a block
-  elsif : (Nodes → Nodes → Node) → Label  -- `elsif`, and the node that it makes of its body and its else list
-  arm : List Expression → Label  -- `when`, with its values
-  otherwise : Label  -- `else`
-  ends : Label  -- the end of a block
-  refused : Label
+pub data Statement : Type 0 where
+  leaf : Node → Statement  -- a node without bodies
+  closed : Node → Statement  -- a block whose body isn't read, as a whole
+  begins : Opening → Statement  -- the start of a block
+  elsif : (Nodes → Nodes → Node) → Statement  -- `elsif`, and the node that it makes of its body and its else list
+  arm : List Expression → Statement  -- `when`, with its values
+  otherwise : Statement  -- `else`
+  ends : Statement  -- the end of a block
+  refused : Statement
 
-module _ {P : Type 0} (Is : Place → P → Label → Type 0) where
+module _ {P : Type 0} (Is : BlockContext → P → Statement → Type 0) where
   mutual
-    -- At a place, the pieces ps begin with the nodes f, and rest follows them. Blocks nest at most d deep in them.
-    pub data AreNodes : Place → ℕ → Nodes → List P → List P → Type 0 where
-      none : {x : Place} {d : ℕ} {ps : List P} → AreNodes x d no_nodes ps ps
-      is_leaf : {x : Place} {d : ℕ} {p : P} {n : Node} {f : Nodes} {ps rest : List P}
+    -- In a context, the pieces ps begin with the nodes f, and rest follows them. Blocks nest at most d deep in them.
+    pub data AreNodes : BlockContext → ℕ → Nodes → List P → List P → Type 0 where
+      none : {x : BlockContext} {d : ℕ} {ps : List P} → AreNodes x d no_nodes ps ps
+      is_leaf : {x : BlockContext} {d : ℕ} {p : P} {n : Node} {f : Nodes} {ps rest : List P}
           → Is x p (leaf n) → AreNodes x d f ps rest → AreNodes x d (node n f) (p ∷ ps) rest
-      is_closed : {x : Place} {d : ℕ} {p : P} {n : Node} {f : Nodes} {ps rest : List P}
+      is_closed : {x : BlockContext} {d : ℕ} {p : P} {n : Node} {f : Nodes} {ps rest : List P}
           → Is x p (closed n) → AreNodes x (suc d) f ps rest → AreNodes x (suc d) (node n f) (p ∷ ps) rest
-      is_block : {x : Place} {d : ℕ} {p : P} {o : Opening} {n : Node} {f : Nodes} {ps after rest : List P}
+      is_block : {x : BlockContext} {d : ℕ} {p : P} {o : Opening} {n : Node} {f : Nodes} {ps after rest : List P}
           → Is x p (begins o) → IsBlock d o n ps after → AreNodes x (suc d) f after rest → AreNodes x (suc d) (node n f) (p ∷ ps) rest
 
     -- Behind its start, and up to its end, a block is the node n.

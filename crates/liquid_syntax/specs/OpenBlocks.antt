@@ -2,10 +2,10 @@
 use Rattle.std.specs.Prelude.{ℕ, suc, List, [], ◌∷◌, Bool, true, false, cond, nat_lt, Option, Some, None, option_and_then, option_map}
 use Rattle.liquid_core.specs.Expression.{Expression}
 use Rattle.liquid_tree.specs.Tree.{Node, Nodes, no_nodes, node, Whens, no_whens, when}
-use Rattle.liquid_syntax.specs.Nesting.{Opening, of_one, of_two, of_many, Label, leaf, closed, begins, elsif, arm, otherwise, ends, refused}
+use Rattle.liquid_syntax.specs.Nesting.{Opening, of_one, of_two, of_many, Statement, leaf, closed, begins, elsif, arm, otherwise, ends, refused}
 use Rattle.liquid_syntax.specs.declared.block.Block.{Block}
-use Rattle.liquid_syntax.specs.declared.block.Place.{Place}
-use Rattle.liquid_syntax.specs.declared.block.Place.TheVariants.{Outside, InBody, InLast}
+use Rattle.liquid_syntax.specs.declared.block.BlockContext.{BlockContext}
+use Rattle.liquid_syntax.specs.declared.block.BlockContext.TheVariants.{Outside, InBody, InLast}
 
 -- one list of nodes after another
 abbrev pub append : Nodes → Nodes → Nodes
@@ -27,11 +27,11 @@ begun (of_one b make) = last b make
 begun (of_two b make) = first b make
 begun (of_many b make) = unkept b make
 
-abbrev pub place_in : Reading → Place
-place_in (last b make) = InLast b
-place_in (first b make) = InBody b
-place_in (unkept b make) = InBody b
-place_in (armed b make) = InBody b
+abbrev pub context_in : Reading → BlockContext
+context_in (last b make) = InLast b
+context_in (first b make) = InBody b
+context_in (unkept b make) = InBody b
+context_in (armed b make) = InBody b
 
 -- the node, where the block ends behind the nodes f
 abbrev pub ended : Reading → Nodes → Node
@@ -65,9 +65,9 @@ elsif_of next (armed b make) f = None
 pub data Level : Type 0 where
   level : Reading → Nodes → Bool → Level
 
-abbrev pub place_of : List Level → Place
-place_of [] = Outside
-place_of (level r f k ∷ ls) = place_in r
+abbrev pub context_of : List Level → BlockContext
+context_of [] = Outside
+context_of (level r f k ∷ ls) = context_in r
 
 abbrev pub deeper : Bool → ℕ → ℕ
 deeper true n = n
@@ -111,7 +111,7 @@ to_elsif next [] cur = None
 to_elsif next (level r f k ∷ ls) cur = option_map (λ s. (level s.1 no_nodes true ∷ level s.0 f k ∷ ls, no_nodes)) (elsif_of next r cur)
 
 -- a piece changes the state
-abbrev pub step : Label → List Level → Nodes → Option State
+abbrev pub step : Statement → List Level → Nodes → Option State
 step (leaf n) ls cur = Some (ls, with_node cur n)
 step (closed n) ls cur = to_closed n ls cur
 step (begins o) ls cur = to_begin o ls cur
@@ -129,7 +129,7 @@ at_end (l ∷ ls) cur = None
 abbrev pub go : (List Level → Nodes → Option Nodes) → Option State → Option Nodes
 go more s = option_and_then (λ s. more s.0 s.1) s
 
-module _ {P : Type 0} (reads : Place → P → Label) where
+module _ {P : Type 0} (reads : BlockContext → P → Statement) where
   abbrev pub read : List P → List Level → Nodes → Option Nodes
   read [] ls cur = at_end ls cur
-  read (p ∷ ps) ls cur = go (read ps) (step (reads (place_of ls) p) ls cur)
+  read (p ∷ ps) ls cur = go (read ps) (step (reads (context_of ls) p) ls cur)

@@ -3,15 +3,15 @@
 use Rattle.std.specs.Prelude.{◌≤◌, List, [], false, Result, Ok, Err, MatchBool, ⊤}
 use Rattle.liquid_model.specs.Answer.{IsTheOne}
 use Rattle.liquid_model.specs.Texts.{Text}
-use Rattle.liquid_model.specs.Told.{is_memory, number_of}
+use Rattle.liquid_model.specs.ErrorKinds.{is_memory, number_of}
 use Rattle.liquid_model.specs.declared.error.Error.{Error}
 use Rattle.liquid_model.specs.declared.error.ErrorKind.{ErrorKind}
-use Rattle.liquid_syntax.specs.Labels.{IsLabel}
+use Rattle.liquid_syntax.specs.Statements.{IsStatement}
 use Rattle.liquid_syntax.specs.Nesting.{AreNodes}
 use Rattle.liquid_source.specs.Pieces.{Piece, IsSource}
 use Rattle.liquid_syntax.specs.Templates.{tree_of}
 use Rattle.liquid_tree.specs.Tree.{Nodes}
-use Rattle.liquid_syntax.specs.declared.block.Place.TheVariants.{Outside}
+use Rattle.liquid_syntax.specs.declared.block.BlockContext.TheVariants.{Outside}
 use Rattle.liquid_syntax.specs.declared.language.Language.{Language}
 use Rattle.liquid_syntax.specs.declared.template.Template.{Template}
 use Rattle.liquid_source.specs.declared.fault.ParseError.{ParseError}
@@ -19,7 +19,7 @@ use Rattle.liquid_source.specs.declared.fault.ParseError.TheVariants as errors
 
 -- The source is pieces, and they are the nodes, of which blocks nest at most 200 deep.
 unfoldable pub IsTemplate : Language → Nodes → Text → Type 0
-IsTemplate l t source = (ps : List Piece) × IsSource false ps source × AreNodes (IsLabel l) Outside 200 t ps []
+IsTemplate l t source = (ps : List Piece) × IsSource false ps source × AreNodes (IsStatement l) Outside 200 t ps []
 
 -- the tree is the source's, and none but it is
 abbrev pub IsOnlyTree : Language → Nodes → Text → Type 0

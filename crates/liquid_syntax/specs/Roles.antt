@@ -1,5 +1,5 @@
 -- What a tag's name is, where the tag stands.
---     role_of l x w      of the name w in a language, at a place
+--     role_of l x w      of the name w in a language, in a context
 --     unread_body role      the body behind such a tag, where it is a block's that isn't read
 use Rattle.std.specs.Prelude.{cond, bytes_eq, Option, Some, None, option_map}
 use Rattle.liquid_model.specs.Maps.{listed}
@@ -9,8 +9,8 @@ use Rattle.liquid_source.specs.declared.piece.Body.TheVariants as bodies
 use Rattle.liquid_syntax.specs.Controls.{end_word, control_of}
 use Rattle.liquid_syntax.specs.Languages.{kinds_of}
 use Rattle.liquid_syntax.specs.declared.block.Control.{Control}
-use Rattle.liquid_syntax.specs.declared.block.Place.{Place}
-use Rattle.liquid_syntax.specs.declared.block.Place.TheVariants.{Outside, InBody, InLast}
+use Rattle.liquid_syntax.specs.declared.block.BlockContext.{BlockContext}
+use Rattle.liquid_syntax.specs.declared.block.BlockContext.TheVariants.{Outside, InBody, InLast}
 use Rattle.liquid_syntax.specs.declared.block.Role.{Role}
 use Rattle.liquid_syntax.specs.declared.block.Role.TheVariants.{End, Control as Word, Tag, Block as Start}
 use Rattle.liquid_syntax.specs.declared.language.BlockKind.{BlockKind}
@@ -32,7 +32,7 @@ word_or (Some word) o = Some (Word word)
 word_or None o = o
 
 -- in a block its end comes first, then the control words that can end the body, then what is registered
-abbrev pub role_of : Language → Place → Text → Option Role
+abbrev pub role_of : Language → BlockContext → Text → Option Role
 role_of l Outside w = registered l w
 role_of l (InBody b) w = cond (bytes_eq w (end_word b)) (Some End) (word_or (control_of b w) (registered l w))
 role_of l (InLast b) w = cond (bytes_eq w (end_word b)) (Some End) (registered l w)
@@ -55,5 +55,5 @@ unread_body (Some (Word word)) = None
 unread_body (Some (Tag kind)) = None
 unread_body (Some (Start kind)) = unread kind
 
-abbrev pub body_behind : Language → Place → Text → Option Body
+abbrev pub body_behind : Language → BlockContext → Text → Option Body
 body_behind l x w = unread_body (role_of l x w)

@@ -1,6 +1,6 @@
 -- The tree of a template, and the trees of partials.
 --     tree_of t      the tree of a template;   partials_of p      of each partial, by name
---     places_of p      what stands in the places of partials, by name: a tree, or none
+--     slots_of p      what stands in the slots of partials, by name: a tree, or none
 --     node_count_of t      how many nodes a template has, in all depths
 use Rattle.std.specs.Prelude.{ℕ, List, [], ◌∷◌, max, Option, Some, None, option_map, String}
 use Rattle.std.specs.declared.alloc.Global.{Global}
@@ -34,11 +34,11 @@ node_count_of t = count_of_nodes (tree_of t)
 
 -- ---- partials
 
-abbrev pub places_of : Partials → List (Text × Option tree.Nodes)
-places_of p = seen (option_map tree_of) p.templates.entries
+abbrev pub slots_of : Partials → List (Text × Option tree.Nodes)
+slots_of p = seen (option_map tree_of) p.templates.entries
 
 abbrev pub partials_of : Partials → List (Text × tree.Nodes)
-partials_of p = filled (places_of p)
+partials_of p = filled (slots_of p)
 
 abbrev pub nodes_held : Option Template → ℕ
 nodes_held None = 0

@@ -20,7 +20,7 @@ pub enum Block {
 
 /// Where a piece of a source stands.
 #[derive(Clone, Copy, Debug, PartialEq, Eq)]
-pub enum Place {
+pub enum BlockContext {
     /// In no block.
     Outside,
     /// In a body that the block's control words can end.
@@ -68,12 +68,12 @@ pub enum Role {
 
 /// What the name is, where a tag stands: in a block its end comes first, then the control words that can end the body,
 /// then registered tags, then registered blocks.
-pub fn role_of(language: &Language, place: Place, name: &str) -> Option<Role>
-    ensures { result ≡ role_of language.now place name.now }
+pub fn role_of(language: &Language, context: BlockContext, name: &str) -> Option<Role>
+    ensures { result ≡ role_of language.now context name.now }
 {
-    match place {
-        Place::Outside => registered(language, name),
-        Place::InBody(block) => {
+    match context {
+        BlockContext::Outside => registered(language, name),
+        BlockContext::InBody(block) => {
             if name == end_tag(block) {
                 return Some(Role::End);
             }
@@ -82,7 +82,7 @@ pub fn role_of(language: &Language, place: Place, name: &str) -> Option<Role>
                 None => registered(language, name),
             }
         }
-        Place::InLast(block) => {
+        BlockContext::InLast(block) => {
             if name == end_tag(block) {
                 return Some(Role::End);
             }

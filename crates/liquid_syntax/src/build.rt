@@ -1,7 +1,7 @@
 //! Building the list of nodes with a stack of open blocks: where a body ends is written into its block's node as it ends.
 
 ghost use Rattle.std.specs.Prelude.{◌≡◌, ◌<◌, ◌-◌, ℕ, IfSome, List, [], ◌∷◌, ◌++◌, length, map, slice_get, Some, OnOk, true};
-ghost use Rattle.liquid_syntax.specs.Building.{Begins, BodyEnded, Closes, Finishes, IsAdded, IsBuilding, IsBuilt, IsFirst, IsMemory, IsPrepared, IsSound, IsStack, Steps, before_last_ended, is_full, label_view, last_ended, of_bodies, place_at, set_before_last, takes_else, takes_when, text_added};
+ghost use Rattle.liquid_syntax.specs.inside.Building.{Begins, BodyEnded, Closes, Finishes, IsAdded, IsBuilding, IsBuilt, IsFirst, IsMemory, IsPrepared, IsSound, IsStack, Steps, before_last_ended, is_full, statement_view, last_ended, of_bodies, context_at, set_before_last, takes_else, takes_when, text_added};
 ghost use Rattle.liquid_syntax.specs.Faults.{FaultsAt};
 ghost use Rattle.liquid_syntax.specs.Flats.{arm_ends, arm_values, flat_of, flats};
 ghost use Rattle.liquid_core.specs.ExpressionView.{expression_view};
@@ -9,7 +9,7 @@ ghost use Rattle.liquid_syntax.specs.OpenBlocks.{Level, at_end, close, step, to_
 ghost use Rattle.liquid_tree.specs.Tree.{Nodes, no_nodes};
 ghost use Rattle.liquid_syntax.specs.declared.build.Stage.TheVariants as stages;
 
-use crate::block::{Block, Place};
+use crate::block::{Block, BlockContext};
 use crate::faults::{missing_end, no_body, too_nested};
 use crate::node::{Arm, Node};
 use crate::positions::Position;
@@ -33,7 +33,7 @@ pub enum Stage {
 
 /// What a piece is, where it stands. A node with bodies doesn't know yet where they end.
 #[derive(Drop)]
-pub enum Label {
+pub enum Statement {
     /// A node without bodies.
     Leaf(Node),
     /// A block whose body isn't read, as a whole.
@@ -54,7 +54,7 @@ pub enum Label {
 #[derive(Clone, Copy)]
 pub struct Open {
     /// The index of its node.
-    pub place: usize,
+    pub node_index: usize,
     pub block: Block,
     pub stage: Stage,
     /// Whether an `elsif` opened it, so that it ends with the block around it.
@@ -86,14 +86,14 @@ impl Builder {
     }
 
     /// Where the next piece stands.
-    pub fn place(&self) -> Place
-        ensures { result ≡ place_at (slice_get self.now.blocks.items (length self.now.blocks.items - 1)) }
+    pub fn context(&self) -> BlockContext
+        ensures { result ≡ context_at (slice_get self.now.blocks.items (length self.now.blocks.items - 1)) }
     {
         match self.blocks.last() {
-            None => Place::Outside,
+            None => BlockContext::Outside,
             Some(open) => match open.stage {
-                Stage::First | Stage::Unkept | Stage::Armed => Place::InBody(open.block),
-                Stage::Last => Place::InLast(open.block),
+                Stage::First | Stage::Unkept | Stage::Armed => BlockContext::InBody(open.block),
+                Stage::Last => BlockContext::InLast(open.block),
             },
         }
     }
@@ -136,10 +136,10 @@ impl Builder {
         ensures stack { IsPrepared stage node → OnOk result ((ls : List Level) (cur : Nodes) → IsStack self.old ls cur → Begins block stage chained node ls cur self.new) }
         ensures fails { IsMemory result }
     {
-        let place = self.nodes.len();
+        let node_index = self.nodes.len();
         self.nodes.push(node)?;
         self.blocks.push(Open {
-            place,
+            node_index,
             block,
             stage,
             chained,
@@ -162,7 +162,7 @@ impl Builder {
                 }
                 end_body(&mut self.nodes, open);
                 self.blocks.push(Open {
-                    place: open.place,
+                    node_index: open.node_index,
                     block: open.block,
                     stage: Stage::Last,
                     chained: open.chained,
@@ -185,9 +185,9 @@ impl Builder {
                     return Err(ParseError::Fault(no_body(left)));
                 }
                 end_body(&mut self.nodes, open);
-                add_arm(&mut self.nodes[open.place], values)?;
+                add_arm(&mut self.nodes[open.node_index], values)?;
                 self.blocks.push(Open {
-                    place: open.place,
+                    node_index: open.node_index,
                     block: open.block,
                     stage: Stage::Armed,
                     chained: open.chained,
@@ -233,7 +233,7 @@ impl Builder {
         let open = self.blocks.pop()?;
         end_body(&mut self.nodes, open);
         let end = self.nodes.len();
-        end_last(&mut self.nodes[open.place], end);
+        end_last(&mut self.nodes[open.node_index], end);
         Some(open.chained)
     }
 
@@ -255,21 +255,21 @@ impl Builder {
     }
 
     /// The next piece; so many bytes of the source are left from it on.
-    pub fn add(&mut self, label: Label, left: usize) -> Result<(), ParseError>
+    pub fn add(&mut self, statement: Statement, left: usize) -> Result<(), ParseError>
         requires built { IsBuilt self.old }
-        requires sound { IsSound label }
-        ensures stack { (ls : List Level) (cur : Nodes) → IsBuilding self.old ls cur → Steps (step (label_view label) ls cur) self.new result }
+        requires sound { IsSound statement }
+        ensures stack { (ls : List Level) (cur : Nodes) → IsBuilding self.old ls cur → Steps (step (statement_view statement) ls cur) self.new result }
         ensures place { FaultsAt left result }
     {
-        match label {
-            Label::Leaf(node) => self.leaf(node),
-            Label::Closed(node) => {
+        match statement {
+            Statement::Leaf(node) => self.leaf(node),
+            Statement::Closed(node) => {
                 if self.is_full() {
                     return Err(too_nested(left));
                 }
                 self.leaf(node)
             }
-            Label::Begins(block, stage, node) => {
+            Statement::Begins(block, stage, node) => {
                 if self.is_full() {
                     return Err(too_nested(left));
                 }
@@ -277,10 +277,10 @@ impl Builder {
                 self.depth += 1;
                 Ok(())
             }
-            Label::Elsif(node) => self.elsif(node, left),
-            Label::When(values) => self.when(values, left),
-            Label::Otherwise => self.otherwise(left),
-            Label::Ends => self.close(left),
+            Statement::Elsif(node) => self.elsif(node, left),
+            Statement::When(values) => self.when(values, left),
+            Statement::Otherwise => self.otherwise(left),
+            Statement::Ends => self.close(left),
         }
     }
 
@@ -325,16 +325,16 @@ fn takes_when(stage: Stage) -> bool
 
 /// Ends the body that is being read, where another may follow it: writes where it ends, or drops what isn't kept.
 fn end_body(nodes: &mut Vec<Node>, block: Open)
-    requires { block.place < length nodes.old.items }
-    ensures ended { BodyEnded block.stage block.place (flats nodes.old.items) (flats nodes.new.items) }
-    ensures inside { block.place < length nodes.new.items }
+    requires { block.node_index < length nodes.old.items }
+    ensures ended { BodyEnded block.stage block.node_index (flats nodes.old.items) (flats nodes.new.items) }
+    ensures inside { block.node_index < length nodes.new.items }
 {
     let end = nodes.len();
     match block.stage {
-        Stage::First => end_before_last(&mut nodes[block.place], end),
+        Stage::First => end_before_last(&mut nodes[block.node_index], end),
         Stage::Last => {}
-        Stage::Unkept => nodes.truncate(block.place + 1),
-        Stage::Armed => end_before_last(&mut nodes[block.place], end),
+        Stage::Unkept => nodes.truncate(block.node_index + 1),
+        Stage::Armed => end_before_last(&mut nodes[block.node_index], end),
     }
 }
 

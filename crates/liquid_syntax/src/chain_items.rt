@@ -2,7 +2,7 @@
 ghost use Rattle.std.specs.Prelude.{◌≡◌, ◌≤◌, IfErr, length, map, string_bytes};
 ghost use Rattle.liquid_core.specs.ExpressionView.{expression_view};
 ghost use Rattle.liquid_model.specs.Maps.{listed};
-ghost use Rattle.liquid_syntax.specs.Called.{Calls};
+ghost use Rattle.liquid_syntax.specs.inside.Called.{Calls};
 ghost use Rattle.liquid_syntax.specs.ChainReading.{accepted_call, call_fault, filters_of, chain_of};
 ghost use Rattle.liquid_syntax.specs.Chains.{Filters};
 ghost use Rattle.liquid_syntax.specs.Faults.{FaultsAs, FaultsAt};

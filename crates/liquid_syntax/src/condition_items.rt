@@ -1,6 +1,6 @@
 //! Conditions, read from the items of a piece.
 ghost use Rattle.std.specs.Prelude.{◌≡◌, ◌≤◌, length};
-ghost use Rattle.liquid_syntax.specs.ConditionAnswers.{TakesOperator, TakesAtom, TakesConjunction};
+ghost use Rattle.liquid_syntax.specs.inside.ConditionAnswers.{TakesOperator, TakesAtom, TakesConjunction};
 ghost use Rattle.liquid_syntax.specs.ConditionReading.{symbol_operator, operator_of, condition_of};
 ghost use Rattle.liquid_tree.specs.ConditionView.{condition_view};
 ghost use Rattle.liquid_syntax.specs.Faults.{FaultsAs, FaultsAt};

@@ -20,14 +20,14 @@ use unread::unread;
 
 /// What is told of a fault: of which place, as so many bytes of the source from it on, and the message.
 #[derive(Drop)]
-pub struct Told {
+pub struct Explanation {
     pub left: usize,
     pub message: String,
 }
 
-impl Told {
-    fn new(from: &str, message: String) -> Told {
-        Told {
+impl Explanation {
+    fn new(from: &str, message: String) -> Explanation {
+        Explanation {
             left: from.len(),
             message,
         }
@@ -40,7 +40,7 @@ pub fn explain(
     source: &str,
     language: &Language,
     fault: Fault,
-) -> Result<Told, AllocError> {
+) -> Result<Explanation, AllocError> {
     let outline = outline_at(alloc, source, language, fault.left)?;
     let piece = placed_piece(alloc, outline.at)?;
     match fault.kind {
@@ -61,7 +61,7 @@ pub fn explain(
     }
 }
 
-fn too_nested(alloc: Global, source: &str, fault: Fault) -> Result<Told, AllocError> {
+fn too_nested(alloc: Global, source: &str, fault: Fault) -> Result<Explanation, AllocError> {
     let from = rest_of(source, fault.left);
     let what = if from.starts_with("[") {
         "brackets"
@@ -69,7 +69,7 @@ fn too_nested(alloc: Global, source: &str, fault: Fault) -> Result<Told, AllocEr
         "blocks"
     };
     let message = format!(in alloc; "{what} nest at most 200 deep")?;
-    Ok(Told::new(from, message))
+    Ok(Explanation::new(from, message))
 }
 
 /// The source from the place on with so many bytes left.

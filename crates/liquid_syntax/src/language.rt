@@ -1,6 +1,6 @@
 //! What tags, blocks and filters are called.
 ghost use Rattle.std.specs.Prelude.{◌≡◌, [], map, option_map, OnErr, string_bytes};
-ghost use Rattle.liquid_model.specs.Answer.{Gives};
+ghost use Rattle.liquid_model.specs.Answer.{IsValueOrMemory};
 ghost use Rattle.liquid_model.specs.Maps.{listed, insert};
 ghost use Rattle.liquid_syntax.specs.Languages.{kinds_of};
 ghost use Rattle.liquid_syntax.specs.Registered.{registered_in};
@@ -75,7 +75,7 @@ impl<K: Copy + Drop> Registry<K> {
 
     /// Registers a kind under a name; what the name stood for before is forgotten. Where there is no memory nothing changes.
     pub fn register(&mut self, name: String, kind: K) -> Result<()>
-        ensures registered { Gives (λ _. listed (kinds_of self.new)) result (insert (listed (kinds_of self.old)) (string_bytes name) kind) }
+        ensures registered { IsValueOrMemory (λ _. listed (kinds_of self.new)) result (insert (listed (kinds_of self.old)) (string_bytes name) kind) }
         ensures unchanged { OnErr result (kinds_of self.new ≡ kinds_of self.old) }
     {
         drop(self.kinds.insert(name, kind)?);

@@ -1,7 +1,7 @@
 //! Laws of the definitions that contracts speak of.
 ghost use Rattle.liquid_syntax.specs.ChainLaw.{ReadsChains, ReadsAssigns};
 ghost use Rattle.liquid_syntax.specs.ConditionLaw.{ReadsConditions};
-ghost use Rattle.liquid_syntax.specs.LabelLaw.{ReadsLabels};
+ghost use Rattle.liquid_syntax.specs.StatementLaw.{ReadsStatements};
 ghost use Rattle.liquid_syntax.specs.RepeatedLaw.{ReadsLoops, ReadsPairs, ReadsValues};
 ghost use Rattle.liquid_syntax.specs.NestingLaw.{ReadsTheGrammar, AtMostOneTree};
 ghost use Rattle.liquid_syntax.specs.TemplateLaw.{PlainSources, AtMostOneTemplate};
@@ -18,9 +18,9 @@ pub fn nesting_laws()
     ensures unique { AtMostOneTree }
 {}
 
-/// A piece is read as a label, by the names of a language, exactly where the written grammar says that it is that.
-pub fn label_law()
-    ensures { ReadsLabels }
+/// A piece is read as a statement, by the names of a language, exactly where the written grammar says that it is that.
+pub fn statement_law()
+    ensures { ReadsStatements }
 {}
 
 /// A chain of filters and an `assign` are read exactly where the written grammar says that the items are it.

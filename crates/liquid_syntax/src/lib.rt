@@ -4,12 +4,12 @@
 mod block;
 mod build;
 mod chain_items;
+mod classify;
 mod condition_items;
 mod cycle_items;
 mod explain;
 mod faults;
 mod group;
-mod judge;
 mod language;
 mod laws;
 mod loop_items;
@@ -26,9 +26,11 @@ mod template;
 mod value_items;
 mod visit_nodes;
 
-pub use block::{Block, Control, Place};
+pub use block::{Block, BlockContext, Control};
 pub use language::{BlockKind, Language, Registry, TagKind};
-pub use laws::{chain_laws, condition_law, item_list_laws, label_law, nesting_laws, template_laws};
+pub use laws::{
+    chain_laws, condition_law, item_list_laws, nesting_laws, statement_law, template_laws,
+};
 pub use liquid_source::{
     Body, Delimiter, Fault, FaultKind, Item, Mark, Markup, ParseError, Piece, Symbol, item_laws,
     source_laws, value_laws, verbatim_laws,

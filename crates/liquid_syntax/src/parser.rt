@@ -4,9 +4,9 @@ ghost use Rattle.liquid_source.specs.Readers.{TellsOf};
 ghost use Rattle.liquid_syntax.specs.Parsing.{MayRefuse, ParsesTo, ReadsTo};
 
 use crate::build::Builder;
+use crate::classify::{body_behind, classify, opens};
 use crate::explain::explain;
 use crate::faults::too_nested;
-use crate::judge::{body_behind, judge, opens};
 use crate::language::Language;
 use crate::positions::Positions;
 use crate::template::Template;
@@ -18,7 +18,7 @@ use std::alloc::{AllocError, Global};
 
 /// The template that a source is, in a language.
 ///
-/// The pieces are read and judged from left to right, and the first fault is the answer, with its location (line and column in
+/// The pieces are read and classified from left to right, and the first fault is the answer, with its location (line and column in
 /// characters, each from 1) and a message that says what is found there and what is wanted, or what to write instead. A block
 /// without its end is told where it opens, and so is an output or a tag without its closer. The kinds are:
 /// `Unclosed`, `BadItem`, `NumberLiteral`, `FloatLiteral` and `StateWord` of items; `Expected`, `UnknownTag`,
@@ -59,28 +59,28 @@ fn read_template(
 {
     let mut builder = Builder::new(alloc);
     let mut positions = Positions::new(alloc, source);
-    let mut front = false;
+    let mut strip_next = false;
     let mut rest = source;
     'pieces: loop {
         let (text, behind) = text_before(rest);
         let Some(inside) = past_byte(behind, b'{') else {
-            builder.text(alloc, stripped(front, text, false))?;
+            builder.text(alloc, stripped(strip_next, text, false))?;
             positions.mark(rest.len(), builder.nodes.len())?;
             return builder.finish(positions.nodes);
         };
         let (markup, after) = read_markup(alloc, inside)?;
-        builder.text(alloc, stripped(front, text, markup.before))?;
+        builder.text(alloc, stripped(strip_next, text, markup.before))?;
         positions.mark(rest.len(), builder.nodes.len())?;
-        let place = builder.place();
-        let body = body_behind(language, place, &markup.piece);
+        let context = builder.context();
+        let body = body_behind(language, context, &markup.piece);
         let (markup, after) = read_body(body, markup, after)?;
-        if builder.is_full() && opens(language, place, &markup.piece) {
+        if builder.is_full() && opens(language, context, &markup.piece) {
             return Err(too_nested(behind.len()));
         }
-        let label = judge(alloc, language, place, markup.piece, behind)?;
-        builder.add(label, behind.len())?;
+        let statement = classify(alloc, language, context, markup.piece, behind)?;
+        builder.add(statement, behind.len())?;
         positions.mark(behind.len(), builder.nodes.len())?;
-        front = markup.after;
+        strip_next = markup.after;
         rest = after;
     }
 }

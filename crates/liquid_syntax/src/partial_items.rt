@@ -5,11 +5,11 @@ ghost use Rattle.liquid_source.specs.PieceView.{items_view};
 ghost use Rattle.liquid_source.specs.Tokens.{tokens_view};
 ghost use Rattle.liquid_syntax.specs.Faults.{FaultsAs, FaultsAt};
 ghost use Rattle.liquid_syntax.specs.Flats.{binding_view, bindings_view, each_view};
-ghost use Rattle.liquid_syntax.specs.Judges.{Judges};
-ghost use Rattle.liquid_syntax.specs.Judging.{leaf_or};
+ghost use Rattle.liquid_syntax.specs.inside.Classifies.{Classifies};
+ghost use Rattle.liquid_syntax.specs.Classification.{leaf_or};
 ghost use Rattle.liquid_syntax.specs.PartialItems.{each_first, include_node, include_of, jekyll_node, jekyll_of, render_as, render_node, render_of, rendered_each, rendered_with, spelled_name, with_first};
 
-use crate::build::Label;
+use crate::build::Statement;
 use crate::chain_items::expected;
 use crate::loop_items::next_source;
 use crate::loop_nodes::Each;
@@ -27,8 +27,8 @@ pub(crate) fn read_include(
     alloc: Global,
     items: VecDeque<Item<'_>>,
     at: &str,
-) -> Result<Label, ParseError>
-    ensures label { Judges (leaf_or (option_map include_node (include_of (tokens_view items.entry.items)))) result }
+) -> Result<Statement, ParseError>
+    ensures statement { Classifies (leaf_or (option_map include_node (include_of (tokens_view items.entry.items)))) result }
     ensures kind { FaultsAs FaultKind.Expected result }
     ensures place { FaultsAt (length at.now) result }
 {
@@ -37,13 +37,13 @@ pub(crate) fn read_include(
         return Err(expected(at, items.len(), "the name of a partial"));
     };
     if is_over(&items) {
-        return Ok(Label::Leaf(Node::Include(name, Vec::new(alloc))));
+        return Ok(Statement::Leaf(Node::Include(name, Vec::new(alloc))));
     }
     let Some(first) = next_pair(&mut items, Symbol::Colon) else {
         return Err(expected(at, items.len(), "`name: value`"));
     };
     let all = read_pairs(only(alloc, first)?, items, PairStyle::Include, at)?;
-    Ok(Label::Leaf(Node::Include(name, all)))
+    Ok(Statement::Leaf(Node::Include(name, all)))
 }
 
 /// `name w: v`, with `with v as w` or `for R as w` behind the name: the node of a `render`.
@@ -51,8 +51,8 @@ pub(crate) fn read_render(
     alloc: Global,
     items: VecDeque<Item<'_>>,
     at: &str,
-) -> Result<Label, ParseError>
-    ensures label { Judges (leaf_or (option_map render_node (render_of (tokens_view items.entry.items)))) result }
+) -> Result<Statement, ParseError>
+    ensures statement { Classifies (leaf_or (option_map render_node (render_of (tokens_view items.entry.items)))) result }
     ensures kind { FaultsAs FaultKind.Expected result }
     ensures place { FaultsAt (length at.now) result }
 {
@@ -67,7 +67,7 @@ pub(crate) fn read_render(
         return read_render_each(alloc, name, items, at);
     }
     let all = read_pairs(Vec::new(alloc), items, PairStyle::Render, at)?;
-    Ok(Label::Leaf(Node::Render(name, all)))
+    Ok(Statement::Leaf(Node::Render(name, all)))
 }
 
 /// `v as w, w: v`, behind `with`: the node of a `render` that runs once.
@@ -76,8 +76,8 @@ fn read_render_with(
     name: Expression,
     items: VecDeque<Item<'_>>,
     at: &str,
-) -> Result<Label, ParseError>
-    ensures label { Judges (leaf_or (render_as (expression_view name) (rendered_with (tokens_view items.entry.items)))) result }
+) -> Result<Statement, ParseError>
+    ensures statement { Classifies (leaf_or (render_as (expression_view name) (rendered_with (tokens_view items.entry.items)))) result }
     ensures kind { FaultsAs FaultKind.Expected result }
     ensures place { FaultsAt (length at.now) result }
 {
@@ -86,7 +86,7 @@ fn read_render_with(
         return Err(expected(at, items.len(), "`value as name`"));
     };
     let all = read_pairs(only(alloc, first)?, items, PairStyle::Render, at)?;
-    Ok(Label::Leaf(Node::Render(name, all)))
+    Ok(Statement::Leaf(Node::Render(name, all)))
 }
 
 /// `R as w, w: v`, behind `for`: the node of a `render` that runs for each item.
@@ -95,8 +95,8 @@ fn read_render_each(
     name: Expression,
     items: VecDeque<Item<'_>>,
     at: &str,
-) -> Result<Label, ParseError>
-    ensures label { Judges (leaf_or (render_as (expression_view name) (rendered_each (tokens_view items.entry.items)))) result }
+) -> Result<Statement, ParseError>
+    ensures statement { Classifies (leaf_or (render_as (expression_view name) (rendered_each (tokens_view items.entry.items)))) result }
     ensures kind { FaultsAs FaultKind.Expected result }
     ensures place { FaultsAt (length at.now) result }
 {
@@ -105,7 +105,7 @@ fn read_render_each(
         return Err(expected(at, items.len(), "`list as name`"));
     };
     let all = read_pairs(Vec::new(alloc), items, PairStyle::Render, at)?;
-    Ok(Label::Leaf(Node::RenderEach(name, each, all)))
+    Ok(Statement::Leaf(Node::RenderEach(name, each, all)))
 }
 
 /// Takes what stands behind `for` off the front, if it stands there: a source, `as` and the name of an item.
@@ -138,8 +138,8 @@ pub(crate) fn read_jekyll_include(
     alloc: Global,
     items: VecDeque<Item<'_>>,
     at: &str,
-) -> Result<Label, ParseError>
-    ensures label { Judges (leaf_or (option_map jekyll_node (jekyll_of (items_view items.entry.items)))) result }
+) -> Result<Statement, ParseError>
+    ensures statement { Classifies (leaf_or (option_map jekyll_node (jekyll_of (items_view items.entry.items)))) result }
     ensures kind { FaultsAs FaultKind.Expected result }
     ensures place { FaultsAt (length at.now) result }
 {
@@ -149,7 +149,7 @@ pub(crate) fn read_jekyll_include(
         Some(Item::Value(value, spelling)) => {
             let name = spelled_name(alloc, value, spelling)?;
             let all = read_pairs(Vec::new(alloc), items, PairStyle::JekyllInclude, at)?;
-            Ok(Label::Leaf(Node::JekyllInclude(name, all)))
+            Ok(Statement::Leaf(Node::JekyllInclude(name, all)))
         }
         Some(Item::Range(_, _)) => Err(expected(at, count, "the name of a partial")),
         Some(Item::Symbol(_)) => Err(expected(at, count, "the name of a partial")),

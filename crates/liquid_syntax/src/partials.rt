@@ -1,11 +1,11 @@
 //! Templates by name.
 ghost use Rattle.std.specs.Prelude.{◌≡◌, [], option_map, ◌≤◌, Some, IfErr, IfSome, IsSome, OnErr, OnOk, string_bytes};
 ghost use Rattle.std.specs.Map.{values_of};
-ghost use Rattle.liquid_model.specs.Answer.{Gives};
+ghost use Rattle.liquid_model.specs.Answer.{IsValueOrMemory};
 ghost use Rattle.liquid_model.specs.Maps.{listed, insert};
 ghost use Rattle.liquid_syntax.specs.Entries.{put, placed, exchanged};
-ghost use Rattle.liquid_syntax.specs.Mentions.{held_names, partials_list_names};
-ghost use Rattle.liquid_syntax.specs.Templates.{most_of, node_count_of, tree_of, partials_of, places_of};
+ghost use Rattle.liquid_syntax.specs.inside.Mentions.{held_names, partials_list_names};
+ghost use Rattle.liquid_syntax.specs.Templates.{most_of, node_count_of, tree_of, partials_of, slots_of};
 ghost use Rattle.liquid_tree.specs.Names.{mentioned, partials_names};
 
 use crate::names::Search;
@@ -17,7 +17,7 @@ use std::alloc::Global;
 use std::collections::BTreeMap;
 use std::mem;
 
-/// Templates by name. A name may also have a place that holds no template: it is kept for one, and nothing else sees it.
+/// Templates by name. A name may also have a slot that holds no template: it is kept for one, and nothing else sees it.
 #[derive(Drop)]
 pub struct Partials {
     templates: BTreeMap<String, Option<Template>>,
@@ -35,10 +35,10 @@ impl Partials {
 
     /// Puts a template at a name; the one of that name before is dropped. Where there is no memory nothing changes.
     pub fn insert(&mut self, name: String, template: Template) -> Result<()>
-        ensures inserted { Gives (λ _. partials_of self.new) result (put (string_bytes name) (tree_of template) (partials_of self.old)) }
-        ensures looked_up { Gives (λ _. listed (partials_of self.new)) result (insert (listed (partials_of self.old)) (string_bytes name) (tree_of template)) }
+        ensures inserted { IsValueOrMemory (λ _. partials_of self.new) result (put (string_bytes name) (tree_of template) (partials_of self.old)) }
+        ensures looked_up { IsValueOrMemory (λ _. listed (partials_of self.new)) result (insert (listed (partials_of self.old)) (string_bytes name) (tree_of template)) }
         ensures unchanged { OnErr result (partials_of self.new ≡ partials_of self.old) }
-        ensures places { OnErr result (places_of self.new ≡ places_of self.old) }
+        ensures slots { OnErr result (slots_of self.new ≡ slots_of self.old) }
     {
         drop(self.templates.insert(name, Some(template))?);
         Ok(())
@@ -52,19 +52,19 @@ impl Partials {
         // No effect at run time. The proof reads from this use that the names ascend.
         let _ = self.templates.len();
         match self.templates.get(name) {
-            Some(place) => place.as_ref(),
+            Some(slot) => slot.as_ref(),
             None => None,
         }
     }
 
-    /// Makes a place that holds no template, where the name has no place. Where there is no memory nothing changes.
+    /// Makes a slot that holds no template, where the name has no slot. Where there is no memory nothing changes.
     ///
     /// `exchange` then puts a template there without memory.
     pub fn reserve(&mut self, name: String) -> Result<()>
-        ensures place { OnOk result (IsSome (listed (places_of self.new) (string_bytes name))) }
+        ensures slot { OnOk result (IsSome (listed (slots_of self.new) (string_bytes name))) }
         ensures memory { IfErr result (λ e. e.kind ≡ ErrorKind.Memory) }
         ensures same { partials_of self.new ≡ partials_of self.old }
-        ensures unchanged { OnErr result (places_of self.new ≡ places_of self.old) }
+        ensures unchanged { OnErr result (slots_of self.new ≡ slots_of self.old) }
     {
         if self.templates.contains_key(name.as_str()) {
             return Ok(());
@@ -73,17 +73,17 @@ impl Partials {
         Ok(())
     }
 
-    /// Puts what is held, a template or none, into the place of a name, and hands out what stood there. It takes no memory.
+    /// Puts what is held, a template or none, into the slot of a name, and hands out what stood there. It takes no memory.
     ///
-    /// There has to be a place: `reserve` makes one, and so does `insert`.
+    /// There has to be a slot: `reserve` makes one, and so does `insert`.
     pub fn exchange(&mut self, name: &str, held: Option<Template>) -> Option<Template>
-        requires { IsSome (listed (places_of self.old) name.now) }
-        ensures out { listed (places_of self.old) name.now ≡ Some (option_map tree_of result) }
-        ensures place { places_of self.new ≡ placed name.now (option_map tree_of held) (places_of self.old) }
+        requires { IsSome (listed (slots_of self.old) name.now) }
+        ensures out { listed (slots_of self.old) name.now ≡ Some (option_map tree_of result) }
+        ensures slot { slots_of self.new ≡ placed name.now (option_map tree_of held) (slots_of self.old) }
         ensures held { partials_of self.new ≡ exchanged name.now (option_map tree_of held) (partials_of self.old) }
     {
         match self.templates.get_mut(name) {
-            Some(place) => mem::replace(place, held),
+            Some(slot) => mem::replace(slot, held),
             None => None,
         }
     }
@@ -92,8 +92,8 @@ impl Partials {
     pub(crate) fn visit_names<V: NameVisitor>(&self, visitor: &mut V) -> bool
         ensures { V.tells visitor.old (partials_list_names (values_of self.now.templates.entries)) result visitor.new }
     {
-        for place in self.templates.values() {
-            if visit_place(place, visitor) {
+        for slot in self.templates.values() {
+            if visit_slot(slot, visitor) {
                 return true;
             }
         }
@@ -109,11 +109,11 @@ impl Partials {
     }
 }
 
-/// The names of the template that a place holds, if it holds one.
-fn visit_place<V: NameVisitor>(place: &Option<Template>, visitor: &mut V) -> bool
-    ensures { V.tells visitor.old (held_names place.now) result visitor.new }
+/// The names of the template that a slot holds, if it holds one.
+fn visit_slot<V: NameVisitor>(slot: &Option<Template>, visitor: &mut V) -> bool
+    ensures { V.tells visitor.old (held_names slot.now) result visitor.new }
 {
-    match place {
+    match slot {
         Some(template) => visit_nodes(template.nodes(), visitor),
         None => false,
     }

@@ -1,6 +1,6 @@
 //! What the names of filters are registered as.
 ghost use Rattle.std.specs.Prelude.{◌≡◌, [], map, OnErr, string_bytes};
-ghost use Rattle.liquid_model.specs.Answer.{Gives};
+ghost use Rattle.liquid_model.specs.Answer.{IsValueOrMemory};
 ghost use Rattle.liquid_model.specs.Maps.{listed, insert};
 ghost use Rattle.liquid_syntax.specs.Registered.{registered_counts, registered_in};
 ghost use Rattle.liquid_syntax.specs.declared.registered_filter.RegisteredFilter.TheVariants.{Kind, Host};
@@ -50,7 +50,7 @@ impl FilterRegistry {
 
     /// Registers a filter under a name; what the name stood for before is forgotten. Where there is no memory nothing changes.
     pub fn register(&mut self, name: String, kind: FilterKind) -> Result<()>
-        ensures registered { Gives (λ _. listed (registered_in self.new)) result (insert (listed (registered_in self.old)) (string_bytes name) (Kind kind)) }
+        ensures registered { IsValueOrMemory (λ _. listed (registered_in self.new)) result (insert (listed (registered_in self.old)) (string_bytes name) (Kind kind)) }
         ensures unchanged { OnErr result (registered_in self.new ≡ registered_in self.old) }
     {
         self.entries.register(name, RegisteredFilter::Kind(kind))
@@ -59,7 +59,7 @@ impl FilterRegistry {
     /// Registers a filter that the host hands in, by its name, with the least and the greatest number of arguments; what
     /// the name stood for before is forgotten. Where there is no memory nothing changes.
     pub fn register_host(&mut self, name: String, least: usize, most: usize) -> Result<()>
-        ensures registered { Gives (λ _. listed (registered_in self.new)) result (insert (listed (registered_in self.old)) (string_bytes name) (Host least most)) }
+        ensures registered { IsValueOrMemory (λ _. listed (registered_in self.new)) result (insert (listed (registered_in self.old)) (string_bytes name) (Host least most)) }
         ensures unchanged { OnErr result (registered_in self.new ≡ registered_in self.old) }
     {
         self.entries

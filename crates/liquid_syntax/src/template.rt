@@ -24,7 +24,7 @@ impl Template {
     ghost use Rattle.std.specs.Prelude.{◌≡◌, IfOk};
     ghost use Rattle.std.specs.BTreeSet.{IsOrdered};
     ghost use Rattle.std.specs.String.{string_cmp};
-    ghost use Rattle.liquid_model.specs.Answer.{Gives};
+    ghost use Rattle.liquid_model.specs.Answer.{IsValueOrMemory};
     ghost use Rattle.liquid_syntax.specs.NameSets.{held};
     ghost use Rattle.liquid_syntax.specs.Templates.{list_of, partials_of, positions_of, tree_of};
     ghost use Rattle.liquid_tree.specs.Counts.{count_of_nodes};
@@ -58,7 +58,7 @@ impl Template {
     ///
     /// `Memory` where there is no room for them.
     pub fn names(&self, alloc: Global, partials: &Partials) -> Result<BTreeSet<String>>
-        ensures exact { Gives held result (mentioned (run_names (partials_of partials.now) (tree_of self.now))) }
+        ensures exact { IsValueOrMemory held result (mentioned (run_names (partials_of partials.now) (tree_of self.now))) }
         ensures ascending { IfOk result (λ names. IsOrdered string_cmp names) }
     {
         let mut gather = Gather {

@@ -4,7 +4,7 @@ ghost use Rattle.liquid_core.specs.ExpressionView.{expression_view};
 ghost use Rattle.liquid_source.specs.Readers.{Parses};
 ghost use Rattle.liquid_source.specs.Tokens.{tokens_view};
 ghost use Rattle.liquid_syntax.specs.Faults.{FaultsAs, FaultsAt};
-ghost use Rattle.liquid_syntax.specs.ValueAnswers.{SkipsSeparator};
+ghost use Rattle.liquid_syntax.specs.inside.ValueAnswers.{SkipsSeparator};
 ghost use Rattle.liquid_syntax.specs.ValueLists.{ends_values, further_first, further_of, values_of};
 
 use crate::chain_items::expected;

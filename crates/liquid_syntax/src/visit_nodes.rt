@@ -2,7 +2,7 @@
 ghost use Rattle.std.specs.Prelude.{◌∷◌, ◌++◌, option_map, string_bytes};
 ghost use Rattle.liquid_core.specs.ExpressionView.{expression_view};
 ghost use Rattle.liquid_syntax.specs.Flats.{arm_values, bindings_view, window_view};
-ghost use Rattle.liquid_syntax.specs.Mentions.{arms_names, each_names, for_names, head_names, jekyll_names, list_names, own_names, pairs_names, row_names};
+ghost use Rattle.liquid_syntax.specs.inside.Mentions.{arms_names, each_names, for_names, head_names, jekyll_names, list_names, own_names, pairs_names, row_names};
 ghost use Rattle.liquid_tree.specs.ChainView.{chain_view};
 ghost use Rattle.liquid_tree.specs.Names.{bound_names, chain_names, include_name, optional_names, source_names, target_names, window_names};
 ghost use Rattle.liquid_tree.specs.SourceView.{source_view};

@@ -1,7 +1,7 @@
 //! Arguments that may be missing.
 ghost use Rattle.std.specs.Prelude.{drop, map};
 ghost use Rattle.std.specs.Cow.{cow_str_bytes};
-ghost use Rattle.liquid_model.specs.Answer.{Answers, Gives};
+ghost use Rattle.liquid_model.specs.Answer.{Answers, IsValueOrMemory};
 ghost use Rattle.liquid_model.specs.View.{view};
 ghost use Rattle.liquid_filter_base.specs.Arguments.{text_or};
 ghost use Rattle.liquid_text_filters.specs.Arguments.{whole_or};
@@ -11,27 +11,27 @@ use liquid_filter_base::{text_of, whole_argument};
 use std::alloc::Global;
 use std::borrow::CowStr;
 
-/// The text of the argument at a place, or the given text where there is none.
+/// The text of the argument at an index, or the given text where there is none.
 pub fn text_or<'a>(
     alloc: Global,
     args: &'a [Value],
-    place: usize,
-    missing: &'a str,
+    index: usize,
+    fallback: &'a str,
 ) -> Result<CowStr<'a>>
-    ensures { Gives cow_str_bytes result (text_or missing.now (drop place (map view args.now))) }
+    ensures { IsValueOrMemory cow_str_bytes result (text_or fallback.now (drop index (map view args.now))) }
 {
-    match args.get(place) {
+    match args.get(index) {
         Some(value) => text_of(alloc, value),
-        None => Ok(CowStr::Borrowed(missing)),
+        None => Ok(CowStr::Borrowed(fallback)),
     }
 }
 
-/// The whole number of the argument at a place, or the given number where there is none.
-pub fn whole_or(alloc: Global, args: &[Value], place: usize, missing: i64) -> Result<i64>
-    ensures { Answers (λ n. n) result (whole_or missing (drop place (map view args.now))) }
+/// The whole number of the argument at an index, or the given number where there is none.
+pub fn whole_or(alloc: Global, args: &[Value], index: usize, fallback: i64) -> Result<i64>
+    ensures { Answers (λ n. n) result (whole_or fallback (drop index (map view args.now))) }
 {
-    match args.get(place) {
+    match args.get(index) {
         Some(value) => whole_argument(alloc, value),
-        None => Ok(missing),
+        None => Ok(fallback),
     }
 }

@@ -1,14 +1,14 @@
 //! Parts of texts.
 ghost use Rattle.std.specs.Prelude.{◌≡◌, ◌++◌, List, ℕ, drop, string_bytes, take};
 ghost use Rattle.std.specs.Str.{chars, encode_utf8_all};
-ghost use Rattle.liquid_model.specs.Answer.{Gives};
+ghost use Rattle.liquid_model.specs.Answer.{IsValueOrMemory};
 
 use liquid_core::Result;
 use std::alloc::Global;
 
 /// The first text, then the last.
 pub fn joined(alloc: Global, first: &str, last: &str) -> Result<String>
-    ensures { Gives (λ s. string_bytes s) result (first.now ++ last.now) }
+    ensures { IsValueOrMemory (λ s. string_bytes s) result (first.now ++ last.now) }
 {
     let mut both = String::with_capacity(alloc, first.len().saturating_add(last.len()))?;
     both.push_str(first)?;

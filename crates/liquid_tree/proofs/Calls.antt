@@ -5,7 +5,7 @@ use Rattle.std.proofs.lemmas.List.{drop_more, drop_all}
 use Rattle.std.specs.List.{list_all}
 use Rattle.std.proofs.lemmas.List.Sums.{AllPass-from_list_all}
 use Rattle.liquid_model.specs.Answer.{Answers, Faulted}
-use Rattle.liquid_model.specs.Told.{Told, is_memory, is_refusal}
+use Rattle.liquid_model.specs.ErrorKinds.{IsKindOrMemory, is_memory, is_refusal}
 use Rattle.liquid_model.specs.Data.{Datum}
 use Rattle.liquid_model.specs.declared.error.Error.{Error}
 use Rattle.liquid_model.specs.declared.error.ErrorKind.{ErrorKind}
@@ -30,7 +30,7 @@ pub faulted_as : {A : Type 0} (kind : ErrorKind) (a b : Result A ErrorKind) → 
 faulted_as kind a b e h = subst (λ r. Faulted kind r) (sym e) h
 
 -- the same fault, told again
-pub faulted_told : {A : Type 0} (kind told : ErrorKind) (wanted : Result A ErrorKind) → Told kind told → Faulted kind wanted → Faulted told wanted
+pub faulted_told : {A : Type 0} (kind told : ErrorKind) (wanted : Result A ErrorKind) → IsKindOrMemory kind told → Faulted kind wanted → Faulted told wanted
 faulted_told kind told wanted h f = on (is_memory told) refl h
   where
     on : (b : Bool) → is_memory told ≡ b → MatchBool b ⊤ (kind ≡ told) → MatchBool (is_memory told) ⊤ ((wanted ≡ Err told) × (is_refusal told ≡ false))

@@ -7,9 +7,9 @@ use Rattle.liquid_model.specs.declared.error.ErrorKind.TheVariants.{RangeTooLong
 use Rattle.liquid_model.specs.declared.value.Value.{Value}
 use Rattle.liquid_model.specs.declared.value.Value.TheVariants.{Array}
 use Rattle.liquid_model.proofs.Views.{view-Array, list_of_view}
-use Rattle.liquid_core.specs.Turns.{item_of}
-use Rattle.liquid_core.specs.declared.turn.Items.{Items}
-use Rattle.liquid_core.specs.declared.turn.Items.TheVariants.{Lent, Owned, Numbers}
+use Rattle.liquid_core.specs.LoopFrames.{item_of}
+use Rattle.liquid_core.specs.declared.frame.Items.{Items}
+use Rattle.liquid_core.specs.declared.frame.Items.TheVariants.{Lent, Owned, Numbers}
 use Rattle.liquid_tree.specs.Evaluation.{most_items, not_too_long}
 use Rattle.liquid_tree.specs.ItemLists.{all_items}
 use Rattle.liquid_tree.specs.Ranges.{items_in, range_items, checked_count}

@@ -1,7 +1,7 @@
 -- What the parts of a range's code answer.
 use Rattle.std.proofs.Common.{◌≡◌, ℕ, zero, suc, ◌+◌, ◌<◌, ◌≤◌, ℤ, List, [], ◌∷◌, ◌++◌, length, map, get_or, Vec, Global, Result, Ok, Err, refl, sym, ap, ◌∙◌, subst, arith}
 use Rattle.std.proofs.lemmas.List.{get_or-map, map-append}
-use Rattle.liquid_model.specs.Answer.{Answers, Gives, Faulted}
+use Rattle.liquid_model.specs.Answer.{Answers, IsValueOrMemory, Faulted}
 use Rattle.liquid_model.specs.Cow.{cow_view}
 use Rattle.liquid_model.specs.Data.{Datum, nil}
 use Rattle.liquid_model.specs.Lists.{list_of, pair_lists}
@@ -41,7 +41,7 @@ item_past (v ∷ vs) (suc i) h = item_past vs i (omega arith)
 abbrev pub cows : Vec ValueCow Global → List Datum
 cows v = map cow_view v.items
 
-pub lent_items : (r : Result (Vec ValueCow Global) Error) (value : Value) (v : Vec Value Global) → value ≡ Array v → Gives cows r (map view v.items) → Answers cows r (value_items (view value))
+pub lent_items : (r : Result (Vec ValueCow Global) Error) (value : Value) (v : Vec Value Global) → value ≡ Array v → IsValueOrMemory cows r (map view v.items) → Answers cows r (value_items (view value))
 lent_items (Ok x) value v is h = ap (λ w. value_items (view w)) is ∙ ap value_items (view-Array v) ∙ ap Ok (list_of_view v.items ∙ sym h)
 lent_items (Err e) value v is h = subst (λ kind. Faulted kind (value_items (view value))) (sym h) tt
 
@@ -72,7 +72,7 @@ numbers_wanted s a b a' b' n is first last h =
     sym ((ap (λ z. count_to z b') first ∙ ap (count_to a) last) ∙ (numbers_counted a b n (known s a b n is h)).0)
 
 pub numbers_given : (s : Range) (a b a' : ℤ) (n : ℕ) (r : Result (Vec ValueCow Global) Error) → s ≡ Counted a b → a' ≡ a → range_count (range_view s) ≡ Ok n
-    → Gives cows r (numbers_from a' n) → Answers cows r (range_items (range_view s))
+    → IsValueOrMemory cows r (numbers_from a' n) → Answers cows r (range_items (range_view s))
 numbers_given s a b a' n (Ok v) is first known_count h =
     ap (λ t. range_items (range_view t)) is ∙ (numbers_counted a b n (known s a b n is known_count)).1 ∙ ap Ok (ap (λ z. numbers_from z n) (sym first) ∙ sym h)
 numbers_given s a b a' n (Err e) is first known_count h = subst (λ kind. Faulted kind (range_items (range_view s))) (sym h) tt

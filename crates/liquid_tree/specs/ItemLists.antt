@@ -2,8 +2,8 @@
 use Rattle.std.specs.Prelude.{List, map}
 use Rattle.liquid_model.specs.Data.{Datum}
 use Rattle.liquid_model.specs.View.{view}
-use Rattle.liquid_core.specs.declared.turn.Items.{Items}
-use Rattle.liquid_core.specs.declared.turn.Items.TheVariants.{Lent, Owned, Numbers}
+use Rattle.liquid_core.specs.declared.frame.Items.{Items}
+use Rattle.liquid_core.specs.declared.frame.Items.TheVariants.{Lent, Owned, Numbers}
 use Rattle.liquid_tree.specs.Evaluation.{count_to, numbers_from}
 
 abbrev pub all_items : Items → List Datum

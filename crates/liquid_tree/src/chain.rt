@@ -1,6 +1,6 @@
 //! Chains of filters, as a template holds them.
 ghost use Rattle.std.specs.Prelude.{◌≡◌, [], IsTrue, length};
-ghost use Rattle.liquid_model.specs.Told.{Told};
+ghost use Rattle.liquid_model.specs.ErrorKinds.{IsKindOrMemory};
 ghost use Rattle.liquid_tree.specs.StoredFilters.{stored_counts};
 
 use crate::any_filter::AnyFilter;
@@ -126,7 +126,7 @@ impl FilterChain {
 /// The fault of the filter of this name, or of its arguments: its message begins with the name. `Memory` where there is no room for that.
 #[inline(never)]
 fn of_filter(alloc: Global, name: &str, fault: Error) -> Error
-    ensures { Told fault.kind result.kind }
+    ensures { IsKindOrMemory fault.kind result.kind }
 {
     let Some(message) = &fault.message else {
         return fault;

@@ -1,6 +1,6 @@
 //! How two values are compared.
 ghost use Rattle.std.specs.Prelude.{◌≡◌, Ok, Some, List, string_bytes, ℕ};
-ghost use Rattle.liquid_model.specs.Answer.{Answers, Gives};
+ghost use Rattle.liquid_model.specs.Answer.{Answers, IsValueOrMemory};
 ghost use Rattle.liquid_model.specs.Data.{text_of, scalar};
 ghost use Rattle.liquid_model.specs.View.{view, pairs_view};
 ghost use Rattle.liquid_tree.specs.Evaluation.{comparison_truth, contains, has_key, occurs_in};
@@ -109,7 +109,7 @@ fn contains(alloc: Global, left: &Value, right: &Value) -> Result<bool>
 
 /// Whether the text of a scalar is a key.
 fn has_key(alloc: Global, pairs: &Object, key: &Value) -> Result<bool>
-    ensures { Gives (λ b. b) result (has_key (pairs_view pairs.now.entries) (view key.now)) }
+    ensures { IsValueOrMemory (λ b. b) result (has_key (pairs_view pairs.now.entries) (view key.now)) }
 {
     match key {
         Value::Text(name) => Ok(look_up(pairs, name.as_str()).is_some()),
@@ -123,7 +123,7 @@ fn has_key(alloc: Global, pairs: &Object, key: &Value) -> Result<bool>
 
 /// Whether the text has the text of the value in it.
 fn has_text(alloc: Global, text: &str, part: &Value) -> Result<bool>
-    ensures { Gives (λ b. b) result (occurs_in (text_of (view part.now)) text.now) }
+    ensures { IsValueOrMemory (λ b. b) result (occurs_in (text_of (view part.now)) text.now) }
 {
     match part {
         Value::Text(part) => Ok(occurs(text, part.as_str())),

@@ -1,10 +1,10 @@
 //! The items of a loop, lent where the data holds them.
 ghost use Rattle.std.specs.Prelude.{◌≡◌, ◌≤◌, IfOk, length, map};
-ghost use Rattle.liquid_model.specs.Answer.{Answers, Gives};
+ghost use Rattle.liquid_model.specs.Answer.{Answers, IsValueOrMemory};
 ghost use Rattle.liquid_model.specs.Found.{found_view};
 ghost use Rattle.liquid_model.specs.Lists.{pair_lists};
 ghost use Rattle.liquid_model.specs.View.{view, pairs_view};
-ghost use Rattle.liquid_core.specs.Seen.{seen_view};
+ghost use Rattle.liquid_core.specs.Resolved.{resolved_view};
 ghost use Rattle.liquid_core.specs.States.{environment_of};
 ghost use Rattle.liquid_tree.specs.Evaluation.{source_items, value_items};
 ghost use Rattle.liquid_tree.specs.ItemLists.{all_items};
@@ -14,7 +14,7 @@ ghost use Rattle.liquid_tree.specs.SourceView.{source_view};
 use crate::range::{checked_count, count_to, pair, without_items};
 use crate::range_expression::RangeExpression;
 use crate::window::evaluate_whole;
-use liquid_core::{Found, Items, Object, Result, Seen, State, Value, copy_items};
+use liquid_core::{Found, Items, Object, Resolved, Result, State, Value, copy_items};
 use std::alloc::Global;
 
 /// What a loop goes over, and how many items there are.
@@ -36,7 +36,7 @@ impl RangeExpression {
         ensures within { IfOk result (λ r. r.count ≤ 9223372036854775807) }
     {
         match self {
-            RangeExpression::Array(value) => seen_items(alloc, value.see(alloc, state)?),
+            RangeExpression::Array(value) => resolved_items(alloc, value.resolve(alloc, state)?),
             RangeExpression::Counted(first, last) => {
                 let first = evaluate_whole(alloc, first, state)?;
                 let last = evaluate_whole(alloc, last, state)?;
@@ -47,13 +47,13 @@ impl RangeExpression {
 }
 
 /// The items of what a value was found to be.
-fn seen_items<'d>(alloc: Global, seen: Seen<'_, 'd>) -> Result<LoopItems<'d>>
-    ensures items { Answers (λ r. all_items r.items) result (range_items (items_in (seen_view seen.entry))) }
+fn resolved_items<'d>(alloc: Global, resolved: Resolved<'_, 'd>) -> Result<LoopItems<'d>>
+    ensures items { Answers (λ r. all_items r.items) result (range_items (items_in (resolved_view resolved.entry))) }
     ensures count { IfOk result (λ r. r.count ≡ length (all_items r.items)) }
     ensures within { IfOk result (λ r. r.count ≤ 9223372036854775807) }
 {
-    match seen {
-        Seen::Lent(found) => found_items(alloc, found),
+    match resolved {
+        Resolved::Lent(found) => found_items(alloc, found),
         other => {
             let value = other.into_value(alloc)?;
             owned_items(alloc, value.as_value())
@@ -114,7 +114,7 @@ fn copied_items(alloc: Global, value: &Value) -> Result<Vec<Value>>
 
 /// The pairs, each as a list of its key and its value.
 fn copied_pairs(alloc: Global, pairs: &Object) -> Result<Vec<Value>>
-    ensures { Gives (λ v. map view v.items) result (pair_lists (pairs_view pairs.now.entries)) }
+    ensures { IsValueOrMemory (λ v. map view v.items) result (pair_lists (pairs_view pairs.now.entries)) }
 {
     let mut lists = Vec::with_capacity(alloc, pairs.len())?;
     for (key, value) in pairs.iter() {

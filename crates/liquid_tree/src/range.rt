@@ -1,10 +1,10 @@
 //! The items of loops.
 ghost use Rattle.std.specs.Prelude.{◌≡◌, ◌≤◌, IfOk, map, get_or};
-ghost use Rattle.liquid_model.specs.Answer.{Answers, Gives, TakesNoMemory};
+ghost use Rattle.liquid_model.specs.Answer.{Answers, IsValueOrMemory, TakesNoMemory};
 ghost use Rattle.liquid_model.specs.Cow.{cow_view};
 ghost use Rattle.liquid_model.specs.Data.{nil, text, array, item, no_items};
 ghost use Rattle.liquid_model.specs.Lists.{pair_lists};
-ghost use Rattle.liquid_model.specs.Told.{Told};
+ghost use Rattle.liquid_model.specs.ErrorKinds.{IsKindOrMemory};
 ghost use Rattle.liquid_model.specs.View.{view, pairs_view};
 ghost use Rattle.liquid_model.specs.declared.error.ErrorKind.TheVariants.{RangeTooLong, UnexpectedValue};
 ghost use Rattle.liquid_core.specs.Places.{number_at};
@@ -60,7 +60,7 @@ impl<'r> Range<'r> {
     /// Item `place`, counted from 0, or nil where there is none: a number is computed, and an item of a list is lent. The
     /// pair of a map is made, which alone takes memory, and found by a walk from the first one.
     pub fn item(&self, alloc: Global, place: usize) -> Result<ValueCow<'_>>
-        ensures { Gives cow_view result (range_item (range_view self.now) place) }
+        ensures { IsValueOrMemory cow_view result (range_item (range_view self.now) place) }
     {
         match self {
             Range::Array(value) => value_item(alloc, value.as_value(), place),
@@ -70,7 +70,7 @@ impl<'r> Range<'r> {
 
     /// An equal range. A value that is lent stays lent, and any other is copied.
     pub fn copy(&self, alloc: Global) -> Result<Range<'r>>
-        ensures { Gives range_view result (range_view self.now) }
+        ensures { IsValueOrMemory range_view result (range_view self.now) }
     {
         match self {
             Range::Array(ValueCow::Owned(value)) => {
@@ -114,7 +114,7 @@ fn value_count(alloc: Global, value: &Value) -> Result<usize>
 
 /// The item at this place, or nil.
 fn value_item(alloc: Global, value: &Value, place: usize) -> Result<ValueCow<'_>>
-    ensures { Gives cow_view result (value_item (view value.now) place) }
+    ensures { IsValueOrMemory cow_view result (value_item (view value.now) place) }
 {
     match value {
         Value::Array(items) => Ok(item_at(items, place)),
@@ -136,7 +136,7 @@ fn item_at<'a>(items: &'a Vec<Value>, place: usize) -> ValueCow<'a>
 
 /// The items, lent.
 fn lent<'a>(alloc: Global, items: &'a Vec<Value>) -> Result<Vec<ValueCow<'a>>>
-    ensures { Gives (λ v. map cow_view v.items) result (map view items.now.items) }
+    ensures { IsValueOrMemory (λ v. map cow_view v.items) result (map view items.now.items) }
 {
     let mut values = Vec::with_capacity(alloc, items.len())?;
     for item in items {
@@ -147,7 +147,7 @@ fn lent<'a>(alloc: Global, items: &'a Vec<Value>) -> Result<Vec<ValueCow<'a>>>
 
 /// The pairs, each as a list of its key and its value.
 fn pair_lists<'a>(alloc: Global, pairs: &Object) -> Result<Vec<ValueCow<'a>>>
-    ensures { Gives (λ v. map cow_view v.items) result (pair_lists (pairs_view pairs.now.entries)) }
+    ensures { IsValueOrMemory (λ v. map cow_view v.items) result (pair_lists (pairs_view pairs.now.entries)) }
 {
     let mut lists = Vec::with_capacity(alloc, pairs.len())?;
     for (key, value) in pairs.iter() {
@@ -158,7 +158,7 @@ fn pair_lists<'a>(alloc: Global, pairs: &Object) -> Result<Vec<ValueCow<'a>>>
 
 /// The pair at this place as such a list, or nil.
 fn pair_at(alloc: Global, pairs: &Object, place: usize) -> Result<Value>
-    ensures { Gives view result (get_or (pair_lists (pairs_view pairs.now.entries)) place nil) }
+    ensures { IsValueOrMemory view result (get_or (pair_lists (pairs_view pairs.now.entries)) place nil) }
 {
     let mut before = place;
     for (key, value) in pairs.iter() {
@@ -172,7 +172,7 @@ fn pair_at(alloc: Global, pairs: &Object, place: usize) -> Result<Value>
 
 /// A list of the key and the value.
 pub(crate) fn pair(alloc: Global, key: &str, value: &Value) -> Result<Value>
-    ensures { Gives view result (array (item (text key.now) (item (view value.now) no_items))) }
+    ensures { IsValueOrMemory view result (array (item (text key.now) (item (view value.now) no_items))) }
 {
     let mut items = Vec::with_capacity(alloc, 2)?;
     items.push(Value::Text(String::from_str(alloc, key)?))?;
@@ -196,7 +196,7 @@ pub(crate) fn count_to(first: i64, last: i64) -> u128
 /// The numbers from the first to the last, of which there are so many.
 fn numbers<'a>(alloc: Global, first: i64, last: i64, count: usize) -> Result<Vec<ValueCow<'a>>>
     requires { count ≡ count_to first last }
-    ensures { Gives (λ v. map cow_view v.items) result (numbers_from first count) }
+    ensures { IsValueOrMemory (λ v. map cow_view v.items) result (numbers_from first count) }
 {
     let mut numbers = Vec::with_capacity(alloc, count)?;
     for place in 0..count {
@@ -234,7 +234,7 @@ pub(crate) fn checked_count(alloc: Global, count: u128) -> Result<usize>
 }
 
 pub(crate) fn without_items(alloc: Global) -> Error
-    ensures { Told UnexpectedValue result.kind }
+    ensures { IsKindOrMemory UnexpectedValue result.kind }
 {
     Error::new(
         alloc,
@@ -244,7 +244,7 @@ pub(crate) fn without_items(alloc: Global) -> Error
 }
 
 fn too_long(alloc: Global) -> Error
-    ensures { Told RangeTooLong result.kind }
+    ensures { IsKindOrMemory RangeTooLong result.kind }
 {
     Error::new(
         alloc,

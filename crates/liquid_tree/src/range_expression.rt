@@ -1,6 +1,6 @@
 //! What loops go over, as a template says it.
 ghost use Rattle.std.specs.Prelude.{Some};
-ghost use Rattle.liquid_model.specs.Answer.{Answers, Gives};
+ghost use Rattle.liquid_model.specs.Answer.{Answers, IsValueOrMemory};
 ghost use Rattle.liquid_core.specs.States.{environment_of};
 ghost use Rattle.liquid_tree.specs.Ranges.{range_of};
 ghost use Rattle.liquid_tree.specs.SourceView.{range_view, source_view};
@@ -43,7 +43,7 @@ impl RangeExpression {
 
     /// An equal source that owns its parts.
     pub fn copy(&self, alloc: Global) -> Result<RangeExpression>
-        ensures { Gives source_view result (source_view self.now) }
+        ensures { IsValueOrMemory source_view result (source_view self.now) }
     {
         match self {
             RangeExpression::Array(value) => Ok(RangeExpression::Array(value.copy(alloc)?)),

@@ -2,8 +2,8 @@ pub mod Bytes
 pub mod Escapes
 pub mod Faults
 pub mod HtmlLaws
-pub mod Marks
 pub mod LineBreaks
+pub mod Marks
 pub mod Pairs
 pub mod Replaced
 pub mod Standing

@@ -3,7 +3,7 @@ use Rattle.std.proofs.Common.{◌≡◌, ℕ, zero, suc, ◌<◌, Bool, true, fa
 use Rattle.std.proofs.lemmas.List.Concat.{flat_map-append}
 use Rattle.std.proofs.lemmas.List.Sums.{split_at_first, fails_before_first, passes_at_first}
 use Rattle.std.specs.List.{flat_map, position_or_len, before_first, after_first}
-use Rattle.liquid_web_filters.specs.Replaced.{AreAscii, Replacements, replaced_by}
+use Rattle.liquid_web_filters.specs.inside.Replaced.{AreAscii, Replacements, replaced_by}
 
 -- steps that agree on the bytes that fail a test agree on the first n bytes, where these fail it
 pub agree_first : (f g : ℕ → List ℕ) (p : ℕ → Bool) → ((b : ℕ) → p b ≡ false → f b ≡ g b) → (s : List ℕ) (n : ℕ) → ((k : ℕ) → k < n → p (get_or s k 0) ≡ false) → flat_map f (take n s) ≡ flat_map g (take n s)

@@ -1,7 +1,7 @@
 //! The filter that makes slugs.
 ghost use Rattle.std.specs.Prelude.{◌≡◌, ◌++◌, ◌<◌, MatchOption, false, length, nat_le, string_bytes};
 ghost use Rattle.std.specs.Str.{chars, encode_utf8_all};
-ghost use Rattle.liquid_model.specs.Answer.{Answers, Gives};
+ghost use Rattle.liquid_model.specs.Answer.{Answers, IsValueOrMemory};
 ghost use Rattle.liquid_model.specs.View.{view};
 ghost use Rattle.liquid_jekyll_filters.specs.Slugs.{hyphened, inner, is_pretty, keeps, mode_named, shown, slug, slug_in, slugify_answer, without_first, without_last};
 
@@ -74,7 +74,7 @@ fn slugified(alloc: Global, input: &Value, mode: Mode) -> Result<Value>
 }
 
 fn slug(alloc: Global, text: &str, mode: Mode) -> Result<String>
-    ensures { Gives (λ s. string_bytes s) result (slug mode text.now) }
+    ensures { IsValueOrMemory (λ s. string_bytes s) result (slug mode text.now) }
 {
     let all = hyphened(alloc, text.trim(), mode)?;
     Ok(inner(all.as_str()).to_ascii_lowercase(alloc)?)
@@ -103,7 +103,7 @@ fn is_pretty(letter: char) -> bool
 
 /// A text with each longest run of characters that aren't kept as one hyphen.
 fn hyphened(alloc: Global, text: &str, mode: Mode) -> Result<String>
-    ensures { Gives (λ s. string_bytes s) result (encode_utf8_all (hyphened (keeps mode) false (chars text.now))) }
+    ensures { IsValueOrMemory (λ s. string_bytes s) result (encode_utf8_all (hyphened (keeps mode) false (chars text.now))) }
 {
     let mut out = String::with_capacity(alloc, text.len())?;
     let mut rest = text.chars();
@@ -118,7 +118,7 @@ fn hyphened(alloc: Global, text: &str, mode: Mode) -> Result<String>
 
 /// Appends a character that is kept, or a hyphen where none was put for the character before it.
 fn push_shown(out: &mut String, letter: char, kept: bool, after: bool) -> Result<()>
-    ensures { Gives (λ _. string_bytes out.new) result (string_bytes out.old ++ encode_utf8_all (shown kept after letter)) }
+    ensures { IsValueOrMemory (λ _. string_bytes out.new) result (string_bytes out.old ++ encode_utf8_all (shown kept after letter)) }
 {
     if kept {
         return Ok(out.push(letter)?);

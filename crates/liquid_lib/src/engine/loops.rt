@@ -2,23 +2,23 @@
 ghost use Rattle.std.specs.Prelude.{◌≡◌, ◌+◌, List, option_map, string_bytes};
 ghost use Rattle.liquid_core.specs.ExpressionView.{expression_view};
 ghost use Rattle.liquid_core.specs.States.{loops_of};
-ghost use Rattle.liquid_core.specs.Turns.{without_innermost};
-ghost use Rattle.liquid_core.specs.declared.turn.Scope.{Scope};
-ghost use Rattle.liquid_core.specs.declared.turn.Turn.{Turn};
+ghost use Rattle.liquid_core.specs.LoopFrames.{without_innermost};
+ghost use Rattle.liquid_core.specs.declared.frame.Scope.{Scope};
+ghost use Rattle.liquid_core.specs.declared.frame.LoopFrame.{LoopFrame};
 ghost use Rattle.liquid_tree.specs.Names.{node_names, nodes_names};
 ghost use Rattle.liquid_tree.specs.SourceView.{source_view};
 ghost use Rattle.liquid_tree.specs.Tree as tree;
 ghost use Rattle.liquid_syntax.specs.Flats.{Maker, StandsAt, IsRange, nodes_of, window_view};
 ghost use Rattle.liquid_syntax.specs.Forest.{Forest};
-ghost use Rattle.liquid_lib.specs.Engine.{setting_of, node_in, nodes_in};
+ghost use Rattle.liquid_lib.specs.inside.Engine.{setting_of, node_in, nodes_in};
 ghost use Rattle.liquid_lib.specs.Kept.{Keeps};
-ghost use Rattle.liquid_lib.specs.LoopRuns.{KeepsBehind, StartsAt, behind, cells_meant, place_behind, turns_meant};
+ghost use Rattle.liquid_lib.specs.inside.LoopRuns.{KeepsBehind, StartsAt, behind, cells_meant, place_behind, turns_meant};
 ghost use Rattle.liquid_lib.specs.Performs.{Performs, place_of};
 
 use super::run_range;
+use crate::context::RunContext;
 use crate::counted::CountedWrite;
-use crate::given::Given;
-use crate::loop_turns::{for_turn, row_turn, takes_break};
+use crate::loop_turns::{for_frame, row_frame, takes_break};
 use crate::output::Output;
 use crate::stdlib::Row;
 use liquid_core::{NamedFilters, Result, State};
@@ -30,7 +30,7 @@ use std::alloc::Global;
 #[inline(never)]
 pub(super) fn run_for<'d, W: CountedWrite, H: NamedFilters>(
     alloc: Global,
-    given: &Given<'d, H>,
+    context: &RunContext<'d, H>,
     nodes: &'d [Node],
     at: usize,
     head: &'d For,
@@ -41,18 +41,18 @@ pub(super) fn run_for<'d, W: CountedWrite, H: NamedFilters>(
     requires body { IsRange nodes.now (at + 1) bodies.first_end }
     requires otherwise { IsRange nodes.now bodies.first_end bodies.last_end }
     ensures performs { (b d : Forest Maker) → StandsAt nodes.now (at + 1) b bodies.first_end → StandsAt nodes.now bodies.first_end d bodies.last_end →
-        Performs result (node_in H.named given.now (tree.for_each (string_bytes head.now.variable) (source_view head.now.source) (window_view head.now.window) (nodes_of b) (nodes_of d)))
+        Performs result (node_in H.named context.now (tree.for_each (string_bytes head.now.variable) (source_view head.now.source) (window_view head.now.window) (nodes_of b) (nodes_of d)))
         (place_of W.contents W.failure_count out.old state.old)
         (place_of W.contents W.failure_count out.new state.new) }
     ensures same_writer { out.new.writer.ghost_name ≡ out.old.writer.ghost_name }
     ensures kept { (b d : Forest Maker) → StandsAt nodes.now (at + 1) b bodies.first_end → StandsAt nodes.now bodies.first_end d bodies.last_end →
-        Keeps (node_names (tree.for_each (string_bytes head.now.variable) (source_view head.now.source) (window_view head.now.window) (nodes_of b) (nodes_of d))) (setting_of H.named given.now) state.old state.new }
+        Keeps (node_names (tree.for_each (string_bytes head.now.variable) (source_view head.now.source) (window_view head.now.window) (nodes_of b) (nodes_of d))) (setting_of H.named context.now) state.old state.new }
     ensures loops { loops_of state.new ≡ loops_of state.old }
 {
-    let Some(turn) = for_turn(alloc, head, state)? else {
+    let Some(frame) = for_frame(alloc, head, state)? else {
         return run_range(
             alloc,
-            given,
+            context,
             nodes,
             bodies.first_end,
             bodies.last_end,
@@ -60,11 +60,11 @@ pub(super) fn run_for<'d, W: CountedWrite, H: NamedFilters>(
             state,
         );
     };
-    let count = turn.count;
-    state.push_turn(turn)?;
+    let count = frame.count;
+    state.push_frame(frame)?;
     let answer = run_turns(
         alloc,
-        given,
+        context,
         nodes,
         at + 1,
         bodies.first_end,
@@ -81,7 +81,7 @@ pub(super) fn run_for<'d, W: CountedWrite, H: NamedFilters>(
 #[inline(never)]
 fn run_turns<'d, W: CountedWrite, H: NamedFilters>(
     alloc: Global,
-    given: &Given<'d, H>,
+    context: &RunContext<'d, H>,
     nodes: &'d [Node],
     from: usize,
     to: usize,
@@ -90,18 +90,18 @@ fn run_turns<'d, W: CountedWrite, H: NamedFilters>(
     state: &mut State<'d>,
 ) -> Result<()>
     requires range { IsRange nodes.now from to }
-    requires start { (before : List Scope) × ((t : Turn) × StartsAt count state.old before t) }
-    ensures performs { (f : Forest Maker) → StandsAt nodes.now from f to → (before : List Scope) (t : Turn) → StartsAt count state.old before t →
-        Performs result (turns_meant t (behind state.old) (nodes_in H.named given.now (nodes_of f)))
+    requires start { (before : List Scope) × ((t : LoopFrame) × StartsAt count state.old before t) }
+    ensures performs { (f : Forest Maker) → StandsAt nodes.now from f to → (before : List Scope) (t : LoopFrame) → StartsAt count state.old before t →
+        Performs result (turns_meant t (behind state.old) (nodes_in H.named context.now (nodes_of f)))
         (place_behind W.contents W.failure_count out.old state.old)
         (place_behind W.contents W.failure_count out.new state.new) }
     ensures same_writer { out.new.writer.ghost_name ≡ out.old.writer.ghost_name }
-    ensures kept { (f : Forest Maker) → StandsAt nodes.now from f to → KeepsBehind (nodes_names (nodes_of f)) (setting_of H.named given.now) state.old state.new }
+    ensures kept { (f : Forest Maker) → StandsAt nodes.now from f to → KeepsBehind (nodes_names (nodes_of f)) (setting_of H.named context.now) state.old state.new }
     ensures loops { without_innermost (loops_of state.new) ≡ without_innermost (loops_of state.old) }
 {
     let mut place = 0;
     'turns: loop {
-        run_range(alloc, given, nodes, from, to, out, state)?;
+        run_range(alloc, context, nodes, from, to, out, state)?;
         if takes_break(state) {
             return Ok(());
         }
@@ -118,7 +118,7 @@ fn run_turns<'d, W: CountedWrite, H: NamedFilters>(
 #[inline(never)]
 pub(super) fn run_tablerow<'d, W: CountedWrite, H: NamedFilters>(
     alloc: Global,
-    given: &Given<'d, H>,
+    context: &RunContext<'d, H>,
     nodes: &'d [Node],
     at: usize,
     head: &'d TableRow,
@@ -128,23 +128,23 @@ pub(super) fn run_tablerow<'d, W: CountedWrite, H: NamedFilters>(
 ) -> Result<()>
     requires { IsRange nodes.now (at + 1) end }
     ensures performs { (b : Forest Maker) → StandsAt nodes.now (at + 1) b end →
-        Performs result (node_in H.named given.now (tree.tablerow (string_bytes head.now.variable) (source_view head.now.source) (window_view head.now.window) (option_map expression_view head.now.cols) (nodes_of b)))
+        Performs result (node_in H.named context.now (tree.tablerow (string_bytes head.now.variable) (source_view head.now.source) (window_view head.now.window) (option_map expression_view head.now.cols) (nodes_of b)))
         (place_of W.contents W.failure_count out.old state.old)
         (place_of W.contents W.failure_count out.new state.new) }
     ensures same_writer { out.new.writer.ghost_name ≡ out.old.writer.ghost_name }
     ensures kept { (b : Forest Maker) → StandsAt nodes.now (at + 1) b end →
-        Keeps (node_names (tree.tablerow (string_bytes head.now.variable) (source_view head.now.source) (window_view head.now.window) (option_map expression_view head.now.cols) (nodes_of b))) (setting_of H.named given.now) state.old state.new }
+        Keeps (node_names (tree.tablerow (string_bytes head.now.variable) (source_view head.now.source) (window_view head.now.window) (option_map expression_view head.now.cols) (nodes_of b))) (setting_of H.named context.now) state.old state.new }
     ensures loops { loops_of state.new ≡ loops_of state.old }
 {
-    let Some((turn, columns)) = row_turn(alloc, head, state)? else {
+    let Some((frame, columns)) = row_frame(alloc, head, state)? else {
         return Ok(());
     };
     let row = Row {
-        count: turn.count,
+        count: frame.count,
         columns,
     };
-    state.push_turn(turn)?;
-    let answer = run_cells(alloc, given, nodes, at + 1, end, row, out, state);
+    state.push_frame(frame)?;
+    let answer = run_cells(alloc, context, nodes, at + 1, end, row, out, state);
     state.pop_scope();
     answer
 }
@@ -154,7 +154,7 @@ pub(super) fn run_tablerow<'d, W: CountedWrite, H: NamedFilters>(
 #[inline(never)]
 fn run_cells<'d, W: CountedWrite, H: NamedFilters>(
     alloc: Global,
-    given: &Given<'d, H>,
+    context: &RunContext<'d, H>,
     nodes: &'d [Node],
     from: usize,
     to: usize,
@@ -163,19 +163,19 @@ fn run_cells<'d, W: CountedWrite, H: NamedFilters>(
     state: &mut State<'d>,
 ) -> Result<()>
     requires range { IsRange nodes.now from to }
-    requires start { (before : List Scope) × ((t : Turn) × StartsAt row.count state.old before t) }
-    ensures performs { (f : Forest Maker) → StandsAt nodes.now from f to → (before : List Scope) (t : Turn) → StartsAt row.count state.old before t →
-        Performs result (cells_meant t row.columns.count (behind state.old) (nodes_in H.named given.now (nodes_of f)))
+    requires start { (before : List Scope) × ((t : LoopFrame) × StartsAt row.count state.old before t) }
+    ensures performs { (f : Forest Maker) → StandsAt nodes.now from f to → (before : List Scope) (t : LoopFrame) → StartsAt row.count state.old before t →
+        Performs result (cells_meant t row.columns.count (behind state.old) (nodes_in H.named context.now (nodes_of f)))
         (place_behind W.contents W.failure_count out.old state.old)
         (place_behind W.contents W.failure_count out.new state.new) }
     ensures same_writer { out.new.writer.ghost_name ≡ out.old.writer.ghost_name }
-    ensures kept { (f : Forest Maker) → StandsAt nodes.now from f to → KeepsBehind (nodes_names (nodes_of f)) (setting_of H.named given.now) state.old state.new }
+    ensures kept { (f : Forest Maker) → StandsAt nodes.now from f to → KeepsBehind (nodes_names (nodes_of f)) (setting_of H.named context.now) state.old state.new }
     ensures loops { without_innermost (loops_of state.new) ≡ without_innermost (loops_of state.old) }
 {
     let mut place = 0;
     'cells: loop {
         row.open(alloc, place, out)?;
-        run_range(alloc, given, nodes, from, to, out, state)?;
+        run_range(alloc, context, nodes, from, to, out, state)?;
         row.close(alloc, place, out)?;
         place += 1;
         if place == row.count {

@@ -5,24 +5,24 @@ ghost use Rattle.liquid_model.specs.Maps.{Map};
 ghost use Rattle.liquid_core.specs.Environment.{Environment, new_environment};
 ghost use Rattle.liquid_core.specs.ExpressionView.{expression_view};
 ghost use Rattle.liquid_core.specs.States.{environment_of};
-ghost use Rattle.liquid_core.specs.Turns.{turn_map};
+ghost use Rattle.liquid_core.specs.LoopFrames.{frame_map};
 ghost use Rattle.liquid_syntax.specs.Flats.{bindings_view, each_view};
 ghost use Rattle.liquid_syntax.specs.Templates.{list_of, most_of, tree_of};
 ghost use Rattle.liquid_tree.specs.Tree as tree;
-ghost use Rattle.liquid_lib.specs.Engine.{setting_of, node_in, partial_in};
+ghost use Rattle.liquid_lib.specs.inside.Engine.{setting_of, node_in, partial_in};
 ghost use Rattle.liquid_lib.specs.Performs.{Meets, Performs, place_of, place_beside};
 ghost use Rattle.liquid_meaning.specs.Meaning.{deeper_meaning, render_apart};
 ghost use Rattle.liquid_meaning.specs.Runs.{apart};
 
 use super::run_range;
+use crate::context::RunContext;
 use crate::counted::CountedWrite;
-use crate::given::Given;
+use crate::fault_location::in_partial;
 use crate::loop_turns::ends_items;
 use crate::output::Output;
-use crate::own_state::{own_state, state_at, turn_at};
+use crate::own_state::{frame_at, own_state, state_at};
 use crate::partial::{pairs_scope, partial_name, partial_rendered, too_deep};
-use crate::place::in_partial;
-use liquid_core::{Expression, Interrupt, NamedFilters, Result, State, Turn};
+use liquid_core::{Expression, Interrupt, LoopFrame, NamedFilters, Result, State};
 use liquid_syntax::{Binding, Each, Template};
 use std::alloc::Global;
 
@@ -31,22 +31,22 @@ use std::alloc::Global;
 #[inline(never)]
 pub(super) fn run_render<'d, W: CountedWrite, H: NamedFilters>(
     alloc: Global,
-    given: &Given<'d, H>,
+    context: &RunContext<'d, H>,
     name: &Expression,
     bindings: &[Binding],
     out: &mut Output<'_, W>,
     state: &State<'d>,
 ) -> Result<()>
-    ensures performs { Performs result (node_in H.named given.now (tree.render (expression_view name.now) None (bindings_view bindings.now)))
+    ensures performs { Performs result (node_in H.named context.now (tree.render (expression_view name.now) None (bindings_view bindings.now)))
         (place_of W.contents W.failure_count out.old state.now)
         (place_of W.contents W.failure_count out.new state.now) }
     ensures same_writer { out.new.writer.ghost_name ≡ out.old.writer.ghost_name }
 {
     let called = partial_name(alloc, name, state)?;
     let scope = pairs_scope(alloc, bindings, state)?;
-    let partial = partial_rendered(alloc, given.partials, called.as_str())?;
+    let partial = partial_rendered(alloc, context.partials, called.as_str())?;
     let own = own_state(alloc, scope)?;
-    let answer = run_apart(alloc, given, partial, own, out);
+    let answer = run_apart(alloc, context, partial, own, out);
     in_partial(alloc, called.as_str(), answer)?;
     Ok(())
 }
@@ -56,30 +56,30 @@ pub(super) fn run_render<'d, W: CountedWrite, H: NamedFilters>(
 #[inline(never)]
 pub(super) fn run_render_each<'d, W: CountedWrite, H: NamedFilters>(
     alloc: Global,
-    given: &Given<'d, H>,
+    context: &RunContext<'d, H>,
     name: &Expression,
     each: &'d Each,
     bindings: &[Binding],
     out: &mut Output<'_, W>,
     state: &State<'d>,
 ) -> Result<()>
-    ensures performs { Performs result (node_in H.named given.now (tree.render (expression_view name.now) (Some (each_view each.now)) (bindings_view bindings.now)))
+    ensures performs { Performs result (node_in H.named context.now (tree.render (expression_view name.now) (Some (each_view each.now)) (bindings_view bindings.now)))
         (place_of W.contents W.failure_count out.old state.now)
         (place_of W.contents W.failure_count out.new state.now) }
     ensures same_writer { out.new.writer.ghost_name ≡ out.old.writer.ghost_name }
 {
     let called = partial_name(alloc, name, state)?;
     let source = each.source.items(alloc, state)?;
-    let near = Given {
-        partials: &*given.partials,
-        host: &*given.host,
-        depth: given.depth,
-        positions: given.positions,
+    let near = RunContext {
+        partials: &*context.partials,
+        host: &*context.host,
+        depth: context.depth,
+        positions: context.positions,
     };
     let mut at = 0;
     while at < source.count {
-        let turn = turn_at(&*each, &source, at);
-        let left = run_item(alloc, &near, called.as_str(), bindings, turn, out, state)?;
+        let frame = frame_at(&*each, &source, at);
+        let left = run_item(alloc, &near, called.as_str(), bindings, frame, out, state)?;
         if ends_items(left) {
             return Ok(());
         }
@@ -93,23 +93,23 @@ pub(super) fn run_render_each<'d, W: CountedWrite, H: NamedFilters>(
 #[inline(never)]
 fn run_item<'d, W: CountedWrite, H: NamedFilters>(
     alloc: Global,
-    given: &Given<'d, H>,
+    context: &RunContext<'d, H>,
     name: &str,
     bindings: &[Binding],
-    turn: Turn<'d>,
+    frame: LoopFrame<'d>,
     out: &mut Output<'_, W>,
     state: &State<'_>,
 ) -> Result<Option<Interrupt>>
-    ensures performs { (over : Map Datum) → ((local : Map Datum) → turn_map turn.entry local ≡ over) →
-        Meets (λ i. i) result (render_apart (setting_of H.named given.now) (deeper_meaning (setting_of H.named given.now) given.now.depth) name.now (bindings_view bindings.now) over)
+    ensures performs { (over : Map Datum) → ((local : Map Datum) → frame_map frame.entry local ≡ over) →
+        Meets (λ i. i) result (render_apart (setting_of H.named context.now) (deeper_meaning (setting_of H.named context.now) context.now.depth) name.now (bindings_view bindings.now) over)
         (place_of W.contents W.failure_count out.old state.now)
         (place_of W.contents W.failure_count out.new state.now) }
     ensures same_writer { out.new.writer.ghost_name ≡ out.old.writer.ghost_name }
 {
     let names = pairs_scope(alloc, bindings, state)?;
-    let partial = partial_rendered(alloc, given.partials, name)?;
-    let own = state_at(alloc, names, turn)?;
-    let answer = run_apart(alloc, given, partial, own, out);
+    let partial = partial_rendered(alloc, context.partials, name)?;
+    let own = state_at(alloc, names, frame)?;
+    let answer = run_apart(alloc, context, partial, own, out);
     in_partial(alloc, name, answer)
 }
 
@@ -118,25 +118,25 @@ fn run_item<'d, W: CountedWrite, H: NamedFilters>(
 #[inline(never)]
 fn run_apart<'d, W: CountedWrite, H: NamedFilters>(
     alloc: Global,
-    given: &Given<'d, H>,
+    context: &RunContext<'d, H>,
     partial: &'d Template,
     own: State<'d>,
     out: &mut Output<'_, W>,
 ) -> Result<Option<Interrupt>>
-    requires small { length (list_of partial.now) ≤ most_of given.now.partials.now }
+    requires small { length (list_of partial.now) ≤ most_of context.now.partials.now }
     ensures performs { (names : Map Datum) (e : Environment) → environment_of own.entry ≡ new_environment names →
-        Meets (λ i. i) result (apart names (partial_in H.named given.now (tree_of partial.now)))
+        Meets (λ i. i) result (apart names (partial_in H.named context.now (tree_of partial.now)))
         (place_beside W.contents W.failure_count out.old e)
         (place_beside W.contents W.failure_count out.new e) }
     ensures same_writer { out.new.writer.ghost_name ≡ out.old.writer.ghost_name }
 {
-    if given.depth == 0 {
+    if context.depth == 0 {
         return Err(too_deep(alloc));
     }
-    let inner = Given {
-        partials: given.partials,
-        host: given.host,
-        depth: given.depth - 1,
+    let inner = RunContext {
+        partials: context.partials,
+        host: context.host,
+        depth: context.depth - 1,
         positions: partial.positions(),
     };
     let mut own = own;

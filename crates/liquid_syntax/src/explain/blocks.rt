@@ -1,5 +1,5 @@
 //! Faults of tags' names and of blocks.
-use super::Told;
+use super::Explanation;
 use super::names::meant_tag;
 use super::near::{Near, nearer, nearest};
 use super::outline::{Opener, Otherwise, Outline};
@@ -14,7 +14,7 @@ pub fn unknown_tag(
     source: &str,
     language: &Language,
     outline: &Outline<'_>,
-) -> Result<Told, AllocError> {
+) -> Result<Explanation, AllocError> {
     let piece = placed_piece(alloc, outline.at)?;
     let name = piece.name;
     let message = match outline.open.last() {
@@ -29,7 +29,7 @@ pub fn unknown_tag(
         }
         _ => unknown_name(alloc, language, name)?,
     };
-    Ok(Told::new(outline.at, message))
+    Ok(Explanation::new(outline.at, message))
 }
 
 /// Whether a name is meant as the end of a block.
@@ -45,26 +45,30 @@ fn is_control(name: &str) -> bool {
 }
 
 /// Of a source that ends in a block, at the tag that begins it.
-pub fn missing_end(alloc: Global, fault: Fault, outline: &Outline<'_>) -> Result<Told, AllocError> {
+pub fn missing_end(
+    alloc: Global,
+    fault: Fault,
+    outline: &Outline<'_>,
+) -> Result<Explanation, AllocError> {
     if !outline.at.is_empty() {
         // a verbatim body
         let piece = placed_piece(alloc, outline.at)?;
         let name = excerpt(alloc, piece.name)?;
         let end = fault.wanted;
         let message = format!(in alloc; "`{{% {name} %}}` has no {end}")?;
-        return Ok(Told::new(outline.at, message));
+        return Ok(Explanation::new(outline.at, message));
     }
     match outline.open.last() {
         Some(opener) => {
             let name = excerpt(alloc, opener.name)?;
             let end = end_tag(opener.block);
             let message = format!(in alloc; "`{{% {name} %}}` has no `{{% {end} %}}`")?;
-            Ok(Told::new(opener.from, message))
+            Ok(Explanation::new(opener.from, message))
         }
         None => {
             let end = fault.wanted;
             let message = format!(in alloc; "the source ends where `{{% {end} %}}` is wanted")?;
-            Ok(Told::new("", message))
+            Ok(Explanation::new("", message))
         }
     }
 }

@@ -1,5 +1,5 @@
 //! Faults of filters: of one that isn't known, and of one with more or fewer arguments than it takes.
-use super::Told;
+use super::Explanation;
 use super::names::{lacking_filter, meant_filter};
 use super::near::nearest;
 use crate::language::Language;
@@ -29,16 +29,16 @@ pub fn unknown_filter(
     language: &Language,
     piece: &PlacedPiece<'_>,
     at: &str,
-) -> Result<Told, AllocError> {
+) -> Result<Explanation, AllocError> {
     let calls = calls(alloc, &piece.items)?;
     match unregistered(&language.filters, &calls) {
         Some(call) => {
             let message = unknown_name(alloc, language, call.name)?;
-            Ok(Told::new(call.from, message))
+            Ok(Explanation::new(call.from, message))
         }
         None => {
             let message = String::from_str(alloc, "a filter isn't known")?;
-            Ok(Told::new(at, message))
+            Ok(Explanation::new(at, message))
         }
     }
 }
@@ -68,16 +68,16 @@ pub fn miscounted(
     language: &Language,
     piece: &PlacedPiece<'_>,
     at: &str,
-) -> Result<Told, AllocError> {
+) -> Result<Explanation, AllocError> {
     let calls = calls(alloc, &piece.items)?;
     match refused(&language.filters, &calls) {
         Some((call, filter)) => {
             let message = miscount(alloc, call, filter)?;
-            Ok(Told::new(call.from, message))
+            Ok(Explanation::new(call.from, message))
         }
         None => {
             let message = String::from_str(alloc, "a filter takes another number of arguments")?;
-            Ok(Told::new(at, message))
+            Ok(Explanation::new(at, message))
         }
     }
 }

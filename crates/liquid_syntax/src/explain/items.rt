@@ -1,5 +1,5 @@
 //! Faults of items that aren't allowed where they stand.
-use super::Told;
+use super::Explanation;
 use super::habits::{Spot, advice, site_of};
 use crate::language::Language;
 use liquid_source::{Delimiter, Fault, PlacedItem, PlacedPiece, excerpt};
@@ -11,7 +11,7 @@ pub fn misplaced(
     language: &Language,
     fault: Fault,
     piece: &PlacedPiece<'_>,
-) -> Result<Told, AllocError> {
+) -> Result<Explanation, AllocError> {
     let index = piece.items.len().saturating_sub(fault.items_left);
     let (from, found) = match piece.items.get(index) {
         Some(placed) => (placed.from, placed.spelling),
@@ -33,7 +33,7 @@ pub fn misplaced(
             None => plain(alloc, found, fault.wanted, piece.kind)?,
         },
     };
-    Ok(Told::new(from, message))
+    Ok(Explanation::new(from, message))
 }
 
 /// `found X where W is wanted`

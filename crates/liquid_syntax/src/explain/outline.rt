@@ -1,6 +1,6 @@
 //! Which blocks are open at a place, and which piece holds it.
-use crate::block::{Block, Control, Place, Role, role_of};
-use crate::judge::body_behind;
+use crate::block::{Block, BlockContext, Control, Role, role_of};
+use crate::classify::body_behind;
 use crate::language::{BlockKind, Language};
 use liquid_source::{ParseError, Piece, past_byte, read_body, read_markup, text_before};
 use std::alloc::{AllocError, Global};
@@ -36,11 +36,11 @@ pub struct Outline<'s> {
 
 impl Outline<'_> {
     /// Where the next piece stands.
-    fn place(&self) -> Place {
+    fn context(&self) -> BlockContext {
         match self.open.last() {
-            None => Place::Outside,
-            Some(opener) if is_last(opener) => Place::InLast(opener.block),
-            Some(opener) => Place::InBody(opener.block),
+            None => BlockContext::Outside,
+            Some(opener) if is_last(opener) => BlockContext::InLast(opener.block),
+            Some(opener) => BlockContext::InBody(opener.block),
         }
     }
 }
@@ -102,7 +102,7 @@ fn past<'s>(
         Err(ParseError::Fault(_)) => return Ok(None),
         Err(ParseError::Memory) => return Err(AllocError),
     };
-    let body = body_behind(language, outline.place(), &markup.piece);
+    let body = body_behind(language, outline.context(), &markup.piece);
     match read_body(body, markup, after) {
         Ok((markup, after)) => {
             enter(language, outline, &markup.piece, text)?;
@@ -123,7 +123,7 @@ fn enter<'s>(
     let Piece::Tag(name, items) = piece else {
         return Ok(());
     };
-    match role_of(language, outline.place(), name) {
+    match role_of(language, outline.context(), name) {
         Some(Role::Block(kind)) => {
             if let Some(block) = block_of(kind) {
                 outline.open.push(Opener {

@@ -2,7 +2,7 @@
 use super::habits::{Site, Spot, advice, site_of};
 use super::items::{closer_of, closer_word, plain, spelling_before};
 use super::outline::Outline;
-use super::{Told, rest_of};
+use super::{Explanation, rest_of};
 use liquid_source::{Delimiter, Fault, FaultKind, PlacedPiece, excerpt, location};
 use std::alloc::{AllocError, Global};
 
@@ -16,7 +16,7 @@ pub fn unread(
     fault: Fault,
     outline: &Outline<'_>,
     piece: &PlacedPiece<'_>,
-) -> Result<Told, AllocError> {
+) -> Result<Explanation, AllocError> {
     let from = rest_of(source, fault.left);
     let message = match fault.kind {
         FaultKind::Unclosed => return unclosed(alloc, from, outline.at, piece),
@@ -33,7 +33,7 @@ pub fn unread(
         )?,
         _ => return unreadable(alloc, source, fault, outline, piece),
     };
-    Ok(Told::new(from, message))
+    Ok(Explanation::new(from, message))
 }
 
 /// Of a number with a fraction, and what stands before its text where that needs something.
@@ -67,7 +67,7 @@ fn unclosed(
     from: &str,
     at: &str,
     piece: &PlacedPiece<'_>,
-) -> Result<Told, AllocError> {
+) -> Result<Explanation, AllocError> {
     if let Some(quote) = from.get(..1) {
         let escapes = if escapes_quote(piece) {
             "; `\\` escapes nothing, and a text stands between two `'` or two `\"`"
@@ -77,12 +77,12 @@ fn unclosed(
         let message = format!(in alloc;
             "the text that begins here has no closing `{quote}`{escapes}"
         )?;
-        return Ok(Told::new(from, message));
+        return Ok(Explanation::new(from, message));
     }
     let opener = opener_word(piece.kind);
     let closer = closer_word(piece.kind);
     let message = format!(in alloc; "this `{opener}` has no `{closer}`")?;
-    Ok(Told::new(at, message))
+    Ok(Explanation::new(at, message))
 }
 
 /// Whether a text of the piece ends by a `\` before its quote.
@@ -102,7 +102,7 @@ fn unreadable(
     fault: Fault,
     outline: &Outline<'_>,
     piece: &PlacedPiece<'_>,
-) -> Result<Told, AllocError> {
+) -> Result<Explanation, AllocError> {
     let from = rest_of(source, fault.left);
     let count = piece.items.len();
     let spot = Spot {
@@ -114,7 +114,7 @@ fn unreadable(
         at_item: from.len() >= piece.rest.len(),
     };
     if let Some(told) = in_parentheses(alloc, &spot, piece)? {
-        return Ok(Told::new(piece.rest, told));
+        return Ok(Explanation::new(piece.rest, told));
     }
     let message = match in_value(alloc, source, fault, outline, piece, &spot)? {
         Some(told) => told,
@@ -123,7 +123,7 @@ fn unreadable(
             None => found_there(alloc, source, fault, outline, piece, &spot)?,
         },
     };
-    Ok(Told::new(from, message))
+    Ok(Explanation::new(from, message))
 }
 
 /// What is told of the end of the source, or of the value that the fault is in.

@@ -4,7 +4,7 @@ use Rattle.std.specs.Map.{keys_of}
 use Rattle.liquid_core.specs.Held.{held}
 use Rattle.liquid_model.specs.Texts.{Text}
 use Rattle.liquid_model.specs.View.{pairs_view}
-use Rattle.liquid_folders.specs.Facts.{texts}
+use Rattle.liquid_folders.specs.inside.Facts.{texts}
 use Rattle.liquid_folders.proofs.Gone.{absent, one_more, passed}
 use Rattle.liquid_folders.proofs.facts.names_gone.Goals as goal
 

@@ -2,7 +2,7 @@ use Rattle.std.proofs.Common.{◌≡◌, ◌++◌, Bool, not, is_some, filter}
 use Rattle.std.specs.Map.{keys_of}
 use Rattle.liquid_core.specs.Held.{held}
 use Rattle.liquid_model.specs.Texts.{Text}
-use Rattle.liquid_folders.specs.Facts.{texts}
+use Rattle.liquid_folders.specs.inside.Facts.{texts}
 use Rattle.liquid_folders.proofs.facts.names_gone.Given as goal
 
 -- the names so far and those of what is left are all

@@ -1,7 +1,7 @@
 use Rattle.std.proofs.Common.{◌≡◌, length}
 use Rattle.std.specs.Vec.Iter.{into_iter_items, into_iter_len}
 use Rattle.liquid_sites.specs.SiteViews.{contents_of, language_of}
-use Rattle.liquid_folders.specs.Facts.{texts, all_removed}
+use Rattle.liquid_folders.specs.inside.Facts.{texts, all_removed}
 use Rattle.liquid_folders.proofs.facts.remove_names.Given as goal
 
 -- without the names that are left the data so far is the data at first without all

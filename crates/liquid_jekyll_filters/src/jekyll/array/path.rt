@@ -1,10 +1,10 @@
 //! Paths of properties: a word followed by any of `.word` and `[literal]`.
 ghost use Rattle.std.specs.Prelude.{map, option_map};
-ghost use Rattle.liquid_model.specs.Answer.{Gives};
+ghost use Rattle.liquid_model.specs.Answer.{IsValueOrMemory};
 ghost use Rattle.liquid_model.specs.View.{view};
 ghost use Rattle.liquid_jekyll_filters.specs.Path.{bracketed_at, member_at, path, step_at, with_steps};
 ghost use Rattle.liquid_source.specs.ValueReading.{literal_at};
-ghost use Rattle.liquid_jekyll_filters.specs.PathView.{path_view, step_view};
+ghost use Rattle.liquid_jekyll_filters.specs.inside.PathView.{path_view, step_view};
 
 use liquid_core::{Result, Value};
 use liquid_source::{past_byte, quoted, whole_number, word};
@@ -13,7 +13,7 @@ use std::alloc::Global;
 /// The steps of a path, or none where the text is no path.
 #[tactic(auto, unfolding(crate::specs::Path::path))]
 pub(crate) fn read_path(alloc: Global, text: &str) -> Result<Option<Vec<Value>>>
-    ensures { Gives path_view result (path text.now) }
+    ensures { IsValueOrMemory path_view result (path text.now) }
 {
     let Some((name, rest)) = word(text) else {
         return Ok(None);
@@ -25,7 +25,7 @@ pub(crate) fn read_path(alloc: Global, text: &str) -> Result<Option<Vec<Value>>>
 
 /// The steps, followed by those of the rest.
 fn read_steps(alloc: Global, mut steps: Vec<Value>, text: &str) -> Result<Option<Vec<Value>>>
-    ensures { Gives path_view result (with_steps (map view steps.items) text.now) }
+    ensures { IsValueOrMemory path_view result (with_steps (map view steps.items) text.now) }
 {
     let mut rest = text;
     'steps: while !rest.is_empty() {
@@ -41,7 +41,7 @@ fn read_steps(alloc: Global, mut steps: Vec<Value>, text: &str) -> Result<Option
 /// One step, and what follows it.
 #[tactic(auto, unfolding(crate::specs::Path::step_at))]
 fn read_step(alloc: Global, text: &str) -> Result<Option<(Value, &str)>>
-    ensures { Gives step_view result (step_at text.now) }
+    ensures { IsValueOrMemory step_view result (step_at text.now) }
 {
     if let Some(inside) = past_byte(text, b'[') {
         return read_bracketed(alloc, inside);
@@ -55,7 +55,7 @@ fn read_step(alloc: Global, text: &str) -> Result<Option<(Value, &str)>>
 /// The word behind a `.`.
 #[tactic(auto, unfolding(crate::specs::Path::member_at))]
 fn read_member(alloc: Global, text: &str) -> Result<Option<(Value, &str)>>
-    ensures { Gives step_view result (member_at text.now) }
+    ensures { IsValueOrMemory step_view result (member_at text.now) }
 {
     match word(text) {
         Some((name, rest)) => Ok(Some((Value::Text(String::from_str(alloc, name)?), rest))),
@@ -66,7 +66,7 @@ fn read_member(alloc: Global, text: &str) -> Result<Option<(Value, &str)>>
 /// The literal behind a `[`, up to its `]`.
 #[tactic(auto, unfolding(crate::specs::Path::bracketed_at))]
 fn read_bracketed(alloc: Global, text: &str) -> Result<Option<(Value, &str)>>
-    ensures { Gives step_view result (bracketed_at text.now) }
+    ensures { IsValueOrMemory step_view result (bracketed_at text.now) }
 {
     let Some((value, rest)) = read_literal(alloc, text)? else {
         return Ok(None);
@@ -80,7 +80,7 @@ fn read_bracketed(alloc: Global, text: &str) -> Result<Option<(Value, &str)>>
 /// A text in quotes, or a whole number.
 #[tactic(auto, unfolding(liquid_source::specs::ValueReading::literal_at))]
 fn read_literal(alloc: Global, text: &str) -> Result<Option<(Value, &str)>>
-    ensures { Gives step_view result (literal_at text.now) }
+    ensures { IsValueOrMemory step_view result (literal_at text.now) }
 {
     if let Some((inside, rest)) = quoted(text) {
         return Ok(Some((Value::Text(String::from_str(alloc, inside)?), rest)));

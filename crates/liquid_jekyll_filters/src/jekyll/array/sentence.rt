@@ -1,6 +1,6 @@
 //! The filter that makes a sentence of a list.
 ghost use Rattle.std.specs.Prelude.{◌++◌, map, nat_le, string_bytes};
-ghost use Rattle.liquid_model.specs.Answer.{Answers, Gives};
+ghost use Rattle.liquid_model.specs.Answer.{Answers, IsValueOrMemory};
 ghost use Rattle.liquid_model.specs.Data.{text_of};
 ghost use Rattle.liquid_model.specs.Lists.{list_of};
 ghost use Rattle.liquid_model.specs.View.{view, items_view};
@@ -43,7 +43,7 @@ fn sentence_of(alloc: Global, input: &Value, connector: &str) -> Result<Value>
 }
 
 fn sentence(alloc: Global, items: &[Value], connector: &str) -> Result<String>
-    ensures { Gives (λ s. string_bytes s) result (sentence connector.now (map text_of (list_of (items_view items.now)))) }
+    ensures { IsValueOrMemory (λ s. string_bytes s) result (sentence connector.now (map text_of (list_of (items_view items.now)))) }
 {
     let mut out = String::new(alloc);
     let Some((first, rest)) = items.split_first() else {
@@ -60,7 +60,7 @@ fn sentence(alloc: Global, items: &[Value], connector: &str) -> Result<String>
 
 /// Appends an item that isn't the first.
 fn push_next(out: &mut String, item: &Value, connector: &str, is_last: bool) -> Result<()>
-    ensures { Gives (λ _. string_bytes out.new) result (string_bytes out.old ++ next_text connector.now is_last (text_of (view item.now))) }
+    ensures { IsValueOrMemory (λ _. string_bytes out.new) result (string_bytes out.old ++ next_text connector.now is_last (text_of (view item.now))) }
 {
     out.push_str(", ")?;
     if is_last {

@@ -1,6 +1,6 @@
 //! The filter that sorts by a path.
 ghost use Rattle.std.specs.Prelude.{◌≡◌, ◌==◌, Ok, length, map, nat_le, option_map};
-ghost use Rattle.liquid_model.specs.Answer.{Answers, Gives};
+ghost use Rattle.liquid_model.specs.Answer.{Answers, IsValueOrMemory};
 ghost use Rattle.liquid_model.specs.Cow.{cow_view};
 ghost use Rattle.liquid_model.specs.Data.{text_of};
 ghost use Rattle.liquid_model.specs.Lists.{list_of};
@@ -123,7 +123,7 @@ fn sorted(alloc: Global, items: &[Value], path: &[Value], nils: Nils) -> Result<
 }
 
 fn items_sorted(alloc: Global, items: &[Value], path: &[Value], nils: Nils) -> Result<Vec<Value>>
-    ensures { Gives (λ v. map view v.items) result (sort_by (found_key nils (map view path.now)) (list_of (items_view items.now))) }
+    ensures { IsValueOrMemory (λ v. map view v.items) result (sort_by (found_key nils (map view path.now)) (list_of (items_view items.now))) }
 {
     let keyed = with_keys(alloc, items, path, nils)?;
     items_by_key(alloc, keyed)
@@ -135,7 +135,7 @@ fn with_keys<'a>(
     path: &[Value],
     nils: Nils,
 ) -> Result<Vec<Keyed<'a>>>
-    ensures { Gives (λ v. map keyed_view v.items) result (map (λ d. (found_key nils (map view path.now) d, d)) (list_of (items_view items.now))) }
+    ensures { IsValueOrMemory (λ v. map keyed_view v.items) result (map (λ d. (found_key nils (map view path.now) d, d)) (list_of (items_view items.now))) }
 {
     let mut keyed = Vec::with_capacity(alloc, items.len())?;
     for item in items {
@@ -147,7 +147,7 @@ fn with_keys<'a>(
 
 /// What a value has along a path, or nil.
 fn found<'a>(alloc: Global, item: &'a Value, path: &[Value]) -> Result<ValueCow<'a>>
-    ensures { Gives cow_view result (found (map view path.now) (view item.now)) }
+    ensures { IsValueOrMemory cow_view result (found (map view path.now) (view item.now)) }
 {
     match item.find(alloc, path)? {
         Some(value) => Ok(value),

@@ -2,7 +2,7 @@ use Rattle.std.proofs.Common.{List, drop, ◌≤◌}
 use Rattle.liquid_model.specs.Texts.{Text}
 use Rattle.liquid_model.specs.View.{view}
 use Rattle.liquid_core.specs.States.{environment_of}
-use Rattle.liquid_lib.specs.Choices.{Meant, CaseLeft}
+use Rattle.liquid_lib.specs.inside.Choices.{Meant, CaseLeft}
 use Rattle.liquid_lib.proofs.choice.arm_range.Given as goal
 
 -- what is left of the `case` is what it was, without the parts that were passed

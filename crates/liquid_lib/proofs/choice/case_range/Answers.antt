@@ -5,7 +5,7 @@ use Rattle.liquid_core.specs.ExpressionView.{expression_view}
 use Rattle.liquid_core.specs.States.{environment_of}
 use Rattle.liquid_tree.specs.Names.{node_names}
 use Rattle.liquid_tree.specs.Tree as tree
-use Rattle.liquid_lib.specs.Choices.{CaseLeft}
+use Rattle.liquid_lib.specs.inside.Choices.{CaseLeft}
 use Rattle.liquid_meaning.specs.Meaning.{node_meaning}
 use Rattle.liquid_lib.proofs.CaseChoices.{case_begins, case_le, case_refused}
 use Rattle.liquid_lib.proofs.choice.case_range.Goals as goal

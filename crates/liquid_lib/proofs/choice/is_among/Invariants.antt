@@ -2,7 +2,7 @@ use Rattle.std.proofs.Common.{◌≡◌, drop, map}
 use Rattle.liquid_model.specs.View.{view}
 use Rattle.liquid_core.specs.ExpressionView.{expression_view}
 use Rattle.liquid_core.specs.States.{environment_of}
-use Rattle.liquid_lib.specs.Choices.{equal_among}
+use Rattle.liquid_lib.specs.inside.Choices.{equal_among}
 use Rattle.liquid_lib.proofs.choice.is_among.Given as goal
 
 abbrev pub invariant-loop-value : goal.invariant-loop-value

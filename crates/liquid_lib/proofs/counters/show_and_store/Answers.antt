@@ -2,7 +2,7 @@ use Rattle.std.proofs.Common.{rules, ap, subst, ◌∙◌, Ok, Err, FitsSigned, 
 use Rattle.std.proofs.lemmas.Int.{to_z-of_z}
 use Rattle.std.proofs.lemmas.Result.{err_from_is_err_and}
 use Rattle.std.specs.Fmt.{signed_decimal}
-use Rattle.liquid_model.specs.Answer.{Gives}
+use Rattle.liquid_model.specs.Answer.{IsValueOrMemory}
 use Rattle.liquid_model.specs.Data.{number}
 use Rattle.liquid_core.specs.States.{environment_of, layers_of, with_counter}
 use Rattle.liquid_lib.specs.Performs.{unit, place_of}
@@ -38,10 +38,10 @@ returns-clause-performs g c =
     let fits_stored : FitsSigned w64 c.args.stored = search rules in
     let v = c.in_ok-push_number.field-0 in
     let old = layers_of c.args.state.now in
-    let seen : Gives (λ _. layers_of c.set_index.new.self) c.set_index.result (with_counter (string_bytes c.in_ok-from_str.field-0) (number c.args.stored) old) =
-    subst (λ d. Gives (λ _. layers_of c.set_index.new.self) c.set_index.result (with_counter (string_bytes c.in_ok-from_str.field-0) d old)) (view-Integer (to_z w64 (of_z w64 c.args.stored)) ∙ ap number (to_z-of_z w64 c.args.stored fits_stored)) c.set_index.ensures.set in
-    let stored : Gives (λ _. layers_of c.set_index.new.self) c.set_index.result (with_counter c.args.name.now (number c.args.stored) old) =
-    subst (λ n. Gives (λ _. layers_of c.set_index.new.self) c.set_index.result (with_counter n (number c.args.stored) old)) c.in_ok-from_str.ensures.ok seen in
+    let seen : IsValueOrMemory (λ _. layers_of c.set_index.new.self) c.set_index.result (with_counter (string_bytes c.in_ok-from_str.field-0) (number c.args.stored) old) =
+    subst (λ d. IsValueOrMemory (λ _. layers_of c.set_index.new.self) c.set_index.result (with_counter (string_bytes c.in_ok-from_str.field-0) d old)) (view-Integer (to_z w64 (of_z w64 c.args.stored)) ∙ ap number (to_z-of_z w64 c.args.stored fits_stored)) c.set_index.ensures.set in
+    let stored : IsValueOrMemory (λ _. layers_of c.set_index.new.self) c.set_index.result (with_counter c.args.name.now (number c.args.stored) old) =
+    subst (λ n. IsValueOrMemory (λ _. layers_of c.set_index.new.self) c.set_index.result (with_counter n (number c.args.stored) old)) c.in_ok-from_str.ensures.ok seen in
     bind_met unit unit v c.set_index.result (write (signed_decimal c.args.shown)) (λ a. change (counted_to c.args.name.now c.args.stored)) (place c.args.out.now c.args.state.now) (place c.push_number.new.out c.args.state.now) (place c.push_number.new.out c.set_index.new.self)
     (write_met (Ok v) (signed_decimal c.args.shown) _ _ (environment_of c.args.state.now) (writes_as (Ok v) _ (signed_decimal c.args.shown) _ _ (ap signed_decimal (to_z-of_z w64 c.args.shown fits)) c.in_ok-push_number.ensures.writes))
     (change_met c.set_index.result (counted_to c.args.name.now c.args.stored) _ (environment_of c.args.state.now) _ (gives_merged c.set_index.result _ _ stored))
@@ -50,8 +50,8 @@ pub returns-clause-kept : goal.returns-clause-kept
 returns-clause-kept g c N inside =
     let fits_stored : FitsSigned w64 c.args.stored = search rules in
     let old = layers_of c.args.state.now in
-    let seen : Gives (λ _. layers_of c.set_index.new.self) c.set_index.result (with_counter (string_bytes c.in_ok-from_str.field-0) (number c.args.stored) old) =
-    subst (λ d. Gives (λ _. layers_of c.set_index.new.self) c.set_index.result (with_counter (string_bytes c.in_ok-from_str.field-0) d old)) (view-Integer (to_z w64 (of_z w64 c.args.stored)) ∙ ap number (to_z-of_z w64 c.args.stored fits_stored)) c.set_index.ensures.set in
-    let stored : Gives (λ _. layers_of c.set_index.new.self) c.set_index.result (with_counter c.args.name.now (number c.args.stored) old) =
-    subst (λ n. Gives (λ _. layers_of c.set_index.new.self) c.set_index.result (with_counter n (number c.args.stored) old)) c.in_ok-from_str.ensures.ok seen in
+    let seen : IsValueOrMemory (λ _. layers_of c.set_index.new.self) c.set_index.result (with_counter (string_bytes c.in_ok-from_str.field-0) (number c.args.stored) old) =
+    subst (λ d. IsValueOrMemory (λ _. layers_of c.set_index.new.self) c.set_index.result (with_counter (string_bytes c.in_ok-from_str.field-0) d old)) (view-Integer (to_z w64 (of_z w64 c.args.stored)) ∙ ap number (to_z-of_z w64 c.args.stored fits_stored)) c.set_index.ensures.set in
+    let stored : IsValueOrMemory (λ _. layers_of c.set_index.new.self) c.set_index.result (with_counter c.args.name.now (number c.args.stored) old) =
+    subst (λ n. IsValueOrMemory (λ _. layers_of c.set_index.new.self) c.set_index.result (with_counter n (number c.args.stored) old)) c.in_ok-from_str.ensures.ok seen in
     kept_counter N c.args.name.now (number c.args.stored) old (layers_of c.set_index.new.self) c.set_index.result inside stored c.set_index.ensures.unchanged

@@ -2,7 +2,7 @@ use Rattle.std.proofs.Common.{ap, subst, Ok, Err, Some, string_bytes}
 use Rattle.std.proofs.lemmas.Result.{err_from_is_err_and}
 use Rattle.liquid_core.specs.States.{environment_of, layers_of, merged_layers}
 use Rattle.liquid_core.proofs.States.{changed_set}
-use Rattle.liquid_lib.specs.Changed.{written_unless_last}
+use Rattle.liquid_lib.specs.inside.Changed.{written_unless_last}
 use Rattle.liquid_lib.specs.Performs.{Performs, place_of, unit}
 use Rattle.liquid_lib.proofs.Joined.{bind_met, bind_faulted, change_met, read_met}
 use Rattle.liquid_lib.proofs.Kept.{kept_changed}

@@ -22,5 +22,5 @@ pub returns-clause-performs : goal.returns-clause-performs
 returns-clause-performs g c =
     let place = place_of g.W.CountedWrite.contents g.W.CountedWrite.failure_count in
     let d = cow_view c.in_ok-value.value in
-    by_rule (output_rule _ _ _) (given_met {V = ValueCow} cow_view unit c.in_ok-value.value c.push_value.result (chain_value (answers_with (g.H.NamedFilters.named c.args.given.now.host.now)) (chain_view c.args.chain.now)) (λ x. write (text_of x)) (place c.args.out.now c.args.state.now) (place c.push_value.new.out c.args.state.now)
+    by_rule (output_rule _ _ _) (given_met {V = ValueCow} cow_view unit c.in_ok-value.value c.push_value.result (chain_value (answers_with (g.H.NamedFilters.named c.args.context.now.host.now)) (chain_view c.args.chain.now)) (λ x. write (text_of x)) (place c.args.out.now c.args.state.now) (place c.push_value.new.out c.args.state.now)
     c.in_ok-value.ensures.value (write_met c.push_value.result (text_of d) _ _ (environment_of c.args.state.now) (writes_as c.push_value.result _ (text_of d) _ _ (ap text_of c.as_value.ensures) c.push_value.ensures.writes)))

@@ -3,7 +3,7 @@ use Rattle.std.proofs.lemmas.List.{nil_from_length}
 use Rattle.liquid_core.specs.Held.{held}
 use Rattle.liquid_core.specs.States.{data_held, layers_of, loops_of}
 use Rattle.liquid_syntax.specs.Templates.{forest_of, tree_of}
-use Rattle.liquid_lib.specs.Engine.{nodes_in}
+use Rattle.liquid_lib.specs.inside.Engine.{nodes_in}
 use Rattle.liquid_lib.specs.Sinks.{sink_of}
 use Rattle.liquid_lib.proofs.LentData.{lent_first, lent_last, lent_performs, lent_kept}
 use Rattle.liquid_lib.proofs.PartialRuns.{within_all}
@@ -24,7 +24,7 @@ returns-clause-performs g c =
     let left = (c.run_range-answer.ensures.kept (forest_of c.args.template.now) stood (λ name. true) (within_all _) (within_all _)).globals in
     let last = lent_last (layers_of c.from_parts-lent.result) (layers_of c.run_range-answer.new.state) (layers_of c.from_parts.result) c.into_parts-parts.result.0 c.into_parts-parts-2.result.0 (data_held c.into_parts-parts.result.1) (held c.object.result.now) (data_held c.into_parts-parts-2.result.1)
     c.from_parts-lent.ensures.layers c.object.ensures left (c.into_parts-parts-2.ensures (c.run_range-answer.ensures.loops ∙ c.from_parts-lent.ensures.loops)) c.from_parts.ensures.layers in
-    lent_performs c.run_range-answer.result (nodes_in g.H.NamedFilters.named c.args.given.now (tree_of c.args.template.now)) (sink c.args.out.now) (sink c.run_range-answer.new.out)
+    lent_performs c.run_range-answer.result (nodes_in g.H.NamedFilters.named c.args.context.now (tree_of c.args.template.now)) (sink c.args.out.now) (sink c.run_range-answer.new.out)
     (layers_of c.args.state.now) (layers_of c.from_parts-lent.result) (layers_of c.run_range-answer.new.state) (layers_of c.from_parts.result) first last (c.run_range-answer.ensures.performs (forest_of c.args.template.now) stood)
 
 pub returns-clause-kept : goal.returns-clause-kept

@@ -3,7 +3,7 @@ use Rattle.std.specs.Option.{option_map}
 use Rattle.liquid_core.specs.States.{environment_of}
 use Rattle.liquid_syntax.specs.Templates.{tree_of}
 use Rattle.liquid_meaning.specs.Meaning.{meaning}
-use Rattle.liquid_lib.specs.Engine.{setting_of}
+use Rattle.liquid_lib.specs.inside.Engine.{setting_of}
 use Rattle.liquid_lib.specs.Performs.{unit, writer_sink}
 use Rattle.liquid_lib.specs.Sinks.{sink_of}
 use Rattle.liquid_lib.specs.declared.counted.NoWriter.{NoWriter}
@@ -30,6 +30,6 @@ returns g c =
       failures_in = refl;
       failures_out = refl;
     } in
-    let m = meaning (setting_of g.H.NamedFilters.named c.args.given.now) c.args.given.now.depth (tree_of c.args.template.now) in
+    let m = meaning (setting_of g.H.NamedFilters.named c.args.context.now) c.args.context.now.depth (tree_of c.args.template.now) in
     page_met text m s (sink c.open-outer.new.self) (sink c.run_template-answer.new.out) s (environment_of c.args.state.now) (environment_of c.run_template-answer.new.state) around never_failed
     c.page_of_end.result c.run_template-answer.result c.run_template-answer.ensures.performs c.page_of_end.ensures.page c.page_of_end.ensures.ran c.page_of_end.ensures.memory

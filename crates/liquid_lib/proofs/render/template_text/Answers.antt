@@ -4,7 +4,7 @@ use Rattle.std.proofs.lemmas.Result.{err_from_is_err_and}
 use Rattle.liquid_core.specs.States.{environment_of}
 use Rattle.liquid_tree.specs.Names.{nodes_names, run_names}
 use Rattle.liquid_syntax.specs.Templates.{partials_of, tree_of}
-use Rattle.liquid_lib.specs.Engine.{setting_of}
+use Rattle.liquid_lib.specs.inside.Engine.{setting_of}
 use Rattle.liquid_meaning.specs.Isolation.{names_of_run}
 use Rattle.liquid_meaning.specs.Meaning.{meaning}
 use Rattle.liquid_lib.specs.Performs.{unit, writer_sink}
@@ -38,7 +38,7 @@ returns-in_err-answer-clause-performs g c =
     } in
     let p = err_from_is_err_and c.from_residual.result c.from_residual.ensures.1 in
     let ran = c.in_err-answer.ensures.performs in
-    rw (p.1, p.2) (buffered_faulted {U = String Global} unit (λ t. string_bytes t) _ (meaning (setting_of g.H.NamedFilters.named c.args.given.now) c.args.given.now.depth (tree_of c.args.template.now)) s (sink c.open-outer.new.self) (sink c.run_template-answer.new.out) s (string_bytes c.close-text.result)
+    rw (p.1, p.2) (buffered_faulted {U = String Global} unit (λ t. string_bytes t) _ (meaning (setting_of g.H.NamedFilters.named c.args.context.now) c.args.context.now.depth (tree_of c.args.template.now)) s (sink c.open-outer.new.self) (sink c.run_template-answer.new.out) s (string_bytes c.close-text.result)
     (environment_of c.args.state.now) (environment_of c.run_template-answer.new.state) around ran)
 
 pub returns-clause-performs : goal.returns-clause-performs
@@ -55,7 +55,7 @@ returns-clause-performs g c =
       failures_in = refl;
       failures_out = refl;
     } in
-    let m = meaning (setting_of g.H.NamedFilters.named c.args.given.now) c.args.given.now.depth (tree_of c.args.template.now) in
+    let m = meaning (setting_of g.H.NamedFilters.named c.args.context.now) c.args.context.now.depth (tree_of c.args.template.now) in
     let ran = c.in_ok-answer.ensures.performs in
     text_met {V = String Global} (λ t. string_bytes t) c.close-text.result (buffered m) _ _ (buffered_met unit _ m s (sink c.open-outer.new.self) (sink c.run_template-answer.new.out) s (string_bytes c.close-text.result)
     (environment_of c.args.state.now) (environment_of c.run_template-answer.new.state) around ran)
@@ -63,15 +63,15 @@ returns-clause-performs g c =
 pub returns-in_err-answer-clause-kept : goal.returns-in_err-answer-clause-kept
 returns-in_err-answer-clause-kept g c =
     let nodes = tree_of c.args.template.now in
-    let inside = within_mentioned (run_names (partials_of c.args.given.now.partials.now) nodes) in
-    c.run_template-answer.ensures.kept (names_of_run (setting_of g.H.NamedFilters.named c.args.given.now) nodes)
+    let inside = within_mentioned (run_names (partials_of c.args.context.now.partials.now) nodes) in
+    c.run_template-answer.ensures.kept (names_of_run (setting_of g.H.NamedFilters.named c.args.context.now) nodes)
     (left _ (nodes_names nodes) _ inside) (right _ (nodes_names nodes) _ inside)
 
 pub returns-clause-kept : goal.returns-clause-kept
 returns-clause-kept g c =
     let nodes = tree_of c.args.template.now in
-    let inside = within_mentioned (run_names (partials_of c.args.given.now.partials.now) nodes) in
-    c.run_template-answer.ensures.kept (names_of_run (setting_of g.H.NamedFilters.named c.args.given.now) nodes)
+    let inside = within_mentioned (run_names (partials_of c.args.context.now.partials.now) nodes) in
+    c.run_template-answer.ensures.kept (names_of_run (setting_of g.H.NamedFilters.named c.args.context.now) nodes)
     (left _ (nodes_names nodes) _ inside) (right _ (nodes_names nodes) _ inside)
 
 pub returns-in_err-answer-clause-alone : goal.returns-in_err-answer-clause-alone

@@ -1,7 +1,7 @@
 use Rattle.std.proofs.Common.{rules}
 use Rattle.liquid_tree.specs.Names.{nodes_names, run_names}
 use Rattle.liquid_syntax.specs.Templates.{partials_of, tree_of}
-use Rattle.liquid_lib.specs.Engine.{setting_of}
+use Rattle.liquid_lib.specs.inside.Engine.{setting_of}
 use Rattle.liquid_meaning.specs.Isolation.{names_of_run}
 use Rattle.liquid_meaning.specs.Meaning.{meaning}
 use Rattle.liquid_lib.specs.Performs.{unit}
@@ -18,8 +18,8 @@ returns-clause-performs g c =
 pub returns-clause-kept : goal.returns-clause-kept
 returns-clause-kept g c =
     let nodes = tree_of c.args.template.now in
-    let inside = within_mentioned (run_names (partials_of c.args.given.now.partials.now) nodes) in
-    c.run_template-answer.ensures.kept (names_of_run (setting_of g.H.NamedFilters.named c.args.given.now) nodes)
+    let inside = within_mentioned (run_names (partials_of c.args.context.now.partials.now) nodes) in
+    c.run_template-answer.ensures.kept (names_of_run (setting_of g.H.NamedFilters.named c.args.context.now) nodes)
     (left _ (nodes_names nodes) _ inside) (right _ (nodes_names nodes) _ inside)
 
 pub returns-clause-alone : goal.returns-clause-alone

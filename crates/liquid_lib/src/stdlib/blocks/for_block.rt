@@ -1,6 +1,6 @@
 //! What the body of a `for` knows of its loop.
 ghost use Rattle.std.specs.Prelude.{◌≡◌, ◌<◌, ◌≤◌, ◌+◌, ◌-◌, ◌==◌, codes};
-ghost use Rattle.liquid_model.specs.Answer.{Gives};
+ghost use Rattle.liquid_model.specs.Answer.{IsValueOrMemory};
 ghost use Rattle.liquid_model.specs.Data.{nil, object, put, truth};
 ghost use Rattle.liquid_model.specs.View.{view, pairs_view};
 ghost use Rattle.liquid_core.specs.Loops.{count, forloop_object};
@@ -50,7 +50,7 @@ impl<'p> ForloopObject<'p> {
 
     /// The map that a template sees. It takes memory, and nothing else can be refused.
     pub fn to_object(&self, alloc: Global) -> Result<Object>
-        ensures { Gives (λ o. object (pairs_view o.entries)) result (forloop_object self.now.index0 self.now.length (parent_seen self.now.parentloop)) }
+        ensures { IsValueOrMemory (λ o. object (pairs_view o.entries)) result (forloop_object self.now.index0 self.now.length (parent_seen self.now.parentloop)) }
     {
         let mut object: Object = BTreeMap::new(alloc);
         put_number(alloc, &mut object, "length", self.length)?;
@@ -63,7 +63,7 @@ impl<'p> ForloopObject<'p> {
 
     /// The place of the item, counted from both ends, from 0 and from 1.
     fn put_places(&self, alloc: Global, object: &mut Object) -> Result<()>
-        ensures { Gives (λ _. pairs_view object.new.entries) result
+        ensures { IsValueOrMemory (λ _. pairs_view object.new.entries) result
             (put (codes "rindex") (count (self.now.length - self.now.index0)) (put (codes "rindex0") (count (self.now.length - self.now.index0 - 1))
             (put (codes "index") (count (self.now.index0 + 1)) (put (codes "index0") (count self.now.index0) (pairs_view object.old.entries))))) }
     {
@@ -76,7 +76,7 @@ impl<'p> ForloopObject<'p> {
 
     /// Whether the item is the first, and the last.
     fn put_ends(&self, alloc: Global, object: &mut Object) -> Result<()>
-        ensures { Gives (λ _. pairs_view object.new.entries) result
+        ensures { IsValueOrMemory (λ _. pairs_view object.new.entries) result
             (put (codes "last") (truth (self.now.index0 + 1 == self.now.length)) (put (codes "first") (truth (self.now.index0 == 0)) (pairs_view object.old.entries))) }
     {
         let first = Value::Bool(self.index0 == 0);
@@ -87,7 +87,7 @@ impl<'p> ForloopObject<'p> {
 
     /// A copy of the parent, or nil.
     fn parent(&self, alloc: Global) -> Result<Value>
-        ensures { Gives view result (parent_seen self.now.parentloop) }
+        ensures { IsValueOrMemory view result (parent_seen self.now.parentloop) }
     {
         match self.parentloop {
             Some(parent) => parent.copy(alloc),
@@ -98,13 +98,13 @@ impl<'p> ForloopObject<'p> {
 
 fn put_number(alloc: Global, object: &mut Object, name: &str, number: usize) -> Result<()>
     requires { number ≤ 9223372036854775807 }
-    ensures { Gives (λ _. pairs_view object.new.entries) result (put name.now (count number) (pairs_view object.old.entries)) }
+    ensures { IsValueOrMemory (λ _. pairs_view object.new.entries) result (put name.now (count number) (pairs_view object.old.entries)) }
 {
     put(alloc, object, name, Value::Integer(number as i64))
 }
 
 fn put(alloc: Global, object: &mut Object, name: &str, value: Value) -> Result<()>
-    ensures { Gives (λ _. pairs_view object.new.entries) result (put name.now (view value) (pairs_view object.old.entries)) }
+    ensures { IsValueOrMemory (λ _. pairs_view object.new.entries) result (put name.now (view value) (pairs_view object.old.entries)) }
 {
     store(object, String::from_str(alloc, name)?, value)
 }

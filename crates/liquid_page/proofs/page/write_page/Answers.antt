@@ -14,10 +14,10 @@ returns-clause-begun g c =
     let contents = g.W.Write.contents in
     let texts : Texts = record { template = c.args.template.now; facts = c.args.«data».now; partials = sources_of c.args.partials.now } in
     let start = subst (λ b. Keeps (contents c.args.writer) (behind contents b)) (sym c.new-counted.ensures.writer) c.in-Ok.ensures.held in
-    let handed_on : Keeps (behind contents c.into_inner-buffered.result) (behind contents c.match-answer.buffered) =
+    let flushed : Keeps (behind contents c.into_inner-buffered.result) (behind contents c.match-answer.buffered) =
     elim c.match-answer.branch [
-      | in-Ok-answer w ↦ subst (λ b. Keeps (behind contents c.into_inner-buffered.result) (behind contents b)) (sym w.buffered-is) w.flush-handed_on.ensures.bytes
-      | in-Err-answer w ↦ subst (λ b. Keeps (behind contents c.into_inner-buffered.result) (behind contents b)) (sym w.buffered-is) w.hand_on-handed_on.ensures.bytes
+      | in-Ok-answer w ↦ subst (λ b. Keeps (behind contents c.into_inner-buffered.result) (behind contents b)) (sym w.buffered-is) w.flush-flushed.ensures.bytes
+      | in-Err-answer w ↦ subst (λ b. Keeps (behind contents c.into_inner-buffered.result) (behind contents b)) (sym w.buffered-is) w.flush_buffer-flushed.ensures.bytes
     ] in
-    let kept = subst (λ b. Keeps (behind contents b) (behind contents c.match-answer.buffered)) c.into_inner-buffered.ensures handed_on in
+    let kept = subst (λ b. Keeps (behind contents b) (behind contents c.match-answer.buffered)) c.into_inner-buffered.ensures flushed in
     subst (λ w. IsBegun texts (contents c.args.writer) (contents w)) (sym c.into_inner.ensures) (begun_behind texts _ _ _ _ _ c.match-answer.buffered.held.items start c.run-answer.ensures.page kept)

@@ -13,5 +13,5 @@ returns-in_err-read-clause-page g c =
 pub returns-clause-page : goal.returns-clause-page
 returns-clause-page g c =
     let texts : Texts = record { template = c.args.template.now; facts = c.args.«data».now; partials = sources_of c.args.partials.now } in
-    page_shown c.in_ok-language.language texts (read_view c.in_ok-read.read) c.show.result (g.W.CountedWrite.contents c.args.writer.now) (g.W.CountedWrite.contents c.show.new.writer) c.in_ok-language.ensures.standard c.in_ok-read.ensures
-    c.show.ensures.whole c.show.ensures.end c.show.ensures.begun
+    page_shown c.in_ok-language.language texts (read_view c.in_ok-read.read) c.render_texts.result (g.W.CountedWrite.contents c.args.writer.now) (g.W.CountedWrite.contents c.render_texts.new.writer) c.in_ok-language.ensures.standard c.in_ok-read.ensures
+    c.render_texts.ensures.whole c.render_texts.ensures.end c.render_texts.ensures.begun

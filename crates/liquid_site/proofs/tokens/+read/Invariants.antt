@@ -2,7 +2,7 @@ use Rattle.std.proofs.Common.{◌≡◌, ℕ, ◌+◌, ◌*◌, ◌≤◌, lengt
 use Rattle.json.specs.Json.{parse_map}
 use Rattle.liquid_model.specs.Data.{no_pairs}
 use Rattle.liquid_model.specs.View.{pairs_view}
-use Rattle.liquid_site.specs.Tokens.{items_at, pairs_at}
+use Rattle.liquid_site.specs.inside.Tokens.{items_at, pairs_at}
 use Rattle.liquid_site.proofs.After.{after}
 use Rattle.liquid_site.proofs.tokens.+read.Given as goal
 

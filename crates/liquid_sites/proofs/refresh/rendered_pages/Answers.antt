@@ -7,7 +7,7 @@ use Rattle.liquid_syntax.specs.Templates.{tree_of, partials_of}
 use Rattle.liquid_syntax.specs.declared.template.Template.{Template}
 use Rattle.liquid_lib.specs.Pages.{page_over}
 use Rattle.liquid_sites.specs.Contents.{all_pages}
-use Rattle.liquid_sites.specs.Fresh.{wanted, wanted_of}
+use Rattle.liquid_sites.specs.inside.Fresh.{wanted, wanted_of}
 use Rattle.liquid_lib.specs.Pages.{page_view}
 use Rattle.liquid_sites.specs.Parts.{trees_in, listed_pages}
 use Rattle.liquid_sites.proofs.Placing.{taken, or_true}
@@ -16,8 +16,8 @@ use Rattle.liquid_sites.proofs.refresh.rendered_pages.Goals.{then-all-via-then-a
 
 pub loop-page-preserved-in-loop-page : goal.loop-page-preserved-in-loop-page
 loop-page-preserved-in-loop-page c =
-    let given = c.args.given.now in
-    let show = page_over given.depth (partials_of given.partials.now) (held given.facts.now) in
+    let context = c.args.context.now in
+    let show = page_over context.depth (partials_of context.partials.now) (held context.facts.now) in
     let test = wanted c.args.all c.args.name.now in
     let t = tree_of c.in-Some.template.now in
     let e : String Global × Template = (c.in-Some.page.now, c.in-Some.template.now) in

@@ -4,13 +4,13 @@ use Rattle.liquid_syntax.specs.Entries.{seen}
 use Rattle.liquid_syntax.specs.Templates.{tree_of, partials_of}
 use Rattle.liquid_lib.specs.Pages.{page_over}
 use Rattle.liquid_sites.specs.Contents.{all_pages}
-use Rattle.liquid_sites.specs.Fresh.{wanted, wanted_of}
+use Rattle.liquid_sites.specs.inside.Fresh.{wanted, wanted_of}
 use Rattle.liquid_sites.specs.Parts.{trees_in, listed_pages}
 use Rattle.liquid_sites.proofs.refresh.rendered_pages.Given as goal
 
 -- the pages so far and those of what is left are all
 abbrev pub invariant-loop-page : goal.invariant-loop-page
 invariant-loop-page l =
-    let show = page_over l.given.depth (partials_of l.given.partials.now) (held l.given.facts.now) in
+    let show = page_over l.context.depth (partials_of l.context.partials.now) (held l.context.facts.now) in
     let test = wanted l.all l.name in
     listed_pages l.pages.items ++ all_pages show (wanted_of test (seen tree_of l.page-iterator)) ≡ all_pages show (wanted_of test (trees_in l.templates))

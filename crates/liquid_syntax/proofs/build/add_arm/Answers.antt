@@ -1,6 +1,6 @@
 use Rattle.std.proofs.Common.{sym, subst, refl}
 use Rattle.liquid_core.specs.ExpressionView.{expression_view}
-use Rattle.liquid_syntax.specs.Building.{IsAdded}
+use Rattle.liquid_syntax.specs.inside.Building.{IsAdded}
 use Rattle.liquid_syntax.specs.Flats.{arm_ends, arm_values, case_flat, flat_of, values_in}
 use Rattle.liquid_syntax.specs.declared.node.Arm.{Arm}
 use Rattle.liquid_syntax.specs.declared.node.Node.{Node}

@@ -1,6 +1,6 @@
 use Rattle.liquid_core.specs.ExpressionView.{expression_view}
 use Rattle.std.proofs.Common.{◌∙◌, sym, ap}
-use Rattle.liquid_syntax.specs.Building.{last_ended}
+use Rattle.liquid_syntax.specs.inside.Building.{last_ended}
 use Rattle.liquid_syntax.specs.Flats.{arm_ends, arm_values, flat_of}
 use Rattle.liquid_syntax.specs.declared.node.Node.{Node}
 use Rattle.liquid_syntax.proofs.Arms.{case_last}

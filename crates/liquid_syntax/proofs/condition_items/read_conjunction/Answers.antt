@@ -1,6 +1,6 @@
 use Rattle.std.proofs.Common.{[], ◌∷◌, ◌++◌, sym, ap, ◌∙◌, arith, map}
 use Rattle.std.proofs.lemmas.List.{map-append}
-use Rattle.liquid_syntax.specs.ConditionAnswers.{before_alternatives}
+use Rattle.liquid_syntax.specs.inside.ConditionAnswers.{before_alternatives}
 use Rattle.liquid_syntax.specs.ConditionReading.{condition_of, alternatives_of}
 use Rattle.liquid_tree.specs.ConditionView.{atom_view}
 use Rattle.liquid_source.specs.Tokens.{tokens_view}

@@ -1,7 +1,7 @@
 use Rattle.std.proofs.Common.{length, ◌≡◌, ◌≤◌, ℕ, List}
 use denote.Shadow.{shadow}
 use denote.Text.{Utf8}
-use Rattle.liquid_syntax.specs.Building.{IsBuilding}
+use Rattle.liquid_syntax.specs.inside.Building.{IsBuilding}
 use Rattle.liquid_syntax.specs.OpenBlocks.{Level}
 use Rattle.liquid_syntax.proofs.TemplateReading.{body_of, piece_step, template_at}
 use Rattle.liquid_source.specs.SourceReading.{source_at}
@@ -12,7 +12,7 @@ use Rattle.liquid_syntax.proofs.parser.read_template.Given as goal
 abbrev pub invariant-pieces : goal.invariant-pieces
 invariant-pieces l =
     (n : ℕ) × (ls : List Level) × (cur : Nodes) × (length l.rest ≤ n) × IsBuilding l.builder ls cur
-    × (template_at l.language l.initial.rest ≡ tree_in (source_at (body_of l.language) (piece_step l.language) n l.front (ls, cur) l.rest)) × shadow (Utf8 l.rest)
+    × (template_at l.language l.initial.rest ≡ tree_in (source_at (body_of l.language) (piece_step l.language) n l.strip_next (ls, cur) l.rest)) × shadow (Utf8 l.rest)
 
 abbrev pub decreases-pieces : goal.decreases-pieces
 decreases-pieces l = length l.rest

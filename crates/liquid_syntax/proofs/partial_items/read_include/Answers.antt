@@ -7,8 +7,8 @@ use Rattle.liquid_syntax.proofs.ItemLaws.{nothing_seen}
 use Rattle.liquid_syntax.proofs.PartialTurns.{include_stuck, unread}
 use Rattle.liquid_syntax.proofs.partial_items.read_include.Goals as goal
 
-pub returns-in_default-next_pair-clause-label : goal.returns-in_default-next_pair-clause-label
-returns-in_default-next_pair-clause-label c =
+pub returns-in_default-next_pair-clause-statement : goal.returns-in_default-next_pair-clause-statement
+returns-in_default-next_pair-clause-statement c =
     let e = c.expected-in_default-next_pair.result in
     let left = c.next_value.new.items.items in
     unread include_node _ e (faulted e _ (include_stuck (tokens_view c.args.items.items) (tokens_view left) (expression_view c.in-Some.name) c.in-Some.ensures.value

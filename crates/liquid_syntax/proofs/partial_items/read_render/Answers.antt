@@ -5,15 +5,15 @@ use Rattle.liquid_source.specs.Tokens.{Token, past_word, tokens_view}
 use Rattle.liquid_tree.specs.Tree.{Bindings}
 use Rattle.liquid_syntax.specs.Bound.{pairs_of}
 use Rattle.liquid_syntax.specs.Flats.{bindings_view}
-use Rattle.liquid_syntax.specs.Judging.{leaf_or}
+use Rattle.liquid_syntax.specs.Classification.{leaf_or}
 use Rattle.liquid_syntax.specs.PartialItems.{Rendered, render_node, rendered_once}
 use Rattle.liquid_syntax.specs.declared.pair_items.PairStyle.TheVariants.{Render}
 use Rattle.liquid_syntax.proofs.PartialTurns.{pairs_alone}
 use Rattle.liquid_syntax.proofs.RenderTurns.{render_once}
 use Rattle.liquid_syntax.proofs.partial_items.read_render.Goals as goal
 
-pub returns-clause-label : goal.returns-clause-label
-returns-clause-label c =
+pub returns-clause-statement : goal.returns-clause-statement
+returns-clause-statement c =
     let x = expression_view c.in-Some.name in
     let left = tokens_view c.next_value.new.items.items in
     let last = tokens_view c.skip_word-2.new.items.items in

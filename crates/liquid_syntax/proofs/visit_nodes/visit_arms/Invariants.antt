@@ -1,6 +1,6 @@
 use Rattle.std.proofs.Common.{drop}
 use Rattle.liquid_syntax.specs.Flats.{arm_values}
-use Rattle.liquid_syntax.specs.Mentions.{arms_names}
+use Rattle.liquid_syntax.specs.inside.Mentions.{arms_names}
 use Rattle.liquid_syntax.proofs.visit_nodes.visit_arms.Given as goal
 
 -- what telling the rest does is what telling all of them does

@@ -1,5 +1,5 @@
 use Rattle.std.proofs.Common.{drop}
-use Rattle.liquid_syntax.specs.Mentions.{list_names}
+use Rattle.liquid_syntax.specs.inside.Mentions.{list_names}
 use Rattle.liquid_syntax.proofs.visit_nodes.visit_nodes.Given as goal
 
 -- what telling the rest does is what telling all of them does

@@ -1,6 +1,6 @@
 //! The filter that takes a part of a list or a text.
 ghost use Rattle.std.specs.Prelude.{◌&&◌, ◌≡◌, ◌≤◌, IfSome, length, map, nat_le, IsTrue};
-ghost use Rattle.liquid_model.specs.Answer.{Gives, Answers};
+ghost use Rattle.liquid_model.specs.Answer.{IsValueOrMemory, Answers};
 ghost use Rattle.liquid_model.specs.View.{view};
 ghost use Rattle.liquid_filter_base.specs.Stands.{Stands};
 ghost use Rattle.liquid_text_filters.specs.Places.{start};
@@ -55,7 +55,7 @@ fn slice_answer(alloc: Global, input: &Value, args: &[Value]) -> Result<Value>
 }
 
 fn part(alloc: Global, input: &Value, offset: i64, count: usize) -> Result<Value>
-    ensures { Gives view result (part offset count (view input.now)) }
+    ensures { IsValueOrMemory view result (part offset count (view input.now)) }
 {
     match input {
         Value::Array(items) => Ok(Value::Array(items_part(alloc, items, offset, count)?)),
@@ -80,7 +80,7 @@ fn start(places: usize, offset: i64) -> Option<usize>
 }
 
 fn items_part(alloc: Global, items: &[Value], offset: i64, count: usize) -> Result<Vec<Value>>
-    ensures { Gives (λ v. map view v.items) result (items_part offset count (map view items.now)) }
+    ensures { IsValueOrMemory (λ v. map view v.items) result (items_part offset count (map view items.now)) }
 {
     match start(items.len(), offset) {
         Some(from) => {
@@ -92,7 +92,7 @@ fn items_part(alloc: Global, items: &[Value], offset: i64, count: usize) -> Resu
 }
 
 fn copied(alloc: Global, items: &[Value]) -> Result<Vec<Value>>
-    ensures { Gives (λ v. map view v.items) result (map view items.now) }
+    ensures { IsValueOrMemory (λ v. map view v.items) result (map view items.now) }
 {
     let mut copies = Vec::with_capacity(alloc, items.len())?;
     for item in items {

@@ -1,8 +1,8 @@
 //! Characters of a text that give way to texts.
 ghost use Rattle.std.specs.Prelude.{◌++◌, string_bytes};
 ghost use Rattle.std.specs.List.{flat_map};
-ghost use Rattle.liquid_model.specs.Answer.{Gives};
-ghost use Rattle.liquid_web_filters.specs.Replaced.{AreAscii, replaced_by};
+ghost use Rattle.liquid_model.specs.Answer.{IsValueOrMemory};
+ghost use Rattle.liquid_web_filters.specs.inside.Replaced.{AreAscii, replaced_by};
 
 use liquid_core::Result;
 
@@ -10,7 +10,7 @@ use liquid_core::Result;
 /// each in what stands between those before it, so what stays is copied in runs.
 pub fn push_replaced(out: &mut String, text: &str, replacements: &[(char, &str)]) -> Result<()>
     requires ascii { AreAscii replacements.now }
-    ensures { Gives (λ _. string_bytes out.new) result (string_bytes out.old ++ flat_map (replaced_by replacements.now) text.now) }
+    ensures { IsValueOrMemory (λ _. string_bytes out.new) result (string_bytes out.old ++ flat_map (replaced_by replacements.now) text.now) }
 {
     let Some(((wanted, instead), others)) = replacements.split_first() else {
         return Ok(out.push_str(text)?);

@@ -1,6 +1,6 @@
 //! Filters over URLs.
 ghost use Rattle.std.specs.Prelude.{◌≡◌, ◌==◌, if◌then◌else◌, map, nat_eq, string_bytes, IsTrue, length};
-ghost use Rattle.liquid_model.specs.Answer.{Answers, Gives};
+ghost use Rattle.liquid_model.specs.Answer.{Answers, IsValueOrMemory};
 ghost use Rattle.liquid_web_filters.specs.Urls.{plus_to_space, text_of_bytes, unescaped, url_decode_answer, url_encode_answer, url_escaped};
 ghost use Rattle.liquid_model.specs.View.{view};
 ghost use Rattle.liquid_filter_base.specs.Stands.{Stands};
@@ -88,7 +88,7 @@ fn url_decode_answer(alloc: Global, input: &Value, _args: &[Value]) -> Result<Va
 }
 
 fn escaped(alloc: Global, text: &str) -> Result<String>
-    ensures { Gives (λ s. string_bytes s) result (url_escaped text.now) }
+    ensures { IsValueOrMemory (λ s. string_bytes s) result (url_escaped text.now) }
 {
     let mut out = String::new(alloc);
     percent_encode(text.as_bytes(), ESCAPED).append_to(&mut out)?;
@@ -103,7 +103,7 @@ fn plus_as_space(byte: u8) -> u8
 }
 
 fn spaced(alloc: Global, text: &str) -> Result<Vec<u8>>
-    ensures { Gives (λ v. v.items) result (plus_to_space text.now) }
+    ensures { IsValueOrMemory (λ v. v.items) result (plus_to_space text.now) }
 {
     let mut bytes = Vec::with_capacity(alloc, text.len())?;
     for byte in text.as_bytes() {

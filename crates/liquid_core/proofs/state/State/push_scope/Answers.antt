@@ -1,7 +1,7 @@
 use Rattle.std.proofs.Common.{refl, rules, ap, ◌∙◌}
 use Rattle.std.proofs.lemmas.List.{nil_from_length}
 use Rattle.liquid_core.specs.States.{layers_of}
-use Rattle.liquid_core.specs.declared.turn.Scope.TheVariants.{Names}
+use Rattle.liquid_core.specs.declared.frame.Scope.TheVariants.{Names}
 use Rattle.liquid_core.proofs.States.{pushed_scope, pushed_turn}
 use Rattle.liquid_core.proofs.state.State.push_scope.Goals.{then-is_empty+in_ok-push, else-is_empty+in_ok-push-2}
 use Rattle.liquid_core.proofs.state.State.push_scope.Goals as goal

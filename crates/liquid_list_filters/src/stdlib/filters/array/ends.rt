@@ -1,7 +1,7 @@
 //! The filters that take an end of a list or a text.
 ghost use Rattle.std.specs.Prelude.{◌≡◌, ◌++◌, ◌∷◌, [], MatchOption, map, nat_eq, option_map, string_bytes, IsTrue, length};
 ghost use Rattle.std.specs.Str.{chars};
-ghost use Rattle.liquid_model.specs.Answer.{Answers, Gives};
+ghost use Rattle.liquid_model.specs.Answer.{Answers, IsValueOrMemory};
 ghost use Rattle.liquid_model.specs.View.{view, items_view};
 ghost use Rattle.liquid_filter_base.specs.Stands.{Stands};
 ghost use Rattle.liquid_list_filters.specs.Laws.{OfEnds};
@@ -81,19 +81,19 @@ fn last_answer(alloc: Global, input: &Value, _args: &[Value]) -> Result<Value>
 }
 
 fn first_item(alloc: Global, items: &[Value]) -> Result<Value>
-    ensures { Gives view result (first_item (items_view items.now)) }
+    ensures { IsValueOrMemory view result (first_item (items_view items.now)) }
 {
     item_or_nil(alloc, items.first())
 }
 
 fn last_item(alloc: Global, items: &[Value]) -> Result<Value>
-    ensures { Gives view result (last_item (items_view items.now)) }
+    ensures { IsValueOrMemory view result (last_item (items_view items.now)) }
 {
     item_or_nil(alloc, items.last())
 }
 
 fn item_or_nil(alloc: Global, item: Option<&Value>) -> Result<Value>
-    ensures { Gives view result (or_nil (option_map (λ v. view v.now) item.entry)) }
+    ensures { IsValueOrMemory view result (or_nil (option_map (λ v. view v.now) item.entry)) }
 {
     match item {
         Some(value) => value.copy(alloc),
@@ -102,13 +102,13 @@ fn item_or_nil(alloc: Global, item: Option<&Value>) -> Result<Value>
 }
 
 fn first_character(alloc: Global, text: &str) -> Result<String>
-    ensures { Gives (λ s. string_bytes s) result (first_character text.now) }
+    ensures { IsValueOrMemory (λ s. string_bytes s) result (first_character text.now) }
 {
     character(alloc, text.chars().next())
 }
 
 fn last_character(alloc: Global, text: &str) -> Result<String>
-    ensures { Gives (λ s. string_bytes s) result (last_character text.now) }
+    ensures { IsValueOrMemory (λ s. string_bytes s) result (last_character text.now) }
 {
     match split_last(text) {
         Some((_before, letter)) => character(alloc, Some(letter)),
@@ -128,7 +128,7 @@ fn split_last(text: &str) -> Option<(&str, char)>
 }
 
 fn character(alloc: Global, letter: Option<char>) -> Result<String>
-    ensures { Gives (λ s. string_bytes s) result (character letter) }
+    ensures { IsValueOrMemory (λ s. string_bytes s) result (character letter) }
 {
     let mut text = String::new(alloc);
     match letter {

@@ -1,6 +1,6 @@
 //! The filter that joins a list into a text.
 ghost use Rattle.std.specs.Prelude.{map, nat_le, string_bytes, IsTrue, length};
-ghost use Rattle.liquid_model.specs.Answer.{Answers, Gives};
+ghost use Rattle.liquid_model.specs.Answer.{Answers, IsValueOrMemory};
 ghost use Rattle.liquid_model.specs.Data.{text_of};
 ghost use Rattle.liquid_model.specs.Lists.{list_of};
 ghost use Rattle.liquid_model.specs.View.{view, items_view};
@@ -57,7 +57,7 @@ fn joined_list(alloc: Global, input: &Value, separator: &str) -> Result<Value>
 }
 
 fn joined(alloc: Global, items: &[Value], separator: &str) -> Result<String>
-    ensures { Gives (λ s. string_bytes s) result (joined separator.now (map text_of (list_of (items_view items.now)))) }
+    ensures { IsValueOrMemory (λ s. string_bytes s) result (joined separator.now (map text_of (list_of (items_view items.now)))) }
 {
     let mut out = String::new(alloc);
     match items.split_first() {

@@ -1,6 +1,6 @@
 //! The filters that keep some of a list's items.
 ghost use Rattle.std.specs.Prelude.{◌≡◌, IsTrue, ◌&&◌, nat_eq, nat_le, map, option_map, length};
-ghost use Rattle.liquid_model.specs.Answer.{Answers, Gives};
+ghost use Rattle.liquid_model.specs.Answer.{Answers, IsValueOrMemory};
 ghost use Rattle.liquid_model.specs.Data.{text_of};
 ghost use Rattle.liquid_model.specs.Lists.{list_of};
 ghost use Rattle.liquid_model.specs.View.{view, items_view};
@@ -60,7 +60,7 @@ fn compacted(alloc: Global, input: &Value) -> Result<Value>
 }
 
 fn without_nils(alloc: Global, items: &[Value]) -> Result<Vec<Value>>
-    ensures { Gives (λ v. map view v.items) result (compact (list_of (items_view items.now))) }
+    ensures { IsValueOrMemory (λ v. map view v.items) result (compact (list_of (items_view items.now))) }
 {
     let mut kept = Vec::new(alloc);
     for item in items {
@@ -87,7 +87,7 @@ fn compacted_by(alloc: Global, input: &Value, name: &str) -> Result<Value>
 }
 
 fn compact_of(alloc: Global, items: &[Value], name: &str) -> Result<Vec<Value>>
-    ensures { Gives (λ v. map view v.items) result (compact_of name.now (list_of (items_view items.now))) }
+    ensures { IsValueOrMemory (λ v. map view v.items) result (compact_of name.now (list_of (items_view items.now))) }
 {
     let mut kept = Vec::new(alloc);
     for item in items {
@@ -167,7 +167,7 @@ fn where_of(
     name: &str,
     target: Option<&Value>,
 ) -> Result<Vec<Value>>
-    ensures { Gives (λ v. map view v.items) result (where_of name.now (option_map (λ v. view v.now) target.entry) (list_of (items_view items.now))) }
+    ensures { IsValueOrMemory (λ v. map view v.items) result (where_of name.now (option_map (λ v. view v.now) target.entry) (list_of (items_view items.now))) }
 {
     let mut kept = Vec::new(alloc);
     for item in items {
@@ -229,7 +229,7 @@ fn mapped(alloc: Global, input: &Value, name: &str) -> Result<Value>
 }
 
 fn map_of(alloc: Global, items: &[Value], name: &str) -> Result<Vec<Value>>
-    ensures { Gives (λ v. map view v.items) result (map_of name.now (list_of (items_view items.now))) }
+    ensures { IsValueOrMemory (λ v. map view v.items) result (map_of name.now (list_of (items_view items.now))) }
 {
     let mut values = Vec::new(alloc);
     for item in items {
@@ -276,7 +276,7 @@ fn uniq_answer(alloc: Global, input: &Value, _args: &[Value]) -> Result<Value>
 }
 
 fn unique(alloc: Global, items: &[Value]) -> Result<Vec<Value>>
-    ensures { Gives (λ v. map view v.items) result (uniq (list_of (items_view items.now))) }
+    ensures { IsValueOrMemory (λ v. map view v.items) result (uniq (list_of (items_view items.now))) }
 {
     let mut seen = BTreeSet::new(alloc);
     let mut kept = Vec::new(alloc);

@@ -1,6 +1,6 @@
 //! The filters that put lists into another row.
 ghost use Rattle.std.specs.Prelude.{◌++◌, nat_eq, map, reverse, IsTrue, length};
-ghost use Rattle.liquid_model.specs.Answer.{Answers, Gives};
+ghost use Rattle.liquid_model.specs.Answer.{Answers, IsValueOrMemory};
 ghost use Rattle.liquid_model.specs.Lists.{list_of};
 ghost use Rattle.liquid_model.specs.View.{view, items_view};
 ghost use Rattle.liquid_filter_base.specs.Stands.{Stands, WithFirst};
@@ -45,7 +45,7 @@ fn reverse_answer(alloc: Global, input: &Value, _args: &[Value]) -> Result<Value
 }
 
 fn reversed(alloc: Global, items: &[Value]) -> Result<Vec<Value>>
-    ensures { Gives (λ v. map view v.items) result (reverse (list_of (items_view items.now))) }
+    ensures { IsValueOrMemory (λ v. map view v.items) result (reverse (list_of (items_view items.now))) }
 {
     let mut copies = copied(alloc, items)?;
     copies.reverse();
@@ -53,7 +53,7 @@ fn reversed(alloc: Global, items: &[Value]) -> Result<Vec<Value>>
 }
 
 fn copied(alloc: Global, items: &[Value]) -> Result<Vec<Value>>
-    ensures { Gives (λ v. map view v.items) result (list_of (items_view items.now)) }
+    ensures { IsValueOrMemory (λ v. map view v.items) result (list_of (items_view items.now)) }
 {
     let mut copies = Vec::with_capacity(alloc, items.len())?;
     push_copies(&mut copies, items, alloc)?;
@@ -97,7 +97,7 @@ fn concat_answer(alloc: Global, input: &Value, args: &[Value]) -> Result<Value>
 }
 
 fn concatenated(alloc: Global, items: &[Value], more: &[Value]) -> Result<Vec<Value>>
-    ensures { Gives (λ v. map view v.items) result (list_of (items_view items.now) ++ list_of (items_view more.now)) }
+    ensures { IsValueOrMemory (λ v. map view v.items) result (list_of (items_view items.now) ++ list_of (items_view more.now)) }
 {
     let mut copies = copied(alloc, items)?;
     push_copies(&mut copies, more, alloc)?;
@@ -106,7 +106,7 @@ fn concatenated(alloc: Global, items: &[Value], more: &[Value]) -> Result<Vec<Va
 
 /// Appends an equal item for each item. `Memory` alone where there is no room, and then some may have been appended.
 pub fn push_copies(copies: &mut Vec<Value>, items: &[Value], alloc: Global) -> Result<()>
-    ensures { Gives (λ _. map view copies.new.items) result (map view copies.old.items ++ list_of (items_view items.now)) }
+    ensures { IsValueOrMemory (λ _. map view copies.new.items) result (map view copies.old.items ++ list_of (items_view items.now)) }
 {
     for item in items {
         copies.push(item.copy(alloc)?)?;

@@ -1,6 +1,6 @@
 //! The filters that sort.
 ghost use Rattle.std.specs.Prelude.{◌≡◌, nat_le, map, option_map, IsTrue, length};
-ghost use Rattle.liquid_model.specs.Answer.{Answers, Gives};
+ghost use Rattle.liquid_model.specs.Answer.{Answers, IsValueOrMemory};
 ghost use Rattle.liquid_model.specs.Cow.{cow_view};
 ghost use Rattle.liquid_model.specs.Lists.{list_of};
 ghost use Rattle.liquid_model.specs.View.{view, items_view};
@@ -62,7 +62,7 @@ fn sorted_maps(alloc: Global, input: &Value, name: &str) -> Result<Value>
 }
 
 fn sorted(alloc: Global, items: &[Value], property: Option<&str>) -> Result<Vec<Value>>
-    ensures { Gives (λ v. map view v.items) result (sort_by (key_of (option_map (λ s. s.now) property.entry)) (list_of (items_view items.now))) }
+    ensures { IsValueOrMemory (λ v. map view v.items) result (sort_by (key_of (option_map (λ s. s.now) property.entry)) (list_of (items_view items.now))) }
 {
     items_by_key(alloc, with_keys(alloc, items, property)?)
 }
@@ -112,7 +112,7 @@ fn naturally_sorted_maps(alloc: Global, input: &Value, name: &str) -> Result<Val
 }
 
 fn naturally_sorted(alloc: Global, items: &[Value], property: Option<&str>) -> Result<Vec<Value>>
-    ensures { Gives (λ v. map view v.items) result (sort_by (natural_key_of (option_map (λ s. s.now) property.entry)) (list_of (items_view items.now))) }
+    ensures { IsValueOrMemory (λ v. map view v.items) result (sort_by (natural_key_of (option_map (λ s. s.now) property.entry)) (list_of (items_view items.now))) }
 {
     items_by_key(alloc, with_natural_keys(alloc, items, property)?)
 }
@@ -129,7 +129,7 @@ fn with_keys<'a>(
     items: &'a [Value],
     property: Option<&str>,
 ) -> Result<Vec<Keyed<'a>>>
-    ensures { Gives (λ v. map keyed_view v.items) result (map (λ d. (key_of (option_map (λ s. s.now) property.entry) d, d)) (list_of (items_view items.now))) }
+    ensures { IsValueOrMemory (λ v. map keyed_view v.items) result (map (λ d. (key_of (option_map (λ s. s.now) property.entry) d, d)) (list_of (items_view items.now))) }
 {
     let mut keyed = Vec::with_capacity(alloc, items.len())?;
     for item in items {
@@ -147,7 +147,7 @@ fn with_natural_keys<'a>(
     items: &'a [Value],
     property: Option<&str>,
 ) -> Result<Vec<Keyed<'a>>>
-    ensures { Gives (λ v. map keyed_view v.items) result (map (λ d. (natural_key_of (option_map (λ s. s.now) property.entry) d, d)) (list_of (items_view items.now))) }
+    ensures { IsValueOrMemory (λ v. map keyed_view v.items) result (map (λ d. (natural_key_of (option_map (λ s. s.now) property.entry) d, d)) (list_of (items_view items.now))) }
 {
     let mut keyed = Vec::with_capacity(alloc, items.len())?;
     for item in items {
@@ -162,7 +162,7 @@ fn natural_key_of<'a>(
     item: &Value,
     property: Option<&str>,
 ) -> Result<Option<ValueCow<'a>>>
-    ensures { Gives (λ k. option_map cow_view k) result (natural_key_of (option_map (λ s. s.now) property.entry) (view item.now)) }
+    ensures { IsValueOrMemory (λ k. option_map cow_view k) result (natural_key_of (option_map (λ s. s.now) property.entry) (view item.now)) }
 {
     match key_of(item, property) {
         Some(value) => {
@@ -198,14 +198,14 @@ fn given(value: &Value) -> Option<&Value>
 /// The items, sorted by their keys in the total order of values, those without a key last; items alike keep their
 /// order. `Memory` alone where they can't be made.
 pub fn items_by_key(alloc: Global, mut keyed: Vec<Keyed<'_>>) -> Result<Vec<Value>>
-    ensures { Gives (λ v. map view v.items) result (map (λ k. view k.item.now) (sorted keyed_below keyed.entry.items)) }
+    ensures { IsValueOrMemory (λ v. map view v.items) result (map (λ k. view k.item.now) (sorted keyed_below keyed.entry.items)) }
 {
     sort_keyed(&mut keyed)?;
     items_of(alloc, &keyed)
 }
 
 fn sort_keyed(items: &mut Vec<Keyed<'_>>) -> Result<()>
-    ensures { Gives (λ _. items.new.items) result (sorted keyed_below items.old.items) }
+    ensures { IsValueOrMemory (λ _. items.new.items) result (sorted keyed_below items.old.items) }
 {
     items.sort_by(|a, b| ordered(a, b))?;
     Ok(())
@@ -223,7 +223,7 @@ fn ordered(a: &Keyed<'_>, b: &Keyed<'_>) -> Ordering
 }
 
 fn items_of(alloc: Global, keyed: &[Keyed<'_>]) -> Result<Vec<Value>>
-    ensures { Gives (λ v. map view v.items) result (map (λ k. view k.item.now) keyed.now) }
+    ensures { IsValueOrMemory (λ v. map view v.items) result (map (λ k. view k.item.now) keyed.now) }
 {
     let mut items = Vec::with_capacity(alloc, keyed.len())?;
     for entry in keyed {

@@ -1,7 +1,7 @@
 //! The whole numbers that a filter over numbers computes with.
 ghost use Rattle.std.specs.Prelude.{MatchOption, ⊤, false, true, ◌≡◌};
 ghost use Rattle.liquid_model.specs.Answer.{Answers, TakesNoMemory};
-ghost use Rattle.liquid_model.specs.Told.{Told};
+ghost use Rattle.liquid_model.specs.ErrorKinds.{IsKindOrMemory};
 ghost use Rattle.liquid_model.specs.View.{view};
 ghost use Rattle.liquid_model.specs.declared.error.ErrorKind.TheVariants.{Float};
 ghost use Rattle.liquid_number_filters.specs.Decimals.{is_decimal_text};
@@ -53,7 +53,7 @@ pub fn operands(alloc: Global, input: &Value, operand: &Value, divides: bool) ->
 
 /// Why two scalars that haven't both a whole number are refused.
 fn unlike(alloc: Global, input: &Value, operand: &Value) -> Error
-    ensures { Told (unlike (view input.now) (view operand.now)) result.kind }
+    ensures { IsKindOrMemory (unlike (view input.now) (view operand.now)) result.kind }
 {
     if is_numeric(input) && is_numeric(operand) {
         return decimal_refused(alloc);
@@ -70,7 +70,7 @@ fn unlike(alloc: Global, input: &Value, operand: &Value) -> Error
 
 /// A decimal text, with which no filter computes but those that round.
 pub fn decimal_refused(alloc: Global) -> Error
-    ensures { Told Float result.kind }
+    ensures { IsKindOrMemory Float result.kind }
 {
     Error::new(
         alloc,

@@ -1,13 +1,13 @@
 use Rattle.std.proofs.Common.{rules, OnOk, OnErr, ◌≡◌, Bool, true, false, not, cond, Option, Some, None, Bor, option_map, is_some, length, string_bytes, refl, sym, ap, subst, ◌∙◌}
 use Rattle.std.specs.Map.{lookup}
-use Rattle.liquid_model.specs.Answer.{Gives}
+use Rattle.liquid_model.specs.Answer.{IsValueOrMemory}
 use Rattle.liquid_core.specs.Held.{held}
 use Rattle.liquid_syntax.specs.Entries.{put}
 use Rattle.liquid_sites.specs.Parts.{trees_in}
 use Rattle.liquid_model.specs.View.{view}
 use Rattle.liquid_model.specs.Maps.{listed}
 use Rattle.liquid_syntax.specs.Parsing.{IsOnlyTree}
-use Rattle.liquid_syntax.specs.Templates.{tree_of, partials_of, places_of}
+use Rattle.liquid_syntax.specs.Templates.{tree_of, partials_of, slots_of}
 use Rattle.liquid_syntax.specs.declared.template.Template.{Template}
 use Rattle.liquid_syntax.proofs.Inserted.{named}
 use Rattle.liquid_sites.specs.Applied.{IsStep}
@@ -66,7 +66,7 @@ returns-in_ok-reserve-in-SetPartial-clause-applied c =
     λ i. record { depth = old.depth; pages = trees_in old.templates; partials = put (named i) t (same i); facts = held old.facts } in
     let before : record { depth = old.depth; pages = trees_in old.templates; partials = partials_of c.reserve.new.self; facts = held old.facts } ≡ contents_of old =
     λ i. record { depth = old.depth; pages = trees_in old.templates; partials = same i; facts = held old.facts } in
-    applied c.args.change r old new s (subst (λ ch. IsStep l ch s) (sym c.in-SetPartial.is) (t, only, refl)) (subst (λ x. Gives (λ u. contents_of new) r x) meant c.exchange_partial.ensures.set) c.exchange_partial.ensures.counted
+    applied c.args.change r old new s (subst (λ ch. IsStep l ch s) (sym c.in-SetPartial.is) (t, only, refl)) (subst (λ x. IsValueOrMemory (λ u. contents_of new) r x) meant c.exchange_partial.ensures.set) c.exchange_partial.ensures.counted
     (subst (λ x. OnErr r (contents_of new ≡ x)) before c.exchange_partial.ensures.unchanged) c.exchange_partial.ensures.uncounted
 
 pub returns-then-is_none-clause-applied : goal.returns-then-is_none-clause-applied
@@ -88,7 +88,7 @@ pub exchange_partial-requires-in-RemovePartial : goal.exchange_partial-requires-
 exchange_partial-requires-in-RemovePartial c =
     let old = c.args.self.now in
     let some = ap is_some (sym c.get.ensures.found) ∙ same_some c.get.result ∙ turned_back (is_some c.get.result) c.is_none.result c.is_none.ensures c.if-is_none.false in
-    held_there c.as_str-in-RemovePartial-2.result.now (places_of old.partials) (ap (λ q. is_some (listed (partials_of old.partials) q)) (c.as_str-in-RemovePartial-2.ensures.value ∙ sym c.as_str-in-RemovePartial.ensures.value) ∙ some)
+    held_there c.as_str-in-RemovePartial-2.result.now (slots_of old.partials) (ap (λ q. is_some (listed (partials_of old.partials) q)) (c.as_str-in-RemovePartial-2.ensures.value ∙ sym c.as_str-in-RemovePartial.ensures.value) ∙ some)
 
 pub returns-else-is_none-clause-applied : goal.returns-else-is_none-clause-applied
 returns-else-is_none-clause-applied c =
@@ -102,7 +102,7 @@ returns-else-is_none-clause-applied c =
     let some : is_some (listed (partials_of old.partials) n) ≡ true =
     ap (λ q. is_some (listed (partials_of old.partials) q)) (sym c.as_str-in-RemovePartial.ensures.value) ∙ ap is_some (sym c.get.ensures.found) ∙ same_some c.get.result ∙ turned_back (is_some c.get.result) c.is_none.result c.is_none.ensures c.if-is_none.false in
     let meant : stepped (remove_partial c.as_str-in-RemovePartial-2.result.now) (contents_of old) ≡ stepped s (contents_of old) = ap (λ q. stepped (remove_partial q) (contents_of old)) named in
-    applied c.args.change r old new s (subst (λ ch. IsStep l ch s) (sym c.in-RemovePartial.is) refl) (subst (λ x. Gives (λ u. contents_of new) r x) meant c.exchange_partial-in-RemovePartial.ensures.set)
+    applied c.args.change r old new s (subst (λ ch. IsStep l ch s) (sym c.in-RemovePartial.is) refl) (subst (λ x. IsValueOrMemory (λ u. contents_of new) r x) meant c.exchange_partial-in-RemovePartial.ensures.set)
     (subst (λ x. OnOk r (count_of new ≡ raised (count_of old) x)) (sym (ap (λ b. cond b (length (contents_of old).pages) 0) some)) c.exchange_partial-in-RemovePartial.ensures.counted)
     c.exchange_partial-in-RemovePartial.ensures.unchanged c.exchange_partial-in-RemovePartial.ensures.uncounted
 
@@ -117,7 +117,7 @@ returns-in-SetValue-clause-applied c =
     let s = set_value n d in
     let named = c.as_str-in-SetValue.ensures.value in
     let meant : stepped (set_value c.as_str-in-SetValue.result.now d) (contents_of old) ≡ stepped s (contents_of old) = ap (λ q. stepped (set_value q d) (contents_of old)) named in
-    applied c.args.change r old new s (subst (λ ch. IsStep l ch s) (sym c.in-SetValue.is) refl) (subst (λ x. Gives (λ u. contents_of new) r x) meant c.change_value.ensures.set)
+    applied c.args.change r old new s (subst (λ ch. IsStep l ch s) (sym c.in-SetValue.is) refl) (subst (λ x. IsValueOrMemory (λ u. contents_of new) r x) meant c.change_value.ensures.set)
     (subst (λ x. OnOk r (count_of new ≡ raised (count_of old) (mentioning (contents_of old) x))) named c.change_value.ensures.counted) c.change_value.ensures.unchanged c.change_value.ensures.uncounted
 
 pub returns-then-not-contains_key-clause-applied : goal.returns-then-not-contains_key-clause-applied
@@ -145,6 +145,6 @@ returns-else-not-contains_key-clause-applied c =
     let is = c.as_str-in-RemoveValue-2.ensures.value in
     let some : is_some ((contents_of old).facts n) ≡ true = value_there old.facts n true (sym c.if-not-contains_key.false ∙ c.contains_key.ensures ∙ ap (λ q. is_some (lookup (named q) old.facts.entries)) c.as_str-in-RemoveValue.ensures.value) in
     let meant : stepped (remove_value c.as_str-in-RemoveValue-2.result.now) (contents_of old) ≡ stepped s (contents_of old) = ap (λ q. stepped (remove_value q) (contents_of old)) is in
-    applied c.args.change r old new s (subst (λ ch. IsStep l ch s) (sym c.in-RemoveValue.is) refl) (subst (λ x. Gives (λ u. contents_of new) r x) meant c.change_value-in-RemoveValue.ensures.set)
+    applied c.args.change r old new s (subst (λ ch. IsStep l ch s) (sym c.in-RemoveValue.is) refl) (subst (λ x. IsValueOrMemory (λ u. contents_of new) r x) meant c.change_value-in-RemoveValue.ensures.set)
     (subst (λ x. OnOk r (count_of new ≡ raised (count_of old) x)) (ap (mentioning (contents_of old)) is ∙ sym (ap (λ b. cond b (mentioning (contents_of old) n) 0) some)) c.change_value-in-RemoveValue.ensures.counted)
     c.change_value-in-RemoveValue.ensures.unchanged c.change_value-in-RemoveValue.ensures.uncounted

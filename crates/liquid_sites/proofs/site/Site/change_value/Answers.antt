@@ -5,7 +5,7 @@ use Rattle.liquid_model.specs.View.{view}
 use Rattle.liquid_core.specs.Held.{held}
 use Rattle.liquid_syntax.specs.Templates.{tree_of, partials_of}
 use Rattle.liquid_syntax.proofs.Held.{ascend_seen}
-use Rattle.liquid_sites.specs.Fresh.{wanted, wanted_of, all_placed}
+use Rattle.liquid_sites.specs.inside.Fresh.{wanted, wanted_of, all_placed}
 use Rattle.liquid_sites.specs.Parts.{trees_in, contents_in}
 use Rattle.liquid_sites.specs.Steps.{raised}
 use Rattle.liquid_sites.proofs.Placing.{changed_pages, counted_mentions}
@@ -16,7 +16,7 @@ invariant_of-self-2 c =
     let s = c.args.self.now in
     record {
       kept =
-          c.show_all.ensures
+          c.replace_pages.ensures
           ∙ (λ i. all_placed (c.in_ok-fresh.ensures.pages i) (s.kept i))
           ∙ changed_pages (contents_in s.depth s.templates s.partials s.facts) c.args.name.now (option_map view c.args.value) (held c.in_ok-facts.facts) c.mention-all.result (ascend_seen tree_of s.templates.entries c.in_ok-fresh.ensures.ascend) c.in_ok-facts.ensures c.mention-all.ensures;
     }

@@ -4,11 +4,11 @@ use Rattle.std.proofs.lemmas.List.{length-map}
 use Rattle.liquid_model.specs.Maps.{listed}
 use Rattle.liquid_core.specs.Held.{held}
 use Rattle.liquid_syntax.specs.Entries.{placed, filled}
-use Rattle.liquid_syntax.specs.Templates.{tree_of, partials_of, places_of}
+use Rattle.liquid_syntax.specs.Templates.{tree_of, partials_of, slots_of}
 use Rattle.liquid_syntax.proofs.Held.{ascend_seen, placed_back}
 use Rattle.liquid_lib.specs.Pages.{page_over}
 use Rattle.liquid_sites.specs.Contents.{all_pages}
-use Rattle.liquid_sites.specs.Fresh.{all_placed}
+use Rattle.liquid_sites.specs.inside.Fresh.{all_placed}
 use Rattle.liquid_sites.specs.Parts.{trees_in, contents_in}
 use Rattle.liquid_sites.specs.Steps.{raised}
 use Rattle.liquid_sites.proofs.Applying.{placed_there}
@@ -20,14 +20,14 @@ invariant_of-self c =
     let s = c.args.self.now in
     record {
       kept =
-          c.show_all.ensures
+          c.replace_pages.ensures
           ∙ (λ i. all_placed (c.in-Ok.ensures.pages i) (s.kept i))
           ∙ exchanged_pages (contents_in s.depth s.templates s.partials s.facts) c.args.name.now (partials_of c.exchange-before.new.self) (ascend_seen tree_of s.templates.entries c.rendered_pages-rendered.ensures.ascend);
     }
 
 pub exchange-requires : goal.exchange-requires
 exchange-requires c =
-    subst (λ ps. IsSome (listed ps c.args.name.now)) (sym c.exchange-before.ensures.place) (placed_there c.args.name.now (option_map tree_of c.args.held) (places_of c.args.self.now.partials) c.requires)
+    subst (λ ps. IsSome (listed ps c.args.name.now)) (sym c.exchange-before.ensures.place) (placed_there c.args.name.now (option_map tree_of c.args.held) (slots_of c.args.self.now.partials) c.requires)
 
 pub invariant_of-self-in-Err : goal.invariant_of-self-in-Err
 invariant_of-self-in-Err c =
@@ -35,7 +35,7 @@ invariant_of-self-in-Err c =
     let x = option_map tree_of c.args.held in
     let b = option_map tree_of c.exchange-before.result in
     let n = c.args.name.now in
-    let back = c.exchange.ensures.place ∙ ap (placed n b) c.exchange-before.ensures.place ∙ placed_back n b x (places_of s.partials) c.exchange-before.ensures.out in
+    let back = c.exchange.ensures.slot ∙ ap (placed n b) c.exchange-before.ensures.place ∙ placed_back n b x (slots_of s.partials) c.exchange-before.ensures.out in
     record { kept = s.kept ∙ ap (λ ps. all_pages (page_over s.depth (filled ps) (held s.facts)) (trees_in s.templates)) (sym back) }
 
 pub returns-in-Ok-clause-counted : goal.returns-in-Ok-clause-counted
@@ -50,5 +50,5 @@ returns-in-Err-clause-unchanged c =
     let x = option_map tree_of c.args.held in
     let b = option_map tree_of c.exchange-before.result in
     let n = c.args.name.now in
-    let back = c.exchange.ensures.place ∙ ap (placed n b) c.exchange-before.ensures.place ∙ placed_back n b x (places_of s.partials) c.exchange-before.ensures.out in
+    let back = c.exchange.ensures.slot ∙ ap (placed n b) c.exchange-before.ensures.place ∙ placed_back n b x (slots_of s.partials) c.exchange-before.ensures.out in
     λ i. record { depth = s.depth; pages = trees_in s.templates; partials = filled (back i); facts = held s.facts }

@@ -1,7 +1,7 @@
 use Rattle.std.proofs.Common.{◌≡◌, List, true, length}
 use Rattle.liquid_tree.specs.Tree.{Nodes}
 use Rattle.liquid_syntax.specs.OpenBlocks.{Level, deeper, depth, close}
-use Rattle.liquid_syntax.specs.Building.{IsStack}
+use Rattle.liquid_syntax.specs.inside.Building.{IsStack}
 use Rattle.liquid_syntax.proofs.build.Builder.close.Given as goal
 
 abbrev pub invariant-chain : goal.invariant-chain

@@ -10,6 +10,6 @@ returns-clause-closes c ls cur h =
     let mid = c.end_body.new.nodes in
     let o = c.in_ok-open.open in
     let long = c.len-end.ensures ∙ mid.ok.0 ∙ sym (length-map mid.items flat_of) in
-    let was = ap flat_of c.index_mut.ensures.value ∙ sym (get_or-map flat_of mid.items o.place c.index_mut.result.now) in
+    let was = ap flat_of c.index_mut.ensures.value ∙ sym (get_or-map flat_of mid.items o.node_index c.index_mut.result.now) in
     closes_on (flats c.args.self.now.nodes.items) (flats mid.items) c.args.self.now.blocks.items o _ (flat_of c.index_mut.result.now) (flat_of c.end_last.new.node) c.len-end.result c.in_ok-open.ensures.items long c.end_body.ensures.ended
-    (map-set flat_of mid.items o.place c.end_last.new.node) was c.end_last.ensures ls cur h
+    (map-set flat_of mid.items o.node_index c.end_last.new.node) was c.end_last.ensures ls cur h

@@ -1,4 +1,4 @@
-use Rattle.liquid_syntax.specs.Building.{of_bodies}
+use Rattle.liquid_syntax.specs.inside.Building.{of_bodies}
 use Rattle.liquid_syntax.specs.Flats.{flat_of}
 use Rattle.liquid_syntax.specs.OpenBlocks.{to_elsif}
 use Rattle.liquid_syntax.proofs.Adding.{elsif_opens}

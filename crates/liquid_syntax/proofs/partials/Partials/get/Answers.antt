@@ -14,12 +14,12 @@ copied (Some t) = refl
 pub returns-in-Some-clause-found : goal.returns-in-Some-clause-found
 returns-in-Some-clause-found c =
     copied c.as_ref.result ∙ ap (option_map tree_of) c.as_ref.ensures.value
-    ∙ sym (held_found tree_of c.args.name.now c.args.self.now.templates.entries (Some c.in-Some.place.now) c.len.ensures.ordered (sym (ap option_copied c.in-Some.is) ∙ c.get.ensures.value))
+    ∙ sym (held_found tree_of c.args.name.now c.args.self.now.templates.entries (Some c.in-Some.slot.now) c.len.ensures.ordered (sym (ap option_copied c.in-Some.is) ∙ c.get.ensures.value))
 
 pub returns-in-Some-clause-small : goal.returns-in-Some-clause-small
 returns-in-Some-clause-small c = on c.as_ref.result c.as_ref.ensures.value
   where
-    on : (r : Option (Bor Template)) → option_copied r ≡ c.in-Some.place.now → IfSome r (λ t. node_count_of t.now ≤ most_nodes c.args.self.now.templates.entries)
+    on : (r : Option (Bor Template)) → option_copied r ≡ c.in-Some.slot.now → IfSome r (λ t. node_count_of t.now ≤ most_nodes c.args.self.now.templates.entries)
     on None h = tt
     on (Some t) h = small_found t.now (named c.args.name.now) c.args.self.now.templates.entries (ap Some h ∙ (sym (ap option_copied c.in-Some.is) ∙ c.get.ensures.value))
 

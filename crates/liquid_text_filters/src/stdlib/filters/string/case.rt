@@ -1,6 +1,6 @@
 //! Filters that change the case of letters, `A` to `Z` and `a` to `z` alone.
 ghost use Rattle.std.specs.Prelude.{nat_eq, string_bytes, IsTrue, length, map};
-ghost use Rattle.liquid_model.specs.Answer.{Gives, Answers};
+ghost use Rattle.liquid_model.specs.Answer.{IsValueOrMemory, Answers};
 ghost use Rattle.liquid_text_filters.specs.Case.{capitalize_answer, capitalized, downcase_answer, upcase_answer};
 ghost use Rattle.liquid_model.specs.View.{view};
 ghost use Rattle.liquid_filter_base.specs.Stands.{Stands};
@@ -101,7 +101,7 @@ fn capitalize_answer(alloc: Global, input: &Value, _args: &[Value]) -> Result<Va
 }
 
 fn capitalized(alloc: Global, text: &str) -> Result<String>
-    ensures { Gives (λ s. string_bytes s) result (capitalized text.now) }
+    ensures { IsValueOrMemory (λ s. string_bytes s) result (capitalized text.now) }
 {
     let mut rest = text.chars();
     let mut out = String::with_capacity(alloc, text.len())?;

@@ -1,6 +1,6 @@
 //! Filters that join texts, and that replace parts of them.
 ghost use Rattle.std.specs.Prelude.{◌&&◌, ◌++◌, nat_eq, nat_le, string_bytes, IsTrue, length, map};
-ghost use Rattle.liquid_model.specs.Answer.{Gives, Answers};
+ghost use Rattle.liquid_model.specs.Answer.{IsValueOrMemory, Answers};
 ghost use Rattle.liquid_text_filters.specs.Operate.{append_answer, prepend_answer, remove_answer, remove_first_answer, replace_answer, replace_first_answer, replaced, replaced_first};
 ghost use Rattle.liquid_model.specs.View.{view};
 ghost use Rattle.liquid_filter_base.specs.Stands.{Stands};
@@ -182,14 +182,14 @@ fn remove_first_answer(alloc: Global, input: &Value, args: &[Value]) -> Result<V
 
 /// The text with each occurrence of another replaced.
 fn replaced(alloc: Global, text: &str, search: &str, replacement: &str) -> Result<String>
-    ensures { Gives (λ s. string_bytes s) result (replaced search.now replacement.now text.now) }
+    ensures { IsValueOrMemory (λ s. string_bytes s) result (replaced search.now replacement.now text.now) }
 {
     Ok(text.replace(alloc, search, replacement)?)
 }
 
 /// The text with the first occurrence of another replaced.
 fn replaced_first(alloc: Global, text: &str, search: &str, replacement: &str) -> Result<String>
-    ensures { Gives (λ s. string_bytes s) result (replaced_first search.now replacement.now text.now) }
+    ensures { IsValueOrMemory (λ s. string_bytes s) result (replaced_first search.now replacement.now text.now) }
 {
     Ok(text.replacen(alloc, search, replacement, 1)?)
 }

@@ -1,6 +1,6 @@
 //! The filter that divides a text.
 ghost use Rattle.std.specs.Prelude.{◌<◌, length, map, nat_eq, IsTrue};
-ghost use Rattle.liquid_model.specs.Answer.{Gives, Answers};
+ghost use Rattle.liquid_model.specs.Answer.{IsValueOrMemory, Answers};
 ghost use Rattle.liquid_model.specs.Data.{text as text_datum};
 ghost use Rattle.liquid_model.specs.View.{view};
 ghost use Rattle.liquid_filter_base.specs.Stands.{Stands};
@@ -46,7 +46,7 @@ fn split_answer(alloc: Global, input: &Value, args: &[Value]) -> Result<Value>
 }
 
 fn divided(alloc: Global, text: &str, separator: &str) -> Result<Vec<Value>>
-    ensures { Gives (λ v. map view v.items) result (map (λ t. text_datum t) (divided separator.now text.now)) }
+    ensures { IsValueOrMemory (λ v. map view v.items) result (map (λ t. text_datum t) (divided separator.now text.now)) }
 {
     if text.is_empty() {
         Ok(Vec::new(alloc))
@@ -60,7 +60,7 @@ fn divided(alloc: Global, text: &str, separator: &str) -> Result<Vec<Value>>
 /// The pieces between the occurrences of a text that isn't empty.
 fn pieces(alloc: Global, text: &str, separator: &str) -> Result<Vec<Value>>
     requires { 0 < length separator.now }
-    ensures { Gives (λ v. map view v.items) result (map (λ t. text_datum t) (pieces separator.now 0 text.now)) }
+    ensures { IsValueOrMemory (λ v. map view v.items) result (map (λ t. text_datum t) (pieces separator.now 0 text.now)) }
 {
     let mut found = Vec::new(alloc);
     let mut rest = text;
@@ -74,7 +74,7 @@ fn pieces(alloc: Global, text: &str, separator: &str) -> Result<Vec<Value>>
 
 /// An empty piece, each character, an empty piece.
 fn single_characters(alloc: Global, text: &str) -> Result<Vec<Value>>
-    ensures { Gives (λ v. map view v.items) result (map (λ t. text_datum t) (single_characters text.now)) }
+    ensures { IsValueOrMemory (λ v. map view v.items) result (map (λ t. text_datum t) (single_characters text.now)) }
 {
     let mut found = Vec::new(alloc);
     let start = Value::Text(String::new(alloc));

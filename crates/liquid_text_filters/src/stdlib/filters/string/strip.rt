@@ -1,6 +1,6 @@
 //! Filters that cut white space, which is Unicode's White_Space, and newlines.
 ghost use Rattle.std.specs.Prelude.{◌++◌, nat_eq, string_bytes, IsTrue, length, map};
-ghost use Rattle.liquid_model.specs.Answer.{Gives, Answers};
+ghost use Rattle.liquid_model.specs.Answer.{IsValueOrMemory, Answers};
 ghost use Rattle.liquid_text_filters.specs.Strip.{lstrip_answer, rstrip_answer, strip_answer, strip_newlines_answer, without_newlines, without_returns};
 ghost use Rattle.liquid_model.specs.View.{view};
 ghost use Rattle.liquid_filter_base.specs.Stands.{Stands};
@@ -131,7 +131,7 @@ fn strip_newlines_answer(alloc: Global, input: &Value, _args: &[Value]) -> Resul
 }
 
 fn without_newlines(alloc: Global, text: &str) -> Result<String>
-    ensures { Gives (λ s. string_bytes s) result (without_newlines text.now) }
+    ensures { IsValueOrMemory (λ s. string_bytes s) result (without_newlines text.now) }
 {
     let mut out = String::with_capacity(alloc, text.len())?;
     let mut rest = text;
@@ -145,7 +145,7 @@ fn without_newlines(alloc: Global, text: &str) -> Result<String>
 
 /// Appends a text without its CRs. What stays is copied in runs.
 fn push_without_returns(out: &mut String, text: &str) -> Result<()>
-    ensures { Gives (λ _. string_bytes out.new) result (string_bytes out.old ++ without_returns text.now) }
+    ensures { IsValueOrMemory (λ _. string_bytes out.new) result (string_bytes out.old ++ without_returns text.now) }
 {
     let mut rest = text;
     while let Some((before, after)) = rest.split_once('\r') {

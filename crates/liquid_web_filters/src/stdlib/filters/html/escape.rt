@@ -1,6 +1,6 @@
 //! Filters that write the letters with a meaning in HTML by their escapes.
 ghost use Rattle.std.specs.Prelude.{◌≡◌, ◌<◌, ◌≤◌, ◌∷◌, ◌++◌, All, IfNone, IfSome, IsSome, IsTrue, None, length, map, nat_eq, option_map, slice_index, string_bytes, take};
-ghost use Rattle.liquid_model.specs.Answer.{Gives, Answers};
+ghost use Rattle.liquid_model.specs.Answer.{IsValueOrMemory, Answers};
 ghost use Rattle.liquid_web_filters.specs.Escapes.{ends_escape, escape_answer, escape_of, escape_once_answer, escaped, escaped_once, once_byte};
 ghost use Rattle.liquid_model.specs.View.{view};
 ghost use Rattle.liquid_filter_base.specs.Stands.{Stands};
@@ -81,7 +81,7 @@ fn escape_once_answer(alloc: Global, input: &Value, _args: &[Value]) -> Result<V
 }
 
 fn escaped(alloc: Global, text: &str) -> Result<String>
-    ensures { Gives (λ s. string_bytes s) result (escaped text.now) }
+    ensures { IsValueOrMemory (λ s. string_bytes s) result (escaped text.now) }
 {
     let mut out = String::with_capacity(alloc, text.len())?;
     let mut rest = text;
@@ -95,7 +95,7 @@ fn escaped(alloc: Global, text: &str) -> Result<String>
 }
 
 fn escaped_once(alloc: Global, text: &str) -> Result<String>
-    ensures { Gives (λ s. string_bytes s) result (escaped_once text.now) }
+    ensures { IsValueOrMemory (λ s. string_bytes s) result (escaped_once text.now) }
 {
     let mut out = String::with_capacity(alloc, text.len())?;
     let mut rest = text;

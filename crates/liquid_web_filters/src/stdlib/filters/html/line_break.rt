@@ -1,6 +1,6 @@
 //! The filter that breaks lines.
 ghost use Rattle.std.specs.Prelude.{nat_eq, string_bytes, IsTrue, length, map};
-ghost use Rattle.liquid_model.specs.Answer.{Gives, Answers};
+ghost use Rattle.liquid_model.specs.Answer.{IsValueOrMemory, Answers};
 ghost use Rattle.liquid_web_filters.specs.LineBreaks.{broken, newline_to_br_answer};
 ghost use Rattle.liquid_model.specs.View.{view};
 ghost use Rattle.liquid_filter_base.specs.Stands.{Stands};
@@ -42,7 +42,7 @@ fn newline_to_br_answer(alloc: Global, input: &Value, _args: &[Value]) -> Result
 }
 
 fn broken(alloc: Global, text: &str) -> Result<String>
-    ensures { Gives (λ s. string_bytes s) result (broken text.now) }
+    ensures { IsValueOrMemory (λ s. string_bytes s) result (broken text.now) }
 {
     let mut out = String::with_capacity(alloc, text.len())?;
     push_replaced(&mut out, text, &[('\n', "<br />\n")])?;

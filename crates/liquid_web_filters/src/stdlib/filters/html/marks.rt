@@ -2,7 +2,7 @@
 ghost use Rattle.std.specs.Prelude.{◌≡◌, ◌++◌, ◌<◌, ◌≤◌, IfSome, IsTrue, MatchOption, drop, false, length, option_map, string_bytes, true};
 ghost use Rattle.std.specs.Cow.{cow_str_bytes};
 ghost use Rattle.std.specs.Str.{chars, encode_utf8_all};
-ghost use Rattle.liquid_model.specs.Answer.{Gives};
+ghost use Rattle.liquid_model.specs.Answer.{IsValueOrMemory};
 ghost use Rattle.liquid_web_filters.specs.Tags.{SplitsAtFirst, begins_mark, is_mark, is_opener, stands_for, strip_html, without_pairs};
 
 use liquid_core::Result;
@@ -27,7 +27,7 @@ const TAG_END: [char; 1] = ['>'];
 
 /// The text without scripts, then without styles, comments and tags. Each of them ends by a `>`, so a text without one stays.
 pub fn without_tags(alloc: Global, text: &str) -> Result<String>
-    ensures { Gives (λ s. string_bytes s) result (strip_html text.now) }
+    ensures { IsValueOrMemory (λ s. string_bytes s) result (strip_html text.now) }
 {
     if !text.contains('>') {
         return Ok(String::from_str(alloc, text)?);
@@ -49,7 +49,7 @@ fn without_pairs<'a>(
 ) -> Result<CowStr<'a>>
     requires opens { IsTrue (is_opener opener.now) }
     requires closes { IsTrue (is_mark closer.now) }
-    ensures { Gives (λ s. cow_str_bytes s) result (encode_utf8_all (without_pairs opener.now closer.now (chars text.now))) }
+    ensures { IsValueOrMemory (λ s. cow_str_bytes s) result (encode_utf8_all (without_pairs opener.now closer.now (chars text.now))) }
 {
     let Some((before, after)) = split_at_pair(text, opener, closer) else {
         return Ok(CowStr::Borrowed(text));
@@ -64,7 +64,7 @@ fn without_pairs<'a>(
 fn push_without_pairs(out: &mut String, text: &str, opener: &[char], closer: &[char]) -> Result<()>
     requires opens { IsTrue (is_opener opener.now) }
     requires closes { IsTrue (is_mark closer.now) }
-    ensures { Gives (λ _. string_bytes out.new) result (string_bytes out.old ++ encode_utf8_all (without_pairs opener.now closer.now (chars text.now))) }
+    ensures { IsValueOrMemory (λ _. string_bytes out.new) result (string_bytes out.old ++ encode_utf8_all (without_pairs opener.now closer.now (chars text.now))) }
 {
     let mut rest = text;
     while let Some((before, after)) = split_at_pair(rest, opener, closer) {

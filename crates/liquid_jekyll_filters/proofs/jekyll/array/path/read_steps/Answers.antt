@@ -3,7 +3,7 @@ use Rattle.std.proofs.lemmas.Bool.Decides.{nat_tests}
 use Rattle.std.proofs.lemmas.List.{map-append}
 use Rattle.liquid_model.specs.View.{view}
 use Rattle.liquid_jekyll_filters.specs.Path.{step_at}
-use Rattle.liquid_jekyll_filters.specs.PathView.{step_view}
+use Rattle.liquid_jekyll_filters.specs.inside.PathView.{step_view}
 use Rattle.liquid_jekyll_filters.proofs.Paths.{begin, turned, ended, over, step_shrinks}
 use Rattle.liquid_jekyll_filters.proofs.jekyll.array.path.read_steps.Goals as goal
 

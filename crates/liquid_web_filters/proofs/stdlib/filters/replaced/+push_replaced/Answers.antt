@@ -1,6 +1,6 @@
 use Rattle.std.proofs.Common.{◌++◌, ◌∙◌, ap, refl, sym, subst, rules, string_bytes}
 use Rattle.std.proofs.lemmas.List.{nil_from_length}
-use Rattle.liquid_model.specs.Answer.{Gives}
+use Rattle.liquid_model.specs.Answer.{IsValueOrMemory}
 use Rattle.liquid_web_filters.proofs.Replaced.{ascii_first, replaced_turn, replaced_end, replaced_none}
 use Rattle.liquid_web_filters.proofs.stdlib.filters.replaced.+push_replaced.Goals as goal
 
@@ -19,4 +19,4 @@ returns t c =
     let e = c.in-Some.ensures.cases.0 in
     let a = ascii_first _ _ _ c.in-Some.field-0-0.now.0 e refl c.requires.1.1 in
     let none = c.in_default-split_once.ensures.byte a (λ w o f. f) in
-    subst (Gives _ _) (replaced_end _ _ _ c.in-Some.field-0-0.now.0 c.in-Some.field-0-0.now.1.now e refl refl c.loop-before.rest.now _ _ none c.loop-before.invariant.1) c.push_replaced-2.ensures
+    subst (IsValueOrMemory _ _) (replaced_end _ _ _ c.in-Some.field-0-0.now.0 c.in-Some.field-0-0.now.1.now e refl refl c.loop-before.rest.now _ _ none c.loop-before.invariant.1) c.push_replaced-2.ensures

@@ -2,7 +2,7 @@ use Rattle.std.proofs.Common.{length, ◌++◌, string_bytes, ◌≡◌}
 use denote.Text.{Utf8}
 use denote.Shadow.{shadow}
 use Rattle.std.specs.List.{flat_map}
-use Rattle.liquid_web_filters.specs.Replaced.{replaced_by}
+use Rattle.liquid_web_filters.specs.inside.Replaced.{replaced_by}
 use Rattle.liquid_web_filters.proofs.stdlib.filters.replaced.+push_replaced.Given as goal
 
 abbrev pub decreases-push_replaced : goal.decreases-push_replaced

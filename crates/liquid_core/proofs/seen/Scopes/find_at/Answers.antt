@@ -1,5 +1,0 @@
-use Rattle.liquid_core.proofs.Among.{found_at}
-use Rattle.liquid_core.proofs.seen.Scopes.find_at.Goals as goal
-
-pub returns-clause-among : goal.returns-clause-among
-returns-clause-among c = found_at c.args.self.turns.now c.args.last _ _ c.args.self.outer.now c.find.result c.requires c.index-turns-last.is c.find.ensures.among

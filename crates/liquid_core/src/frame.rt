@@ -1,0 +1,63 @@
+//! Loops as scopes: an item and where the loop stands, with nothing copied.
+ghost use Rattle.std.specs.Prelude.{◌<◌, ◌≤◌};
+
+use liquid_model::{Object, Value};
+
+/// The source of a loop.
+#[derive(Drop)]
+pub enum Items<'d> {
+    /// A list that is lent for the whole run.
+    Lent(&'d [Value]),
+    /// A list of the loop's own: the pairs of a map, or a copy of a list that the run may change.
+    Owned(Vec<Value>),
+    /// The numbers from the first to the second.
+    Numbers(i64, i64),
+}
+
+/// What a loop binds beside its variable.
+#[derive(Drop)]
+pub enum LoopKind {
+    /// `forloop`, with what that name held before the loop where no scope held it.
+    For(Value),
+    /// `forloop` without a parent.
+    Render,
+    /// `tablerow`, with the number of columns.
+    TableRow(Columns),
+}
+
+/// A number of columns, of which there is one at least.
+#[derive(Clone, Copy, Drop)]
+pub struct Columns {
+    /// How many there are.
+    pub count: usize,
+    ghost some: { (0 < count) × (count ≤ 9223372036854775807) },
+}
+
+/// A loop at one of its items.
+#[derive(Drop)]
+pub struct LoopFrame<'d> {
+    /// The loop's variable.
+    pub name: &'d str,
+    /// The source.
+    pub items: Items<'d>,
+    /// How many items of the source are left out.
+    pub from: usize,
+    /// How many items there are.
+    pub count: usize,
+    /// Whether the last of them comes first.
+    pub reversed: bool,
+    /// Which of them it is.
+    pub at: usize,
+    /// What the loop binds beside its variable.
+    pub kind: LoopKind,
+    ghost within: { (at < count) × ((count ≤ 9223372036854775807) × (from ≤ 9223372036854775807)) },
+}
+
+/// A scope: names with values of their own, or a loop at one of its items.
+#[derive(Drop)]
+pub enum Scope<'d> {
+    /// Names with values of their own.
+    Names(Object),
+    /// A loop at one of its items.
+    LoopFrame(LoopFrame<'d>),
+}

@@ -1,0 +1,347 @@
+//! What names and paths lead to.
+ghost use Rattle.std.specs.Prelude.{◌≡◌, ◌<◌, ◌≤◌, ◌+◌, ◌++◌, ◌∷◌, List, length, drop, take, [], IfSome, IsOk, option_map, map, reverse};
+ghost use Rattle.liquid_model.specs.Answer.{IsValueOrMemory};
+ghost use Rattle.liquid_model.specs.Cow.{cow_view};
+ghost use Rattle.liquid_model.specs.Find.{step};
+ghost use Rattle.liquid_model.specs.Found.{found_view};
+ghost use Rattle.liquid_model.specs.View.{view, pairs_view};
+ghost use Rattle.liquid_model.specs.Data.{object};
+ghost use Rattle.liquid_core.specs.Environment.{local_of};
+ghost use Rattle.liquid_core.specs.Held.{Outer, held};
+ghost use Rattle.liquid_core.specs.Places.{number_at};
+ghost use Rattle.liquid_core.specs.Resolved.{scopes_view, resolved_view, IsAmong, IsHeld, depth};
+ghost use Rattle.liquid_core.specs.declared.frame.Scope.{Scope};
+ghost use Rattle.liquid_core.specs.declared.frame.Scope.TheVariants as scope;
+ghost use Rattle.liquid_core.specs.declared.frame.LoopFrame.{LoopFrame};
+ghost use Rattle.liquid_core.specs.LoopFrames.{IsNext, parent_of, frame_item, frame_map, frame_object, object_part, loop_name, scope_map, standing};
+
+use crate::frame::{Items, LoopFrame, LoopKind, Scope};
+use crate::loop_object::{forloop_object, tablerow_object};
+use itoa::Buffer;
+use liquid_model::{Found, Object, Result, Value, ValueCow, look_up};
+use std::alloc::Global;
+
+/// The scopes of a state, lent.
+#[derive(Clone, Copy, Drop)]
+pub struct Scopes<'a, 'd> {
+    /// The scopes behind each loop.
+    pub outer: &'a [Object],
+    /// The loops, and the scopes that stand over one.
+    pub frames: &'a [Scope<'d>],
+}
+
+/// What a name or a path has led to.
+#[derive(Drop)]
+pub enum Resolved<'a, 'd> {
+    /// What is lent for the whole run.
+    Lent(Found<'d>),
+    /// What the state lends.
+    Near(Found<'a>),
+    /// A loop's object, which no value holds.
+    Loop(&'a LoopFrame<'d>, Scopes<'a, 'd>),
+}
+
+impl<'d> LoopFrame<'d> {
+    /// The item.
+    fn item<'a>(&'a self) -> Resolved<'a, 'd>
+        ensures value { resolved_view result ≡ frame_item self.now }
+        ensures held { depth result ≡ 0 }
+    {
+        let forwards = self.at;
+        let place = if self.reversed {
+            self.count - forwards - 1
+        } else {
+            forwards
+        };
+        let place = self.from + place;
+        match &self.items {
+            Items::Lent(items) => {
+                let items: &'d [Value] = *items;
+                if place < items.len() {
+                    Resolved::Lent(Found::Held(&items[place]))
+                } else {
+                    Resolved::Near(Found::Nil)
+                }
+            }
+            Items::Owned(items) => {
+                if place < items.len() {
+                    Resolved::Near(Found::Held(&items[place]))
+                } else {
+                    Resolved::Near(Found::Nil)
+                }
+            }
+            Items::Numbers(first, last) => Resolved::Near(number_at(*first, *last, place)),
+        }
+    }
+
+    /// What the frame binds to the name.
+    fn find<'a>(&'a self, name: &str, behind: Scopes<'a, 'd>) -> Option<Resolved<'a, 'd>>
+        ensures value { option_map resolved_view result ≡ frame_map self.now (local_of (scopes_view behind.entry)) name.now }
+        ensures among { IfSome result (IsAmong (behind.entry.frames.now ++ scope.LoopFrame self.now ∷ []) behind.entry.outer.now) }
+        ensures nested { IfSome result (λ s. depth s ≤ length behind.entry.frames.now + 1) }
+    {
+        if name == self.name {
+            Some(self.item())
+        } else if name == self.kind.name() {
+            Some(Resolved::Loop(self, behind))
+        } else {
+            None
+        }
+    }
+
+    /// A step from the loop's object.
+    fn stepped<'a>(&'a self, part: &Value, behind: Scopes<'a, 'd>) -> Option<Resolved<'a, 'd>>
+        ensures value { option_map resolved_view result ≡ step (frame_object self.now (local_of (scopes_view behind.entry))) (view part.now) }
+        ensures among { IfSome result (IsAmong behind.entry.frames.now behind.entry.outer.now) }
+    {
+        match part {
+            Value::Integer(n) => self.part(Buffer::new().format(*n), behind),
+            Value::Bool(true) => self.part("true", behind),
+            Value::Bool(false) => self.part("false", behind),
+            Value::Text(name) => self.part(name.as_str(), behind),
+            _ => None,
+        }
+    }
+
+    /// A part of the loop's object, or how many it has.
+    fn part<'a>(&'a self, name: &str, behind: Scopes<'a, 'd>) -> Option<Resolved<'a, 'd>>
+        ensures value { option_map resolved_view result ≡ object_part (frame_object self.now (local_of (scopes_view behind.entry))) name.now }
+        ensures among { IfSome result (IsAmong behind.entry.frames.now behind.entry.outer.now) }
+    {
+        let k = self.at;
+        let m = self.count;
+        match name {
+            "length" => Some(Resolved::Near(Found::Length(m as i64))),
+            "index0" => Some(Resolved::Near(Found::Length(k as i64))),
+            "index" => Some(Resolved::Near(Found::Length((k + 1) as i64))),
+            "rindex0" => Some(Resolved::Near(Found::Length((m - k - 1) as i64))),
+            "rindex" => Some(Resolved::Near(Found::Length((m - k) as i64))),
+            "first" => Some(Resolved::Near(Found::Truth(k == 0))),
+            "last" => Some(Resolved::Near(Found::Truth(k + 1 == m))),
+            _ => match &self.kind {
+                LoopKind::For(elsewhere) => match name {
+                    "parentloop" => Some(parent(behind.find("forloop"), elsewhere)),
+                    "size" => Some(Resolved::Near(Found::Length(8))),
+                    _ => None,
+                },
+                LoopKind::Render => match name {
+                    "parentloop" => Some(Resolved::Near(Found::Nil)),
+                    "size" => Some(Resolved::Near(Found::Length(8))),
+                    _ => None,
+                },
+                LoopKind::TableRow(columns) => {
+                    let columns = columns.count;
+                    let column = k % columns;
+                    match name {
+                        "col0" => Some(Resolved::Near(Found::Length(column as i64))),
+                        "col" => Some(Resolved::Near(Found::Length((column + 1) as i64))),
+                        "col_first" => Some(Resolved::Near(Found::Truth(column == 0))),
+                        "col_last" => Some(Resolved::Near(Found::Truth(
+                            column + 1 == columns || k + 1 == m,
+                        ))),
+                        "size" => Some(Resolved::Near(Found::Length(11))),
+                        _ => None,
+                    }
+                }
+            },
+        }
+    }
+
+    /// The loop's object.
+    #[cycle(object)]
+    fn object<'a>(&'a self, alloc: Global, behind: Scopes<'a, 'd>) -> Result<Object>
+        ensures { IsValueOrMemory (λ o. object (pairs_view o.entries)) result (frame_object self.now (local_of (scopes_view behind.entry))) }
+    {
+        match &self.kind {
+            LoopKind::For(elsewhere) => {
+                let parent = match behind.find("forloop") {
+                    Some(resolved) => resolved.into_value(alloc)?.into_owned(alloc)?,
+                    None => elsewhere.copy(alloc)?,
+                };
+                forloop_object(alloc, self.at, self.count, parent)
+            }
+            LoopKind::Render => forloop_object(alloc, self.at, self.count, Value::Nil),
+            LoopKind::TableRow(columns) => tablerow_object(
+                alloc,
+                self.at,
+                self.count,
+                columns.count,
+            ),
+        }
+    }
+}
+
+/// What `forloop` was before a loop.
+fn parent<'a, 'd>(found: Option<Resolved<'a, 'd>>, elsewhere: &'a Value) -> Resolved<'a, 'd>
+    ensures value { resolved_view result ≡ parent_of (option_map resolved_view found.entry) (view elsewhere.now) }
+    ensures among { (scopes : List Scope) (outer : List Outer) → IfSome found.entry (IsAmong scopes outer) → IsAmong scopes outer result }
+{
+    match found {
+        Some(resolved) => resolved,
+        None => Resolved::Near(Found::Held(elsewhere)),
+    }
+}
+
+/// The number at a place from the first on, up to the last.
+fn number_at<'a>(first: i64, last: i64, place: usize) -> Found<'a>
+    ensures { found_view result ≡ number_at first last place }
+{
+    let n = first as i128 + place as i128;
+    if n <= last as i128 {
+        Found::Length(n as i64)
+    } else {
+        Found::Nil
+    }
+}
+
+impl LoopKind {
+    fn name(&self) -> &'static str
+        ensures { result.now ≡ loop_name self.now }
+    {
+        match self {
+            LoopKind::For(_) | LoopKind::Render => "forloop",
+            LoopKind::TableRow(_) => "tablerow",
+        }
+    }
+}
+
+impl<'d> Scope<'d> {
+    /// Goes on to the next item of a loop.
+    pub(crate) fn go_on(&mut self)
+        requires { (t : LoopFrame) → self.old ≡ scope.LoopFrame t → t.at + 1 < t.count }
+        ensures { (t : LoopFrame) → self.old ≡ scope.LoopFrame t → (u : LoopFrame) × ((self.new ≡ scope.LoopFrame u) × IsNext t u) }
+    {
+        if let Scope::LoopFrame(frame) = self {
+            frame.at += 1;
+        }
+    }
+
+    /// What the scope binds to the name.
+    #[tactic(auto, using(crate::proofs::States::held_at))]
+    fn find<'a>(&'a self, name: &str, behind: Scopes<'a, 'd>) -> Option<Resolved<'a, 'd>>
+        ensures value { option_map resolved_view result ≡ scope_map self.now (local_of (scopes_view behind.entry)) name.now }
+        ensures among { IfSome result (IsAmong (behind.entry.frames.now ++ self.now ∷ []) behind.entry.outer.now) }
+        ensures nested { IfSome result (λ s. depth s ≤ length behind.entry.frames.now + 1) }
+    {
+        match self {
+            Scope::Names(object) => match look_up(object, name) {
+                Some(value) => Some(Resolved::Near(Found::Held(value))),
+                None => None,
+            },
+            Scope::LoopFrame(frame) => frame.find(name, behind),
+        }
+    }
+}
+
+impl<'a, 'd> Resolved<'a, 'd> {
+    /// One step on.
+    pub(crate) fn stepped(self, part: &Value) -> Option<Resolved<'a, 'd>>
+        ensures value { option_map resolved_view result ≡ step (resolved_view self.entry) (view part.now) }
+        ensures among { (scopes : List Scope) (outer : List Outer) → IsAmong scopes outer self.entry → IfSome result (IsAmong scopes outer) }
+    {
+        match self {
+            Resolved::Lent(found) => match found.stepped(part) {
+                Some(found) => Some(Resolved::Lent(found)),
+                None => None,
+            },
+            Resolved::Near(found) => match found.stepped(part) {
+                Some(found) => Some(Resolved::Near(found)),
+                None => None,
+            },
+            Resolved::Loop(frame, behind) => frame.stepped(part, behind),
+        }
+    }
+
+    /// One step on, by what was found.
+    pub(crate) fn stepped_by(self, part: Resolved<'a, 'd>) -> Option<Resolved<'a, 'd>>
+        ensures value { option_map resolved_view result ≡ step (resolved_view self.entry) (resolved_view part.entry) }
+        ensures among { (scopes : List Scope) (outer : List Outer) → IsAmong scopes outer self.entry → IfSome result (IsAmong scopes outer) }
+    {
+        match part {
+            Resolved::Lent(found) => {
+                let value = found.into_value();
+                self.stepped(value.as_value())
+            }
+            Resolved::Near(found) => {
+                let value = found.into_value();
+                self.stepped(value.as_value())
+            }
+            Resolved::Loop(_, _) => None,
+        }
+    }
+
+    /// The value, lent where it is held. Only a loop's object takes memory.
+    #[cycle(object)]
+    pub fn into_value(self, alloc: Global) -> Result<ValueCow<'a>>
+        ensures value { IsValueOrMemory cow_view result (resolved_view self.entry) }
+        ensures no_memory { IsHeld self.entry → IsOk result }
+    {
+        match self {
+            Resolved::Lent(found) => Ok(found.into_value()),
+            Resolved::Near(found) => Ok(found.into_value()),
+            Resolved::Loop(frame, behind) => Ok(ValueCow::Owned(Value::Object(frame.object(
+                alloc, behind,
+            )?))),
+        }
+    }
+}
+
+impl<'a, 'd> Scopes<'a, 'd> {
+    /// What the scope at a place binds to the name.
+    fn find_at(self, last: usize, name: &str) -> Option<Resolved<'a, 'd>>
+        requires { last < length self.frames.now }
+        ensures nested { IfSome result (λ s. depth s ≤ last + 1) }
+        ensures among { IfSome result (IsAmong self.entry.frames.now self.entry.outer.now) }
+        ensures value { (scope : Scope) → drop last self.entry.frames.now ≡ scope ∷ drop (last + 1) self.entry.frames.now →
+            option_map resolved_view result ≡ scope_map scope (local_of (standing (take last self.entry.frames.now) (reverse (map held self.entry.outer.now)))) name.now }
+    {
+        let frames = self.frames;
+        let behind = Scopes {
+            outer: self.outer,
+            frames: &frames[..last],
+        };
+        let scope: &'a Scope<'d> = &frames[last];
+        scope.find(name, behind)
+    }
+
+    /// What a name is in the innermost scope that holds it.
+    pub fn find(self, name: &str) -> Option<Resolved<'a, 'd>>
+        ensures value { option_map resolved_view result ≡ local_of (scopes_view self.entry) name.now }
+        ensures among { IfSome result (IsAmong self.entry.frames.now self.entry.outer.now) }
+        ensures nested { IfSome result (λ s. depth s ≤ length self.entry.frames.now) }
+    {
+        let mut left = self.frames.len();
+        while left > 0 {
+            let last = left - 1;
+            if let Some(resolved) = self.find_at(last, name) {
+                return Some(resolved);
+            }
+            left = last;
+        }
+        outer_find(self.outer, name)
+    }
+}
+
+/// What a name is in the last of the objects that holds it.
+fn outer_find<'a, 'd>(scopes: &'a [Object], name: &str) -> Option<Resolved<'a, 'd>>
+    ensures value { option_map resolved_view result ≡ local_of (reverse (map held scopes.now)) name.now }
+    ensures held { IfSome result IsHeld }
+    ensures nested { IfSome result (λ s. depth s ≡ 0) }
+{
+    match last_held(scopes, name) {
+        Some(value) => Some(Resolved::Near(Found::Held(value))),
+        None => None,
+    }
+}
+
+/// The value of a name in the last of the objects that holds it.
+pub(crate) fn last_held<'a>(scopes: &'a [Object], name: &str) -> Option<&'a Value>
+    ensures { option_map (λ v. view v.now) result ≡ local_of (reverse (map held scopes.now)) name.now }
+{
+    for scope in scopes.iter().rev() {
+        if let Some(value) = look_up(scope, name) {
+            return Some(value);
+        }
+    }
+    None
+}

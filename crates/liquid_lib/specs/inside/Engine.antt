@@ -1,0 +1,31 @@
+-- What the functions of a run do.
+use Rattle.std.specs.Prelude.{ℕ}
+use Rattle.liquid_model.specs.Texts.{Text}
+use Rattle.liquid_core.specs.FilterAnswers.{FilterAnswer}
+use Rattle.liquid_tree.specs.Evaluation.{answers_with}
+use Rattle.liquid_tree.specs.Tree as tree
+use Rattle.liquid_syntax.specs.Templates.{partials_of}
+use Rattle.liquid_lib.specs.declared.context.RunContext.{RunContext}
+use Rattle.liquid_meaning.specs.Runs.{Nothing, Run}
+use Rattle.liquid_meaning.specs.Meaning.{Setting, node_meaning, nodes_meaning, deeper_meaning}
+
+-- the filters that exist, those of the host by name, and the partials
+abbrev pub setting_of : {H : Type 0} → (H → Text → FilterAnswer) → RunContext H → Setting
+setting_of named context = record { answers = answers_with (named context.host.now); partials = partials_of context.partials.now }
+
+-- what a node means, and a list of nodes, with so many nested partials left
+abbrev pub node_meant : Setting → ℕ → tree.Node → Run Nothing
+node_meant setting depth n = node_meaning setting (deeper_meaning setting depth) n
+
+abbrev pub nodes_meant : Setting → ℕ → tree.Nodes → Run Nothing
+nodes_meant setting depth nodes = nodes_meaning setting (deeper_meaning setting depth) nodes
+
+-- the same with what a run is given
+abbrev pub node_in : {H : Type 0} → (H → Text → FilterAnswer) → RunContext H → tree.Node → Run Nothing
+node_in named context n = node_meant (setting_of named context) context.depth n
+
+abbrev pub nodes_in : {H : Type 0} → (H → Text → FilterAnswer) → RunContext H → tree.Nodes → Run Nothing
+nodes_in named context nodes = nodes_meant (setting_of named context) context.depth nodes
+
+abbrev pub partial_in : {H : Type 0} → (H → Text → FilterAnswer) → RunContext H → tree.Nodes → Run Nothing
+partial_in named context nodes = deeper_meaning (setting_of named context) context.depth nodes

@@ -1,0 +1,177 @@
+-- What a piece is, where it stands, by the names that a language has and by its items.
+use Rattle.std.specs.Prelude.{List, [], ◌∷◌, Bool, true, false, Option, Some, None, option_and_then, option_map}
+use Rattle.liquid_model.specs.Texts.{Text}
+use Rattle.liquid_source.specs.Items.{Item}
+use Rattle.liquid_source.specs.Pieces as pieces
+use Rattle.liquid_source.specs.Tokens.{Token, tokens_of, word_first, value_first, past}
+use Rattle.liquid_source.specs.declared.piece.Body.{Body}
+use Rattle.liquid_source.specs.declared.piece.Body.TheVariants as bodies
+use Rattle.liquid_source.specs.declared.symbol.Symbol.TheVariants as symbols
+use Rattle.liquid_syntax.specs.ChainReading.{chain_of}
+use Rattle.liquid_syntax.specs.ConditionReading.{condition_of}
+use Rattle.liquid_syntax.specs.Loops.{for_node, loop_of, row_node}
+use Rattle.liquid_syntax.specs.PartialItems.{include_node, include_of, jekyll_node, jekyll_of, render_node, render_of}
+use Rattle.liquid_syntax.specs.Registered.{registered_in}
+use Rattle.liquid_syntax.specs.Nesting.{of_one, of_two, of_many, Statement, leaf, closed, begins, elsif, arm, otherwise, ends, refused}
+use Rattle.liquid_syntax.specs.Roles.{role_of, unread_body}
+use Rattle.liquid_tree.specs.Tree.{Condition, Node, Nodes, plain, raw, comment, output, assign, if_true, unless, capture, case_of, ifchanged, break_loop, continue_loop, increment, decrement}
+use Rattle.liquid_core.specs.Expression.{Expression}
+use Rattle.liquid_tree.specs.Tree.{Whens}
+use Rattle.liquid_syntax.specs.Cycles.{cycle_node, grouped_of}
+use Rattle.liquid_syntax.specs.ValueLists.{values_of}
+use Rattle.liquid_syntax.specs.declared.value_items.Separators.TheVariants.{CommasOr}
+use Rattle.liquid_syntax.specs.declared.block.Block.{Block}
+use Rattle.liquid_syntax.specs.declared.block.Block.TheVariants.{If, Unless, Capture, Case, IfChanged, For, TableRow}
+use Rattle.liquid_syntax.specs.declared.block.Control.TheVariants.{Elsif, Else, BareElse, When}
+use Rattle.liquid_syntax.specs.declared.block.BlockContext.{BlockContext}
+use Rattle.liquid_syntax.specs.declared.block.Role.{Role}
+use Rattle.liquid_syntax.specs.declared.block.Role.TheVariants.{End, Control as Word, Tag, Block as Start}
+use Rattle.liquid_syntax.specs.declared.language.BlockKind.{BlockKind}
+use Rattle.liquid_syntax.specs.declared.language.BlockKind.TheVariants as blocks
+use Rattle.liquid_syntax.specs.declared.language.Language.{Language}
+use Rattle.liquid_syntax.specs.declared.language.TagKind.TheVariants as tags
+use Rattle.liquid_syntax.specs.declared.loop_items.LoopKind.TheVariants.{Each, Rows}
+
+abbrev pub leaf_or : Option Node → Statement
+leaf_or None = refused
+leaf_or (Some n) = leaf n
+
+-- `w = chain`
+abbrev pub assign_of : Language → List Token → Option Node
+assign_of l ts = option_and_then (λ w. option_and_then (λ rest. option_map (assign w.0) (chain_of (registered_in l.filters) rest)) (past symbols.Assign w.1)) (word_first ts)
+
+-- an end takes no items
+abbrev pub ends_or : List Token → Statement
+ends_or [] = ends
+ends_or (t ∷ ts) = refused
+
+-- the node that an `if` or an `elsif` with the items makes of its bodies
+abbrev pub if_node : Condition → Nodes → Nodes → Node
+if_node condition f g = if_true condition f g
+
+abbrev pub if_of : List Token → Option (Nodes → Nodes → Node)
+if_of ts = option_map if_node (condition_of ts)
+
+-- the node that an `unless` with the items makes of its bodies
+abbrev pub unless_node : Condition → Nodes → Nodes → Node
+unless_node condition f g = unless condition f g
+
+abbrev pub unless_of : List Token → Option (Nodes → Nodes → Node)
+unless_of ts = option_map unless_node (condition_of ts)
+
+-- the node that a `for` with the items makes of its bodies
+abbrev pub for_of : List Token → Option (Nodes → Nodes → Node)
+for_of ts = option_map for_node (loop_of Each ts)
+
+-- the node that a `tablerow` with the items makes of its body
+abbrev pub rows_of : List Token → Option (Nodes → Node)
+rows_of ts = option_map row_node (loop_of Rows ts)
+
+-- one of a kind, and nothing behind it
+abbrev pub alone : {A : Type 0} → A × List Token → Option A
+alone (x, []) = Some x
+alone (x, t ∷ ts) = None
+
+abbrev pub word_alone : List Token → Option Text
+word_alone ts = option_and_then alone (word_first ts)
+
+abbrev pub value_alone : List Token → Option Expression
+value_alone ts = option_and_then alone (value_first ts)
+
+-- a tag without items
+abbrev pub bare : Statement → List Token → Statement
+bare l [] = l
+bare l (t ∷ ts) = refused
+
+abbrev pub one_or : Block → Option (Nodes → Node) → Statement
+one_or b None = refused
+one_or b (Some make) = begins (of_one b make)
+
+abbrev pub capture_of : List Token → Option (Nodes → Node)
+capture_of ts = option_map (λ w f. capture w f) (word_alone ts)
+
+abbrev pub many_or : Block → Option (Whens → Nodes → Node) → Statement
+many_or b None = refused
+many_or b (Some make) = begins (of_many b make)
+
+abbrev pub case_for : List Token → Option (Whens → Nodes → Node)
+case_for ts = option_map (λ x ws o. case_of x ws o) (value_alone ts)
+
+abbrev pub arm_or : Option (List Expression) → Statement
+arm_or None = refused
+arm_or (Some vs) = arm vs
+
+abbrev pub two_or : Block → Option (Nodes → Nodes → Node) → Statement
+two_or b None = refused
+two_or b (Some make) = begins (of_two b make)
+
+abbrev pub elsif_or : Option (Nodes → Nodes → Node) → Statement
+elsif_or None = refused
+elsif_or (Some make) = elsif make
+
+-- The start of a block, by its items. A block whose body isn't read has none, and with its body it is a piece of its own.
+abbrev pub block_statement : List Token → BlockKind → Statement
+block_statement ts blocks.If = two_or If (if_of ts)
+block_statement ts blocks.Unless = two_or Unless (unless_of ts)
+block_statement ts blocks.Capture = one_or Capture (capture_of ts)
+block_statement ts blocks.Case = many_or Case (case_for ts)
+block_statement ts blocks.IfChanged = bare (begins (of_one IfChanged (λ f. ifchanged f))) ts
+block_statement ts blocks.For = two_or For (for_of ts)
+block_statement ts blocks.TableRow = one_or TableRow (rows_of ts)
+block_statement ts blocks.Raw = refused
+block_statement ts blocks.Comment = refused
+
+-- a tag, its items, and the tokens that they are
+abbrev pub tag_statement : Language → List Item → List Token → Option Role → Statement
+tag_statement l is ts None = refused
+tag_statement l is ts (Some End) = ends_or ts
+tag_statement l is ts (Some (Word Elsif)) = elsif_or (if_of ts)
+-- the items of an `else` are ignored
+tag_statement l is ts (Some (Word Else)) = otherwise
+tag_statement l is ts (Some (Word BareElse)) = bare otherwise ts
+tag_statement l is ts (Some (Word When)) = arm_or (values_of CommasOr ts)
+tag_statement l is ts (Some (Tag tags.Assign)) = leaf_or (assign_of l ts)
+tag_statement l is ts (Some (Tag tags.Break)) = bare (leaf break_loop) ts
+tag_statement l is ts (Some (Tag tags.Continue)) = bare (leaf continue_loop) ts
+tag_statement l is ts (Some (Tag tags.Increment)) = leaf_or (option_map (λ w. increment w) (word_alone ts))
+tag_statement l is ts (Some (Tag tags.Decrement)) = leaf_or (option_map (λ w. decrement w) (word_alone ts))
+tag_statement l is ts (Some (Tag tags.Cycle)) = leaf_or (option_map cycle_node (grouped_of ts))
+tag_statement l is ts (Some (Tag tags.Include)) = leaf_or (option_map include_node (include_of ts))
+-- its name is taken as it is spelled
+tag_statement l is ts (Some (Tag tags.JekyllInclude)) = leaf_or (option_map jekyll_node (jekyll_of is))
+tag_statement l is ts (Some (Tag tags.Render)) = leaf_or (option_map render_node (render_of ts))
+tag_statement l is ts (Some (Start kind)) = block_statement ts kind
+
+abbrev pub raw_statement : Text → Option Body → Statement
+raw_statement t (Some bodies.Raw) = closed (raw t)
+raw_statement t (Some bodies.Comment) = refused
+raw_statement t None = refused
+
+abbrev pub comment_statement : Option Body → Statement
+comment_statement (Some bodies.Comment) = closed comment
+comment_statement (Some bodies.Raw) = refused
+comment_statement None = refused
+
+abbrev pub reads : Language → BlockContext → pieces.Piece → Statement
+reads l x (pieces.text t) = leaf (plain t)
+reads l x (pieces.output is) = leaf_or (option_map output (chain_of (registered_in l.filters) (tokens_of is)))
+reads l x (pieces.tag w is) = tag_statement l is (tokens_of is) (role_of l x w)
+reads l x (pieces.raw w t) = raw_statement t (unread_body (role_of l x w))
+reads l x (pieces.comment w) = comment_statement (unread_body (role_of l x w))
+
+-- ---- where a block begins
+
+abbrev pub is_start : Option Role → Bool
+is_start None = false
+is_start (Some End) = false
+is_start (Some (Word word)) = false
+is_start (Some (Tag kind)) = false
+is_start (Some (Start kind)) = true
+
+-- the piece is the start of a block, whatever its items are
+abbrev pub opens : Language → BlockContext → pieces.Piece → Bool
+opens l x (pieces.text t) = false
+opens l x (pieces.output is) = false
+opens l x (pieces.tag w is) = is_start (role_of l x w)
+opens l x (pieces.raw w t) = is_start (role_of l x w)
+opens l x (pieces.comment w) = is_start (role_of l x w)

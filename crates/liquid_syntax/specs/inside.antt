@@ -1,0 +1,7 @@
+pub mod Building
+pub mod Called
+pub mod Classifies
+pub mod ConditionAnswers
+pub mod Mentions
+pub mod NameVisitors
+pub mod ValueAnswers

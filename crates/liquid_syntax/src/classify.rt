@@ -1,0 +1,166 @@
+//! What a piece is, where it stands: the statement of an output or a tag, by the language and by its items.
+ghost use Rattle.std.specs.Prelude.{◌≡◌, length};
+ghost use Rattle.liquid_source.specs.PieceView.{items_view, piece_view};
+ghost use Rattle.liquid_source.specs.Readers.{IsAt, IsOfKind};
+ghost use Rattle.liquid_source.specs.SourceReading.{wanted_body};
+ghost use Rattle.liquid_source.specs.Tokens.{tokens_view};
+ghost use Rattle.liquid_syntax.specs.Faults.{FaultsAs, FaultsAt};
+ghost use Rattle.liquid_syntax.specs.inside.Classifies.{Classifies};
+ghost use Rattle.liquid_syntax.specs.Classification.{comment_statement, ends_or, opens, raw_statement, reads, tag_statement};
+ghost use Rattle.liquid_syntax.specs.Roles.{body_behind, role_of};
+
+mod blocks;
+mod tags;
+
+use crate::block::{BlockContext, Control, Role, role_of, unread_body};
+use crate::build::Statement;
+use crate::chain_items::{expected, read_chain};
+use crate::cycle_items::read_cycle;
+use crate::language::{Language, TagKind};
+use crate::node::Node;
+use crate::partial_items::{read_include, read_jekyll_include, read_render};
+use crate::value_items::{Separators, read_values};
+use blocks::{read_block, read_if};
+use liquid_source::{Body, Fault, FaultKind, Item, ParseError, Piece, bare_name};
+use std::alloc::Global;
+use std::collections::VecDeque;
+use tags::{read_assign, read_bare, read_word};
+
+/// The body behind a piece, where it is a tag without items that begins a block whose body isn't read.
+pub fn body_behind(language: &Language, context: BlockContext, piece: &Piece<'_>) -> Option<Body>
+    ensures { result ≡ wanted_body (body_behind language.now context) (piece_view piece.now) }
+{
+    unread_body(role_of(language, context, bare_name(piece)?))
+}
+
+/// Whether the piece is the start of a block, whatever its items are.
+pub fn opens(language: &Language, context: BlockContext, piece: &Piece<'_>) -> bool
+    ensures { result ≡ opens language.now context (piece_view piece.now) }
+{
+    match piece {
+        Piece::Output(_) => false,
+        Piece::Tag(name, _) | Piece::Raw(name, _) | Piece::Comment(name) => {
+            matches!(role_of(language, context, name), Some(Role::Block(_)))
+        }
+    }
+}
+
+/// The statement that a piece is in its context. `at` is the source from the piece on.
+#[tactic(auto, using(liquid_source::proofs::Seen::seen_tokens))]
+pub fn classify(
+    alloc: Global,
+    language: &Language,
+    context: BlockContext,
+    piece: Piece<'_>,
+    at: &str,
+) -> Result<Statement, ParseError>
+    ensures statement { Classifies (reads language.now context (piece_view piece.entry)) result }
+    ensures place { FaultsAt (length at.now) result }
+{
+    match piece {
+        Piece::Output(items) => Ok(Statement::Leaf(Node::Output(read_chain(
+            alloc,
+            &language.filters,
+            items,
+            at,
+        )?))),
+        Piece::Tag(name, items) => read_tag(alloc, language, context, name, items, at),
+        Piece::Raw(name, body) => {
+            let role = role_of(language, context, name);
+            raw_block(alloc, unread_body(role), body, at)
+        }
+        Piece::Comment(name) => {
+            let role = role_of(language, context, name);
+            comment_block(unread_body(role), at)
+        }
+    }
+}
+
+fn raw_block(
+    alloc: Global,
+    wanted: Option<Body>,
+    body: &str,
+    at: &str,
+) -> Result<Statement, ParseError>
+    ensures statement { Classifies (raw_statement body.now wanted) result }
+    ensures kind { FaultsAs FaultKind.UnknownTag result }
+    ensures place { FaultsAt (length at.now) result }
+{
+    match wanted {
+        Some(Body::Raw) => Ok(Statement::Closed(Node::Raw(String::from_str(alloc, body)?))),
+        _ => Err(unknown_tag(at)),
+    }
+}
+
+fn comment_block(wanted: Option<Body>, at: &str) -> Result<Statement, ParseError>
+    ensures statement { Classifies (comment_statement wanted) result }
+    ensures kind { FaultsAs FaultKind.UnknownTag result }
+    ensures place { FaultsAt (length at.now) result }
+{
+    match wanted {
+        Some(Body::Comment) => Ok(Statement::Closed(Node::Comment)),
+        _ => Err(unknown_tag(at)),
+    }
+}
+
+fn read_tag(
+    alloc: Global,
+    language: &Language,
+    context: BlockContext,
+    name: &str,
+    items: VecDeque<Item<'_>>,
+    at: &str,
+) -> Result<Statement, ParseError>
+    ensures statement { Classifies (tag_statement language.now (items_view items.entry.items) (tokens_view items.entry.items) (role_of language.now context name.now)) result }
+    ensures place { FaultsAt (length at.now) result }
+{
+    match role_of(language, context, name) {
+        None => Err(unknown_tag(at)),
+        Some(Role::End) => read_end(items, at),
+        Some(Role::Control(Control::Elsif)) => Ok(Statement::Elsif(read_if(alloc, items, at)?)),
+        Some(Role::Control(Control::Else)) => Ok(Statement::Otherwise),
+        Some(Role::Control(Control::BareElse)) => read_bare(Statement::Otherwise, items, at),
+        Some(Role::Control(Control::When)) => {
+            let values = read_values(alloc, items, Separators::CommasOr, at)?;
+            Ok(Statement::When(values))
+        }
+        Some(Role::Tag(TagKind::Assign)) => read_assign(alloc, language, items, at),
+        Some(Role::Tag(TagKind::Break)) => read_bare(Statement::Leaf(Node::Break), items, at),
+        Some(Role::Tag(TagKind::Continue)) => read_bare(Statement::Leaf(Node::Continue), items, at),
+        Some(Role::Tag(TagKind::Increment)) => {
+            let name = read_word(items, at)?;
+            Ok(Statement::Leaf(Node::Increment(name)))
+        }
+        Some(Role::Tag(TagKind::Decrement)) => {
+            let name = read_word(items, at)?;
+            Ok(Statement::Leaf(Node::Decrement(name)))
+        }
+        Some(Role::Tag(TagKind::Cycle)) => {
+            let (group, values) = read_cycle(alloc, items, at)?;
+            Ok(Statement::Leaf(Node::Cycle(group, values)))
+        }
+        Some(Role::Tag(TagKind::Include)) => read_include(alloc, items, at),
+        Some(Role::Tag(TagKind::JekyllInclude)) => read_jekyll_include(alloc, items, at),
+        Some(Role::Tag(TagKind::Render)) => read_render(alloc, items, at),
+        Some(Role::Block(kind)) => read_block(alloc, kind, items, at),
+    }
+}
+
+fn read_end(items: VecDeque<Item<'_>>, at: &str) -> Result<Statement, ParseError>
+    ensures statement { Classifies (ends_or (tokens_view items.entry.items)) result }
+    ensures kind { FaultsAs FaultKind.Expected result }
+    ensures place { FaultsAt (length at.now) result }
+{
+    if items.is_empty() {
+        Ok(Statement::Ends)
+    } else {
+        Err(expected(at, items.len(), "the closer"))
+    }
+}
+
+fn unknown_tag(at: &str) -> ParseError
+    ensures kind { IsOfKind FaultKind.UnknownTag result }
+    ensures place { IsAt (length at.now) result }
+{
+    ParseError::Fault(Fault::new(FaultKind::UnknownTag, at, "a registered tag"))
+}
