@@ -79,7 +79,7 @@ fn visit_arms<V: NameVisitor>(arms: &[Arm], visitor: &mut V) -> bool
 }
 
 /// The names of a `for`: `forloop`, those of its head, and those of the items that are asked for.
-#[tactic(auto, unfolding(crate::specs::Mentions::for_names))]
+#[tactic(auto, unfolding(crate::specs::inside::Mentions::for_names))]
 fn visit_for<V: NameVisitor>(head: &For, visitor: &mut V) -> bool
     ensures { V.tells visitor.old (for_names head.now) result visitor.new }
 {
@@ -88,7 +88,7 @@ fn visit_for<V: NameVisitor>(head: &For, visitor: &mut V) -> bool
 }
 
 /// The names of a `tablerow`: `tablerow`, those of its head, of its columns and of the items that are asked for.
-#[tactic(auto, unfolding(crate::specs::Mentions::row_names))]
+#[tactic(auto, unfolding(crate::specs::inside::Mentions::row_names))]
 fn visit_table_row<V: NameVisitor>(head: &TableRow, visitor: &mut V) -> bool
     ensures { V.tells visitor.old (row_names head.now) result visitor.new }
 {
@@ -103,7 +103,7 @@ fn visit_layout<V: NameVisitor>(head: &TableRow, visitor: &mut V) -> bool
 }
 
 /// The names of the `for` of a `render`, and those of its pairs.
-#[tactic(auto, unfolding(crate::specs::Mentions::each_names))]
+#[tactic(auto, unfolding(crate::specs::inside::Mentions::each_names))]
 fn visit_each<V: NameVisitor>(each: &Each, pairs: &[Binding], visitor: &mut V) -> bool
     ensures { V.tells visitor.old (each_names each.now ++ pairs_names (bindings_view pairs.now)) result visitor.new }
 {
@@ -142,7 +142,7 @@ fn visit_window<V: NameVisitor>(window: &WindowExpression, visitor: &mut V) -> b
 }
 
 /// The names that pairs bind, and those in their values.
-#[tactic(auto, unfolding(crate::specs::Mentions::pairs_names))]
+#[tactic(auto, unfolding(crate::specs::inside::Mentions::pairs_names))]
 fn visit_pairs<V: NameVisitor>(pairs: &[Binding], visitor: &mut V) -> bool
     ensures { V.tells visitor.old (pairs_names (bindings_view pairs.now)) result visitor.new }
 {
@@ -150,7 +150,7 @@ fn visit_pairs<V: NameVisitor>(pairs: &[Binding], visitor: &mut V) -> bool
 }
 
 /// The name under which a jekyll `include` binds its pairs, and those in their values.
-#[tactic(auto, unfolding(crate::specs::Mentions::jekyll_names))]
+#[tactic(auto, unfolding(crate::specs::inside::Mentions::jekyll_names))]
 fn visit_jekyll_pairs<V: NameVisitor>(pairs: &[Binding], visitor: &mut V) -> bool
     ensures { V.tells visitor.old (jekyll_names (bindings_view pairs.now)) result visitor.new }
 {
