@@ -27,7 +27,7 @@ invariant_of-self c =
 
 pub exchange-requires : goal.exchange-requires
 exchange-requires c =
-    subst (λ ps. IsSome (listed ps c.args.name.now)) (sym c.exchange-before.ensures.place) (placed_there c.args.name.now (option_map tree_of c.args.held) (slots_of c.args.self.now.partials) c.requires)
+    subst (λ ps. IsSome (listed ps c.args.name.now)) (sym c.exchange-before.ensures.slot) (placed_there c.args.name.now (option_map tree_of c.args.held) (slots_of c.args.self.now.partials) c.requires)
 
 pub invariant_of-self-in-Err : goal.invariant_of-self-in-Err
 invariant_of-self-in-Err c =
@@ -35,7 +35,7 @@ invariant_of-self-in-Err c =
     let x = option_map tree_of c.args.held in
     let b = option_map tree_of c.exchange-before.result in
     let n = c.args.name.now in
-    let back = c.exchange.ensures.slot ∙ ap (placed n b) c.exchange-before.ensures.place ∙ placed_back n b x (slots_of s.partials) c.exchange-before.ensures.out in
+    let back = c.exchange.ensures.slot ∙ ap (placed n b) c.exchange-before.ensures.slot ∙ placed_back n b x (slots_of s.partials) c.exchange-before.ensures.out in
     record { kept = s.kept ∙ ap (λ ps. all_pages (page_over s.depth (filled ps) (held s.facts)) (trees_in s.templates)) (sym back) }
 
 pub returns-in-Ok-clause-counted : goal.returns-in-Ok-clause-counted
@@ -50,5 +50,5 @@ returns-in-Err-clause-unchanged c =
     let x = option_map tree_of c.args.held in
     let b = option_map tree_of c.exchange-before.result in
     let n = c.args.name.now in
-    let back = c.exchange.ensures.slot ∙ ap (placed n b) c.exchange-before.ensures.place ∙ placed_back n b x (slots_of s.partials) c.exchange-before.ensures.out in
+    let back = c.exchange.ensures.slot ∙ ap (placed n b) c.exchange-before.ensures.slot ∙ placed_back n b x (slots_of s.partials) c.exchange-before.ensures.out in
     λ i. record { depth = s.depth; pages = trees_in s.templates; partials = filled (back i); facts = held s.facts }
