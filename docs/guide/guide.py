@@ -225,5 +225,5 @@ def standard_names():
 
 def kinds_of_faults():
     """The kinds of faults, as their definition names them."""
-    with open(f"{TOP}/crates/liquid_model/specs/Told.antt", encoding="utf-8") as file:
+    with open(f"{TOP}/crates/liquid_model/specs/ErrorKinds.antt", encoding="utf-8") as file:
         return re.findall(r'^name_of \w+ = codes "(\w+)"$', file.read(), flags=re.M)
