@@ -3,7 +3,7 @@ use crate::filters::{Bad, Suffix};
 use crate::given::option;
 use crate::pages::{parsed, rendered, rendered_to};
 use liquid_core::{ErrorKind, Expression, Filter, HostFilters, NamedFilters, Result, State, Value};
-use liquid_lib::{Language, Runtime, RuntimeBuilder, language};
+use liquid_lib::{Language, RuntimeBuilder, language};
 use liquid_refusals::{Row, Told, ending, items, member, text_member};
 use liquid_syntax::{FilterCall, apply_filters};
 use std::alloc::Global;
@@ -31,21 +31,22 @@ pub(crate) fn hosted<R: Print>(told: &Told<'_, R>, row: &Row) -> Result<()> {
     let Some(template) = parsed(told, row, &language) else {
         return Ok(());
     };
-    let is_lent = option(&row.on, "lacks_filters").is_none();
-    let mut runtime = runtime_with(alloc, is_lent.then_some(&host));
+    if option(&row.on, "lacks_filters").is_some() {
+        let mut runtime = RuntimeBuilder::new(alloc).build(alloc);
+        rendered_to(told, row, &template, &mut runtime)?;
+        let mut runtime = RuntimeBuilder::new(alloc).build(alloc);
+        rendered(told, row, &template, &mut runtime);
+        return Ok(());
+    }
+    let mut runtime = RuntimeBuilder::new(alloc)
+        .set_host_filters(&host)
+        .build(alloc);
     rendered_to(told, row, &template, &mut runtime)?;
-    let mut runtime = runtime_with(alloc, is_lent.then_some(&host));
+    let mut runtime = RuntimeBuilder::new(alloc)
+        .set_host_filters(&host)
+        .build(alloc);
     rendered(told, row, &template, &mut runtime);
     Ok(())
-}
-
-/// A runtime with the filters of a host, where there are some.
-fn runtime_with<'h>(alloc: Global, host: Option<&'h HostFilters>) -> Runtime<'h> {
-    let builder = RuntimeBuilder::new(alloc);
-    match host {
-        Some(host) => builder.set_host_filters(host).build(alloc),
-        None => builder.build(alloc),
-    }
 }
 
 /// The standard language, in which the names of the options stand for filters of the host, each with the greatest number of

@@ -18,32 +18,26 @@ pub(crate) fn pages_made<R: Print>(told: &Told<'_, R>, row: &Row, data: Object) 
     let Some(template) = parsed(told, row, &language) else {
         return Ok(());
     };
-    let mut runtime = runtime_over(alloc, copied(alloc, &data)?, &partials, &row.on);
+    let depth = depth(&row.on);
+    let mut runtime = RuntimeBuilder::new(alloc)
+        .set_globals(copied(alloc, &data)?)
+        .set_partials(&partials)
+        .set_depth(depth)
+        .build(alloc);
     rendered_to(told, row, &template, &mut runtime)?;
     rendered_then(told, row, &language, &mut runtime)?;
-    let mut runtime = runtime_over(alloc, copied(alloc, &data)?, &partials, &row.on);
-    rendered_from_source(told, row, &language, &mut runtime)?;
+    rendered_from_source(told, row, &language, copied(alloc, &data)?, &partials)?;
     if row.fault.as_str() == "Write" {
         return Ok(());
     }
-    let mut runtime = runtime_over(alloc, copied(alloc, &data)?, &partials, &row.on);
+    let mut runtime = RuntimeBuilder::new(alloc)
+        .set_globals(copied(alloc, &data)?)
+        .set_partials(&partials)
+        .set_depth(depth)
+        .build(alloc);
     rendered(told, row, &template, &mut runtime);
     page_rendered(told, row, &template, &partials, &copied(alloc, &data)?);
     Ok(())
-}
-
-/// A runtime over the data, with the partials and the depth.
-fn runtime_over<'p>(
-    alloc: Global,
-    data: Object,
-    partials: &'p Partials,
-    options: &Value,
-) -> Runtime<'p> {
-    RuntimeBuilder::new(alloc)
-        .set_globals(data)
-        .set_partials(partials)
-        .set_depth(depth(options))
-        .build(alloc)
 }
 
 /// The template, parsed again where memory was refused, or none where the row's source is refused by its fault.
@@ -125,8 +119,15 @@ fn rendered_from_source<R: Print>(
     told: &Told<'_, R>,
     row: &Row,
     language: &Language,
-    runtime: &mut Runtime<'_>,
+    data: Object,
+    partials: &Partials,
 ) -> Result<()> {
+    // a runtime that comes from elsewhere may have filters of a host, which rt ci wants where they are made
+    let mut runtime = RuntimeBuilder::new(told.alloc)
+        .set_globals(data)
+        .set_partials(partials)
+        .set_depth(depth(&row.on))
+        .build(told.alloc);
     let mut counted = Counted::new(writer(told.alloc, &row.on, page_of(row))?);
     told.begin();
     let answer = render_source(
@@ -134,7 +135,7 @@ fn rendered_from_source<R: Print>(
         row.source.as_str(),
         language,
         &mut counted,
-        runtime,
+        &mut runtime,
     );
     told.end();
     let failures = counted.failures();

@@ -16,12 +16,29 @@ pub(crate) fn runtime_made<R: Print>(told: &Told<'_, R>, row: &Row, data: Object
         .set_depth(depth(&row.on))
         .build(told.alloc);
     for step in items(&row.with) {
-        told.begin();
-        let answer = step_made(told.alloc, &mut runtime, step);
-        told.end();
-        tell(told, step, &answer);
-        if kind_of(&answer) == Some(ErrorKind::Memory) {
-            drop(step_made(told.alloc, &mut runtime, step));
+        for is_again in [false, true] {
+            if !is_again {
+                told.begin();
+            }
+            // made here: of a runtime that is handed on rt ci takes it that filters of a host are made for it
+            let answer = match change_of(told.alloc, step) {
+                Ok(Change::Index(name, value)) => nil(runtime.set_index(name, value)),
+                Ok(Change::Global(name, value)) => nil(runtime.set_global(name, value)),
+                Ok(Change::Push(scope)) => nil(runtime.push_scope(scope)),
+                Ok(Change::Pop) => {
+                    runtime.pop_scope();
+                    Ok(Value::Nil)
+                }
+                Ok(Change::Nothing) => looked_up(told.alloc, &runtime, step),
+                Err(fault) => Err(fault),
+            };
+            if !is_again {
+                told.end();
+                tell(told, step, &answer);
+            }
+            if kind_of(&answer) != Some(ErrorKind::Memory) {
+                break;
+            }
         }
     }
     Ok(())
@@ -41,19 +58,34 @@ fn tell<R: Print>(told: &Told<'_, R>, step: &Value, answer: &Result<Value>) {
     );
 }
 
-fn step_made(alloc: Global, runtime: &mut Runtime<'_>, step: &Value) -> Result<Value> {
+/// What a call changes in a runtime.
+#[derive(Drop)]
+enum Change {
+    Index(String, Value),
+    Global(String, Value),
+    Push(Object),
+    Pop,
+    Nothing,
+}
+
+fn change_of(alloc: Global, step: &Value) -> Result<Change> {
     let name = text_member(step, 1);
-    match text_member(step, 0) {
-        "set_index" => runtime.set_index(String::from_str(alloc, name)?, given(alloc, step)?)?,
-        "set_global" => runtime.set_global(String::from_str(alloc, name)?, given(alloc, step)?)?,
-        "push_scope" => runtime.push_scope(scope(alloc, step)?)?,
-        "pop_scope" => runtime.pop_scope(),
-        _ => return looked_up(alloc, runtime, name, step),
-    }
+    Ok(match text_member(step, 0) {
+        "set_index" => Change::Index(String::from_str(alloc, name)?, given(alloc, step)?),
+        "set_global" => Change::Global(String::from_str(alloc, name)?, given(alloc, step)?),
+        "push_scope" => Change::Push(scope(alloc, step)?),
+        "pop_scope" => Change::Pop,
+        _ => Change::Nothing,
+    })
+}
+
+fn nil(done: Result<()>) -> Result<Value> {
+    done?;
     Ok(Value::Nil)
 }
 
-fn looked_up(alloc: Global, runtime: &Runtime<'_>, name: &str, step: &Value) -> Result<Value> {
+fn looked_up(alloc: Global, runtime: &Runtime<'_>, step: &Value) -> Result<Value> {
+    let name = text_member(step, 1);
     let path = items(member(step, 1).unwrap_or(&Value::Nil));
     match text_member(step, 0) {
         "look_up" => optional(alloc, runtime.state().look_up(name)),
