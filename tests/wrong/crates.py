@@ -145,6 +145,18 @@ def words(crate, at):
     return [*made, "--jobs", "1", "--links", f"{crate.name}="]
 
 
+def copied(crate, copy, texts):
+    """The folder of a copy of the crate, with these texts in place of its own."""
+    shutil.rmtree(copy, ignore_errors=True)
+    for part in PARTS:
+        if os.path.isdir(f"{crate.folder}/{part}"):
+            shutil.copytree(f"{crate.folder}/{part}", f"{copy}/{part}")
+    for path, text in texts.items():
+        with open(f"{copy}/{path}", "w", encoding="utf-8") as file:
+            file.write(text)
+    return copy
+
+
 class Prover:
     """Checks copies of one crate, each over what the checks before it proved, in a folder of its own."""
 
@@ -167,14 +179,7 @@ class Prover:
     def check(self, texts, only=(), proved=()):
         """What a check says of the crate with these texts in place of its own: of these modules alone, or of these functions, with
         each other one taken at its word."""
-        copy = f"{self.room}/copy"
-        shutil.rmtree(copy, ignore_errors=True)
-        for part in PARTS:
-            if os.path.isdir(f"{self.crate.folder}/{part}"):
-                shutil.copytree(f"{self.crate.folder}/{part}", f"{copy}/{part}")
-        for path, text in texts.items():
-            with open(f"{copy}/{path}", "w", encoding="utf-8") as file:
-                file.write(text)
+        copy = copied(self.crate, f"{self.room}/copy", texts)
         asked = [word for name in [*only, *(it.name for it in proved)] for word in ("--only", name)]
         if proved:
             stub(self.crate.name, copy, proved)

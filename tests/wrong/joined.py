@@ -3,7 +3,7 @@ import os
 import re
 import shutil
 
-from crates import PARTS, ran
+from crates import copied, ran
 from edits import sources, text_of
 from functions import modules, stated_functions
 from stubs import TYPE, place_of, stub
@@ -31,22 +31,12 @@ class Joined:
         asked = []
         for crate in self.crates:
             texts, proved = edited.get(crate.name, ({}, []))
-            copy = self.copied(crate, texts)
+            copy = copied(crate, f"{self.room}/{crate.name}", texts)
             asked += [f"{crate.name}::{name}" for name in whole_names(copy, proved)]
             stub(crate.name, copy, proved)
             remove_cycles(copy, {it.cycle for it in proved})
         said = ran(self.words(asked), self.rooted())
         return {name: self.said_of(name, said) for name in edited}, said.seconds
-
-    def copied(self, crate, texts):
-        copy = f"{self.room}/{crate.name}"
-        for part in PARTS:
-            if os.path.isdir(f"{crate.folder}/{part}"):
-                shutil.copytree(f"{crate.folder}/{part}", f"{copy}/{part}")
-        for path, text in texts.items():
-            with open(f"{copy}/{path}", "w", encoding="utf-8") as file:
-                file.write(text)
-        return copy
 
     def rooted(self):
         """The folder of a library that has nothing of its own, over which the others are checked."""
