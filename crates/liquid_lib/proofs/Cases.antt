@@ -15,7 +15,7 @@ use Rattle.liquid_syntax.proofs.Places.{one_body}
 use Rattle.liquid_lib.specs.inside.Choices.{CaseStands, IsCase}
 use Rattle.liquid_lib.specs.inside.Engine.{node_meant}
 use Rattle.liquid_lib.specs.Kept.{Keeps, IsRender}
-use Rattle.liquid_lib.specs.Performs.{Place, Performs}
+use Rattle.liquid_lib.specs.Performs.{Configuration, Performs}
 use Rattle.liquid_meaning.specs.Meaning.{Setting}
 use Rattle.liquid_lib.proofs.CaseChoices.{case_le}
 use Rattle.liquid_lib.proofs.Going.{Known, known, node_within, NodePerforms, NodeKeeps, NodeAlone}
@@ -52,7 +52,7 @@ module _ (ns : List Node) (at : ℕ) (target : Expression) (arms : List Arm) (la
   pub case_ends : (n : tree.Node) (next : ℕ) → NodeAt ns at n next → last ≡ next
   case_ends n next there = let (ws, o, stands, is, ends) = known_case n next there in sym ends
 
-  pub case_performs : (setting : Setting) (depth : ℕ) (res : Result (Unit {0}) Error) (a z : Place) → ((ws : Whens) (o : Nodes) → CaseStands ns (at + 1) arms last ws o → Performs res (node_meant setting depth (case_of target ws o)) a z)
+  pub case_performs : (setting : Setting) (depth : ℕ) (res : Result (Unit {0}) Error) (a z : Configuration) → ((ws : Whens) (o : Nodes) → CaseStands ns (at + 1) arms last ws o → Performs res (node_meant setting depth (case_of target ws o)) a z)
       → NodePerforms setting depth ns at res a z
   case_performs setting depth res a z h n next there =
       let (ws, o, stands, is, ends) = known_case n next there in

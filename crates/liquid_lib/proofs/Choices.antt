@@ -22,7 +22,7 @@ use Rattle.liquid_syntax.proofs.Places.{Stands-le, first-within, nothing_left}
 use Rattle.liquid_lib.specs.inside.Choices.{Meant, Chosen, Refused, ComesTo}
 use Rattle.liquid_lib.specs.inside.Engine.{nodes_meant}
 use Rattle.liquid_meaning.specs.Meaning.{Setting, node_meaning, nodes_meaning, deeper_meaning}
-use Rattle.liquid_lib.specs.Performs.{Place, MeetsAt, Performs, unit}
+use Rattle.liquid_lib.specs.Performs.{Configuration, MeetsAt, Performs, unit}
 use Rattle.liquid_meaning.specs.Runs.{Nothing, Run, evaluate}
 use Rattle.liquid_meaning.specs.Within.{Within}
 use Rattle.liquid_lib.proofs.Going.{first, Known, known, known_two}
@@ -227,12 +227,12 @@ module _ (ns : List Node) (e : Environment) (nodes : tree.Nodes) (at to : ℕ) (
 
 -- ---- a run of what was chosen
 
-pub chosen_performs : (ns : List Node) (names : List Text) (meant : Meant) (from to depth : ℕ) (setting : Setting) (r : Result (Unit {0}) Error) (p u : Place) → Chosen ns p.environment names meant from to
+pub chosen_performs : (ns : List Node) (names : List Text) (meant : Meant) (from to depth : ℕ) (setting : Setting) (r : Result (Unit {0}) Error) (p u : Configuration) → Chosen ns p.environment names meant from to
     → ((f : Forest Maker) → StandsAt ns from f to → Performs r (nodes_meant setting depth (nodes_of f)) p u) → Performs r (meant setting (deeper_meaning setting depth)) p u
 chosen_performs ns names meant from to depth setting r p u x ran =
     subst (λ o. MeetsAt unit r o p.sink u.sink u.environment) (sym (x.same setting (deeper_meaning setting depth))) (ran x.nodes x.stands)
 
-pub refused_performs : (ns : List Node) (names : List Text) (meant : Meant) (depth : ℕ) (setting : Setting) (x : Error) (p : Place) → ComesTo ns p.environment names meant (Err x)
+pub refused_performs : (ns : List Node) (names : List Text) (meant : Meant) (depth : ℕ) (setting : Setting) (x : Error) (p : Configuration) → ComesTo ns p.environment names meant (Err x)
     → Performs (Err x) (meant setting (deeper_meaning setting depth)) p p
 refused_performs ns names meant depth setting x p h = on (is_memory x.kind) refl h
   where

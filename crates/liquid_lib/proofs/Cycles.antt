@@ -17,7 +17,7 @@ use Rattle.liquid_core.specs.Held.{held}
 use Rattle.liquid_core.specs.States.{environment_of, layers_of}
 use Rattle.liquid_core.specs.declared.state.State.{State}
 use Rattle.liquid_core.proofs.States.{cycle_of}
-use Rattle.liquid_lib.specs.Performs.{Place, Performs, unit}
+use Rattle.liquid_lib.specs.Performs.{Configuration, Performs, unit}
 use Rattle.liquid_lib.specs.Sinks.{Sink}
 use Rattle.liquid_lib.proofs.Joined.{bind_met, change_met, fault_met, read_met}
 use Rattle.liquid_meaning.specs.Effects.{cycle_index, cycled_to}
@@ -25,7 +25,7 @@ use Rattle.liquid_meaning.specs.Meaning.{cycle_meaning, write_item}
 use Rattle.liquid_meaning.specs.Runs.{Nothing, Run, change, ◌>>=◌}
 
 -- no values
-pub cycle_without : (group : Text) (values : List Expression) (e : Error) (p : Place) → length values ≡ 0 → IsKindOrMemory CycleBounds e.kind → Performs (Err e) (cycle_meaning group values) p p
+pub cycle_without : (group : Text) (values : List Expression) (e : Error) (p : Configuration) → length values ≡ 0 → IsKindOrMemory CycleBounds e.kind → Performs (Err e) (cycle_meaning group values) p p
 cycle_without group [] e p none told = fault_met CycleBounds e p refl told
 cycle_without group (x ∷ xs) e p none told = absurd (omega (arith, none))
 
@@ -36,9 +36,9 @@ pub cycle_met : (group : Text) (values : List Expression) (r : Result (Unit {0})
     → Performs r (cycle_meaning group values) (record { sink = s; environment = e }) (record { sink = t; environment = h })
 cycle_met group [] r i s t e g h some is moved done = absurd (omega (arith, some))
 cycle_met group (x ∷ xs) r i s t e g h some is moved done =
-    let p : Place = record { sink = s; environment = e } in
-    let q : Place = record { sink = s; environment = g } in
-    let u : Place = record { sink = t; environment = h } in
+    let p : Configuration = record { sink = s; environment = e } in
+    let q : Configuration = record { sink = s; environment = g } in
+    let u : Configuration = record { sink = t; environment = h } in
     let at : ℕ → Run Nothing = λ j. change (cycled_to group ((j + 1) % length (x ∷ xs))) >>= (λ a. write_item (slice_get (x ∷ xs) j)) in
     let i0 = cycle_index group e in
     let step = cycled_to group ((i0 + 1) % length (x ∷ xs)) in
@@ -46,12 +46,12 @@ cycle_met group (x ∷ xs) r i s t e g h some is moved done =
     (bind_met unit unit tt r (change step) (λ a. write_item (slice_get (x ∷ xs) i0)) p q u (change_met (Ok tt) step s e g (sym moved)) (subst (λ j. Performs r (write_item (slice_get (x ∷ xs) j)) q u) is done))
 
 -- no value stands there
-pub none_there : (item : Option Expression) (e : Error) (p : Place) → item ≡ None → IsKindOrMemory CycleBounds e.kind → Performs (Err e) (write_item item) p p
+pub none_there : (item : Option Expression) (e : Error) (p : Configuration) → item ≡ None → IsKindOrMemory CycleBounds e.kind → Performs (Err e) (write_item item) p p
 none_there (Some x) e p is told = absurd cc
 none_there None e p is told = fault_met CycleBounds e p refl told
 
 -- a value stands there
-pub one_there : (item : Option Expression) (x : Expression) (r : Result (Unit {0}) Error) (p q : Place) → item ≡ Some x → Performs r (write_item (Some x)) p q → Performs r (write_item item) p q
+pub one_there : (item : Option Expression) (x : Expression) (r : Result (Unit {0}) Error) (p q : Configuration) → item ≡ Some x → Performs r (write_item (Some x)) p q → Performs r (write_item item) p q
 one_there item x r p q is h = subst (λ o. Performs r (write_item o) p q) (sym is) h
 
 -- what stands at a place, seen

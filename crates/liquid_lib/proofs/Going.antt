@@ -19,7 +19,7 @@ use Rattle.liquid_syntax.proofs.Places.{Stands-le, StandBodies-le, one_body, two
 use Rattle.liquid_meaning.specs.Within.{Within}
 use Rattle.liquid_core.specs.States.{layers_of}
 use Rattle.liquid_lib.specs.Kept.{Keeps, IsRender, AreRenders}
-use Rattle.liquid_lib.specs.Performs.{Place, Performs}
+use Rattle.liquid_lib.specs.Performs.{Configuration, Performs}
 use Rattle.liquid_lib.specs.inside.Engine.{node_meant, nodes_meant}
 use Rattle.liquid_meaning.specs.Meaning.{Setting, deeper_meaning}
 use Rattle.liquid_meaning.proofs.Within.{left, right}
@@ -59,13 +59,13 @@ node_within ns at to (n, next, (x, bs, is, inner, made, ends), le) = subst (λ k
 
 -- ---- what is left of a range
 
-abbrev pub Going : Setting → ℕ → List Node → ℕ → ℕ → ℕ → Place → Place → Type 0
+abbrev pub Going : Setting → ℕ → List Node → ℕ → ℕ → ℕ → Configuration → Configuration → Type 0
 Going setting depth ns from at to start here = (f : Forest Maker) → StandsAt ns from f to → (rest : Forest Maker) × StandsAt ns at rest to
     × ((N : Names) → Within N (nodes_names (nodes_of f)) → Within N (nodes_names (nodes_of rest)))
     × (AreRenders (nodes_of f) → AreRenders (nodes_of rest))
-    × ((r : Result (Unit {0}) Error) (after : Place) → Performs r (nodes_meant setting depth (nodes_of rest)) here after → Performs r (nodes_meant setting depth (nodes_of f)) start after)
+    × ((r : Result (Unit {0}) Error) (after : Configuration) → Performs r (nodes_meant setting depth (nodes_of rest)) here after → Performs r (nodes_meant setting depth (nodes_of f)) start after)
 
-pub going_start : (setting : Setting) (depth : ℕ) (ns : List Node) (from to : ℕ) (start : Place) → Going setting depth ns from from to start start
+pub going_start : (setting : Setting) (depth : ℕ) (ns : List Node) (from to : ℕ) (start : Configuration) → Going setting depth ns from from to start start
 going_start setting depth ns from to start f s = (f, s, λ N h. h, λ h. h, λ r after h. h)
 
 -- what a range begins with
@@ -78,13 +78,13 @@ first ns at (node h bs rest) to (x, is, eq, inner, after) lt =
     (h (bodies_of bs), last_end (at + 1) x.ends, rest, (x, bs, is, inner, ap (λ k. k (bodies_of bs)) (sym eq), refl), refl, after, Stands-le (flats ns) _ rest to after, (let le = StandBodies-le (flats ns) (at + 1) x.ends bs inner in omega arith))
 
 -- the next node is whole
-pub going_node : (setting : Setting) (depth : ℕ) (ns : List Node) (from at to : ℕ) (start here : Place) → IsRange ns from to → Going setting depth ns from at to start here → at < to → IsNode ns at to
+pub going_node : (setting : Setting) (depth : ℕ) (ns : List Node) (from at to : ℕ) (start here : Configuration) → IsRange ns from to → Going setting depth ns from at to start here → at < to → IsNode ns at to
 going_node setting depth ns from at to start here (f, s) going lt =
     let (rest, stands, names, renders, gives) = going f s in
     let (n, next, more, there, is, after, le, past) = first ns at rest to stands lt in
     (n, next, there, le)
 
-abbrev pub NodePerforms : Setting → ℕ → List Node → ℕ → Result (Unit {0}) Error → Place → Place → Type 0
+abbrev pub NodePerforms : Setting → ℕ → List Node → ℕ → Result (Unit {0}) Error → Configuration → Configuration → Type 0
 NodePerforms setting depth ns at r here after = (n : tree.Node) (next : ℕ) → NodeAt ns at n next → Performs r (node_meant setting depth n) here after
 
 abbrev pub NodeKeeps : Setting → List Node → ℕ → State → State → Type 0
@@ -102,7 +102,7 @@ renders_first : (n : tree.Node) (more all : tree.Nodes) → all ≡ tree.node n 
 renders_first n more all is h = subst (λ x. AreRenders x) is h
 
 -- one node on
-pub going_on : (setting : Setting) (depth : ℕ) (ns : List Node) (from at to at2 : ℕ) (value : Unit {0}) (start here there : Place) → Going setting depth ns from at to start here → at < to
+pub going_on : (setting : Setting) (depth : ℕ) (ns : List Node) (from at to at2 : ℕ) (value : Unit {0}) (start here there : Configuration) → Going setting depth ns from at to start here → at < to
     → NodePerforms setting depth ns at (Ok value) here there → there.environment.registers.interrupt ≡ None → ((n : tree.Node) (next : ℕ) → NodeAt ns at n next → at2 ≡ next)
     → Going setting depth ns from at2 to start there
 going_on setting depth ns from at to at2 value start here there going lt ran none ends f s =
@@ -117,7 +117,7 @@ going_on setting depth ns from at to at2 value start here there going lt ran non
     )
 
 -- the node leaves an interrupt
-pub going_halt : (setting : Setting) (depth : ℕ) (ns : List Node) (from at to : ℕ) (value other : Unit {0}) (i : Interrupt) (start here there : Place) → Going setting depth ns from at to start here → at < to
+pub going_halt : (setting : Setting) (depth : ℕ) (ns : List Node) (from at to : ℕ) (value other : Unit {0}) (i : Interrupt) (start here there : Configuration) → Going setting depth ns from at to start here → at < to
     → NodePerforms setting depth ns at (Ok value) here there → there.environment.registers.interrupt ≡ Some i
     → (f : Forest Maker) → StandsAt ns from f to → Performs (Ok other) (nodes_meant setting depth (nodes_of f)) start there
 going_halt setting depth ns from at to value other i start here there going lt ran some f s =
@@ -127,7 +127,7 @@ going_halt setting depth ns from at to value other i start here there going lt r
     (list_halt setting (deeper_meaning setting depth) value other n (nodes_of more) here there i (ran n next is_there) some))
 
 -- the node ends by an error
-pub going_fault : (setting : Setting) (depth : ℕ) (ns : List Node) (from at to : ℕ) (e : Error) (start here there : Place) → Going setting depth ns from at to start here → at < to
+pub going_fault : (setting : Setting) (depth : ℕ) (ns : List Node) (from at to : ℕ) (e : Error) (start here there : Configuration) → Going setting depth ns from at to start here → at < to
     → NodePerforms setting depth ns at (Err e) here there
     → (f : Forest Maker) → StandsAt ns from f to → Performs (Err e) (nodes_meant setting depth (nodes_of f)) start there
 going_fault setting depth ns from at to e start here there going lt ran f s =
@@ -137,7 +137,7 @@ going_fault setting depth ns from at to e start here there going lt ran f s =
     (list_fault setting (deeper_meaning setting depth) e n (nodes_of more) here there (ran n next is_there)))
 
 -- nothing is left
-pub going_end : (setting : Setting) (depth : ℕ) (ns : List Node) (from at to : ℕ) (value : Unit {0}) (start here : Place) → Going setting depth ns from at to start here → to ≤ at
+pub going_end : (setting : Setting) (depth : ℕ) (ns : List Node) (from at to : ℕ) (value : Unit {0}) (start here : Configuration) → Going setting depth ns from at to start here → to ≤ at
     → (f : Forest Maker) → StandsAt ns from f to → Performs (Ok value) (nodes_meant setting depth (nodes_of f)) start here
 going_end setting depth ns from at to value start here going le f s =
     let (rest, stands, names, renders, gives) = going f s in
@@ -153,7 +153,7 @@ kept_on names setting s t u h k N within inside =
     let b = k N within inside in
     record { scopes = b.scopes ∙ a.scopes; globals = b.globals ∙ a.globals; assigned = λ q o. b.assigned q o ∙ a.assigned q o; counters = λ q o. b.counters q o ∙ a.counters q o }
 
-pub kept_step : (setting : Setting) (depth : ℕ) (ns : List Node) (from at to : ℕ) (start here : Place) (s t u : State) (f : Forest Maker) → StandsAt ns from f to → Going setting depth ns from at to start here → at < to
+pub kept_step : (setting : Setting) (depth : ℕ) (ns : List Node) (from at to : ℕ) (start here : Configuration) (s t u : State) (f : Forest Maker) → StandsAt ns from f to → Going setting depth ns from at to start here → at < to
     → NodeKeeps setting ns at t u → Keeps (nodes_names (nodes_of f)) setting s t → Keeps (nodes_names (nodes_of f)) setting s u
 kept_step setting depth ns from at to start here s t u f stood going lt keeps before =
     let (rest, stands, names, renders, gives) = going f stood in
@@ -165,7 +165,7 @@ kept_step setting depth ns from at to start here s t u f stood going lt keeps be
 abbrev pub NodeAlone : List Node → ℕ → State → State → Type 0
 NodeAlone ns at old new = (n : tree.Node) (next : ℕ) → NodeAt ns at n next → IsRender n → layers_of new ≡ layers_of old
 
-pub alone_step : (setting : Setting) (depth : ℕ) (ns : List Node) (from at to : ℕ) (start here : Place) (s t u : State) (f : Forest Maker) → StandsAt ns from f to → Going setting depth ns from at to start here → at < to
+pub alone_step : (setting : Setting) (depth : ℕ) (ns : List Node) (from at to : ℕ) (start here : Configuration) (s t u : State) (f : Forest Maker) → StandsAt ns from f to → Going setting depth ns from at to start here → at < to
     → NodeAlone ns at t u → (AreRenders (nodes_of f) → layers_of t ≡ layers_of s) → AreRenders (nodes_of f) → layers_of u ≡ layers_of s
 alone_step setting depth ns from at to start here s t u f stood going lt leaves before all =
     let (rest, stands, names, renders, gives) = going f stood in
@@ -179,7 +179,7 @@ leaf_is ns at to r m x req read same form n next there =
     let (bs, inner, made, ends) = known ns at r m n next there (node_within ns at to req) read same in
     made ∙ ap (λ y. y.head (bodies_of bs)) form
 
-pub leaf_performs : (setting : Setting) (depth : ℕ) (ns : List Node) (at to : ℕ) (r m : Node) (x : tree.Node) (res : Result (Unit {0}) Error) (a b : Place) → IsNode ns at to → r ≡ get_or ns at r → r ≡ m → flat_of m ≡ leaf x
+pub leaf_performs : (setting : Setting) (depth : ℕ) (ns : List Node) (at to : ℕ) (r m : Node) (x : tree.Node) (res : Result (Unit {0}) Error) (a b : Configuration) → IsNode ns at to → r ≡ get_or ns at r → r ≡ m → flat_of m ≡ leaf x
     → Performs res (node_meant setting depth x) a b → NodePerforms setting depth ns at res a b
 leaf_performs setting depth ns at to r m x res a b req read same form h n next there =
     subst (λ y. Performs res (node_meant setting depth y) a b) (sym (leaf_is ns at to r m x req read same form n next there)) h
@@ -205,7 +205,7 @@ two ns at t e to r m make req read same form =
     let then_le = Stands-le (flats ns) t d e after in
     ((b, here), (d, after), (omega arith), then_le, (let x : e ≤ to = omega arith in x))
 
-pub two_performs : (setting : Setting) (depth : ℕ) (ns : List Node) (at t e to : ℕ) (r m : Node) (make : tree.Nodes → tree.Nodes → tree.Node) (res : Result (Unit {0}) Error) (a z : Place) → IsNode ns at to → r ≡ get_or ns at r → r ≡ m → flat_of m ≡ record { head = with_two make; ends = t ∷ e ∷ [] }
+pub two_performs : (setting : Setting) (depth : ℕ) (ns : List Node) (at t e to : ℕ) (r m : Node) (make : tree.Nodes → tree.Nodes → tree.Node) (res : Result (Unit {0}) Error) (a z : Configuration) → IsNode ns at to → r ≡ get_or ns at r → r ≡ m → flat_of m ≡ record { head = with_two make; ends = t ∷ e ∷ [] }
     → ((b d : Forest Maker) → StandsAt ns (at + 1) b t → StandsAt ns t d e → Performs res (node_meant setting depth (make (nodes_of b) (nodes_of d))) a z) → NodePerforms setting depth ns at res a z
 two_performs setting depth ns at t e to r m make res a z req read same form h n next there =
     let (b, d, is, here, after, ends) = known_two ns at t e n next make (subst (Known ns at n next) form (known ns at r m n next there (node_within ns at to req) read same)) in
@@ -223,7 +223,7 @@ two_other ns at t e to r m make s u req read same form other n next there h =
     let (b, d, is, here, after, ends) = known_two ns at t e n next make (subst (Known ns at n next) form (known ns at r m n next there (node_within ns at to req) read same)) in
     absurd (other (nodes_of b) (nodes_of d) (subst (λ y. IsRender y) is h))
 
-pub going_past : (setting : Setting) (depth : ℕ) (ns : List Node) (from at to at2 : ℕ) (start here : Place) → IsRange ns from to → Going setting depth ns from at to start here → at < to → ((n : tree.Node) (next : ℕ) → NodeAt ns at n next → at2 ≡ next) → at < at2
+pub going_past : (setting : Setting) (depth : ℕ) (ns : List Node) (from at to at2 : ℕ) (start here : Configuration) → IsRange ns from to → Going setting depth ns from at to start here → at < to → ((n : tree.Node) (next : ℕ) → NodeAt ns at n next → at2 ≡ next) → at < at2
 going_past setting depth ns from at to at2 start here (f, s) going lt ends =
     let (rest, stands, names, renders, gives) = going f s in
     let (n, next, more, there, is, after, le, past) = first ns at rest to stands lt in
@@ -240,7 +240,7 @@ one ns at e to r m make req read same form =
     let first_le = Stands-le (flats ns) (at + 1) b e here in
     ((b, here), (omega arith), (let x : e ≤ to = omega arith in x))
 
-pub one_performs : (setting : Setting) (depth : ℕ) (ns : List Node) (at e to : ℕ) (r m : Node) (make : tree.Nodes → tree.Node) (res : Result (Unit {0}) Error) (a z : Place) → IsNode ns at to → r ≡ get_or ns at r → r ≡ m → flat_of m ≡ record { head = with_one make; ends = e ∷ [] }
+pub one_performs : (setting : Setting) (depth : ℕ) (ns : List Node) (at e to : ℕ) (r m : Node) (make : tree.Nodes → tree.Node) (res : Result (Unit {0}) Error) (a z : Configuration) → IsNode ns at to → r ≡ get_or ns at r → r ≡ m → flat_of m ≡ record { head = with_one make; ends = e ∷ [] }
     → ((b : Forest Maker) → StandsAt ns (at + 1) b e → Performs res (node_meant setting depth (make (nodes_of b))) a z) → NodePerforms setting depth ns at res a z
 one_performs setting depth ns at e to r m make res a z req read same form h n next there =
     let (b, is, here, ends) = known_one ns at e n next make (subst (Known ns at n next) form (known ns at r m n next there (node_within ns at to req) read same)) in

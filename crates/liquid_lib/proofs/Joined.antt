@@ -17,12 +17,12 @@ use Rattle.liquid_lib.specs.Sinks.{Sink, AddsPart}
 use Rattle.liquid_meaning.specs.Runs.{Nothing, Outcome, Run, done, read, evaluate, fault, change, write, after_text, go_on, ◌>>=◌, with_scope, buffered, ended_with}
 use Rattle.liquid_meaning.specs.Effects.{if_none, unless_interrupted}
 use Rattle.liquid_meaning.specs.Meaning.{Setting, node_meaning, nodes_meaning}
-use Rattle.liquid_lib.specs.Performs.{Place, Exact, MeetsAt, Meets, Performs, Writes, IsCut, unit}
+use Rattle.liquid_lib.specs.Performs.{Configuration, Exact, MeetsAt, Meets, Performs, Writes, IsCut, unit}
 use Rattle.liquid_meaning.proofs.Steps.{bind_ok, bind_fault, nodes_meaning-node, nodes_meaning-none}
 use Rattle.liquid_lib.proofs.Sinks.{Adds-nil, Adds-trans, AddsPart-after, AddsPart-longer, AddsPart-none, Around, around-adds, around-text, part-of_none}
 
 -- the same run, as a rule has it
-pub by_rule : {V A : Type 0} {view : V → A} {r : Result V Error} {m n : Run A} {p q : Place} → m ≡ n → Meets view r n p q → Meets view r m p q
+pub by_rule : {V A : Type 0} {view : V → A} {r : Result V Error} {m n : Run A} {p q : Configuration} → m ≡ n → Meets view r n p q → Meets view r m p q
 by_rule {view = view} {r = r} {p = p} {q = q} e h = subst (λ x. Meets view r x p q) (sym e) h
 
 pub after_met : {V A U B : Type 0} (va : V → A) (vb : U → B) (value : V) (r : Result U Error) (first : Outcome A) (next : Outcome B) (s t u : Sink) (mid g : Environment)
@@ -40,7 +40,7 @@ after_met va vb value r first next s t u mid g p (inr q) = inr (record {
 })
 
 -- a first step that went on, and what followed it
-pub bind_met : {V A U B : Type 0} (va : V → A) (vb : U → B) (value : V) (r : Result U Error) (m : Run A) (k : A → Run B) (p q u : Place)
+pub bind_met : {V A U B : Type 0} (va : V → A) (vb : U → B) (value : V) (r : Result U Error) (m : Run A) (k : A → Run B) (p q u : Configuration)
     → Meets va (Ok value) m p q → Meets vb r (k (va value)) q u → Meets vb r (m >>= k) p u
 bind_met va vb value r m k p q u (inl x) y =
     let o = m p.environment in
@@ -59,7 +59,7 @@ part_bound {A = A} m k e s t h = on (m e).end
     on (Err kind) = h
 
 -- a first step that ended by an error ends what it begins
-pub bind_faulted : {V A U B : Type 0} (va : V → A) (vb : U → B) (e : Error) (m : Run A) (k : A → Run B) (p q : Place)
+pub bind_faulted : {V A U B : Type 0} (va : V → A) (vb : U → B) (e : Error) (m : Run A) (k : A → Run B) (p q : Configuration)
     → Meets va (Err e) m p q → Meets vb (Err e) (m >>= k) p q
 bind_faulted va vb e m k p q (inl x) =
     subst (λ z. MeetsAt vb (Err e) z p.sink q.sink q.environment) (sym (bind_fault m k p.environment e.kind (sym x.end)))
@@ -81,11 +81,11 @@ memory_of _ h = cc
 
 -- ---- values
 
-pub value_met : {V A : Type 0} (view : V → A) (value : V) (f : Environment → Result A ErrorKind) (p : Place) → Answers view (Ok value) (f p.environment) → Meets view (Ok value) (evaluate f) p p
+pub value_met : {V A : Type 0} (view : V → A) (value : V) (f : Environment → Result A ErrorKind) (p : Configuration) → Answers view (Ok value) (f p.environment) → Meets view (Ok value) (evaluate f) p p
 unfolding evaluate
 value_met view value f p h = inl (record { end = sym h; within = refl; adds = Adds-nil p.sink; none_failed = refl; same = refl })
 
-pub no_value_met : {V A : Type 0} (view : V → A) (e : Error) (f : Environment → Result A ErrorKind) (p : Place) → Answers view (Err e) (f p.environment) → Meets view (Err e) (evaluate f) p p
+pub no_value_met : {V A : Type 0} (view : V → A) (e : Error) (f : Environment → Result A ErrorKind) (p : Configuration) → Answers view (Err e) (f p.environment) → Meets view (Err e) (evaluate f) p p
 unfolding evaluate
 no_value_met view e f p h = on (is_memory e.kind) refl h
   where
@@ -104,21 +104,21 @@ told_as {Y = Y} view wanted e within h = on (is_memory e.kind) h
     on true k = tt
     on false k = ((ap (λ x. Err x) k), (sym (ap is_refusal k) ∙ within))
 
-pub fault_met : (wanted : ErrorKind) (e : Error) (p : Place) → is_refusal wanted ≡ false → IsKindOrMemory wanted e.kind → Performs (Err e) (fault wanted) p p
+pub fault_met : (wanted : ErrorKind) (e : Error) (p : Configuration) → is_refusal wanted ≡ false → IsKindOrMemory wanted e.kind → Performs (Err e) (fault wanted) p p
 unfolding fault evaluate
 fault_met wanted e p within h = no_value_met {V = Unit {0}} unit e (λ g. Err wanted) p (told_as {X = Unit {0}} unit wanted e within h)
 
 -- a value, and what followed it
-pub given_met : {V A U B : Type 0} (va : V → A) (vb : U → B) (value : V) (r : Result U Error) (f : Environment → Result A ErrorKind) (k : A → Run B) (p u : Place)
+pub given_met : {V A U B : Type 0} (va : V → A) (vb : U → B) (value : V) (r : Result U Error) (f : Environment → Result A ErrorKind) (k : A → Run B) (p u : Configuration)
     → Answers va (Ok value) (f p.environment) → Meets vb r (k (va value)) p u → Meets vb r (evaluate f >>= k) p u
 given_met va vb value r f k p u h next = bind_met va vb value r (evaluate f) k p p u (value_met va value f p h) next
 
-pub refused_met : {V A U B : Type 0} (va : V → A) (vb : U → B) (e : Error) (f : Environment → Result A ErrorKind) (k : A → Run B) (p : Place)
+pub refused_met : {V A U B : Type 0} (va : V → A) (vb : U → B) (e : Error) (f : Environment → Result A ErrorKind) (k : A → Run B) (p : Configuration)
     → Answers va (Err e) (f p.environment) → Meets vb (Err e) (evaluate f >>= k) p p
 refused_met va vb e f k p h = bind_faulted va vb e (evaluate f) k p p (no_value_met va e f p h)
 
 -- what is read, and what followed it
-pub read_met : {A U B : Type 0} (vb : U → B) (r : Result U Error) (f : Environment → A) (k : A → Run B) (p u : Place) → Meets vb r (k (f p.environment)) p u → Meets vb r (read f >>= k) p u
+pub read_met : {A U B : Type 0} (vb : U → B) (r : Result U Error) (f : Environment → A) (k : A → Run B) (p u : Configuration) → Meets vb r (k (f p.environment)) p u → Meets vb r (read f >>= k) p u
 unfolding read
 read_met vb r f k p u next = bind_met (λ a. a) vb (f p.environment) r (read f) k p p u (inl (record { end = refl; within = refl; adds = Adds-nil p.sink; none_failed = refl; same = refl })) next
 
@@ -137,7 +137,7 @@ pub gives_merged : (r : Result (Unit {0}) Error) (l m : Layers) → IsValueOrMem
 gives_merged (Ok value) l m h = ap merged_layers h
 gives_merged (Err x) l m h = h
 
-pub done_met : (value : Unit {0}) (p : Place) → Performs (Ok value) (done tt) p p
+pub done_met : (value : Unit {0}) (p : Configuration) → Performs (Ok value) (done tt) p p
 unfolding done
 done_met value p = inl (record { end = refl; within = refl; adds = Adds-nil p.sink; none_failed = refl; same = refl })
 
@@ -197,32 +197,32 @@ buffered_memory view vb value x m o s p q u text e g h around (inr y) is = absur
 
 -- ---- lists
 
-unless_none : (r : Result (Unit {0}) Error) (m : Run Nothing) (q u : Place) → q.environment.registers.interrupt ≡ None → Performs r m q u → Performs r (unless_interrupted m) q u
+unless_none : (r : Result (Unit {0}) Error) (m : Run Nothing) (q u : Configuration) → q.environment.registers.interrupt ≡ None → Performs r m q u → Performs r (unless_interrupted m) q u
 unfolding unless_interrupted
 unless_none r m q u is h = subst (λ i. MeetsAt unit r (if_none i m q.environment) q.sink u.sink u.environment) (sym is) h
 
-unless_some : (value : Unit {0}) (m : Run Nothing) (q : Place) (i : Interrupt) → q.environment.registers.interrupt ≡ Some i → Performs (Ok value) (unless_interrupted m) q q
+unless_some : (value : Unit {0}) (m : Run Nothing) (q : Configuration) (i : Interrupt) → q.environment.registers.interrupt ≡ Some i → Performs (Ok value) (unless_interrupted m) q q
 unfolding unless_interrupted
 unless_some value m q i is = subst (λ j. MeetsAt unit (Ok value) (if_none j m q.environment) q.sink q.sink q.environment) (sym is) (done_met value q)
 
 module _ (setting : Setting) (deeper : Nodes → Run Nothing) where
-  pub list_on : (value : Unit {0}) (r : Result (Unit {0}) Error) (n : Node) (more : Nodes) (p q u : Place) → Performs (Ok value) (node_meaning setting deeper n) p q → q.environment.registers.interrupt ≡ None
+  pub list_on : (value : Unit {0}) (r : Result (Unit {0}) Error) (n : Node) (more : Nodes) (p q u : Configuration) → Performs (Ok value) (node_meaning setting deeper n) p q → q.environment.registers.interrupt ≡ None
       → Performs r (nodes_meaning setting deeper more) q u → Performs r (nodes_meaning setting deeper (node n more)) p u
   list_on value r n more p q u h none next =
       by_rule (nodes_meaning-node setting deeper n more) (bind_met unit unit value r (node_meaning setting deeper n) (λ a. unless_interrupted (nodes_meaning setting deeper more)) p q u h (unless_none r _ q u none next))
 
-  pub list_halt : (value other : Unit {0}) (n : Node) (more : Nodes) (p q : Place) (i : Interrupt) → Performs (Ok value) (node_meaning setting deeper n) p q → q.environment.registers.interrupt ≡ Some i
+  pub list_halt : (value other : Unit {0}) (n : Node) (more : Nodes) (p q : Configuration) (i : Interrupt) → Performs (Ok value) (node_meaning setting deeper n) p q → q.environment.registers.interrupt ≡ Some i
       → Performs (Ok other) (nodes_meaning setting deeper (node n more)) p q
   list_halt value other n more p q i h some =
       by_rule (nodes_meaning-node setting deeper n more) (bind_met unit unit value (Ok other) (node_meaning setting deeper n) (λ a. unless_interrupted (nodes_meaning setting deeper more)) p q q h (unless_some other _ q i some))
 
-  pub list_fault : (e : Error) (n : Node) (more : Nodes) (p q : Place) → Performs (Err e) (node_meaning setting deeper n) p q → Performs (Err e) (nodes_meaning setting deeper (node n more)) p q
+  pub list_fault : (e : Error) (n : Node) (more : Nodes) (p q : Configuration) → Performs (Err e) (node_meaning setting deeper n) p q → Performs (Err e) (nodes_meaning setting deeper (node n more)) p q
   list_fault e n more p q h = by_rule (nodes_meaning-node setting deeper n more) (bind_faulted unit unit e (node_meaning setting deeper n) (λ a. unless_interrupted (nodes_meaning setting deeper more)) p q h)
 
-  pub list_end : (value : Unit {0}) (p : Place) → Performs (Ok value) (nodes_meaning setting deeper no_nodes) p p
+  pub list_end : (value : Unit {0}) (p : Configuration) → Performs (Ok value) (nodes_meaning setting deeper no_nodes) p p
   list_end value p = by_rule (nodes_meaning-none setting deeper) (done_met value p)
 
 -- the same of a value that stands for a text
-pub text_met : {V : Type 0} (view : V → Text) (value : V) (m : Run Text) (p q : Place) → Meets (λ (t : Text). t) (Ok (view value)) m p q → Meets view (Ok value) m p q
+pub text_met : {V : Type 0} (view : V → Text) (value : V) (m : Run Text) (p q : Configuration) → Meets (λ (t : Text). t) (Ok (view value)) m p q → Meets view (Ok value) m p q
 text_met view value m p q (inl x) = inl (record { end = x.end; within = refl; adds = x.adds; none_failed = x.none_failed; same = x.same })
 text_met view value m p q (inr x) = absurd x.cause

@@ -24,7 +24,7 @@ use Rattle.liquid_meaning.specs.Runs.{Nothing, Run, done, evaluate, fault, read,
 use Rattle.liquid_meaning.proofs.Rules.{all_more, all_none, for_rule, joined, tablerow_rule, until_more, until_none}
 use Rattle.liquid_lib.specs.inside.LoopRuns.{cells_meant, one_cell, one_turn, turns_meant}
 use Rattle.liquid_lib.specs.inside.LoopTurns.{IsFor, IsRow, cells_asked, each_from, in_columns, items_asked, turn_items}
-use Rattle.liquid_lib.specs.Performs.{Place, Performs, unit}
+use Rattle.liquid_lib.specs.Performs.{Configuration, Performs, unit}
 use Rattle.liquid_lib.proofs.Joined.{by_rule, done_met, given_met, read_met, refused_met}
 use Rattle.liquid_lib.proofs.LoopItems.{each_count}
 
@@ -67,16 +67,16 @@ module _ (setting : Setting) (deeper : tree.Nodes → Run Nothing) (name : Text)
   for_asks : node_meaning setting deeper (tree.for_each name source window body otherwise) ≡ (evaluate (items_asked source window) >>= for_items)
   for_asks = for_rule setting deeper name source window body otherwise ∙ joined (source_items source) (λ all. asked_for window all) for_items
 
-  pub for_refused : (e : Error) (p : Place) → Faulted e.kind (items_asked source window p.environment) → Performs (Err e) (node_meaning setting deeper (tree.for_each name source window body otherwise)) p p
+  pub for_refused : (e : Error) (p : Configuration) → Faulted e.kind (items_asked source window p.environment) → Performs (Err e) (node_meaning setting deeper (tree.for_each name source window body otherwise)) p p
   for_refused e p h = by_rule for_asks (refused_met {V = List Datum} (λ x. x) unit e (items_asked source window) for_items p h)
 
-  pub for_none : (r : Result (Unit {0}) Error) (p q : Place) → items_asked source window p.environment ≡ Ok [] → Performs r (nodes_meaning setting deeper otherwise) p q
+  pub for_none : (r : Result (Unit {0}) Error) (p q : Configuration) → items_asked source window p.environment ≡ Ok [] → Performs r (nodes_meaning setting deeper otherwise) p q
       → Performs r (node_meaning setting deeper (tree.for_each name source window body otherwise)) p q
   for_none r p q is h =
       by_rule for_asks (given_met {V = List Datum} (λ x. x) unit [] r (items_asked source window) for_items p q is
       (read_met unit r (value_or_nil (codes "forloop")) (λ parent. if_empty [] (nodes_meaning setting deeper otherwise) (loop name parent [] (nodes_meaning setting deeper body))) p q h))
 
-  pub for_some : (t : LoopFrame) (r : Result (Unit {0}) Error) (p q : Place) → 0 < t.count → items_asked source window p.environment ≡ Ok (turn_items t) → IsFor name p.environment t
+  pub for_some : (t : LoopFrame) (r : Result (Unit {0}) Error) (p q : Configuration) → 0 < t.count → items_asked source window p.environment ≡ Ok (turn_items t) → IsFor name p.environment t
       → Performs r (turns_meant t p.environment.local (nodes_meaning setting deeper body)) p q → Performs r (node_meaning setting deeper (tree.for_each name source window body otherwise)) p q
   for_some t r p q some is binds h =
       let parent = value_or_nil (codes "forloop") p.environment in
@@ -121,14 +121,14 @@ module _ (setting : Setting) (deeper : tree.Nodes → Run Nothing) (name : Text)
       ∙ (λ i. evaluate (source_items source) >>= (λ all. joined (amount columns) (rest all) (cells name m) i))
       ∙ joined (source_items source) (λ all e. fallible.◌>>=◌ (amount columns e) (λ asked. rest all asked e)) (cells name m)
 
-  pub row_refused : (e : Error) (p : Place) → Faulted e.kind (cells_asked source window columns p.environment) → Performs (Err e) (node_meaning setting deeper (tree.tablerow name source window columns body)) p p
+  pub row_refused : (e : Error) (p : Configuration) → Faulted e.kind (cells_asked source window columns p.environment) → Performs (Err e) (node_meaning setting deeper (tree.tablerow name source window columns body)) p p
   row_refused e p h = by_rule row_asks (refused_met {V = Option (List Datum × ℕ)} (λ x. x) unit e (cells_asked source window columns) (cells name (nodes_meaning setting deeper body)) p h)
 
-  pub row_none : (value : Unit {0}) (p : Place) → cells_asked source window columns p.environment ≡ Ok None → Performs (Ok value) (node_meaning setting deeper (tree.tablerow name source window columns body)) p p
+  pub row_none : (value : Unit {0}) (p : Configuration) → cells_asked source window columns p.environment ≡ Ok None → Performs (Ok value) (node_meaning setting deeper (tree.tablerow name source window columns body)) p p
   row_none value p is =
       by_rule row_asks (given_met {V = Option (List Datum × ℕ)} (λ x. x) unit None (Ok value) (cells_asked source window columns) (cells name (nodes_meaning setting deeper body)) p p is (done_met value p))
 
-  pub row_some : (t : LoopFrame) (many : ℕ) (r : Result (Unit {0}) Error) (p q : Place) → cells_asked source window columns p.environment ≡ Ok (Some (turn_items t, many)) → IsRow name many t
+  pub row_some : (t : LoopFrame) (many : ℕ) (r : Result (Unit {0}) Error) (p q : Configuration) → cells_asked source window columns p.environment ≡ Ok (Some (turn_items t, many)) → IsRow name many t
       → Performs r (cells_meant t many p.environment.local (nodes_meaning setting deeper body)) p q → Performs r (node_meaning setting deeper (tree.tablerow name source window columns body)) p q
   row_some t many r p q is binds h =
       by_rule row_asks (given_met {V = Option (List Datum × ℕ)} (λ x. x) unit (Some (turn_items t, many)) r (cells_asked source window columns) (cells name (nodes_meaning setting deeper body)) p q is

@@ -28,7 +28,7 @@ use Rattle.liquid_meaning.proofs.Rules.{include_rule, jekyll_rule, render_rule}
 use Rattle.liquid_lib.specs.inside.Engine.{nodes_meant}
 use Rattle.liquid_lib.specs.Kept.{LayersKept}
 use Rattle.liquid_lib.specs.inside.Partials.{bound_as, partial_of, rendered_of}
-use Rattle.liquid_lib.specs.Performs.{Place, Meets, Performs, unit}
+use Rattle.liquid_lib.specs.Performs.{Configuration, Meets, Performs, unit}
 use Rattle.liquid_lib.specs.Sinks.{Sink}
 use Rattle.liquid_lib.proofs.Apart.{apart_faulted}
 use Rattle.liquid_lib.proofs.Bound.{mapped, unmapped}
@@ -56,7 +56,7 @@ deeper_is setting (suc d) nodes some =
     let e : suc d - 1 ≡ d = omega arith in
     ap (λ k. nodes_meant setting k nodes) (sym e)
 
-no_depth : (setting : Setting) (nodes : tree.Nodes) (e : Error) (p : Place) → IsKindOrMemory TooDeep e.kind → Performs (Err e) (deeper_meaning setting zero nodes) p p
+no_depth : (setting : Setting) (nodes : tree.Nodes) (e : Error) (p : Configuration) → IsKindOrMemory TooDeep e.kind → Performs (Err e) (deeper_meaning setting zero nodes) p p
 unfolding deeper_meaning fault evaluate
 no_depth setting nodes e p told = no_value_met {V = Unit {0}} unit e (λ g. Err TooDeep) p (told_as {X = Unit {0}} unit TooDeep e refl told)
 
@@ -84,17 +84,17 @@ abbrev pub looked : {A : Type 0} → (List (Text × Datum) → Map Datum) → tr
 looked scope_of bindings look enter = runs.◌>>=◌ (evaluate (bound_values bindings)) (λ pairs. runs.◌>>=◌ (evaluate (λ e. look)) (λ partial. enter (scope_of pairs) partial))
 
 module _ {U A : Type 0} (vb : U → A) (scope_of : List (Text × Datum) → Map Datum) (bindings : tree.Bindings) (look : Result tree.Nodes ErrorKind) (enter : Map Datum → tree.Nodes → Run A) where
-  pub pairs_refused : (e : Error) (p : Place) → Faulted e.kind (bound_as scope_of bindings p.environment) → Meets vb (Err e) (looked scope_of bindings look enter) p p
+  pub pairs_refused : (e : Error) (p : Configuration) → Faulted e.kind (bound_as scope_of bindings p.environment) → Meets vb (Err e) (looked scope_of bindings look enter) p p
   pairs_refused e p h =
       refused_met {V = List (Text × Datum)} (λ x. x) vb e (bound_values bindings) (λ pairs. runs.◌>>=◌ (evaluate (λ e. look)) (λ partial. enter (scope_of pairs) partial)) p (unmapped e.kind (bound_values bindings p.environment) scope_of h)
 
-  pub not_found : (e : Error) (scope : Map Datum) (p : Place) → bound_as scope_of bindings p.environment ≡ Ok scope → Faulted e.kind look → Meets vb (Err e) (looked scope_of bindings look enter) p p
+  pub not_found : (e : Error) (scope : Map Datum) (p : Configuration) → bound_as scope_of bindings p.environment ≡ Ok scope → Faulted e.kind look → Meets vb (Err e) (looked scope_of bindings look enter) p p
   not_found e scope p bound h =
       let (pairs, is, same) = mapped (bound_values bindings p.environment) scope_of scope bound in
       given_met {V = List (Text × Datum)} (λ x. x) vb pairs (Err e) (bound_values bindings) (λ pairs. runs.◌>>=◌ (evaluate (λ e. look)) (λ partial. enter (scope_of pairs) partial)) p p is
       (refused_met {V = tree.Nodes} (λ x. x) vb e (λ e. look) (λ partial. enter (scope_of pairs) partial) p h)
 
-  pub entered : (r : Result U Error) (scope : Map Datum) (nodes : tree.Nodes) (p q : Place) → bound_as scope_of bindings p.environment ≡ Ok scope → look ≡ Ok nodes → Meets vb r (enter scope nodes) p q → Meets vb r (looked scope_of bindings look enter) p q
+  pub entered : (r : Result U Error) (scope : Map Datum) (nodes : tree.Nodes) (p q : Configuration) → bound_as scope_of bindings p.environment ≡ Ok scope → look ≡ Ok nodes → Meets vb r (enter scope nodes) p q → Meets vb r (looked scope_of bindings look enter) p q
   entered r scope nodes p q bound found h =
       let (pairs, is, same) = mapped (bound_values bindings p.environment) scope_of scope bound in
       given_met {V = List (Text × Datum)} (λ x. x) vb pairs r (bound_values bindings) (λ pairs. runs.◌>>=◌ (evaluate (λ e. look)) (λ partial. enter (scope_of pairs) partial)) p q is
@@ -107,10 +107,10 @@ module _ (setting : Setting) (deeper : tree.Nodes → Run Nothing) (x : Expressi
   abbrev pub include_from : Text → Run Nothing
   include_from name = looked pairs_scope bindings (partial_of setting.partials name) (λ scope partial. with_scope scope (deeper partial))
 
-  pub include_refused : (e : Error) (p : Place) → Faulted e.kind (name_of x p.environment) → Performs (Err e) (node_meaning setting deeper (tree.include x bindings)) p p
+  pub include_refused : (e : Error) (p : Configuration) → Faulted e.kind (name_of x p.environment) → Performs (Err e) (node_meaning setting deeper (tree.include x bindings)) p p
   include_refused e p h = by_rule (include_rule setting deeper x bindings) (refused_met {V = Text} (λ t. t) unit e (name_of x) include_from p h)
 
-  pub include_named : (r : Result (Unit {0}) Error) (name : Text) (p q : Place) → name_of x p.environment ≡ Ok name → Performs r (include_from name) p q → Performs r (node_meaning setting deeper (tree.include x bindings)) p q
+  pub include_named : (r : Result (Unit {0}) Error) (name : Text) (p q : Configuration) → name_of x p.environment ≡ Ok name → Performs r (include_from name) p q → Performs r (node_meaning setting deeper (tree.include x bindings)) p q
   include_named r name p q is h = by_rule (include_rule setting deeper x bindings) (given_met {V = Text} (λ t. t) unit name r (name_of x) include_from p q is h)
 
   -- a `render` whose name has this text
@@ -120,15 +120,15 @@ module _ (setting : Setting) (deeper : tree.Nodes → Run Nothing) (x : Expressi
   abbrev then_done : Text → Run Nothing
   then_done name = runs.◌>>=◌ (render_from name) (λ left. done tt)
 
-  pub render_refused : (e : Error) (p : Place) → Faulted e.kind (name_of x p.environment) → Performs (Err e) (node_meaning setting deeper (tree.render x None bindings)) p p
+  pub render_refused : (e : Error) (p : Configuration) → Faulted e.kind (name_of x p.environment) → Performs (Err e) (node_meaning setting deeper (tree.render x None bindings)) p p
   render_refused e p h = by_rule (render_rule setting deeper x bindings) (refused_met {V = Text} (λ t. t) unit e (name_of x) then_done p h)
 
-  pub render_faulted : (e : Error) (name : Text) (p q : Place) → name_of x p.environment ≡ Ok name → Meets (λ (i : Option Interrupt). i) (Err e) (render_from name) p q
+  pub render_faulted : (e : Error) (name : Text) (p q : Configuration) → name_of x p.environment ≡ Ok name → Meets (λ (i : Option Interrupt). i) (Err e) (render_from name) p q
       → Performs (Err e) (node_meaning setting deeper (tree.render x None bindings)) p q
   render_faulted e name p q is h =
       by_rule (render_rule setting deeper x bindings) (given_met {V = Text} (λ t. t) unit name (Err e) (name_of x) then_done p q is (bind_faulted (λ (i : Option Interrupt). i) unit e (render_from name) (λ left. done tt) p q h))
 
-  pub render_met : (value : Unit {0}) (left : Option Interrupt) (name : Text) (p q : Place) → name_of x p.environment ≡ Ok name → Meets (λ (i : Option Interrupt). i) (Ok left) (render_from name) p q
+  pub render_met : (value : Unit {0}) (left : Option Interrupt) (name : Text) (p q : Configuration) → name_of x p.environment ≡ Ok name → Meets (λ (i : Option Interrupt). i) (Ok left) (render_from name) p q
       → Performs (Ok value) (node_meaning setting deeper (tree.render x None bindings)) p q
   render_met value left name p q is h =
       by_rule (render_rule setting deeper x bindings) (given_met {V = Text} (λ t. t) unit name (Ok value) (name_of x) then_done p q is
@@ -138,7 +138,7 @@ module _ (setting : Setting) (deeper : tree.Nodes → Run Nothing) (x : Expressi
 abbrev pub jekyll_from : Setting → (tree.Nodes → Run Nothing) → Text → tree.Bindings → Run Nothing
 jekyll_from setting deeper name bindings = looked include_scope bindings (partial_of setting.partials name) (λ scope partial. with_scope scope (deeper partial))
 
-pub jekyll_met : (setting : Setting) (deeper : tree.Nodes → Run Nothing) (name : Text) (bindings : tree.Bindings) (r : Result (Unit {0}) Error) (p q : Place) → Performs r (jekyll_from setting deeper name bindings) p q
+pub jekyll_met : (setting : Setting) (deeper : tree.Nodes → Run Nothing) (name : Text) (bindings : tree.Bindings) (r : Result (Unit {0}) Error) (p q : Configuration) → Performs r (jekyll_from setting deeper name bindings) p q
     → Performs r (node_meaning setting deeper (tree.jekyll_include name bindings)) p q
 jekyll_met setting deeper name bindings r p q h = by_rule (jekyll_rule setting deeper name bindings) h
 

@@ -19,7 +19,7 @@ use Rattle.liquid_meaning.specs.Laws.{EndsWithHost}
 use Rattle.liquid_meaning.specs.Meaning.{meaning}
 use Rattle.liquid_meaning.specs.Runs.{Nothing, Run, ended_with}
 use Rattle.liquid_meaning.proofs.RunKinds.{kinds_with_host}
-use Rattle.liquid_lib.specs.Performs.{Place, Performs, answer_of, unit}
+use Rattle.liquid_lib.specs.Performs.{Configuration, Performs, answer_of, unit}
 use Rattle.liquid_lib.specs.Rendered.{is_rendering_kind}
 use Rattle.liquid_lib.proofs.Joined.{memory_of}
 use Rattle.liquid_core.specs.Environment.{Environment}
@@ -72,7 +72,7 @@ cut_kinds : {A B : Type 0} (kind : ErrorKind) → ((kind ≡ Memory) × A) ⊎ (
 cut_kinds kind (inl memory) = subst (λ k. T (is_rendering_kind k)) (sym memory.0) tt
 cut_kinds kind (inr write) = subst (λ k. T (is_rendering_kind k)) (sym write.0) tt
 
-pub performed_kinds : (r : Result (Unit {0}) Error) (m : Run Nothing) (before after : Place) → EndsWithHost (m before.environment).end → Performs r m before after → IfErr r (λ e. T (is_rendering_kind e.kind))
+pub performed_kinds : (r : Result (Unit {0}) Error) (m : Run Nothing) (before after : Configuration) → EndsWithHost (m before.environment).end → Performs r m before after → IfErr r (λ e. T (is_rendering_kind e.kind))
 performed_kinds (Ok value) m before after ends performs = tt
 performed_kinds (Err e) m before after ends (inl exact) = below_18 (number_of e.kind) (ends e.kind (sym exact.end))
 performed_kinds (Err e) m before after ends (inr cut) = cut_kinds e.kind cut.cause

@@ -13,7 +13,7 @@ use Rattle.liquid_tree.specs.Tree.{Nodes}
 use Rattle.liquid_syntax.specs.Templates.{partials_of}
 use Rattle.liquid_syntax.specs.declared.partials.Partials.{Partials}
 use Rattle.liquid_meaning.specs.Meaning.{Setting, meaning}
-use Rattle.liquid_lib.specs.Performs.{Place, Meets, Performs}
+use Rattle.liquid_lib.specs.Performs.{Configuration, Meets, Performs}
 use Rattle.liquid_meaning.specs.Runs.{Run, Nothing, buffered, ended_with}
 use Rattle.liquid_lib.specs.RuntimeView.{trees_of}
 
@@ -31,11 +31,11 @@ pub no_setting : (answers : FilterAnswers) (o : Option (Bor Partials)) (p : Part
 unfolding with_trees
 no_setting answers o p is none = ap (with_trees answers) none ∙ ap (λ o. with_trees answers (trees_of o)) (sym is)
 
-pub rendered : (setting other : Setting) (depth : ℕ) (nodes : Nodes) (r : Result (Unit {0}) Error) (p q : Place) → setting ≡ other
+pub rendered : (setting other : Setting) (depth : ℕ) (nodes : Nodes) (r : Result (Unit {0}) Error) (p q : Configuration) → setting ≡ other
     → Performs r (meaning setting depth nodes) p q → Performs r (meaning other depth nodes) p q
 rendered setting other depth nodes r p q is h = subst (λ s. Performs r (meaning s depth nodes) p q) is h
 
-pub read_out : {V : Type 0} (view : V → Text) (setting other : Setting) (depth : ℕ) (nodes : Nodes) (r : Result V Error) (p q : Place) → setting ≡ other
+pub read_out : {V : Type 0} (view : V → Text) (setting other : Setting) (depth : ℕ) (nodes : Nodes) (r : Result V Error) (p q : Configuration) → setting ≡ other
     → Meets view r (buffered (meaning setting depth nodes)) p q → Meets view r (buffered (meaning other depth nodes)) p q
 read_out view setting other depth nodes r p q is h = subst (λ s. Meets view r (buffered (meaning s depth nodes)) p q) is h
 

@@ -24,7 +24,7 @@ use Rattle.liquid_meaning.proofs.Within.{left, right}
 use Rattle.liquid_lib.specs.Kept.{LayersKept}
 use Rattle.liquid_lib.specs.inside.LoopRuns.{StartsAt, cells_meant, one_cell, one_turn, turns_meant}
 use Rattle.liquid_lib.specs.inside.LoopTurns.{each_from}
-use Rattle.liquid_lib.specs.Performs.{Place, Meets, Performs, Writes, unit}
+use Rattle.liquid_lib.specs.Performs.{Configuration, Meets, Performs, Writes, unit}
 use Rattle.liquid_lib.specs.Sinks.{Sink}
 use Rattle.liquid_lib.proofs.Joined.{by_rule, bind_met, bind_faulted, change_met, done_met, read_met, write_met}
 use Rattle.liquid_lib.proofs.Kept.{kept_after, kept_interrupt}
@@ -38,15 +38,15 @@ use Rattle.liquid_meaning.proofs.Rules.{all_more, all_none, until_more, until_no
 
 -- ---- the turns that are left
 
-abbrev pub Leads : Run Nothing → Run Nothing → Place → Place → Type 0
-Leads all rest start here = (r : Result (Unit {0}) Error) (after : Place) → Performs r rest here after → Performs r all start after
+abbrev pub Leads : Run Nothing → Run Nothing → Configuration → Configuration → Type 0
+Leads all rest start here = (r : Result (Unit {0}) Error) (after : Configuration) → Performs r rest here after → Performs r all start after
 
 -- of a `for`, from its k-th turn on
-abbrev pub TurnsLead : LoopFrame → Map Datum → Run Nothing → ℕ → ℕ → Place → Place → Type 0
+abbrev pub TurnsLead : LoopFrame → Map Datum → Run Nothing → ℕ → ℕ → Configuration → Configuration → Type 0
 TurnsLead t local body m k start here = Leads (turns_meant t local body) (until_break (one_turn t local body) k (each_from (frame_item_at t) k (m - k))) start here
 
 -- of a `tablerow`, from its k-th cell on
-abbrev pub CellsLead : LoopFrame → ℕ → Map Datum → Run Nothing → ℕ → ℕ → Place → Place → Type 0
+abbrev pub CellsLead : LoopFrame → ℕ → Map Datum → Run Nothing → ℕ → ℕ → Configuration → Configuration → Type 0
 CellsLead t columns local body m k start here = Leads (cells_meant t columns local body) (for_all (one_cell t columns local body) k (each_from (frame_item_at t) k (m - k))) start here
 
 same_after : (k : ℕ) → suc k ≡ k + 1
@@ -56,7 +56,7 @@ all_left : (n m : ℕ) → n ≡ m → n ≡ m - 0
 all_left n m is = omega (arith, is)
 
 module _ (t : LoopFrame) (local : Map Datum) (body : Run Nothing) (m : ℕ) where
-  pub turns_start : (start : Place) → t.count ≡ m → TurnsLead t local body m 0 start start
+  pub turns_start : (start : Configuration) → t.count ≡ m → TurnsLead t local body m 0 start start
   turns_start start is r after h =
       subst (λ n. Performs r (until_break (one_turn t local body) 0 (each_from (frame_item_at t) 0 n)) start after) (sym (all_left t.count m is)) h
 
@@ -67,7 +67,7 @@ module _ (t : LoopFrame) (local : Map Datum) (body : Run Nothing) (m : ℕ) wher
       ∙ until_more (one_turn t local body) k (frame_item_at t k) (each_from (frame_item_at t) (k + 1) (m - (k + 1)))
       ∙ ap (λ j. one_turn t local body k (frame_item_at t k) >>= (λ left. cond (is_break left) (done tt) (until_break (one_turn t local body) j (each_from (frame_item_at t) (k + 1) (m - (k + 1)))))) (same_after k)
 
-  module _ (k : ℕ) (start here there : Place) where
+  module _ (k : ℕ) (start here there : Configuration) where
     abbrev rest : Option Interrupt → Run Nothing
     rest left = cond (is_break left) (done tt) (until_break (one_turn t local body) (k + 1) (each_from (frame_item_at t) (k + 1) (m - (k + 1))))
 
@@ -86,12 +86,12 @@ module _ (t : LoopFrame) (local : Map Datum) (body : Run Nothing) (m : ℕ) wher
     pub turn_fault : (e : Error) → k < m → TurnsLead t local body m k start here → Meets (λ (i : Option Interrupt). i) (Err e) (one_turn t local body k (frame_item_at t k)) here there → Performs (Err e) (turns_meant t local body) start there
     turn_fault e lt leads ran = leads (Err e) there (by_rule (turned k lt) (bind_faulted (λ (i : Option Interrupt). i) unit e (one_turn t local body k (frame_item_at t k)) rest here there ran))
 
-  pub turns_end : (value : Unit {0}) (k : ℕ) (start here : Place) → k ≡ m → TurnsLead t local body m k start here → Performs (Ok value) (turns_meant t local body) start here
+  pub turns_end : (value : Unit {0}) (k : ℕ) (start here : Configuration) → k ≡ m → TurnsLead t local body m k start here → Performs (Ok value) (turns_meant t local body) start here
   turns_end value k start here last leads =
       leads (Ok value) here (by_rule (ap (until_break (one_turn t local body) k) (each_none (frame_item_at t) k m last) ∙ until_none (one_turn t local body) k) (done_met value here))
 
 module _ (t : LoopFrame) (columns : ℕ) (local : Map Datum) (body : Run Nothing) (m : ℕ) where
-  pub cells_start : (start : Place) → t.count ≡ m → CellsLead t columns local body m 0 start start
+  pub cells_start : (start : Configuration) → t.count ≡ m → CellsLead t columns local body m 0 start start
   cells_start start is r after h =
       subst (λ n. Performs r (for_all (one_cell t columns local body) 0 (each_from (frame_item_at t) 0 n)) start after) (sym (all_left t.count m is)) h
 
@@ -102,7 +102,7 @@ module _ (t : LoopFrame) (columns : ℕ) (local : Map Datum) (body : Run Nothing
       ∙ all_more (one_cell t columns local body) k (frame_item_at t k) (each_from (frame_item_at t) (k + 1) (m - (k + 1)))
       ∙ ap (λ j. one_cell t columns local body k (frame_item_at t k) >>= (λ a. for_all (one_cell t columns local body) j (each_from (frame_item_at t) (k + 1) (m - (k + 1))))) (same_after k)
 
-  module _ (k : ℕ) (start here there : Place) where
+  module _ (k : ℕ) (start here there : Configuration) where
     abbrev more : Nothing → Run Nothing
     more a = for_all (one_cell t columns local body) (k + 1) (each_from (frame_item_at t) (k + 1) (m - (k + 1)))
 
@@ -112,30 +112,30 @@ module _ (t : LoopFrame) (columns : ℕ) (local : Map Datum) (body : Run Nothing
     pub cell_fault : (e : Error) → k < m → CellsLead t columns local body m k start here → Performs (Err e) (one_cell t columns local body k (frame_item_at t k)) here there → Performs (Err e) (cells_meant t columns local body) start there
     cell_fault e lt leads ran = leads (Err e) there (by_rule (celled k lt) (bind_faulted unit unit e (one_cell t columns local body k (frame_item_at t k)) more here there ran))
 
-  pub cells_end : (value : Unit {0}) (k : ℕ) (start here : Place) → k ≡ m → CellsLead t columns local body m k start here → Performs (Ok value) (cells_meant t columns local body) start here
+  pub cells_end : (value : Unit {0}) (k : ℕ) (start here : Configuration) → k ≡ m → CellsLead t columns local body m k start here → Performs (Ok value) (cells_meant t columns local body) start here
   cells_end value k start here last leads =
       leads (Ok value) here (by_rule (ap (for_all (one_cell t columns local body) k) (each_none (frame_item_at t) k m last) ∙ all_none (one_cell t columns local body) k) (done_met value here))
 
 -- ---- one turn
 
-given_back : {A : Type 0} (a : A) (p : Place) → Meets (λ (x : A). x) (Ok a) (done a) p p
+given_back : {A : Type 0} (a : A) (p : Configuration) → Meets (λ (x : A). x) (Ok a) (done a) p p
 unfolding done
 given_back a p = inl (record { end = refl; within = refl; adds = Adds-nil p.sink; none_failed = refl; same = refl })
 
 taken : (s : Sink) (e : Environment) → Meets (λ (i : Option Interrupt). i) (Ok e.registers.interrupt) take_interrupt (record { sink = s; environment = e }) (record { sink = s; environment = interrupted_by None e })
 taken s e =
     let left = e.registers.interrupt in
-    let p : Place = record { sink = s; environment = e } in
-    let q : Place = record { sink = s; environment = interrupted_by None e } in
+    let p : Configuration = record { sink = s; environment = e } in
+    let q : Configuration = record { sink = s; environment = interrupted_by None e } in
     read_met (λ (i : Option Interrupt). i) (Ok left) (λ e. e.registers.interrupt) (λ left. change (interrupted_by None) >>= (λ a. done left)) p q
     (bind_met unit (λ (i : Option Interrupt). i) tt (Ok left) (change (interrupted_by None)) (λ a. done left) p q q (change_met (Ok tt) (interrupted_by None) s e (interrupted_by None e) refl) (given_back left q))
 
 -- p before the body, q after it, both with the turn as their innermost scope
 module _ (t : LoopFrame) (k : ℕ) (local : Map Datum) (body : Run Nothing) (s u : Sink) (p q : Layers) (pushed : p ≡ with_scope_pushed (frame_map_at t k local) (with_scope_popped p)) (kept : q.scopes ≡ p.scopes) where
-  abbrev before : Sink → Place
+  abbrev before : Sink → Configuration
   before sink = record { sink = sink; environment = merged_layers (with_scope_popped p) }
 
-  abbrev after : Place
+  abbrev after : Configuration
   after = record { sink = u; environment = merged_layers (with_scope_popped q) }
 
   ran_in : (r : Result (Unit {0}) Error) → Performs r body (record { sink = s; environment = merged_layers p }) (record { sink = u; environment = merged_layers q }) → Performs r (with_scope (frame_map_at t k local) body) (before s) after
@@ -160,7 +160,7 @@ module _ (t : LoopFrame) (k : ℕ) (local : Map Datum) (body : Run Nothing) (s u
   pub cell_ran : (columns : ℕ) (x y : Unit {0}) (r : Result (Unit {0}) Error) (first last : Sink) → Writes (Ok x) (cell_start k columns) first s → Performs (Ok y) body (record { sink = s; environment = merged_layers p }) (record { sink = u; environment = merged_layers q })
       → Writes r (cell_end k t.count columns) u last → Performs r (one_cell t columns local body k (frame_item_at t k)) (before first) (record { sink = last; environment = merged_layers (with_scope_popped q) })
   cell_ran columns x y r first last opens h closes =
-      let end : Place = record { sink = last; environment = merged_layers (with_scope_popped q) } in
+      let end : Configuration = record { sink = last; environment = merged_layers (with_scope_popped q) } in
       bind_met unit unit x r (write (cell_start k columns)) (inside columns) (before first) (before s) end (write_met (Ok x) (cell_start k columns) first s (merged_layers (with_scope_popped p)) opens)
       (bind_met unit unit y r (with_scope (frame_map_at t k local) body) (λ b. write (cell_end k t.count columns)) (before s) after end (ran_in (Ok y) h) (write_met r (cell_end k t.count columns) u last (merged_layers (with_scope_popped q)) closes))
 

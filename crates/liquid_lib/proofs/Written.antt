@@ -15,7 +15,7 @@ use Rattle.liquid_lib.proofs.Joined.{memory_of}
 use Rattle.liquid_lib.specs.Sinks.{Sink, Adds, AddsPart}
 use Rattle.liquid_meaning.specs.Runs.{Nothing, Outcome, Run}
 use Rattle.liquid_meaning.specs.Isolation.{IsAsCut, changes}
-use Rattle.liquid_lib.specs.Performs.{Place, Exact, IsCut, MeetsAt, Meets, Performs, is_refused, writer_sink}
+use Rattle.liquid_lib.specs.Performs.{Configuration, Exact, IsCut, MeetsAt, Meets, Performs, is_refused, writer_sink}
 use Rattle.liquid_lib.specs.Rendered.{PerformsForCut, nowhere}
 
 begun : {V A : Type 0} (view : V → A) (r : Result V Error) (o : Outcome A) (s t : Sink) (g : Environment) → MeetsAt view r o s t g → AddsPart s t o.text
@@ -96,7 +96,7 @@ at_caller contents failure_count view r o before after end buffer g same h =
     subst (λ w. MeetsAt view r o start (writer_sink (contents w) (failure_count w)) g) (sym same) last
 
 -- the law of isolation, at a run's answer
-pub for_cut : (N : Names) (r : Result (Unit {0}) Error) (m : Run Nothing) (p q : Place) → IsAsCut m N p.environment → Performs r m p q → PerformsForCut N r m p q
+pub for_cut : (N : Names) (r : Result (Unit {0}) Error) (m : Run Nothing) (p q : Configuration) → IsAsCut m N p.environment → Performs r m p q → PerformsForCut N r m p q
 for_cut N r m p q law (inl x) = inl (record {
   text = subst (Adds p.sink q.sink) law.text x.adds;
   end = x.end ∙ law.end;

@@ -17,16 +17,16 @@ use Rattle.liquid_lib.specs.declared.output.Output.{Output}
 use Rattle.liquid_meaning.specs.Runs.{Nothing, Outcome, Run}
 
 -- where a run stands: what it writes to, and its environment
-pub record Place : Type 0 where
+pub record Configuration : Type 0 where
   pub sink : Sink
   pub environment : Environment
 
-abbrev pub place_of : {W : Type 0} → (W → Option (List ℕ)) → (W → ℕ) → Output W → State → Place
-place_of contents failure_count out state = record { sink = sink_of contents failure_count out; environment = environment_of state }
+abbrev pub configuration_of : {W : Type 0} → (W → Option (List ℕ)) → (W → ℕ) → Output W → State → Configuration
+configuration_of contents failure_count out state = record { sink = sink_of contents failure_count out; environment = environment_of state }
 
 -- the same beside an environment that isn't the state's
-abbrev pub place_beside : {W : Type 0} → (W → Option (List ℕ)) → (W → ℕ) → Output W → Environment → Place
-place_beside contents failure_count out e = record { sink = sink_of contents failure_count out; environment = e }
+abbrev pub configuration_beside : {W : Type 0} → (W → Option (List ℕ)) → (W → ℕ) → Output W → Environment → Configuration
+configuration_beside contents failure_count out e = record { sink = sink_of contents failure_count out; environment = e }
 
 abbrev pub answer_of : {V A : Type 0} → (V → A) → Result V Error → Result A ErrorKind
 answer_of view (Ok value) = Ok (view value)
@@ -57,13 +57,13 @@ pub record Cut {V : Type 0} (r : Result V Error) (text : Text) (old new : Sink) 
 abbrev pub MeetsAt : {V A : Type 0} → (V → A) → Result V Error → Outcome A → Sink → Sink → Environment → Type 0
 MeetsAt view r meant old new environment = Exact view r meant old new environment ⊎ Cut r meant.text old new
 
-abbrev pub Meets : {V A : Type 0} → (V → A) → Result V Error → Run A → Place → Place → Type 0
+abbrev pub Meets : {V A : Type 0} → (V → A) → Result V Error → Run A → Configuration → Configuration → Type 0
 Meets view r m before after = MeetsAt view r (m before.environment) before.sink after.sink after.environment
 
 abbrev pub unit : Unit {0} → Nothing
 unit u = tt
 
-abbrev pub Performs : Result (Unit {0}) Error → Run Nothing → Place → Place → Type 0
+abbrev pub Performs : Result (Unit {0}) Error → Run Nothing → Configuration → Configuration → Type 0
 Performs r m before after = Meets unit r m before after
 
 -- the text was written, unless the answer is `Memory` or `Write`, and nothing else happened

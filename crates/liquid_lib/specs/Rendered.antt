@@ -11,7 +11,7 @@ use Rattle.liquid_lib.specs.Sinks.{Adds}
 use Rattle.liquid_meaning.specs.Runs.{Nothing, Outcome, Run}
 use Rattle.liquid_meaning.specs.Meaning.{meaning}
 use Rattle.liquid_meaning.specs.Isolation.{changes}
-use Rattle.liquid_lib.specs.Performs.{Place, Cut, answer_of, unit, writer_sink}
+use Rattle.liquid_lib.specs.Performs.{Configuration, Cut, answer_of, unit, writer_sink}
 use Rattle.liquid_lib.specs.RuntimeView.{environment_in, partials_in, setting_in, depth_in}
 use Rattle.liquid_lib.specs.declared.runtime.Runtime.{Runtime}
 
@@ -35,19 +35,19 @@ abbrev pub is_rendering_kind : ErrorKind → Bool
 is_rendering_kind kind = nat_le (number_of kind) 18
 
 -- a run with no buffer open
-abbrev pub at_writer : {W : Type 0} → (W → Option (List ℕ)) → (W → ℕ) → W → Environment → Place
+abbrev pub at_writer : {W : Type 0} → (W → Option (List ℕ)) → (W → ℕ) → W → Environment → Configuration
 at_writer contents failure_count writer environment = record { sink = writer_sink (contents writer) (failure_count writer); environment = environment }
 
 -- a run that no writer sees
-abbrev pub nowhere : Environment → Place
+abbrev pub nowhere : Environment → Configuration
 nowhere environment = record { sink = writer_sink None 0; environment = environment }
 
 -- text, end and changes are those of m for the environment cut to N
-pub record ExactForCut (N : Names) (r : Result (Unit {0}) Error) (m : Run Nothing) (before after : Place) : Type 0 where
+pub record ExactForCut (N : Names) (r : Result (Unit {0}) Error) (m : Run Nothing) (before after : Configuration) : Type 0 where
   pub text : Adds before.sink after.sink (m (cut N before.environment)).text
   pub end : answer_of unit r ≡ (m (cut N before.environment)).end
   pub changes : changes before.environment after.environment ≡ changes (cut N before.environment) (m (cut N before.environment)).environment
 
 -- unless the answer is `Memory` or `Write`: then a beginning of that text was added
-abbrev pub PerformsForCut : Names → Result (Unit {0}) Error → Run Nothing → Place → Place → Type 0
+abbrev pub PerformsForCut : Names → Result (Unit {0}) Error → Run Nothing → Configuration → Configuration → Type 0
 PerformsForCut N r m before after = ExactForCut N r m before after ⊎ Cut r (m (cut N before.environment)).text before.sink after.sink

@@ -10,7 +10,7 @@ ghost use Rattle.liquid_tree.specs.Tree as tree;
 ghost use Rattle.liquid_lib.specs.inside.Counters.{in_i64, shown_and_stored};
 ghost use Rattle.liquid_lib.specs.inside.Engine.{setting_of, node_in};
 ghost use Rattle.liquid_lib.specs.Kept.{Keeps, LayersKept};
-ghost use Rattle.liquid_lib.specs.Performs.{Performs, place_of};
+ghost use Rattle.liquid_lib.specs.Performs.{Performs, configuration_of};
 ghost use Rattle.liquid_meaning.specs.Effects.{counter_number};
 
 use crate::context::RunContext;
@@ -31,8 +31,8 @@ pub(crate) fn run_increment<W: CountedWrite, H: NamedFilters>(
     state: &mut State<'_>,
 ) -> Result<()>
     ensures performs { Performs result (node_in H.named context.now (tree.increment name.now))
-        (place_of W.contents W.failure_count out.old state.old)
-        (place_of W.contents W.failure_count out.new state.new) }
+        (configuration_of W.contents W.failure_count out.old state.old)
+        (configuration_of W.contents W.failure_count out.new state.new) }
     ensures same_writer { out.new.writer.ghost_name ≡ out.old.writer.ghost_name }
     ensures kept { Keeps (node_names (tree.increment name.now)) (setting_of H.named context.now) state.old state.new }
     ensures loops { loops_of state.new ≡ loops_of state.old }
@@ -53,8 +53,8 @@ pub(crate) fn run_decrement<W: CountedWrite, H: NamedFilters>(
     state: &mut State<'_>,
 ) -> Result<()>
     ensures performs { Performs result (node_in H.named context.now (tree.decrement name.now))
-        (place_of W.contents W.failure_count out.old state.old)
-        (place_of W.contents W.failure_count out.new state.new) }
+        (configuration_of W.contents W.failure_count out.old state.old)
+        (configuration_of W.contents W.failure_count out.new state.new) }
     ensures same_writer { out.new.writer.ghost_name ≡ out.old.writer.ghost_name }
     ensures kept { Keeps (node_names (tree.decrement name.now)) (setting_of H.named context.now) state.old state.new }
     ensures loops { loops_of state.new ≡ loops_of state.old }
@@ -111,8 +111,8 @@ fn show_and_store<W: CountedWrite>(
     state: &mut State<'_>,
 ) -> Result<()>
     ensures performs { Performs result (shown_and_stored name.now shown stored)
-        (place_of W.contents W.failure_count out.old state.old)
-        (place_of W.contents W.failure_count out.new state.new) }
+        (configuration_of W.contents W.failure_count out.old state.old)
+        (configuration_of W.contents W.failure_count out.new state.new) }
     ensures same_writer { out.new.writer.ghost_name ≡ out.old.writer.ghost_name }
     ensures kept { (N : Names) → T (N name.now) → LayersKept N (layers_of state.old) (layers_of state.new) }
     ensures loops { loops_of state.new ≡ loops_of state.old }

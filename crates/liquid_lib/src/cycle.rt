@@ -8,7 +8,7 @@ ghost use Rattle.liquid_tree.specs.Names.{node_names};
 ghost use Rattle.liquid_tree.specs.Tree as tree;
 ghost use Rattle.liquid_lib.specs.inside.Engine.{setting_of, node_in};
 ghost use Rattle.liquid_lib.specs.Kept.{Keeps};
-ghost use Rattle.liquid_lib.specs.Performs.{Performs, place_of};
+ghost use Rattle.liquid_lib.specs.Performs.{Performs, configuration_of};
 ghost use Rattle.liquid_meaning.specs.Effects.{cycle_index};
 
 use crate::context::RunContext;
@@ -30,8 +30,8 @@ pub(crate) fn run_cycle<W: CountedWrite, H: NamedFilters>(
     state: &mut State<'_>,
 ) -> Result<()>
     ensures performs { Performs result (node_in H.named context.now (tree.cycle group.now (map expression_view values.now)))
-        (place_of W.contents W.failure_count out.old state.old)
-        (place_of W.contents W.failure_count out.new state.new) }
+        (configuration_of W.contents W.failure_count out.old state.old)
+        (configuration_of W.contents W.failure_count out.new state.new) }
     ensures same_writer { out.new.writer.ghost_name ≡ out.old.writer.ghost_name }
     ensures kept { Keeps (node_names (tree.cycle group.now (map expression_view values.now))) (setting_of H.named context.now) state.old state.new }
     ensures loops { loops_of state.new ≡ loops_of state.old }

@@ -14,7 +14,7 @@ ghost use Rattle.liquid_tree.specs.Tree as tree;
 ghost use Rattle.liquid_lib.specs.inside.Choices.{NodeComesTo};
 ghost use Rattle.liquid_lib.specs.inside.Engine.{setting_of, node_in, nodes_in, partial_in};
 ghost use Rattle.liquid_lib.specs.Kept.{Keeps, IsRender, AreRenders};
-ghost use Rattle.liquid_lib.specs.Performs.{Performs, place_of};
+ghost use Rattle.liquid_lib.specs.Performs.{Performs, configuration_of};
 ghost use Rattle.liquid_meaning.specs.Runs.{with_scope};
 
 mod loops;
@@ -51,8 +51,8 @@ pub(crate) fn run_range<'d, W: CountedWrite, H: NamedFilters>(
     requires { IsRange nodes.now from to }
     ensures performs { (f : Forest Maker) → StandsAt nodes.now from f to →
         Performs result (nodes_in H.named context.now (nodes_of f))
-        (place_of W.contents W.failure_count out.old state.old)
-        (place_of W.contents W.failure_count out.new state.new) }
+        (configuration_of W.contents W.failure_count out.old state.old)
+        (configuration_of W.contents W.failure_count out.new state.new) }
     ensures same_writer { out.new.writer.ghost_name ≡ out.old.writer.ghost_name }
     ensures kept { (f : Forest Maker) → StandsAt nodes.now from f to → Keeps (nodes_names (nodes_of f)) (setting_of H.named context.now) state.old state.new }
     ensures alone { (f : Forest Maker) → StandsAt nodes.now from f to → AreRenders (nodes_of f) → layers_of state.new ≡ layers_of state.old }
@@ -85,8 +85,8 @@ fn run_node<'d, W: CountedWrite, H: NamedFilters>(
     requires { IsNode nodes.now at to }
     ensures performs { (n : tree.Node) (next : ℕ) → NodeAt nodes.now at n next →
         Performs result (node_in H.named context.now n)
-        (place_of W.contents W.failure_count out.old state.old)
-        (place_of W.contents W.failure_count out.new state.new) }
+        (configuration_of W.contents W.failure_count out.old state.old)
+        (configuration_of W.contents W.failure_count out.new state.new) }
     ensures same_writer { out.new.writer.ghost_name ≡ out.old.writer.ghost_name }
     ensures kept { (n : tree.Node) (next : ℕ) → NodeAt nodes.now at n next → Keeps (node_names n) (setting_of H.named context.now) state.old state.new }
     ensures alone { (n : tree.Node) (next : ℕ) → NodeAt nodes.now at n next → IsRender n → layers_of state.new ≡ layers_of state.old }
@@ -175,8 +175,8 @@ fn run_chosen<'d, W: CountedWrite, H: NamedFilters>(
     requires { IfOk chosen (λ range. (at < range.0) × (range.1 ≤ to) × IsRange nodes.now range.0 range.1) }
     ensures performs { (n : tree.Node) → NodeComesTo nodes.now (environment_of state.old) n chosen →
         Performs result (node_in H.named context.now n)
-        (place_of W.contents W.failure_count out.old state.old)
-        (place_of W.contents W.failure_count out.new state.new) }
+        (configuration_of W.contents W.failure_count out.old state.old)
+        (configuration_of W.contents W.failure_count out.new state.new) }
     ensures same_writer { out.new.writer.ghost_name ≡ out.old.writer.ghost_name }
     ensures kept { (n : tree.Node) → NodeComesTo nodes.now (environment_of state.old) n chosen → Keeps (node_names n) (setting_of H.named context.now) state.old state.new }
     ensures loops { loops_of state.new ≡ loops_of state.old }
@@ -203,8 +203,8 @@ fn run_capture<'d, W: CountedWrite, H: NamedFilters>(
     requires body { IsRange nodes.now (at + 1) end }
     ensures performs { (b : Forest Maker) → StandsAt nodes.now (at + 1) b end →
         Performs result (node_in H.named context.now (tree.capture name.now (nodes_of b)))
-        (place_of W.contents W.failure_count out.old state.old)
-        (place_of W.contents W.failure_count out.new state.new) }
+        (configuration_of W.contents W.failure_count out.old state.old)
+        (configuration_of W.contents W.failure_count out.new state.new) }
     ensures same_writer { out.new.writer.ghost_name ≡ out.old.writer.ghost_name }
     ensures kept { (b : Forest Maker) → StandsAt nodes.now (at + 1) b end →
         Keeps (node_names (tree.capture name.now (nodes_of b))) (setting_of H.named context.now) state.old state.new }
@@ -232,8 +232,8 @@ fn run_ifchanged<'d, W: CountedWrite, H: NamedFilters>(
     requires { IsRange nodes.now (at + 1) end }
     ensures performs { (b : Forest Maker) → StandsAt nodes.now (at + 1) b end →
         Performs result (node_in H.named context.now (tree.ifchanged (nodes_of b)))
-        (place_of W.contents W.failure_count out.old state.old)
-        (place_of W.contents W.failure_count out.new state.new) }
+        (configuration_of W.contents W.failure_count out.old state.old)
+        (configuration_of W.contents W.failure_count out.new state.new) }
     ensures same_writer { out.new.writer.ghost_name ≡ out.old.writer.ghost_name }
     ensures kept { (b : Forest Maker) → StandsAt nodes.now (at + 1) b end →
         Keeps (node_names (tree.ifchanged (nodes_of b))) (setting_of H.named context.now) state.old state.new }
@@ -258,8 +258,8 @@ fn run_include<'d, W: CountedWrite, H: NamedFilters>(
     state: &mut State<'d>,
 ) -> Result<()>
     ensures performs { Performs result (node_in H.named context.now (tree.include (expression_view name.now) (bindings_view bindings.now)))
-        (place_of W.contents W.failure_count out.old state.old)
-        (place_of W.contents W.failure_count out.new state.new) }
+        (configuration_of W.contents W.failure_count out.old state.old)
+        (configuration_of W.contents W.failure_count out.new state.new) }
     ensures same_writer { out.new.writer.ghost_name ≡ out.old.writer.ghost_name }
     ensures kept { Keeps (node_names (tree.include (expression_view name.now) (bindings_view bindings.now))) (setting_of H.named context.now) state.old state.new }
     ensures loops { loops_of state.new ≡ loops_of state.old }
@@ -283,8 +283,8 @@ fn run_jekyll_include<'d, W: CountedWrite, H: NamedFilters>(
     state: &mut State<'d>,
 ) -> Result<()>
     ensures performs { Performs result (node_in H.named context.now (tree.jekyll_include name.now (bindings_view bindings.now)))
-        (place_of W.contents W.failure_count out.old state.old)
-        (place_of W.contents W.failure_count out.new state.new) }
+        (configuration_of W.contents W.failure_count out.old state.old)
+        (configuration_of W.contents W.failure_count out.new state.new) }
     ensures same_writer { out.new.writer.ghost_name ≡ out.old.writer.ghost_name }
     ensures kept { Keeps (node_names (tree.jekyll_include name.now (bindings_view bindings.now))) (setting_of H.named context.now) state.old state.new }
     ensures loops { loops_of state.new ≡ loops_of state.old }
@@ -308,8 +308,8 @@ fn run_partial<'d, W: CountedWrite, H: NamedFilters>(
 ) -> Result<()>
     requires small { length (list_of partial.now) ≤ most_of context.now.partials.now }
     ensures performs { Performs result (with_scope (held scope) (partial_in H.named context.now (tree_of partial.now)))
-        (place_of W.contents W.failure_count out.old state.old)
-        (place_of W.contents W.failure_count out.new state.new) }
+        (configuration_of W.contents W.failure_count out.old state.old)
+        (configuration_of W.contents W.failure_count out.new state.new) }
     ensures same_writer { out.new.writer.ghost_name ≡ out.old.writer.ghost_name }
     ensures kept { Keeps (nodes_names (tree_of partial.now)) (setting_of H.named context.now) state.old state.new }
     ensures loops { loops_of state.new ≡ loops_of state.old }

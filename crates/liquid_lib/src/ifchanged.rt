@@ -4,7 +4,7 @@ ghost use Rattle.liquid_core.specs.Environment.{Names};
 ghost use Rattle.liquid_core.specs.States.{environment_of, layers_of, loops_of};
 ghost use Rattle.liquid_lib.specs.inside.Changed.{shown_if_changed, written_unless_last};
 ghost use Rattle.liquid_lib.specs.Kept.{LayersKept};
-ghost use Rattle.liquid_lib.specs.Performs.{Performs, place_of};
+ghost use Rattle.liquid_lib.specs.Performs.{Performs, configuration_of};
 ghost use Rattle.liquid_meaning.specs.Effects.{is_last_text};
 
 use crate::counted::CountedWrite;
@@ -21,8 +21,8 @@ pub(crate) fn show_if_changed<W: CountedWrite>(
     state: &mut State<'_>,
 ) -> Result<()>
     ensures performs { Performs result (shown_if_changed (string_bytes text))
-        (place_of W.contents W.failure_count out.old state.old)
-        (place_of W.contents W.failure_count out.new state.new) }
+        (configuration_of W.contents W.failure_count out.old state.old)
+        (configuration_of W.contents W.failure_count out.new state.new) }
     ensures same_writer { out.new.writer.ghost_name ≡ out.old.writer.ghost_name }
     ensures kept { (N : Names) → LayersKept N (layers_of state.old) (layers_of state.new) }
     ensures loops { loops_of state.new ≡ loops_of state.old }
@@ -40,8 +40,8 @@ fn write_unless_last<W: CountedWrite>(
     state: &State<'_>,
 ) -> Result<()>
     ensures performs { Performs result (written_unless_last (environment_of state.now).registers.changed text.now)
-        (place_of W.contents W.failure_count out.old state.now)
-        (place_of W.contents W.failure_count out.new state.now) }
+        (configuration_of W.contents W.failure_count out.old state.now)
+        (configuration_of W.contents W.failure_count out.new state.now) }
     ensures same_writer { out.new.writer.ghost_name ≡ out.old.writer.ghost_name }
 {
     if is_last(text, state) {

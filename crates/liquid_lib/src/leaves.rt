@@ -6,7 +6,7 @@ ghost use Rattle.liquid_tree.specs.Names.{node_names};
 ghost use Rattle.liquid_tree.specs.Tree as tree;
 ghost use Rattle.liquid_lib.specs.inside.Engine.{setting_of, node_in};
 ghost use Rattle.liquid_lib.specs.Kept.{Keeps};
-ghost use Rattle.liquid_lib.specs.Performs.{Performs, place_of};
+ghost use Rattle.liquid_lib.specs.Performs.{Performs, configuration_of};
 
 use crate::context::RunContext;
 use crate::counted::CountedWrite;
@@ -25,8 +25,8 @@ pub(crate) fn run_text<W: CountedWrite, H: NamedFilters>(
     state: &mut State<'_>,
 ) -> Result<()>
     ensures performs { Performs result (node_in H.named context.now (tree.plain text.now))
-        (place_of W.contents W.failure_count out.old state.old)
-        (place_of W.contents W.failure_count out.new state.new) }
+        (configuration_of W.contents W.failure_count out.old state.old)
+        (configuration_of W.contents W.failure_count out.new state.new) }
     ensures same_writer { out.new.writer.ghost_name ≡ out.old.writer.ghost_name }
     ensures kept { Keeps (node_names (tree.plain text.now)) (setting_of H.named context.now) state.old state.new }
     ensures loops { loops_of state.new ≡ loops_of state.old }
@@ -43,8 +43,8 @@ pub(crate) fn run_raw<W: CountedWrite, H: NamedFilters>(
     state: &mut State<'_>,
 ) -> Result<()>
     ensures performs { Performs result (node_in H.named context.now (tree.raw text.now))
-        (place_of W.contents W.failure_count out.old state.old)
-        (place_of W.contents W.failure_count out.new state.new) }
+        (configuration_of W.contents W.failure_count out.old state.old)
+        (configuration_of W.contents W.failure_count out.new state.new) }
     ensures same_writer { out.new.writer.ghost_name ≡ out.old.writer.ghost_name }
     ensures kept { Keeps (node_names (tree.raw text.now)) (setting_of H.named context.now) state.old state.new }
     ensures loops { loops_of state.new ≡ loops_of state.old }
@@ -62,8 +62,8 @@ pub(crate) fn run_output<W: CountedWrite, H: NamedFilters>(
     state: &mut State<'_>,
 ) -> Result<()>
     ensures performs { Performs result (node_in H.named context.now (tree.output (chain_view chain.now)))
-        (place_of W.contents W.failure_count out.old state.old)
-        (place_of W.contents W.failure_count out.new state.new) }
+        (configuration_of W.contents W.failure_count out.old state.old)
+        (configuration_of W.contents W.failure_count out.new state.new) }
     ensures same_writer { out.new.writer.ghost_name ≡ out.old.writer.ghost_name }
     ensures kept { Keeps (node_names (tree.output (chain_view chain.now))) (setting_of H.named context.now) state.old state.new }
     ensures loops { loops_of state.new ≡ loops_of state.old }
@@ -83,8 +83,8 @@ pub(crate) fn run_assign<W: CountedWrite, H: NamedFilters>(
     state: &mut State<'_>,
 ) -> Result<()>
     ensures performs { Performs result (node_in H.named context.now (tree.assign name.now (chain_view chain.now)))
-        (place_of W.contents W.failure_count out.old state.old)
-        (place_of W.contents W.failure_count out.new state.new) }
+        (configuration_of W.contents W.failure_count out.old state.old)
+        (configuration_of W.contents W.failure_count out.new state.new) }
     ensures same_writer { out.new.writer.ghost_name ≡ out.old.writer.ghost_name }
     ensures kept { Keeps (node_names (tree.assign name.now (chain_view chain.now))) (setting_of H.named context.now) state.old state.new }
     ensures loops { loops_of state.new ≡ loops_of state.old }

@@ -5,7 +5,7 @@ ghost use Rattle.liquid_syntax.specs.Templates.{tree_of};
 ghost use Rattle.liquid_tree.specs.Names.{nodes_names};
 ghost use Rattle.liquid_lib.specs.inside.Engine.{setting_of, nodes_in};
 ghost use Rattle.liquid_lib.specs.Kept.{Keeps, AreRenders};
-ghost use Rattle.liquid_lib.specs.Performs.{Performs, place_of};
+ghost use Rattle.liquid_lib.specs.Performs.{Performs, configuration_of};
 
 use crate::context::RunContext;
 use crate::counted::CountedWrite;
@@ -28,8 +28,8 @@ pub(crate) fn run_template<W: CountedWrite, H: NamedFilters>(
 ) -> Result<()>
     requires plain { length (loops_of state.old) ≡ 0 }
     ensures performs { Performs result (nodes_in H.named context.now (tree_of template.now))
-        (place_of W.contents W.failure_count out.old state.old)
-        (place_of W.contents W.failure_count out.new state.new) }
+        (configuration_of W.contents W.failure_count out.old state.old)
+        (configuration_of W.contents W.failure_count out.new state.new) }
     ensures same_writer { out.new.writer.ghost_name ≡ out.old.writer.ghost_name }
     ensures kept { Keeps (nodes_names (tree_of template.now)) (setting_of H.named context.now) state.old state.new }
     ensures alone { AreRenders (tree_of template.now) → layers_of state.new ≡ layers_of state.old }

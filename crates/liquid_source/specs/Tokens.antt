@@ -25,19 +25,19 @@ tokens_of is = map token_of is
 abbrev pub tokens_view : List Item → List Token
 tokens_view is = map (λ i. token_of (item_view i)) is
 
--- the place of a symbol among all
-abbrev pub place_of : Symbol → ℕ
-place_of Equals = 0
-place_of NotEquals = 1
-place_of LessOrGreater = 2
-place_of LessThanEquals = 3
-place_of GreaterThanEquals = 4
-place_of LessThan = 5
-place_of GreaterThan = 6
-place_of Assign = 7
-place_of Colon = 8
-place_of Comma = 9
-place_of Bar = 10
+-- the number of a symbol among all
+abbrev pub number_of : Symbol → ℕ
+number_of Equals = 0
+number_of NotEquals = 1
+number_of LessOrGreater = 2
+number_of LessThanEquals = 3
+number_of GreaterThanEquals = 4
+number_of LessThan = 5
+number_of GreaterThan = 6
+number_of Assign = 7
+number_of Colon = 8
+number_of Comma = 9
+number_of Bar = 10
 
 -- a word: a variable without steps
 abbrev pub word : Text → Token
@@ -71,7 +71,7 @@ word_first ts = option_and_then (λ x. option_map (λ w. (w, x.1)) (word_in x.0)
 
 -- whether two symbols are the same
 abbrev pub same_symbol : Symbol → Symbol → Bool
-same_symbol s t = nat_eq (place_of s) (place_of t)
+same_symbol s t = nat_eq (number_of s) (number_of t)
 
 abbrev pub is_symbol : Symbol → Token → Bool
 is_symbol s (symbol t) = same_symbol s t

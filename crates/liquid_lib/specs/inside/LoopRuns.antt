@@ -15,7 +15,7 @@ use Rattle.liquid_core.specs.declared.frame.LoopFrame.{LoopFrame}
 use Rattle.liquid_tree.specs.Names.{partials_names}
 use Rattle.liquid_lib.specs.Kept.{LayersKept}
 use Rattle.liquid_lib.specs.inside.LoopTurns.{turn_items}
-use Rattle.liquid_lib.specs.Performs.{Place}
+use Rattle.liquid_lib.specs.Performs.{Configuration}
 use Rattle.liquid_lib.specs.Sinks.{sink_of}
 use Rattle.liquid_lib.specs.declared.output.Output.{Output}
 use Rattle.liquid_meaning.specs.Effects.{take_interrupt}
@@ -29,8 +29,8 @@ abbrev pub behind : State → Map Datum
 behind s = local_of (scopes_behind (layers_of s).scopes)
 
 -- where a run stands, without the innermost scope
-abbrev pub place_behind : {W : Type 0} → (W → Option (List ℕ)) → (W → ℕ) → Output W → State → Place
-place_behind contents failure_count out s = record { sink = sink_of contents failure_count out; environment = merged_layers (with_scope_popped (layers_of s)) }
+abbrev pub configuration_behind : {W : Type 0} → (W → Option (List ℕ)) → (W → ℕ) → Output W → State → Configuration
+configuration_behind contents failure_count out s = record { sink = sink_of contents failure_count out; environment = merged_layers (with_scope_popped (layers_of s)) }
 
 pub record StartsAt (m : ℕ) (s : State) (before : List Scope) (t : LoopFrame) : Type 0 where
   pub innermost : EndsIn (loops_of s) before t

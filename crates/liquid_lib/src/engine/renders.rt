@@ -10,7 +10,7 @@ ghost use Rattle.liquid_syntax.specs.Flats.{bindings_view, each_view};
 ghost use Rattle.liquid_syntax.specs.Templates.{list_of, most_of, tree_of};
 ghost use Rattle.liquid_tree.specs.Tree as tree;
 ghost use Rattle.liquid_lib.specs.inside.Engine.{setting_of, node_in, partial_in};
-ghost use Rattle.liquid_lib.specs.Performs.{Meets, Performs, place_of, place_beside};
+ghost use Rattle.liquid_lib.specs.Performs.{Meets, Performs, configuration_of, configuration_beside};
 ghost use Rattle.liquid_meaning.specs.Meaning.{deeper_meaning, render_apart};
 ghost use Rattle.liquid_meaning.specs.Runs.{apart};
 
@@ -38,8 +38,8 @@ pub(super) fn run_render<'d, W: CountedWrite, H: NamedFilters>(
     state: &State<'d>,
 ) -> Result<()>
     ensures performs { Performs result (node_in H.named context.now (tree.render (expression_view name.now) None (bindings_view bindings.now)))
-        (place_of W.contents W.failure_count out.old state.now)
-        (place_of W.contents W.failure_count out.new state.now) }
+        (configuration_of W.contents W.failure_count out.old state.now)
+        (configuration_of W.contents W.failure_count out.new state.now) }
     ensures same_writer { out.new.writer.ghost_name ≡ out.old.writer.ghost_name }
 {
     let called = partial_name(alloc, name, state)?;
@@ -64,8 +64,8 @@ pub(super) fn run_render_each<'d, W: CountedWrite, H: NamedFilters>(
     state: &State<'d>,
 ) -> Result<()>
     ensures performs { Performs result (node_in H.named context.now (tree.render (expression_view name.now) (Some (each_view each.now)) (bindings_view bindings.now)))
-        (place_of W.contents W.failure_count out.old state.now)
-        (place_of W.contents W.failure_count out.new state.now) }
+        (configuration_of W.contents W.failure_count out.old state.now)
+        (configuration_of W.contents W.failure_count out.new state.now) }
     ensures same_writer { out.new.writer.ghost_name ≡ out.old.writer.ghost_name }
 {
     let called = partial_name(alloc, name, state)?;
@@ -102,8 +102,8 @@ fn run_item<'d, W: CountedWrite, H: NamedFilters>(
 ) -> Result<Option<Interrupt>>
     ensures performs { (over : Map Datum) → ((local : Map Datum) → frame_map frame.entry local ≡ over) →
         Meets (λ i. i) result (render_apart (setting_of H.named context.now) (deeper_meaning (setting_of H.named context.now) context.now.depth) name.now (bindings_view bindings.now) over)
-        (place_of W.contents W.failure_count out.old state.now)
-        (place_of W.contents W.failure_count out.new state.now) }
+        (configuration_of W.contents W.failure_count out.old state.now)
+        (configuration_of W.contents W.failure_count out.new state.now) }
     ensures same_writer { out.new.writer.ghost_name ≡ out.old.writer.ghost_name }
 {
     let names = pairs_scope(alloc, bindings, state)?;
@@ -126,8 +126,8 @@ fn run_apart<'d, W: CountedWrite, H: NamedFilters>(
     requires small { length (list_of partial.now) ≤ most_of context.now.partials.now }
     ensures performs { (names : Map Datum) (e : Environment) → environment_of own.entry ≡ new_environment names →
         Meets (λ i. i) result (apart names (partial_in H.named context.now (tree_of partial.now)))
-        (place_beside W.contents W.failure_count out.old e)
-        (place_beside W.contents W.failure_count out.new e) }
+        (configuration_beside W.contents W.failure_count out.old e)
+        (configuration_beside W.contents W.failure_count out.new e) }
     ensures same_writer { out.new.writer.ghost_name ≡ out.old.writer.ghost_name }
 {
     if context.depth == 0 {

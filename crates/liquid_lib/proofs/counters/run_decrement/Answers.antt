@@ -5,7 +5,7 @@ use Rattle.std.specs.Prelude.{pos, ◌-ℤ◌}
 use Rattle.liquid_model.specs.Answer.{Faulted}
 use Rattle.liquid_tree.specs.Names.{node_names}
 use Rattle.liquid_lib.specs.inside.Counters.{in_i64, shown_and_stored}
-use Rattle.liquid_lib.specs.Performs.{Performs, place_of}
+use Rattle.liquid_lib.specs.Performs.{Performs, configuration_of}
 use Rattle.liquid_lib.proofs.Counting.{counts, counts_too_far, in_i64_is}
 use Rattle.liquid_lib.proofs.Joined.{by_rule}
 use Rattle.liquid_meaning.proofs.Rules.{decrement_rule}
@@ -21,7 +21,7 @@ returns-in_err-less-clause-performs g c =
 
 pub returns-clause-performs : goal.returns-clause-performs
 returns-clause-performs g c =
-    let place = place_of g.W.CountedWrite.contents g.W.CountedWrite.failure_count in
+    let place = configuration_of g.W.CountedWrite.contents g.W.CountedWrite.failure_count in
     let n = c.number_of.result in
     let less = c.in_ok-less.less in
     let fits : FitsSigned w64 c.number_of.result = search rules in

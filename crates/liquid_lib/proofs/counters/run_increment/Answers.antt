@@ -5,7 +5,7 @@ use Rattle.std.specs.Prelude.{pos, ◌+ℤ◌}
 use Rattle.liquid_model.specs.Answer.{Faulted}
 use Rattle.liquid_tree.specs.Names.{node_names}
 use Rattle.liquid_lib.specs.inside.Counters.{in_i64, shown_and_stored}
-use Rattle.liquid_lib.specs.Performs.{Performs, place_of}
+use Rattle.liquid_lib.specs.Performs.{Performs, configuration_of}
 use Rattle.liquid_lib.proofs.Counting.{counts, counts_too_far}
 use Rattle.liquid_lib.proofs.Joined.{by_rule}
 use Rattle.liquid_meaning.proofs.Rules.{increment_rule}
@@ -21,7 +21,7 @@ returns-in_err-more-clause-performs g c =
 
 pub returns-clause-performs : goal.returns-clause-performs
 returns-clause-performs g c =
-    let place = place_of g.W.CountedWrite.contents g.W.CountedWrite.failure_count in
+    let place = configuration_of g.W.CountedWrite.contents g.W.CountedWrite.failure_count in
     let n = c.number_of-number.result in
     let more = c.in_ok-more.more in
     let fits : FitsSigned w64 c.number_of-number.result = search rules in

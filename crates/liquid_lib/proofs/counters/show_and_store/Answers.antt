@@ -5,7 +5,7 @@ use Rattle.std.specs.Fmt.{signed_decimal}
 use Rattle.liquid_model.specs.Answer.{IsValueOrMemory}
 use Rattle.liquid_model.specs.Data.{number}
 use Rattle.liquid_core.specs.States.{environment_of, layers_of, with_counter}
-use Rattle.liquid_lib.specs.Performs.{unit, place_of}
+use Rattle.liquid_lib.specs.Performs.{unit, configuration_of}
 use Rattle.liquid_lib.proofs.Counting.{view-Integer}
 use Rattle.liquid_lib.proofs.Joined.{bind_met, bind_faulted, change_met, gives_merged, memory_at, write_met}
 use Rattle.liquid_lib.proofs.Kept.{kept_counter}
@@ -24,7 +24,7 @@ returns-in_err-push_number-clause-performs g c =
 
 pub returns-in_err-from_str-clause-performs : goal.returns-in_err-from_str-clause-performs
 returns-in_err-from_str-clause-performs g c =
-    let place = place_of g.W.CountedWrite.contents g.W.CountedWrite.failure_count in
+    let place = configuration_of g.W.CountedWrite.contents g.W.CountedWrite.failure_count in
     let p = err_from_is_err_and c.from_residual-in_err-from_str.result c.from_residual-in_err-from_str.ensures.1 in
     let fits : FitsSigned w64 c.args.shown = search rules in
     let v = c.in_ok-push_number.field-0 in
@@ -33,7 +33,7 @@ returns-in_err-from_str-clause-performs g c =
 
 pub returns-clause-performs : goal.returns-clause-performs
 returns-clause-performs g c =
-    let place = place_of g.W.CountedWrite.contents g.W.CountedWrite.failure_count in
+    let place = configuration_of g.W.CountedWrite.contents g.W.CountedWrite.failure_count in
     let fits : FitsSigned w64 c.args.shown = search rules in
     let fits_stored : FitsSigned w64 c.args.stored = search rules in
     let v = c.in_ok-push_number.field-0 in

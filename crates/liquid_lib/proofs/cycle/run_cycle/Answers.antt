@@ -8,7 +8,7 @@ use Rattle.liquid_model.specs.declared.cow.ValueCow.{ValueCow}
 use Rattle.liquid_core.specs.ExpressionView.{expression_view}
 use Rattle.liquid_core.specs.Expressions.{required}
 use Rattle.liquid_core.specs.States.{environment_of, merged_layers}
-use Rattle.liquid_lib.specs.Performs.{place_of, unit}
+use Rattle.liquid_lib.specs.Performs.{configuration_of, unit}
 use Rattle.liquid_lib.specs.Sinks.{sink_of}
 use Rattle.liquid_lib.proofs.Cycles.{cycle_met, cycle_without, none_there, one_there, seen_at, seen_past}
 use Rattle.liquid_lib.proofs.Joined.{by_rule, given_met, refused_met, memory_at, write_met}
@@ -31,7 +31,7 @@ returns-in_err-index-clause-performs g c =
 pub returns-in_err-value-in-Some-clause-performs : goal.returns-in_err-value-in-Some-clause-performs
 returns-in_err-value-in-Some-clause-performs g c =
     let sink = sink_of g.W.CountedWrite.contents g.W.CountedWrite.failure_count in
-    let place = place_of g.W.CountedWrite.contents g.W.CountedWrite.failure_count in
+    let place = configuration_of g.W.CountedWrite.contents g.W.CountedWrite.failure_count in
     let xs = c.args.values.now in
     let values = map expression_view xs in
     let count : length values ≡ length xs = length-map xs expression_view in
@@ -50,7 +50,7 @@ returns-in_err-value-in-Some-clause-performs g c =
 pub returns-in_ok-value-in-Some-clause-performs : goal.returns-in_ok-value-in-Some-clause-performs
 returns-in_ok-value-in-Some-clause-performs g c =
     let sink = sink_of g.W.CountedWrite.contents g.W.CountedWrite.failure_count in
-    let place = place_of g.W.CountedWrite.contents g.W.CountedWrite.failure_count in
+    let place = configuration_of g.W.CountedWrite.contents g.W.CountedWrite.failure_count in
     let xs = c.args.values.now in
     let values = map expression_view xs in
     let count : length values ≡ length xs = length-map xs expression_view in
@@ -70,7 +70,7 @@ returns-in_ok-value-in-Some-clause-performs g c =
 pub returns-in-None-clause-performs : goal.returns-in-None-clause-performs
 returns-in-None-clause-performs g c =
     let sink = sink_of g.W.CountedWrite.contents g.W.CountedWrite.failure_count in
-    let place = place_of g.W.CountedWrite.contents g.W.CountedWrite.failure_count in
+    let place = configuration_of g.W.CountedWrite.contents g.W.CountedWrite.failure_count in
     let xs = c.args.values.now in
     let values = map expression_view xs in
     let count : length values ≡ length xs = length-map xs expression_view in

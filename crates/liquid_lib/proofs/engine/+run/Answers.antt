@@ -37,7 +37,7 @@ use Rattle.liquid_lib.specs.inside.Choices.{CaseStands, IsCase, Chosen, NodeCome
 use Rattle.liquid_lib.specs.inside.Engine.{setting_of, node_meant, nodes_meant}
 use Rattle.liquid_lib.specs.Kept.{Keeps, LayersKept}
 use Rattle.liquid_lib.specs.inside.Partials.{partial_of, rendered_of}
-use Rattle.liquid_lib.specs.Performs.{Place, Meets, Performs, place_of, unit, Writes}
+use Rattle.liquid_lib.specs.Performs.{Configuration, Meets, Performs, configuration_of, unit, Writes}
 use Rattle.liquid_lib.specs.Sinks.{sink_of}
 use Rattle.liquid_lib.proofs.Apart.{apart_met, apart_faulted}
 use Rattle.liquid_lib.proofs.Cases.{the_case, case_performs, case_keeps, case_other}
@@ -57,7 +57,7 @@ use Rattle.liquid_syntax.specs.declared.loop_nodes.TableRow as heads_TableRow
 use Rattle.liquid_core.specs.declared.frame.Scope.{Scope}
 use Rattle.liquid_core.specs.declared.frame.LoopFrame.{LoopFrame}
 use Rattle.liquid_tree.specs.SourceView.{source_view}
-use Rattle.liquid_lib.specs.inside.LoopRuns.{StartsAt, behind, cells_meant, place_behind, turns_meant}
+use Rattle.liquid_lib.specs.inside.LoopRuns.{StartsAt, behind, cells_meant, configuration_behind, turns_meant}
 use Rattle.liquid_lib.specs.inside.LoopTurns.{AreRows, IsFor, IsRow, cells_asked, cells_of, items_asked, turn_items, turns_of}
 use Rattle.std.specs.Prelude.{IfOk, IfSome}
 use Rattle.liquid_meaning.specs.Loops.{cell_end}
@@ -67,55 +67,55 @@ use Rattle.liquid_lib.proofs.engine.+run.Goals as goal
 
 pub run_range-run_node-requires : goal.run_range-run_node-requires
 run_range-run_node-requires g t c κs within =
-    let place = place_of g.W.CountedWrite.contents g.W.CountedWrite.failure_count in
+    let place = configuration_of g.W.CountedWrite.contents g.W.CountedWrite.failure_count in
     (let lt : 4 * (c.args.to - c.loop-at.at) + reserve c.args.context.now.depth c.args.context.now.partials.now < t = omega arith in lt, (within.0, (within.1, going_node (setting_of g.H.NamedFilters.named c.args.context.now) c.args.context.now.depth c.args.nodes.now c.args.from c.loop-at.at c.args.to (place c.args.out.now c.args.state.now) (place c.loop-at.out c.loop-at.state) c.requires c.loop-at.invariant.going c.loop-at-test.true)))
 
 pub run_range-returns-in-Err-clause-performs : goal.run_range-returns-in-Err-clause-performs
 run_range-returns-in-Err-clause-performs g t c =
-    let place = place_of g.W.CountedWrite.contents g.W.CountedWrite.failure_count in
+    let place = configuration_of g.W.CountedWrite.contents g.W.CountedWrite.failure_count in
     going_fault (setting_of g.H.NamedFilters.named c.args.context.now) c.args.context.now.depth c.args.nodes.now c.args.from c.loop-at.at c.args.to _ (place c.args.out.now c.args.state.now) (place c.loop-at.out c.loop-at.state) (place c.run_node.new.out c.run_node.new.state) c.loop-at.invariant.going c.loop-at-test.true (λ n next there. fault_again c.in-Err.fault c.located.result c.located.ensures (c.in-Err.ensures.performs n next there))
 
 pub run_range-returns-in-Err-clause-alone : goal.run_range-returns-in-Err-clause-alone
 run_range-returns-in-Err-clause-alone g t c f stood =
-    let place = place_of g.W.CountedWrite.contents g.W.CountedWrite.failure_count in
+    let place = configuration_of g.W.CountedWrite.contents g.W.CountedWrite.failure_count in
     alone_step (setting_of g.H.NamedFilters.named c.args.context.now) c.args.context.now.depth c.args.nodes.now c.args.from c.loop-at.at c.args.to (place c.args.out.now c.args.state.now) (place c.loop-at.out c.loop-at.state) c.args.state.now c.loop-at.state c.run_node.new.state f stood c.loop-at.invariant.going c.loop-at-test.true c.run_node.ensures.alone (c.loop-at.invariant.alone f stood)
 
 pub run_range-returns-in-Err-clause-kept : goal.run_range-returns-in-Err-clause-kept
 run_range-returns-in-Err-clause-kept g t c f stood =
-    let place = place_of g.W.CountedWrite.contents g.W.CountedWrite.failure_count in
+    let place = configuration_of g.W.CountedWrite.contents g.W.CountedWrite.failure_count in
     kept_step (setting_of g.H.NamedFilters.named c.args.context.now) c.args.context.now.depth c.args.nodes.now c.args.from c.loop-at.at c.args.to (place c.args.out.now c.args.state.now) (place c.loop-at.out c.loop-at.state) c.args.state.now c.loop-at.state c.run_node.new.state f stood c.loop-at.invariant.going c.loop-at-test.true c.run_node.ensures.kept (c.loop-at.invariant.kept f stood)
 
 pub run_range-returns-then-is_some-clause-performs : goal.run_range-returns-then-is_some-clause-performs
 run_range-returns-then-is_some-clause-performs g t c =
-    let place = place_of g.W.CountedWrite.contents g.W.CountedWrite.failure_count in
+    let place = configuration_of g.W.CountedWrite.contents g.W.CountedWrite.failure_count in
     let some = some_of c.run_node.new.state.interrupt (search rules) in
     going_halt (setting_of g.H.NamedFilters.named c.args.context.now) c.args.context.now.depth c.args.nodes.now c.args.from c.loop-at.at c.args.to _ _ some.0 (place c.args.out.now c.args.state.now) (place c.loop-at.out c.loop-at.state) (place c.run_node.new.out c.run_node.new.state) c.loop-at.invariant.going c.loop-at-test.true c.in_default.ensures.performs (interrupt_of c.run_node.new.state _ some.1)
 
 pub run_range-returns-then-is_some-clause-alone : goal.run_range-returns-then-is_some-clause-alone
 run_range-returns-then-is_some-clause-alone g t c f stood =
-    let place = place_of g.W.CountedWrite.contents g.W.CountedWrite.failure_count in
+    let place = configuration_of g.W.CountedWrite.contents g.W.CountedWrite.failure_count in
     alone_step (setting_of g.H.NamedFilters.named c.args.context.now) c.args.context.now.depth c.args.nodes.now c.args.from c.loop-at.at c.args.to (place c.args.out.now c.args.state.now) (place c.loop-at.out c.loop-at.state) c.args.state.now c.loop-at.state c.run_node.new.state f stood c.loop-at.invariant.going c.loop-at-test.true c.run_node.ensures.alone (c.loop-at.invariant.alone f stood)
 
 pub run_range-returns-then-is_some-clause-kept : goal.run_range-returns-then-is_some-clause-kept
 run_range-returns-then-is_some-clause-kept g t c f stood =
-    let place = place_of g.W.CountedWrite.contents g.W.CountedWrite.failure_count in
+    let place = configuration_of g.W.CountedWrite.contents g.W.CountedWrite.failure_count in
     kept_step (setting_of g.H.NamedFilters.named c.args.context.now) c.args.context.now.depth c.args.nodes.now c.args.from c.loop-at.at c.args.to (place c.args.out.now c.args.state.now) (place c.loop-at.out c.loop-at.state) c.args.state.now c.loop-at.state c.run_node.new.state f stood c.loop-at.invariant.going c.loop-at-test.true c.run_node.ensures.kept (c.loop-at.invariant.kept f stood)
 
 pub run_range-next_after-at-requires : goal.run_range-next_after-at-requires
 run_range-next_after-at-requires g t c =
-    let place = place_of g.W.CountedWrite.contents g.W.CountedWrite.failure_count in
+    let place = configuration_of g.W.CountedWrite.contents g.W.CountedWrite.failure_count in
     going_node (setting_of g.H.NamedFilters.named c.args.context.now) c.args.context.now.depth c.args.nodes.now c.args.from c.loop-at.at c.args.to (place c.args.out.now c.args.state.now) (place c.loop-at.out c.loop-at.state) c.requires c.loop-at.invariant.going c.loop-at-test.true
 
 pub run_range-loop-at-smaller : goal.run_range-loop-at-smaller
 run_range-loop-at-smaller g t c =
-    let place = place_of g.W.CountedWrite.contents g.W.CountedWrite.failure_count in
+    let place = configuration_of g.W.CountedWrite.contents g.W.CountedWrite.failure_count in
     let past = going_past (setting_of g.H.NamedFilters.named c.args.context.now) c.args.context.now.depth c.args.nodes.now c.args.from c.loop-at.at c.args.to c.next_after-at.result (place c.args.out.now c.args.state.now) (place c.loop-at.out c.loop-at.state) c.requires c.loop-at.invariant.going c.loop-at-test.true c.next_after-at.ensures in
     let lt : c.args.to - c.next_after-at.result < c.args.to - c.loop-at.at = omega arith in
     lt
 
 pub run_range-loop-at-preserved : goal.run_range-loop-at-preserved
 run_range-loop-at-preserved g t c =
-    let place = place_of g.W.CountedWrite.contents g.W.CountedWrite.failure_count in
+    let place = configuration_of g.W.CountedWrite.contents g.W.CountedWrite.failure_count in
     let past = going_past (setting_of g.H.NamedFilters.named c.args.context.now) c.args.context.now.depth c.args.nodes.now c.args.from c.loop-at.at c.args.to c.next_after-at.result (place c.args.out.now c.args.state.now) (place c.loop-at.out c.loop-at.state) c.requires c.loop-at.invariant.going c.loop-at-test.true c.next_after-at.ensures in
     let none = none_of c.run_node.new.state.interrupt (search rules) in
     record {
@@ -129,12 +129,12 @@ run_range-loop-at-preserved g t c =
 
 pub run_range-returns-clause-performs : goal.run_range-returns-clause-performs
 run_range-returns-clause-performs g t c =
-    let place = place_of g.W.CountedWrite.contents g.W.CountedWrite.failure_count in
+    let place = configuration_of g.W.CountedWrite.contents g.W.CountedWrite.failure_count in
     going_end (setting_of g.H.NamedFilters.named c.args.context.now) c.args.context.now.depth c.args.nodes.now c.args.from c.loop-at.at c.args.to _ (place c.args.out.now c.args.state.now) (place c.loop-at.out c.loop-at.state) c.loop-at.invariant.going c.loop-at-test.false
 
 pub run_node-returns-in-Text-clause-performs : goal.run_node-returns-in-Text-clause-performs
 run_node-returns-in-Text-clause-performs g t c =
-    let place = place_of g.W.CountedWrite.contents g.W.CountedWrite.failure_count in
+    let place = configuration_of g.W.CountedWrite.contents g.W.CountedWrite.failure_count in
     leaf_performs (setting_of g.H.NamedFilters.named c.args.context.now) c.args.context.now.depth c.args.nodes.now c.args.at c.args.to c.index-nodes-at.result _ (tree.plain (string_bytes c.in-Text.text)) c.run_text.result (place c.args.out.now c.args.state.now) (place c.run_text.new.out c.run_text.new.state) c.requires c.index-nodes-at.is c.in-Text.is refl
     (subst (λ x. Performs c.run_text.result (node_meant (setting_of g.H.NamedFilters.named c.args.context.now) c.args.context.now.depth (tree.plain x)) (place c.args.out.now c.args.state.now) (place c.run_text.new.out c.run_text.new.state)) c.as_str.ensures.value c.run_text.ensures.performs)
 
@@ -145,7 +145,7 @@ run_node-returns-in-Text-clause-kept g t c =
 
 pub run_node-returns-in-Output-clause-performs : goal.run_node-returns-in-Output-clause-performs
 run_node-returns-in-Output-clause-performs g t c =
-    let place = place_of g.W.CountedWrite.contents g.W.CountedWrite.failure_count in
+    let place = configuration_of g.W.CountedWrite.contents g.W.CountedWrite.failure_count in
     leaf_performs (setting_of g.H.NamedFilters.named c.args.context.now) c.args.context.now.depth c.args.nodes.now c.args.at c.args.to c.index-nodes-at.result _ (tree.output (chain_view c.in-Output.chain)) c.run_output.result (place c.args.out.now c.args.state.now) (place c.run_output.new.out c.run_output.new.state) c.requires c.index-nodes-at.is c.in-Output.is refl
     c.run_output.ensures.performs
 
@@ -156,7 +156,7 @@ run_node-returns-in-Output-clause-kept g t c =
 
 pub run_node-returns-in-Assign-clause-performs : goal.run_node-returns-in-Assign-clause-performs
 run_node-returns-in-Assign-clause-performs g t c =
-    let place = place_of g.W.CountedWrite.contents g.W.CountedWrite.failure_count in
+    let place = configuration_of g.W.CountedWrite.contents g.W.CountedWrite.failure_count in
     leaf_performs (setting_of g.H.NamedFilters.named c.args.context.now) c.args.context.now.depth c.args.nodes.now c.args.at c.args.to c.index-nodes-at.result _ (tree.assign (string_bytes c.in-Assign.name) (chain_view c.in-Assign.chain)) c.run_assign.result (place c.args.out.now c.args.state.now) (place c.run_assign.new.out c.run_assign.new.state) c.requires c.index-nodes-at.is c.in-Assign.is refl
     (subst (λ x. Performs c.run_assign.result (node_meant (setting_of g.H.NamedFilters.named c.args.context.now) c.args.context.now.depth (tree.assign x (chain_view c.in-Assign.chain))) (place c.args.out.now c.args.state.now) (place c.run_assign.new.out c.run_assign.new.state)) c.as_str-in-Assign.ensures.value c.run_assign.ensures.performs)
 
@@ -167,7 +167,7 @@ run_node-returns-in-Assign-clause-kept g t c =
 
 pub run_node-returns-in-Raw-clause-performs : goal.run_node-returns-in-Raw-clause-performs
 run_node-returns-in-Raw-clause-performs g t c =
-    let place = place_of g.W.CountedWrite.contents g.W.CountedWrite.failure_count in
+    let place = configuration_of g.W.CountedWrite.contents g.W.CountedWrite.failure_count in
     leaf_performs (setting_of g.H.NamedFilters.named c.args.context.now) c.args.context.now.depth c.args.nodes.now c.args.at c.args.to c.index-nodes-at.result _ (tree.raw (string_bytes c.in-Raw.text)) c.run_raw.result (place c.args.out.now c.args.state.now) (place c.run_raw.new.out c.run_raw.new.state) c.requires c.index-nodes-at.is c.in-Raw.is refl
     (subst (λ x. Performs c.run_raw.result (node_meant (setting_of g.H.NamedFilters.named c.args.context.now) c.args.context.now.depth (tree.raw x)) (place c.args.out.now c.args.state.now) (place c.run_raw.new.out c.run_raw.new.state)) c.as_str-in-Raw.ensures.value c.run_raw.ensures.performs)
 
@@ -178,7 +178,7 @@ run_node-returns-in-Raw-clause-kept g t c =
 
 pub run_node-returns-in-Comment-clause-performs : goal.run_node-returns-in-Comment-clause-performs
 run_node-returns-in-Comment-clause-performs g t c =
-    let place = place_of g.W.CountedWrite.contents g.W.CountedWrite.failure_count in
+    let place = configuration_of g.W.CountedWrite.contents g.W.CountedWrite.failure_count in
     leaf_performs (setting_of g.H.NamedFilters.named c.args.context.now) c.args.context.now.depth c.args.nodes.now c.args.at c.args.to c.index-nodes-at.result _ tree.comment (Ok tt) (place c.args.out.now c.args.state.now) (place c.args.out.now c.args.state.now) c.requires c.index-nodes-at.is c.in-Comment.is refl
     (by_rule (comment_rule _ _) (done_met tt (place c.args.out.now c.args.state.now)))
 
@@ -207,7 +207,7 @@ run_node-returns-in-Include-clause-alone g t c = leaf_other c.args.nodes.now c.a
 
 pub run_node-returns-in-Break-clause-performs : goal.run_node-returns-in-Break-clause-performs
 run_node-returns-in-Break-clause-performs g t c =
-    let place = place_of g.W.CountedWrite.contents g.W.CountedWrite.failure_count in
+    let place = configuration_of g.W.CountedWrite.contents g.W.CountedWrite.failure_count in
     leaf_performs (setting_of g.H.NamedFilters.named c.args.context.now) c.args.context.now.depth c.args.nodes.now c.args.at c.args.to c.index-nodes-at.result _ tree.break_loop (Ok tt) (place c.args.out.now c.args.state.now) _ c.requires c.index-nodes-at.is c.in-Break.is refl
     (by_rule (break_rule _ _) (change_met (Ok tt) (interrupted_by (Some interrupts.Break)) _ (environment_of c.args.state.now) _ (ap merged_layers (interrupt_set c.args.state.now (Some interrupts.Break)))))
 
@@ -222,7 +222,7 @@ run_node-returns-in-Break-clause-alone g t c =
 
 pub run_node-returns-in-Continue-clause-performs : goal.run_node-returns-in-Continue-clause-performs
 run_node-returns-in-Continue-clause-performs g t c =
-    let place = place_of g.W.CountedWrite.contents g.W.CountedWrite.failure_count in
+    let place = configuration_of g.W.CountedWrite.contents g.W.CountedWrite.failure_count in
     leaf_performs (setting_of g.H.NamedFilters.named c.args.context.now) c.args.context.now.depth c.args.nodes.now c.args.at c.args.to c.index-nodes-at.result _ tree.continue_loop (Ok tt) (place c.args.out.now c.args.state.now) _ c.requires c.index-nodes-at.is c.in-Continue.is refl
     (by_rule (continue_rule _ _) (change_met (Ok tt) (interrupted_by (Some interrupts.Continue)) _ (environment_of c.args.state.now) _ (ap merged_layers (interrupt_set c.args.state.now (Some interrupts.Continue)))))
 
@@ -242,7 +242,7 @@ run_node-run_capture-requires g t c κs within =
 
 pub run_node-returns-in-Capture-clause-performs : goal.run_node-returns-in-Capture-clause-performs
 run_node-returns-in-Capture-clause-performs g t c =
-    let place = place_of g.W.CountedWrite.contents g.W.CountedWrite.failure_count in
+    let place = configuration_of g.W.CountedWrite.contents g.W.CountedWrite.failure_count in
     one_performs (setting_of g.H.NamedFilters.named c.args.context.now) c.args.context.now.depth c.args.nodes.now c.args.at c.in-Capture.end c.args.to c.index-nodes-at.result _ (tree.capture (string_bytes c.in-Capture.name)) c.run_capture.result (place c.args.out.now c.args.state.now) (place c.run_capture.new.out c.run_capture.new.state) c.requires c.index-nodes-at.is c.in-Capture.is refl
     (subst (λ x. (b : Forest Maker) → StandsAt c.args.nodes.now (c.args.at + 1) b c.in-Capture.end → Performs c.run_capture.result (node_meant (setting_of g.H.NamedFilters.named c.args.context.now) c.args.context.now.depth (tree.capture x (nodes_of b))) (place c.args.out.now c.args.state.now) (place c.run_capture.new.out c.run_capture.new.state)) c.as_str-in-Capture.ensures.value c.run_capture.ensures.performs)
 
@@ -258,7 +258,7 @@ run_node-run_include-requires g t c κs within =
 
 pub run_node-returns-in-Include-clause-performs : goal.run_node-returns-in-Include-clause-performs
 run_node-returns-in-Include-clause-performs g t c =
-    let place = place_of g.W.CountedWrite.contents g.W.CountedWrite.failure_count in
+    let place = configuration_of g.W.CountedWrite.contents g.W.CountedWrite.failure_count in
     leaf_performs (setting_of g.H.NamedFilters.named c.args.context.now) c.args.context.now.depth c.args.nodes.now c.args.at c.args.to c.index-nodes-at.result _ (tree.include (expression_view c.in-Include.name) (bindings_view c.in-Include.bindings.items)) c.run_include.result (place c.args.out.now c.args.state.now) (place c.run_include.new.out c.run_include.new.state) c.requires c.index-nodes-at.is c.in-Include.is refl
     (subst (λ x. Performs c.run_include.result (node_meant (setting_of g.H.NamedFilters.named c.args.context.now) c.args.context.now.depth (tree.include (expression_view c.in-Include.name) (bindings_view x))) (place c.args.out.now c.args.state.now) (place c.run_include.new.out c.run_include.new.state)) c.deref.ensures.value c.run_include.ensures.performs)
 
@@ -274,7 +274,7 @@ run_node-run_jekyll_include-requires g t c κs within =
 
 pub run_node-returns-in-JekyllInclude-clause-performs : goal.run_node-returns-in-JekyllInclude-clause-performs
 run_node-returns-in-JekyllInclude-clause-performs g t c =
-    let place = place_of g.W.CountedWrite.contents g.W.CountedWrite.failure_count in
+    let place = configuration_of g.W.CountedWrite.contents g.W.CountedWrite.failure_count in
     let after = place c.run_jekyll_include.new.out c.run_jekyll_include.new.state in
     leaf_performs (setting_of g.H.NamedFilters.named c.args.context.now) c.args.context.now.depth c.args.nodes.now c.args.at c.args.to c.index-nodes-at.result _ (tree.jekyll_include (string_bytes c.in-JekyllInclude.name) (bindings_view c.in-JekyllInclude.bindings.items)) c.run_jekyll_include.result (place c.args.out.now c.args.state.now) after c.requires c.index-nodes-at.is c.in-JekyllInclude.is refl
     (subst (λ x. Performs c.run_jekyll_include.result (node_meant (setting_of g.H.NamedFilters.named c.args.context.now) c.args.context.now.depth (tree.jekyll_include x (bindings_view c.in-JekyllInclude.bindings.items))) (place c.args.out.now c.args.state.now) after) c.as_str-in-JekyllInclude.ensures.value
@@ -296,7 +296,7 @@ run_node-run_render-requires g t c κs within =
 
 pub run_node-returns-in-Render-clause-performs : goal.run_node-returns-in-Render-clause-performs
 run_node-returns-in-Render-clause-performs g t c =
-    let place = place_of g.W.CountedWrite.contents g.W.CountedWrite.failure_count in
+    let place = configuration_of g.W.CountedWrite.contents g.W.CountedWrite.failure_count in
     leaf_performs (setting_of g.H.NamedFilters.named c.args.context.now) c.args.context.now.depth c.args.nodes.now c.args.at c.args.to c.index-nodes-at.result _ (tree.render (expression_view c.in-Render.name) None (bindings_view c.in-Render.bindings.items)) c.run_render.result (place c.args.out.now c.args.state.now) (place c.run_render.new.out c.args.state.now) c.requires c.index-nodes-at.is c.in-Render.is refl
     (subst (λ x. Performs c.run_render.result (node_meant (setting_of g.H.NamedFilters.named c.args.context.now) c.args.context.now.depth (tree.render (expression_view c.in-Render.name) None (bindings_view x))) (place c.args.out.now c.args.state.now) (place c.run_render.new.out c.args.state.now)) c.deref-in-Render.ensures.value c.run_render.ensures.performs)
 
@@ -307,7 +307,7 @@ run_node-run_render_each-requires g t c κs within =
 
 pub run_node-returns-in-RenderEach-clause-performs : goal.run_node-returns-in-RenderEach-clause-performs
 run_node-returns-in-RenderEach-clause-performs g t c =
-    let place = place_of g.W.CountedWrite.contents g.W.CountedWrite.failure_count in
+    let place = configuration_of g.W.CountedWrite.contents g.W.CountedWrite.failure_count in
     leaf_performs (setting_of g.H.NamedFilters.named c.args.context.now) c.args.context.now.depth c.args.nodes.now c.args.at c.args.to c.index-nodes-at.result _ (tree.render (expression_view c.in-RenderEach.name) (Some (each_view c.in-RenderEach.each)) (bindings_view c.in-RenderEach.bindings.items)) c.run_render_each.result (place c.args.out.now c.args.state.now) (place c.run_render_each.new.out c.args.state.now) c.requires c.index-nodes-at.is c.in-RenderEach.is refl
     (subst (λ x. Performs c.run_render_each.result (node_meant (setting_of g.H.NamedFilters.named c.args.context.now) c.args.context.now.depth (tree.render (expression_view c.in-RenderEach.name) (Some (each_view c.in-RenderEach.each)) (bindings_view x))) (place c.args.out.now c.args.state.now) (place c.run_render_each.new.out c.args.state.now)) c.deref-in-RenderEach.ensures.value c.run_render_each.ensures.performs)
 
@@ -400,27 +400,27 @@ run_capture-returns-in_err-from_str-clause-kept g t c b here N names inside =
 
 pub run_include-returns-in_err-called-clause-performs : goal.run_include-returns-in_err-called-clause-performs
 run_include-returns-in_err-called-clause-performs g t c =
-    let place = place_of g.W.CountedWrite.contents g.W.CountedWrite.failure_count in
+    let place = configuration_of g.W.CountedWrite.contents g.W.CountedWrite.failure_count in
     let p = err_from_is_err_and c.from_residual.result c.from_residual.ensures.1 in
     rw (p.1, p.2) (include_refused (setting_of g.H.NamedFilters.named c.args.context.now) (deeper_meaning (setting_of g.H.NamedFilters.named c.args.context.now) c.args.context.now.depth) (expression_view c.args.name.now) (bindings_view c.args.bindings.now) c.in_err-called.field-0.0 (place c.args.out.now c.args.state.now) c.in_err-called.ensures)
 
 pub run_include-returns-in_err-scope-clause-performs : goal.run_include-returns-in_err-scope-clause-performs
 run_include-returns-in_err-scope-clause-performs g t c =
-    let place = place_of g.W.CountedWrite.contents g.W.CountedWrite.failure_count in
+    let place = configuration_of g.W.CountedWrite.contents g.W.CountedWrite.failure_count in
     let p = err_from_is_err_and c.from_residual-in_err-scope.result c.from_residual-in_err-scope.ensures.1 in
     rw (p.1, p.2) (include_named (setting_of g.H.NamedFilters.named c.args.context.now) (deeper_meaning (setting_of g.H.NamedFilters.named c.args.context.now) c.args.context.now.depth) (expression_view c.args.name.now) (bindings_view c.args.bindings.now) (Err c.in_err-scope.field-0.0) (string_bytes c.in_ok-called.called) (place c.args.out.now c.args.state.now) (place c.args.out.now c.args.state.now) c.in_ok-called.ensures
     (pairs_refused unit pairs_scope (bindings_view c.args.bindings.now) (partial_of (partials_of c.args.context.now.partials.now) (string_bytes c.in_ok-called.called)) (λ scope partial. with_scope scope (deeper_meaning (setting_of g.H.NamedFilters.named c.args.context.now) c.args.context.now.depth partial)) c.in_err-scope.field-0.0 (place c.args.out.now c.args.state.now) c.in_err-scope.ensures))
 
 pub run_include-returns-in_err-partial-clause-performs : goal.run_include-returns-in_err-partial-clause-performs
 run_include-returns-in_err-partial-clause-performs g t c =
-    let place = place_of g.W.CountedWrite.contents g.W.CountedWrite.failure_count in
+    let place = configuration_of g.W.CountedWrite.contents g.W.CountedWrite.failure_count in
     let p = err_from_is_err_and c.from_residual-in_err-partial.result c.from_residual-in_err-partial.ensures.1 in
     rw (p.1, p.2) (include_named (setting_of g.H.NamedFilters.named c.args.context.now) (deeper_meaning (setting_of g.H.NamedFilters.named c.args.context.now) c.args.context.now.depth) (expression_view c.args.name.now) (bindings_view c.args.bindings.now) (Err c.in_err-partial.field-0.0) (string_bytes c.in_ok-called.called) (place c.args.out.now c.args.state.now) (place c.args.out.now c.args.state.now) c.in_ok-called.ensures
     (not_found unit pairs_scope (bindings_view c.args.bindings.now) (partial_of (partials_of c.args.context.now.partials.now) (string_bytes c.in_ok-called.called)) (λ scope partial. with_scope scope (deeper_meaning (setting_of g.H.NamedFilters.named c.args.context.now) c.args.context.now.depth partial)) c.in_err-partial.field-0.0 (held c.in_ok-scope.scope) (place c.args.out.now c.args.state.now) c.in_ok-scope.ensures (subst (λ x. Faulted c.in_err-partial.field-0.0.kind (partial_of (partials_of c.args.context.now.partials.now) x)) c.as_str.ensures.value c.in_err-partial.ensures.found)))
 
 pub run_include-returns-clause-performs : goal.run_include-returns-clause-performs
 run_include-returns-clause-performs g t c =
-    let place = place_of g.W.CountedWrite.contents g.W.CountedWrite.failure_count in
+    let place = configuration_of g.W.CountedWrite.contents g.W.CountedWrite.failure_count in
     met_again c.run_partial-answer.result c.in_partial.result c.in_partial.ensures
     (include_named (setting_of g.H.NamedFilters.named c.args.context.now) (deeper_meaning (setting_of g.H.NamedFilters.named c.args.context.now) c.args.context.now.depth) (expression_view c.args.name.now) (bindings_view c.args.bindings.now) c.run_partial-answer.result (string_bytes c.in_ok-called.called) (place c.args.out.now c.args.state.now) (place c.run_partial-answer.new.out c.run_partial-answer.new.state) c.in_ok-called.ensures
     (entered unit pairs_scope (bindings_view c.args.bindings.now) (partial_of (partials_of c.args.context.now.partials.now) (string_bytes c.in_ok-called.called)) (λ scope partial. with_scope scope (deeper_meaning (setting_of g.H.NamedFilters.named c.args.context.now) c.args.context.now.depth partial)) c.run_partial-answer.result (held c.in_ok-scope.scope) (tree_of c.in_ok-partial.partial.now) (place c.args.out.now c.args.state.now) (place c.run_partial-answer.new.out c.run_partial-answer.new.state) c.in_ok-scope.ensures (subst (λ x. partial_of (partials_of c.args.context.now.partials.now) x ≡ Ok (tree_of c.in_ok-partial.partial.now)) c.as_str.ensures.value c.in_ok-partial.ensures.found) c.run_partial-answer.ensures.performs))
@@ -432,21 +432,21 @@ run_include-returns-clause-kept g t c N names inside =
 
 pub run_jekyll_include-returns-in_err-scope-clause-performs : goal.run_jekyll_include-returns-in_err-scope-clause-performs
 run_jekyll_include-returns-in_err-scope-clause-performs g t c =
-    let place = place_of g.W.CountedWrite.contents g.W.CountedWrite.failure_count in
+    let place = configuration_of g.W.CountedWrite.contents g.W.CountedWrite.failure_count in
     let p = err_from_is_err_and c.from_residual.result c.from_residual.ensures.1 in
     rw (p.1, p.2) (jekyll_met (setting_of g.H.NamedFilters.named c.args.context.now) (deeper_meaning (setting_of g.H.NamedFilters.named c.args.context.now) c.args.context.now.depth) c.args.name.now (bindings_view c.args.bindings.now) (Err c.in_err-scope.field-0.0) (place c.args.out.now c.args.state.now) (place c.args.out.now c.args.state.now)
     (pairs_refused unit include_scope (bindings_view c.args.bindings.now) (partial_of (partials_of c.args.context.now.partials.now) c.args.name.now) (λ scope partial. with_scope scope (deeper_meaning (setting_of g.H.NamedFilters.named c.args.context.now) c.args.context.now.depth partial)) c.in_err-scope.field-0.0 (place c.args.out.now c.args.state.now) c.in_err-scope.ensures))
 
 pub run_jekyll_include-returns-in_err-partial-clause-performs : goal.run_jekyll_include-returns-in_err-partial-clause-performs
 run_jekyll_include-returns-in_err-partial-clause-performs g t c =
-    let place = place_of g.W.CountedWrite.contents g.W.CountedWrite.failure_count in
+    let place = configuration_of g.W.CountedWrite.contents g.W.CountedWrite.failure_count in
     let p = err_from_is_err_and c.from_residual-in_err-partial.result c.from_residual-in_err-partial.ensures.1 in
     rw (p.1, p.2) (jekyll_met (setting_of g.H.NamedFilters.named c.args.context.now) (deeper_meaning (setting_of g.H.NamedFilters.named c.args.context.now) c.args.context.now.depth) c.args.name.now (bindings_view c.args.bindings.now) (Err c.in_err-partial.field-0.0) (place c.args.out.now c.args.state.now) (place c.args.out.now c.args.state.now)
     (not_found unit include_scope (bindings_view c.args.bindings.now) (partial_of (partials_of c.args.context.now.partials.now) c.args.name.now) (λ scope partial. with_scope scope (deeper_meaning (setting_of g.H.NamedFilters.named c.args.context.now) c.args.context.now.depth partial)) c.in_err-partial.field-0.0 (held c.in_ok-scope.scope) (place c.args.out.now c.args.state.now) c.in_ok-scope.ensures c.in_err-partial.ensures.found))
 
 pub run_jekyll_include-returns-clause-performs : goal.run_jekyll_include-returns-clause-performs
 run_jekyll_include-returns-clause-performs g t c =
-    let place = place_of g.W.CountedWrite.contents g.W.CountedWrite.failure_count in
+    let place = configuration_of g.W.CountedWrite.contents g.W.CountedWrite.failure_count in
     let after = place c.run_partial-answer.new.out c.run_partial-answer.new.state in
     met_again c.run_partial-answer.result c.in_partial.result c.in_partial.ensures
     (jekyll_met (setting_of g.H.NamedFilters.named c.args.context.now) (deeper_meaning (setting_of g.H.NamedFilters.named c.args.context.now) c.args.context.now.depth) c.args.name.now (bindings_view c.args.bindings.now) c.run_partial-answer.result (place c.args.out.now c.args.state.now) after
@@ -479,7 +479,7 @@ run_partial-run_range-answer-requires g t c κs within =
 pub run_partial-returns-clause-performs : goal.run_partial-returns-clause-performs
 unfolding tree_of
 run_partial-returns-clause-performs g t c =
-    let place = place_of g.W.CountedWrite.contents g.W.CountedWrite.failure_count in
+    let place = configuration_of g.W.CountedWrite.contents g.W.CountedWrite.failure_count in
     let sink = sink_of g.W.CountedWrite.contents g.W.CountedWrite.failure_count in
     let kept = c.run_range-answer.ensures.kept (forest_of c.args.partial.now) (stood_in c.args.partial.now c.nodes-nodes.result.now c.nodes-nodes.ensures) (λ name. true) (within_all _) (within_all _) in
     subst (λ m. Performs c.run_range-answer.result (with_scope (held c.args.scope) m) (place c.args.out.now c.args.state.now) (place c.run_range-answer.new.out c.pop_scope.new.self)) (sym (deeper_is (setting_of g.H.NamedFilters.named c.args.context.now) c.args.context.now.depth (tree_of c.args.partial.now) c.if-context-eq0.false))
@@ -494,34 +494,34 @@ run_partial-returns-clause-kept g t c N names inside =
 
 pub renders::run_render-returns-in_err-called-clause-performs : goal.renders::run_render-returns-in_err-called-clause-performs
 renders::run_render-returns-in_err-called-clause-performs g t c =
-    let place = place_of g.W.CountedWrite.contents g.W.CountedWrite.failure_count in
+    let place = configuration_of g.W.CountedWrite.contents g.W.CountedWrite.failure_count in
     let p = err_from_is_err_and c.from_residual.result c.from_residual.ensures.1 in
     rw (p.1, p.2) (render_refused (setting_of g.H.NamedFilters.named c.args.context.now) (deeper_meaning (setting_of g.H.NamedFilters.named c.args.context.now) c.args.context.now.depth) (expression_view c.args.name.now) (bindings_view c.args.bindings.now) c.in_err-called.field-0.0 (place c.args.out.now c.args.state.now) c.in_err-called.ensures)
 
 pub renders::run_render-returns-in_err-scope-clause-performs : goal.renders::run_render-returns-in_err-scope-clause-performs
 renders::run_render-returns-in_err-scope-clause-performs g t c =
-    let place = place_of g.W.CountedWrite.contents g.W.CountedWrite.failure_count in
+    let place = configuration_of g.W.CountedWrite.contents g.W.CountedWrite.failure_count in
     let p = err_from_is_err_and c.from_residual-in_err-scope.result c.from_residual-in_err-scope.ensures.1 in
     rw (p.1, p.2) (render_faulted (setting_of g.H.NamedFilters.named c.args.context.now) (deeper_meaning (setting_of g.H.NamedFilters.named c.args.context.now) c.args.context.now.depth) (expression_view c.args.name.now) (bindings_view c.args.bindings.now) c.in_err-scope.field-0.0 (string_bytes c.in_ok-called.called) (place c.args.out.now c.args.state.now) (place c.args.out.now c.args.state.now) c.in_ok-called.ensures
     (pairs_refused (λ (i : Option Interrupt). i) pairs_scope (bindings_view c.args.bindings.now) (rendered_of (partials_of c.args.context.now.partials.now) (string_bytes c.in_ok-called.called)) (λ scope partial. apart scope (deeper_meaning (setting_of g.H.NamedFilters.named c.args.context.now) c.args.context.now.depth partial)) c.in_err-scope.field-0.0 (place c.args.out.now c.args.state.now) c.in_err-scope.ensures))
 
 pub renders::run_render-returns-in_err-partial-clause-performs : goal.renders::run_render-returns-in_err-partial-clause-performs
 renders::run_render-returns-in_err-partial-clause-performs g t c =
-    let place = place_of g.W.CountedWrite.contents g.W.CountedWrite.failure_count in
+    let place = configuration_of g.W.CountedWrite.contents g.W.CountedWrite.failure_count in
     let p = err_from_is_err_and c.from_residual-in_err-partial.result c.from_residual-in_err-partial.ensures.1 in
     rw (p.1, p.2) (render_faulted (setting_of g.H.NamedFilters.named c.args.context.now) (deeper_meaning (setting_of g.H.NamedFilters.named c.args.context.now) c.args.context.now.depth) (expression_view c.args.name.now) (bindings_view c.args.bindings.now) c.in_err-partial.field-0.0 (string_bytes c.in_ok-called.called) (place c.args.out.now c.args.state.now) (place c.args.out.now c.args.state.now) c.in_ok-called.ensures
     (not_found (λ (i : Option Interrupt). i) pairs_scope (bindings_view c.args.bindings.now) (rendered_of (partials_of c.args.context.now.partials.now) (string_bytes c.in_ok-called.called)) (λ scope partial. apart scope (deeper_meaning (setting_of g.H.NamedFilters.named c.args.context.now) c.args.context.now.depth partial)) c.in_err-partial.field-0.0 (held c.in_ok-scope.scope) (place c.args.out.now c.args.state.now) c.in_ok-scope.ensures (subst (λ x. Faulted c.in_err-partial.field-0.0.kind (rendered_of (partials_of c.args.context.now.partials.now) x)) c.as_str.ensures.value c.in_err-partial.ensures.found)))
 
 pub renders::run_render-returns-in_err-in_partial-clause-performs : goal.renders::run_render-returns-in_err-in_partial-clause-performs
 renders::run_render-returns-in_err-in_partial-clause-performs g t c =
-    let place = place_of g.W.CountedWrite.contents g.W.CountedWrite.failure_count in
+    let place = configuration_of g.W.CountedWrite.contents g.W.CountedWrite.failure_count in
     let p = err_from_is_err_and c.from_residual-in_err-in_partial.result c.from_residual-in_err-in_partial.ensures.1 in
     rw (p.1, p.2) (render_faulted (setting_of g.H.NamedFilters.named c.args.context.now) (deeper_meaning (setting_of g.H.NamedFilters.named c.args.context.now) c.args.context.now.depth) (expression_view c.args.name.now) (bindings_view c.args.bindings.now) c.in_err-in_partial.field-0.0 (string_bytes c.in_ok-called.called) (place c.args.out.now c.args.state.now) (place c.run_apart-answer.new.out c.args.state.now) c.in_ok-called.ensures
     (entered (λ (i : Option Interrupt). i) pairs_scope (bindings_view c.args.bindings.now) (rendered_of (partials_of c.args.context.now.partials.now) (string_bytes c.in_ok-called.called)) (λ scope partial. apart scope (deeper_meaning (setting_of g.H.NamedFilters.named c.args.context.now) c.args.context.now.depth partial)) (Err c.in_err-in_partial.field-0.0) (held c.in_ok-scope.scope) (tree_of c.in_ok-partial.partial.now) (place c.args.out.now c.args.state.now) (place c.run_apart-answer.new.out c.args.state.now) c.in_ok-scope.ensures (subst (λ x. rendered_of (partials_of c.args.context.now.partials.now) x ≡ Ok (tree_of c.in_ok-partial.partial.now)) c.as_str.ensures.value c.in_ok-partial.ensures.found) (met_again c.run_apart-answer.result (Err c.in_err-in_partial.field-0.0) c.in_err-in_partial.ensures (c.run_apart-answer.ensures.performs (held c.in_ok-scope.scope) (environment_of c.args.state.now) c.in_ok-own.ensures))))
 
 pub renders::run_render-returns-clause-performs : goal.renders::run_render-returns-clause-performs
 renders::run_render-returns-clause-performs g t c =
-    let place = place_of g.W.CountedWrite.contents g.W.CountedWrite.failure_count in
+    let place = configuration_of g.W.CountedWrite.contents g.W.CountedWrite.failure_count in
     render_met (setting_of g.H.NamedFilters.named c.args.context.now) (deeper_meaning (setting_of g.H.NamedFilters.named c.args.context.now) c.args.context.now.depth) (expression_view c.args.name.now) (bindings_view c.args.bindings.now) tt c.in_ok-in_partial.field-0 (string_bytes c.in_ok-called.called) (place c.args.out.now c.args.state.now) (place c.run_apart-answer.new.out c.args.state.now) c.in_ok-called.ensures
     (entered (λ (i : Option Interrupt). i) pairs_scope (bindings_view c.args.bindings.now) (rendered_of (partials_of c.args.context.now.partials.now) (string_bytes c.in_ok-called.called)) (λ scope partial. apart scope (deeper_meaning (setting_of g.H.NamedFilters.named c.args.context.now) c.args.context.now.depth partial)) (Ok c.in_ok-in_partial.field-0) (held c.in_ok-scope.scope) (tree_of c.in_ok-partial.partial.now) (place c.args.out.now c.args.state.now) (place c.run_apart-answer.new.out c.args.state.now) c.in_ok-scope.ensures (subst (λ x. rendered_of (partials_of c.args.context.now.partials.now) x ≡ Ok (tree_of c.in_ok-partial.partial.now)) c.as_str.ensures.value c.in_ok-partial.ensures.found) (met_again c.run_apart-answer.result (Ok c.in_ok-in_partial.field-0) c.in_ok-in_partial.ensures (c.run_apart-answer.ensures.performs (held c.in_ok-scope.scope) (environment_of c.args.state.now) c.in_ok-own.ensures)))
 
@@ -540,7 +540,7 @@ pub renders::run_apart-returns-in_err-run_range-clause-performs : goal.renders::
 unfolding tree_of
 renders::run_apart-returns-in_err-run_range-clause-performs g t c names e is =
     let sink = sink_of g.W.CountedWrite.contents g.W.CountedWrite.failure_count in
-    let after : Place = record { sink = sink c.run_range.new.out; environment = environment_of c.run_range.new.state } in
+    let after : Configuration = record { sink = sink c.run_range.new.out; environment = environment_of c.run_range.new.state } in
     let inside : Performs (Err c.in_err-run_range.field-0.0) (deeper_meaning (setting_of g.H.NamedFilters.named c.args.context.now) c.args.context.now.depth (tree_of c.args.partial.now)) (record { sink = sink c.args.out.now; environment = new_environment names }) after =
     subst (λ m. Performs (Err c.in_err-run_range.field-0.0) m (record { sink = sink c.args.out.now; environment = new_environment names }) after) (sym (deeper_is (setting_of g.H.NamedFilters.named c.args.context.now) c.args.context.now.depth (tree_of c.args.partial.now) c.if-context-eq0.false))
     (subst (λ h. Performs (Err c.in_err-run_range.field-0.0) (nodes_meant (setting_of g.H.NamedFilters.named c.args.context.now) (c.args.context.now.depth - 1) (tree_of c.args.partial.now)) (record { sink = sink c.args.out.now; environment = h }) after) is (c.in_err-run_range.ensures.performs (forest_of c.args.partial.now) (stood_in c.args.partial.now c.nodes-nodes.result.now c.nodes-nodes.ensures))) in
@@ -551,7 +551,7 @@ pub renders::run_apart-returns-clause-performs : goal.renders::run_apart-returns
 unfolding tree_of
 renders::run_apart-returns-clause-performs g t c names e is =
     let sink = sink_of g.W.CountedWrite.contents g.W.CountedWrite.failure_count in
-    let after : Place = record { sink = sink c.run_range.new.out; environment = environment_of c.run_range.new.state } in
+    let after : Configuration = record { sink = sink c.run_range.new.out; environment = environment_of c.run_range.new.state } in
     let inside : Performs (Ok c.in_ok-run_range.field-0) (deeper_meaning (setting_of g.H.NamedFilters.named c.args.context.now) c.args.context.now.depth (tree_of c.args.partial.now)) (record { sink = sink c.args.out.now; environment = new_environment names }) after =
     subst (λ m. Performs (Ok c.in_ok-run_range.field-0) m (record { sink = sink c.args.out.now; environment = new_environment names }) after) (sym (deeper_is (setting_of g.H.NamedFilters.named c.args.context.now) c.args.context.now.depth (tree_of c.args.partial.now) c.if-context-eq0.false))
     (subst (λ h. Performs (Ok c.in_ok-run_range.field-0) (nodes_meant (setting_of g.H.NamedFilters.named c.args.context.now) (c.args.context.now.depth - 1) (tree_of c.args.partial.now)) (record { sink = sink c.args.out.now; environment = h }) after) is (c.in_ok-run_range.ensures.performs (forest_of c.args.partial.now) (stood_in c.args.partial.now c.nodes-nodes.result.now c.nodes-nodes.ensures))) in
@@ -560,31 +560,31 @@ renders::run_apart-returns-clause-performs g t c names e is =
 
 pub renders::run_item-returns-in_err-names-clause-performs : goal.renders::run_item-returns-in_err-names-clause-performs
 renders::run_item-returns-in_err-names-clause-performs g t c over is =
-    let place = place_of g.W.CountedWrite.contents g.W.CountedWrite.failure_count in
+    let place = configuration_of g.W.CountedWrite.contents g.W.CountedWrite.failure_count in
     let p = err_from_is_err_and c.from_residual.result c.from_residual.ensures.1 in
     rw (p.1, p.2) (pairs_refused (λ (i : Option Interrupt). i) pairs_scope (bindings_view c.args.bindings.now) (rendered_of (partials_of c.args.context.now.partials.now) c.args.name.now) (λ scope partial. apart (merged over scope) (deeper_meaning (setting_of g.H.NamedFilters.named c.args.context.now) c.args.context.now.depth partial)) c.in_err-names.field-0.0 (place c.args.out.now c.args.state.now) c.in_err-names.ensures)
 
 pub renders::run_item-returns-in_err-partial-clause-performs : goal.renders::run_item-returns-in_err-partial-clause-performs
 renders::run_item-returns-in_err-partial-clause-performs g t c over is =
-    let place = place_of g.W.CountedWrite.contents g.W.CountedWrite.failure_count in
+    let place = configuration_of g.W.CountedWrite.contents g.W.CountedWrite.failure_count in
     let p = err_from_is_err_and c.from_residual-in_err-partial.result c.from_residual-in_err-partial.ensures.1 in
     rw (p.1, p.2) (not_found (λ (i : Option Interrupt). i) pairs_scope (bindings_view c.args.bindings.now) (rendered_of (partials_of c.args.context.now.partials.now) c.args.name.now) (λ scope partial. apart (merged over scope) (deeper_meaning (setting_of g.H.NamedFilters.named c.args.context.now) c.args.context.now.depth partial)) c.in_err-partial.field-0.0 (held c.in_ok-names.names) (place c.args.out.now c.args.state.now) c.in_ok-names.ensures c.in_err-partial.ensures.found)
 
 pub renders::run_item-returns-clause-performs : goal.renders::run_item-returns-clause-performs
 renders::run_item-returns-clause-performs g t c over is =
-    let place = place_of g.W.CountedWrite.contents g.W.CountedWrite.failure_count in
+    let place = configuration_of g.W.CountedWrite.contents g.W.CountedWrite.failure_count in
     met_again c.run_apart-answer.result c.in_partial.result c.in_partial.ensures
     (entered (λ (i : Option Interrupt). i) pairs_scope (bindings_view c.args.bindings.now) (rendered_of (partials_of c.args.context.now.partials.now) c.args.name.now) (λ scope partial. apart (merged over scope) (deeper_meaning (setting_of g.H.NamedFilters.named c.args.context.now) c.args.context.now.depth partial)) c.run_apart-answer.result (held c.in_ok-names.names) (tree_of c.in_ok-partial.partial.now) (place c.args.out.now c.args.state.now) (place c.run_apart-answer.new.out c.args.state.now) c.in_ok-names.ensures c.in_ok-partial.ensures.found (c.run_apart-answer.ensures.performs (merged over (held c.in_ok-names.names)) (environment_of c.args.state.now) (c.in_ok-own.ensures over is)))
 
 pub renders::run_render_each-returns-in_err-called-clause-performs : goal.renders::run_render_each-returns-in_err-called-clause-performs
 renders::run_render_each-returns-in_err-called-clause-performs g t c =
-    let place = place_of g.W.CountedWrite.contents g.W.CountedWrite.failure_count in
+    let place = configuration_of g.W.CountedWrite.contents g.W.CountedWrite.failure_count in
     let p = err_from_is_err_and c.from_residual.result c.from_residual.ensures.1 in
     rw (p.1, p.2) (name_refused (setting_of g.H.NamedFilters.named c.args.context.now) (deeper_meaning (setting_of g.H.NamedFilters.named c.args.context.now) c.args.context.now.depth) (expression_view c.args.name.now) (each_view c.args.each.now) (bindings_view c.args.bindings.now) c.in_err-called.field-0.0 (place c.args.out.now c.args.state.now) c.in_err-called.ensures)
 
 pub renders::run_render_each-returns-in_err-source-clause-performs : goal.renders::run_render_each-returns-in_err-source-clause-performs
 renders::run_render_each-returns-in_err-source-clause-performs g t c =
-    let place = place_of g.W.CountedWrite.contents g.W.CountedWrite.failure_count in
+    let place = configuration_of g.W.CountedWrite.contents g.W.CountedWrite.failure_count in
     let p = err_from_is_err_and c.from_residual-in_err-source.result c.from_residual-in_err-source.ensures.1 in
     rw (p.1, p.2) (items_refused (setting_of g.H.NamedFilters.named c.args.context.now) (deeper_meaning (setting_of g.H.NamedFilters.named c.args.context.now) c.args.context.now.depth) (expression_view c.args.name.now) (each_view c.args.each.now) (bindings_view c.args.bindings.now) c.in_err-source.field-0.0 (string_bytes c.in_ok-called.called) (place c.args.out.now c.args.state.now) c.in_ok-called.ensures c.in_err-source.ensures.items)
 
@@ -595,7 +595,7 @@ renders::run_item-returns-in_err-own-clause-performs g t c over is =
 
 pub renders::run_render_each-returns-in_err-left-clause-performs : goal.renders::run_render_each-returns-in_err-left-clause-performs
 renders::run_render_each-returns-in_err-left-clause-performs g t c =
-    let place = place_of g.W.CountedWrite.contents g.W.CountedWrite.failure_count in
+    let place = configuration_of g.W.CountedWrite.contents g.W.CountedWrite.failure_count in
     let name = string_bytes c.in_ok-called.called in
     let source = c.in_ok-source.source in
     let ds = all_items source.items in
@@ -615,7 +615,7 @@ renders::run_render_each-returns-in_err-left-clause-performs g t c =
 
 pub renders::run_render_each-returns-then-ends_items-clause-performs : goal.renders::run_render_each-returns-then-ends_items-clause-performs
 renders::run_render_each-returns-then-ends_items-clause-performs g t c =
-    let place = place_of g.W.CountedWrite.contents g.W.CountedWrite.failure_count in
+    let place = configuration_of g.W.CountedWrite.contents g.W.CountedWrite.failure_count in
     let name = string_bytes c.in_ok-called.called in
     let source = c.in_ok-source.source in
     let ds = all_items source.items in
@@ -634,7 +634,7 @@ renders::run_render_each-returns-then-ends_items-clause-performs g t c =
 
 pub renders::run_render_each-loop-at-preserved : goal.renders::run_render_each-loop-at-preserved
 renders::run_render_each-loop-at-preserved g t c =
-    let place = place_of g.W.CountedWrite.contents g.W.CountedWrite.failure_count in
+    let place = configuration_of g.W.CountedWrite.contents g.W.CountedWrite.failure_count in
     let name = string_bytes c.in_ok-called.called in
     let source = c.in_ok-source.source in
     let ds = all_items source.items in
@@ -655,7 +655,7 @@ renders::run_render_each-loop-at-preserved g t c =
 
 pub renders::run_render_each-returns-clause-performs : goal.renders::run_render_each-returns-clause-performs
 renders::run_render_each-returns-clause-performs g t c =
-    let place = place_of g.W.CountedWrite.contents g.W.CountedWrite.failure_count in
+    let place = configuration_of g.W.CountedWrite.contents g.W.CountedWrite.failure_count in
     let name = string_bytes c.in_ok-called.called in
     let source = c.in_ok-source.source in
     let ds = all_items source.items in
@@ -669,7 +669,7 @@ renders::run_render_each-returns-clause-performs g t c =
 
 pub run_node-returns-in-Increment-clause-performs : goal.run_node-returns-in-Increment-clause-performs
 run_node-returns-in-Increment-clause-performs g t c =
-    let place = place_of g.W.CountedWrite.contents g.W.CountedWrite.failure_count in
+    let place = configuration_of g.W.CountedWrite.contents g.W.CountedWrite.failure_count in
     leaf_performs (setting_of g.H.NamedFilters.named c.args.context.now) c.args.context.now.depth c.args.nodes.now c.args.at c.args.to c.index-nodes-at.result _ (tree.increment (string_bytes c.in-Increment.name)) c.run_increment.result (place c.args.out.now c.args.state.now) (place c.run_increment.new.out c.run_increment.new.state) c.requires c.index-nodes-at.is c.in-Increment.is refl
     (subst (λ x. Performs c.run_increment.result (node_meant (setting_of g.H.NamedFilters.named c.args.context.now) c.args.context.now.depth (tree.increment x)) (place c.args.out.now c.args.state.now) (place c.run_increment.new.out c.run_increment.new.state)) c.as_str-in-Increment.ensures.value c.run_increment.ensures.performs)
 
@@ -683,7 +683,7 @@ run_node-returns-in-Increment-clause-alone g t c = leaf_other c.args.nodes.now c
 
 pub run_node-returns-in-Decrement-clause-performs : goal.run_node-returns-in-Decrement-clause-performs
 run_node-returns-in-Decrement-clause-performs g t c =
-    let place = place_of g.W.CountedWrite.contents g.W.CountedWrite.failure_count in
+    let place = configuration_of g.W.CountedWrite.contents g.W.CountedWrite.failure_count in
     leaf_performs (setting_of g.H.NamedFilters.named c.args.context.now) c.args.context.now.depth c.args.nodes.now c.args.at c.args.to c.index-nodes-at.result _ (tree.decrement (string_bytes c.in-Decrement.name)) c.run_decrement.result (place c.args.out.now c.args.state.now) (place c.run_decrement.new.out c.run_decrement.new.state) c.requires c.index-nodes-at.is c.in-Decrement.is refl
     (subst (λ x. Performs c.run_decrement.result (node_meant (setting_of g.H.NamedFilters.named c.args.context.now) c.args.context.now.depth (tree.decrement x)) (place c.args.out.now c.args.state.now) (place c.run_decrement.new.out c.run_decrement.new.state)) c.as_str-in-Decrement.ensures.value c.run_decrement.ensures.performs)
 
@@ -697,7 +697,7 @@ run_node-returns-in-Decrement-clause-alone g t c = leaf_other c.args.nodes.now c
 
 pub run_node-returns-in-Cycle-clause-performs : goal.run_node-returns-in-Cycle-clause-performs
 run_node-returns-in-Cycle-clause-performs g t c =
-    let place = place_of g.W.CountedWrite.contents g.W.CountedWrite.failure_count in
+    let place = configuration_of g.W.CountedWrite.contents g.W.CountedWrite.failure_count in
     leaf_performs (setting_of g.H.NamedFilters.named c.args.context.now) c.args.context.now.depth c.args.nodes.now c.args.at c.args.to c.index-nodes-at.result _ (tree.cycle (string_bytes c.in-Cycle.group) (map expression_view c.in-Cycle.values.items)) c.run_cycle.result (place c.args.out.now c.args.state.now) (place c.run_cycle.new.out c.run_cycle.new.state) c.requires c.index-nodes-at.is c.in-Cycle.is refl
     (subst (λ ys. Performs c.run_cycle.result (node_meant (setting_of g.H.NamedFilters.named c.args.context.now) c.args.context.now.depth (tree.cycle (string_bytes c.in-Cycle.group) (map expression_view ys))) (place c.args.out.now c.args.state.now) (place c.run_cycle.new.out c.run_cycle.new.state)) c.deref-in-Cycle.ensures.value (subst (λ x. Performs c.run_cycle.result (node_meant (setting_of g.H.NamedFilters.named c.args.context.now) c.args.context.now.depth (tree.cycle x (map expression_view c.deref-in-Cycle.result.now))) (place c.args.out.now c.args.state.now) (place c.run_cycle.new.out c.run_cycle.new.state)) c.as_str-in-Cycle.ensures.value c.run_cycle.ensures.performs))
 
@@ -716,7 +716,7 @@ run_node-run_ifchanged-requires g t c κs within =
 
 pub run_node-returns-in-IfChanged-clause-performs : goal.run_node-returns-in-IfChanged-clause-performs
 run_node-returns-in-IfChanged-clause-performs g t c =
-    let place = place_of g.W.CountedWrite.contents g.W.CountedWrite.failure_count in
+    let place = configuration_of g.W.CountedWrite.contents g.W.CountedWrite.failure_count in
     one_performs (setting_of g.H.NamedFilters.named c.args.context.now) c.args.context.now.depth c.args.nodes.now c.args.at c.in-IfChanged.end c.args.to c.index-nodes-at.result _ tree.ifchanged c.run_ifchanged.result (place c.args.out.now c.args.state.now) (place c.run_ifchanged.new.out c.run_ifchanged.new.state) c.requires c.index-nodes-at.is c.in-IfChanged.is refl
     c.run_ifchanged.ensures.performs
 
@@ -798,7 +798,7 @@ run_node-run_for-requires g t c κs within =
 
 pub run_node-returns-in-For-clause-performs : goal.run_node-returns-in-For-clause-performs
 run_node-returns-in-For-clause-performs g t c =
-    let place = place_of g.W.CountedWrite.contents g.W.CountedWrite.failure_count in
+    let place = configuration_of g.W.CountedWrite.contents g.W.CountedWrite.failure_count in
     two_performs (setting_of g.H.NamedFilters.named c.args.context.now) c.args.context.now.depth c.args.nodes.now c.args.at c.in-For.bodies.first_end c.in-For.bodies.last_end c.args.to c.index-nodes-at.result _ (tree.for_each (string_bytes c.in-For.head.value.variable) (source_view c.in-For.head.value.source) (window_view c.in-For.head.value.window)) c.run_for.result (place c.args.out.now c.args.state.now) (place c.run_for.new.out c.run_for.new.state) c.requires c.index-nodes-at.is c.in-For.is refl
     (subst (λ (x : heads_For.For). (b d : Forest Maker) → StandsAt c.args.nodes.now (c.args.at + 1) b c.in-For.bodies.first_end → StandsAt c.args.nodes.now c.in-For.bodies.first_end d c.in-For.bodies.last_end → Performs c.run_for.result (node_meant (setting_of g.H.NamedFilters.named c.args.context.now) c.args.context.now.depth ((tree.for_each (string_bytes x.variable) (source_view x.source) (window_view x.window)) (nodes_of b) (nodes_of d))) (place c.args.out.now c.args.state.now) (place c.run_for.new.out c.run_for.new.state)) c.deref-in-For.ensures c.run_for.ensures.performs)
 
@@ -818,7 +818,7 @@ run_node-run_tablerow-requires g t c κs within =
 
 pub run_node-returns-in-TableRow-clause-performs : goal.run_node-returns-in-TableRow-clause-performs
 run_node-returns-in-TableRow-clause-performs g t c =
-    let place = place_of g.W.CountedWrite.contents g.W.CountedWrite.failure_count in
+    let place = configuration_of g.W.CountedWrite.contents g.W.CountedWrite.failure_count in
     one_performs (setting_of g.H.NamedFilters.named c.args.context.now) c.args.context.now.depth c.args.nodes.now c.args.at c.in-TableRow.end c.args.to c.index-nodes-at.result _ (tree.tablerow (string_bytes c.in-TableRow.head.value.variable) (source_view c.in-TableRow.head.value.source) (window_view c.in-TableRow.head.value.window) (option_map expression_view c.in-TableRow.head.value.cols)) c.run_tablerow.result (place c.args.out.now c.args.state.now) (place c.run_tablerow.new.out c.run_tablerow.new.state) c.requires c.index-nodes-at.is c.in-TableRow.is refl
     (subst (λ (x : heads_TableRow.TableRow). (b : Forest Maker) → StandsAt c.args.nodes.now (c.args.at + 1) b c.in-TableRow.end → Performs c.run_tablerow.result (node_meant (setting_of g.H.NamedFilters.named c.args.context.now) c.args.context.now.depth ((tree.tablerow (string_bytes x.variable) (source_view x.source) (window_view x.window) (option_map expression_view x.cols)) (nodes_of b))) (place c.args.out.now c.args.state.now) (place c.run_tablerow.new.out c.run_tablerow.new.state)) c.deref-in-TableRow.ensures c.run_tablerow.ensures.performs)
 
@@ -837,7 +837,7 @@ loops::run_turns-run_range-requires g t c κs within =
 
 pub loops::run_turns-returns-in_err-run_range-clause-performs : goal.loops::run_turns-returns-in_err-run_range-clause-performs
 loops::run_turns-returns-in_err-run_range-clause-performs g t c f stood before u starts =
-    let over = place_behind g.W.CountedWrite.contents g.W.CountedWrite.failure_count in
+    let over = configuration_behind g.W.CountedWrite.contents g.W.CountedWrite.failure_count in
     let sink = sink_of g.W.CountedWrite.contents g.W.CountedWrite.failure_count in
     let a = c.turns.invariant.frame before u starts in
     let pushed = at_pushed before u c.turns.place c.turns.state (scopes_behind (layers_of c.args.state.now).scopes) a c.turns.invariant.scopes in
@@ -858,7 +858,7 @@ loops::run_turns-returns-in_err-run_range-clause-loops g t c =
 
 pub loops::run_turns-returns-then-takes_break-clause-performs : goal.loops::run_turns-returns-then-takes_break-clause-performs
 loops::run_turns-returns-then-takes_break-clause-performs g t c f stood before u starts =
-    let over = place_behind g.W.CountedWrite.contents g.W.CountedWrite.failure_count in
+    let over = configuration_behind g.W.CountedWrite.contents g.W.CountedWrite.failure_count in
     let sink = sink_of g.W.CountedWrite.contents g.W.CountedWrite.failure_count in
     let a = c.turns.invariant.frame before u starts in
     let pushed = at_pushed before u c.turns.place c.turns.state (scopes_behind (layers_of c.args.state.now).scopes) a c.turns.invariant.scopes in
@@ -879,7 +879,7 @@ loops::run_turns-returns-then-takes_break-clause-loops g t c =
 
 pub loops::run_turns-returns-then-place-count-clause-performs : goal.loops::run_turns-returns-then-place-count-clause-performs
 loops::run_turns-returns-then-place-count-clause-performs g t c f stood before u starts =
-    let over = place_behind g.W.CountedWrite.contents g.W.CountedWrite.failure_count in
+    let over = configuration_behind g.W.CountedWrite.contents g.W.CountedWrite.failure_count in
     let sink = sink_of g.W.CountedWrite.contents g.W.CountedWrite.failure_count in
     let a = c.turns.invariant.frame before u starts in
     let pushed = at_pushed before u c.turns.place c.turns.state (scopes_behind (layers_of c.args.state.now).scopes) a c.turns.invariant.scopes in
@@ -906,7 +906,7 @@ loops::run_turns-advance-requires g t c =
 
 pub loops::run_turns-turns-preserved : goal.loops::run_turns-turns-preserved
 loops::run_turns-turns-preserved g t c =
-    let over = place_behind g.W.CountedWrite.contents g.W.CountedWrite.failure_count in
+    let over = configuration_behind g.W.CountedWrite.contents g.W.CountedWrite.failure_count in
     let sink = sink_of g.W.CountedWrite.contents g.W.CountedWrite.failure_count in
     let advanced : (before : List Scope) (u : LoopFrame) → StartsAt c.args.count c.args.state.now before u → with_scope_popped (layers_of c.advance.new.self) ≡ with_scope_popped (layers_of c.takes_break.new.state) = λ before u starts.
     let a = at_kept before u c.turns.place c.turns.state c.takes_break.new.state (c.takes_break.ensures.loops ∙ c.in_ok-run_range.ensures.loops) (c.turns.invariant.frame before u starts) in
@@ -933,7 +933,7 @@ loops::run_turns-turns-preserved g t c =
 
 pub loops::run_turns-turns-init : goal.loops::run_turns-turns-init
 loops::run_turns-turns-init g t c =
-    let over = place_behind g.W.CountedWrite.contents g.W.CountedWrite.failure_count in
+    let over = configuration_behind g.W.CountedWrite.contents g.W.CountedWrite.failure_count in
     let (before, (u, starts)) = c.requires.start in
     record {
       within = (let below : u.at < u.count = u.within.0 in omega (arith, below, starts.first, starts.count));
@@ -950,7 +950,7 @@ loops::run_cells-run_range-requires g t c κs within =
 
 pub loops::run_cells-returns-in_err-open-clause-performs : goal.loops::run_cells-returns-in_err-open-clause-performs
 loops::run_cells-returns-in_err-open-clause-performs g t c f stood before u starts =
-    let over = place_behind g.W.CountedWrite.contents g.W.CountedWrite.failure_count in
+    let over = configuration_behind g.W.CountedWrite.contents g.W.CountedWrite.failure_count in
     let sink = sink_of g.W.CountedWrite.contents g.W.CountedWrite.failure_count in
     let body = (nodes_meant (setting_of g.H.NamedFilters.named c.args.context.now) c.args.context.now.depth (nodes_of f)) in
     let p = err_from_is_err_and c.from_residual.result c.from_residual.ensures.1 in
@@ -964,7 +964,7 @@ loops::run_cells-returns-in_err-open-clause-loops g t c =
 
 pub loops::run_cells-returns-in_err-run_range-clause-performs : goal.loops::run_cells-returns-in_err-run_range-clause-performs
 loops::run_cells-returns-in_err-run_range-clause-performs g t c f stood before u starts =
-    let over = place_behind g.W.CountedWrite.contents g.W.CountedWrite.failure_count in
+    let over = configuration_behind g.W.CountedWrite.contents g.W.CountedWrite.failure_count in
     let sink = sink_of g.W.CountedWrite.contents g.W.CountedWrite.failure_count in
     let a = c.cells.invariant.frame before u starts in
     let pushed = at_pushed before u c.cells.place c.cells.state (scopes_behind (layers_of c.args.state.now).scopes) a c.cells.invariant.scopes in
@@ -985,7 +985,7 @@ loops::run_cells-returns-in_err-run_range-clause-loops g t c =
 
 pub loops::run_cells-returns-in_err-close-clause-performs : goal.loops::run_cells-returns-in_err-close-clause-performs
 loops::run_cells-returns-in_err-close-clause-performs g t c f stood before u starts =
-    let over = place_behind g.W.CountedWrite.contents g.W.CountedWrite.failure_count in
+    let over = configuration_behind g.W.CountedWrite.contents g.W.CountedWrite.failure_count in
     let sink = sink_of g.W.CountedWrite.contents g.W.CountedWrite.failure_count in
     let a = c.cells.invariant.frame before u starts in
     let pushed = at_pushed before u c.cells.place c.cells.state (scopes_behind (layers_of c.args.state.now).scopes) a c.cells.invariant.scopes in
@@ -1007,7 +1007,7 @@ loops::run_cells-returns-in_err-close-clause-loops g t c =
 
 pub loops::run_cells-returns-then-place-row-clause-performs : goal.loops::run_cells-returns-then-place-row-clause-performs
 loops::run_cells-returns-then-place-row-clause-performs g t c f stood before u starts =
-    let over = place_behind g.W.CountedWrite.contents g.W.CountedWrite.failure_count in
+    let over = configuration_behind g.W.CountedWrite.contents g.W.CountedWrite.failure_count in
     let sink = sink_of g.W.CountedWrite.contents g.W.CountedWrite.failure_count in
     let a = c.cells.invariant.frame before u starts in
     let pushed = at_pushed before u c.cells.place c.cells.state (scopes_behind (layers_of c.args.state.now).scopes) a c.cells.invariant.scopes in
@@ -1048,7 +1048,7 @@ loops::run_cells-advance-requires g t c =
 
 pub loops::run_cells-cells-preserved : goal.loops::run_cells-cells-preserved
 loops::run_cells-cells-preserved g t c =
-    let over = place_behind g.W.CountedWrite.contents g.W.CountedWrite.failure_count in
+    let over = configuration_behind g.W.CountedWrite.contents g.W.CountedWrite.failure_count in
     let sink = sink_of g.W.CountedWrite.contents g.W.CountedWrite.failure_count in
     let advanced : (before : List Scope) (u : LoopFrame) → StartsAt c.args.row.count c.args.state.now before u → with_scope_popped (layers_of c.advance.new.self) ≡ with_scope_popped (layers_of c.run_range.new.state) = λ before u starts.
     let a = at_kept before u c.cells.place c.cells.state c.run_range.new.state c.in_ok-run_range.ensures.loops (c.cells.invariant.frame before u starts) in
@@ -1075,7 +1075,7 @@ loops::run_cells-cells-preserved g t c =
 
 pub loops::run_cells-cells-init : goal.loops::run_cells-cells-init
 loops::run_cells-cells-init g t c =
-    let over = place_behind g.W.CountedWrite.contents g.W.CountedWrite.failure_count in
+    let over = configuration_behind g.W.CountedWrite.contents g.W.CountedWrite.failure_count in
     let (before, (u, starts)) = c.requires.start in
     record {
       within = (let below : u.at < u.count = u.within.0 in omega (arith, below, starts.first, starts.count));
@@ -1094,7 +1094,7 @@ loops::run_for-overflow_add-at g t c =
 
 pub loops::run_for-returns-in_err-frame-clause-performs : goal.loops::run_for-returns-in_err-frame-clause-performs
 loops::run_for-returns-in_err-frame-clause-performs g t c b d here after =
-    let place = place_of g.W.CountedWrite.contents g.W.CountedWrite.failure_count in
+    let place = configuration_of g.W.CountedWrite.contents g.W.CountedWrite.failure_count in
     let p = err_from_is_err_and c.from_residual.result c.from_residual.ensures.1 in
     rw (p.1, p.2) (for_refused (setting_of g.H.NamedFilters.named c.args.context.now) (deeper_meaning (setting_of g.H.NamedFilters.named c.args.context.now) c.args.context.now.depth) (string_bytes c.args.head.now.variable) (source_view c.args.head.now.source) (window_view c.args.head.now.window) (nodes_of b) (nodes_of d) c.in_err-frame.field-0.0 (place c.args.out.now c.args.state.now) c.in_err-frame.ensures.items)
 
@@ -1108,7 +1108,7 @@ loops::run_for-run_range-requires g t c κs within =
 
 pub loops::run_for-returns-in_default-clause-performs : goal.loops::run_for-returns-in_default-clause-performs
 loops::run_for-returns-in_default-clause-performs g t c b d here after =
-    let place = place_of g.W.CountedWrite.contents g.W.CountedWrite.failure_count in
+    let place = configuration_of g.W.CountedWrite.contents g.W.CountedWrite.failure_count in
     let none : items_asked (source_view c.args.head.now.source) (window_view c.args.head.now.window) (environment_of c.args.state.now) ≡ Ok [] = subst (λ (o : Option LoopFrame). items_asked (source_view c.args.head.now.source) (window_view c.args.head.now.window) (environment_of c.args.state.now) ≡ Ok (turns_of o)) c.in_default.is c.in_ok-frame.ensures.items in
     for_none (setting_of g.H.NamedFilters.named c.args.context.now) (deeper_meaning (setting_of g.H.NamedFilters.named c.args.context.now) c.args.context.now.depth) (string_bytes c.args.head.now.variable) (source_view c.args.head.now.source) (window_view c.args.head.now.window) (nodes_of b) (nodes_of d) c.run_range.result (place c.args.out.now c.args.state.now) (place c.run_range.new.out c.run_range.new.state) none (c.run_range.ensures.performs d after)
 
@@ -1133,7 +1133,7 @@ loops::run_for-run_turns-answer-requires g t c κs within =
 
 pub loops::run_for-returns-clause-performs : goal.loops::run_for-returns-clause-performs
 loops::run_for-returns-clause-performs g t c b d here after =
-    let place = place_of g.W.CountedWrite.contents g.W.CountedWrite.failure_count in
+    let place = configuration_of g.W.CountedWrite.contents g.W.CountedWrite.failure_count in
     let sink = sink_of g.W.CountedWrite.contents g.W.CountedWrite.failure_count in
     let begins : IsFor (string_bytes c.args.head.now.variable) (environment_of c.args.state.now) c.in-Some.frame = subst (λ (o : Option LoopFrame). IfSome o (IsFor (string_bytes c.args.head.now.variable) (environment_of c.args.state.now))) c.in-Some.is c.in_ok-frame.ensures.begins in
     let items : items_asked (source_view c.args.head.now.source) (window_view c.args.head.now.window) (environment_of c.args.state.now) ≡ Ok (turn_items c.in-Some.frame) = subst (λ (o : Option LoopFrame). items_asked (source_view c.args.head.now.source) (window_view c.args.head.now.window) (environment_of c.args.state.now) ≡ Ok (turns_of o)) c.in-Some.is c.in_ok-frame.ensures.items in
@@ -1160,13 +1160,13 @@ loops::run_tablerow-overflow_add-at g t c =
 
 pub loops::run_tablerow-returns-in_err-frame-clause-performs : goal.loops::run_tablerow-returns-in_err-frame-clause-performs
 loops::run_tablerow-returns-in_err-frame-clause-performs g t c b here =
-    let place = place_of g.W.CountedWrite.contents g.W.CountedWrite.failure_count in
+    let place = configuration_of g.W.CountedWrite.contents g.W.CountedWrite.failure_count in
     let p = err_from_is_err_and c.from_residual.result c.from_residual.ensures.1 in
     rw (p.1, p.2) (row_refused (setting_of g.H.NamedFilters.named c.args.context.now) (deeper_meaning (setting_of g.H.NamedFilters.named c.args.context.now) c.args.context.now.depth) (string_bytes c.args.head.now.variable) (source_view c.args.head.now.source) (window_view c.args.head.now.window) (option_map expression_view c.args.head.now.cols) (nodes_of b) c.in_err-frame.field-0.0 (place c.args.out.now c.args.state.now) c.in_err-frame.ensures.items)
 
 pub loops::run_tablerow-returns-in_default-clause-performs : goal.loops::run_tablerow-returns-in_default-clause-performs
 loops::run_tablerow-returns-in_default-clause-performs g t c b here =
-    let place = place_of g.W.CountedWrite.contents g.W.CountedWrite.failure_count in
+    let place = configuration_of g.W.CountedWrite.contents g.W.CountedWrite.failure_count in
     let none : cells_asked (source_view c.args.head.now.source) (window_view c.args.head.now.window) (option_map expression_view c.args.head.now.cols) (environment_of c.args.state.now) ≡ Ok None = subst (λ o. cells_asked (source_view c.args.head.now.source) (window_view c.args.head.now.window) (option_map expression_view c.args.head.now.cols) (environment_of c.args.state.now) ≡ Ok (cells_of o)) c.in_default.is c.in_ok-frame.ensures.items in
     row_none (setting_of g.H.NamedFilters.named c.args.context.now) (deeper_meaning (setting_of g.H.NamedFilters.named c.args.context.now) c.args.context.now.depth) (string_bytes c.args.head.now.variable) (source_view c.args.head.now.source) (window_view c.args.head.now.window) (option_map expression_view c.args.head.now.cols) (nodes_of b) tt (place c.args.out.now c.args.state.now) none
 
@@ -1185,7 +1185,7 @@ loops::run_tablerow-run_cells-answer-requires g t c κs within =
 
 pub loops::run_tablerow-returns-clause-performs : goal.loops::run_tablerow-returns-clause-performs
 loops::run_tablerow-returns-clause-performs g t c b here =
-    let place = place_of g.W.CountedWrite.contents g.W.CountedWrite.failure_count in
+    let place = configuration_of g.W.CountedWrite.contents g.W.CountedWrite.failure_count in
     let sink = sink_of g.W.CountedWrite.contents g.W.CountedWrite.failure_count in
     let begins : IsRow (string_bytes c.args.head.now.variable) c.in-Some.columns.count c.in-Some.frame = subst (AreRows (string_bytes c.args.head.now.variable)) c.in-Some.is c.in_ok-frame.ensures.begins in
     let items : cells_asked (source_view c.args.head.now.source) (window_view c.args.head.now.window) (option_map expression_view c.args.head.now.cols) (environment_of c.args.state.now) ≡ Ok (Some (turn_items c.in-Some.frame, c.in-Some.columns.count)) = subst (λ o. cells_asked (source_view c.args.head.now.source) (window_view c.args.head.now.window) (option_map expression_view c.args.head.now.cols) (environment_of c.args.state.now) ≡ Ok (cells_of o)) c.in-Some.is c.in_ok-frame.ensures.items in
@@ -1216,7 +1216,7 @@ run_node-run_chosen-requires g t c κs within =
 
 pub run_node-returns-in-If-clause-performs : goal.run_node-returns-in-If-clause-performs
 run_node-returns-in-If-clause-performs g t c =
-    let place = place_of g.W.CountedWrite.contents g.W.CountedWrite.failure_count in
+    let place = configuration_of g.W.CountedWrite.contents g.W.CountedWrite.failure_count in
     two_performs (setting_of g.H.NamedFilters.named c.args.context.now) c.args.context.now.depth c.args.nodes.now c.args.at c.in-If.bodies.first_end c.in-If.bodies.last_end c.args.to c.index-nodes-at.result _ (tree.if_true (condition_view c.in-If.condition)) c.run_chosen.result (place c.args.out.now c.args.state.now) (place c.run_chosen.new.out c.run_chosen.new.state) c.requires c.index-nodes-at.is c.in-If.is refl
     (λ b d here after. c.run_chosen.ensures.performs (tree.if_true (condition_view c.in-If.condition) (nodes_of b) (nodes_of d)) (c.chosen_range-chosen.ensures.chosen b d here after))
 
@@ -1239,7 +1239,7 @@ run_node-run_chosen-requires-in-Unless g t c κs within =
 
 pub run_node-returns-in-Unless-clause-performs : goal.run_node-returns-in-Unless-clause-performs
 run_node-returns-in-Unless-clause-performs g t c =
-    let place = place_of g.W.CountedWrite.contents g.W.CountedWrite.failure_count in
+    let place = configuration_of g.W.CountedWrite.contents g.W.CountedWrite.failure_count in
     two_performs (setting_of g.H.NamedFilters.named c.args.context.now) c.args.context.now.depth c.args.nodes.now c.args.at c.in-Unless.bodies.first_end c.in-Unless.bodies.last_end c.args.to c.index-nodes-at.result _ (tree.unless (condition_view c.in-Unless.condition)) c.run_chosen-in-Unless.result (place c.args.out.now c.args.state.now) (place c.run_chosen-in-Unless.new.out c.run_chosen-in-Unless.new.state) c.requires c.index-nodes-at.is c.in-Unless.is refl
     (λ b d here after. c.run_chosen-in-Unless.ensures.performs (tree.unless (condition_view c.in-Unless.condition) (nodes_of b) (nodes_of d)) (c.unless_range-chosen.ensures.chosen b d here after))
 
@@ -1270,7 +1270,7 @@ run_node-run_chosen-requires-in-Case g t c κs within =
 
 pub run_node-returns-in-Case-clause-performs : goal.run_node-returns-in-Case-clause-performs
 run_node-returns-in-Case-clause-performs g t c =
-    let place = place_of g.W.CountedWrite.contents g.W.CountedWrite.failure_count in
+    let place = configuration_of g.W.CountedWrite.contents g.W.CountedWrite.failure_count in
     case_performs c.args.nodes.now c.args.at (expression_view c.in-Case.target) c.in-Case.arms.items c.in-Case.last c.args.to c.index-nodes-at.result _ c.requires c.index-nodes-at.is c.in-Case.is refl (setting_of g.H.NamedFilters.named c.args.context.now) c.args.context.now.depth c.run_chosen-in-Case.result (place c.args.out.now c.args.state.now) (place c.run_chosen-in-Case.new.out c.run_chosen-in-Case.new.state)
     (λ ws o here. c.run_chosen-in-Case.ensures.performs (tree.case_of (expression_view c.in-Case.target) ws o) (c.case_range-chosen.ensures.chosen ws o (subst (λ arms. CaseStands c.args.nodes.now (c.args.at + 1) arms c.in-Case.last ws o) (sym c.deref-in-Case.ensures.value) here)))
 
@@ -1300,7 +1300,7 @@ run_node-case_range-chosen-requires g t c =
 
 pub run_chosen-returns-in-Err-clause-performs : goal.run_chosen-returns-in-Err-clause-performs
 run_chosen-returns-in-Err-clause-performs g t c n comes =
-    let place = place_of g.W.CountedWrite.contents g.W.CountedWrite.failure_count in
+    let place = configuration_of g.W.CountedWrite.contents g.W.CountedWrite.failure_count in
     refused_performs c.args.nodes.now (node_names n) (λ setting deeper. node_meaning setting deeper n) c.args.context.now.depth (setting_of g.H.NamedFilters.named c.args.context.now) c.in-Err.fault (place c.args.out.now c.args.state.now)
     (subst (λ r. NodeComesTo c.args.nodes.now (environment_of c.args.state.now) n r) c.in-Err.is comes)
 
@@ -1314,7 +1314,7 @@ run_chosen-run_range-requires g t c κs within =
 
 pub run_chosen-returns-in-Ok-clause-performs : goal.run_chosen-returns-in-Ok-clause-performs
 run_chosen-returns-in-Ok-clause-performs g t c n comes =
-    let place = place_of g.W.CountedWrite.contents g.W.CountedWrite.failure_count in
+    let place = configuration_of g.W.CountedWrite.contents g.W.CountedWrite.failure_count in
     chosen_performs c.args.nodes.now (node_names n) (λ setting deeper. node_meaning setting deeper n) c.in-Ok.range.0 c.in-Ok.range.1 c.args.context.now.depth (setting_of g.H.NamedFilters.named c.args.context.now) c.run_range.result (place c.args.out.now c.args.state.now) (place c.run_range.new.out c.run_range.new.state)
     (subst (λ r. NodeComesTo c.args.nodes.now (environment_of c.args.state.now) n r) c.in-Ok.is comes) c.run_range.ensures.performs
 

@@ -4,7 +4,7 @@ use Rattle.liquid_syntax.specs.Forest.{Forest}
 use Rattle.liquid_tree.specs.Names.{nodes_names}
 use Rattle.liquid_lib.specs.inside.Engine.{setting_of, nodes_in}
 use Rattle.liquid_lib.specs.Kept.{Keeps, AreRenders}
-use Rattle.liquid_lib.specs.Performs.{place_of}
+use Rattle.liquid_lib.specs.Performs.{configuration_of}
 use Rattle.liquid_core.specs.States.{layers_of, loops_of, scopes_behind}
 use Rattle.liquid_lib.proofs.Going.{Going}
 use Rattle.liquid_lib.proofs.PartialRuns.{reserve}
@@ -17,7 +17,7 @@ use Rattle.liquid_lib.proofs.ItemRuns.{Leads, items_left}
 use Rattle.liquid_lib.proofs.RenderEach.{item_run}
 use Rattle.liquid_core.specs.declared.frame.Scope.{Scope}
 use Rattle.liquid_core.specs.declared.frame.LoopFrame.{LoopFrame}
-use Rattle.liquid_lib.specs.inside.LoopRuns.{KeepsBehind, StartsAt, behind, place_behind}
+use Rattle.liquid_lib.specs.inside.LoopRuns.{KeepsBehind, StartsAt, behind, configuration_behind}
 use Rattle.liquid_lib.proofs.Turning.{AtTurn, CellsLead, TurnsLead}
 use Rattle.liquid_lib.proofs.engine.+run.Given as goal
 
@@ -59,7 +59,7 @@ decreases-renders::run_apart g l = reserve l.context.now.depth l.context.now.par
 
 abbrev pub invariant-run_range-loop-at : goal.invariant-run_range-loop-at
 invariant-run_range-loop-at g l =
-    let place = place_of g.W.CountedWrite.contents g.W.CountedWrite.failure_count in
+    let place = configuration_of g.W.CountedWrite.contents g.W.CountedWrite.failure_count in
     record {
       ordered : l.from ≤ l.at;
       going : Going (setting_of g.H.NamedFilters.named l.context) l.context.depth l.nodes l.from l.at l.to (place l.initial.out l.initial.state) (place l.out l.state);
@@ -74,7 +74,7 @@ decreases-run_range-loop-at g l = l.to - l.at
 
 abbrev pub invariant-renders::run_render_each-loop-at : goal.invariant-renders::run_render_each-loop-at
 invariant-renders::run_render_each-loop-at g l =
-    let place = place_of g.W.CountedWrite.contents g.W.CountedWrite.failure_count in
+    let place = configuration_of g.W.CountedWrite.contents g.W.CountedWrite.failure_count in
     let setting = setting_of g.H.NamedFilters.named l.context in
     let one = item_run setting (deeper_meaning setting l.context.depth) (expression_view l.name) (each_view l.each) (bindings_view l.bindings) (string_bytes l.called) l.source.count in
     record {
@@ -102,7 +102,7 @@ decreases-loops::run_cells g l = 4 * (l.to - l.from) + 2 + reserve l.context.now
 
 abbrev pub invariant-loops::run_turns-turns : goal.invariant-loops::run_turns-turns
 invariant-loops::run_turns-turns g l =
-    let over = place_behind g.W.CountedWrite.contents g.W.CountedWrite.failure_count in
+    let over = configuration_behind g.W.CountedWrite.contents g.W.CountedWrite.failure_count in
     record {
       within : l.place < l.count;
       leads : (f : Forest Maker) → StandsAt l.nodes l.from f l.to → (before : List Scope) (t : LoopFrame) → StartsAt l.count l.initial.state before t
@@ -118,7 +118,7 @@ decreases-loops::run_turns-turns g l = l.count - l.place
 
 abbrev pub invariant-loops::run_cells-cells : goal.invariant-loops::run_cells-cells
 invariant-loops::run_cells-cells g l =
-    let over = place_behind g.W.CountedWrite.contents g.W.CountedWrite.failure_count in
+    let over = configuration_behind g.W.CountedWrite.contents g.W.CountedWrite.failure_count in
     record {
       within : l.place < l.row.count;
       leads : (f : Forest Maker) → StandsAt l.nodes l.from f l.to → (before : List Scope) (t : LoopFrame) → StartsAt l.row.count l.initial.state before t

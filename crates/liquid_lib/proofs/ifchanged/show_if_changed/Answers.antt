@@ -3,7 +3,7 @@ use Rattle.std.proofs.lemmas.Result.{err_from_is_err_and}
 use Rattle.liquid_core.specs.States.{environment_of, layers_of, merged_layers}
 use Rattle.liquid_core.proofs.States.{changed_set}
 use Rattle.liquid_lib.specs.inside.Changed.{written_unless_last}
-use Rattle.liquid_lib.specs.Performs.{Performs, place_of, unit}
+use Rattle.liquid_lib.specs.Performs.{Performs, configuration_of, unit}
 use Rattle.liquid_lib.proofs.Joined.{bind_met, bind_faulted, change_met, read_met}
 use Rattle.liquid_lib.proofs.Kept.{kept_changed}
 use Rattle.liquid_meaning.specs.Effects.{changed_to}
@@ -12,7 +12,7 @@ use Rattle.liquid_lib.proofs.ifchanged.show_if_changed.Goals as goal
 
 pub returns-in_err-write_unless_last-clause-performs : goal.returns-in_err-write_unless_last-clause-performs
 returns-in_err-write_unless_last-clause-performs g c =
-    let place = place_of g.W.CountedWrite.contents g.W.CountedWrite.failure_count in
+    let place = configuration_of g.W.CountedWrite.contents g.W.CountedWrite.failure_count in
     let p = err_from_is_err_and c.from_residual.result c.from_residual.ensures.1 in
     let t = string_bytes c.args.text in
     let written : Performs (Err c.in_err-write_unless_last.field-0.0) (written_unless_last (environment_of c.args.state.now).registers.changed t) (place c.args.out.now c.args.state.now) (place c.write_unless_last.new.out c.args.state.now) =
@@ -22,7 +22,7 @@ returns-in_err-write_unless_last-clause-performs g c =
 
 pub returns-clause-performs : goal.returns-clause-performs
 returns-clause-performs g c =
-    let place = place_of g.W.CountedWrite.contents g.W.CountedWrite.failure_count in
+    let place = configuration_of g.W.CountedWrite.contents g.W.CountedWrite.failure_count in
     let t = string_bytes c.args.text in
     let first = c.in_ok-write_unless_last.field-0 in
     let written : Performs (Ok first) (written_unless_last (environment_of c.args.state.now).registers.changed t) (place c.args.out.now c.args.state.now) (place c.write_unless_last.new.out c.args.state.now) =

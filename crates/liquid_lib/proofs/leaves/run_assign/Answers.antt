@@ -9,7 +9,7 @@ use Rattle.liquid_tree.specs.Evaluation.{answers_with, chain_value}
 use Rattle.liquid_tree.specs.Names.{node_names}
 use Rattle.liquid_meaning.specs.Runs.{change}
 use Rattle.liquid_meaning.specs.Effects.{assigned_to}
-use Rattle.liquid_lib.specs.Performs.{unit, place_of}
+use Rattle.liquid_lib.specs.Performs.{unit, configuration_of}
 use Rattle.liquid_lib.proofs.Joined.{by_rule, given_met, refused_met, memory_at, change_met, gives_merged}
 use Rattle.liquid_lib.proofs.Kept.{kept_assigned}
 use Rattle.liquid_meaning.proofs.Rules.{assign_rule}
@@ -27,7 +27,7 @@ returns-in_err-from_str-clause-performs g c =
 
 pub returns-clause-performs : goal.returns-clause-performs
 returns-clause-performs g c =
-    let place = place_of g.W.CountedWrite.contents g.W.CountedWrite.failure_count in
+    let place = configuration_of g.W.CountedWrite.contents g.W.CountedWrite.failure_count in
     let d = view c.in_ok-value.value in
     let stored : IsValueOrMemory (λ _. layers_of c.set_global.new.self) c.set_global.result (with_assigned c.args.name.now d (layers_of c.args.state.now)) = search rules in
     by_rule (assign_rule _ _ _ _) (given_met {V = Value} view unit c.in_ok-value.value c.set_global.result (chain_value (answers_with (g.H.NamedFilters.named c.args.context.now.host.now)) (chain_view c.args.chain.now)) (λ x. change (assigned_to c.args.name.now x)) (place c.args.out.now c.args.state.now) (place c.args.out.now c.set_global.new.self)
