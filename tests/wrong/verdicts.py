@@ -1,7 +1,7 @@
 """What a check's words come to: whether a function was refused by a goal of its own, and why an edit wasn't refused."""
 import re
 
-from edits import span_of, text_of
+from edits import sources, span_of, text_of
 from functions import first_line
 
 ERROR = re.compile(r"^(?:note: )?(?:\./)?(\S+?):(\d+):\d+: (?:error: )?(.*)$", re.M)
@@ -35,10 +35,11 @@ def verdicts_of(crate, function, said):
 def has_open_goal(name, function, verdict, said, part):
     kind, why = verdict
     own = re.compile(rf"(?:\w+::)*{re.escape(function.name.split('::')[-1])}-")
+    has_others = bool(function.cycle) and not is_alone(function, said)
 
     def fits(goal):
         # of a cycle all goals stand together, each under the name of its function, with its module where the cycle has several
-        return part in goal and (bool(own.match(goal)) or not function.cycle)
+        return part in goal and (bool(own.match(goal)) or not has_others)
 
     if kind == "no proof" and any(fits(goal) for goals in GOALS.findall(why) for goal in re.findall(r"`([^`]+)`", goals)):
         return True
@@ -46,6 +47,12 @@ def has_open_goal(name, function, verdict, said, part):
         return False
     refused = any(stands_in(name, function, path, what, fits) for path, _, what in ERROR.findall(said.text) if not LOST_NAME.search(what))
     return refused or any(fits(goal) for goal in goals_left(function, said))
+
+
+def is_alone(function, said):
+    """Whether the function is the only one of its cycle of calls: then its goals stand under no name."""
+    marked = f"#[cycle({function.cycle})]"
+    return sum(text_of(f"{said.folder}/{path}").count(marked) for path in sources(said.folder)) == 1
 
 
 def goals_left(function, said):

@@ -1,4 +1,8 @@
 //! How a call ends, and how that is told.
+ghost use Rattle.std.specs.Prelude.{◌≡◌, option_map};
+ghost use Rattle.liquid_model.specs.View.{view};
+ghost use Rattle.liquid_refusals.specs.Endings.{ending_of};
+
 use crate::row::Row;
 use liquid_core::{ErrorKind, Result, Value};
 use std::alloc::Global;
@@ -42,8 +46,11 @@ impl<R: Print> Told<'_, R> {
     }
 }
 
-/// `done` where the answer is the wanted value, or the wanted fault.
-pub fn ending(answer: &Result<Value>, wanted: &Value, fault: Option<&str>) -> &'static str {
+/// `done` where the answer is the wanted value and no fault is wanted, or where it is a fault of the wanted name, which isn't
+/// `Memory`. Of any other fault its kind.
+pub fn ending(answer: &Result<Value>, wanted: &Value, fault: Option<&str>) -> &'static str
+    ensures { result.now ≡ ending_of answer.now (view wanted.now) (option_map (λ x. x.now) fault.entry) }
+{
     match (answer, fault) {
         (Ok(value), None) => if *value == *wanted {
             "done"

@@ -14,11 +14,12 @@
 mod answer;
 mod row;
 
-use crate::answer::{Told, alone, in_a_chain};
+use crate::answer::{alone, in_a_chain};
 use crate::row::{Row, accepts_as, jekyll_sort, name_in_rows, read_row};
 use liquid_core::Filter;
 use liquid_filters::FilterKind;
 use liquid_lib::STANDARD_FILTERS;
+use liquid_refusals::Told;
 use std::{env, io};
 
 fn main(rt: HostRuntime) -> io::Result<()> {

@@ -113,6 +113,21 @@ unfolding all_required
 arguments_end f all e xs i done h so_far =
     so_far ∙ ap (λ y. all_required (map f y) e >>= (λ ds. Ok (done ++ ds))) (drop_all i xs h) ∙ ap Ok (append-nil done)
 
+-- nothing is done yet
+none_done : (r : Result (List Datum) ErrorKind) → r ≡ (r >>= (λ ds. Ok ([] ++ ds)))
+none_done (Ok ds) = refl
+none_done (Err kind) = refl
+
+-- a single argument
+pub one_argument : {X : Type 0} (f : X → tree.Expression) (e : Environment) (xs : List X) (x : X) (d : Datum) → 0 < length xs → length xs ≤ 1 → x ≡ get_or xs 0 x
+    → required (f x) e ≡ Ok d → all_required (map f xs) e ≡ Ok (d ∷ [])
+one_argument f e xs x d h l is v =
+    arguments_end f (all_required (map f xs) e) e xs 1 (d ∷ []) l (arguments_more f (all_required (map f xs) e) e xs 0 x [] d h is v (none_done (all_required (map f xs) e)))
+
+pub one_argument_faulted : {X : Type 0} (f : X → tree.Expression) (e : Environment) (xs : List X) (x : X) (kind : ErrorKind) → 0 < length xs → x ≡ get_or xs 0 x
+    → Faulted kind (required (f x) e) → Faulted kind (all_required (map f xs) e)
+one_argument_faulted f e xs x kind h is v = arguments_stop f (all_required (map f xs) e) e xs 0 x [] kind h is v (none_done (all_required (map f xs) e))
+
 -- ---- calls
 
 next_call : {X : Type 0} (f : X → Call) (e : Environment) (xs : List X) (i : ℕ) (x : X) (d : Datum) → i < length xs → x ≡ get_or xs i x

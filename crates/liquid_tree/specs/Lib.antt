@@ -15,3 +15,4 @@ pub mod Telling
 pub mod Tree
 pub mod WrittenConditions
 pub mod WrittenSources
+pub mod inside

@@ -1,15 +1,13 @@
 //! Filters in order, for filters of any type.
-ghost use Rattle.std.specs.Prelude.{◌≡◌, length, map, All, IsTrue, IfOk};
+ghost use Rattle.std.specs.Prelude.{length, map, All, IsTrue};
 ghost use Rattle.std.specs.List.{list_all};
-ghost use Rattle.liquid_model.specs.Answer.{Answers};
 ghost use Rattle.liquid_model.specs.Cow.{cow_view};
-ghost use Rattle.liquid_core.specs.Expressions.{all_required};
 ghost use Rattle.liquid_core.specs.FilterAnswers.{AnswersIf};
-ghost use Rattle.liquid_core.specs.ExpressionView.{expression_view};
 ghost use Rattle.liquid_core.specs.States.{environment_of};
 ghost use Rattle.liquid_model.specs.View.{view};
 ghost use Rattle.liquid_tree.specs.Calls.{applied, call_of};
 
+use crate::arguments::evaluate_all;
 use liquid_core::{Expression, Filter, Result, State, Value, ValueCow};
 use std::alloc::Global;
 
@@ -57,20 +55,4 @@ pub fn apply_to<'v, F: Filter>(
         );
     }
     Ok(value)
-}
-
-/// The values of the expressions, from left to right.
-fn evaluate_all<'x>(
-    alloc: Global,
-    expressions: &'x [Expression],
-    state: &'x State<'_>,
-) -> Result<Vec<Value>>
-    ensures values { Answers (λ v. map view v.items) result (all_required (map expression_view expressions.now) (environment_of state.now)) }
-    ensures count { IfOk result (λ v. length v.items ≡ length expressions.now) }
-{
-    let mut values = Vec::with_capacity(alloc, expressions.len())?;
-    for expression in expressions {
-        values.push(expression.evaluate(alloc, state)?.into_owned(alloc)?)?;
-    }
-    Ok(values)
 }

@@ -2,6 +2,7 @@
 #![tactic(auto)]
 
 mod any_filter;
+mod arguments;
 mod chain;
 mod comparison;
 mod condition;

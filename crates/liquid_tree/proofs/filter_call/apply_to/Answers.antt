@@ -7,6 +7,7 @@ use Rattle.liquid_model.specs.View.{view}
 use Rattle.liquid_model.specs.declared.cow.ValueCow.{ValueCow}
 use Rattle.liquid_model.specs.declared.value.Value.{Value}
 use Rattle.liquid_tree.specs.Calls.{Call, call_of}
+use Rattle.liquid_tree.specs.inside.Arguments.{arguments_view}
 use Rattle.liquid_tree.specs.declared.filter_call.FilterCall.{FilterCall}
 use Rattle.liquid_tree.proofs.Calls.{answers_if, if_answered, faulted_if, all_within, calls_more, calls_stop_at_argument, calls_stop, calls_end}
 use Rattle.liquid_tree.proofs.filter_call.apply_to.Goals as goal
@@ -24,12 +25,12 @@ returns-in_err-evaluate g c =
     let p = err_from_is_err_and c.from_residual-in_err-evaluate.result c.from_residual-in_err-evaluate.ensures.1 in
     let f : FilterCall g.row.F.Denot → Call = λ call. call_of (g.F.Filter.answer call.filter) call.args.now in
     let answer = g.F.Filter.answer c.call-item.result.filter in
-    let arguments = c.in_ok-arguments.arguments.items in
+    let arguments = arguments_view c.in_ok-arguments.arguments in
     let within : FilterCall g.row.F.Denot → Bool = λ call. g.F.Filter.within call.filter in
-    let as_called = ap (λ d. answer d (map view arguments)) (sym c.as_value.ensures) ∙ ap (λ l. answer (view c.as_value.result.now) (map view l)) (sym c.as_slice.ensures.value) in
+    let as_called = ap (λ d. answer d arguments) (sym c.as_value.ensures) ∙ ap (answer (view c.as_value.result.now)) (sym c.as_slice.ensures) in
     rw p.1 (faulted_if {V = Value} {W = ValueCow} view cow_view (within c.call-item.result) (list_all within c.args.calls.now) c.in_err-evaluate.field-0.0 p.0 _ _
     (all_within within c.args.calls.now c.loop-call.call-index c.call-item.result c.loop-call-test.true c.call-item.is)
-    (λ told. calls_stop f _ (environment_of c.args.state.now) c.args.calls.now c.loop-call.call-index c.call-item.result (cow_view c.loop-call.value) (map view arguments) c.in_err-evaluate.field-0.0.kind
+    (λ told. calls_stop f _ (environment_of c.args.state.now) c.args.calls.now c.loop-call.call-index c.call-item.result (cow_view c.loop-call.value) arguments c.in_err-evaluate.field-0.0.kind
     c.loop-call-test.true c.call-item.is c.in_ok-arguments.ensures.values c.loop-call.invariant (as_called ∙ told))
     (ap (λ fault. fault.kind) p.2) c.in_err-evaluate.ensures)
 
@@ -37,10 +38,10 @@ pub loop-call-preserved : goal.loop-call-preserved
 loop-call-preserved g c =
     let f : FilterCall g.row.F.Denot → Call = λ call. call_of (g.F.Filter.answer call.filter) call.args.now in
     let answer = g.F.Filter.answer c.call-item.result.filter in
-    let arguments = c.in_ok-arguments.arguments.items in
-    calls_more f _ (environment_of c.args.state.now) c.args.calls.now c.loop-call.call-index c.call-item.result (cow_view c.loop-call.value) (view c.in_ok-evaluate.field-0) (map view arguments)
+    let arguments = arguments_view c.in_ok-arguments.arguments in
+    calls_more f _ (environment_of c.args.state.now) c.args.calls.now c.loop-call.call-index c.call-item.result (cow_view c.loop-call.value) (view c.in_ok-evaluate.field-0) arguments
     c.loop-call-test.true c.call-item.is c.in_ok-arguments.ensures.values
-    (ap (λ d. answer d (map view arguments)) (sym c.as_value.ensures) ∙ ap (λ l. answer (view c.as_value.result.now) (map view l)) (sym c.as_slice.ensures.value)
+    (ap (λ d. answer d arguments) (sym c.as_value.ensures) ∙ ap (answer (view c.as_value.result.now)) (sym c.as_slice.ensures)
     ∙ if_answered (g.F.Filter.within c.call-item.result.filter) view c.in_ok-evaluate.field-0 _ c.in_ok-evaluate.ensures)
     c.loop-call.invariant
 

@@ -8,7 +8,7 @@ use Rattle.liquid_core.specs.Expressions.{all_required}
 use Rattle.liquid_model.specs.Fallible.{◌>>=◌}
 use Rattle.liquid_core.specs.States.{environment_of}
 use Rattle.liquid_tree.proofs.Calls.{arguments_more, arguments_stop, arguments_end}
-use Rattle.liquid_tree.proofs.filter_call.evaluate_all.Goals as goal
+use Rattle.liquid_tree.proofs.arguments.evaluate_each.Goals as goal
 
 pub returns-in_err-evaluate-clause-values : goal.returns-in_err-evaluate-clause-values
 returns-in_err-evaluate-clause-values c =

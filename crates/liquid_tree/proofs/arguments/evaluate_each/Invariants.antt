@@ -4,7 +4,7 @@ use Rattle.liquid_core.specs.ExpressionView.{expression_view}
 use Rattle.liquid_model.specs.Fallible.{◌>>=◌}
 use Rattle.liquid_core.specs.States.{environment_of}
 use Rattle.liquid_model.specs.View.{view}
-use Rattle.liquid_tree.proofs.filter_call.evaluate_all.Given as goal
+use Rattle.liquid_tree.proofs.arguments.evaluate_each.Given as goal
 
 abbrev pub invariant-loop-expression : goal.invariant-loop-expression
 invariant-loop-expression l = record {
