@@ -35,7 +35,8 @@ pub fn read_chain(
     let Some(entry) = next_value(&mut items) else {
         return Err(expected(at, items.len(), "a value"));
     };
-    let filters = read_filters(alloc, filters, &mut items, at)?;
+    let mut filters = read_filters(alloc, filters, &mut items, at)?;
+    filters.shrink_to_fit();
     Ok(FilterChain { entry, filters })
 }
 
@@ -112,10 +113,10 @@ fn read_arguments(
     ensures kind { FaultsAs FaultKind.Expected result }
     ensures place { FaultsAt (length at.now) result }
 {
-    let mut arguments = Vec::new(alloc);
     if !skip(items, Symbol::Colon) {
-        return Ok(arguments);
+        return Ok(Vec::new(alloc));
     }
+    let mut arguments = Vec::with_capacity(alloc, 1)?;
     'arguments: loop {
         let Some(argument) = next_value(items) else {
             return Err(expected(at, items.len(), "an argument of the filter"));

@@ -26,7 +26,7 @@ pub fn read_condition(
     ensures place { FaultsAt (length at.now) result }
 {
     let mut items = items;
-    let mut conjunctions = Vec::new(alloc);
+    let mut conjunctions = Vec::with_capacity(alloc, 1)?;
     'conjunctions: loop {
         let conjunction = read_conjunction(alloc, &mut items, at)?;
         conjunctions.push(conjunction)?;
@@ -50,7 +50,7 @@ fn read_conjunction(
     ensures kind { FaultsAs FaultKind.Expected result }
     ensures place { FaultsAt (length at.now) result }
 {
-    let mut atoms = Vec::new(alloc);
+    let mut atoms = Vec::with_capacity(alloc, 1)?;
     'atoms: loop {
         let atom = read_atom(items, at)?;
         atoms.push(atom)?;

@@ -161,7 +161,7 @@ pub(crate) fn read_jekyll_include(
 fn only(alloc: Global, pair: Binding) -> Result<Vec<Binding>, AllocError>
     ensures { IfOk result (λ ps. bindings_view ps.items ≡ binding_view pair ∷ []) }
 {
-    let mut pairs = Vec::new(alloc);
+    let mut pairs = Vec::with_capacity(alloc, 1)?;
     pairs.push(pair)?;
     Ok(pairs)
 }

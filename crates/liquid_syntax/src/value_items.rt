@@ -98,7 +98,7 @@ pub fn read_further(
     ensures place { FaultsAt (length at.now) result }
 {
     let mut items = items;
-    let mut values = Vec::new(alloc);
+    let mut values = Vec::with_capacity(alloc, 1)?;
     values.push(first)?;
     'values: while !ends_values(&items, separators) {
         let Some(value) = next_further(&mut items, separators) else {

@@ -9,7 +9,7 @@ use Rattle.liquid_syntax.proofs.chain_items.read_arguments.Goals as goal
 
 pub arguments-init : goal.arguments-init
 arguments-init c = record {
-  called = λ known. behind_nothing _ ∙ ap (λ xs. behind (map expression_view xs) (arguments_of known (tokens_view c.skip.new.items.items))) (sym c.new-arguments.ensures.items);
+  called = λ known. behind_nothing _ ∙ ap (λ xs. behind (map expression_view xs) (arguments_of known (tokens_view c.skip.new.items.items))) (sym c.in_ok-arguments.ensures.items);
   shorter = omega arith;
 }
 
@@ -18,7 +18,7 @@ returns-then-not-skip-clause-called c known =
     let e = c.if-not-skip.ensures in
     not_colon known _ e.0
     ∙ ap (λ is. option_map (λ calls. ([], calls)) (filters_of known (tokens_view is))) (sym e.1)
-    ∙ ap (λ xs. option_map (λ calls. (map expression_view xs, calls)) (filters_of known (tokens_view c.skip.new.items.items))) (sym c.new-arguments.ensures.items)
+    ∙ ap (λ xs. option_map (λ calls. (map expression_view xs, calls)) (filters_of known (tokens_view c.skip.new.items.items))) (sym c.new.ensures.items)
 
 pub returns-in_default-clause-called : goal.returns-in_default-clause-called
 returns-in_default-clause-called c known =

@@ -9,7 +9,7 @@ use Rattle.liquid_syntax.proofs.condition_items.read_conjunction.Goals as goal
 
 pub atoms-init : goal.atoms-init
 atoms-init c = record {
-  taken = atoms_nothing _ ∙ ap (λ atoms. atoms_then (map atom_view atoms) (condition_of (tokens_view c.args.items.now.items))) (sym c.new-atoms.ensures.items);
+  taken = atoms_nothing _ ∙ ap (λ atoms. atoms_then (map atom_view atoms) (condition_of (tokens_view c.args.items.now.items))) (sym c.in_ok-atoms.ensures.items);
   shorter = omega arith;
 }
 

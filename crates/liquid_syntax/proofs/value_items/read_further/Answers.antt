@@ -12,7 +12,7 @@ pub values-init : goal.values-init
 values-init c =
     let left = further_of c.args.separators (tokens_view c.args.items.items) in
     further_begin (expression_view c.args.first) left
-    ∙ ap (λ xs. behind_those xs left) (sym (ap (map expression_view) (c.in_ok-push.ensures.items ∙ ap (λ l. l ++ c.args.first ∷ []) c.new-values.ensures.items)))
+    ∙ ap (λ xs. behind_those xs left) (sym (ap (map expression_view) (c.in_ok-push.ensures.items ∙ ap (λ l. l ++ c.args.first ∷ []) c.in_ok-values.ensures.items)))
 
 pub returns-in_default-clause-values : goal.returns-in_default-clause-values
 returns-in_default-clause-values c =
