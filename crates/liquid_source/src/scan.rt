@@ -81,12 +81,14 @@ pub fn unquoted_len(bytes: &[u8], quote: u8) -> usize
     n
 }
 
-/// How many bytes stand before the leftmost opener, or before the end where there is none.
+/// How many bytes stand before the leftmost opener, or before the end where there is none. What isn't a `{` is passed without a
+/// look at what follows it.
+#[tactic(auto, unfolding(crate::specs::Bytes::plain))]
 pub fn plain_len(bytes: &[u8]) -> usize
     ensures { result ≡ run_len plain bytes.now }
 {
     let mut n = 0;
-    while n < bytes.len() && is_plain(bytes[n], &bytes[n + 1..]) {
+    while n < bytes.len() && (bytes[n] != b'{' || is_plain(bytes[n], &bytes[n + 1..])) {
         n += 1;
     }
     n

@@ -161,7 +161,14 @@ fn divided_by_answer(alloc: Global, input: &Value, args: &[Value]) -> Result<Val
     ensures answer { Answers view result (of_one divided_by (view input.now) (map view args.now)) }
     ensures no_memory { TakesNoMemory result (of_one divided_by (view input.now) (map view args.now)) }
 {
-    let (a, b) = operands(alloc, input, &args[0], true)?;
+    division(alloc, input, &args[0])
+}
+
+fn division(alloc: Global, input: &Value, operand: &Value) -> Result<Value>
+    ensures answer { Answers view result (divided_by (view input.now) (view operand.now)) }
+    ensures no_memory { TakesNoMemory result (divided_by (view input.now) (view operand.now)) }
+{
+    let (a, b) = operands(alloc, input, operand, true)?;
     within_range(alloc, quotient(a, b))
 }
 
@@ -194,7 +201,14 @@ fn modulo_answer(alloc: Global, input: &Value, args: &[Value]) -> Result<Value>
     ensures answer { Answers view result (of_one modulo (view input.now) (map view args.now)) }
     ensures no_memory { TakesNoMemory result (of_one modulo (view input.now) (map view args.now)) }
 {
-    let (a, b) = operands(alloc, input, &args[0], true)?;
+    remainder(alloc, input, &args[0])
+}
+
+fn remainder(alloc: Global, input: &Value, operand: &Value) -> Result<Value>
+    ensures answer { Answers view result (modulo (view input.now) (view operand.now)) }
+    ensures no_memory { TakesNoMemory result (modulo (view input.now) (view operand.now)) }
+{
+    let (a, b) = operands(alloc, input, operand, true)?;
     // The least number by -1 leaves 0, though their quotient is beyond 64 bits.
     Ok(Value::Integer(a.wrapping_rem(b)))
 }

@@ -43,7 +43,14 @@ fn at_least_answer(alloc: Global, input: &Value, args: &[Value]) -> Result<Value
     ensures answer { Answers view result (of_one at_least (view input.now) (map view args.now)) }
     ensures no_memory { TakesNoMemory result (of_one at_least (view input.now) (map view args.now)) }
 {
-    let (a, b) = operands(alloc, input, &args[0], false)?;
+    greater(alloc, input, &args[0])
+}
+
+fn greater(alloc: Global, input: &Value, operand: &Value) -> Result<Value>
+    ensures answer { Answers view result (at_least (view input.now) (view operand.now)) }
+    ensures no_memory { TakesNoMemory result (at_least (view input.now) (view operand.now)) }
+{
+    let (a, b) = operands(alloc, input, operand, false)?;
     Ok(Value::Integer(a.max(b)))
 }
 
@@ -76,7 +83,14 @@ fn at_most_answer(alloc: Global, input: &Value, args: &[Value]) -> Result<Value>
     ensures answer { Answers view result (of_one at_most (view input.now) (map view args.now)) }
     ensures no_memory { TakesNoMemory result (of_one at_most (view input.now) (map view args.now)) }
 {
-    let (a, b) = operands(alloc, input, &args[0], false)?;
+    lesser(alloc, input, &args[0])
+}
+
+fn lesser(alloc: Global, input: &Value, operand: &Value) -> Result<Value>
+    ensures answer { Answers view result (at_most (view input.now) (view operand.now)) }
+    ensures no_memory { TakesNoMemory result (at_most (view input.now) (view operand.now)) }
+{
+    let (a, b) = operands(alloc, input, operand, false)?;
     Ok(Value::Integer(a.min(b)))
 }
 
