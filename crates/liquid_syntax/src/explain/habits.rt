@@ -177,14 +177,20 @@ fn of_step(spot: &Spot<'_>) -> Option<&'static str> {
 
 /// The site of a piece.
 pub fn site_of(piece: &PlacedPiece<'_>) -> Site {
-    match (piece.kind, piece.name) {
-        (Delimiter::Output, _) => Site::Output,
-        (Delimiter::Tag, "") => Site::Name,
-        (Delimiter::Tag, "if" | "elsif" | "unless") => Site::Condition,
-        (Delimiter::Tag, "else") => Site::Else,
-        (Delimiter::Tag, "assign") => Site::Assign,
-        (Delimiter::Tag, "for" | "tablerow") => Site::Loop,
-        (Delimiter::Tag, "include" | "render") => Site::Partial,
-        (Delimiter::Tag, _) => Site::Tag,
+    match piece.kind {
+        Delimiter::Output => Site::Output,
+        Delimiter::Tag => site_of_tag(piece.name),
+    }
+}
+
+fn site_of_tag(name: &str) -> Site {
+    match name {
+        "" => Site::Name,
+        "if" | "elsif" | "unless" => Site::Condition,
+        "else" => Site::Else,
+        "assign" => Site::Assign,
+        "for" | "tablerow" => Site::Loop,
+        "include" | "render" => Site::Partial,
+        _ => Site::Tag,
     }
 }
