@@ -1,7 +1,7 @@
 //! States: calls in their order, each with its answer.
 use crate::faults::no_call;
 use liquid_core::{ErrorKind, Object, Result, State, Value};
-use liquid_refusals::{Told, ending, items, kind_of, member, optional, text_member};
+use liquid_refusals::{Told, items, kind_of, member, optional, text_member};
 use std::alloc::Global;
 
 /// Makes the calls of the list, one after another, on the same state. Each is a list: its name, a name or a path of the state,
@@ -12,25 +12,11 @@ pub(crate) fn made_in_turn<R: Print>(told: &Told<'_, R>, steps: &Value, state: &
         told.begin();
         let answer = step_made(told.alloc, state, step);
         told.end();
-        tell(told, step, &answer);
+        told.step_ended(step, &answer);
         if kind_of(&answer) == Some(ErrorKind::Memory) {
             drop(step_made(told.alloc, state, step));
         }
     }
-}
-
-/// Tells how the call ended.
-fn tell<R: Print>(told: &Told<'_, R>, step: &Value, answer: &Result<Value>) {
-    let wanted = member(step, 3).unwrap_or(&Value::Nil);
-    let fault = match answer {
-        Ok(_) => None,
-        Err(_) => Some(text_member(step, 3)),
-    };
-    told.ended(
-        text_member(step, 0),
-        text_member(step, 1),
-        ending(answer, wanted, fault),
-    );
 }
 
 fn step_made(alloc: Global, state: &mut State<'_>, step: &Value) -> Result<Value> {

@@ -2,7 +2,7 @@
 use crate::given::depth;
 use liquid_core::{ErrorKind, Object, Result, Value};
 use liquid_lib::{Partials, Runtime, RuntimeBuilder};
-use liquid_refusals::{Row, Told, ending, items, kind_of, member, optional, text_member};
+use liquid_refusals::{Row, Told, items, kind_of, member, optional, text_member};
 use std::alloc::Global;
 
 /// Makes the calls of the row, one after another, on the same runtime. Each is a list: its name, a name or a path of the
@@ -34,7 +34,7 @@ pub(crate) fn runtime_made<R: Print>(told: &Told<'_, R>, row: &Row, data: Object
             };
             if !is_again {
                 told.end();
-                tell(told, step, &answer);
+                told.step_ended(step, &answer);
             }
             if kind_of(&answer) != Some(ErrorKind::Memory) {
                 break;
@@ -42,20 +42,6 @@ pub(crate) fn runtime_made<R: Print>(told: &Told<'_, R>, row: &Row, data: Object
         }
     }
     Ok(())
-}
-
-/// Tells how the call ended.
-fn tell<R: Print>(told: &Told<'_, R>, step: &Value, answer: &Result<Value>) {
-    let wanted = member(step, 3).unwrap_or(&Value::Nil);
-    let fault = match answer {
-        Ok(_) => None,
-        Err(_) => Some(text_member(step, 3)),
-    };
-    told.ended(
-        text_member(step, 0),
-        text_member(step, 1),
-        ending(answer, wanted, fault),
-    );
 }
 
 /// What a call changes in a runtime.

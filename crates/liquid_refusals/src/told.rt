@@ -3,7 +3,7 @@ ghost use Rattle.std.specs.Prelude.{◌≡◌, option_map};
 ghost use Rattle.liquid_model.specs.View.{view};
 ghost use Rattle.liquid_refusals.specs.Endings.{ending_of};
 
-use crate::row::Row;
+use crate::row::{Row, member, text_member};
 use liquid_core::{ErrorKind, Result, Value};
 use std::alloc::Global;
 
@@ -34,6 +34,21 @@ impl<R: Print> Told<'_, R> {
     pub fn answered(&self, line: &str, row: &Row, answer: &Result<Value>) {
         let wanted = Some(row.fault.as_str()).filter(|fault| !fault.is_empty());
         self.ended(row.call.as_str(), line, ending(answer, &row.answer, wanted));
+    }
+
+    /// How the call of a step ended. A step is a list of the call's name, what it names, what it is given, and its answer or the
+    /// kind of its fault.
+    pub fn step_ended(&self, step: &Value, answer: &Result<Value>) {
+        let wanted = member(step, 3).unwrap_or(&Value::Nil);
+        let fault = match answer {
+            Ok(_) => None,
+            Err(_) => Some(text_member(step, 3)),
+        };
+        self.ended(
+            text_member(step, 0),
+            text_member(step, 1),
+            ending(answer, wanted, fault),
+        );
     }
 
     /// How a call ended: behind the second mark, or without marks only where it isn't as wanted.
