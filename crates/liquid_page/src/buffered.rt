@@ -131,5 +131,9 @@ fn remove_front(held: &mut Vec<u8>, n: usize)
     requires { n ≤ vec_len held.old }
     ensures items { held.new.items ≡ drop n held.old.items }
 {
-    drop(held.drain(..n));
+    if n == held.len() {
+        held.clear();
+    } else {
+        drop(held.drain(..n));
+    }
 }
