@@ -12,7 +12,7 @@ use crate::outcome::Outcome;
 use crate::words::{Call, call_of};
 use liquid_core::{Error, ErrorKind, Origin, Result};
 use liquid_lib::Counted;
-use liquid_site::run;
+use liquid_site::run_last;
 use std::alloc::{AllocError, Global};
 use std::io::Write;
 
@@ -165,7 +165,7 @@ fn text_of<T: Texts>(
     }
 }
 
-/// Writes the page through a buffer, and gives the writer back. Where the run is done the writer is flushed, once; after a
+/// Writes the page through a buffer, and gives the writer back. The program ends behind it, so what was read stays as it is. Where the run is done the writer is flushed, once; after a
 /// fault what the page had written is handed on too. A writer that refuses is `Write`. On every answer what the writer
 /// holds is a beginning of what it held and of the page's text behind that.
 pub fn write_page<W: Write + Drop>(
@@ -184,7 +184,7 @@ pub fn write_page<W: Write + Drop>(
         Err(writer) => return (writer, Err(Error::from(AllocError))),
     };
     let mut counted = Counted::new(buffered);
-    let answer = run(alloc, template, data, partials, &mut counted);
+    let answer = run_last(alloc, template, data, partials, &mut counted);
     let mut buffered = counted.into_inner();
     let flushed = match &answer {
         Ok(()) => buffered.flush(),

@@ -10,4 +10,4 @@ mod whole;
 
 pub use json_data::data_from_json;
 pub use laws::page_law;
-pub use page::run;
+pub use page::{run, run_last};

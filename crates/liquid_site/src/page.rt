@@ -13,9 +13,17 @@ use liquid_core::{Error, ErrorKind, Object, Result};
 use liquid_lib::{CountedWrite, Renderable, RuntimeBuilder, language};
 use liquid_syntax::{Language, Partials, Template, parse};
 use std::alloc::Global;
+use std::mem;
 
 /// How deep partials may be nested in a page.
 const DEPTH: u32 = 32;
+
+/// What becomes of what was read, behind the page: to take large data apart is a tenth of the work of a page and more.
+#[derive(Clone, Copy, Drop)]
+enum Afterwards {
+    Freed,
+    Kept,
+}
 
 /// The texts of a page, read.
 #[derive(Drop)]
@@ -47,7 +55,26 @@ pub fn run<W: CountedWrite>(
 {
     let language = language(alloc)?;
     let read = read_texts(alloc, &language, template, data, partials)?;
-    render_texts(alloc, read, writer)
+    render_texts(alloc, read, writer, Afterwards::Freed)
+}
+
+/// As `run`, for a program that ends behind it: what was read isn't taken apart, so its memory stays until the process ends.
+pub fn run_last<W: CountedWrite>(
+    alloc: Global,
+    template: &str,
+    data: &str,
+    partials: &[(String, String)],
+    writer: &mut W,
+) -> Result<()>
+    ensures page { RanOut result (W.contents writer.old) (W.contents writer.new)
+        ⊎ ShowsStandard (record { template = template.now; facts = «data».now; partials = sources_of partials.now }) result (W.contents writer.old) (W.contents writer.new) }
+    ensures write { IfErr result (λ e. e.kind ≡ ErrorKind.Write → OneFailed (W.failure_count writer.old) (W.failure_count writer.new)) }
+    ensures failed { W.failure_count writer.old < W.failure_count writer.new → IsErrAnd result (λ e. (e.kind ≡ ErrorKind.Memory) ⊎ (e.kind ≡ ErrorKind.Write)) }
+    ensures once { AtMostOneFailed (W.failure_count writer.old) (W.failure_count writer.new) }
+{
+    let language = language(alloc)?;
+    let read = read_texts(alloc, &language, template, data, partials)?;
+    render_texts(alloc, read, writer, Afterwards::Kept)
 }
 
 /// The three kinds of texts are read in this order.
@@ -99,7 +126,12 @@ fn read_partial(alloc: Global, language: &Language, name: &str, source: &str) ->
 }
 
 /// Renders what was read, in a new runtime.
-fn render_texts<W: CountedWrite>(alloc: Global, read: ReadTexts, writer: &mut W) -> Result<()>
+fn render_texts<W: CountedWrite>(
+    alloc: Global,
+    read: ReadTexts,
+    writer: &mut W,
+    afterwards: Afterwards,
+) -> Result<()>
     ensures whole { is_refused result ≡ false → Appends (W.contents writer.old) (W.contents writer.new) (page_outcome (read_view read)).text }
     ensures end { is_refused result ≡ false → answer_of unit result ≡ (page_outcome (read_view read)).end }
     ensures begun { AppendsPart (W.contents writer.old) (W.contents writer.new) (page_outcome (read_view read)).text }
@@ -117,5 +149,17 @@ fn render_texts<W: CountedWrite>(alloc: Global, read: ReadTexts, writer: &mut W)
         .set_partials(&partials)
         .set_depth(DEPTH)
         .build(alloc);
-    template.render_to(alloc, writer, &mut runtime)
+    let answer = template.render_to(alloc, writer, &mut runtime);
+    leave(runtime, afterwards);
+    leave(template, afterwards);
+    leave(partials, afterwards);
+    answer
+}
+
+/// Frees what isn't needed any more, or keeps it to the end of the program.
+fn leave<T: Drop>(read: T, afterwards: Afterwards) {
+    match afterwards {
+        Afterwards::Freed => drop(read),
+        Afterwards::Kept => mem::forget(read),
+    }
 }

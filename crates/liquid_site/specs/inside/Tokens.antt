@@ -1,5 +1,5 @@
 -- The data that tokens of JSON give where each number is whole.
-use Rattle.std.specs.Prelude.{ℕ, ℤ, List, Option, Some, None, option_map, option_and_then}
+use Rattle.std.specs.Prelude.{ℕ, ℤ, List, Option, Some, option_map, option_and_then}
 use Rattle.liquid_model.specs.Data.{Datum, nil, truth, number, text, array, object, Items, no_items, item, Pairs, no_pairs, put}
 use Rattle.json.specs.Token.{Token}
 use Rattle.json.specs.Json as json

@@ -1,4 +1,4 @@
-use Rattle.std.proofs.Common.{◌≡◌, ap, subst, ◌∙◌}
+use Rattle.std.proofs.Common.{ap, subst, ◌∙◌}
 use Rattle.liquid_core.specs.States.{merged_layers, new_layers}
 use Rattle.liquid_tree.specs.Evaluation.{answers_with}
 use Rattle.liquid_lib.specs.Added.{AppendsPart}
@@ -13,7 +13,7 @@ returns-clause-end g c = λ ran.
     let depth = c.build-runtime.ensures.depth ∙ c.set_depth.ensures.depth in
     let globals = c.set_depth.ensures.globals ∙ c.set_partials.ensures.globals ∙ c.set_globals.ensures.globals in
     let environment = ap merged_layers (c.build-runtime.ensures.layers ∙ ap new_layers globals) in
-    c.render_to.ensures.end ran ∙ ap (λ (o : Outcome Nothing). o.end) (outcome_same _ _ _ _ _ _ _ _ _ answers partials depth environment)
+    c.render_to-answer.ensures.end ran ∙ ap (λ (o : Outcome Nothing). o.end) (outcome_same _ _ _ _ _ _ _ _ _ answers partials depth environment)
 
 pub returns-clause-begun : goal.returns-clause-begun
 returns-clause-begun g c =
@@ -22,4 +22,4 @@ returns-clause-begun g c =
     let depth = c.build-runtime.ensures.depth ∙ c.set_depth.ensures.depth in
     let globals = c.set_depth.ensures.globals ∙ c.set_partials.ensures.globals ∙ c.set_globals.ensures.globals in
     let environment = ap merged_layers (c.build-runtime.ensures.layers ∙ ap new_layers globals) in
-    subst (λ (o : Outcome Nothing). AppendsPart (g.W.CountedWrite.contents c.args.writer.now) (g.W.CountedWrite.contents c.render_to.new.writer) o.text) (outcome_same _ _ _ _ _ _ _ _ _ answers partials depth environment) c.render_to.ensures.begun
+    subst (λ (o : Outcome Nothing). AppendsPart (g.W.CountedWrite.contents c.args.writer.now) (g.W.CountedWrite.contents c.render_to-answer.new.writer) o.text) (outcome_same _ _ _ _ _ _ _ _ _ answers partials depth environment) c.render_to-answer.ensures.begun

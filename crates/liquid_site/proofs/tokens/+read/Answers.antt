@@ -1,15 +1,15 @@
-use Rattle.std.proofs.Common.{◌≡◌, ◌-◌, ◌<◌, [], ◌∷◌, length, Some, None, option_map, string_bytes, w64, sym, ap, ◌∙◌, arith, rules}
+use Rattle.std.proofs.Common.{◌≡◌, ◌-◌, ◌<◌, ◌∷◌, length, Some, None, option_map, string_bytes, w64, sym, ap, ◌∙◌, arith, rules}
 use mir.Val.{to_z, of_z}
 use Rattle.json.specs.Token.{Token}
 use Rattle.json.specs.Json.{parse_map, after_end_array, read_key, items, members, value}
 use Rattle.json.specs.Reads.{token_of}
 use Rattle.json.proofs.Grammar.{value_is, value-begin_array, value-begin_object, read_key-shorter}
 use Rattle.serde_json.specs.Read.{converted}
-use Rattle.liquid_model.specs.Data.{truth, nil, number, text, array, object, put, no_pairs}
+use Rattle.liquid_model.specs.Data.{truth, nil, number, text, array, object, put}
 use Rattle.liquid_model.specs.View.{view, pairs_view}
 use Rattle.liquid_model.specs.declared.value.Value.{Text, Integer, Bool, Nil, the_lemmas}
-use Rattle.liquid_model.proofs.Views.{view-Array, view-Object, view-Text, pairs_view-insert_entry}
-use Rattle.liquid_site.specs.inside.Tokens.{datum_of, items_of, pairs_of, items_at, pairs_at}
+use Rattle.liquid_model.proofs.Views.{view-Array, view-Object, pairs_view-insert_entry}
+use Rattle.liquid_site.specs.inside.Tokens.{datum_of, pairs_of, items_at}
 use Rattle.liquid_site.proofs.After.{after, after_none}
 use Rattle.liquid_site.proofs.Turns.{converted-array, converted-object, item_read, items_over, pair_read, pairs_over, none_before, one_more_item}
 use Rattle.liquid_site.proofs.tokens.+read.Goals as goal
