@@ -11,7 +11,7 @@ use Rattle.liquid_model.specs.declared.error.ErrorKind.TheVariants.{Memory}
 use Rattle.liquid_core.specs.Held.{held as map_held}
 use Rattle.liquid_tree.specs.Tree.{Nodes}
 use Rattle.liquid_syntax.specs.Entries.{put}
-use Rattle.liquid_syntax.specs.Parsing.{IsOnlyTree, HasNoTree}
+use Rattle.liquid_syntax.specs.Parsing.{IsOnlyTree, HasNoTree, MayRefuse}
 use Rattle.liquid_syntax.specs.Templates.{tree_of, partials_of}
 use Rattle.liquid_syntax.specs.declared.language.Language.{Language}
 use Rattle.liquid_syntax.specs.declared.partials.Partials.{Partials}
@@ -38,10 +38,10 @@ AreNoPartials _ = ⊥
 abbrev pub OfText : List ℕ → (Result Held Refusal → Type 0) → Result Held Refusal → Type 0
 OfText bytes R answer = (IsUtf8 bytes × R answer) ⊎ ((IsUtf8 bytes → ⊥) × (answer ≡ Err NoText))
 
--- the template that the source is, or why it is none
+-- the template that the source is, or why it is none: by a kind of a source, or since memory ran out
 abbrev pub Parses : Language → Text → Result Held Refusal → Type 0
 Parses l source (Ok (held.Template t)) = IsOnlyTree l (tree_of t) source
-Parses l source (Ok (held.Fault e)) = MatchBool (is_memory e.kind) ⊤ (HasNoTree l source)
+Parses l source (Ok (held.Fault e)) = MayRefuse e.kind × MatchBool (is_memory e.kind) ⊤ (HasNoTree l source)
 Parses l source _ = ⊥
 
 abbrev pub IsParse : Option Held → List ℕ → Result Held Refusal → Type 0
