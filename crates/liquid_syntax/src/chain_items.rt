@@ -35,8 +35,7 @@ pub fn read_chain(
     let Some(entry) = next_value(&mut items) else {
         return Err(expected(at, items.len(), "a value"));
     };
-    let mut filters = read_filters(alloc, filters, &mut items, at)?;
-    filters.shrink_to_fit();
+    let filters = read_filters(alloc, filters, &mut items, at)?;
     Ok(FilterChain { entry, filters })
 }
 
