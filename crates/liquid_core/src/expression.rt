@@ -131,7 +131,9 @@ fn without_value<D: Display>(alloc: Global, written: &D) -> Error
     Error::formatted(
         alloc,
         ErrorKind::UnknownVariable,
-        format_args!("`{written}` has no value"),
+        format_args!(
+            "`{written}` has no value; look at its spelling, or give it one by `assign` or `default`"
+        ),
     )
 }
 

@@ -35,7 +35,8 @@ pub fn invalid_argument(alloc: Global, wanted: &str, found: &Value) -> Error
     )
 }
 
-fn kind_name(value: &Value) -> &'static str
+/// What a value is, in a few words with an article.
+pub fn kind_name(value: &Value) -> &'static str
     ensures { result.now ≡ kind_name (view value.now) }
 {
     match value {

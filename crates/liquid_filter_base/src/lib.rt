@@ -5,4 +5,4 @@ mod argument;
 mod fault;
 
 pub use argument::{lower_case, text_argument, text_of, whole_argument};
-pub use fault::{invalid_argument, invalid_input};
+pub use fault::{invalid_argument, invalid_input, kind_name};

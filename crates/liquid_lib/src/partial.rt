@@ -121,7 +121,7 @@ fn unknown(alloc: Global, name: &str) -> Error
     Error::formatted(
         alloc,
         ErrorKind::UnknownPartial,
-        format_args!("no partial is named `{name}`"),
+        format_args!("no partial is named `{name}`; hand one in by this name"),
     )
 }
 

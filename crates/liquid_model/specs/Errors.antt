@@ -38,7 +38,7 @@ error_text e = name_of e.kind ++ (option_map_or (λ l. codes ": " ++ location_te
 
 -- what is said of an expression without a value, by its written form
 abbrev pub without_value_message : List ℕ → List ℕ
-without_value_message written = codes "`" ++ (written ++ codes "` has no value")
+without_value_message written = codes "`" ++ (written ++ codes "` has no value; look at its spelling, or give it one by `assign` or `default`")
 
 -- what is said of a path that leads to nothing
 abbrev pub nowhere_message : List Datum → List ℕ

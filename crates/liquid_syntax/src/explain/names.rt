@@ -107,8 +107,14 @@ static TAGS: [(&str, &str); 48] = [
         "`doc` isn't known; write `{% comment %}text{% endcomment %}`",
     ),
     ("highlight", "`highlight` is of Jekyll, and isn't known"),
-    ("link", "`link` is of Jekyll, and isn't known"),
-    ("post_url", "`post_url` is of Jekyll, and isn't known"),
+    (
+        "link",
+        "`link` is of Jekyll, and isn't known; write the address itself",
+    ),
+    (
+        "post_url",
+        "`post_url` is of Jekyll, and isn't known; write the address itself",
+    ),
     ("do", "`do` isn't known; `assign` sets a name"),
     ("then", "a condition ends without `then`"),
     ("next", "`next` is written `continue`"),

@@ -9,7 +9,7 @@ ghost use Rattle.liquid_number_filters.specs.Numbers.{operands, is_numeric, unli
 
 use super::decimal::Decimal;
 use liquid_core::{Error, ErrorKind, Result, Value};
-use liquid_filter_base::{invalid_argument, invalid_input};
+use liquid_filter_base::{invalid_argument, invalid_input, kind_name};
 use std::alloc::Global;
 
 /// Whether the value is a decimal text.
@@ -61,10 +61,11 @@ fn unlike(alloc: Global, input: &Value, operand: &Value) -> Error
     if is_numeric(input) {
         return invalid_argument(alloc, "a whole number", operand);
     }
-    Error::new(
+    let found_kind = kind_name(input);
+    Error::formatted(
         alloc,
         ErrorKind::InvalidArgument,
-        "the input must be a number",
+        format_args!("the input must be a number, not {found_kind}"),
     )
 }
 
