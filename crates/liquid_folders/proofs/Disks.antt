@@ -1,13 +1,18 @@
 -- A file that is put where it stands already.
-use Rattle.std.specs.Prelude.{◌≡◌, ℕ, ◌∷◌, ◌++◌, ◌||◌, not, Bool, true, false, cond, bytes_eq, Option, Some, None, IfSome}
+use Rattle.std.specs.Prelude.{◌≡◌, ℕ, [], ◌∷◌, ◌++◌, ◌||◌, not, Bool, true, false, cond, bytes_eq, Option, Some, None, IfSome, ⊤, MatchBool, option_map, string_bytes}
+use Rattle.std.proofs.Common.{append_assoc}
 use Rattle.std.proofs.lemmas.Slice.Eq.{bytes_eq-Decides}
 use mathlib.Core.Path.{refl, sym, ap, subst, fun_ext, ◌∙◌}
+use Rattle.liquid_model.specs.ErrorKinds.{is_memory}
+use Rattle.liquid_model.specs.Errors.{HasMessageUnlessMemory}
 use Rattle.liquid_model.specs.Texts.{Text}
+use Rattle.liquid_model.specs.declared.error.Error.{Error}
 use Rattle.liquid_lib.specs.Pages.{Shown}
 use Rattle.liquid_sites.specs.Contents.{Pages}
 use Rattle.liquid_sites.specs.Steps.{raised}
-use Rattle.liquid_folders.specs.Written.{all_written, count_from, is_page_path, KeepsOthers}
+use Rattle.liquid_folders.specs.Written.{all_written, count_from, is_page_path, KeepsOthers, unwritten_message, IsUnwritten, TellsUnwritten}
 use Rattle.liquid_folders.specs.Files.{File, Files, gone, holds, unread, with_file, is_held, ChangesAt}
+use Rattle.liquid_folders.specs.inside.Needed.{NeededUnlessMemory}
 
 pub file_there : (files : Files) (path : Text) (file : File) → files path ≡ file → with_file files path file ≡ files
 unfolding with_file
@@ -32,10 +37,13 @@ already (Some f) path given text b is h k = ap Some (sym (file_there f path (hol
 
 -- ---- pages so far
 
--- after some of the pages were written: what is left gives what the whole gives, and no other file changed
+-- after some of the pages were written: these are the front of the whole, what is left gives what the whole gives, and no other file changed
 pub record IsOn (out : Text) (all left : Pages) (n : ℕ) (old new : Files) : Type 0 where
   pub written : all_written out left new ≡ all_written out all old
   pub counted : count_from n out left new ≡ count_from 0 out all old
+  pub done : Pages
+  pub split : all ≡ done ++ left
+  pub so_far : new ≡ all_written out done old
   pub later : (q : Text) → is_page_path out all q ≡ false → is_page_path out left q ≡ false
   pub others : (q : Text) → is_page_path out all q ≡ false → new q ≡ old q
 
@@ -55,13 +63,33 @@ elsewhere f path q file h = ap (λ b. cond b file (f q)) h
 others_kept : (out : Text) (all rest : Pages) (p : Text × Shown) (n : ℕ) (old g : Files) (file : File) → IsOn out all (p ∷ rest) n old g → (q : Text) → is_page_path out all q ≡ false → with_file g (out ++ p.0) file q ≡ old q
 others_kept out all rest p n old g file on q h = elsewhere g (out ++ p.0) q file (neither (bytes_eq (out ++ p.0) q) (is_page_path out rest q) (on.later q h)).0 ∙ on.others q h
 
+written_last : (out : Text) (ps : Pages) (p : Text × Shown) (old : Files) → all_written out (ps ++ p ∷ []) old ≡ with_file (all_written out ps old) (out ++ p.0) (holds p.1.text)
+written_last out [] p old = refl
+written_last out (q ∷ qs) p old = written_last out qs p (with_file old (out ++ q.0) (holds q.1.text))
+
 step : (out : Text) (all rest : Pages) (p : Text × Shown) (n m : ℕ) (old g : Files) → IsOn out all (p ∷ rest) n old g → m ≡ cond (is_held (g (out ++ p.0)) p.1.text) n (raised n 1)
     → IsOn out all rest m old (with_file g (out ++ p.0) (holds p.1.text))
 step out all rest p n m old g on count = record {
   written = on.written;
   counted = ap (λ k. count_from k out rest (with_file g (out ++ p.0) (holds p.1.text))) count ∙ on.counted;
+  done = on.done ++ p ∷ [];
+  split = on.split ∙ sym (append_assoc on.done (p ∷ []) rest);
+  so_far = (λ i. with_file (on.so_far i) (out ++ p.0) (holds p.1.text)) ∙ sym (written_last out on.done p old);
   later = λ q h. (neither (bytes_eq (out ++ p.0) q) (is_page_path out rest q) (on.later q h)).1;
   others = others_kept out all rest p n old g (holds p.1.text) on;
+}
+
+-- before the first page
+pub started : (o : Option Files) (out : Text) (all left : Pages) → left ≡ all → IfSome o (λ f. Progress out all left 0 f o)
+started None out all left is = tt
+started (Some f) out all left is = record {
+  written = ap (λ l. all_written out l f) is;
+  counted = ap (λ l. count_from 0 out l f) is;
+  done = [];
+  split = sym is;
+  so_far = refl;
+  later = λ q h. ap (λ l. is_page_path out l q) is ∙ h;
+  others = λ q h. refl;
 }
 
 turned : {X : Type 0} (b h : Bool) (x y : X) → b ≡ not h → cond b x y ≡ cond h y x
@@ -91,3 +119,28 @@ ended_at (Some f) (Some g) v out all left rest p name n is named on changed =
     let on_it : IsOn out all (p ∷ rest) n f g = subst (λ l. IsOn out all l n f g) is on in
     let there : v ≡ Some (with_file g (out ++ p.0) changed.0) = changed.1 ∙ (λ i. Some (with_file g (out ++ named i) changed.0)) in
     subst (λ x. KeepsOthers out all f x) (sym there) (others_kept out all rest p n f g changed.0 on_it)
+
+-- the page that it ended at, unless memory ran out
+pub stopped_at : (o w v : Option Files) (out : Text) (all left rest : Pages) (p : Text × Shown) (name text : Text) (n : ℕ) (e : Error) → left ≡ p ∷ rest → name ≡ p.0 → text ≡ p.1.text → IfSome o (λ f. Progress out all left n f w)
+    → IfSome w (λ f. ChangesAt (out ++ name) f v) → IfSome w (λ f. NeededUnlessMemory (f (out ++ name)) text e) → HasMessageUnlessMemory (unwritten_message (out ++ name)) e → IfSome o (λ f. TellsUnwritten out all f v e)
+stopped_at None w v out all left rest p name text n e is named same on changed needed told = tt
+stopped_at (Some f) None v out all left rest p name text n e is named same on changed needed told = absurd on
+stopped_at (Some f) (Some g) v out all left rest p name text n e is named same on changed needed told = at (is_memory e.kind) needed told
+  where
+    on_it : IsOn out all (p ∷ rest) n f g
+    on_it = subst (λ l. IsOn out all l n f g) is on
+
+    changed_there : ChangesAt (out ++ p.0) (all_written out on_it.done f) v
+    changed_there = subst (λ h. ChangesAt (out ++ p.0) h v) on_it.so_far (subst (λ m. ChangesAt (out ++ m) g v) named changed)
+
+    at : (b : Bool) → MatchBool b ⊤ (is_held (g (out ++ name)) text ≡ false) → MatchBool b ⊤ (option_map string_bytes e.message ≡ Some (unwritten_message (out ++ name))) → MatchBool b ⊤ (IsUnwritten out all f v e)
+    at true h k = tt
+    at false h k = record {
+      front = on_it.done;
+      page = p;
+      back = rest;
+      all = on_it.split;
+      needed = sym (λ i. is_held (on_it.so_far i (out ++ named i)) (same i)) ∙ h;
+      left = changed_there;
+      told = k ∙ (λ i. Some (unwritten_message (out ++ named i)));
+    }

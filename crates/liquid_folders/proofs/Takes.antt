@@ -1,8 +1,8 @@
 -- What is taken of a file, by what the site and the data answer.
-use Rattle.std.specs.Prelude.{◌≡◌, ℕ, ◌+◌, ◌<◌, false, MatchBool, ⊤, List, ◌∷◌, Option, Some, None, Result, Ok, Err, IfOk, OnOk, IfSome, String, string_bytes}
-use Rattle.std.proofs.Common.{inr, drop, suc, length, get_or, add-one, drop-cons}
+use Rattle.std.specs.Prelude.{◌≡◌, ℕ, ◌+◌, ◌<◌, false, MatchBool, ⊤, List, [], ◌∷◌, ◌++◌, Option, Some, None, option_map, option_to_list, Result, Ok, Err, IfOk, OnOk, IfSome, String, string_bytes}
+use Rattle.std.proofs.Common.{inr, drop, suc, length, get_or, add-one, drop-cons, append_assoc, append-nil}
 use Rattle.std.specs.declared.alloc.Global.{Global}
-use mathlib.Core.Path.{sym, ap, subst, ◌∙◌}
+use mathlib.Core.Path.{refl, sym, ap, subst, ◌∙◌}
 use Rattle.liquid_model.specs.Answer.{Faulted}
 use Rattle.liquid_model.specs.Texts.{Text}
 use Rattle.liquid_model.specs.ErrorKinds.{is_memory, is_refusal}
@@ -18,11 +18,14 @@ use Rattle.liquid_sites.specs.declared.change.Change.{Change}
 use Rattle.liquid_sites.specs.declared.site.Site.{Site}
 use Rattle.liquid_folders.specs.Files.{Files, found_view}
 use Rattle.liquid_folders.specs.Paths.{path_of}
-use Rattle.liquid_folders.specs.Taken.{Takes, TakesChange, TakesFacts, AreTaken, with_facts}
+use Rattle.liquid_folders.specs.Refusals.{Refuses, IsRefusal, AreRefusals}
+use Rattle.liquid_folders.specs.Taken.{Takes, TakesFacts, AreTaken, with_facts}
+use Rattle.liquid_folders.specs.inside.Changes.{TakesChange}
 use Rattle.liquid_folders.specs.declared.folder.Changed.{Changed}
 use Rattle.liquid_folders.specs.declared.folder.Folder.{Folder}
 use Rattle.liquid_folders.specs.declared.take.Found.{Found}
 use Rattle.liquid_folders.specs.declared.take.Found.TheVariants as found
+use Rattle.liquid_folders.specs.declared.take.Refusal.{Refusal}
 use Rattle.liquid_folders.specs.declared.take.Why.{Why}
 
 pub refused_change : (r : Result (Option Why) Error) (change : Change) (kind : ErrorKind) (old new : Site) → IfOk r (λ why. is_memory kind ≡ false) → Refused change kind old new → OnOk r (TakesChange change old new)
@@ -47,3 +50,27 @@ taken_on None l own folder changes i changed first now new same is lt so step = 
 taken_on (Some f) l own folder changes i changed first now new same is lt so step =
     let here : Takes l changed (f (path_of folder changed)) now new = subst (λ k. Takes k changed (f (path_of folder changed)) now new) same step in
     λ d more. so d (subst (λ cs. AreTaken l folder f cs now d) (sym (next_item changes i changed is lt)) (new, here, more))
+
+-- ---- what is told
+
+is_refusal_of : (l : Language) (folder : Folder) (files : Files) (changed : Changed) (r : Option Refusal) → Refuses l changed (files (path_of folder changed)) (option_map (λ refusal. refusal.why) r) → IfSome r (λ refusal. string_bytes refusal.path ≡ path_of folder changed)
+    → IsRefusal l folder files changed r
+is_refusal_of l folder files changed None why path = why
+is_refusal_of l folder files changed (Some refusal) why path = (path, why)
+
+-- one more file is told of, or is not refused
+pub told_on : (o : Option Files) (l own : Language) (folder : Folder) (changes : List Changed) (i : ℕ) (changed : Changed) (r : Option Refusal) (before after : List Refusal) → own ≡ l → changed ≡ get_or changes i changed → i < length changes
+    → IfSome o (λ f. (rs : List Refusal) → AreRefusals l folder f (drop i changes) rs → AreRefusals l folder f changes (before ++ rs)) → IfSome o (λ f. Refuses own changed (f (path_of folder changed)) (option_map (λ refusal. refusal.why) r))
+    → IfSome r (λ refusal. string_bytes refusal.path ≡ path_of folder changed) → after ≡ before ++ option_to_list r
+    → IfSome o (λ f. (rs : List Refusal) → AreRefusals l folder f (drop (i + 1) changes) rs → AreRefusals l folder f changes (after ++ rs))
+told_on None l own folder changes i changed r before after same is lt so why path joined = tt
+told_on (Some f) l own folder changes i changed r before after same is lt so why path joined =
+    let here : IsRefusal l folder f changed r = subst (λ k. IsRefusal k folder f changed r) same (is_refusal_of own folder f changed r why path) in
+    λ rs more. subst (λ told. AreRefusals l folder f changes told) (sym (ap (λ told. told ++ rs) joined ∙ append_assoc before (option_to_list r) rs))
+    (so (option_to_list r ++ rs) (subst (λ cs. AreRefusals l folder f cs (option_to_list r ++ rs)) (sym (next_item changes i changed is lt)) (r, rs, here, more, refl)))
+
+-- all files are told of
+pub all_told : (o : Option Files) (l : Language) (folder : Folder) (changes : List Changed) (i : ℕ) (told : List Refusal) → drop i changes ≡ [] → IfSome o (λ f. (rs : List Refusal) → AreRefusals l folder f (drop i changes) rs → AreRefusals l folder f changes (told ++ rs))
+    → IfSome o (λ f. AreRefusals l folder f changes told)
+all_told None l folder changes i told none so = tt
+all_told (Some f) l folder changes i told none so = subst (λ rs. AreRefusals l folder f changes rs) (append-nil told) (so [] (subst (λ cs. AreRefusals l folder f cs []) (sym none) refl))

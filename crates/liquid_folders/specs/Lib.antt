@@ -1,5 +1,6 @@
 pub mod Files
 pub mod Paths
+pub mod Refusals
 pub mod Start
 pub mod Taken
 pub mod Written

@@ -7,12 +7,8 @@ use Rattle.liquid_tree.specs.Tree.{Nodes}
 use Rattle.liquid_syntax.specs.Parsing.{IsOnlyTree, HasNoTree}
 use Rattle.liquid_syntax.specs.declared.language.Language.{Language}
 use Rattle.liquid_site.specs.Json.{data_of}
-use Rattle.liquid_sites.specs.Applied.{Accepted, HasBadSource}
 use Rattle.liquid_sites.specs.Contents.{Contents}
-use Rattle.liquid_sites.specs.SiteViews.{contents_of, language_of}
 use Rattle.liquid_sites.specs.Steps.{Step, set_page, remove_page, set_partial, remove_partial, stepped}
-use Rattle.liquid_sites.specs.declared.change.Change.{Change}
-use Rattle.liquid_sites.specs.declared.site.Site.{Site}
 use Rattle.liquid_folders.specs.Files.{File, Files, gone, holds, unread}
 use Rattle.liquid_folders.specs.Paths.{path_of}
 use Rattle.liquid_folders.specs.declared.folder.Changed.{Changed}
@@ -45,7 +41,3 @@ Takes l Facts file = TakesFacts file
 abbrev pub AreTaken : Language → Folder → Files → List Changed → Contents → Contents → Type 0
 AreTaken l folder files [] c d = d ≡ c
 AreTaken l folder files (changed ∷ rest) c d = (m : Contents) × Takes l changed (files (path_of folder changed)) c m × AreTaken l folder files rest m d
-
--- a change was accepted, or its source is no template and nothing changed
-abbrev pub TakesChange : Change → Site → Site → Type 0
-TakesChange change old new = Accepted change old new ⊎ (HasBadSource (language_of old) change × (contents_of new ≡ contents_of old))

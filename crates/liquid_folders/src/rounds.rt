@@ -2,8 +2,9 @@
 ghost use Rattle.std.specs.Prelude.{◌≡◌, Some, IfSome, IfOk, IfErr, OnOk, string_bytes};
 ghost use Rattle.liquid_sites.specs.Contents.{pages_from_scratch};
 ghost use Rattle.liquid_sites.specs.SiteViews.{contents_of, language_of};
+ghost use Rattle.liquid_folders.specs.Refusals.{AreRefusals};
 ghost use Rattle.liquid_folders.specs.Taken.{AreTaken};
-ghost use Rattle.liquid_folders.specs.Written.{IsStop, all_written, count_from, KeepsOthers};
+ghost use Rattle.liquid_folders.specs.Written.{IsStop, all_written, count_from, KeepsOthers, TellsUnwritten, UnlessMemory};
 
 use crate::disk::Disk;
 use crate::folder::{Changed, Folder};
@@ -26,8 +27,9 @@ pub struct RoundOutcome {
 ///
 /// A file that is gone takes its page or its partial with it. A file whose text is no template or no data, or which can't be
 /// read, is refused and changes nothing, and so is the data's file where it is gone. The file of a page that is gone stays.
-/// The answer is `Memory` or, where a page's file isn't written, `Write`: then some of the changes may be taken and some of
-/// the pages written, and the next round writes the others.
+/// The answer is `Memory` or, where a page's file isn't written, `Write`, which tells this file and no refusals. At `Write` all
+/// changes are taken and the pages in front of this one are written; at `Memory` some of either may be. The next round writes
+/// the others.
 pub fn round<D: Disk>(
     alloc: Global,
     site: &mut Site,
@@ -35,10 +37,12 @@ pub fn round<D: Disk>(
     changes: &[Changed],
     disk: &mut D,
 ) -> Result<RoundOutcome>
-    ensures taken { IfSome (D.files disk.old) (λ f. OnOk result (AreTaken (language_of site.old) folder.now f changes.now (contents_of site.old) (contents_of site.new))) }
+    ensures taken { IfSome (D.files disk.old) (λ f. UnlessMemory result (AreTaken (language_of site.old) folder.now f changes.now (contents_of site.old) (contents_of site.new))) }
+    ensures refusals { IfSome (D.files disk.old) (λ f. IfOk result (λ outcome. AreRefusals (language_of site.old) folder.now f changes.now outcome.refusals.items)) }
     ensures written { IfSome (D.files disk.old) (λ f. OnOk result (D.files disk.new ≡ Some (all_written (string_bytes folder.now.out) (pages_from_scratch (contents_of site.new)) f))) }
     ensures count { IfSome (D.files disk.old) (λ f. IfOk result (λ outcome. outcome.written ≡ count_from 0 (string_bytes folder.now.out) (pages_from_scratch (contents_of site.new)) f)) }
     ensures others { IfSome (D.files disk.old) (λ f. KeepsOthers (string_bytes folder.now.out) (pages_from_scratch (contents_of site.new)) f (D.files disk.new)) }
+    ensures unwritten { IfSome (D.files disk.old) (λ f. IfErr result (TellsUnwritten (string_bytes folder.now.out) (pages_from_scratch (contents_of site.new)) f (D.files disk.new))) }
     ensures language { language_of site.new ≡ language_of site.old }
     ensures stop { IfErr result (λ e. IsStop e.kind) }
 {
@@ -56,6 +60,7 @@ fn take_all<D: Disk>(
     disk: &D,
 ) -> Result<Vec<Refusal>>
     ensures taken { IfSome (D.files disk.now) (λ f. OnOk result (AreTaken (language_of site.old) folder.now f changes.now (contents_of site.old) (contents_of site.new))) }
+    ensures refusals { IfSome (D.files disk.now) (λ f. IfOk result (λ refusals. AreRefusals (language_of site.old) folder.now f changes.now refusals.items)) }
     ensures language { language_of site.new ≡ language_of site.old }
     ensures memory { IfErr result (λ e. e.kind ≡ ErrorKind.Memory) }
 {

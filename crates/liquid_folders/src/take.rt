@@ -1,12 +1,14 @@
 //! What a site takes of a file that changed.
-ghost use Rattle.std.specs.Prelude.{◌≡◌, false, IfOk, OnOk, IfErr, IfSome};
+ghost use Rattle.std.specs.Prelude.{◌≡◌, false, Some, IfOk, OnOk, IfErr, IfSome, option_map, string_bytes};
 ghost use Rattle.liquid_model.specs.Answer.{IsValueOrMemory};
 ghost use Rattle.liquid_model.specs.ErrorKinds.{is_memory};
 ghost use Rattle.liquid_sites.specs.SiteViews.{contents_of, language_of};
 ghost use Rattle.liquid_sites.specs.Steps.{set_page, remove_page, set_partial, remove_partial};
 ghost use Rattle.liquid_folders.specs.Files.{found_view};
 ghost use Rattle.liquid_folders.specs.Paths.{path_of};
-ghost use Rattle.liquid_folders.specs.Taken.{TakesTemplate, TakesFacts, Takes, TakesChange};
+ghost use Rattle.liquid_folders.specs.Refusals.{RefusesTemplate, RefusesFacts, Refuses};
+ghost use Rattle.liquid_folders.specs.Taken.{TakesTemplate, TakesFacts, Takes};
+ghost use Rattle.liquid_folders.specs.inside.Changes.{TakesChange, RefusesChange};
 
 use crate::disk::{Disk, DiskFault};
 use crate::facts::change_facts;
@@ -55,6 +57,8 @@ pub(crate) fn take<D: Disk>(
     disk: &D,
 ) -> Result<Option<Refusal>>
     ensures taken { IfSome (D.files disk.now) (λ f. OnOk result (Takes (language_of site.old) changed.now (f (path_of folder.now changed.now)) (contents_of site.old) (contents_of site.new))) }
+    ensures refused { IfSome (D.files disk.now) (λ f. IfOk result (λ r. Refuses (language_of site.old) changed.now (f (path_of folder.now changed.now)) (option_map (λ refusal. refusal.why) r))) }
+    ensures path { IfOk result (λ r. IfSome r (λ refusal. string_bytes refusal.path ≡ path_of folder.now changed.now)) }
     ensures language { language_of site.new ≡ language_of site.old }
     ensures memory { IfErr result (λ e. e.kind ≡ ErrorKind.Memory) }
 {
@@ -87,6 +91,7 @@ fn take_found(
     found: Found,
 ) -> Result<Option<Why>>
     ensures taken { OnOk result (Takes (language_of site.old) changed.now (found_view found) (contents_of site.old) (contents_of site.new)) }
+    ensures refused { IfOk result (Refuses (language_of site.old) changed.now (found_view found)) }
     ensures language { language_of site.new ≡ language_of site.old }
     ensures memory { IfErr result (λ e. e.kind ≡ ErrorKind.Memory) }
 {
@@ -100,6 +105,7 @@ fn take_found(
 /// Sets a page, or removes it where its file is gone.
 fn take_page(alloc: Global, site: &mut Site, name: &str, found: Found) -> Result<Option<Why>>
     ensures taken { OnOk result (TakesTemplate (language_of site.old) (set_page name.now) (remove_page name.now) (found_view found) (contents_of site.old) (contents_of site.new)) }
+    ensures refused { IfOk result (RefusesTemplate (language_of site.old) (found_view found)) }
     ensures language { language_of site.new ≡ language_of site.old }
     ensures memory { IfErr result (λ e. e.kind ≡ ErrorKind.Memory) }
 {
@@ -114,6 +120,7 @@ fn take_page(alloc: Global, site: &mut Site, name: &str, found: Found) -> Result
 /// Sets a partial, or removes it where its file is gone.
 fn take_partial(alloc: Global, site: &mut Site, name: &str, found: Found) -> Result<Option<Why>>
     ensures taken { OnOk result (TakesTemplate (language_of site.old) (set_partial name.now) (remove_partial name.now) (found_view found) (contents_of site.old) (contents_of site.new)) }
+    ensures refused { IfOk result (RefusesTemplate (language_of site.old) (found_view found)) }
     ensures language { language_of site.new ≡ language_of site.old }
     ensures memory { IfErr result (λ e. e.kind ≡ ErrorKind.Memory) }
 {
@@ -128,6 +135,7 @@ fn take_partial(alloc: Global, site: &mut Site, name: &str, found: Found) -> Res
 /// Applies a change. The answer is why its source is refused, where it is.
 fn apply(site: &mut Site, change: Change) -> Result<Option<Why>>
     ensures taken { OnOk result (TakesChange change site.old site.new) }
+    ensures refused { IfOk result (RefusesChange (language_of site.old) change) }
     ensures language { language_of site.new ≡ language_of site.old }
     ensures memory { IfErr result (λ e. e.kind ≡ ErrorKind.Memory) }
 {
@@ -139,7 +147,9 @@ fn apply(site: &mut Site, change: Change) -> Result<Option<Why>>
 
 /// A fault of a file's text is a refusal of this file. Without memory there is no answer.
 fn refused(error: Error) -> Result<Option<Why>>
+    ensures fault { IfOk result (λ why. why ≡ Some (Why.Fault error)) }
     ensures told { IfOk result (λ _. is_memory error.kind ≡ false) }
+    ensures same { IfErr result (λ e. e ≡ error) }
     ensures memory { IfErr result (λ e. e.kind ≡ ErrorKind.Memory) }
 {
     match error.kind {
@@ -151,6 +161,7 @@ fn refused(error: Error) -> Result<Option<Why>>
 /// Takes the data of a file, value by value.
 fn take_facts(alloc: Global, site: &mut Site, found: Found) -> Result<Option<Why>>
     ensures taken { OnOk result (TakesFacts (found_view found) (contents_of site.old) (contents_of site.new)) }
+    ensures refused { IfOk result (RefusesFacts (found_view found)) }
     ensures language { language_of site.new ≡ language_of site.old }
     ensures memory { IfErr result (λ e. e.kind ≡ ErrorKind.Memory) }
 {

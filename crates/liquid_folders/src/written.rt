@@ -1,9 +1,11 @@
 //! The files of pages.
-ghost use Rattle.std.specs.Prelude.{◌≡◌, ◌++◌, not, Some, IfSome, IfOk, IfErr, OnOk};
+ghost use Rattle.std.specs.Prelude.{◌≡◌, ◌++◌, not, Some, IfSome, IfOk, IfErr, OnOk, option_map, string_bytes};
 ghost use Rattle.liquid_model.specs.Answer.{IsValueOrMemory};
+ghost use Rattle.liquid_model.specs.Errors.{HasMessageUnlessMemory};
 ghost use Rattle.liquid_sites.specs.Parts.{pages_in};
 ghost use Rattle.liquid_folders.specs.Files.{ChangesAt, is_held, holds, with_file};
-ghost use Rattle.liquid_folders.specs.Written.{IsStop, all_written, count_from, KeepsOthers};
+ghost use Rattle.liquid_folders.specs.Written.{IsStop, all_written, count_from, KeepsOthers, unwritten_message, TellsUnwritten};
+ghost use Rattle.liquid_folders.specs.inside.Needed.{NeededUnlessMemory};
 
 use crate::disk::{Disk, DiskFault};
 use crate::folder::joined;
@@ -23,6 +25,7 @@ pub(crate) fn write_pages<D: Disk>(
     ensures written { IfSome (D.files disk.old) (λ f. OnOk result (D.files disk.new ≡ Some (all_written out.now (pages_in pages.now) f))) }
     ensures count { IfSome (D.files disk.old) (λ f. IfOk result (λ n. n ≡ count_from 0 out.now (pages_in pages.now) f)) }
     ensures others { IfSome (D.files disk.old) (λ f. KeepsOthers out.now (pages_in pages.now) f (D.files disk.new)) }
+    ensures unwritten { IfSome (D.files disk.old) (λ f. IfErr result (TellsUnwritten out.now (pages_in pages.now) f (D.files disk.new))) }
     ensures stop { IfErr result (λ e. IsStop e.kind) }
 {
     let mut written: u64 = 0;
@@ -45,6 +48,8 @@ fn write_page<D: Disk>(
     ensures written { IfSome (D.files disk.old) (λ f. OnOk result (D.files disk.new ≡ Some (with_file f (out.now ++ name.now) (holds text.now)))) }
     ensures needed { IfSome (D.files disk.old) (λ f. IfOk result (λ b. b ≡ not (is_held (f (out.now ++ name.now)) text.now))) }
     ensures others { IfSome (D.files disk.old) (λ f. ChangesAt (out.now ++ name.now) f (D.files disk.new)) }
+    ensures unwritten { IfSome (D.files disk.old) (λ f. IfErr result (NeededUnlessMemory (f (out.now ++ name.now)) text.now)) }
+    ensures message { IfErr result (HasMessageUnlessMemory (unwritten_message (out.now ++ name.now))) }
     ensures stop { IfErr result (λ e. IsStop e.kind) }
 {
     let path = joined(alloc, out, name)?;
@@ -54,7 +59,7 @@ fn write_page<D: Disk>(
     match disk.write(path.as_str(), text) {
         Ok(()) => Ok(true),
         Err(DiskFault::Memory) => Err(Error::from(AllocError)),
-        Err(DiskFault::Refused) => Err(unwritten(alloc, path.as_str())),
+        Err(DiskFault::Refused) => Err(unwritten(alloc, path.as_str())?),
     }
 }
 
@@ -70,13 +75,11 @@ fn holds<D: Disk>(disk: &D, path: &str, text: &str) -> Result<bool>
     }
 }
 
-/// The fault of a file that isn't written.
-fn unwritten(alloc: Global, path: &str) -> Error
-    ensures { IsStop result.kind }
+/// The fault of a file that isn't written. Without memory there is none.
+fn unwritten(alloc: Global, path: &str) -> Result<Error>
+    ensures kind { IsValueOrMemory (λ fault. fault.kind) result ErrorKind.Write }
+    ensures message { IfOk result (λ fault. option_map string_bytes fault.message ≡ Some (unwritten_message path.now)) }
 {
-    Error::formatted(
-        alloc,
-        ErrorKind::Write,
-        format_args!("the file `{path}` can't be written"),
-    )
+    let message = format!(in alloc; "the file `{path}` can't be written")?;
+    Ok(Error::with_message(ErrorKind::Write, message))
 }

@@ -1,11 +1,23 @@
-use Rattle.std.proofs.Common.{◌∙◌}
+use Rattle.std.proofs.Common.{◌≡◌, ◌++◌, ◌∙◌, option_to_list, rules}
+use Rattle.std.proofs.lemmas.List.{drop_all}
 use Rattle.liquid_sites.specs.SiteViews.{contents_of, language_of}
-use Rattle.liquid_folders.proofs.Takes.{taken_on}
+use Rattle.liquid_folders.proofs.Takes.{taken_on, told_on, all_told}
+use Rattle.liquid_folders.proofs.rounds.take_all.Goals.{in-Some+in_ok-push, in_default}
 use Rattle.liquid_folders.proofs.rounds.take_all.Goals as goal
 
 pub loop-changed-preserved : goal.loop-changed-preserved
-loop-changed-preserved g c = record {
-  language = c.in_ok-refusal.ensures.language ∙ c.loop-changed.invariant.language;
-  taken = taken_on _ (language_of c.args.site.now) (language_of c.loop-changed.site) c.args.folder.now c.args.changes.now c.loop-changed.changed-index c.changed-item.result (contents_of c.args.site.now) (contents_of c.loop-changed.site) (contents_of c.take.new.site)
-      c.loop-changed.invariant.language c.changed-item.is c.loop-changed-test.true c.loop-changed.invariant.taken c.in_ok-refusal.ensures.taken;
-}
+loop-changed-preserved g c =
+    let before = c.loop-changed.refusals.items in
+    let refusal = c.in_ok-refusal.field-0 in
+    let joined : c.match-branch-2.refusals.items ≡ before ++ option_to_list refusal = elim c.match-branch-2.branch [ in-Some+in_ok-push w ↦ search rules | in_default w ↦ search rules ] in
+    record {
+      language = c.in_ok-refusal.ensures.language ∙ c.loop-changed.invariant.language;
+      taken = taken_on _ (language_of c.args.site.now) (language_of c.loop-changed.site) c.args.folder.now c.args.changes.now c.loop-changed.changed-index c.changed-item.result (contents_of c.args.site.now) (contents_of c.loop-changed.site)
+          (contents_of c.take.new.site) c.loop-changed.invariant.language c.changed-item.is c.loop-changed-test.true c.loop-changed.invariant.taken c.in_ok-refusal.ensures.taken;
+      told = told_on _ (language_of c.args.site.now) (language_of c.loop-changed.site) c.args.folder.now c.args.changes.now c.loop-changed.changed-index c.changed-item.result refusal before c.match-branch-2.refusals.items c.loop-changed.invariant.language
+          c.changed-item.is c.loop-changed-test.true c.loop-changed.invariant.told c.in_ok-refusal.ensures.refused c.in_ok-refusal.ensures.path joined;
+    }
+
+pub returns-clause-refusals : goal.returns-clause-refusals
+returns-clause-refusals g c =
+    all_told _ (language_of c.args.site.now) c.args.folder.now c.args.changes.now c.loop-changed.changed-index c.loop-changed.refusals.items (drop_all c.loop-changed.changed-index c.args.changes.now c.loop-changed-test.false) c.loop-changed.invariant.told

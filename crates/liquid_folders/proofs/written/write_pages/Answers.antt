@@ -1,11 +1,25 @@
-use Rattle.std.proofs.Common.{cond, string_bytes, sym, ap, ◌∙◌}
+use Rattle.std.proofs.Common.{◌≡◌, cond, string_bytes, sym, ap, ◌∙◌, rules}
+use Rattle.std.proofs.lemmas.Result.{err_from_is_err_and}
 use Rattle.liquid_model.specs.Texts.{Text}
 use Rattle.liquid_syntax.specs.Entries.{seen}
 use Rattle.liquid_lib.specs.Pages.{Shown, page_view}
 use Rattle.liquid_sites.specs.Parts.{pages_in}
 use Rattle.liquid_sites.specs.Steps.{raised}
-use Rattle.liquid_folders.proofs.Disks.{moved_on, ended_at}
+use Rattle.liquid_folders.proofs.Disks.{started, moved_on, ended_at, stopped_at}
 use Rattle.liquid_folders.proofs.written.write_pages.Goals as goal
+
+pub loop-name-init : goal.loop-name-init
+loop-name-init g c =
+    let all : c.into_iter-name-iterator.result ≡ c.args.pages.now.entries = search rules in
+    started _ c.args.out.now (pages_in c.args.pages.now) _ (ap (seen page_view) all)
+
+pub returns-in_err-write_page-clause-unwritten : goal.returns-in_err-write_page-clause-unwritten
+returns-in_err-write_page-clause-unwritten g c =
+    let p : Text × Shown = (string_bytes c.in-Some.name.now, page_view c.in-Some.page.now) in
+    let rest = seen page_view c.next.new.self in
+    let e = err_from_is_err_and c.from_residual.result c.from_residual.ensures.1 in
+    rw (e.1, e.2) (stopped_at _ _ _ c.args.out.now (pages_in c.args.pages.now) _ rest p c.as_str.result.now c.as_str-in-loop-name.result.now c.loop-name.written c.in_err-write_page.field-0.0 (ap (seen page_view) c.in-Some.ensures.steps) c.as_str.ensures.value
+    c.as_str-in-loop-name.ensures.value c.loop-name.invariant c.write_page.ensures.others c.in_err-write_page.ensures.unwritten c.in_err-write_page.ensures.message)
 
 pub returns-in_err-write_page-clause-others : goal.returns-in_err-write_page-clause-others
 returns-in_err-write_page-clause-others g c =
