@@ -9,24 +9,17 @@ fn set_page(alloc: Global, site: &mut Site, name: &str, source: &str) -> Result<
     site.apply(Change::SetPage(name, source))
 }
 
-/// Two pages, of which one shows a price.
-fn shop(alloc: Global) -> Result<Site> {
+/// The page `tea` of a site of two pages, of which one shows a price, and how many pages were rendered in all.
+pub(crate) fn shop(alloc: Global) -> Result<String> {
     let mut site = Site::new(alloc, language(alloc)?, 32);
     set_page(alloc, &mut site, "home", "Welcome")?;
     set_page(alloc, &mut site, "tea", "Tea: {{ price }} euros")?;
     // This renders the page `tea` alone, since `home` doesn't mention the name.
     let name = String::from_str(alloc, "price")?;
     site.apply(Change::SetValue(name, Value::Integer(4)))?;
-    Ok(site)
-}
-
-#[test]
-fn a_site(rt: HostRuntime) -> Result<()> {
-    let site = shop(rt.alloc())?;
     let tea = site
         .pages()
         .get("tea")
-        .is_some_and(|page| page.text.as_str() == "Tea: 4 euros");
-    assert!(&rt; tea && site.rendered() == 3);
-    Ok(())
+        .map_or("", |page| page.text.as_str());
+    Ok(format!(in alloc; "{tea}, {} renderings", site.rendered())?)
 }

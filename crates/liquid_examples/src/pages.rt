@@ -1,0 +1,63 @@
+//! Pages of a caller who names one crate. The README shows the first of them.
+use liquid_lib::stdlib::Upcase;
+use liquid_lib::{
+    Counted, FilterKind, Language, Object, Partials, Renderable, Result, Runtime, RuntimeBuilder,
+    Template, Value, language, parse, render_page, render_source,
+};
+use std::alloc::Global;
+
+/// A name and two numbers.
+fn data(alloc: Global) -> Result<Object> {
+    let mut numbers = Vec::new(alloc);
+    numbers.push(Value::Integer(1))?;
+    numbers.push(Value::Integer(2))?;
+    let mut data = Object::new(alloc);
+    let ada = String::from_str(alloc, "Ada")?;
+    data.insert(String::from_str(alloc, "name")?, Value::Text(ada))?;
+    data.insert(String::from_str(alloc, "numbers")?, Value::Array(numbers))?;
+    Ok(data)
+}
+
+/// A page as a text.
+pub(crate) fn page(alloc: Global) -> Result<String> {
+    let source = "{{ name }}:{% for n in numbers %} {{ n | times: 2 }}{% endfor %}";
+    let template: Template = parse(alloc, source, &language(alloc)?)?;
+    let mut runtime: Runtime<'_> = RuntimeBuilder::new(alloc)
+        .set_globals(data(alloc)?)
+        .build(alloc);
+    template.render(alloc, &mut runtime)
+}
+
+/// A page of a source that is rendered once, to a writer: here bytes in memory.
+pub(crate) fn page_in_bytes(alloc: Global) -> Result<Vec<u8>> {
+    let mut runtime = RuntimeBuilder::new(alloc)
+        .set_globals(data(alloc)?)
+        .build(alloc);
+    let bytes: Vec<u8> = Vec::new(alloc);
+    let mut writer = Counted::new(bytes);
+    let language = language(alloc)?;
+    render_source(alloc, "{{ name }}", &language, &mut writer, &mut runtime)?;
+    Ok(writer.into_inner())
+}
+
+/// A page that ends by a fault inside a partial: its text up to there, and the fault's kind.
+pub(crate) fn page_with_fault(alloc: Global) -> Result<String> {
+    let language = language(alloc)?;
+    let mut partials = Partials::new(alloc);
+    let row = parse(alloc, "{{ name }}, {{ age }}", &language)?;
+    partials.insert(String::from_str(alloc, "row")?, row)?;
+    let template = parse(alloc, "{% include 'row' %}", &language)?;
+    let page = render_page(alloc, &template, &partials, 1, &data(alloc)?)?;
+    let kind = page.fault.map_or("no fault", |fault| fault.kind.name());
+    Ok(format!(in alloc; "{}({kind})", page.text)?)
+}
+
+/// A page in a language of one filter, without tags and blocks.
+pub(crate) fn language_of_ones_own(alloc: Global) -> Result<String> {
+    let mut small = Language::new(alloc);
+    let name = String::from_str(alloc, "upcase")?;
+    small.filters.register(name, FilterKind::Upcase(Upcase))?;
+    let template = parse(alloc, "{{ 'b' | upcase }}", &small)?;
+    let mut runtime = RuntimeBuilder::new(alloc).build(alloc);
+    template.render(alloc, &mut runtime)
+}
