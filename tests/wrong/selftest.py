@@ -7,10 +7,10 @@ from crates import all_crates
 from edits import read_edit
 
 # the smallest crate that has edits of several functions
-CRATE = "liquid_tags"
-WRONG = "if_has_its_end.edit"
-HARMLESS = "assign_has_its_name.edit"
-BROKEN = "comment_has_its_end.edit"
+CRATE = "liquid_filter_base"
+WRONG = "whole_argument_of_nil.edit"
+HARMLESS = "a_text_argument_is_the_values_text.edit"
+BROKEN = "wrong_input_is_a_wrong_argument.edit"
 
 
 def selftest(run, tell):

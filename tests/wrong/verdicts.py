@@ -4,7 +4,8 @@ import re
 from edits import sources, span_of, text_of
 from functions import first_line
 
-ERROR = re.compile(r"^(?:note: )?(?:\./)?(\S+?):(\d+):\d+: (?:error: )?(.*)$", re.M)
+# an error, with the line that goes on with it where it is long
+ERROR = re.compile(r"^(?:note: )?(?:\./)?(\S+?):(\d+):\d+: (?:error: )?(.*(?:\n  \S.*)?)$", re.M)
 # a proof file that names what an edit took away, which says nothing of the contract
 LOST_NAME = re.compile(r"has no field|is not in scope|has no `|was not admitted")
 # what the prover can't even read
@@ -75,7 +76,9 @@ def stands_in(name, function, path, what, fits):
     goal = re.match(r"`([^`]+)`", what)
     if function.cycle:
         return f"/+{function.cycle}/" in path and bool(goal) and fits(goal[1])
-    return path.startswith(f"proofs/{name.split('::', 1)[1].replace('::', '/')}/") and (not goal or fits(goal[1]))
+    folder, _, own = f"proofs/{name.split('::', 1)[1].replace('::', '/')}/".rstrip("/").rpartition("/")
+    # a function that calls itself is a cycle of its own
+    return path.startswith((f"{folder}/{own}/", f"{folder}/+{own}/")) and (not goal or fits(goal[1]))
 
 
 def refused_alone(texts, said):
