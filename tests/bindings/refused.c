@@ -2,8 +2,8 @@
  * its first request refused, then with its second, and so on, up to the first that makes no such request. A call that was refused a
  * request has to answer BIKLEINU_MEMORY, and called again what it answered at first, and no other call may answer otherwise than at
  * first. A row is a line with the numbers of bytes of its source and its data and how many partials it has, those bytes, and for each
- * partial a line with the numbers of bytes of its name and its source, and those. A line tells each thing that isn't well, and the last
- * one "rows: N calls: N refused: N". */
+ * partial a line with the numbers of bytes of its name and its source, and those. When its handles are freed, a row must leave no memory
+ * behind, which no proof speaks of. A line tells each thing that isn't well, and the last one "rows: N calls: N refused: N". */
 #define _GNU_SOURCE
 #include <stdio.h>
 #include <stdlib.h>
@@ -12,17 +12,33 @@
 #include "bikleinu.h"
 
 extern void *__libc_malloc(size_t), *__libc_realloc(void *, size_t);
+extern void __libc_free(void *);
 
 enum { MOST = 200 };
 
-static size_t requests, refused_at;
+/* blocks: how many pieces of memory are taken and not given back. */
+static size_t requests, refused_at, blocks;
 static bool counts;
 
 /* Whether this request is the one that is refused. */
 static bool is_refused(void) { return counts && ++requests == refused_at; }
 
-void *malloc(size_t size) { return is_refused() ? NULL : __libc_malloc(size); }
-void *realloc(void *old, size_t size) { return is_refused() ? NULL : __libc_realloc(old, size); }
+void *malloc(size_t size) {
+    void *made = is_refused() ? NULL : __libc_malloc(size);
+    blocks += made != NULL;
+    return made;
+}
+
+void *realloc(void *old, size_t size) {
+    void *made = is_refused() ? NULL : __libc_realloc(old, size);
+    blocks += !old && made;
+    return made;
+}
+
+void free(void *old) {
+    blocks -= old != NULL;
+    __libc_free(old);
+}
 
 typedef struct {
     uint8_t *at;
@@ -138,6 +154,7 @@ int main(void) {
     while (scanf("%zu %zu %zu", &source, &data, &count) == 3) {
         getchar();
         rows++;
+        size_t before = blocks;
         row it = {.source = take(source)};
         it.data = take(data);
         each("partials", make_partials, &it, PARTIALS, false);
@@ -145,8 +162,10 @@ int main(void) {
         well = !each("data", read_data, &it, DATA, false) && well;
         if (put_partials(count) && well) each("render", render, &it, PAGE, false);
         free(it.source.at), free(it.data.at);
+        for (int at = TEMPLATE; at < HANDLES; at++) bikleinu_free(&held[at]);
+        if (blocks != before) told("all its calls", 0, BIKLEINU_DONE, "and memory is left behind");
     }
-    for (int at = 0; at < HANDLES; at++) bikleinu_free(&held[at]);
+    bikleinu_free(&held[LANGUAGE]);
     printf("rows: %zu calls: %zu refused: %zu\n", rows, calls, refused);
     return wrong != 0;
 }

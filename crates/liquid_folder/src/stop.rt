@@ -1,4 +1,7 @@
 //! Why the program ends before its input does.
+ghost use Rattle.std.specs.Prelude.{◌≡◌};
+ghost use Rattle.liquid_folder.specs.Stops.{status_of};
+
 use liquid_core::Error;
 use std::alloc::{AllocError, AllocFailed, Global};
 use std::{fmt, io};
@@ -26,10 +29,12 @@ impl Stop {
     }
 
     /// The status that the program ends with.
-    pub fn status(&self) -> u8 {
+    pub fn status(&self) -> u8
+        ensures { result ≡ status_of self.now }
+    {
         match self {
             Stop::Usage => 2,
-            _ => 1,
+            Stop::Unread(_) | Stop::Fault(_) | Stop::Streams(_) => 1,
         }
     }
 }

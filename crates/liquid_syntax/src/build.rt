@@ -204,9 +204,7 @@ impl Builder {
         let open = self.blocks.last()?;
         match open.stage {
             Stage::First => Some(open.block),
-            Stage::Last => None,
-            Stage::Unkept => None,
-            Stage::Armed => None,
+            Stage::Last | Stage::Unkept | Stage::Armed => None,
         }
     }
 

@@ -1,5 +1,7 @@
 //! The nodes of a template.
 
+ghost use Rattle.std.specs.Prelude.{◌≡◌};
+
 use crate::loop_nodes::{Each, For, TableRow};
 use liquid_core::Expression;
 use liquid_tree::{Condition, FilterChain};
@@ -20,7 +22,10 @@ pub struct TwoBodies {
 
 impl TwoBodies {
     /// The bodies of a node of which it isn't known yet where they end.
-    pub fn open() -> TwoBodies {
+    pub fn open() -> TwoBodies
+        ensures first { result.first_end ≡ 0 }
+        ensures last { result.last_end ≡ 0 }
+    {
         TwoBodies {
             first_end: 0,
             last_end: 0,

@@ -167,7 +167,7 @@ static FILTERS: [(&str, &str); 41] = [
 ];
 
 /// The name of a filter that has no like here, and what is told of it.
-static LACKING: [(&str, &str); 12] = [
+static LACKING: [(&str, &str); 19] = [
     ("json", "a `for` shows a list or a map piece by piece"),
     ("to_json", "a `for` shows a list or a map piece by piece"),
     ("tojson", "a `for` shows a list or a map piece by piece"),
@@ -179,6 +179,13 @@ static LACKING: [(&str, &str); 12] = [
     ("markdownify", "it is of Jekyll"),
     ("relative_url", "it is of Jekyll"),
     ("absolute_url", "it is of Jekyll"),
+    ("group_by", "it is of Jekyll"),
+    ("where_exp", "it is of Jekyll"),
+    ("date_to_string", "write `date: '%d %b %Y'`"),
+    ("date_to_long_string", "write `date: '%d %B %Y'`"),
+    ("sum", "add in a `for`, by `assign` and `plus`"),
+    ("base64_encode", "let the data bring the encoded text"),
+    ("base64_decode", "let the data bring the decoded text"),
     ("to_s", "an output shows any value as a text"),
 ];
 
