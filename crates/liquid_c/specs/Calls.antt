@@ -17,7 +17,7 @@ use Rattle.liquid_syntax.specs.declared.language.Language.{Language}
 use Rattle.liquid_syntax.specs.declared.partials.Partials.{Partials}
 use Rattle.liquid_lib.specs.Pages.{page_over, page_view}
 use Rattle.liquid_lib.specs.Standard.{IsStandard}
-use Rattle.liquid_site.specs.Json.{data_of}
+use Rattle.liquid_json.specs.Json.{data_of}
 use Rattle.liquid_c.specs.Numbers.{number_of_refusal}
 use Rattle.liquid_c.specs.declared.held.Held.{Held}
 use Rattle.liquid_c.specs.declared.held.Held.TheVariants as held

@@ -7,7 +7,7 @@ use crate::handle::Handle;
 use crate::held::Held;
 use crate::refusal::{Refusal, settle};
 use liquid_lib::{Partials, language};
-use liquid_site::data_from_json;
+use liquid_json::data_from_json;
 use std::alloc::Global;
 
 /// Makes the standard language. 0, or `Memory`.

@@ -2,13 +2,13 @@
 ghost use Rattle.std.specs.Prelude.{IfOk};
 ghost use Rattle.liquid_model.specs.Answer.{Answers};
 ghost use Rattle.liquid_lib.specs.Standard.{IsStandard};
-ghost use Rattle.liquid_site.specs.Json.{data_of};
+ghost use Rattle.liquid_json.specs.Json.{data_of};
 ghost use Rattle.liquid_sites.specs.SiteViews.{contents_of, language_of};
 ghost use Rattle.liquid_folders.specs.Start.{site_over};
 
 use liquid_core::Result;
 use liquid_lib::language;
-use liquid_site::data_from_json;
+use liquid_json::data_from_json;
 use liquid_sites::Site;
 use std::alloc::Global;
 

@@ -14,7 +14,7 @@ use crate::disk::{Disk, DiskFault};
 use crate::facts::change_facts;
 use crate::folder::{Changed, Folder, path_of};
 use liquid_core::{Error, ErrorKind, Result};
-use liquid_site::data_from_json;
+use liquid_json::data_from_json;
 use liquid_sites::{Change, Site};
 use std::alloc::{AllocError, Global};
 

@@ -2,7 +2,7 @@
 use liquid_core::{Filter, Object, Result, Value};
 use liquid_filters::{FilterKind, jekyll};
 use liquid_lib::STANDARD_FILTERS;
-use liquid_site::data_from_json;
+use liquid_json::data_from_json;
 use std::alloc::Global;
 
 /// A call of a filter and how it must end, or the numbers of arguments that the filter accepts.

@@ -12,7 +12,7 @@ use Rattle.liquid_meaning.proofs.RunKinds.{kinds_of_own_runs}
 use Rattle.serde_json.specs.Data as json
 use Rattle.serde_json.specs.Find.{as_i64}
 use Rattle.serde_json.specs.Read.{read}
-use Rattle.liquid_site.specs.Json.{whole_number, datum_of, items_of, pairs_of, object_of, object_read}
+use Rattle.liquid_json.specs.Json.{whole_number, datum_of, items_of, pairs_of, object_of, object_read}
 use Rattle.liquid_site.specs.Page.{Texts, Refused, no_template, no_facts, bad_partial, IsPage, page, no_page}
 use Rattle.liquid_site.specs.PageLaw.{KindsOfPages}
 

@@ -14,7 +14,7 @@ use Rattle.liquid_syntax.specs.declared.language.Language.{Language}
 use Rattle.liquid_lib.specs.Added.{AppendsPart}
 use Rattle.liquid_lib.specs.Performs.{answer_of, is_refused, unit}
 use Rattle.liquid_lib.specs.Standard.{IsStandard}
-use Rattle.liquid_site.specs.Json.{data_of}
+use Rattle.liquid_json.specs.Json.{data_of}
 use Rattle.liquid_site.specs.Page.{Texts, Sources, HasBadPartial, Read, IsRead, Refused, no_template, no_facts, bad_partial, page, no_page, page_outcome}
 use Rattle.liquid_site.specs.Shown.{Reads, ReadsPartials, Shows, RanOut}
 

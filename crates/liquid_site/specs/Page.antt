@@ -17,7 +17,7 @@ use Rattle.liquid_syntax.specs.declared.language.Language.{Language}
 use Rattle.liquid_meaning.specs.Runs.{Nothing, Outcome}
 use Rattle.liquid_meaning.specs.Meaning.{meaning}
 use Rattle.liquid_lib.specs.Standard.{IsStandard}
-use Rattle.liquid_site.specs.Json.{data_of}
+use Rattle.liquid_json.specs.Json.{data_of}
 
 -- names and texts of partials, in their order
 abbrev pub Sources : Type 0

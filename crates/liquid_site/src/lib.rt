@@ -1,13 +1,9 @@
-//! Pages from texts: data from JSON, and a page of its template, data and partials.
+//! Pages from texts: a page of its template, its data in JSON and its partials.
 #![tactic(auto)]
 
-mod json_data;
-mod json_place;
 mod laws;
 mod page;
-mod tokens;
-mod whole;
 
-pub use json_data::data_from_json;
 pub use laws::page_law;
+pub use liquid_json::data_from_json;
 pub use page::{run, run_last};

@@ -8,8 +8,8 @@ ghost use Rattle.liquid_lib.specs.Performs.{answer_of, is_refused, unit};
 ghost use Rattle.liquid_site.specs.Page.{page_outcome, sources_of};
 ghost use Rattle.liquid_site.specs.Shown.{RanOut, Reads, ReadsPartials, ShowsStandard, read_view};
 
-use crate::json_data::data_from_json;
 use liquid_core::{Error, ErrorKind, Object, Result};
+use liquid_json::data_from_json;
 use liquid_lib::{CountedWrite, Renderable, RuntimeBuilder, language};
 use liquid_syntax::{Language, Partials, Template, parse};
 use std::alloc::Global;

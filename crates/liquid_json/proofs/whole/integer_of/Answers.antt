@@ -2,7 +2,7 @@ use Rattle.std.proofs.Common.{◌≡◌, drop, get_or, true, false, Some, IfSome
 use Rattle.fast_float.specs.Text.{scan}
 use Rattle.serde_json.specs.Find.{as_i64}
 use Rattle.serde_json.specs.Read.{number_of, number_from}
-use Rattle.liquid_site.proofs.whole.integer_of.Goals as goal
+use Rattle.liquid_json.proofs.whole.integer_of.Goals as goal
 
 pub returns-then-has_minus : goal.returns-then-has_minus
 unfolding number_of

@@ -5,7 +5,7 @@ use Rattle.liquid_model.specs.Data.{Items, no_items, item}
 use Rattle.liquid_model.specs.View.{view, items_view}
 use Rattle.liquid_model.specs.declared.error.ErrorKind.{ErrorKind}
 use Rattle.liquid_model.specs.declared.value.Value.{Value}
-use Rattle.liquid_site.specs.Json.{datum_of, items_of}
+use Rattle.liquid_json.specs.Json.{datum_of, items_of}
 use Rattle.serde_json.specs.View.{view as json_view, items_view as json_items}
 use Rattle.serde_json.specs.declared.value.Value as json
 

@@ -2,9 +2,9 @@ use Rattle.std.proofs.Common.{◌≡◌, ℕ, ◌+◌, ◌*◌, ◌≤◌, lengt
 use Rattle.json.specs.Json.{parse_map}
 use Rattle.liquid_model.specs.Data.{no_pairs}
 use Rattle.liquid_model.specs.View.{pairs_view}
-use Rattle.liquid_site.specs.inside.Tokens.{items_at, pairs_at}
-use Rattle.liquid_site.proofs.After.{after}
-use Rattle.liquid_site.proofs.tokens.+read.Given as goal
+use Rattle.liquid_json.specs.inside.Tokens.{items_at, pairs_at}
+use Rattle.liquid_json.proofs.After.{after}
+use Rattle.liquid_json.proofs.tokens.+read.Given as goal
 
 abbrev pub decreases-read : goal.decreases-read
 decreases-read l = 2 * l.depth

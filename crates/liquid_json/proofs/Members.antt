@@ -13,7 +13,7 @@ use Rattle.liquid_model.proofs.Views.{pairs_view-insert_entry}
 use Rattle.liquid_model.specs.View.{view, pairs_view}
 use Rattle.liquid_model.specs.declared.value.Value.{Value as CoreValue}
 use Rattle.std.specs.BTreeMap.{insert_entry}
-use Rattle.liquid_site.specs.Json.{datum_of, pairs_of}
+use Rattle.liquid_json.specs.Json.{datum_of, pairs_of}
 use Rattle.serde_json.specs.Data as json
 use Rattle.serde_json.specs.View.{members_view as json_members}
 use Rattle.serde_json.specs.declared.value.Value.{Value}

@@ -11,9 +11,9 @@ use Rattle.json.specs.Json as json
 use Rattle.serde_json.specs.Data as tree
 use Rattle.serde_json.specs.Find.{as_i64}
 use Rattle.serde_json.specs.Read.{of_json, of_items, of_members, number_of, converted}
-use Rattle.liquid_site.specs.Json.{whole_number, datum_of, items_of, pairs_of, object_of, object_read}
-use Rattle.liquid_site.specs.inside.Tokens as plain
-use Rattle.liquid_site.proofs.Turns.{converted_some}
+use Rattle.liquid_json.specs.Json.{whole_number, datum_of, items_of, pairs_of, object_of, object_read}
+use Rattle.liquid_json.specs.inside.Tokens as plain
+use Rattle.liquid_json.proofs.Turns.{converted_some}
 
 -- ---- a member put in
 

@@ -4,8 +4,8 @@ ghost use Rattle.json.specs.Json.{value, items, members};
 ghost use Rattle.serde_json.specs.Read.{converted};
 ghost use Rattle.liquid_model.specs.Data.{no_pairs};
 ghost use Rattle.liquid_model.specs.View.{view, items_view, pairs_view};
-ghost use Rattle.liquid_site.specs.Json.{data_of};
-ghost use Rattle.liquid_site.specs.inside.Tokens.{datum_at, items_at, pairs_at, integer_of};
+ghost use Rattle.liquid_json.specs.Json.{data_of};
+ghost use Rattle.liquid_json.specs.inside.Tokens.{datum_at, items_at, pairs_at, integer_of};
 
 use crate::whole::integer_of;
 use json::{Invalid, Reader, Scratch, Token};

@@ -2,10 +2,10 @@
 ghost use Rattle.std.specs.Prelude.{◌≡◌};
 ghost use Rattle.liquid_model.specs.Answer.{Answers};
 ghost use Rattle.liquid_model.specs.View.{view, items_view, pairs_view};
-ghost use Rattle.liquid_site.specs.Json.{datum_of, items_of, pairs_of, object_of, data_of};
+ghost use Rattle.liquid_json.specs.Json.{datum_of, items_of, pairs_of, object_of, data_of};
 ghost use Rattle.serde_json.specs.View.{view as json_view, items_view as json_items, members_view as json_members};
 
-use crate::json_place::{bytes_left, no_json, with_place};
+use crate::place::{bytes_left, no_json, with_place};
 use crate::tokens::data_from_tokens;
 use liquid_core::{Error, ErrorKind, Object, Result, Value};
 use serde_json::Map;

@@ -9,10 +9,10 @@ use Rattle.liquid_model.specs.Data.{truth, nil, number, text, array, object, put
 use Rattle.liquid_model.specs.View.{view, pairs_view}
 use Rattle.liquid_model.specs.declared.value.Value.{Text, Integer, Bool, Nil, the_lemmas}
 use Rattle.liquid_model.proofs.Views.{view-Array, view-Object, pairs_view-insert_entry}
-use Rattle.liquid_site.specs.inside.Tokens.{datum_of, pairs_of, items_at}
-use Rattle.liquid_site.proofs.After.{after, after_none}
-use Rattle.liquid_site.proofs.Turns.{converted-array, converted-object, item_read, items_over, pair_read, pairs_over, none_before, one_more_item}
-use Rattle.liquid_site.proofs.tokens.+read.Goals as goal
+use Rattle.liquid_json.specs.inside.Tokens.{datum_of, pairs_of, items_at}
+use Rattle.liquid_json.proofs.After.{after, after_none}
+use Rattle.liquid_json.proofs.Turns.{converted-array, converted-object, item_read, items_over, pair_read, pairs_over, none_before, one_more_item}
+use Rattle.liquid_json.proofs.tokens.+read.Goals as goal
 
 pub read-returns-in_ok-from_str-in-String-clause-ok : goal.read-returns-in_ok-from_str-in-String-clause-ok
 read-returns-in_ok-from_str-in-String-clause-ok t c =

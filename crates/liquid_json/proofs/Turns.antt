@@ -8,8 +8,8 @@ use Rattle.serde_json.specs.Read.{converted}
 use Rattle.liquid_model.specs.Data.{Datum, array, object, Items, no_items, item, Pairs, no_pairs, put}
 use Rattle.liquid_model.specs.View.{view}
 use Rattle.liquid_model.specs.declared.value.Value.{Value}
-use Rattle.liquid_site.specs.inside.Tokens.{datum_of, items_of, pairs_of}
-use Rattle.liquid_site.proofs.After.{after, after_next}
+use Rattle.liquid_json.specs.inside.Tokens.{datum_of, items_of, pairs_of}
+use Rattle.liquid_json.proofs.After.{after, after_next}
 
 abbrev pick : {A : Type 0} → A → Option A → A
 pick d None = d

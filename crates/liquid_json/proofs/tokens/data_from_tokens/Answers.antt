@@ -4,8 +4,8 @@ use Rattle.json.specs.Lex.{tokens}
 use Rattle.liquid_model.specs.Data.{object}
 use Rattle.liquid_model.specs.View.{view, pairs_view}
 use Rattle.liquid_model.proofs.Views.{view-Object}
-use Rattle.liquid_site.proofs.Plain.{whole_plain}
-use Rattle.liquid_site.proofs.tokens.data_from_tokens.Goals as goal
+use Rattle.liquid_json.proofs.Plain.{whole_plain}
+use Rattle.liquid_json.proofs.tokens.data_from_tokens.Goals as goal
 
 pub returns-in-Object : goal.returns-in-Object
 returns-in-Object c =

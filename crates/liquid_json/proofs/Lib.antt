@@ -1,0 +1,4 @@
+mod After
+mod Members
+mod Plain
+mod Turns

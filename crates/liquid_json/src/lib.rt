@@ -1,0 +1,9 @@
+//! Data from JSON: a text read as an object of Liquid's values, and where a text that isn't one has its fault.
+#![tactic(auto)]
+
+mod data;
+mod place;
+mod tokens;
+mod whole;
+
+pub use data::data_from_json;
