@@ -28,7 +28,7 @@ impl TagReflection for IncludeTag {
 }
 
 impl From<IncludeTag> for TagKind {
-    ghost use Rattle.liquid_syntax.specs.declared.language.TagKind.TheVariants.{JekyllInclude};
+    ghost use Rattle.liquid_language.specs.declared.language.TagKind.TheVariants.{JekyllInclude};
 
     ghost from_gives = { λ tag kind. kind ≡ JekyllInclude };
 

@@ -33,7 +33,7 @@ impl BlockReflection for CaptureBlock {
 }
 
 impl From<CaptureBlock> for BlockKind {
-    ghost use Rattle.liquid_syntax.specs.declared.language.BlockKind.TheVariants.{Capture};
+    ghost use Rattle.liquid_language.specs.declared.language.BlockKind.TheVariants.{Capture};
 
     ghost from_gives = { λ block kind. kind ≡ Capture };
 

@@ -33,7 +33,7 @@ impl BlockReflection for CaseBlock {
 }
 
 impl From<CaseBlock> for BlockKind {
-    ghost use Rattle.liquid_syntax.specs.declared.language.BlockKind.TheVariants.{Case};
+    ghost use Rattle.liquid_language.specs.declared.language.BlockKind.TheVariants.{Case};
 
     ghost from_gives = { λ block kind. kind ≡ Case };
 

@@ -32,7 +32,7 @@ impl BlockReflection for CommentBlock {
 }
 
 impl From<CommentBlock> for BlockKind {
-    ghost use Rattle.liquid_syntax.specs.declared.language.BlockKind.TheVariants.{Comment};
+    ghost use Rattle.liquid_language.specs.declared.language.BlockKind.TheVariants.{Comment};
 
     ghost from_gives = { λ block kind. kind ≡ Comment };
 

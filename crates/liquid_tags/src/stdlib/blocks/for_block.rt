@@ -32,7 +32,7 @@ impl BlockReflection for ForBlock {
 }
 
 impl From<ForBlock> for BlockKind {
-    ghost use Rattle.liquid_syntax.specs.declared.language.BlockKind.TheVariants.{For};
+    ghost use Rattle.liquid_language.specs.declared.language.BlockKind.TheVariants.{For};
 
     ghost from_gives = { λ block kind. kind ≡ For };
 

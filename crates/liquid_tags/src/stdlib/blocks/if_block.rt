@@ -33,7 +33,7 @@ impl BlockReflection for IfBlock {
 }
 
 impl From<IfBlock> for BlockKind {
-    ghost use Rattle.liquid_syntax.specs.declared.language.BlockKind.TheVariants.{If};
+    ghost use Rattle.liquid_language.specs.declared.language.BlockKind.TheVariants.{If};
 
     ghost from_gives = { λ block kind. kind ≡ If };
 

@@ -32,7 +32,7 @@ impl BlockReflection for IfChangedBlock {
 }
 
 impl From<IfChangedBlock> for BlockKind {
-    ghost use Rattle.liquid_syntax.specs.declared.language.BlockKind.TheVariants.{IfChanged};
+    ghost use Rattle.liquid_language.specs.declared.language.BlockKind.TheVariants.{IfChanged};
 
     ghost from_gives = { λ block kind. kind ≡ IfChanged };
 

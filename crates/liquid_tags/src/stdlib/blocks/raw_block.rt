@@ -32,7 +32,7 @@ impl BlockReflection for RawBlock {
 }
 
 impl From<RawBlock> for BlockKind {
-    ghost use Rattle.liquid_syntax.specs.declared.language.BlockKind.TheVariants.{Raw};
+    ghost use Rattle.liquid_language.specs.declared.language.BlockKind.TheVariants.{Raw};
 
     ghost from_gives = { λ block kind. kind ≡ Raw };
 

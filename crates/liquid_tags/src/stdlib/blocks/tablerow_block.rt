@@ -32,7 +32,7 @@ impl BlockReflection for TableRowBlock {
 }
 
 impl From<TableRowBlock> for BlockKind {
-    ghost use Rattle.liquid_syntax.specs.declared.language.BlockKind.TheVariants.{TableRow};
+    ghost use Rattle.liquid_language.specs.declared.language.BlockKind.TheVariants.{TableRow};
 
     ghost from_gives = { λ block kind. kind ≡ TableRow };
 

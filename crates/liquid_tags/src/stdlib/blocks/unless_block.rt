@@ -32,7 +32,7 @@ impl BlockReflection for UnlessBlock {
 }
 
 impl From<UnlessBlock> for BlockKind {
-    ghost use Rattle.liquid_syntax.specs.declared.language.BlockKind.TheVariants.{Unless};
+    ghost use Rattle.liquid_language.specs.declared.language.BlockKind.TheVariants.{Unless};
 
     ghost from_gives = { λ block kind. kind ≡ Unless };
 

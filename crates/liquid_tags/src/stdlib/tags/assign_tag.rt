@@ -28,7 +28,7 @@ impl TagReflection for AssignTag {
 }
 
 impl From<AssignTag> for TagKind {
-    ghost use Rattle.liquid_syntax.specs.declared.language.TagKind.TheVariants.{Assign};
+    ghost use Rattle.liquid_language.specs.declared.language.TagKind.TheVariants.{Assign};
 
     ghost from_gives = { λ tag kind. kind ≡ Assign };
 

@@ -29,7 +29,7 @@ impl TagReflection for CycleTag {
 }
 
 impl From<CycleTag> for TagKind {
-    ghost use Rattle.liquid_syntax.specs.declared.language.TagKind.TheVariants.{Cycle};
+    ghost use Rattle.liquid_language.specs.declared.language.TagKind.TheVariants.{Cycle};
 
     ghost from_gives = { λ tag kind. kind ≡ Cycle };
 

@@ -28,7 +28,7 @@ impl TagReflection for IncludeTag {
 }
 
 impl From<IncludeTag> for TagKind {
-    ghost use Rattle.liquid_syntax.specs.declared.language.TagKind.TheVariants.{Include};
+    ghost use Rattle.liquid_language.specs.declared.language.TagKind.TheVariants.{Include};
 
     ghost from_gives = { λ tag kind. kind ≡ Include };
 

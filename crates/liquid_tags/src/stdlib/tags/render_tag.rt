@@ -29,7 +29,7 @@ impl TagReflection for RenderTag {
 }
 
 impl From<RenderTag> for TagKind {
-    ghost use Rattle.liquid_syntax.specs.declared.language.TagKind.TheVariants.{Render};
+    ghost use Rattle.liquid_language.specs.declared.language.TagKind.TheVariants.{Render};
 
     ghost from_gives = { λ tag kind. kind ≡ Render };
 
