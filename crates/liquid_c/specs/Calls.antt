@@ -10,10 +10,10 @@ use Rattle.liquid_model.specs.View.{pairs_view}
 use Rattle.liquid_model.specs.declared.error.ErrorKind.TheVariants.{Memory}
 use Rattle.liquid_core.specs.Held.{held as map_held}
 use Rattle.liquid_tree.specs.Tree.{Nodes}
-use Rattle.liquid_syntax.specs.Entries.{put}
+use Rattle.liquid_language.specs.Entries.{put}
 use Rattle.liquid_syntax.specs.Parsing.{IsOnlyTree, HasNoTree, MayRefuse}
 use Rattle.liquid_syntax.specs.Templates.{tree_of, partials_of}
-use Rattle.liquid_syntax.specs.declared.language.Language.{Language}
+use Rattle.liquid_language.specs.declared.language.Language.{Language}
 use Rattle.liquid_syntax.specs.declared.partials.Partials.{Partials}
 use Rattle.liquid_lib.specs.Pages.{page_over, page_view}
 use Rattle.liquid_lib.specs.Standard.{IsStandard}

@@ -9,7 +9,7 @@ use Rattle.liquid_model.specs.ErrorKinds.{is_memory, is_refusal}
 use Rattle.liquid_model.specs.declared.error.Error.{Error}
 use Rattle.liquid_model.specs.declared.error.ErrorKind.{ErrorKind}
 use Rattle.liquid_syntax.specs.Parsing.{IsOfSource}
-use Rattle.liquid_syntax.specs.declared.language.Language.{Language}
+use Rattle.liquid_language.specs.declared.language.Language.{Language}
 use Rattle.liquid_json.specs.Json.{data_of}
 use Rattle.liquid_sites.specs.Applied.{Refused, HasBadSource}
 use Rattle.liquid_sites.specs.Contents.{Contents}

@@ -5,7 +5,7 @@ use Rattle.liquid_model.specs.declared.error.ErrorKind.{ErrorKind}
 use Rattle.liquid_core.specs.Held.{map_of}
 use Rattle.liquid_tree.specs.Tree.{Nodes}
 use Rattle.liquid_syntax.specs.Parsing.{IsOnlyTree, HasNoTree}
-use Rattle.liquid_syntax.specs.declared.language.Language.{Language}
+use Rattle.liquid_language.specs.declared.language.Language.{Language}
 use Rattle.liquid_json.specs.Json.{data_of}
 use Rattle.liquid_sites.specs.Contents.{Contents}
 use Rattle.liquid_sites.specs.Steps.{Step, set_page, remove_page, set_partial, remove_partial, stepped}

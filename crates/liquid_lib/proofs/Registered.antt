@@ -7,8 +7,8 @@ use Rattle.liquid_model.specs.Maps.{Map, insert, listed}
 use Rattle.liquid_model.specs.Texts.{Text, same_text}
 use Rattle.liquid_filters.specs.Kinds.{kind_name}
 use Rattle.liquid_filters.specs.declared.kind.FilterKind.{FilterKind}
-use Rattle.liquid_syntax.specs.declared.registered_filter.RegisteredFilter.{RegisteredFilter}
-use Rattle.liquid_syntax.specs.declared.registered_filter.RegisteredFilter.TheVariants.{Kind}
+use Rattle.liquid_language.specs.declared.registered_filter.RegisteredFilter.{RegisteredFilter}
+use Rattle.liquid_language.specs.declared.registered_filter.RegisteredFilter.TheVariants.{Kind}
 use Rattle.liquid_lib.specs.Standard.{IsCalled, AreNamed, with_filters}
 
 -- the filter at a name is called so

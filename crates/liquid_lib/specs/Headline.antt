@@ -4,7 +4,7 @@ use Rattle.liquid_model.specs.Texts.{Text}
 use Rattle.liquid_model.specs.declared.error.Error.{Error}
 use Rattle.liquid_model.specs.declared.error.ErrorKind.TheVariants.{Memory}
 use Rattle.liquid_syntax.specs.Parsing.{IsOnlyTree, HasNoTree, IsOfSource}
-use Rattle.liquid_syntax.specs.declared.language.Language.{Language}
+use Rattle.liquid_language.specs.declared.language.Language.{Language}
 use Rattle.liquid_tree.specs.Tree.{Nodes}
 
 -- The source has one tree, whose run is as told; or it has none, which a kind of a source tells, and all is as it was; or memory ran out before the run, and all is as it was.

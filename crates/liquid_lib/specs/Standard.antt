@@ -5,15 +5,15 @@ use Rattle.liquid_model.specs.Texts.{Text}
 use Rattle.liquid_core.specs.Environment.{bind_each}
 use Rattle.liquid_filters.specs.Kinds.{kind_name}
 use Rattle.liquid_filters.specs.declared.kind.FilterKind.{FilterKind}
-use Rattle.liquid_syntax.specs.Languages.{kinds_of}
-use Rattle.liquid_syntax.specs.Registered.{registered_in}
-use Rattle.liquid_syntax.specs.declared.language.BlockKind.{BlockKind}
-use Rattle.liquid_syntax.specs.declared.language.BlockKind.TheVariants.{Raw, Comment, If, Unless, Case, Capture, IfChanged, For, TableRow}
-use Rattle.liquid_syntax.specs.declared.language.Language.{Language}
-use Rattle.liquid_syntax.specs.declared.language.TagKind.{TagKind}
-use Rattle.liquid_syntax.specs.declared.language.TagKind.TheVariants.{Assign, Break, Continue, Increment, Decrement, Cycle, Include, Render}
-use Rattle.liquid_syntax.specs.declared.registered_filter.RegisteredFilter.{RegisteredFilter}
-use Rattle.liquid_syntax.specs.declared.registered_filter.RegisteredFilter.TheVariants.{Kind, Host}
+use Rattle.liquid_language.specs.Languages.{kinds_of}
+use Rattle.liquid_language.specs.Registered.{registered_in}
+use Rattle.liquid_language.specs.declared.language.BlockKind.{BlockKind}
+use Rattle.liquid_language.specs.declared.language.BlockKind.TheVariants.{Raw, Comment, If, Unless, Case, Capture, IfChanged, For, TableRow}
+use Rattle.liquid_language.specs.declared.language.Language.{Language}
+use Rattle.liquid_language.specs.declared.language.TagKind.{TagKind}
+use Rattle.liquid_language.specs.declared.language.TagKind.TheVariants.{Assign, Break, Continue, Increment, Decrement, Cycle, Include, Render}
+use Rattle.liquid_language.specs.declared.registered_filter.RegisteredFilter.{RegisteredFilter}
+use Rattle.liquid_language.specs.declared.registered_filter.RegisteredFilter.TheVariants.{Kind, Host}
 
 -- the standard tags, each under its name
 abbrev pub standard_tags : List (Text × TagKind)

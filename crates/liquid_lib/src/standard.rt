@@ -4,9 +4,9 @@ ghost use Rattle.liquid_model.specs.Answer.{IsValueOrMemory};
 ghost use Rattle.liquid_model.specs.Maps.{insert, listed};
 ghost use Rattle.liquid_core.specs.Environment.{bind_each};
 ghost use Rattle.liquid_lib.specs.Standard.{IsStandard, standard_blocks, standard_tags, with_filters};
-ghost use Rattle.liquid_syntax.specs.Languages.{kinds_of};
-ghost use Rattle.liquid_syntax.specs.Registered.{registered_in};
-ghost use Rattle.liquid_syntax.specs.declared.registered_filter.RegisteredFilter.TheVariants.{Kind};
+ghost use Rattle.liquid_language.specs.Languages.{kinds_of};
+ghost use Rattle.liquid_language.specs.Registered.{registered_in};
+ghost use Rattle.liquid_language.specs.declared.registered_filter.RegisteredFilter.TheVariants.{Kind};
 
 use liquid_core::{ErrorKind, Result};
 use liquid_filters::{FilterKind, extra, jekyll, shopify, stdlib};

@@ -12,8 +12,8 @@ use Rattle.liquid_core.specs.Hosts.{no_host}
 use Rattle.liquid_tree.specs.Evaluation.{answers_with}
 use Rattle.liquid_tree.specs.Tree.{Nodes}
 use Rattle.liquid_syntax.specs.Parsing.{IsOnlyTree, HasNoTree, IsOfSource}
-use Rattle.liquid_syntax.specs.Entries.{put}
-use Rattle.liquid_syntax.specs.declared.language.Language.{Language}
+use Rattle.liquid_language.specs.Entries.{put}
+use Rattle.liquid_language.specs.declared.language.Language.{Language}
 use Rattle.liquid_meaning.specs.Runs.{Nothing, Outcome}
 use Rattle.liquid_meaning.specs.Meaning.{meaning}
 use Rattle.liquid_lib.specs.Standard.{IsStandard}

@@ -4,7 +4,7 @@ use Rattle.liquid_model.specs.Texts.{Text}
 use Rattle.liquid_model.specs.declared.error.ErrorKind.{ErrorKind}
 use Rattle.liquid_filters.specs.RunKinds.{is_run_kind}
 use Rattle.liquid_syntax.specs.Parsing.{IsOfSource}
-use Rattle.liquid_syntax.specs.declared.language.Language.{Language}
+use Rattle.liquid_language.specs.declared.language.Language.{Language}
 use Rattle.liquid_site.specs.Page.{Texts, IsPage}
 
 -- the fault that a page ends by is one of a run or of a source: never `Memory` and never `Write`

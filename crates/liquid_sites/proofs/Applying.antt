@@ -15,8 +15,9 @@ use Rattle.liquid_model.specs.ErrorKinds.{is_memory}
 use Rattle.liquid_model.specs.Maps.{listed}
 use Rattle.liquid_model.specs.declared.error.Error.{Error}
 use Rattle.liquid_syntax.specs.Parsing.{IsOfSource}
-use Rattle.liquid_syntax.proofs.Inserted.{named}
-use Rattle.liquid_syntax.specs.Entries.{placed, with_held, filled}
+use Rattle.liquid_language.proofs.Inserted.{named}
+use Rattle.liquid_language.specs.Entries.{placed}
+use Rattle.liquid_syntax.specs.Slots.{with_held, filled}
 use Rattle.liquid_sites.specs.Applied.{IsStep, HasBadSource, Applies}
 use Rattle.liquid_sites.specs.SiteViews.{contents_of, language_of, count_of}
 use Rattle.liquid_sites.specs.Steps.{Step, remove_partial, remove_value, stepped, rendered_by, raised}

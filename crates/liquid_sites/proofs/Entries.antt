@@ -13,9 +13,9 @@ use Rattle.std.specs.Ordering.{is_eq}
 use mathlib.Core.Path.{refl, sym, ap, ◌∙◌}
 use Rattle.liquid_model.specs.Texts.{Text, same_text}
 use Rattle.liquid_model.specs.Maps.{listed}
-use Rattle.liquid_syntax.specs.Entries.{seen, put, placed, without}
+use Rattle.liquid_language.specs.Entries.{seen, put, placed, without}
 use Rattle.liquid_syntax.proofs.Held.{apart, order, names, same_itself, same_turned, seen_found, seen_placed}
-use Rattle.liquid_syntax.proofs.Inserted.{named, seen_inserted}
+use Rattle.liquid_language.proofs.Inserted.{named, seen_inserted}
 
 some : {Y : Type 0} (y : Y) → Some y ≡ None → ⊥
 some y k = cc

@@ -9,7 +9,7 @@ use Rattle.liquid_model.specs.Texts.{Text, same_text}
 use Rattle.liquid_model.specs.Data.{Datum}
 use Rattle.liquid_model.specs.Maps.{Map, listed}
 use Rattle.liquid_tree.specs.Tree.{Nodes}
-use Rattle.liquid_syntax.specs.Entries.{put, without}
+use Rattle.liquid_language.specs.Entries.{put, without}
 use Rattle.liquid_syntax.proofs.Held.{apart}
 use Rattle.liquid_meaning.proofs.Maps.{same_text_equal}
 use Rattle.liquid_lib.specs.Pages.{Shown, page_over}

@@ -8,7 +8,7 @@ use mathlib.Core.Path.{refl, sym, ap, fun_ext, ◌∙◌}
 use Rattle.liquid_model.specs.Texts.{Text}
 use Rattle.liquid_tree.specs.Tree.{Nodes}
 use Rattle.liquid_tree.specs.Names.{mentioned, nodes_names, partials_names}
-use Rattle.liquid_syntax.specs.Entries.{seen, placed}
+use Rattle.liquid_language.specs.Entries.{seen, placed}
 use Rattle.liquid_syntax.specs.Templates.{tree_of}
 use Rattle.liquid_syntax.specs.declared.template.Template.{Template}
 use Rattle.liquid_syntax.proofs.Held.{AllAbove, Ascend, apart, below_other, names, same_itself}

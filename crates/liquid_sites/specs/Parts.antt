@@ -5,7 +5,7 @@ use Rattle.std.specs.declared.alloc.Global.{Global}
 use Rattle.liquid_model.specs.Texts.{Text}
 use Rattle.liquid_model.specs.declared.value.Value.{Value}
 use Rattle.liquid_core.specs.Held.{held}
-use Rattle.liquid_syntax.specs.Entries.{seen}
+use Rattle.liquid_language.specs.Entries.{seen}
 use Rattle.liquid_syntax.specs.Templates.{tree_of, partials_of}
 use Rattle.liquid_syntax.specs.declared.partials.Partials.{Partials}
 use Rattle.liquid_syntax.specs.declared.template.Template.{Template}

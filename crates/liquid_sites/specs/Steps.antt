@@ -8,7 +8,7 @@ use Rattle.liquid_model.specs.Texts.{Text}
 use Rattle.liquid_model.specs.Data.{Datum}
 use Rattle.liquid_model.specs.Maps.{Map, empty, listed}
 use Rattle.liquid_tree.specs.Tree.{Nodes}
-use Rattle.liquid_syntax.specs.Entries.{put, without}
+use Rattle.liquid_language.specs.Entries.{put, without}
 use Rattle.liquid_lib.specs.Pages.{Shown, page_over}
 use Rattle.liquid_sites.specs.Contents.{Trees, Contents, page_of, Pages, pages_from_scratch, mentions}
 

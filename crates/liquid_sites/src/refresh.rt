@@ -5,7 +5,7 @@ ghost use Rattle.std.specs.Map.{keys_of};
 ghost use Rattle.std.specs.String.{string_cmp};
 ghost use Rattle.liquid_model.specs.Answer.{IsValueOrMemory};
 ghost use Rattle.liquid_core.specs.Held.{held};
-ghost use Rattle.liquid_syntax.specs.Entries.{put, placed};
+ghost use Rattle.liquid_language.specs.Entries.{put, placed};
 ghost use Rattle.liquid_syntax.specs.Templates.{tree_of, partials_of};
 ghost use Rattle.liquid_lib.specs.Pages.{page_over, page_view};
 ghost use Rattle.liquid_sites.specs.Contents.{all_pages};

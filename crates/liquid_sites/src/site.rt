@@ -36,7 +36,8 @@ impl Site {
     ghost use Rattle.liquid_model.specs.Maps.{listed};
     ghost use Rattle.liquid_model.specs.View.{view};
     ghost use Rattle.liquid_core.specs.Held.{held};
-    ghost use Rattle.liquid_syntax.specs.Entries.{put, exchanged};
+    ghost use Rattle.liquid_language.specs.Entries.{put};
+    ghost use Rattle.liquid_syntax.specs.Slots.{exchanged};
     ghost use Rattle.liquid_syntax.specs.Templates.{tree_of, slots_of};
     ghost use Rattle.liquid_sites.specs.Applied.{Applies};
     ghost use Rattle.liquid_sites.specs.SiteViews.{contents_of, language_of, count_of};

@@ -8,7 +8,7 @@ use Rattle.liquid_tree.specs.Tree.{Node, Nodes, no_nodes}
 use Rattle.liquid_syntax.specs.Flats.{flat_of}
 use Rattle.liquid_syntax.specs.OpenBlocks.{State, last, begun, ended, Level, level, depth, deeper, with_node, close, step, to_else, to_elsif}
 use Rattle.liquid_syntax.specs.inside.Building.{Begins, IsFirst, Steps, IsBuilding, IsMemory, IsStack, Closes, IsPrepared, IsSound, statement_view, opening}
-use Rattle.liquid_syntax.specs.declared.block.Block.{Block}
+use Rattle.liquid_language.specs.declared.block.Block.{Block}
 use Rattle.liquid_syntax.specs.declared.build.Builder.{Builder}
 use Rattle.liquid_syntax.specs.declared.build.Statement.{Statement}
 use Rattle.liquid_syntax.specs.declared.build.Statement.TheVariants as statements

@@ -14,7 +14,7 @@ use Rattle.liquid_source.specs.declared.fault.ParseError.TheVariants as errors
 use Rattle.liquid_tree.specs.Tree.{case_of}
 use Rattle.liquid_syntax.specs.inside.Classifies.{ReadsBlock}
 use Rattle.liquid_syntax.specs.Classification.{case_for, many_or}
-use Rattle.liquid_syntax.specs.declared.block.Block.TheVariants.{Case}
+use Rattle.liquid_language.specs.declared.block.Block.TheVariants.{Case}
 use Rattle.liquid_syntax.specs.declared.build.Stage.TheVariants.{Unkept}
 use Rattle.liquid_syntax.proofs.Printed.{bind_some, from_some, first_word}
 use Rattle.liquid_syntax.proofs.TokenLaws.{first_value}

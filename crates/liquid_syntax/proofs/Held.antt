@@ -19,8 +19,9 @@ use Rattle.std.proofs.lemmas.Slice.Eq.{bytes_eq-Decides}
 use mathlib.Core.Path.{refl, sym, ap, subst, ◌∙◌}
 use Rattle.liquid_model.specs.Texts.{Text, same_text}
 use Rattle.liquid_model.specs.Maps.{listed, insert}
-use Rattle.liquid_syntax.proofs.Inserted.{named, looked_up, seen_inserted, listed_inserted}
-use Rattle.liquid_syntax.specs.Entries.{seen, put, placed, without, with_held, filled, exchanged}
+use Rattle.liquid_language.proofs.Inserted.{named, looked_up, seen_inserted, listed_inserted}
+use Rattle.liquid_language.specs.Entries.{seen, put, placed, without}
+use Rattle.liquid_syntax.specs.Slots.{with_held, filled, exchanged}
 
 abbrev pub order : Text → Text → Ordering
 order = slice_cmp nat_cmp

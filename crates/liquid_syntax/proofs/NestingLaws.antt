@@ -5,9 +5,9 @@ use Rattle.liquid_core.specs.Expression.{Expression}
 use Rattle.liquid_tree.specs.Tree.{Node, Nodes, no_nodes, node, Whens, no_whens, when}
 use Rattle.liquid_syntax.specs.Nesting.{Opening, of_one, of_two, of_many, Statement, leaf, closed, begins, elsif, arm, otherwise, ends, refused, AreNodes, none, is_leaf, is_closed, is_block, IsBlock, one, two, many, IsLast, no_else, is_else, IsElse, is_last, is_elsif, AreWhens, no_more, is_when}
 use Rattle.liquid_syntax.specs.OpenBlocks.{append, with_node, Reading, last, first, unkept, armed, begun, context_in, ended, else_of, when_of, elsif_of, Level, level, context_of, deeper, depth, close, step, to_closed, to_begin, go, read}
-use Rattle.liquid_syntax.specs.declared.block.Block.{Block}
-use Rattle.liquid_syntax.specs.declared.block.BlockContext.{BlockContext}
-use Rattle.liquid_syntax.specs.declared.block.BlockContext.TheVariants.{Outside, InBody, InLast}
+use Rattle.liquid_language.specs.declared.block.Block.{Block}
+use Rattle.liquid_language.specs.declared.block.BlockContext.{BlockContext}
+use Rattle.liquid_language.specs.declared.block.BlockContext.TheVariants.{Outside, InBody, InLast}
 
 pub append-assoc : (f g h : Nodes) → append (append f g) h ≡ append f (append g h)
 append-assoc no_nodes g h = refl

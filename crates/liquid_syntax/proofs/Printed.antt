@@ -4,15 +4,15 @@ use Rattle.std.specs.Option.{option_and_then, option_map}
 use Rattle.liquid_core.specs.Expression.{Expression, literal, variable, no_steps, step}
 use Rattle.liquid_model.specs.Maps.{listed}
 use Rattle.liquid_model.specs.Texts.{Text}
-use Rattle.liquid_syntax.specs.Registered.{registered_counts, called_as}
-use Rattle.liquid_syntax.specs.declared.registered_filter.RegisteredFilter.{RegisteredFilter}
+use Rattle.liquid_language.specs.Registered.{registered_counts}
+use Rattle.liquid_language.specs.declared.registered_filter.RegisteredFilter.{RegisteredFilter}
 use Rattle.liquid_syntax.specs.ChainReading.{accepted_call, call_with, filters_of, call_of, called_of, arguments_of, further_of, chain_of}
-use Rattle.liquid_syntax.specs.Chains.{Filters, further_arguments, arguments, AreFilters, none, filter, IsChain, IsAssign}
+use Rattle.liquid_syntax.specs.Chains.{Filters, further_arguments, arguments, AreFilters, none, filter, IsChain, IsAssign, called_as}
 use Rattle.liquid_source.specs.Tokens.{Token, value, range, symbol, word, word_of, word_first, past, is_symbol}
 use Rattle.liquid_syntax.specs.Classification.{assign_of}
-use Rattle.liquid_syntax.specs.Registered.{registered_in}
+use Rattle.liquid_language.specs.Registered.{registered_in}
 use Rattle.liquid_tree.specs.Tree.{FilterCall, Chain, assign}
-use Rattle.liquid_syntax.specs.declared.language.Language.{Language}
+use Rattle.liquid_language.specs.declared.language.Language.{Language}
 use Rattle.liquid_source.specs.declared.symbol.Symbol.TheVariants.{Equals, NotEquals, LessOrGreater, LessThanEquals, GreaterThanEquals, LessThan, GreaterThan, Assign, Colon, Comma, Bar}
 
 -- ---- options

@@ -14,19 +14,19 @@ use Rattle.liquid_syntax.specs.Classification.{leaf_or, assign_of, if_node, unle
 use Rattle.liquid_syntax.specs.Statements.{IsStatement, is_text, is_output, is_end, is_elsif, is_else, is_assign, is_if, is_unless, is_bare_else, is_capture, is_case, is_when, is_break, is_continue, is_increment, is_decrement, is_include, is_jekyll_include, is_render, is_cycle, is_ifchanged, is_for, is_tablerow, is_raw, is_comment}
 use Rattle.liquid_syntax.specs.Loops.{Head, for_node, loop_of, row_node}
 use Rattle.liquid_syntax.specs.PartialItems.{Rendered, include_node, include_of, jekyll_node, jekyll_of, render_node, render_of}
-use Rattle.liquid_syntax.specs.Registered.{registered_in}
+use Rattle.liquid_language.specs.Registered.{registered_in}
 use Rattle.liquid_syntax.specs.Cycles.{Cycle, cycle_node, cycle_of, with_group}
 use Rattle.liquid_syntax.specs.Nesting.{of_one, Statement, leaf, closed, begins, elsif, arm, otherwise, ends, refused}
-use Rattle.liquid_syntax.specs.Roles.{role_of, unread_body}
+use Rattle.liquid_language.specs.Roles.{role_of, unread_body}
 use Rattle.liquid_tree.specs.Tree.{Bindings, Node, Chain, Condition, output, assign, capture, case_of, ifchanged, break_loop, continue_loop, increment, decrement}
-use Rattle.liquid_syntax.specs.declared.block.Block.TheVariants.{If, Unless, Capture, Case, IfChanged, For, TableRow}
-use Rattle.liquid_syntax.specs.declared.block.Control.TheVariants.{Elsif, Else, BareElse, When}
-use Rattle.liquid_syntax.specs.declared.block.BlockContext.{BlockContext}
-use Rattle.liquid_syntax.specs.declared.block.Role.{Role}
-use Rattle.liquid_syntax.specs.declared.block.Role.TheVariants.{End, Control as Word, Tag, Block as Start}
-use Rattle.liquid_syntax.specs.declared.language.BlockKind.TheVariants as blocks
-use Rattle.liquid_syntax.specs.declared.language.Language.{Language}
-use Rattle.liquid_syntax.specs.declared.language.TagKind.TheVariants as tags
+use Rattle.liquid_language.specs.declared.block.Block.TheVariants.{If, Unless, Capture, Case, IfChanged, For, TableRow}
+use Rattle.liquid_language.specs.declared.block.Control.TheVariants.{Elsif, Else, BareElse, When}
+use Rattle.liquid_language.specs.declared.block.BlockContext.{BlockContext}
+use Rattle.liquid_language.specs.declared.block.Role.{Role}
+use Rattle.liquid_language.specs.declared.block.Role.TheVariants.{End, Control as Word, Tag, Block as Start}
+use Rattle.liquid_language.specs.declared.language.BlockKind.TheVariants as blocks
+use Rattle.liquid_language.specs.declared.language.Language.{Language}
+use Rattle.liquid_language.specs.declared.language.TagKind.TheVariants as tags
 use Rattle.liquid_syntax.proofs.ConditionLaws.{condition_takes, condition_again}
 use Rattle.liquid_core.specs.Expression.{Expression}
 use Rattle.liquid_syntax.specs.ValueLists.{values_of}

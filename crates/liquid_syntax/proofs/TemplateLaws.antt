@@ -3,10 +3,10 @@ use Rattle.std.proofs.Common.{◌≡◌, List, [], ◌∷◌, length, false, Opt
 use Rattle.std.specs.Option.{option_and_then}
 use Rattle.liquid_model.specs.Texts.{Text}
 use Rattle.liquid_syntax.specs.Classification.{tag_statement, raw_statement, comment_statement, reads}
-use Rattle.liquid_syntax.specs.Roles.{role_of, unread_body}
-use Rattle.liquid_syntax.specs.declared.block.Role.{Role}
-use Rattle.liquid_syntax.specs.declared.block.Role.TheVariants.{End, Control as Word, Tag, Block as Start}
-use Rattle.liquid_syntax.specs.declared.language.BlockKind.TheVariants as blocks
+use Rattle.liquid_language.specs.Roles.{role_of, unread_body}
+use Rattle.liquid_language.specs.declared.block.Role.{Role}
+use Rattle.liquid_language.specs.declared.block.Role.TheVariants.{End, Control as Word, Tag, Block as Start}
+use Rattle.liquid_language.specs.declared.language.BlockKind.TheVariants as blocks
 use Rattle.liquid_source.specs.declared.piece.Body.{Body}
 use Rattle.liquid_source.specs.declared.piece.Body.TheVariants as bodies
 use Rattle.liquid_syntax.specs.OpenBlocks.{Level, State, context_of, step, at_end, go, read}
@@ -15,7 +15,7 @@ use Rattle.liquid_source.specs.SourceReading.{all_steps, source_at, TakesWanted}
 use Rattle.liquid_syntax.specs.Parsing.{IsTemplate, IsOnlyTree, HasNoTree}
 use Rattle.liquid_syntax.proofs.TemplateReading.{body_of, piece_step, begun_with, template_at}
 use Rattle.liquid_tree.specs.Tree.{Nodes, no_nodes}
-use Rattle.liquid_syntax.specs.declared.language.Language.{Language}
+use Rattle.liquid_language.specs.declared.language.Language.{Language}
 use Rattle.liquid_syntax.specs.Statements.{IsStatement}
 use Rattle.liquid_syntax.proofs.StatementLaws.{statement_says, statement_stands}
 use Rattle.liquid_syntax.proofs.NestingLaws.{tree_takes, tree_again}

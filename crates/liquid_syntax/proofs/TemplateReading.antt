@@ -7,8 +7,8 @@ use Rattle.liquid_source.specs.SourceReading.{source_at}
 use Rattle.liquid_source.specs.declared.piece.Body.{Body}
 use Rattle.liquid_syntax.specs.Classification.{reads}
 use Rattle.liquid_syntax.specs.OpenBlocks.{State, context_of, step, at_end}
-use Rattle.liquid_syntax.specs.Roles.{body_behind}
-use Rattle.liquid_syntax.specs.declared.language.Language.{Language}
+use Rattle.liquid_language.specs.Roles.{body_behind}
+use Rattle.liquid_language.specs.declared.language.Language.{Language}
 use Rattle.liquid_tree.specs.Tree.{Nodes, no_nodes}
 
 -- the verbatim body behind a tag of the name, where one is to be

@@ -4,10 +4,10 @@ use Rattle.liquid_model.specs.Texts.{Text}
 use Rattle.liquid_syntax.specs.ChainReading.{chain_of}
 use Rattle.liquid_syntax.specs.Chains.{Filters, IsChain, IsAssign}
 use Rattle.liquid_syntax.specs.Classification.{assign_of}
-use Rattle.liquid_syntax.specs.Registered.{registered_in}
+use Rattle.liquid_language.specs.Registered.{registered_in}
 use Rattle.liquid_source.specs.Tokens.{Token}
 use Rattle.liquid_tree.specs.Tree.{Chain, assign}
-use Rattle.liquid_syntax.specs.declared.language.Language.{Language}
+use Rattle.liquid_language.specs.declared.language.Language.{Language}
 
 -- tokens are read as a chain exactly where the grammar says that they are it
 abbrev pub ReadsChains : Type 0

@@ -3,15 +3,21 @@ use Rattle.std.specs.Prelude.{◌≡◌, List, [], ◌∷◌, ◌++◌, length, 
 use Rattle.liquid_model.specs.Texts.{Text}
 use Rattle.liquid_model.specs.Maps.{listed}
 use Rattle.liquid_core.specs.Expression.{Expression}
-use Rattle.liquid_tree.specs.Tree.{FilterCall, Chain}
+use Rattle.liquid_tree.specs.Tree.{Filter, FilterCall, Chain, existing, hosted}
 use Rattle.liquid_source.specs.Tokens.{Token, value, symbol, word}
-use Rattle.liquid_syntax.specs.Registered.{registered_counts, called_as}
-use Rattle.liquid_syntax.specs.declared.registered_filter.RegisteredFilter.{RegisteredFilter}
+use Rattle.liquid_language.specs.Registered.{registered_counts}
+use Rattle.liquid_language.specs.declared.registered_filter.RegisteredFilter.{RegisteredFilter}
+use Rattle.liquid_language.specs.declared.registered_filter.RegisteredFilter.TheVariants.{Kind, Host}
 use Rattle.liquid_source.specs.declared.symbol.Symbol.TheVariants.{Assign, Colon, Comma, Bar}
 
 -- the filters that are registered, by name
 abbrev pub Filters : Type 0
 Filters = List (Text × RegisteredFilter)
+
+-- what a call of the name runs
+abbrev pub called_as : Text → RegisteredFilter → Filter
+called_as name (Kind kind) = existing kind
+called_as name (Host least most) = hosted name
 
 -- `, v` for each
 abbrev pub further_arguments : List Expression → List Token

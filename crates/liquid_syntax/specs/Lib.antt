@@ -6,14 +6,11 @@ pub mod Classification
 pub mod ConditionLaw
 pub mod ConditionReading
 pub mod Conditions
-pub mod Controls
 pub mod Cycles
-pub mod Entries
 pub mod Faults
 pub mod Flats
 pub mod Forest
 pub mod Laid
-pub mod Languages
 pub mod Loops
 pub mod NameSets
 pub mod Nested
@@ -22,10 +19,9 @@ pub mod NestingLaw
 pub mod OpenBlocks
 pub mod Parsing
 pub mod PartialItems
-pub mod Registered
 pub mod Repeated
 pub mod RepeatedLaw
-pub mod Roles
+pub mod Slots
 pub mod StatementLaw
 pub mod Statements
 pub mod TemplateLaw

@@ -2,9 +2,9 @@
 use Rattle.std.specs.Prelude.{ℕ, suc, List, ◌∷◌}
 use Rattle.liquid_core.specs.Expression.{Expression}
 use Rattle.liquid_tree.specs.Tree.{Node, Nodes, no_nodes, node, Whens, no_whens, when}
-use Rattle.liquid_syntax.specs.declared.block.Block.{Block}
-use Rattle.liquid_syntax.specs.declared.block.BlockContext.{BlockContext}
-use Rattle.liquid_syntax.specs.declared.block.BlockContext.TheVariants.{InBody, InLast}
+use Rattle.liquid_language.specs.declared.block.Block.{Block}
+use Rattle.liquid_language.specs.declared.block.BlockContext.{BlockContext}
+use Rattle.liquid_language.specs.declared.block.BlockContext.TheVariants.{InBody, InLast}
 
 -- a block that begins: the bodies that it has, and the node that it makes of them
 pub data Opening : Type 0 where

@@ -11,8 +11,8 @@ use Rattle.liquid_syntax.specs.Nesting.{AreNodes}
 use Rattle.liquid_source.specs.Pieces.{Piece, IsSource}
 use Rattle.liquid_syntax.specs.Templates.{tree_of}
 use Rattle.liquid_tree.specs.Tree.{Nodes}
-use Rattle.liquid_syntax.specs.declared.block.BlockContext.TheVariants.{Outside}
-use Rattle.liquid_syntax.specs.declared.language.Language.{Language}
+use Rattle.liquid_language.specs.declared.block.BlockContext.TheVariants.{Outside}
+use Rattle.liquid_language.specs.declared.language.Language.{Language}
 use Rattle.liquid_syntax.specs.declared.template.Template.{Template}
 use Rattle.liquid_source.specs.declared.fault.ParseError.{ParseError}
 use Rattle.liquid_source.specs.declared.fault.ParseError.TheVariants as errors

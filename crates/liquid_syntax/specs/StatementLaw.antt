@@ -4,8 +4,8 @@ use Rattle.liquid_source.specs.Pieces.{Piece}
 use Rattle.liquid_syntax.specs.Classification.{reads}
 use Rattle.liquid_syntax.specs.Statements.{IsStatement}
 use Rattle.liquid_syntax.specs.Nesting.{Statement, refused}
-use Rattle.liquid_syntax.specs.declared.block.BlockContext.{BlockContext}
-use Rattle.liquid_syntax.specs.declared.language.Language.{Language}
+use Rattle.liquid_language.specs.declared.block.BlockContext.{BlockContext}
+use Rattle.liquid_language.specs.declared.language.Language.{Language}
 
 -- a piece is read as a statement exactly where the grammar says that it is that, and refused where the grammar gives it none
 abbrev pub ReadsStatements : Type 0

@@ -9,22 +9,22 @@ use Rattle.liquid_syntax.specs.Chains.{IsChain, IsAssign}
 use Rattle.liquid_syntax.specs.Conditions.{IsCondition}
 use Rattle.liquid_syntax.specs.Cycles.{IsCycle}
 use Rattle.liquid_syntax.specs.Loops.{Head, IsLoop, for_node, row_node}
-use Rattle.liquid_syntax.specs.Registered.{registered_in}
+use Rattle.liquid_language.specs.Registered.{registered_in}
 use Rattle.liquid_syntax.specs.Nesting.{of_one, of_two, of_many, Statement, leaf, closed, begins, elsif, arm, otherwise, ends}
 use Rattle.liquid_syntax.specs.PartialItems.{IsInclude, IsJekyllInclude, IsRender}
-use Rattle.liquid_syntax.specs.Roles.{role_of, unread_body}
+use Rattle.liquid_language.specs.Roles.{role_of, unread_body}
 use Rattle.liquid_tree.specs.Tree.{Bindings, Chain, Condition, Source, plain, raw, comment, output, assign, if_true, unless, capture, case_of, ifchanged, break_loop, continue_loop, increment, decrement, cycle, include, jekyll_include, render}
 use Rattle.liquid_tree.specs.Groups.{group_of}
 use Rattle.liquid_core.specs.Expression.{Expression}
 use Rattle.liquid_syntax.specs.ValueLists.{AreValues}
 use Rattle.liquid_syntax.specs.declared.value_items.Separators.TheVariants.{CommasOr}
-use Rattle.liquid_syntax.specs.declared.block.Block.TheVariants.{If, Unless, Capture, Case, IfChanged, For, TableRow}
-use Rattle.liquid_syntax.specs.declared.block.Control.TheVariants.{Elsif, Else, BareElse, When}
-use Rattle.liquid_syntax.specs.declared.block.BlockContext.{BlockContext}
-use Rattle.liquid_syntax.specs.declared.block.Role.TheVariants.{End, Control as Word, Tag, Block as Start}
-use Rattle.liquid_syntax.specs.declared.language.BlockKind.TheVariants as blocks
-use Rattle.liquid_syntax.specs.declared.language.Language.{Language}
-use Rattle.liquid_syntax.specs.declared.language.TagKind.TheVariants as tags
+use Rattle.liquid_language.specs.declared.block.Block.TheVariants.{If, Unless, Capture, Case, IfChanged, For, TableRow}
+use Rattle.liquid_language.specs.declared.block.Control.TheVariants.{Elsif, Else, BareElse, When}
+use Rattle.liquid_language.specs.declared.block.BlockContext.{BlockContext}
+use Rattle.liquid_language.specs.declared.block.Role.TheVariants.{End, Control as Word, Tag, Block as Start}
+use Rattle.liquid_language.specs.declared.language.BlockKind.TheVariants as blocks
+use Rattle.liquid_language.specs.declared.language.Language.{Language}
+use Rattle.liquid_language.specs.declared.language.TagKind.TheVariants as tags
 use Rattle.liquid_syntax.specs.declared.loop_items.LoopKind.TheVariants.{Each, Rows}
 
 pub data IsStatement (l : Language) (x : BlockContext) : pieces.Piece → Statement → Type 0 where

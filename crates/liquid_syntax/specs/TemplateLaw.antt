@@ -5,7 +5,7 @@ use Rattle.liquid_source.specs.Bytes.{open_brace}
 use Rattle.liquid_source.specs.Openers.{opener}
 use Rattle.liquid_source.specs.declared.item.Delimiter.{Delimiter}
 use Rattle.liquid_syntax.specs.Parsing.{IsTemplate}
-use Rattle.liquid_syntax.specs.declared.language.Language.{Language}
+use Rattle.liquid_language.specs.declared.language.Language.{Language}
 use Rattle.liquid_tree.specs.Tree.{Nodes, no_nodes, node, plain}
 
 -- `{{` and `{%` stand nowhere in the text

@@ -5,7 +5,8 @@
 use Rattle.std.specs.Prelude.{ℕ, List, [], ◌∷◌, max, Option, Some, None, option_map, String}
 use Rattle.std.specs.declared.alloc.Global.{Global}
 use Rattle.liquid_model.specs.Texts.{Text}
-use Rattle.liquid_syntax.specs.Entries.{seen, filled}
+use Rattle.liquid_language.specs.Entries.{seen}
+use Rattle.liquid_syntax.specs.Slots.{filled}
 use Rattle.liquid_tree.specs.Counts.{count_of_nodes}
 use Rattle.liquid_tree.specs.Tree as tree
 use Rattle.liquid_syntax.specs.Forest.{Forest}

@@ -9,12 +9,12 @@ ghost use Rattle.liquid_syntax.specs.OpenBlocks.{Level, at_end, close, step, to_
 ghost use Rattle.liquid_tree.specs.Tree.{Nodes, no_nodes};
 ghost use Rattle.liquid_syntax.specs.declared.build.Stage.TheVariants as stages;
 
-use crate::block::{Block, BlockContext};
 use crate::faults::{missing_end, no_body, too_nested};
 use crate::node::{Arm, Node};
 use crate::positions::Position;
 use crate::template::Template;
 use liquid_core::Expression;
+use liquid_language::{Block, BlockContext};
 use liquid_source::ParseError;
 use std::alloc::Global;
 

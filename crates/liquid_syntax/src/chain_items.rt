@@ -7,12 +7,12 @@ ghost use Rattle.liquid_syntax.specs.ChainReading.{accepted_call, call_fault, fi
 ghost use Rattle.liquid_syntax.specs.Chains.{Filters};
 ghost use Rattle.liquid_syntax.specs.Faults.{FaultsAs, FaultsAt};
 ghost use Rattle.liquid_tree.specs.ChainView.{chain_view, chain_filter_view};
-ghost use Rattle.liquid_syntax.specs.Registered.{registered_in};
+ghost use Rattle.liquid_language.specs.Registered.{registered_in};
 ghost use Rattle.liquid_source.specs.Readers.{Parses, IsOfKind, IsAt};
 ghost use Rattle.liquid_source.specs.Tokens.{tokens_view};
 
-use crate::registered_filter::{FilterRegistry, RegisteredFilter};
 use liquid_core::Expression;
+use liquid_language::{FilterRegistry, RegisteredFilter};
 use liquid_source::{
     Fault, FaultKind, Item, ParseError, Symbol, is_over, next_value, next_word, skip,
 };

@@ -2,36 +2,27 @@
 ghost use Rattle.std.specs.Prelude.{◌≡◌, length};
 ghost use Rattle.liquid_source.specs.PieceView.{items_view, piece_view};
 ghost use Rattle.liquid_source.specs.Readers.{IsAt, IsOfKind};
-ghost use Rattle.liquid_source.specs.SourceReading.{wanted_body};
 ghost use Rattle.liquid_source.specs.Tokens.{tokens_view};
 ghost use Rattle.liquid_syntax.specs.Faults.{FaultsAs, FaultsAt};
 ghost use Rattle.liquid_syntax.specs.inside.Classifies.{Classifies};
 ghost use Rattle.liquid_syntax.specs.Classification.{comment_statement, ends_or, opens, raw_statement, reads, tag_statement};
-ghost use Rattle.liquid_syntax.specs.Roles.{body_behind, role_of};
+ghost use Rattle.liquid_language.specs.Roles.{role_of};
 
 mod blocks;
 mod tags;
 
-use crate::block::{BlockContext, Control, Role, role_of, unread_body};
 use crate::build::Statement;
 use crate::chain_items::{expected, read_chain};
 use crate::cycle_items::read_cycle;
-use crate::language::{Language, TagKind};
 use crate::node::Node;
 use crate::partial_items::{read_include, read_jekyll_include, read_render};
 use crate::value_items::{Separators, read_values};
 use blocks::{read_block, read_if};
-use liquid_source::{Body, Fault, FaultKind, Item, ParseError, Piece, bare_name};
+use liquid_language::{BlockContext, Control, Language, Role, TagKind, role_of, unread_body};
+use liquid_source::{Body, Fault, FaultKind, Item, ParseError, Piece};
 use std::alloc::Global;
 use std::collections::VecDeque;
 use tags::{read_assign, read_bare, read_word};
-
-/// The body behind a piece, where it is a tag without items that begins a block whose body isn't read.
-pub fn body_behind(language: &Language, context: BlockContext, piece: &Piece<'_>) -> Option<Body>
-    ensures { result ≡ wanted_body (body_behind language.now context) (piece_view piece.now) }
-{
-    unread_body(role_of(language, context, bare_name(piece)?))
-}
 
 /// Whether the piece is the start of a block, whatever its items are.
 pub fn opens(language: &Language, context: BlockContext, piece: &Piece<'_>) -> bool

@@ -1,16 +1,13 @@
 //! From source to template.
 #![tactic(auto)]
 
-mod block;
 mod build;
 mod chain_items;
 mod classify;
 mod condition_items;
 mod cycle_items;
-mod explain;
 mod faults;
 mod group;
-mod language;
 mod laws;
 mod loop_items;
 mod loop_nodes;
@@ -21,15 +18,16 @@ mod parser;
 mod partial_items;
 mod partials;
 mod positions;
-mod registered_filter;
 mod template;
 mod value_items;
 mod visit_nodes;
 
-pub use block::{Block, BlockContext, Control};
-pub use language::{BlockKind, Language, Registry, TagKind};
 pub use laws::{
     chain_laws, condition_law, item_list_laws, nesting_laws, statement_law, template_laws,
+};
+pub use liquid_language::{
+    Block, BlockContext, BlockKind, Control, FilterRegistry, Language, RegisteredFilter, Registry,
+    TagKind,
 };
 pub use liquid_source::{
     Body, Delimiter, Fault, FaultKind, Item, Mark, Markup, ParseError, Piece, Symbol, item_laws,
@@ -46,6 +44,5 @@ pub use pair_items::PairStyle;
 pub use parser::parse;
 pub use partials::Partials;
 pub use positions::Position;
-pub use registered_filter::{FilterRegistry, RegisteredFilter};
 pub use template::Template;
 pub use value_items::{Separators, read_values};

@@ -4,13 +4,12 @@ ghost use Rattle.liquid_source.specs.Readers.{TellsOf};
 ghost use Rattle.liquid_syntax.specs.Parsing.{MayRefuse, ParsesTo, ReadsTo};
 
 use crate::build::Builder;
-use crate::classify::{body_behind, classify, opens};
-use crate::explain::explain;
+use crate::classify::{classify, opens};
 use crate::faults::too_nested;
-use crate::language::Language;
 use crate::positions::Positions;
 use crate::template::Template;
 use liquid_core::{Error, Result};
+use liquid_language::{Language, body_behind, explanation_of};
 use liquid_source::{
     ParseError, location, past_byte, read_body, read_markup, stripped, text_before,
 };
@@ -40,7 +39,7 @@ fn told(alloc: Global, source: &str, language: &Language, error: ParseError) -> 
 {
     match error {
         ParseError::Memory => Error::from(AllocError),
-        ParseError::Fault(fault) => match explain(alloc, source, language, fault) {
+        ParseError::Fault(fault) => match explanation_of(alloc, source, language, fault) {
             Ok(told) => Error::with_message(fault.kind.kind(), told.message).located(
                 alloc,
                 location(source, told.left),

@@ -3,7 +3,8 @@ ghost use Rattle.std.specs.Prelude.{◌≡◌, [], option_map, ◌≤◌, Some, 
 ghost use Rattle.std.specs.Map.{values_of};
 ghost use Rattle.liquid_model.specs.Answer.{IsValueOrMemory};
 ghost use Rattle.liquid_model.specs.Maps.{listed, insert};
-ghost use Rattle.liquid_syntax.specs.Entries.{put, placed, exchanged};
+ghost use Rattle.liquid_language.specs.Entries.{put, placed};
+ghost use Rattle.liquid_syntax.specs.Slots.{exchanged};
 ghost use Rattle.liquid_syntax.specs.inside.Mentions.{held_names, partials_list_names};
 ghost use Rattle.liquid_syntax.specs.Templates.{most_of, node_count_of, tree_of, partials_of, slots_of};
 ghost use Rattle.liquid_tree.specs.Names.{mentioned, partials_names};

@@ -1,6 +1,6 @@
 -- Changes of a site, by what it answers to them.
 use Rattle.std.specs.Prelude.{◌≡◌, ◌⊎◌, Option, None, string_bytes}
-use Rattle.liquid_syntax.specs.declared.language.Language.{Language}
+use Rattle.liquid_language.specs.declared.language.Language.{Language}
 use Rattle.liquid_sites.specs.Applied.{Accepted, HasBadSource}
 use Rattle.liquid_sites.specs.SiteViews.{contents_of, language_of}
 use Rattle.liquid_sites.specs.declared.change.Change.{Change}

@@ -3,7 +3,7 @@ use Rattle.std.specs.Prelude.{Bool, ◌||◌, [], ◌∷◌, filter}
 use Rattle.liquid_model.specs.Texts.{Text}
 use Rattle.liquid_tree.specs.Tree.{Nodes}
 use Rattle.liquid_tree.specs.Names.{mentioned, nodes_names}
-use Rattle.liquid_syntax.specs.Entries.{placed}
+use Rattle.liquid_language.specs.Entries.{placed}
 use Rattle.liquid_sites.specs.Contents.{Trees, Pages}
 
 -- all pages, or those whose template mentions the name

@@ -8,9 +8,9 @@ use Rattle.liquid_syntax.specs.OpenBlocks.{Reading, last, first, unkept, armed, 
 use Rattle.liquid_source.specs.Readers.{Fails}
 use Rattle.liquid_syntax.specs.Templates.{tree_of}
 use Rattle.liquid_tree.specs.Tree.{Node, Nodes, no_nodes, plain}
-use Rattle.liquid_syntax.specs.declared.block.Block.{Block}
-use Rattle.liquid_syntax.specs.declared.block.BlockContext.{BlockContext}
-use Rattle.liquid_syntax.specs.declared.block.BlockContext.TheVariants.{Outside, InBody, InLast}
+use Rattle.liquid_language.specs.declared.block.Block.{Block}
+use Rattle.liquid_language.specs.declared.block.BlockContext.{BlockContext}
+use Rattle.liquid_language.specs.declared.block.BlockContext.TheVariants.{Outside, InBody, InLast}
 use Rattle.liquid_syntax.specs.declared.build.Builder.{Builder}
 use Rattle.liquid_syntax.specs.declared.build.Statement.{Statement}
 use Rattle.liquid_syntax.specs.declared.build.Statement.TheVariants as statements

@@ -5,7 +5,7 @@ use Rattle.liquid_syntax.specs.inside.Building.{statement_view, of_bodies, openi
 use Rattle.liquid_syntax.specs.Flats.{flat_of}
 use Rattle.liquid_syntax.specs.Nesting as nesting
 use Rattle.liquid_tree.specs.Tree.{Node, Nodes}
-use Rattle.liquid_syntax.specs.declared.block.Block.{Block}
+use Rattle.liquid_language.specs.declared.block.Block.{Block}
 use Rattle.liquid_syntax.specs.declared.build.Stage.{Stage}
 use Rattle.liquid_syntax.specs.declared.build.Statement.{Statement}
 use Rattle.liquid_syntax.specs.declared.build.Stage.TheVariants.{First}

@@ -2,20 +2,19 @@
 ghost use Rattle.std.specs.Prelude.{◌≡◌, length};
 ghost use Rattle.liquid_source.specs.Tokens.{tokens_view};
 ghost use Rattle.liquid_syntax.specs.Faults.{FaultsAs, FaultsAt};
-ghost use Rattle.liquid_syntax.specs.declared.block.Block.TheVariants as BlockOf;
+ghost use Rattle.liquid_language.specs.declared.block.Block.TheVariants as BlockOf;
 ghost use Rattle.liquid_syntax.specs.declared.build.Stage.TheVariants as StageOf;
 ghost use Rattle.liquid_syntax.specs.inside.Classifies.{Classifies, ReadsBlock, ReadsTwo};
 ghost use Rattle.liquid_syntax.specs.Classification.{block_statement, case_for, for_of, if_of, many_or, one_or, rows_of, unless_of};
 
 use super::tags::{read_bare, read_word};
-use crate::block::Block;
 use crate::build::{Stage, Statement};
 use crate::chain_items::expected;
 use crate::condition_items::read_condition;
-use crate::language::BlockKind;
 use crate::loop_items::{LoopKind, read_loop};
 use crate::loop_nodes::{For, TableRow};
 use crate::node::{Node, TwoBodies};
+use liquid_language::{Block, BlockKind};
 use liquid_source::{FaultKind, Item, ParseError, is_over, next_value};
 use std::alloc::Global;
 use std::collections::VecDeque;

@@ -9,8 +9,8 @@ ghost use Rattle.liquid_syntax.specs.Classification.{assign_of, bare, leaf_or, w
 
 use crate::build::Statement;
 use crate::chain_items::{expected, read_chain};
-use crate::language::Language;
 use crate::node::Node;
+use liquid_language::Language;
 use liquid_source::{FaultKind, Item, ParseError, Symbol, is_over, next_word, skip};
 use std::alloc::Global;
 use std::collections::VecDeque;

@@ -2,7 +2,7 @@
 ghost use Rattle.std.specs.Prelude.{◌≡◌, codes};
 
 use crate::reflection::TagReflection;
-use liquid_syntax::TagKind;
+use liquid_language::TagKind;
 
 /// `{% include name w=v w=v %}`: runs a partial over the caller's names, with the pairs in one map named `include`.
 #[derive(Clone, Copy, Debug, Default)]
@@ -28,7 +28,7 @@ impl TagReflection for IncludeTag {
 }
 
 impl From<IncludeTag> for TagKind {
-    ghost use Rattle.liquid_syntax.specs.declared.language.TagKind.TheVariants.{JekyllInclude};
+    ghost use Rattle.liquid_language.specs.declared.language.TagKind.TheVariants.{JekyllInclude};
 
     ghost from_gives = { λ tag kind. kind ≡ JekyllInclude };
 

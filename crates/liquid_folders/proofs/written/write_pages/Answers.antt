@@ -1,7 +1,7 @@
 use Rattle.std.proofs.Common.{◌≡◌, cond, string_bytes, sym, ap, ◌∙◌, rules}
 use Rattle.std.proofs.lemmas.Result.{err_from_is_err_and}
 use Rattle.liquid_model.specs.Texts.{Text}
-use Rattle.liquid_syntax.specs.Entries.{seen}
+use Rattle.liquid_language.specs.Entries.{seen}
 use Rattle.liquid_lib.specs.Pages.{Shown, page_view}
 use Rattle.liquid_sites.specs.Parts.{pages_in}
 use Rattle.liquid_sites.specs.Steps.{raised}

@@ -1,5 +1,5 @@
 use Rattle.std.proofs.Common.{IfSome}
-use Rattle.liquid_syntax.specs.Entries.{seen}
+use Rattle.liquid_language.specs.Entries.{seen}
 use Rattle.liquid_lib.specs.Pages.{page_view}
 use Rattle.liquid_sites.specs.Parts.{pages_in}
 use Rattle.liquid_folders.proofs.Disks.{Progress}

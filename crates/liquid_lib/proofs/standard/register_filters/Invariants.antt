@@ -1,6 +1,6 @@
 use Rattle.std.proofs.Common.{◌≡◌, drop}
 use Rattle.liquid_model.specs.Maps.{listed}
-use Rattle.liquid_syntax.specs.Registered.{registered_in}
+use Rattle.liquid_language.specs.Registered.{registered_in}
 use Rattle.liquid_lib.specs.Standard.{with_filters}
 use Rattle.liquid_lib.proofs.standard.register_filters.Given as goal
 

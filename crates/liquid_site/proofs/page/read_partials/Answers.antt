@@ -2,7 +2,7 @@ use Rattle.std.proofs.Common.{◌≡◌, ◌∷◌, ◌+◌, drop, inl, inr, sym
 use Rattle.std.proofs.lemmas.List.{drop_more}
 use Rattle.std.proofs.lemmas.Result.{err_from_is_err_and}
 use Rattle.liquid_syntax.specs.Parsing.{IsOnlyTree, HasNoTree}
-use Rattle.liquid_syntax.specs.Entries.{put}
+use Rattle.liquid_language.specs.Entries.{put}
 use Rattle.liquid_syntax.specs.Templates.{tree_of, partials_of}
 use Rattle.liquid_site.specs.Page.{sources_of, ArePartials, HasBadPartial}
 use Rattle.liquid_site.proofs.Reading.{partial_refused}

@@ -1,8 +1,8 @@
 use Rattle.std.proofs.Common.{string_bytes, ap, ◌∙◌}
 use Rattle.std.specs.Map.{lookup}
-use Rattle.liquid_syntax.specs.Entries.{seen, put}
+use Rattle.liquid_language.specs.Entries.{seen, put}
 use Rattle.liquid_syntax.specs.Templates.{tree_of}
-use Rattle.liquid_syntax.proofs.Inserted.{named, seen_inserted}
+use Rattle.liquid_language.proofs.Inserted.{named, seen_inserted}
 use Rattle.liquid_lib.specs.Pages.{page_view}
 use Rattle.liquid_sites.specs.Parts.{pages_in}
 use Rattle.liquid_sites.proofs.Entries.{taken_back}

@@ -2,7 +2,7 @@ use Rattle.std.proofs.Common.{◌≡◌, ◌∷◌, [], ◌++◌, ◌||◌, true
 use Rattle.std.proofs.lemmas.List.{map-append}
 use Rattle.liquid_core.specs.Held.{held}
 use Rattle.liquid_tree.specs.Names.{mentioned, nodes_names}
-use Rattle.liquid_syntax.specs.Entries.{seen}
+use Rattle.liquid_language.specs.Entries.{seen}
 use Rattle.liquid_syntax.specs.Templates.{tree_of, partials_of}
 use Rattle.liquid_syntax.specs.declared.template.Template.{Template}
 use Rattle.liquid_lib.specs.Pages.{page_over}

@@ -1,6 +1,6 @@
 use Rattle.std.proofs.Common.{sym, ap, ◌∙◌}
 use Rattle.std.specs.Option.{option_copied_mut}
-use Rattle.liquid_syntax.specs.Entries.{seen}
+use Rattle.liquid_language.specs.Entries.{seen}
 use Rattle.liquid_syntax.proofs.Held.{seen_placed}
 use Rattle.liquid_lib.specs.Pages.{page_view}
 use Rattle.liquid_sites.specs.Parts.{pages_in}

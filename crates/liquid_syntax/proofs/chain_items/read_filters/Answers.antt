@@ -4,7 +4,7 @@ use Rattle.std.proofs.lemmas.Result.{err_from_is_err_and}
 use Rattle.liquid_core.specs.ExpressionView.{expression_view}
 use Rattle.liquid_source.specs.Tokens.{tokens_view}
 use Rattle.liquid_tree.specs.ChainView.{chain_filter_view}
-use Rattle.liquid_syntax.specs.Registered.{registered_in}
+use Rattle.liquid_language.specs.Registered.{registered_in}
 use Rattle.liquid_syntax.specs.ChainReading.{filters_of}
 use Rattle.liquid_syntax.proofs.ChainCalls.{left_over, none_left, filters_behind, filters_nothing, no_filter, no_bar, no_name, one_filter, call_refused, acceptance_refused, faulted}
 use Rattle.liquid_syntax.proofs.chain_items.read_filters.Goals as goal

@@ -5,7 +5,7 @@ use Rattle.liquid_source.specs.declared.piece.Piece.{Piece}
 use Rattle.liquid_source.proofs.Seen.{seen_tokens}
 use Rattle.liquid_syntax.specs.inside.Classifies.{Classifies}
 use Rattle.liquid_syntax.specs.Classification.{reads, tag_statement}
-use Rattle.liquid_syntax.specs.Roles.{role_of}
+use Rattle.liquid_language.specs.Roles.{role_of}
 use Rattle.liquid_syntax.proofs.classify.classify.Goals as goal
 
 pub returns-in-Tag-clause-statement : goal.returns-in-Tag-clause-statement

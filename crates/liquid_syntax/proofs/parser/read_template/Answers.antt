@@ -12,9 +12,9 @@ use Rattle.liquid_syntax.specs.Classification.{opens, reads}
 use Rattle.liquid_syntax.specs.Nesting.{Statement}
 use Rattle.liquid_syntax.specs.OpenBlocks.{context_of, step}
 use Rattle.liquid_syntax.proofs.TemplateReading.{template_at}
-use Rattle.liquid_syntax.specs.Roles.{body_behind}
+use Rattle.liquid_language.specs.Roles.{body_behind}
 use Rattle.liquid_tree.specs.Tree.{no_nodes}
-use Rattle.liquid_syntax.specs.declared.block.BlockContext.{BlockContext}
+use Rattle.liquid_language.specs.declared.block.BlockContext.{BlockContext}
 use Rattle.liquid_syntax.proofs.ChainCalls.{faulted}
 use Rattle.liquid_syntax.proofs.Grow.{context_is}
 use Rattle.liquid_syntax.proofs.ParseTurns.{after_text, statement_refused, ended, markup_refused, body_refused, piece_refused, went_on, went_shorter, no_room}

@@ -2,7 +2,7 @@
 ghost use Rattle.std.specs.Prelude.{◌≡◌, codes};
 
 use crate::reflection::BlockReflection;
-use liquid_syntax::BlockKind;
+use liquid_language::BlockKind;
 
 /// `{% capture name %}`: runs its body into a buffer, and stores the text under the name, among the assigned variables.
 /// After a fault in the body nothing is stored.
@@ -33,7 +33,7 @@ impl BlockReflection for CaptureBlock {
 }
 
 impl From<CaptureBlock> for BlockKind {
-    ghost use Rattle.liquid_syntax.specs.declared.language.BlockKind.TheVariants.{Capture};
+    ghost use Rattle.liquid_language.specs.declared.language.BlockKind.TheVariants.{Capture};
 
     ghost from_gives = { λ block kind. kind ≡ Capture };
 

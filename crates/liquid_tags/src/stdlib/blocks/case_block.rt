@@ -2,7 +2,7 @@
 ghost use Rattle.std.specs.Prelude.{◌≡◌, codes};
 
 use crate::reflection::BlockReflection;
-use liquid_syntax::BlockKind;
+use liquid_language::BlockKind;
 
 /// `{% case target %}`, with any number of `when` and one `else`: runs the body of the first `when` with a value that equals
 /// the target, or else that of `else`. What stands before the first of them is parsed and not kept.
@@ -33,7 +33,7 @@ impl BlockReflection for CaseBlock {
 }
 
 impl From<CaseBlock> for BlockKind {
-    ghost use Rattle.liquid_syntax.specs.declared.language.BlockKind.TheVariants.{Case};
+    ghost use Rattle.liquid_language.specs.declared.language.BlockKind.TheVariants.{Case};
 
     ghost from_gives = { λ block kind. kind ≡ Case };
 

@@ -2,7 +2,7 @@
 ghost use Rattle.std.specs.Prelude.{◌≡◌, codes};
 
 use crate::reflection::BlockReflection;
-use liquid_syntax::BlockKind;
+use liquid_language::BlockKind;
 
 /// `{% comment %}`: its body is skipped, with the comments and the `raw` blocks in it.
 #[derive(Clone, Copy, Debug, Default)]
@@ -32,7 +32,7 @@ impl BlockReflection for CommentBlock {
 }
 
 impl From<CommentBlock> for BlockKind {
-    ghost use Rattle.liquid_syntax.specs.declared.language.BlockKind.TheVariants.{Comment};
+    ghost use Rattle.liquid_language.specs.declared.language.BlockKind.TheVariants.{Comment};
 
     ghost from_gives = { λ block kind. kind ≡ Comment };
 

@@ -2,7 +2,7 @@
 ghost use Rattle.std.specs.Prelude.{◌≡◌, codes};
 
 use crate::reflection::BlockReflection;
-use liquid_syntax::BlockKind;
+use liquid_language::BlockKind;
 
 /// `{% for variable in source %}`, with one `else`: runs its body for each item, and that of `else` where there is none.
 #[derive(Clone, Copy, Debug, Default)]
@@ -32,7 +32,7 @@ impl BlockReflection for ForBlock {
 }
 
 impl From<ForBlock> for BlockKind {
-    ghost use Rattle.liquid_syntax.specs.declared.language.BlockKind.TheVariants.{For};
+    ghost use Rattle.liquid_language.specs.declared.language.BlockKind.TheVariants.{For};
 
     ghost from_gives = { λ block kind. kind ≡ For };
 

@@ -2,7 +2,7 @@
 ghost use Rattle.std.specs.Prelude.{◌≡◌, codes};
 
 use crate::reflection::BlockReflection;
-use liquid_syntax::BlockKind;
+use liquid_language::BlockKind;
 
 /// `{% if condition %}`, with any number of `elsif` and one `else`: runs the first body whose condition holds, or else that
 /// of `else`.
@@ -33,7 +33,7 @@ impl BlockReflection for IfBlock {
 }
 
 impl From<IfBlock> for BlockKind {
-    ghost use Rattle.liquid_syntax.specs.declared.language.BlockKind.TheVariants.{If};
+    ghost use Rattle.liquid_language.specs.declared.language.BlockKind.TheVariants.{If};
 
     ghost from_gives = { λ block kind. kind ≡ If };
 

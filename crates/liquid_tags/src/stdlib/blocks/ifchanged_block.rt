@@ -2,7 +2,7 @@
 ghost use Rattle.std.specs.Prelude.{◌≡◌, codes};
 
 use crate::reflection::BlockReflection;
-use liquid_syntax::BlockKind;
+use liquid_language::BlockKind;
 
 /// `{% ifchanged %}`: runs its body into a buffer, and writes the text where it differs from that of the last `ifchanged`.
 #[derive(Clone, Copy, Debug, Default)]
@@ -32,7 +32,7 @@ impl BlockReflection for IfChangedBlock {
 }
 
 impl From<IfChangedBlock> for BlockKind {
-    ghost use Rattle.liquid_syntax.specs.declared.language.BlockKind.TheVariants.{IfChanged};
+    ghost use Rattle.liquid_language.specs.declared.language.BlockKind.TheVariants.{IfChanged};
 
     ghost from_gives = { λ block kind. kind ≡ IfChanged };
 

@@ -2,7 +2,7 @@
 ghost use Rattle.std.specs.Prelude.{◌≡◌, codes};
 
 use crate::reflection::BlockReflection;
-use liquid_syntax::BlockKind;
+use liquid_language::BlockKind;
 
 /// `{% raw %}`: its body is text, as it stands in the source, up to the first `{% endraw %}`.
 #[derive(Clone, Copy, Debug, Default)]
@@ -32,7 +32,7 @@ impl BlockReflection for RawBlock {
 }
 
 impl From<RawBlock> for BlockKind {
-    ghost use Rattle.liquid_syntax.specs.declared.language.BlockKind.TheVariants.{Raw};
+    ghost use Rattle.liquid_language.specs.declared.language.BlockKind.TheVariants.{Raw};
 
     ghost from_gives = { λ block kind. kind ≡ Raw };
 

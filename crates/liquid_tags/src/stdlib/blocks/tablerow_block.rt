@@ -2,7 +2,7 @@
 ghost use Rattle.std.specs.Prelude.{◌≡◌, codes};
 
 use crate::reflection::BlockReflection;
-use liquid_syntax::BlockKind;
+use liquid_language::BlockKind;
 
 /// `{% tablerow variable in source %}`: runs its body for each item, each in a cell of a table's rows.
 #[derive(Clone, Copy, Debug, Default)]
@@ -32,7 +32,7 @@ impl BlockReflection for TableRowBlock {
 }
 
 impl From<TableRowBlock> for BlockKind {
-    ghost use Rattle.liquid_syntax.specs.declared.language.BlockKind.TheVariants.{TableRow};
+    ghost use Rattle.liquid_language.specs.declared.language.BlockKind.TheVariants.{TableRow};
 
     ghost from_gives = { λ block kind. kind ≡ TableRow };
 

@@ -2,7 +2,7 @@
 ghost use Rattle.std.specs.Prelude.{◌≡◌, codes};
 
 use crate::reflection::BlockReflection;
-use liquid_syntax::BlockKind;
+use liquid_language::BlockKind;
 
 /// `{% unless condition %}`, with one `else`: runs its body where the condition doesn't hold, and else that of `else`.
 #[derive(Clone, Copy, Debug, Default)]
@@ -32,7 +32,7 @@ impl BlockReflection for UnlessBlock {
 }
 
 impl From<UnlessBlock> for BlockKind {
-    ghost use Rattle.liquid_syntax.specs.declared.language.BlockKind.TheVariants.{Unless};
+    ghost use Rattle.liquid_language.specs.declared.language.BlockKind.TheVariants.{Unless};
 
     ghost from_gives = { λ block kind. kind ≡ Unless };
 

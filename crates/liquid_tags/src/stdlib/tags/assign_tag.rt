@@ -2,7 +2,7 @@
 ghost use Rattle.std.specs.Prelude.{◌≡◌, codes};
 
 use crate::reflection::TagReflection;
-use liquid_syntax::TagKind;
+use liquid_language::TagKind;
 
 /// `{% assign name = chain %}`: stores the chain's value under the name, among the assigned variables.
 #[derive(Clone, Copy, Debug, Default)]
@@ -28,7 +28,7 @@ impl TagReflection for AssignTag {
 }
 
 impl From<AssignTag> for TagKind {
-    ghost use Rattle.liquid_syntax.specs.declared.language.TagKind.TheVariants.{Assign};
+    ghost use Rattle.liquid_language.specs.declared.language.TagKind.TheVariants.{Assign};
 
     ghost from_gives = { λ tag kind. kind ≡ Assign };
 

@@ -2,7 +2,7 @@
 ghost use Rattle.std.specs.Prelude.{◌≡◌, codes};
 
 use crate::reflection::TagReflection;
-use liquid_syntax::TagKind;
+use liquid_language::TagKind;
 
 /// `{% cycle name: value, value %}`, also without a name: writes one of the values, the next one each time that a tag of its
 /// group runs. The group is the name, or without one what the values look like.
@@ -29,7 +29,7 @@ impl TagReflection for CycleTag {
 }
 
 impl From<CycleTag> for TagKind {
-    ghost use Rattle.liquid_syntax.specs.declared.language.TagKind.TheVariants.{Cycle};
+    ghost use Rattle.liquid_language.specs.declared.language.TagKind.TheVariants.{Cycle};
 
     ghost from_gives = { λ tag kind. kind ≡ Cycle };
 

@@ -2,7 +2,7 @@
 ghost use Rattle.std.specs.Prelude.{◌≡◌, codes};
 
 use crate::reflection::TagReflection;
-use liquid_syntax::TagKind;
+use liquid_language::TagKind;
 
 /// `{% increment name %}`: writes the counter of the name, which is 0 at first, and then counts one up.
 #[derive(Clone, Copy, Debug, Default)]
@@ -28,7 +28,7 @@ impl TagReflection for IncrementTag {
 }
 
 impl From<IncrementTag> for TagKind {
-    ghost use Rattle.liquid_syntax.specs.declared.language.TagKind.TheVariants.{Increment};
+    ghost use Rattle.liquid_language.specs.declared.language.TagKind.TheVariants.{Increment};
 
     ghost from_gives = { λ tag kind. kind ≡ Increment };
 
@@ -61,7 +61,7 @@ impl TagReflection for DecrementTag {
 }
 
 impl From<DecrementTag> for TagKind {
-    ghost use Rattle.liquid_syntax.specs.declared.language.TagKind.TheVariants.{Decrement};
+    ghost use Rattle.liquid_language.specs.declared.language.TagKind.TheVariants.{Decrement};
 
     ghost from_gives = { λ tag kind. kind ≡ Decrement };
 

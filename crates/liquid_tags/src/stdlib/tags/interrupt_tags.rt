@@ -2,7 +2,7 @@
 ghost use Rattle.std.specs.Prelude.{◌≡◌, codes};
 
 use crate::reflection::TagReflection;
-use liquid_syntax::TagKind;
+use liquid_language::TagKind;
 
 /// `{% break %}`: ends the loop around it.
 #[derive(Clone, Copy, Debug, Default)]
@@ -28,7 +28,7 @@ impl TagReflection for BreakTag {
 }
 
 impl From<BreakTag> for TagKind {
-    ghost use Rattle.liquid_syntax.specs.declared.language.TagKind.TheVariants.{Break};
+    ghost use Rattle.liquid_language.specs.declared.language.TagKind.TheVariants.{Break};
 
     ghost from_gives = { λ tag kind. kind ≡ Break };
 
@@ -61,7 +61,7 @@ impl TagReflection for ContinueTag {
 }
 
 impl From<ContinueTag> for TagKind {
-    ghost use Rattle.liquid_syntax.specs.declared.language.TagKind.TheVariants.{Continue};
+    ghost use Rattle.liquid_language.specs.declared.language.TagKind.TheVariants.{Continue};
 
     ghost from_gives = { λ tag kind. kind ≡ Continue };
 

@@ -2,7 +2,7 @@
 ghost use Rattle.std.specs.Prelude.{◌≡◌, codes};
 
 use crate::reflection::TagReflection;
-use liquid_syntax::TagKind;
+use liquid_language::TagKind;
 
 /// `{% render name with v as w, w: v %}`: runs a partial apart, where it sees the pairs alone. With `for R as w` in the
 /// place of `with v as w` it runs for each item, which the partial sees as w, and `forloop` beside it.
@@ -29,7 +29,7 @@ impl TagReflection for RenderTag {
 }
 
 impl From<RenderTag> for TagKind {
-    ghost use Rattle.liquid_syntax.specs.declared.language.TagKind.TheVariants.{Render};
+    ghost use Rattle.liquid_language.specs.declared.language.TagKind.TheVariants.{Render};
 
     ghost from_gives = { λ tag kind. kind ≡ Render };
 

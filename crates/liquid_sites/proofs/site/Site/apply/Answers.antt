@@ -2,14 +2,14 @@ use Rattle.std.proofs.Common.{rules, OnOk, OnErr, ◌≡◌, Bool, true, false, 
 use Rattle.std.specs.Map.{lookup}
 use Rattle.liquid_model.specs.Answer.{IsValueOrMemory}
 use Rattle.liquid_core.specs.Held.{held}
-use Rattle.liquid_syntax.specs.Entries.{put}
+use Rattle.liquid_language.specs.Entries.{put}
 use Rattle.liquid_sites.specs.Parts.{trees_in}
 use Rattle.liquid_model.specs.View.{view}
 use Rattle.liquid_model.specs.Maps.{listed}
 use Rattle.liquid_syntax.specs.Parsing.{IsOnlyTree}
 use Rattle.liquid_syntax.specs.Templates.{tree_of, partials_of, slots_of}
 use Rattle.liquid_syntax.specs.declared.template.Template.{Template}
-use Rattle.liquid_syntax.proofs.Inserted.{named}
+use Rattle.liquid_language.proofs.Inserted.{named}
 use Rattle.liquid_sites.specs.Applied.{IsStep}
 use Rattle.liquid_sites.specs.SiteViews.{contents_of, language_of, count_of}
 use Rattle.liquid_sites.specs.Steps.{set_page, remove_page, set_partial, remove_partial, set_value, remove_value, stepped, raised, mentioning}

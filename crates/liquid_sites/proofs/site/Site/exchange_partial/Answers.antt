@@ -3,7 +3,8 @@ use Rattle.std.specs.Vec.{vec_len}
 use Rattle.std.proofs.lemmas.List.{length-map}
 use Rattle.liquid_model.specs.Maps.{listed}
 use Rattle.liquid_core.specs.Held.{held}
-use Rattle.liquid_syntax.specs.Entries.{placed, filled}
+use Rattle.liquid_language.specs.Entries.{placed}
+use Rattle.liquid_syntax.specs.Slots.{filled}
 use Rattle.liquid_syntax.specs.Templates.{tree_of, partials_of, slots_of}
 use Rattle.liquid_syntax.proofs.Held.{ascend_seen, placed_back}
 use Rattle.liquid_lib.specs.Pages.{page_over}

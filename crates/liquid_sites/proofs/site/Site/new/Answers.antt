@@ -4,7 +4,7 @@ use Rattle.liquid_model.specs.Data.{no_pairs}
 use Rattle.liquid_model.specs.Maps.{empty}
 use Rattle.liquid_model.specs.View.{pairs_view}
 use Rattle.liquid_core.specs.Held.{map_of}
-use Rattle.liquid_syntax.specs.Entries.{seen}
+use Rattle.liquid_language.specs.Entries.{seen}
 use Rattle.liquid_syntax.specs.Templates.{tree_of}
 use Rattle.liquid_sites.proofs.site.Site.new.Goals as goal
 

@@ -1,5 +1,5 @@
 use Rattle.liquid_core.specs.Held.{held}
-use Rattle.liquid_syntax.specs.Entries.{seen}
+use Rattle.liquid_language.specs.Entries.{seen}
 use Rattle.liquid_syntax.specs.Templates.{tree_of}
 use Rattle.liquid_sites.proofs.site.Site.over.Goals as goal
 

@@ -1,6 +1,6 @@
 use Rattle.std.proofs.Common.{sym, ap, ◌∙◌}
 use Rattle.liquid_core.specs.Held.{held}
-use Rattle.liquid_syntax.specs.Entries.{seen, without}
+use Rattle.liquid_language.specs.Entries.{seen, without}
 use Rattle.liquid_syntax.specs.Templates.{tree_of, partials_of}
 use Rattle.liquid_sites.specs.Contents.{page_of, all_pages}
 use Rattle.liquid_lib.specs.Pages.{page_view}

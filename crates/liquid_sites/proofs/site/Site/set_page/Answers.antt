@@ -1,5 +1,5 @@
 use Rattle.std.proofs.Common.{string_bytes, sym, ap, ◌∙◌}
-use Rattle.liquid_syntax.specs.Entries.{put}
+use Rattle.liquid_language.specs.Entries.{put}
 use Rattle.liquid_syntax.specs.Templates.{tree_of}
 use Rattle.liquid_syntax.proofs.Held.{names}
 use Rattle.liquid_sites.specs.Contents.{page_of, all_pages}

@@ -6,7 +6,7 @@ use Rattle.liquid_source.specs.Tokens.{tokens_view}
 use Rattle.liquid_tree.specs.Tree.{case_of}
 use Rattle.liquid_syntax.specs.Flats.{arm_ends, arm_values, case_flat}
 use Rattle.liquid_syntax.specs.Classification.{many_or}
-use Rattle.liquid_syntax.specs.declared.block.Block.TheVariants as blocks
+use Rattle.liquid_language.specs.declared.block.Block.TheVariants as blocks
 use Rattle.liquid_syntax.proofs.Alone.{value_done, value_more, case_faulted}
 use Rattle.liquid_syntax.proofs.ItemLaws.{nothing_seen}
 use Rattle.liquid_syntax.proofs.classify.blocks.read_case.Goals as goal

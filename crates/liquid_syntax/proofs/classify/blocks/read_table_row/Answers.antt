@@ -7,7 +7,7 @@ use Rattle.liquid_syntax.specs.Flats.{window_view}
 use Rattle.liquid_syntax.specs.Classification.{one_or}
 use Rattle.liquid_syntax.specs.Loops.{Head, row_node}
 use Rattle.liquid_syntax.specs.Nesting.{begins, of_one}
-use Rattle.liquid_syntax.specs.declared.block.Block.TheVariants as blocks
+use Rattle.liquid_language.specs.declared.block.Block.TheVariants as blocks
 use Rattle.liquid_syntax.specs.declared.loop_nodes.TableRow.{TableRow}
 use Rattle.liquid_syntax.proofs.classify.blocks.read_table_row.Goals as goal
 

@@ -3,7 +3,7 @@ use Rattle.std.specs.Option.{option_copied}
 use Rattle.liquid_syntax.specs.Templates.{tree_of, node_count_of, most_nodes}
 use Rattle.liquid_syntax.specs.declared.template.Template.{Template}
 use Rattle.liquid_syntax.proofs.Held.{held_found}
-use Rattle.liquid_syntax.proofs.Inserted.{named}
+use Rattle.liquid_language.proofs.Inserted.{named}
 use Rattle.liquid_syntax.proofs.Sizes.{Entry, small_found}
 use Rattle.liquid_syntax.proofs.partials.Partials.get.Goals as goal
 

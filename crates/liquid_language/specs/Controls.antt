@@ -1,10 +1,10 @@
 -- The words that a block knows besides those that are registered.
 use Rattle.std.specs.Prelude.{codes, cond, bytes_eq, Option, Some, None}
 use Rattle.liquid_model.specs.Texts.{Text}
-use Rattle.liquid_syntax.specs.declared.block.Block.{Block}
-use Rattle.liquid_syntax.specs.declared.block.Control.{Control}
-use Rattle.liquid_syntax.specs.declared.block.Control.TheVariants.{Elsif, Else, BareElse, When}
-use Rattle.liquid_syntax.specs.declared.block.Block.TheVariants.{If, Unless, Case, For, TableRow, Capture, IfChanged}
+use Rattle.liquid_language.specs.declared.block.Block.{Block}
+use Rattle.liquid_language.specs.declared.block.Control.{Control}
+use Rattle.liquid_language.specs.declared.block.Control.TheVariants.{Elsif, Else, BareElse, When}
+use Rattle.liquid_language.specs.declared.block.Block.TheVariants.{If, Unless, Case, For, TableRow, Capture, IfChanged}
 
 abbrev pub end_word : Block → Text
 end_word If = codes "endif"

@@ -9,7 +9,7 @@ use Rattle.std.proofs.lemmas.Map.Text.{is_eq-slice_cmp}
 use Rattle.std.proofs.lemmas.Slice.Eq.{bytes_eq-Decides}
 use Rattle.liquid_model.specs.Texts.{Text}
 use Rattle.liquid_model.specs.Maps.{listed, insert}
-use Rattle.liquid_syntax.specs.Entries.{seen, put}
+use Rattle.liquid_language.specs.Entries.{seen, put}
 
 abbrev pub Entry : Type 0 → Type 0
 Entry X = String Global × X

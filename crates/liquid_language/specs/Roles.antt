@@ -6,17 +6,17 @@ use Rattle.liquid_model.specs.Maps.{listed}
 use Rattle.liquid_model.specs.Texts.{Text}
 use Rattle.liquid_source.specs.declared.piece.Body.{Body}
 use Rattle.liquid_source.specs.declared.piece.Body.TheVariants as bodies
-use Rattle.liquid_syntax.specs.Controls.{end_word, control_of}
-use Rattle.liquid_syntax.specs.Languages.{kinds_of}
-use Rattle.liquid_syntax.specs.declared.block.Control.{Control}
-use Rattle.liquid_syntax.specs.declared.block.BlockContext.{BlockContext}
-use Rattle.liquid_syntax.specs.declared.block.BlockContext.TheVariants.{Outside, InBody, InLast}
-use Rattle.liquid_syntax.specs.declared.block.Role.{Role}
-use Rattle.liquid_syntax.specs.declared.block.Role.TheVariants.{End, Control as Word, Tag, Block as Start}
-use Rattle.liquid_syntax.specs.declared.language.BlockKind.{BlockKind}
-use Rattle.liquid_syntax.specs.declared.language.BlockKind.TheVariants as blocks
-use Rattle.liquid_syntax.specs.declared.language.Language.{Language}
-use Rattle.liquid_syntax.specs.declared.language.TagKind.{TagKind}
+use Rattle.liquid_language.specs.Controls.{end_word, control_of}
+use Rattle.liquid_language.specs.Languages.{kinds_of}
+use Rattle.liquid_language.specs.declared.block.Control.{Control}
+use Rattle.liquid_language.specs.declared.block.BlockContext.{BlockContext}
+use Rattle.liquid_language.specs.declared.block.BlockContext.TheVariants.{Outside, InBody, InLast}
+use Rattle.liquid_language.specs.declared.block.Role.{Role}
+use Rattle.liquid_language.specs.declared.block.Role.TheVariants.{End, Control as Word, Tag, Block as Start}
+use Rattle.liquid_language.specs.declared.language.BlockKind.{BlockKind}
+use Rattle.liquid_language.specs.declared.language.BlockKind.TheVariants as blocks
+use Rattle.liquid_language.specs.declared.language.Language.{Language}
+use Rattle.liquid_language.specs.declared.language.TagKind.{TagKind}
 
 -- the first of two, or else the second
 abbrev pub tag_or_block : Option TagKind → Option BlockKind → Option Role

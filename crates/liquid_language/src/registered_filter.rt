@@ -2,8 +2,8 @@
 ghost use Rattle.std.specs.Prelude.{◌≡◌, [], map, OnErr, string_bytes};
 ghost use Rattle.liquid_model.specs.Answer.{IsValueOrMemory};
 ghost use Rattle.liquid_model.specs.Maps.{listed, insert};
-ghost use Rattle.liquid_syntax.specs.Registered.{registered_counts, registered_in};
-ghost use Rattle.liquid_syntax.specs.declared.registered_filter.RegisteredFilter.TheVariants.{Kind, Host};
+ghost use Rattle.liquid_language.specs.Registered.{registered_counts, registered_in};
+ghost use Rattle.liquid_language.specs.declared.registered_filter.RegisteredFilter.TheVariants.{Kind, Host};
 
 use crate::language::Registry;
 use liquid_core::{Filter, Result};

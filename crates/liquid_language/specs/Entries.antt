@@ -1,5 +1,5 @@
 -- Maps from names as lists of entries, in the order of the names.
-use Rattle.std.specs.Prelude.{List, [], ◌∷◌, map, Option, Some, None, String, string_bytes}
+use Rattle.std.specs.Prelude.{List, [], ◌∷◌, map, String, string_bytes}
 use Rattle.std.specs.Cmp.Lexicographic.{slice_cmp}
 use Rattle.std.specs.Map.{set_value, remove_entry}
 use Rattle.std.specs.Ordering.{match_ordering, nat_cmp}
@@ -22,20 +22,3 @@ placed name y es = set_value (λ k. same_text k name) es y
 -- the entries without the one of a name
 abbrev pub without : {Y : Type 0} → Text → List (Text × Y) → List (Text × Y)
 without name es = remove_entry (λ k. same_text k name) es
-
--- ---- places by name, of which some hold nothing
-
--- entries behind a slot, with what it holds
-abbrev pub with_held : {Y : Type 0} → Text → Option Y → List (Text × Y) → List (Text × Y)
-with_held name None es = es
-with_held name (Some y) es = (name, y) ∷ es
-
--- what the places hold
-abbrev pub filled : {Y : Type 0} → List (Text × Option Y) → List (Text × Y)
-filled [] = []
-filled (e ∷ es) = with_held e.0 e.1 (filled es)
-
--- what is held, after a slot was given this
-abbrev pub exchanged : {Y : Type 0} → Text → Option Y → List (Text × Y) → List (Text × Y)
-exchanged name None es = without name es
-exchanged name (Some y) es = put name y es

@@ -35,7 +35,7 @@ impl Explanation {
 }
 
 /// What is told of the fault that a source has in a language.
-pub fn explain(
+pub fn explanation_of(
     alloc: Global,
     source: &str,
     language: &Language,

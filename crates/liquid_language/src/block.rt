@@ -1,10 +1,12 @@
 //! Blocks that are open while a source is read.
 ghost use Rattle.std.specs.Prelude.{◌≡◌};
-ghost use Rattle.liquid_syntax.specs.Controls.{control_of, end_word};
-ghost use Rattle.liquid_syntax.specs.Roles.{registered, role_of, unread_body};
+ghost use Rattle.liquid_language.specs.Controls.{control_of, end_word};
+ghost use Rattle.liquid_language.specs.Roles.{body_behind, registered, role_of, unread_body};
+ghost use Rattle.liquid_source.specs.PieceView.{piece_view};
+ghost use Rattle.liquid_source.specs.SourceReading.{wanted_body};
 
 use crate::language::{BlockKind, Language, TagKind};
-use liquid_source::Body;
+use liquid_source::{Body, Piece, bare_name};
 
 /// A block with bodies of its own.
 #[derive(Clone, Copy, Debug, PartialEq, Eq)]
@@ -110,6 +112,13 @@ pub fn unread_body(role: Option<Role>) -> Option<Body>
         Some(Role::Block(BlockKind::Comment)) => Some(Body::Comment),
         _ => None,
     }
+}
+
+/// The body behind a piece, where it is a tag without items that begins a block whose body isn't read.
+pub fn body_behind(language: &Language, context: BlockContext, piece: &Piece<'_>) -> Option<Body>
+    ensures { result ≡ wanted_body (body_behind language.now context) (piece_view piece.now) }
+{
+    unread_body(role_of(language, context, bare_name(piece)?))
 }
 
 /// The tag that ends the block.

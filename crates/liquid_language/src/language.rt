@@ -2,8 +2,8 @@
 ghost use Rattle.std.specs.Prelude.{◌≡◌, [], map, option_map, OnErr, string_bytes};
 ghost use Rattle.liquid_model.specs.Answer.{IsValueOrMemory};
 ghost use Rattle.liquid_model.specs.Maps.{listed, insert};
-ghost use Rattle.liquid_syntax.specs.Languages.{kinds_of};
-ghost use Rattle.liquid_syntax.specs.Registered.{registered_in};
+ghost use Rattle.liquid_language.specs.Languages.{kinds_of};
+ghost use Rattle.liquid_language.specs.Registered.{registered_in};
 
 use crate::registered_filter::FilterRegistry;
 use liquid_core::Result;

@@ -1,0 +1,5 @@
+pub mod Controls
+pub mod Entries
+pub mod Languages
+pub mod Registered
+pub mod Roles

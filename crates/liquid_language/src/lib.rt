@@ -1,0 +1,12 @@
+//! What a language holds: tags, blocks and filters under their names; and what a source is told that it refuses.
+#![tactic(auto)]
+
+mod block;
+mod explain;
+mod language;
+mod registered_filter;
+
+pub use block::{Block, BlockContext, Control, Role, body_behind, end_tag, role_of, unread_body};
+pub use explain::{Explanation, explanation_of};
+pub use language::{BlockKind, Language, Registry, TagKind};
+pub use registered_filter::{FilterRegistry, RegisteredFilter};
