@@ -44,8 +44,8 @@ pub fn explanation_of(
     let outline = outline_at(alloc, source, language, fault.left)?;
     let piece = placed_piece(alloc, outline.at)?;
     match fault.kind {
-        FaultKind::UnknownTag => unknown_tag(alloc, source, language, &outline),
-        FaultKind::MissingEnd => missing_end(alloc, fault, &outline),
+        FaultKind::UnknownTag => unknown_tag(alloc, source, language, &outline, piece.name),
+        FaultKind::MissingEnd => missing_end(alloc, fault, &outline, piece.name),
         FaultKind::UnknownFilter => unknown_filter(alloc, language, &piece, outline.at),
         FaultKind::FilterArguments => miscounted(alloc, language, &piece, outline.at),
         FaultKind::Expected if fault.left == outline.at.len() => {

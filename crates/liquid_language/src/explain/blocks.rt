@@ -5,7 +5,7 @@ use super::near::{Near, nearer, nearest};
 use super::outline::{Opener, Otherwise, Outline};
 use crate::block::{Block, end_tag};
 use crate::language::Language;
-use liquid_source::{Fault, excerpt, location, placed_piece};
+use liquid_source::{Fault, excerpt, location};
 use std::alloc::{AllocError, Global};
 
 /// Of a tag whose name isn't known where it stands: an end or a control word in the wrong place, or a name that no tag has.
@@ -14,9 +14,8 @@ pub fn unknown_tag(
     source: &str,
     language: &Language,
     outline: &Outline<'_>,
+    name: &str,
 ) -> Result<Explanation, AllocError> {
-    let piece = placed_piece(alloc, outline.at)?;
-    let name = piece.name;
     let message = match outline.open.last() {
         Some(opener) if is_end(name) => wrong_end(alloc, source, opener, name)?,
         Some(opener) if is_control(name) => wrong_control(alloc, source, opener, name)?,
@@ -44,33 +43,38 @@ fn is_control(name: &str) -> bool {
     matches!(name, "else" | "elsif" | "when")
 }
 
-/// Of a source that ends in a block, at the tag that begins it.
+/// Of a source that ends in a block, at the tag that begins it. The name is that of the piece which the fault is in, if it is in one:
+/// then that piece begins a verbatim body.
 pub fn missing_end(
     alloc: Global,
     fault: Fault,
     outline: &Outline<'_>,
+    name: &str,
 ) -> Result<Explanation, AllocError> {
     if !outline.at.is_empty() {
-        // a verbatim body
-        let piece = placed_piece(alloc, outline.at)?;
-        let name = excerpt(alloc, piece.name)?;
-        let end = fault.wanted;
-        let message = format!(in alloc; "`{{% {name} %}}` has no {end}")?;
+        let message = without_end(alloc, name, fault.wanted)?;
         return Ok(Explanation::new(outline.at, message));
     }
     match outline.open.last() {
-        Some(opener) => {
-            let name = excerpt(alloc, opener.name)?;
-            let end = end_tag(opener.block);
-            let message = format!(in alloc; "`{{% {name} %}}` has no `{{% {end} %}}`")?;
-            Ok(Explanation::new(opener.from, message))
-        }
+        Some(opener) => block_without_end(alloc, opener),
         None => {
             let end = fault.wanted;
             let message = format!(in alloc; "the source ends where `{{% {end} %}}` is wanted")?;
             Ok(Explanation::new("", message))
         }
     }
+}
+
+fn without_end(alloc: Global, name: &str, end: &str) -> Result<String, AllocError> {
+    let name = excerpt(alloc, name)?;
+    format!(in alloc; "`{{% {name} %}}` has no {end}")
+}
+
+fn block_without_end(alloc: Global, opener: &Opener<'_>) -> Result<Explanation, AllocError> {
+    let name = excerpt(alloc, opener.name)?;
+    let end = end_tag(opener.block);
+    let message = format!(in alloc; "`{{% {name} %}}` has no `{{% {end} %}}`")?;
+    Ok(Explanation::new(opener.from, message))
 }
 
 /// `the `{% if %}` of line 2, column 3`
