@@ -21,7 +21,7 @@ use Rattle.liquid_model.specs.Texts.{Text, same_text}
 use Rattle.liquid_model.specs.Maps.{listed, insert}
 use Rattle.liquid_language.proofs.Inserted.{named, looked_up, seen_inserted, listed_inserted}
 use Rattle.liquid_language.specs.Entries.{seen, put, placed, without}
-use Rattle.liquid_syntax.specs.Slots.{with_held, filled, exchanged}
+use Rattle.liquid_syntax.specs.Slots.{with_held, filled, reserved, exchanged}
 
 abbrev pub order : Text → Text → Ordering
 order = slice_cmp nat_cmp
@@ -250,9 +250,24 @@ reserved_same f new es k e h =
     none None h = refl
     none (Some held) h = absurd (apart h)
 
-pub seen_there : {X Y : Type 0} (f : X → Y) (name : Text) (es : List (String Global × X)) → is_some (lookup (named name) es) ≡ true → IsSome (listed (seen f es) name)
-seen_there f name es h = ap is_some (seen_found f name es _ refl) ∙ kept (lookup (named name) es) ∙ h
+pub seen_has : {X Y : Type 0} (f : X → Y) (name : Text) (es : List (String Global × X)) → is_some (listed (seen f es) name) ≡ is_some (lookup (named name) es)
+seen_has f name es = ap is_some (seen_found f name es _ refl) ∙ kept (lookup (named name) es)
   where
     kept : (o : Option _) → is_some (option_map f o) ≡ is_some o
     kept None = refl
     kept (Some x) = refl
+
+pub seen_there : {X Y : Type 0} (f : X → Y) (name : Text) (es : List (String Global × X)) → is_some (lookup (named name) es) ≡ true → IsSome (listed (seen f es) name)
+seen_there f name es h = seen_has f name es ∙ h
+
+-- a name that has a place keeps it, and one that has none gets an empty one
+abbrev reserved_if : {Y : Type 0} → Text → List (Text × Option Y) → Bool → List (Text × Option Y)
+reserved_if name es has = cond has es (put name None es)
+
+pub reserved_there : {X Y : Type 0} (f : X → Option Y) (name : Text) (es : List (String Global × X)) → is_some (lookup (named name) es) ≡ true → seen f es ≡ reserved name (seen f es)
+reserved_there f name es h = sym (ap (reserved_if name (seen f es)) (seen_has f name es ∙ h))
+
+pub reserved_new : {X Y : Type 0} (f : X → Y) (new es : List (String Global × Option X)) (k : String Global) → new ≡ insert_entry string_cmp es k None → is_some (lookup (named (string_bytes k)) es) ≡ false → seen (option_map f) new ≡ reserved (string_bytes k) (seen (option_map f) es)
+reserved_new f new es k e h =
+    ap (seen (option_map f)) e ∙ seen_inserted (option_map f) es k None
+    ∙ sym (ap (reserved_if (string_bytes k) (seen (option_map f) es)) (seen_has (option_map f) (string_bytes k) es ∙ h))

@@ -4,7 +4,7 @@ ghost use Rattle.std.specs.Map.{values_of};
 ghost use Rattle.liquid_model.specs.Answer.{IsValueOrMemory};
 ghost use Rattle.liquid_model.specs.Maps.{listed, insert};
 ghost use Rattle.liquid_language.specs.Entries.{put, placed};
-ghost use Rattle.liquid_syntax.specs.Slots.{exchanged};
+ghost use Rattle.liquid_syntax.specs.Slots.{reserved, exchanged};
 ghost use Rattle.liquid_syntax.specs.inside.Mentions.{held_names, partials_list_names};
 ghost use Rattle.liquid_syntax.specs.Templates.{most_of, node_count_of, tree_of, partials_of, slots_of};
 ghost use Rattle.liquid_tree.specs.Names.{mentioned, partials_names};
@@ -63,6 +63,7 @@ impl Partials {
     /// `exchange` then puts a template there without memory.
     pub fn reserve(&mut self, name: String) -> Result<()>
         ensures slot { OnOk result (IsSome (listed (slots_of self.new) (string_bytes name))) }
+        ensures others { OnOk result (slots_of self.new ≡ reserved (string_bytes name) (slots_of self.old)) }
         ensures memory { IfErr result (λ e. e.kind ≡ ErrorKind.Memory) }
         ensures same { partials_of self.new ≡ partials_of self.old }
         ensures unchanged { OnErr result (slots_of self.new ≡ slots_of self.old) }
