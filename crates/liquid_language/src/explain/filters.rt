@@ -45,14 +45,30 @@ pub fn unknown_filter(
 
 fn unknown_name(alloc: Global, language: &Language, name: &str) -> Result<String, AllocError> {
     let quoted = excerpt(alloc, name)?;
-    if let Some(meant) = meant_filter(name) {
-        if language.filters.get(meant).is_some() {
-            return format!(in alloc; "no filter is named `{quoted}`; write `{meant}`");
-        }
+    if let Some(meant) = meant_here(language, name) {
+        return format!(in alloc; "no filter is named `{quoted}`; write `{meant}`");
     }
-    if let Some(told) = lacking_filter(name) {
-        return format!(in alloc; "no filter is named `{quoted}`; {told}");
+    match lacking_filter(name) {
+        Some(told) => format!(in alloc; "no filter is named `{quoted}`; {told}"),
+        None => near_filter(alloc, language, name, quoted.as_str()),
     }
+}
+
+/// The filter that is meant by a name of another language, where it is registered.
+fn meant_here(language: &Language, name: &str) -> Option<&'static str> {
+    match meant_filter(name) {
+        Some(meant) if language.filters.get(meant).is_some() => Some(meant),
+        _ => None,
+    }
+}
+
+/// Of a filter whose name no other language has either.
+fn near_filter(
+    alloc: Global,
+    language: &Language,
+    name: &str,
+    quoted: &str,
+) -> Result<String, AllocError> {
     match nearest(alloc, language.filters.names(), name, None)? {
         Some(near) => {
             let meant = excerpt(alloc, near.name)?;
@@ -83,11 +99,10 @@ pub fn miscounted(
 }
 
 fn miscount(alloc: Global, call: Call<'_>, filter: RegisteredFilter) -> Result<String, AllocError> {
-    let name = excerpt(alloc, call.name)?;
     if !call.has_colon && call.arguments > 0 {
-        let takes = takes(alloc, filter, 0)?;
-        return format!(in alloc; "`{name}` takes {takes}, behind a `:`");
+        return without_colon(alloc, call.name, filter);
     }
+    let name = excerpt(alloc, call.name)?;
     let takes = takes(alloc, filter, call.arguments)?;
     let given = given(alloc, call.arguments)?;
     let advice = if call.names_arguments {
@@ -96,6 +111,17 @@ fn miscount(alloc: Global, call: Call<'_>, filter: RegisteredFilter) -> Result<S
         ""
     };
     format!(in alloc; "`{name}` takes {takes}, and {given}{advice}")
+}
+
+/// Of a filter whose arguments stand behind its name without a `:`.
+fn without_colon(
+    alloc: Global,
+    name: &str,
+    filter: RegisteredFilter,
+) -> Result<String, AllocError> {
+    let name = excerpt(alloc, name)?;
+    let takes = takes(alloc, filter, 0)?;
+    format!(in alloc; "`{name}` takes {takes}, behind a `:`")
 }
 
 /// How many arguments a filter takes, to which so many is no number.

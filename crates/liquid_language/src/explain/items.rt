@@ -28,12 +28,22 @@ pub fn misplaced(
     };
     let message = match meant(alloc, language, fault, piece, index)? {
         Some(told) => told,
-        None => match advice(&spot) {
-            Some(told) => String::from_str(alloc, told)?,
-            None => plain(alloc, found, fault.wanted, piece.kind)?,
-        },
+        None => advised(alloc, &spot, fault.wanted, piece.kind)?,
     };
     Ok(Explanation::new(from, message))
+}
+
+/// What is told of a habit, or else of what was found and what is wanted.
+fn advised(
+    alloc: Global,
+    spot: &Spot<'_>,
+    wanted: &str,
+    kind: Delimiter,
+) -> Result<String, AllocError> {
+    match advice(spot) {
+        Some(told) => String::from_str(alloc, told),
+        None => plain(alloc, spot.found, wanted, kind),
+    }
 }
 
 /// `found X where W is wanted`
@@ -87,29 +97,38 @@ fn in_arguments(
     index: usize,
 ) -> Result<Option<String>, AllocError> {
     let found = spelling_at(items, index);
-    let last = spelling_before(items, index);
     let bar = spelling_before(items, index.saturating_sub(1));
-    let told = if found == ":" {
-        "arguments of a filter have no names here"
-    } else if bar == "|" && found == "," {
-        "filters follow one another by `|`, as `a | strip | upcase`"
-    } else {
-        ""
-    };
-    if !told.is_empty() {
+    if let Some(told) = sign_in_arguments(bar, found) {
         return Ok(Some(String::from_str(alloc, told)?));
     }
-    if !begins_value(found) || !(bar == "|" || bar == ":" || bar == ",") {
-        return Ok(None);
+    if begins_value(found) && matches!(bar, "|" | ":" | ",") {
+        return Ok(Some(one_more_argument(alloc, bar, spelling_before(items, index), found)?));
     }
+    Ok(None)
+}
+
+/// What is told of a sign behind a filter or an argument of one.
+fn sign_in_arguments(bar: &str, found: &str) -> Option<&'static str> {
+    match (found, bar) {
+        (":", _) => Some("arguments of a filter have no names here"),
+        (",", "|") => Some("filters follow one another by `|`, as `a | strip | upcase`"),
+        _ => None,
+    }
+}
+
+/// What is told of a value behind a filter's name (`|` stands before that) or behind an argument.
+fn one_more_argument(
+    alloc: Global,
+    bar: &str,
+    last: &str,
+    found: &str,
+) -> Result<String, AllocError> {
     let last = excerpt(alloc, last)?;
     let found = excerpt(alloc, found)?;
-    let told = if bar == "|" {
-        format!(in alloc; "arguments stand behind a `:`: write `{last}: {found}`")?
-    } else {
-        format!(in alloc; "arguments have a `,` between them: write `{last}, {found}`")?
-    };
-    Ok(Some(told))
+    if bar == "|" {
+        return format!(in alloc; "arguments stand behind a `:`: write `{last}: {found}`");
+    }
+    format!(in alloc; "arguments have a `,` between them: write `{last}, {found}`")
 }
 
 fn is_tag(language: &Language, name: &str) -> bool {
