@@ -1,12 +1,11 @@
-//! The readers of arguments, and filters by their names.
+//! The readers of arguments.
 use crate::faults::no_call;
-use liquid_core::{Filter, Result, Value};
+use liquid_core::{Result, Value};
 use liquid_filter_base::{lower_case, text_argument, whole_argument};
-use liquid_lib::STANDARD_FILTERS;
-use liquid_refusals::{Row, items, text};
+use liquid_refusals::{Row, text};
 use std::alloc::Global;
 
-/// What a reader of arguments answers, or the filter that the row's source names.
+/// What a reader of arguments answers.
 pub(crate) fn argument_call(alloc: Global, name: &str, row: &Row) -> Result<Value> {
     match name {
         "text" => text(text_argument(alloc, &row.on)),
@@ -15,17 +14,6 @@ pub(crate) fn argument_call(alloc: Global, name: &str, row: &Row) -> Result<Valu
             Value::Text(given) => text(lower_case(alloc, given.as_str())),
             _ => no_call(alloc),
         },
-        "filter" => filter_call(alloc, row, items(&row.with)),
         _ => no_call(alloc),
     }
-}
-
-/// What the standard filter answers whose name is the one of the row.
-fn filter_call(alloc: Global, row: &Row, args: &[Value]) -> Result<Value> {
-    for filter in &STANDARD_FILTERS {
-        if filter.name() == row.source.as_str() && filter.accepts(args.len()) {
-            return filter.evaluate(alloc, &row.on, args);
-        }
-    }
-    no_call(alloc)
 }

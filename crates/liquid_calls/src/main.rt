@@ -1,14 +1,39 @@
 //! Makes calls that rows tell, and tells each that doesn't end as its row says.
 //!
-//! A row is a line of JSON on standard input: `call`, the type and the name of a call; what it is made with, `on`, `with`, the
-//! `source` of a template whose part is called, and the `data` of the state; and `answer`, or `fault`, the kind of the fault that
-//! it ends by. `none` says that the call takes no memory. With a word each call stands between marks, for `tests/refusals/run`,
-//! and how it ended behind them.
+//! A row is a line of JSON on standard input, with these fields; one that it lacks is nil, or empty:
+//!
+//! - `call`, the type and the name of a call, as `Value::text`;
+//! - what it is made with: `on`, a value; `with`, a second value or a list; `source`, a template's source or another text; and
+//!   `data`, that of the state;
+//! - `answer`, what the call answers; or in its place `fault`, the kind of the fault that it ends by;
+//! - `none`, where the call takes no memory.
+//!
+//! The calls:
+//!
+//! - `Filter::NAME`: the filter with the input `on` and the arguments of the list `with`. It is called alone, and then by a chain
+//!   of this one filter, which takes memory of its own for two arguments or more. Jekyll's `sort` is `jekyll sort` in rows, for
+//!   `sort` is the standard one.
+//! - `Accepts::NAME`: whether that filter accepts the numbers of arguments from `on` to `with`, and no others, up to four.
+//! - `argument::NAME`: the reader of arguments of that name, over `on`.
+//! - `Value::NAME` and `Test::NAME`: the method of the value `on`. `Order::NAME`: that of `on` beside the value `with`.
+//! - `Error::NAME`: a fault with the message `source`, as it is told.
+//! - `State`: calls of the state, one after another, as `src/states.rt` tells.
+//! - `Template::NAME`: the method of the template `source`. That of a part of its first node: `Expression::NAME`,
+//!   `Variable::NAME`, `FilterChain::NAME`, `Condition::NAME`, `RangeExpression::NAME`, `Range::NAME`, `Window::NAME` and
+//!   `Cycle::NAME`.
+//!
+//! With a word each call stands between marks, for `tests/refusals/run`, and how it ended behind them. Where there is a row of a
+//! filter, each standard filter without one is told at the end.
+//!
+//! What rows of `date` and `date_in_tz` print was written by another program, `date` of the GNU core utilities, in the zone of
+//! each date. What directives print which that program lacks or prints in another way (`%C`, `%c`, `%f`, `%.f`, `%N`, `%^P`,
+//! `%Q`, `%r`, `%3u`, `%X`, `%x`, `%Z`) is told by the documentation of jiff.
 #![tactic(auto)]
 
 mod arguments;
 mod expressions;
 mod faults;
+mod filters;
 mod loops;
 mod states;
 mod templates;
@@ -17,11 +42,13 @@ mod values;
 use crate::arguments::argument_call;
 use crate::expressions::{chain_call, condition_call, expression_call, variable_call};
 use crate::faults::{fault_call, no_call};
+use crate::filters::{accepts_call, each_is_called, filter_made, filter_of};
 use crate::loops::{range_call, source_call, window_call};
 use crate::states::made_in_turn;
 use crate::templates::{group_call, template_call};
 use crate::values::{order_call, test_call, value_call};
-use liquid_core::{Expression, Result, State, Value};
+use liquid_core::{Expression, Object, Result, State, Value};
+use liquid_filters::FilterKind;
 use liquid_lib::language;
 use liquid_refusals::{Row, Told, read_row};
 use liquid_syntax::{Language, Node, Template, parse};
@@ -35,27 +62,56 @@ fn main(rt: HostRuntime) -> Result<()> {
         marked: env::args(&rt).is_ok_and(|words| words.count() > 1),
     };
     let language = language(rt.alloc())?;
+    let mut called_filters = Vec::new(rt.alloc());
     for line in rt.lines(rt.alloc()) {
         match line {
-            Ok(line) => line_made(&told, &language, line.as_str()),
+            Ok(line) => line_made(&told, &language, &mut called_filters, line.as_str()),
             Err(_) => {
                 let _ = println!(rt; "a line that can't be read");
             }
         }
     }
+    each_is_called(&told, &called_filters);
     Ok(())
 }
 
 /// Makes the call that the line tells.
-fn line_made<R: Print>(told: &Told<'_, R>, language: &Language, line: &str) {
-    if let Err(fault) = row_made(told, language, line) {
+fn line_made<R: Print>(
+    told: &Told<'_, R>,
+    language: &Language,
+    called_filters: &mut Vec<FilterKind>,
+    line: &str,
+) {
+    if let Err(fault) = row_made(told, language, called_filters, line) {
         let _ = println!(told.rt; "no row, by {}: {line}", fault.kind.name());
     }
 }
 
-/// Makes the call of the row, over its template and its state.
-fn row_made<R: Print>(told: &Told<'_, R>, language: &Language, line: &str) -> Result<()> {
+/// Makes the call of the row. A filter that it calls is noted.
+fn row_made<R: Print>(
+    told: &Told<'_, R>,
+    language: &Language,
+    called_filters: &mut Vec<FilterKind>,
+    line: &str,
+) -> Result<()> {
     let (row, data) = read_row(told.alloc, line)?;
+    match filter_of(&row) {
+        Some(filter) => {
+            called_filters.push(filter)?;
+            filter_made(told, line, filter, &row)
+        }
+        None => call_made(told, language, line, &row, data),
+    }
+}
+
+/// Makes another call than one of a filter, over the row's template and its state.
+fn call_made<R: Print>(
+    told: &Told<'_, R>,
+    language: &Language,
+    line: &str,
+    row: &Row,
+    data: Object,
+) -> Result<()> {
     let template = parse(told.alloc, row.source.as_str(), language)?;
     let mut state = State::new(told.alloc, data);
     if row.call.as_str() == "State" {
@@ -63,9 +119,9 @@ fn row_made<R: Print>(told: &Told<'_, R>, language: &Language, line: &str) -> Re
         return Ok(());
     }
     told.begin();
-    let answer = called(told.alloc, &row, language, &template, &state);
+    let answer = called(told.alloc, row, language, &template, &state);
     told.end();
-    told.answered(line, &row, &answer);
+    told.answered(line, row, &answer);
     Ok(())
 }
 
@@ -84,6 +140,7 @@ fn called(
         Some(("Order", name)) => order_call(alloc, name, &row.on, &row.with),
         Some(("Error", name)) => fault_call(alloc, name, row),
         Some(("argument", name)) => argument_call(alloc, name, row),
+        Some(("Accepts", name)) => accepts_call(alloc, name, row),
         Some(("Template", name)) => template_call(alloc, name, row, language, template),
         Some((part, _)) => match template.nodes().first() {
             Some(node) => node_call(alloc, part, row, node, state),

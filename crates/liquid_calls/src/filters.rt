@@ -1,0 +1,162 @@
+//! Filters, by their names in rows: what one answers alone and in a chain, which numbers of arguments it accepts, and which
+//! filters no row calls.
+use crate::faults::no_call;
+use liquid_core::{Expression, Filter, Object, Result, State, Value};
+use liquid_filters::{FilterKind, jekyll};
+use liquid_lib::STANDARD_FILTERS;
+use liquid_refusals::{Row, Told, ending, items};
+use liquid_syntax::{FilterCall, apply_filters};
+use std::alloc::Global;
+
+/// Jekyll's `sort`, which the standard language lacks: its filter of that name is another.
+const JEKYLL_SORT: FilterKind = FilterKind::JekyllSort(jekyll::Sort);
+
+/// The name of a filter in rows: Liquid's, but for Jekyll's `sort`.
+fn name_in_rows(filter: FilterKind) -> &'static str {
+    match filter {
+        FilterKind::JekyllSort(_) => "jekyll sort",
+        _ => filter.name(),
+    }
+}
+
+/// The filter of the name.
+fn filter_named(name: &str) -> Option<FilterKind> {
+    for filter in &STANDARD_FILTERS {
+        if name_in_rows(*filter) == name {
+            return Some(*filter);
+        }
+    }
+    if name_in_rows(JEKYLL_SORT) == name {
+        return Some(JEKYLL_SORT);
+    }
+    None
+}
+
+/// The filter that the row calls, or none where it is no row of a filter.
+pub(crate) fn filter_of(row: &Row) -> Option<FilterKind> {
+    match row.call.as_str().split_once("::") {
+        Some(("Filter", name)) => filter_named(name),
+        _ => None,
+    }
+}
+
+/// Makes the call of a row of the filter: by the filter alone, and then by a chain of it.
+pub(crate) fn filter_made<R: Print>(
+    told: &Told<'_, R>,
+    line: &str,
+    filter: FilterKind,
+    row: &Row,
+) -> Result<()> {
+    told.begin();
+    let answer = alone(told.alloc, filter, row);
+    told.end();
+    told.answered(line, row, &answer);
+    made_in_a_chain(told, line, filter, row)
+}
+
+/// What the filter answers to the row's value, with the row's list as its arguments.
+fn alone(alloc: Global, filter: FilterKind, row: &Row) -> Result<Value> {
+    let args = items(&row.with);
+    if filter.accepts(args.len()) {
+        return filter.evaluate(alloc, &row.on, args);
+    }
+    no_call(alloc)
+}
+
+/// Makes the same call by a chain of the filter, whose arguments are literals.
+fn made_in_a_chain<R: Print>(
+    told: &Told<'_, R>,
+    line: &str,
+    filter: FilterKind,
+    row: &Row,
+) -> Result<()> {
+    let input = row.on.copy(told.alloc)?;
+    let literals = literals(told.alloc, items(&row.with))?;
+    if !filter.accepts(literals.len()) {
+        return Ok(());
+    }
+    let calls = [FilterCall {
+        filter,
+        args: &literals,
+    }];
+    let state = State::new(told.alloc, Object::new(told.alloc));
+    told.begin();
+    let answer = apply_filters(told.alloc, input, &calls, &state);
+    told.end();
+    told.ended(
+        "apply_filters",
+        line,
+        ending(&answer, &row.answer, fault_of(row)),
+    );
+    Ok(())
+}
+
+/// Copies of the arguments as literals.
+fn literals(alloc: Global, args: &[Value]) -> Result<Vec<Expression>> {
+    let mut literals = Vec::new(alloc);
+    for argument in args {
+        literals.push(Expression::Literal(argument.copy(alloc)?))?;
+    }
+    Ok(literals)
+}
+
+/// The kind of the fault that the row tells, if it tells one.
+fn fault_of(row: &Row) -> Option<&str> {
+    match row.fault.as_str() {
+        "" => None,
+        fault => Some(fault),
+    }
+}
+
+/// Whether the filter of the name accepts the numbers of arguments from the row's first value to its second one, and no others.
+pub(crate) fn accepts_call(alloc: Global, name: &str, row: &Row) -> Result<Value> {
+    match filter_named(name) {
+        Some(filter) => match (&row.on, &row.with) {
+            (Value::Integer(least), Value::Integer(most)) => {
+                Ok(Value::Bool(accepts_only(filter, *least, *most)))
+            }
+            _ => no_call(alloc),
+        },
+        None => no_call(alloc),
+    }
+}
+
+/// Whether the filter accepts the numbers of arguments from the least to the most and no others, up to four.
+fn accepts_only(filter: FilterKind, least: i64, most: i64) -> bool {
+    for count in 0..5u8 {
+        let is_wanted = least <= i64::from(count) && i64::from(count) <= most;
+        if filter.accepts(usize::from(count)) != is_wanted {
+            return false;
+        }
+    }
+    true
+}
+
+/// Tells each filter that isn't among the called ones, unless no row called any: then no row of a filter was given.
+pub(crate) fn each_is_called<R: Print>(told: &Told<'_, R>, called: &[FilterKind]) {
+    if called.is_empty() {
+        return;
+    }
+    for filter in &STANDARD_FILTERS {
+        one_is_called(told, called, *filter);
+    }
+    one_is_called(told, called, JEKYLL_SORT);
+}
+
+/// Tells the filter where it isn't among the called ones.
+fn one_is_called<R: Print>(told: &Told<'_, R>, called: &[FilterKind], filter: FilterKind) {
+    let name = name_in_rows(filter);
+    if !is_called(called, name) {
+        let _ = println!(told.rt; "no row of {name}");
+    }
+}
+
+/// Whether the filter of the name is among the called ones.
+fn is_called(called: &[FilterKind], name: &str) -> bool {
+    for filter in called {
+        if name_in_rows(*filter) == name {
+            return true;
+        }
+    }
+    false
+}
