@@ -1,69 +1,34 @@
 //! Filters of a host: calls by their names, and pages.
 use crate::filters::{Bad, Suffix};
 use crate::given::option;
-use crate::pages::{parsed, rendered, rendered_to};
-use liquid_core::{ErrorKind, Expression, Filter, HostFilters, NamedFilters, Result, State, Value};
-use liquid_lib::{Language, RuntimeBuilder, language};
+use crate::pages::pages_made;
+use liquid_core::{
+    ErrorKind, Expression, Filter, HostFilters, NamedFilters, Object, Result, State, Value,
+};
 use liquid_refusals::{Row, Told, ending, items, member, text_member};
 use liquid_syntax::{FilterCall, apply_filters};
 use std::alloc::Global;
 use std::collections::BTreeMap;
 
-/// The calls of the row, with the filters of a host: `shout`, which puts a `!` behind (an earlier one of that name puts a `0`),
-/// `upcase`, which puts a `?`, and `bad`.
+/// The calls of the row, or its page, with the filters of a host: `shout`, which puts a `!` behind (an earlier one of that name
+/// puts a `0`), `upcase`, which puts a `?`, and `bad`.
 pub(crate) fn hosted<R: Print>(told: &Told<'_, R>, row: &Row) -> Result<()> {
     let alloc = told.alloc;
-    let earlier: Box<dyn Filter> = Box::new(alloc, Suffix { text: "0" })?;
-    let shout: Box<dyn Filter> = Box::new(alloc, Suffix { text: "!" })?;
-    let upcase: Box<dyn Filter> = Box::new(alloc, Suffix { text: "?" })?;
-    let bad: Box<dyn Filter> = Box::new(alloc, Bad)?;
     let mut filters = Vec::new(alloc);
-    filters.push((String::from_str(alloc, "shout")?, earlier))?;
-    filters.push((String::from_str(alloc, "shout")?, shout))?;
-    filters.push((String::from_str(alloc, "upcase")?, upcase))?;
+    for (name, text) in [("shout", "0"), ("shout", "!"), ("upcase", "?")] {
+        let suffix: Box<dyn Filter> = Box::new(alloc, Suffix { text })?;
+        filters.push((String::from_str(alloc, name)?, suffix))?;
+    }
+    let bad: Box<dyn Filter> = Box::new(alloc, Bad)?;
     filters.push((String::from_str(alloc, "bad")?, bad))?;
     let host = HostFilters::new(filters);
-    called_in_turn(told, &host, &row.with);
     if row.call.as_str() == "filters" {
+        called_in_turn(told, &host, &row.with);
         return Ok(());
     }
-    let language = language_with(alloc, &row.on)?;
-    let Some(template) = parsed(told, row, &language) else {
-        return Ok(());
-    };
-    if option(&row.on, "lacks_filters").is_some() {
-        let mut runtime = RuntimeBuilder::new(alloc).build(alloc);
-        rendered_to(told, row, &template, &mut runtime)?;
-        let mut runtime = RuntimeBuilder::new(alloc).build(alloc);
-        rendered(told, row, &template, &mut runtime);
-        return Ok(());
-    }
-    let mut runtime = RuntimeBuilder::new(alloc)
-        .set_host_filters(&host)
-        .build(alloc);
-    rendered_to(told, row, &template, &mut runtime)?;
-    let mut runtime = RuntimeBuilder::new(alloc)
-        .set_host_filters(&host)
-        .build(alloc);
-    rendered(told, row, &template, &mut runtime);
-    Ok(())
-}
-
-/// The standard language, in which the names of the options stand for filters of the host, each with the greatest number of
-/// arguments that a template may give it.
-fn language_with(alloc: Global, options: &Value) -> Result<Language> {
-    let mut language = language(alloc)?;
-    if let Some(Value::Object(names)) = option(options, "host") {
-        for (name, most) in names.iter() {
-            let most = most
-                .to_integer()
-                .map_or(0, |most| usize::try_from(most).unwrap_or(0));
-            language
-                .filters
-                .register_host(String::from_str(alloc, name.as_str())?, 0, most)?;
-        }
-    }
-    Ok(language)
+    let is_lent = option(&row.on, "lacks_filters").is_none();
+    let data = Object::new(alloc);
+    pages_made(told, row, data, Some(&host).filter(|_| is_lent))
 }
 
 /// Calls the filters of the host. Each step is a list: the call, the filter's name, the input, the arguments, and the answer or

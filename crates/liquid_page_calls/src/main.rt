@@ -1,26 +1,27 @@
-//! Makes calls of languages, runtimes, pages, filters of a host and sites as rows tell them, and tells each that doesn't end as its row says.
+//! Makes calls of languages, runtimes, pages and filters of a host as rows tell them, and those of the README's examples, and tells
+//! each that doesn't end as its row says.
 //!
 //! A row is a line of JSON on standard input: `call`, and of a page its `source`, its `data`, and `on`, with `partials`, `tags` that
 //! are registered beside the standard ones, `host` (names that stand for filters of a host), the `depth`, the `writes` that its
 //! writer takes, of at most so many bytes each, and what is rendered `then` on the same runtime; its page as `answer`, and the
-//! kind of its `fault`. Of all other calls `with` is a list of steps. With a word each call stands between marks, for
-//! `tests/refusals/run`, and how it ended behind them.
+//! kind of its `fault`. The `source` of an `example` is its name. Of all other calls `with` is a list of steps. With a word each
+//! call stands between marks, for `tests/refusals/run`, and how it ended behind them.
 #![tactic(auto)]
 
+mod examples;
 mod filters;
 mod given;
 mod hosts;
 mod pages;
 mod registers;
 mod runtimes;
-mod sites;
 mod writers;
 
+use crate::examples::example_made;
 use crate::hosts::hosted;
 use crate::pages::pages_made;
 use crate::registers::{forloop_made, language_made, registered};
 use crate::runtimes::runtime_made;
-use crate::sites::site_made;
 use liquid_core::{Object, Result};
 use liquid_refusals::{Row, Told, read_row};
 use std::env;
@@ -44,23 +45,28 @@ fn main(rt: HostRuntime) -> Result<()> {
 
 /// Makes the calls that the line tells.
 fn line_made<R: Print>(told: &Told<'_, R>, line: &str) {
-    let made = match read_row(told.alloc, line) {
-        Ok((row, data)) => row_made(told, line, &row, data),
-        Err(fault) => Err(fault),
-    };
-    if let Err(fault) = made {
+    if let Err(fault) = row_read(told, line) {
         let _ = println!(told.rt; "no row, by {}: {line}", fault.kind.name());
     }
+}
+
+/// Reads the row of the line, and makes its calls.
+fn row_read<R: Print>(told: &Told<'_, R>, line: &str) -> Result<()> {
+    let (row, data) = read_row(told.alloc, line)?;
+    row_made(told, line, &row, data)
 }
 
 /// Makes the calls of the row.
 fn row_made<R: Print>(told: &Told<'_, R>, line: &str, row: &Row, data: Object) -> Result<()> {
     match row.call.as_str() {
-        "page" => pages_made(told, row, data),
+        "page" => pages_made(told, row, data, None),
         "hosted page" | "filters" => hosted(told, row),
         "runtime" => runtime_made(told, row, data),
-        "site" => site_made(told, row),
         "registers" => registered(told, row),
+        "example" => {
+            example_made(told, line, row);
+            Ok(())
+        }
         "forloop" => {
             forloop_made(told, line, row);
             Ok(())

@@ -1,51 +1,45 @@
 //! A page by each call that makes it.
-use crate::given::{copied, depth, language_with_tags, option, partials_of};
+use crate::given::{copied, depth, language_with, option, partials_of};
 use crate::writers::{kind_ending, page_ending, page_of, writer};
-use liquid_core::{ErrorKind, Object, Result, Value};
+use liquid_core::{ErrorKind, HostFilters, Object, Result, Value};
 use liquid_lib::{
     Counted, CountedWrite, Language, Partials, Renderable, Runtime, RuntimeBuilder, Template,
     parse, render_page, render_source,
 };
-use liquid_refusals::{Row, Told, ending, items, kind_of, text, text_member};
-use std::alloc::Global;
+use liquid_refusals::{Row, Told, items, kind_of, text_member};
 
-/// The page of the row, by each call.
-pub(crate) fn pages_made<R: Print>(told: &Told<'_, R>, row: &Row, data: Object) -> Result<()> {
-    let alloc = told.alloc;
-    let language = language_with_tags(alloc, &row.on)?;
-    let partials = partials_of(alloc, &row.on, &language)?;
-    let data = Value::Object(data);
+/// What the pages of a row are made of.
+#[derive(Drop)]
+struct Given {
+    language: Language,
+    partials: Partials,
+    template: Template,
+    data: Value,
+}
+
+/// The page of the row by each call, with these filters of a host or without any.
+pub(crate) fn pages_made<R: Print>(
+    told: &Told<'_, R>,
+    row: &Row,
+    data: Object,
+    host: Option<&HostFilters>,
+) -> Result<()> {
+    let language = language_with(told.alloc, &row.on)?;
+    let partials = partials_of(told.alloc, &row.on, &language)?;
     let Some(template) = parsed(told, row, &language) else {
         return Ok(());
     };
-    let depth = depth(&row.on);
-    let mut runtime = RuntimeBuilder::new(alloc)
-        .set_globals(copied(alloc, &data)?)
-        .set_partials(&partials)
-        .set_depth(depth)
-        .build(alloc);
-    rendered_to(told, row, &template, &mut runtime)?;
-    rendered_then(told, row, &language, &mut runtime)?;
-    rendered_from_source(told, row, &language, copied(alloc, &data)?, &partials)?;
-    if row.fault.as_str() == "Write" {
-        return Ok(());
-    }
-    let mut runtime = RuntimeBuilder::new(alloc)
-        .set_globals(copied(alloc, &data)?)
-        .set_partials(&partials)
-        .set_depth(depth)
-        .build(alloc);
-    rendered(told, row, &template, &mut runtime);
-    page_rendered(told, row, &template, &partials, &copied(alloc, &data)?);
-    Ok(())
+    let given = Given {
+        language,
+        partials,
+        template,
+        data: Value::Object(data),
+    };
+    rendered_by_each(told, row, &given, host)
 }
 
 /// The template, parsed again where memory was refused, or none where the row's source is refused by its fault.
-pub(crate) fn parsed<R: Print>(
-    told: &Told<'_, R>,
-    row: &Row,
-    language: &Language,
-) -> Option<Template> {
+fn parsed<R: Print>(told: &Told<'_, R>, row: &Row, language: &Language) -> Option<Template> {
     let source = row.source.as_str();
     told.begin();
     let answer = parse(told.alloc, source, language);
@@ -66,85 +60,66 @@ pub(crate) fn parsed<R: Print>(
     }
 }
 
-pub(crate) fn rendered_to<R: Print>(
+/// The page by the calls that write it, and where no write is to fail, by those that answer it.
+fn rendered_by_each<R: Print>(
     told: &Told<'_, R>,
     row: &Row,
-    template: &Template,
-    runtime: &mut Runtime<'_>,
+    given: &Given,
+    host: Option<&HostFilters>,
 ) -> Result<()> {
-    let mut counted = Counted::new(writer(told.alloc, &row.on, page_of(row))?);
-    told.begin();
-    let answer = template.render_to(told.alloc, &mut counted, runtime);
-    told.end();
-    let failures = counted.failures();
-    let end = page_ending(row, &answer, &counted.into_inner().bytes, failures);
-    told.ended("render_to", row.source.as_str(), end);
-    Ok(())
-}
-
-/// Renders the row's further sources on what the runtime now is, each with its page and the kind of its fault. Nothing is looked
-/// at where calls stand between marks, for then the runtime is what a rendering that was refused memory left.
-fn rendered_then<R: Print>(
-    told: &Told<'_, R>,
-    row: &Row,
-    language: &Language,
-    runtime: &mut Runtime<'_>,
-) -> Result<()> {
-    if told.marked {
+    rendered_by(told, row, given, host, "render_to")?;
+    rendered_by(told, row, given, host, "render_source")?;
+    if row.fault.as_str() == "Write" {
         return Ok(());
     }
-    for step in items(option(&row.on, "then").unwrap_or(&Value::Nil)) {
-        let template = parse(told.alloc, text_member(step, 0), language)?;
-        let answer = text(template.render(told.alloc, runtime));
-        told.ended(
-            "render then",
-            text_member(step, 0),
-            then_ending(told.alloc, step, &answer)?,
-        );
+    rendered_by(told, row, given, host, "render")?;
+    if host.is_none() {
+        page_rendered(told, row, given);
     }
     Ok(())
 }
 
-/// `done` where the answer is the text behind the step's source, or a fault whose kind stands there.
-fn then_ending(alloc: Global, step: &Value, answer: &Result<Value>) -> Result<&'static str> {
-    let wanted = Value::Text(String::from_str(alloc, text_member(step, 1))?);
-    let fault = match answer {
-        Ok(_) => None,
-        Err(_) => Some(text_member(step, 1)),
-    };
-    Ok(ending(answer, &wanted, fault))
-}
-
-fn rendered_from_source<R: Print>(
+/// The page by a call over a runtime, which is made here: of one that is handed on to `render_source` rt ci takes it that filters
+/// of a host are made for it.
+fn rendered_by<R: Print>(
     told: &Told<'_, R>,
     row: &Row,
-    language: &Language,
-    data: Object,
-    partials: &Partials,
+    given: &Given,
+    host: Option<&HostFilters>,
+    call: &str,
 ) -> Result<()> {
-    // a runtime that comes from elsewhere may have filters of a host, which rt ci wants where they are made
-    let mut runtime = RuntimeBuilder::new(told.alloc)
-        .set_globals(data)
-        .set_partials(partials)
-        .set_depth(depth(&row.on))
-        .build(told.alloc);
-    let mut counted = Counted::new(writer(told.alloc, &row.on, page_of(row))?);
+    let alloc = told.alloc;
+    let builder = RuntimeBuilder::new(alloc)
+        .set_globals(copied(alloc, &given.data)?)
+        .set_partials(&given.partials)
+        .set_depth(depth(&row.on));
+    let mut runtime = match host {
+        Some(host) => builder.set_host_filters(host).build(alloc),
+        None => builder.build(alloc),
+    };
+    if call == "render" {
+        rendered(told, row, &given.template, &mut runtime);
+        return Ok(());
+    }
+    let source = row.source.as_str();
+    let mut counted = Counted::new(writer(alloc, row)?);
     told.begin();
-    let answer = render_source(
-        told.alloc,
-        row.source.as_str(),
-        language,
-        &mut counted,
-        &mut runtime,
-    );
+    let answer = match call {
+        "render_to" => given.template.render_to(alloc, &mut counted, &mut runtime),
+        _ => render_source(alloc, source, &given.language, &mut counted, &mut runtime),
+    };
     told.end();
     let failures = counted.failures();
-    let end = page_ending(row, &answer, &counted.into_inner().bytes, failures);
-    told.ended("render_source", row.source.as_str(), end);
-    Ok(())
+    let bytes = counted.into_inner().bytes;
+    told.ended(
+        call,
+        source,
+        page_ending(row, kind_of(&answer), &bytes, failures),
+    );
+    rendered_then(told, row, &given.language, &mut runtime)
 }
 
-pub(crate) fn rendered<R: Print>(
+fn rendered<R: Print>(
     told: &Told<'_, R>,
     row: &Row,
     template: &Template,
@@ -160,16 +135,52 @@ pub(crate) fn rendered<R: Print>(
     told.ended("render", row.source.as_str(), end);
 }
 
-/// The page over lent data, with its fault beside its text.
-fn page_rendered<R: Print>(
+/// Renders the row's further sources on what the runtime now is, each with its page and the kind of its fault. Nothing is looked
+/// at where calls stand between marks, for then the runtime is what a rendering that was refused memory left.
+fn rendered_then<R: Print>(
     told: &Told<'_, R>,
     row: &Row,
-    template: &Template,
-    partials: &Partials,
-    data: &Object,
-) {
+    language: &Language,
+    runtime: &mut Runtime<'_>,
+) -> Result<()> {
+    if told.marked {
+        return Ok(());
+    }
+    for step in items(option(&row.on, "then").unwrap_or(&Value::Nil)) {
+        let source = text_member(step, 0);
+        let template = parse(told.alloc, source, language)?;
+        let answer = template.render(told.alloc, runtime);
+        told.ended(
+            "render then",
+            source,
+            then_ending(&answer, text_member(step, 1)),
+        );
+    }
+    Ok(())
+}
+
+/// `done` where the answer is the wanted text, or a fault of a kind of that name.
+fn then_ending(answer: &Result<String>, wanted: &str) -> &'static str {
+    let (shown, end) = match answer {
+        Ok(text) => (text.as_str(), "another_answer"),
+        Err(fault) => (fault.kind.name(), fault.kind.name()),
+    };
+    if shown == wanted { "done" } else { end }
+}
+
+/// The page over lent data, with its fault beside its text.
+fn page_rendered<R: Print>(told: &Told<'_, R>, row: &Row, given: &Given) {
+    let Value::Object(data) = &given.data else {
+        return;
+    };
     told.begin();
-    let answer = render_page(told.alloc, template, partials, depth(&row.on), data);
+    let answer = render_page(
+        told.alloc,
+        &given.template,
+        &given.partials,
+        depth(&row.on),
+        data,
+    );
     told.end();
     let end = match &answer {
         Ok(page) if page.text.as_str() != page_of(row) => "another_page",

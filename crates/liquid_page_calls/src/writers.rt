@@ -1,7 +1,7 @@
 //! A writer that takes little, and fails; and how a page ended that was written to it.
-use crate::given::number_or;
+use crate::given::{number_or, option};
 use liquid_core::{ErrorKind, Result, Value};
-use liquid_refusals::{Row, kind_of};
+use liquid_refusals::Row;
 use std::alloc::Global;
 use std::io;
 use std::io::Write;
@@ -30,12 +30,12 @@ impl Write for Limited {
     }
 }
 
-/// The writer of the row's options, with room for the page, so that it asks for none.
-pub(crate) fn writer(alloc: Global, options: &Value, page: &str) -> Result<Limited> {
+/// The writer of the row, with room for its page, so that it asks for none.
+pub(crate) fn writer(alloc: Global, row: &Row) -> Result<Limited> {
     Ok(Limited {
-        bytes: Vec::with_capacity(alloc, page.len())?,
-        most: number_or(options, "most", 4096),
-        writes_left: number_or(options, "writes", 4096),
+        bytes: Vec::with_capacity(alloc, page_of(row).len())?,
+        most: number_or(option(&row.on, "most"), 4096),
+        writes_left: number_or(option(&row.on, "writes"), 4096),
     })
 }
 
@@ -47,15 +47,14 @@ pub(crate) fn page_of(row: &Row) -> &str {
     }
 }
 
-/// `done` where the page was written and ended as the row says. After refused memory it is a beginning of it.
+/// `done` where the page was written and ended by the kind, as the row says. After refused memory it is a beginning of it.
 pub(crate) fn page_ending(
     row: &Row,
-    answer: &Result<()>,
+    kind: Option<ErrorKind>,
     bytes: &[u8],
     failures: u64,
 ) -> &'static str {
     let page = page_of(row).as_bytes();
-    let kind = kind_of(answer);
     if kind == Some(ErrorKind::Memory) {
         return if page.starts_with(bytes) {
             "Memory"
