@@ -17,7 +17,8 @@
 //! - `argument::NAME`: the reader of arguments of that name, over `on`.
 //! - `Value::NAME` and `Test::NAME`: the method of the value `on`. `Order::NAME`: that of `on` beside the value `with`.
 //! - `Error::NAME`: a fault with the message `source`, as it is told.
-//! - `State`: calls of the state, one after another, as `src/states.rt` tells.
+//! - `State`: calls of the state, one after another, as `src/states.rt` tells. `Site`: changes of a site, as `src/sites.rt` tells.
+//! - `Example::shop`: the README's example of a site.
 //! - `Template::NAME`: the method of the template `source`. That of a part of its first node: `Expression::NAME`,
 //!   `Variable::NAME`, `FilterChain::NAME`, `Condition::NAME`, `RangeExpression::NAME`, `Range::NAME`, `Window::NAME` and
 //!   `Cycle::NAME`.
@@ -35,6 +36,8 @@ mod expressions;
 mod faults;
 mod filters;
 mod loops;
+mod site_example;
+mod sites;
 mod states;
 mod templates;
 mod values;
@@ -44,13 +47,15 @@ use crate::expressions::{chain_call, condition_call, expression_call, variable_c
 use crate::faults::{fault_call, no_call};
 use crate::filters::{accepts_call, each_is_called, filter_made, filter_of};
 use crate::loops::{range_call, source_call, window_call};
+use crate::site_example::shop;
+use crate::sites::site_made;
 use crate::states::made_in_turn;
 use crate::templates::{group_call, template_call};
 use crate::values::{order_call, test_call, value_call};
 use liquid_core::{Expression, Object, Result, State, Value};
 use liquid_filters::FilterKind;
 use liquid_lib::language;
-use liquid_refusals::{Row, Told, read_row};
+use liquid_refusals::{Row, Told, read_row, text};
 use liquid_syntax::{Language, Node, Template, parse};
 use std::alloc::Global;
 use std::env;
@@ -100,6 +105,7 @@ fn row_made<R: Print>(
             called_filters.push(filter)?;
             filter_made(told, line, filter, &row)
         }
+        None if row.call.as_str() == "Site" => site_made(told, &row),
         None => call_made(told, language, line, &row, data),
     }
 }
@@ -140,6 +146,7 @@ fn called(
         Some(("Order", name)) => order_call(alloc, name, &row.on, &row.with),
         Some(("Error", name)) => fault_call(alloc, name, row),
         Some(("argument", name)) => argument_call(alloc, name, row),
+        Some(("Example", _)) => text(shop(alloc)),
         Some(("Accepts", name)) => accepts_call(alloc, name, row),
         Some(("Template", name)) => template_call(alloc, name, row, language, template),
         Some((part, _)) => match template.nodes().first() {
