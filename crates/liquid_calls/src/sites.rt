@@ -16,25 +16,22 @@ pub(crate) fn site_made<R: Print>(told: &Told<'_, R>, row: &Row) -> Result<()> {
     Ok(())
 }
 
-/// Applies a change. Where memory was refused, the site takes the change when it comes again.
+/// Applies a change. Where memory was refused, the site is as it was behind the step before, and takes the change when it comes
+/// again.
 fn applied<R: Print>(
     told: &Told<'_, R>,
     site: &mut Site,
     step: &Value,
     before: Option<&Value>,
 ) -> Result<()> {
-    let at = format!(in told.alloc;
-        "{} {} {}",
-        text_member(step, 1),
-        text_member(step, 2),
-        text_member(step, 6)
-    )?;
+    let at = named(told.alloc, step)?;
     let change = change_of(told.alloc, step)?;
     told.begin();
     let kind = kind_of(&site.apply(change));
     told.end();
     let end = match kind {
-        Some(ErrorKind::Memory) => refused_end(site, before),
+        Some(ErrorKind::Memory) if !shows(site, before) => "another_site",
+        Some(ErrorKind::Memory) => "Memory",
         _ => applied_end(step, kind),
     };
     told.ended(text_member(step, 0), at.as_str(), end);
@@ -47,13 +44,10 @@ fn applied<R: Print>(
     Ok(())
 }
 
-/// `Memory` where the site is as it was behind the step before.
-fn refused_end(site: &Site, before: Option<&Value>) -> &'static str {
-    if shows(site, before) {
-        "Memory"
-    } else {
-        "another_site"
-    }
+/// The name, the source and the words of the step.
+fn named(alloc: Global, step: &Value) -> Result<String> {
+    let (name, source) = (text_member(step, 1), text_member(step, 2));
+    Ok(format!(in alloc; "{name} {source} {}", text_member(step, 6))?)
 }
 
 /// `done` where the kind is the one that the step says, or there is none of both.
@@ -79,10 +73,13 @@ fn change_of(alloc: Global, step: &Value) -> Result<Change> {
 }
 
 /// Whether the site shows just what the step says: each page with its text, a `:` and the kind of its fault, and how many were
-/// `rendered`. In front of all steps it shows no page, and none was rendered.
+/// `rendered`. Without a step, whether it shows no page, and none was rendered.
 fn shows(site: &Site, step: Option<&Value>) -> bool {
-    let Some(Value::Object(wanted)) = step.and_then(|step| member(step, 4)) else {
+    let Some(step) = step else {
         return site.pages().is_empty() && site.rendered() == 0;
+    };
+    let Some(Value::Object(wanted)) = member(step, 4) else {
+        return false;
     };
     for (name, page) in site.pages().iter() {
         if !is_shown(page, look_up(wanted, name.as_str())) {

@@ -79,7 +79,11 @@ fn put(
         "filters.register_host" => language.filters.register_host(key, 0, 2)?,
         _ => partials.insert(key, parse(alloc, "x{{ y }}", language)?)?,
     }
-    Ok(match call {
+    Ok(is_there(language, partials, call, name))
+}
+
+fn is_there(language: &Language, partials: &Partials, call: &str, name: &str) -> bool {
+    match call {
         "tags.register" => language.tags.get(name).is_some(),
         "blocks.register" => language.blocks.get(name).is_some(),
         "Partials::insert" => partials
@@ -89,7 +93,7 @@ fn put(
             .filters
             .get(name)
             .is_some_and(|filter| filter.accepts(1)),
-    })
+    }
 }
 
 /// What `forloop` is at the second of three items, in a loop or in none.
