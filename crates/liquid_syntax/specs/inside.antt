@@ -1,3 +1,4 @@
+pub mod BareTags
 pub mod Building
 pub mod Called
 pub mod Classifies

@@ -22,7 +22,7 @@ use liquid_language::{BlockContext, Control, Language, Role, TagKind, role_of, u
 use liquid_source::{Body, Fault, FaultKind, Item, ParseError, Piece};
 use std::alloc::Global;
 use std::collections::VecDeque;
-use tags::{read_assign, read_bare, read_word};
+use tags::{BareTag, read_assign, read_bare, read_word};
 
 /// Whether the piece is the start of a block, whatever its items are.
 pub fn opens(language: &Language, context: BlockContext, piece: &Piece<'_>) -> bool
@@ -110,14 +110,14 @@ fn read_tag(
         Some(Role::End) => read_end(items, at),
         Some(Role::Control(Control::Elsif)) => Ok(Statement::Elsif(read_if(alloc, items, at)?)),
         Some(Role::Control(Control::Else)) => Ok(Statement::Otherwise),
-        Some(Role::Control(Control::BareElse)) => read_bare(Statement::Otherwise, items, at),
+        Some(Role::Control(Control::BareElse)) => read_bare(BareTag::Otherwise, items, at),
         Some(Role::Control(Control::When)) => {
             let values = read_values(alloc, items, Separators::CommasOr, at)?;
             Ok(Statement::When(values))
         }
         Some(Role::Tag(TagKind::Assign)) => read_assign(alloc, language, items, at),
-        Some(Role::Tag(TagKind::Break)) => read_bare(Statement::Leaf(Node::Break), items, at),
-        Some(Role::Tag(TagKind::Continue)) => read_bare(Statement::Leaf(Node::Continue), items, at),
+        Some(Role::Tag(TagKind::Break)) => read_bare(BareTag::Break, items, at),
+        Some(Role::Tag(TagKind::Continue)) => read_bare(BareTag::Continue, items, at),
         Some(Role::Tag(TagKind::Increment)) => {
             let name = read_word(items, at)?;
             Ok(Statement::Leaf(Node::Increment(name)))

@@ -7,7 +7,7 @@ ghost use Rattle.liquid_syntax.specs.declared.build.Stage.TheVariants as StageOf
 ghost use Rattle.liquid_syntax.specs.inside.Classifies.{Classifies, ReadsBlock, ReadsTwo};
 ghost use Rattle.liquid_syntax.specs.Classification.{block_statement, case_for, for_of, if_of, many_or, one_or, rows_of, unless_of};
 
-use super::tags::{read_bare, read_word};
+use super::tags::{BareTag, read_bare, read_word};
 use crate::build::{Stage, Statement};
 use crate::chain_items::expected;
 use crate::condition_items::read_condition;
@@ -47,10 +47,7 @@ pub(super) fn read_block(
             let node = read_case(alloc, items, at)?;
             Ok(Statement::Begins(Block::Case, Stage::Unkept, node))
         }
-        BlockKind::IfChanged => {
-            let statement = Statement::Begins(Block::IfChanged, Stage::Last, Node::IfChanged(0));
-            read_bare(statement, items, at)
-        }
+        BlockKind::IfChanged => read_bare(BareTag::IfChanged, items, at),
         BlockKind::For => {
             let node = read_for(alloc, items, at)?;
             Ok(Statement::Begins(Block::For, Stage::First, node))

@@ -4,30 +4,53 @@ ghost use Rattle.liquid_source.specs.Readers.{Parses};
 ghost use Rattle.liquid_source.specs.Tokens.{tokens_view};
 ghost use Rattle.liquid_syntax.specs.inside.Building.{statement_view, IsSound};
 ghost use Rattle.liquid_syntax.specs.Faults.{FaultsAs, FaultsAt};
+ghost use Rattle.liquid_syntax.specs.inside.BareTags.{bare_view};
 ghost use Rattle.liquid_syntax.specs.inside.Classifies.{Classifies};
 ghost use Rattle.liquid_syntax.specs.Classification.{assign_of, bare, leaf_or, word_alone};
 
-use crate::build::Statement;
+use crate::build::{Stage, Statement};
 use crate::chain_items::{expected, read_chain};
 use crate::node::Node;
-use liquid_language::Language;
+use liquid_language::{Block, Language};
 use liquid_source::{FaultKind, Item, ParseError, Symbol, is_over, next_word, skip};
 use std::alloc::Global;
 use std::collections::VecDeque;
 
-/// A tag without items.
+/// A tag that takes no items.
+#[derive(Clone, Copy)]
+pub(super) enum BareTag {
+    /// `else` of a `for` or a `case`
+    Otherwise,
+    Break,
+    Continue,
+    IfChanged,
+}
+
+/// What the tag is, where no items stand in it.
+fn statement_of(tag: BareTag) -> Statement
+    ensures view { bare_view tag ≡ statement_view result }
+    ensures sound { IsSound result }
+{
+    match tag {
+        BareTag::Otherwise => Statement::Otherwise,
+        BareTag::Break => Statement::Leaf(Node::Break),
+        BareTag::Continue => Statement::Leaf(Node::Continue),
+        BareTag::IfChanged => Statement::Begins(Block::IfChanged, Stage::Last, Node::IfChanged(0)),
+    }
+}
+
+/// A tag without items. Its statement is made where there are none, so that none has to be dropped where there are.
 pub(super) fn read_bare(
-    statement: Statement,
+    tag: BareTag,
     items: VecDeque<Item<'_>>,
     at: &str,
 ) -> Result<Statement, ParseError>
-    requires { IsSound statement }
-    ensures statement { Classifies (bare (statement_view statement) (tokens_view items.entry.items)) result }
+    ensures statement { Classifies (bare (bare_view tag) (tokens_view items.entry.items)) result }
     ensures kind { FaultsAs FaultKind.Expected result }
     ensures place { FaultsAt (length at.now) result }
 {
     if items.is_empty() {
-        Ok(statement)
+        Ok(statement_of(tag))
     } else {
         Err(expected(at, items.len(), "the closer"))
     }
