@@ -6,8 +6,8 @@ ghost use Rattle.liquid_c.specs.Settled.{Settled};
 use crate::handle::Handle;
 use crate::held::Held;
 use crate::refusal::{Refusal, settle};
-use liquid_lib::{Partials, language};
 use liquid_json::data_from_json;
+use liquid_lib::{Partials, language};
 use std::alloc::Global;
 
 /// Makes the standard language. 0, or `Memory`.

@@ -7,8 +7,8 @@ ghost use Rattle.liquid_sites.specs.SiteViews.{contents_of, language_of};
 ghost use Rattle.liquid_folders.specs.Start.{site_over};
 
 use liquid_core::Result;
-use liquid_lib::language;
 use liquid_json::data_from_json;
+use liquid_lib::language;
 use liquid_sites::Site;
 use std::alloc::Global;
 
