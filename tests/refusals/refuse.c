@@ -8,6 +8,11 @@
 // on that file descriptor, as a line "requests: COUNT writes: COUNT". The writes are those to standard output.
 // REFUSE_WRITE=N: the N-th of them fails, and each after it. WRITE_BYTES=N: each takes N bytes at most. WRITE_ROOM=N: all of them
 // together take N bytes, and what comes behind takes none, which is no failure.
+//
+// For such a program that is called often by the same words. REFUSE_SERVE=FD: it is started once, and each call is a fork, which costs
+// less than a start and goes on from here into main. FD is a socket. A call is asked for by four numbers, which stand in the place of
+// REFUSE_AT, REFUSE_WRITE, WRITE_BYTES and WRITE_ROOM (the greatest number: no end of room), and answered by three: its requests, its
+// writes, and its status as waitpid gives it. Where it doesn't come to its end, the first two are -1.
 typedef unsigned long size_t;
 
 extern void *__libc_malloc(size_t), *__libc_realloc(void *, size_t), *__libc_calloc(size_t, size_t), *__libc_memalign(size_t, size_t);
@@ -15,38 +20,72 @@ extern char *getenv(const char *);
 extern unsigned long strtoul(const char *, char **, int);
 extern int memcmp(const void *, const void *, size_t), snprintf(char *, size_t, const char *, ...), *__errno_location(void);
 extern long syscall(long, ...);
+extern int fork(void), waitpid(int, int *, int);
+extern unsigned alarm(unsigned);
+extern void *mmap(void *, size_t, int, int, int, long), _exit(int);
 
-enum { WRITE = 1, OUT_OF_MEMORY = 12, NO_SPACE = 28 };
+enum { READ = 0, WRITE = 1, OUT_OF_MEMORY = 12, NO_SPACE = 28, READ_AND_WRITE = 3, SHARED_AND_OF_NO_FILE = 0x21, SECONDS = 120 };
 
-static unsigned long at, made, told, refused_write, most, room, writes;
-static int all, on, has_room;
+// what a call is refused
+static struct {
+    unsigned long at, write, most, room;
+} refuse;
+// what a fork came to, in memory that it shares with the program that serves
+static struct {
+    long made, writes, status;
+} *shared;
+static unsigned long made, told, writes;
+static int all, on;
 
 static unsigned long number(const char *name) {
     const char *given = getenv(name);
     return given ? strtoul(given, 0, 10) : 0;
 }
 
+// Returns in each fork, with what it is refused. One that takes too long is ended by a signal.
+static void serve(int socket) {
+    shared = mmap(0, sizeof *shared, READ_AND_WRITE, SHARED_AND_OF_NO_FILE, -1, 0);
+    while (syscall(READ, socket, &refuse, sizeof refuse) == (long)sizeof refuse) {
+        int status, call;
+        shared->made = shared->writes = -1;
+        call = fork();
+        if (!call) {
+            alarm(SECONDS);
+            return;
+        }
+        if (waitpid(call, &status, 0) != call) _exit(1);
+        shared->status = status;
+        syscall(WRITE, socket, shared, sizeof *shared);
+    }
+    _exit(0);
+}
+
 __attribute__((constructor)) static void begin(void) {
-    at = number("REFUSE_AT");
+    unsigned long served = number("REFUSE_SERVE");
+    refuse.at = number("REFUSE_AT");
     all = getenv("REFUSE_ALL") != 0;
+    refuse.write = number("REFUSE_WRITE");
+    refuse.most = number("WRITE_BYTES");
+    refuse.room = getenv("WRITE_ROOM") ? number("WRITE_ROOM") : -1ul;
     told = number("REFUSE_TOLD");
-    refused_write = number("REFUSE_WRITE");
-    most = number("WRITE_BYTES");
-    room = number("WRITE_ROOM");
-    has_room = getenv("WRITE_ROOM") != 0;
-    on = told != 0;
+    if (served) serve((int)served);
+    on = told || served;
 }
 
 __attribute__((destructor)) static void end(void) {
     char line[80];
     on = 0;
+    if (shared) {
+        shared->made = (long)made;
+        shared->writes = (long)writes;
+    }
     if (told) syscall(WRITE, told, line, (size_t)snprintf(line, sizeof line, "requests: %lu writes: %lu\n", made, writes));
 }
 
 static int refused(void) {
     if (!on) return 0;
     made++;
-    if (!at || made < at || (made > at && !all)) return 0;
+    if (!refuse.at || made < refuse.at || (made > refuse.at && !all)) return 0;
     *__errno_location() = OUT_OF_MEMORY;
     return 1;
 }
@@ -61,16 +100,16 @@ static int is(const char *mark, size_t length, const void *bytes, size_t size) {
 }
 
 static long written(int to, const void *bytes, size_t size) {
-    if (told && to == 1) {
+    if ((told || shared) && to == 1) {
         writes++;
-        if (refused_write && writes >= refused_write) {
+        if (refuse.write && writes >= refuse.write) {
             *__errno_location() = NO_SPACE;
             return -1;
         }
-        if (most && size > most) size = most;
-        if (has_room && size > room) size = room;
+        if (refuse.most && size > refuse.most) size = refuse.most;
+        if (size > refuse.room) size = refuse.room;
         if (!size) return 0;
-        room -= has_room ? size : 0;
+        refuse.room -= size;
     }
     return syscall(WRITE, to, bytes, size);
 }
