@@ -4,15 +4,12 @@
 // REFUSE_AT=N: the N-th is refused, in each pair of marks (0: none); with REFUSE_ALL each one from the N-th on.
 // The marks aren't written; in place of the second stands a line "requests: COUNT".
 //
-// For a program that knows no marks. REFUSE_TOLD=FD: requests count from its start, and what it asked for is told at its end,
-// on that file descriptor, as a line "requests: COUNT writes: COUNT". The writes are those to standard output.
-// REFUSE_WRITE=N: the N-th of them fails, and each after it. WRITE_BYTES=N: each takes N bytes at most. WRITE_ROOM=N: all of them
-// together take N bytes, and what comes behind takes none, which is no failure.
-//
-// For such a program that is called often by the same words. REFUSE_SERVE=FD: it is started once, and each call is a fork, which costs
-// less than a start and goes on from here into main. FD is a socket. A call is asked for by four numbers, which stand in the place of
-// REFUSE_AT, REFUSE_WRITE, WRITE_BYTES and WRITE_ROOM (the greatest number: no end of room), and answered by three: its requests, its
-// writes, and its status as waitpid gives it. Where it doesn't come to its end, the first two are -1.
+// For a program that knows no marks, and is called often by the same words. REFUSE_SERVE=FD: it is started once, and each call is a fork,
+// which costs less than a start and goes on from here into main. FD is a socket. A call is asked for by four numbers: the request to
+// refuse (0: none); the write to standard output that fails, and each after it (0: none); how many bytes each write takes at most (0: all);
+// and how many bytes all of them take together, behind which a write takes none, which is no failure (the greatest number: all). It is
+// answered by three: its requests from its start, its writes, and its status as waitpid gives it. Where it doesn't come to its end, the
+// first two are -1.
 typedef unsigned long size_t;
 
 extern void *__libc_malloc(size_t), *__libc_realloc(void *, size_t), *__libc_calloc(size_t, size_t), *__libc_memalign(size_t, size_t);
@@ -34,7 +31,7 @@ static struct {
 static struct {
     long made, writes, status;
 } *shared;
-static unsigned long made, told, writes;
+static unsigned long made, writes;
 static int all, on;
 
 static unsigned long number(const char *name) {
@@ -64,22 +61,15 @@ __attribute__((constructor)) static void begin(void) {
     unsigned long served = number("REFUSE_SERVE");
     refuse.at = number("REFUSE_AT");
     all = getenv("REFUSE_ALL") != 0;
-    refuse.write = number("REFUSE_WRITE");
-    refuse.most = number("WRITE_BYTES");
-    refuse.room = getenv("WRITE_ROOM") ? number("WRITE_ROOM") : -1ul;
-    told = number("REFUSE_TOLD");
     if (served) serve((int)served);
-    on = told || served;
+    on = served != 0;
 }
 
 __attribute__((destructor)) static void end(void) {
-    char line[80];
     on = 0;
-    if (shared) {
-        shared->made = (long)made;
-        shared->writes = (long)writes;
-    }
-    if (told) syscall(WRITE, told, line, (size_t)snprintf(line, sizeof line, "requests: %lu writes: %lu\n", made, writes));
+    if (!shared) return;
+    shared->made = (long)made;
+    shared->writes = (long)writes;
 }
 
 static int refused(void) {
@@ -100,7 +90,7 @@ static int is(const char *mark, size_t length, const void *bytes, size_t size) {
 }
 
 static long written(int to, const void *bytes, size_t size) {
-    if ((told || shared) && to == 1) {
+    if (shared && to == 1) {
         writes++;
         if (refuse.write && writes >= refuse.write) {
             *__errno_location() = NO_SPACE;
