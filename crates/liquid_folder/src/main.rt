@@ -3,18 +3,17 @@
 
 mod changes;
 mod files;
+mod rounds;
 mod stop;
 mod tell;
 
-use crate::changes::{all_files, changed_by, folder_of};
-use crate::files::Files;
+use crate::changes::folder_of;
+use crate::rounds::Rounds;
 use crate::stop::Stop;
-use crate::tell::tell_round;
-use liquid_core::ErrorKind;
-use liquid_folders::{Changed, Disk, DiskFault, Folder, Site, round, site_of};
+use liquid_folders::Folder;
 use std::alloc::AllocError;
 use std::process::ExitCode;
-use std::{env, fs, io};
+use std::{env, io};
 
 fn main(rt: HostRuntime) -> ExitCode {
     match run(&rt) {
@@ -30,33 +29,23 @@ fn main(rt: HostRuntime) -> ExitCode {
 /// All rounds. Whether no file was refused and no page ended by a fault.
 fn run(rt: &HostRuntime) -> Result<bool, Stop> {
     let words = words_given(rt)?;
-    let [folder, facts, out] = words.as_slice() else {
-        return Err(Stop::Usage);
-    };
-    let folder = folder_of(rt.alloc(), folder.as_str(), facts.as_str(), out.as_str())?;
-    let mut files = Files { rt };
-    let mut site = first_site(rt, &folder, &files)?;
-    if fs::create_dir_all(rt, out.as_str()).is_err() {
-        return Err(Stop::unread(rt.alloc(), out.as_str()));
-    }
-    let first = all_files(rt, &folder)?;
-    let mut clean = one_round(rt, &mut site, &folder, &first, &mut files)?;
-    let mut changes = Vec::new(rt.alloc());
-    for line in rt.lines(rt.alloc()) {
-        let line = line?;
-        if line.is_empty() {
-            clean &= one_round(rt, &mut site, &folder, &changes, &mut files)?;
-            changes.clear();
-        } else if let Some(changed) = changed_by(rt.alloc(), &folder, line.as_str())? {
-            changes.push(changed)?;
-        } else {
-            eprintln!(rt; "error: no file of the site: {line}")?;
-            clean = false;
+    match words.as_slice() {
+        [folder, facts, out] => {
+            let (folder, facts, out) = (folder.as_str(), facts.as_str(), out.as_str());
+            all_rounds(rt, &folder_of(rt.alloc(), folder, facts, out)?, out)
         }
+        _ => Err(Stop::Usage),
     }
-    if !changes.is_empty() {
-        clean &= one_round(rt, &mut site, &folder, &changes, &mut files)?;
+}
+
+/// The first round and one for each empty line of standard input, as long as that lasts.
+fn all_rounds(rt: &HostRuntime, folder: &Folder, out: &str) -> Result<bool, Stop> {
+    let mut rounds = Rounds::new(rt, folder, out)?;
+    let mut clean = rounds.one_round()?;
+    for line in rt.lines(rt.alloc()) {
+        clean &= rounds.take_line(line?.as_str())?;
     }
+    clean &= rounds.last_round()?;
     Ok(clean)
 }
 
@@ -75,39 +64,4 @@ fn words_given(rt: &HostRuntime) -> Result<Vec<String>, Stop> {
         }
     }
     Ok(words)
-}
-
-/// The site over its data.
-fn first_site(rt: &HostRuntime, folder: &Folder, files: &Files<'_>) -> Result<Site, Stop> {
-    match files.read(folder.facts.as_str()) {
-        Ok(Some(text)) => Ok(site_of(rt.alloc(), text.as_str())?),
-        Ok(None) | Err(DiskFault::Refused) => {
-            Err(Stop::unread(rt.alloc(), folder.facts.as_str()))
-        }
-        Err(DiskFault::Memory) => Err(Stop::from(AllocError)),
-    }
-}
-
-/// One round, with what is told of it. Whether no file was refused and no page ends by a fault.
-fn one_round(
-    rt: &HostRuntime,
-    site: &mut Site,
-    folder: &Folder,
-    changes: &[Changed],
-    files: &mut Files<'_>,
-) -> Result<bool, Stop> {
-    let before = site.rendered();
-    match round(rt.alloc(), site, folder, changes, files) {
-        Ok(done) => {
-            let rendered = site.rendered().saturating_sub(before);
-            Ok(tell_round(rt, site, folder, &done, rendered)?)
-        }
-        Err(error) => match error.kind {
-            ErrorKind::Write => {
-                eprintln!(rt; "error: {error}")?;
-                Ok(false)
-            }
-            _ => Err(Stop::Fault(error)),
-        },
-    }
 }
