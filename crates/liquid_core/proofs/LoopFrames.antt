@@ -1,22 +1,25 @@
 -- What a loop's frame binds.
 use Rattle.std.proofs.Common.{◌≡◌, ℕ, zero, suc, ◌<◌, ◌+◌, ◌-◌, List, [], ◌∷◌, map, get_or, length, arith, Bool, true, false, Some, None, bytes_eq, refl, sym, ap, ◌∙◌}
 use Rattle.std.proofs.lemmas.Slice.Eq.{bytes_eq-Decides}
-use Rattle.std.proofs.Common.{drop, take, ◌++◌}
+use Rattle.std.proofs.Common.{drop, take, ◌++◌, codes}
+use Rattle.std.specs.Prelude.{◌==◌}
 use Rattle.liquid_core.proofs.States.{standing_last}
 use Rattle.liquid_core.specs.Environment.{local_of}
 use Rattle.std.proofs.Common.{set}
 use Rattle.std.proofs.lemmas.List.{length-append}
 use Rattle.std.proofs.Math.Seq.{get_or-append_seam, set-append_seam}
-use Rattle.liquid_core.specs.LoopFrames.{standing, scope_map, EndsIn, GoesOn}
+use Rattle.liquid_core.specs.LoopFrames.{standing, scope_map, object_part, loop_object, EndsIn, GoesOn}
 use Rattle.liquid_core.specs.declared.frame.Scope.TheVariants as variants
 use Rattle.liquid_core.specs.declared.frame.LoopFrame.{LoopFrame}
+use Rattle.liquid_core.specs.declared.frame.LoopKind.{LoopKind}
+use Rattle.liquid_core.specs.declared.frame.LoopKind.TheVariants as kinds
 use Rattle.liquid_core.specs.declared.frame.Scope.{Scope}
 use Rattle.liquid_model.specs.Texts.{Text, ◌else◌}
-use Rattle.liquid_model.specs.Data.{Datum, nil}
+use Rattle.liquid_model.specs.Data.{Datum, nil, truth}
 use Rattle.liquid_model.specs.Maps.{Map, insert, empty, merged}
 use Rattle.liquid_model.specs.View.{view}
 use Rattle.liquid_model.specs.declared.value.Value.{Value}
-use Rattle.liquid_core.specs.Loops.{loop_scope}
+use Rattle.liquid_core.specs.Loops.{loop_scope, count}
 
 pub item_within : (vs : List Value) (i : ℕ) (d : Value) → i < length vs → view (get_or vs i d) ≡ get_or (map view vs) i nil
 item_within [] i d h = absurd (omega arith)
@@ -80,6 +83,44 @@ apart q k other = at (bytes_eq q k) refl
     at : (b : Bool) → bytes_eq q k ≡ b → bytes_eq q k ≡ false
     at false h = h
     at true h = absurd (other ((bytes_eq-Decides q k).0 h))
+
+-- ---- the parts that each loop's object has
+
+module _ (k m : ℕ) (local : Map Datum) where
+  pub part_length : (kind : LoopKind) → object_part (loop_object kind k m local) (codes "length") ≡ Some (count m)
+  part_length (kinds.For elsewhere) = refl
+  part_length kinds.Render = refl
+  part_length (kinds.TableRow columns) = refl
+
+  pub part_index0 : (kind : LoopKind) → object_part (loop_object kind k m local) (codes "index0") ≡ Some (count k)
+  part_index0 (kinds.For elsewhere) = refl
+  part_index0 kinds.Render = refl
+  part_index0 (kinds.TableRow columns) = refl
+
+  pub part_index : (kind : LoopKind) → object_part (loop_object kind k m local) (codes "index") ≡ Some (count (k + 1))
+  part_index (kinds.For elsewhere) = refl
+  part_index kinds.Render = refl
+  part_index (kinds.TableRow columns) = refl
+
+  pub part_rindex0 : (kind : LoopKind) → object_part (loop_object kind k m local) (codes "rindex0") ≡ Some (count (m - k - 1))
+  part_rindex0 (kinds.For elsewhere) = refl
+  part_rindex0 kinds.Render = refl
+  part_rindex0 (kinds.TableRow columns) = refl
+
+  pub part_rindex : (kind : LoopKind) → object_part (loop_object kind k m local) (codes "rindex") ≡ Some (count (m - k))
+  part_rindex (kinds.For elsewhere) = refl
+  part_rindex kinds.Render = refl
+  part_rindex (kinds.TableRow columns) = refl
+
+  pub part_first : (kind : LoopKind) → object_part (loop_object kind k m local) (codes "first") ≡ Some (truth (k == 0))
+  part_first (kinds.For elsewhere) = refl
+  part_first kinds.Render = refl
+  part_first (kinds.TableRow columns) = refl
+
+  pub part_last : (kind : LoopKind) → object_part (loop_object kind k m local) (codes "last") ≡ Some (truth (k + 1 == m))
+  part_last (kinds.For elsewhere) = refl
+  part_last kinds.Render = refl
+  part_last (kinds.TableRow columns) = refl
 
 -- ---- the innermost loop
 

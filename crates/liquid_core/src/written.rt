@@ -1,5 +1,5 @@
 //! The written form of an expression: how it stands in a template's source.
-ghost use Rattle.std.specs.Prelude.{◌≡◌, ◌++◌, Some};
+ghost use Rattle.std.specs.Prelude.{◌≡◌, ◌++◌, Some, codes};
 ghost use Rattle.std.specs.Fmt.{WritesOnOk};
 ghost use Rattle.liquid_core.specs.ExpressionView.{expression_view, variable_view, steps_view};
 ghost use Rattle.liquid_model.specs.View.{view};
@@ -64,11 +64,16 @@ fn write_literal<W: Write>(value: &Value, f: &mut Formatter<W>) -> fmt::Result
 {
     match value {
         Value::Nil => f.write_str("nil"),
-        Value::Text(text) => {
-            f.write_str("\"")?;
-            f.write_str(text.as_str())?;
-            f.write_str("\"")
-        }
+        Value::Text(text) => write_quoted(text.as_str(), f),
         _ => write_text(value, f),
     }
+}
+
+/// Writes the text in double quotes.
+fn write_quoted<W: Write>(text: &str, f: &mut Formatter<W>) -> fmt::Result
+    ensures { WritesOnOk W.write_str_gives f.old result (codes "\"" ++ (text.now ++ codes "\"")) f.new }
+{
+    f.write_str("\"")?;
+    f.write_str(text)?;
+    f.write_str("\"")
 }

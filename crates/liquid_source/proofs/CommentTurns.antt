@@ -1,6 +1,7 @@
 -- The loops over bodies that aren't read, a turn at a time.
-use Rattle.std.proofs.Common.{◌≡◌, ℕ, zero, suc, ◌+◌, ◌-◌, ◌<◌, ◌≤◌, List, length, drop, get_or, Bool, true, false, cond, codes, bytes_eq, Option, Some, None, refl, ap, sym, ◌∙◌, arith, length-drop, drop-cons}
+use Rattle.std.proofs.Common.{◌≡◌, ℕ, zero, suc, ◌+◌, ◌-◌, ◌<◌, ◌≤◌, List, length, take, drop, get_or, Bool, true, false, cond, codes, bytes_eq, Option, Some, None, refl, ap, sym, ◌∙◌, arith, length-drop, drop-cons}
 use Rattle.std.specs.Option.{option_and_then}
+use Rattle.std.proofs.lemmas.List.{take_rest}
 use Rattle.liquid_source.specs.ValueReading.{run_len}
 use Rattle.liquid_source.specs.SourceReading.{Mark, mark_at, raw_at, in_comment, Skips, comment_ends, past_mark, comment_at}
 use Rattle.liquid_source.proofs.MarkLaws.{mark_takes, mark_shorter, raw_takes, raw_shorter}
@@ -22,6 +23,10 @@ module _ (t : ℕ → List ℕ → Bool) (bs : List ℕ) (n : ℕ) (within : n <
   run_done e =
       let f : run_len t (drop n bs) ≡ 0 = here ∙ ap (λ (b : Bool). cond b (suc (run_len t (drop (suc n) bs))) 0) e in
       omega (arith, so_far, f)
+
+-- what stands behind a byte, as a slice from the next place on has it
+pub behind_byte : (bs : List ℕ) (n : ℕ) → take (length bs - (n + 1)) (drop (n + 1) bs) ≡ drop (suc n) bs
+behind_byte bs n = let one : n + 1 ≡ suc n = omega arith in take_rest bs (n + 1) ∙ ap (λ k. drop k bs) one
 
 -- ---- marks
 

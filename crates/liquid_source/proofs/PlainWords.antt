@@ -1,5 +1,5 @@
--- A variable with steps is no word.
-use Rattle.std.proofs.Common.{◌≡◌, List, [], ◌∷◌, length, None, string_bytes, refl, sym, ap, ◌∙◌, rules}
+-- A variable without steps is a word, and one with steps is none.
+use Rattle.std.proofs.Common.{◌≡◌, List, [], ◌∷◌, length, Some, None, string_bytes, refl, sym, ap, ◌∙◌, rules}
 use Rattle.liquid_model.specs.Texts.{Text}
 use Rattle.liquid_core.specs.Expression as tree
 use Rattle.liquid_core.specs.ExpressionView.{expression_view, steps_view}
@@ -16,3 +16,10 @@ stepped w (x ∷ xs) some = refl
 
 pub no_word : (x : Expression) (v : declared.Variable) → x ≡ Variable v → (length v.indexes.items ≡ 0 → ⊥) → None ≡ word_in (expression_view x)
 no_word x v is some = stepped (string_bytes v.name) v.indexes.items some ∙ sym (ap (λ y. word_in (expression_view y)) is ∙ ap word_in (variable_seen v))
+
+unstepped : (w : Text) (xs : List Expression) → length xs ≡ 0 → Some w ≡ word_if w (steps_view xs)
+unstepped w [] none = refl
+unstepped w (x ∷ xs) none = absurd cc
+
+pub is_word : (x : Expression) (v : declared.Variable) → x ≡ Variable v → length v.indexes.items ≡ 0 → Some (string_bytes v.name) ≡ word_in (expression_view x)
+is_word x v is none = unstepped (string_bytes v.name) v.indexes.items none ∙ sym (ap (λ y. word_in (expression_view y)) is ∙ ap word_in (variable_seen v))

@@ -32,19 +32,13 @@ pub enum WordKind {
 fn word_kind(word: &str) -> WordKind
     ensures { word_kind_view result ≡ word_kind word.now }
 {
-    if word == "nil" || word == "null" {
-        return WordKind::Constant(Value::Nil);
+    match word {
+        "nil" | "null" => WordKind::Constant(Value::Nil),
+        "true" => WordKind::Constant(Value::Bool(true)),
+        "false" => WordKind::Constant(Value::Bool(false)),
+        "empty" | "blank" => WordKind::State,
+        _ => WordKind::Name,
     }
-    if word == "true" {
-        return WordKind::Constant(Value::Bool(true));
-    }
-    if word == "false" {
-        return WordKind::Constant(Value::Bool(false));
-    }
-    if word == "empty" || word == "blank" {
-        return WordKind::State;
-    }
-    WordKind::Name
 }
 
 /// The fault of a text that no value begins.

@@ -1,0 +1,10 @@
+use Rattle.std.proofs.Common.{rules, ◌++◌, codes, refl}
+use Rattle.std.proofs.lemmas.Grind.{put_three}
+use Rattle.liquid_core.proofs.written.write_quoted.Goals as goal
+
+pub returns : goal.returns
+returns g c = λ plain ok.
+    let one = c.in_ok-write_str.ensures.writes plain (search rules) in
+    let two = c.in_ok-write_str-2.ensures.writes one.plain (search rules) in
+    let three = c.write_str-3.ensures.writes two.plain ok in
+    put_three _ _ _ _ _ _ _ _ _ one two three refl
