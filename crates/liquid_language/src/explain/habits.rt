@@ -11,7 +11,7 @@ use pieces::ANYWHERE;
 use tags::{ASSIGN, ELSE, LOOP, NAME, PARTIAL, SETTING, TAG};
 
 /// What kind of piece a fault is in.
-#[derive(Clone, Copy, Debug, PartialEq, Eq)]
+#[derive(Clone, Copy, PartialEq, Eq)]
 pub enum Site {
     Output,
     /// A tag, where its name is wanted.
@@ -36,7 +36,10 @@ pub struct Habit(pub &'static str, pub &'static str, pub &'static str);
 /// Where a fault is, and what stands around it.
 #[derive(Clone, Copy)]
 pub struct Spot<'s> {
+    pub kind: Delimiter,
     pub site: Site,
+    /// What is wanted at it, in words.
+    pub wanted: &'static str,
     /// The item before it, or `^` where there is none.
     pub before: &'s str,
     /// The item at it, as far as one can be read.
