@@ -1,6 +1,7 @@
 //! What a refused source is told: where its fault stands, what is found there, and what to write instead. The source is read
 //! once more for that, and only then.
 mod blocks;
+mod characters;
 mod filters;
 mod habits;
 mod items;

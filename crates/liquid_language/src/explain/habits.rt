@@ -4,6 +4,7 @@ mod outputs;
 mod pieces;
 mod tags;
 
+use super::characters::{follows_dot, is_digit, is_in_word, is_letter, is_quote};
 use conditions::CONDITION;
 use liquid_source::{Delimiter, PlacedPiece};
 use outputs::{OUTPUT, VALUE};
@@ -124,10 +125,6 @@ fn of_sum(spot: &Spot<'_>) -> Option<&'static str> {
     None
 }
 
-fn is_quote(c: char) -> bool {
-    c == '\'' || c == '"'
-}
-
 /// What is told of the first of these habits that fits.
 fn first_of(habits: &[Habit], spot: &Spot<'_>) -> Option<&'static str> {
     for habit in habits {
@@ -147,29 +144,38 @@ fn is_found(found: &str, spot: &Spot<'_>) -> bool {
     let Some(behind) = spot.rest.strip_prefix(found) else {
         return false;
     };
-    let is_word = found.ends_with(|c: char| c.is_ascii_alphabetic());
-    let goes_on = behind.starts_with(|c: char| c.is_ascii_alphanumeric() || c == '_' || c == '-');
-    found.len() >= spot.found.len() && !(is_word && goes_on)
+    let is_cut = found.ends_with(is_letter) && behind.starts_with(is_in_word);
+    found.len() >= spot.found.len() && !is_cut
 }
 
 /// A `[` or a `.` that stands where no step of a name does.
 fn of_step(spot: &Spot<'_>) -> Option<&'static str> {
-    if spot.rest.starts_with("[") {
-        return match spot.before {
-            "^" | "=" | "in" | ":" | "," | "|" => Some(
-                "a list can't be written in a template; `'a,b' | split: ','` makes one",
-            ),
-            _ => Some("`[` stands right behind a name, without white space"),
-        };
+    match spot.rest.strip_prefix(".") {
+        Some(behind) => of_dot(spot, behind),
+        None => of_bracket(spot),
     }
-    let behind = spot.rest.strip_prefix(".")?;
+}
+
+fn of_bracket(spot: &Spot<'_>) -> Option<&'static str> {
+    if !spot.rest.starts_with("[") {
+        return None;
+    }
+    match spot.before {
+        "^" | "=" | "in" | ":" | "," | "|" => Some(
+            "a list can't be written in a template; `'a,b' | split: ','` makes one",
+        ),
+        _ => Some("`[` stands right behind a name, without white space"),
+    }
+}
+
+fn of_dot(spot: &Spot<'_>, behind: &str) -> Option<&'static str> {
     if behind.starts_with("[") {
         return Some("`[` stands right behind a name, without `.`");
     }
-    if behind.starts_with(|c: char| c.is_ascii_digit()) {
+    if behind.starts_with(is_digit) {
         return Some("a place in a list stands in brackets, as `a[0]`");
     }
-    if !behind.starts_with(|c: char| c.is_ascii_alphabetic() || c == '_' || c == ' ') {
+    if !behind.starts_with(follows_dot) {
         return None;
     }
     if spot.count == 0 && spot.at_item {

@@ -1,4 +1,5 @@
 //! Faults of items that aren't allowed where they stand.
+use super::characters::begins_value;
 use super::habits::{Site, Spot, advice, site_of};
 use super::told::Told;
 use crate::language::Language;
@@ -84,7 +85,7 @@ fn in_arguments<'s>(spot: &Spot<'s>, bar: &str) -> Option<Told<'s>> {
     if let Some(words) = sign_in_arguments(bar, spot.found) {
         return Some(Told::plain(spot.rest, words));
     }
-    if !begins_value(spot.found) {
+    if !spot.found.starts_with(begins_value) {
         return None;
     }
     let words = one_more_argument(bar)?;
@@ -113,14 +114,6 @@ fn is_tag(language: &Language, name: &str) -> bool {
     language.tags.get(name).is_some() || language.blocks.get(name).is_some()
 }
 
-/// Whether the item is a text, a number or a name.
-fn begins_value(item: &str) -> bool {
-    match item.chars().next() {
-        Some(first) => first == '\'' || first == '"' || first.is_ascii_alphanumeric(),
-        None => false,
-    }
-}
-
 /// The spelling of the item of the index, or none.
 fn spelling_at<'s>(items: &[PlacedItem<'s>], index: usize) -> &'s str {
     match items.get(index) {
@@ -139,14 +132,17 @@ pub fn spelling_before<'s>(items: &[PlacedItem<'s>], index: usize) -> &'s str {
 
 /// The closer at the front, or an empty text.
 pub fn closer_of(text: &str, kind: Delimiter) -> &str {
-    let closer = closer_word(kind);
-    if text.starts_with(closer) {
-        return text.get(..2).unwrap_or("");
+    let inside = text.strip_prefix("-").unwrap_or(text);
+    match inside.strip_prefix(closer_word(kind)) {
+        Some(behind) => front_before(text, behind),
+        None => "",
     }
-    match text.strip_prefix("-") {
-        Some(behind) if behind.starts_with(closer) => text.get(..3).unwrap_or(""),
-        _ => "",
-    }
+}
+
+/// What a text has before its rest.
+pub fn front_before<'s>(text: &'s str, rest: &str) -> &'s str {
+    text.get(..text.len().saturating_sub(rest.len()))
+        .unwrap_or(text)
 }
 
 pub fn closer_word(kind: Delimiter) -> &'static str {

@@ -191,27 +191,22 @@ static LACKING: [(&str, &str); 19] = [
 
 /// What is told of a tag of another language.
 pub fn meant_tag(name: &str) -> Option<&'static str> {
-    for (known, told) in &TAGS {
-        if *known == name {
-            return Some(*told);
-        }
-    }
-    None
+    told_in(&TAGS, name)
 }
 
 /// The filter that is meant by a filter's name of another language.
 pub fn meant_filter(name: &str) -> Option<&'static str> {
-    for (known, meant) in &FILTERS {
-        if *known == name {
-            return Some(*meant);
-        }
-    }
-    None
+    told_in(&FILTERS, name)
 }
 
 /// What is told of a filter of another language that has no like here.
 pub fn lacking_filter(name: &str) -> Option<&'static str> {
-    for (known, told) in &LACKING {
+    told_in(&LACKING, name)
+}
+
+/// What a table has for a name.
+fn told_in(table: &[(&str, &'static str)], name: &str) -> Option<&'static str> {
+    for (known, told) in table {
         if *known == name {
             return Some(*told);
         }

@@ -1,6 +1,7 @@
 //! Faults of pieces that can't be read: of what stands where an item can't begin or go on, and of a source that ends inside one.
+use super::characters::{ends_value, is_digit, is_letter_beyond, is_sign};
 use super::habits::{Site, Spot, advice, site_of};
-use super::items::{closer_of, closer_word, not_wanted, spelling_before};
+use super::items::{closer_of, closer_word, front_before, not_wanted, spelling_before};
 use super::outline::Outline;
 use super::told::Told;
 use liquid_source::{Delimiter, Fault, FaultKind, PlacedPiece};
@@ -40,19 +41,13 @@ fn no_whole<'s>(from: &'s str, before: &'static str) -> Told<'s> {
 
 /// The number at the front, with its fraction.
 fn number_front(text: &str) -> &str {
-    let unsigned = text.trim_start_matches(|c: char| c == '-' || c == '+');
-    let behind = unsigned.trim_start_matches(|c: char| c.is_ascii_digit());
+    let unsigned = text.trim_start_matches(is_sign);
+    let behind = unsigned.trim_start_matches(is_digit);
     let behind = match behind.strip_prefix(".") {
-        Some(fraction) => fraction.trim_start_matches(|c: char| c.is_ascii_digit()),
+        Some(fraction) => fraction.trim_start_matches(is_digit),
         None => behind,
     };
     front_before(text, behind)
-}
-
-/// What a text has before its rest.
-fn front_before<'s>(text: &'s str, rest: &str) -> &'s str {
-    text.get(..text.len().saturating_sub(rest.len()))
-        .unwrap_or(text)
 }
 
 /// Of a source that ends inside a piece, which is told at its opener, or inside a text, which is told at its quote.
@@ -174,24 +169,17 @@ fn literal_at_end(text: &str) -> &'static str {
 /// Whether a number begins by a `.`, behind no value that this could be a step of.
 fn is_fraction(spot: &Spot<'_>) -> bool {
     match spot.rest.strip_prefix(".") {
-        Some(behind) if spot.at_item => begins_with_digit(behind) && !ends_value(spot.before),
+        Some(behind) if spot.at_item => {
+            behind.starts_with(is_digit) && !spot.before.ends_with(ends_value)
+        }
         _ => false,
     }
-}
-
-fn begins_with_digit(text: &str) -> bool {
-    text.starts_with(|c: char| c.is_ascii_digit())
-}
-
-fn ends_value(text: &str) -> bool {
-    text.ends_with(|c: char| c.is_ascii_alphanumeric()
-        || matches!(c, '_' | '-' | ']' | ')' | '\'' | '"'))
 }
 
 /// `found X where W is wanted`
 fn found_there<'s>(spot: &Spot<'s>) -> Told<'s> {
     let found = first_word(spot.rest, spot.kind);
-    if is_letter_beyond(spot.rest) {
+    if begins_beyond(spot.rest) {
         let words =
             "found `…`; a name has the letters a to z, digits, `_` and `-`, and others as in `a['é']`";
         return Told::quoting(spot.rest, words, found, "");
@@ -258,12 +246,10 @@ fn no_range(spot: &Spot<'_>) -> Option<&'static str> {
 }
 
 /// Whether a letter beyond ASCII stands at the front, also behind a `.`.
-fn is_letter_beyond(text: &str) -> bool {
-    let name = text.strip_prefix(".").unwrap_or(text);
-    match name.chars().next() {
-        Some(first) => !first.is_ascii() && first.is_alphabetic(),
-        None => false,
-    }
+fn begins_beyond(text: &str) -> bool {
+    text.strip_prefix(".")
+        .unwrap_or(text)
+        .starts_with(is_letter_beyond)
 }
 
 /// The text up to white space or a closer.
