@@ -29,11 +29,6 @@ pub enum Site {
     Tag,
 }
 
-/// A habit: what stands before the fault (`^` for no item, empty for any), what stands at it (empty for anything), and what is
-/// told.
-#[derive(Clone, Copy)]
-pub struct Habit(pub &'static str, pub &'static str, pub &'static str);
-
 /// Where a fault is, and what stands around it.
 #[derive(Clone, Copy)]
 pub struct Spot<'s> {
@@ -56,20 +51,20 @@ pub struct Spot<'s> {
 /// What is told of a habit, where one is met.
 pub fn advice(spot: &Spot<'_>) -> Option<&'static str> {
     match spot.site {
-        Site::Name => first_of(&NAME, spot),
+        Site::Name => first_of(NAME, spot),
         Site::Output => of_output(spot).or(of_any_piece(spot)),
-        _ => first_of(&TAG, spot).or(of_tag(spot)).or(of_any_piece(spot)),
+        _ => first_of(TAG, spot).or(of_tag(spot)).or(of_any_piece(spot)),
     }
 }
 
 fn of_output(spot: &Spot<'_>) -> Option<&'static str> {
-    of_map(spot).or(first_of(&OUTPUT, spot)).or(of_value(spot))
+    of_map(spot).or(first_of(OUTPUT, spot)).or(of_value(spot))
 }
 
 fn of_assign(spot: &Spot<'_>) -> Option<&'static str> {
-    let told = first_of(&ASSIGN, spot);
+    let told = first_of(ASSIGN, spot);
     if spot.count < 2 {
-        told.or(first_of(&SETTING, spot))
+        told.or(first_of(SETTING, spot))
     } else {
         told.or(of_value(spot))
     }
@@ -77,17 +72,17 @@ fn of_assign(spot: &Spot<'_>) -> Option<&'static str> {
 
 fn of_tag(spot: &Spot<'_>) -> Option<&'static str> {
     match spot.site {
-        Site::Else => first_of(&ELSE, spot),
-        Site::Condition => first_of(&CONDITION, spot),
+        Site::Else => first_of(ELSE, spot),
+        Site::Condition => first_of(CONDITION, spot),
         Site::Assign => of_assign(spot),
-        Site::Loop => first_of(&LOOP, spot),
-        Site::Partial => first_of(&PARTIAL, spot),
+        Site::Loop => first_of(LOOP, spot),
+        Site::Partial => first_of(PARTIAL, spot),
         Site::Name | Site::Output | Site::Tag => None,
     }
 }
 
 fn of_any_piece(spot: &Spot<'_>) -> Option<&'static str> {
-    of_sum(spot).or(first_of(&ANYWHERE, spot)).or(of_step(spot))
+    of_sum(spot).or(first_of(ANYWHERE, spot)).or(of_step(spot))
 }
 
 fn of_value(spot: &Spot<'_>) -> Option<&'static str> {
@@ -97,7 +92,7 @@ fn of_value(spot: &Spot<'_>) -> Option<&'static str> {
     if spot.rest.starts_with("(") && !spot.found.is_empty() {
         return Some("a range is no value; a loop goes over one, as `{% for i in (1..5) %}`");
     }
-    first_of(&VALUE, spot)
+    first_of(VALUE, spot)
 }
 
 /// A brace at the beginning of an output that begins a map, and no third brace.
@@ -125,13 +120,23 @@ fn of_sum(spot: &Spot<'_>) -> Option<&'static str> {
     None
 }
 
-/// What is told of the first of these habits that fits.
-fn first_of(habits: &[Habit], spot: &Spot<'_>) -> Option<&'static str> {
-    for habit in habits {
-        let Habit(before, found, told) = habit;
-        if (before.is_empty() || *before == spot.before) && is_found(found, spot) {
-            return Some(*told);
+/// What is told of the first of these habits that fits, each on a line.
+fn first_of(habits: &'static str, spot: &Spot<'_>) -> Option<&'static str> {
+    for habit in habits.lines() {
+        if let Some(told) = told_of(habit, spot) {
+            return Some(told);
         }
+    }
+    None
+}
+
+/// What is told of a habit, where it fits: what stands before the fault (`^` for no item, empty for any), what stands at it (empty
+/// for anything), and what is told, with a `¦` between them.
+fn told_of(habit: &'static str, spot: &Spot<'_>) -> Option<&'static str> {
+    let (before, behind) = habit.split_once('¦')?;
+    let (found, told) = behind.split_once('¦')?;
+    if (before.is_empty() || before == spot.before) && is_found(found, spot) {
+        return Some(told);
     }
     None
 }
