@@ -100,18 +100,17 @@ pub fn miscounted(
     }
 }
 
-/// Of a filter with so many arguments, of which it takes a least and a greatest number.
+/// Of a filter that takes a least and a greatest number of arguments, and other ones are given, or without a `:`.
 fn miscount(
     alloc: Global,
     call: &Call<'_>,
     bounds: (usize, usize),
 ) -> Result<Explanation, AllocError> {
-    if !call.has_colon && call.arguments > 0 {
-        return without_colon(alloc, call, bounds);
-    }
-    let takes = takes(alloc, bounds, call.arguments)?;
+    let takes = takes(alloc, bounds, taken(call))?;
     let given = given(alloc, call.arguments)?;
-    let words = if call.names_arguments {
+    let words = if !call.has_colon && call.arguments > 0 {
+        "`…` takes ¤, behind a `:`"
+    } else if call.names_arguments {
         "`…` takes ¤, and ¤; arguments have no names here"
     } else {
         "`…` takes ¤, and ¤"
@@ -120,22 +119,13 @@ fn miscount(
         third: given.as_str(),
         ..Told::quoting(call.from, words, call.name, takes.as_str())
     };
+    // these words name no other place
     explained(alloc, "", &told)
 }
 
-/// Of a filter whose arguments stand behind its name without a `:`.
-fn without_colon(
-    alloc: Global,
-    call: &Call<'_>,
-    bounds: (usize, usize),
-) -> Result<Explanation, AllocError> {
-    let takes = takes(alloc, bounds, 0)?;
-    let words = "`…` takes ¤, behind a `:`";
-    explained(
-        alloc,
-        "",
-        &Told::quoting(call.from, words, call.name, takes.as_str()),
-    )
+/// How many arguments a filter is given: none without a `:`.
+fn taken(call: &Call<'_>) -> usize {
+    if call.has_colon { call.arguments } else { 0 }
 }
 
 /// How many arguments a filter takes that takes so many at least and at most, but not this count.
@@ -194,8 +184,7 @@ fn refused<'s>(
 ) -> Option<(Call<'s>, RegisteredFilter)> {
     for call in calls {
         if let Some(filter) = filters.get(call.name) {
-            let taken = if call.has_colon { call.arguments } else { 0 };
-            if !filter.accepts(taken) {
+            if !filter.accepts(taken(call)) {
                 return Some((*call, filter));
             }
         }

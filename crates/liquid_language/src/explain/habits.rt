@@ -155,25 +155,15 @@ fn is_found(found: &str, spot: &Spot<'_>) -> bool {
 
 /// A `[` or a `.` that stands where no step of a name does.
 fn of_step(spot: &Spot<'_>) -> Option<&'static str> {
-    match spot.rest.strip_prefix(".") {
-        Some(behind) => of_dot(spot, behind),
-        None => of_bracket(spot),
+    if spot.rest.starts_with("[") {
+        return match spot.before {
+            "^" | "=" | "in" | ":" | "," | "|" => Some(
+                "a list can't be written in a template; `'a,b' | split: ','` makes one",
+            ),
+            _ => Some("`[` stands right behind a name, without white space"),
+        };
     }
-}
-
-fn of_bracket(spot: &Spot<'_>) -> Option<&'static str> {
-    if !spot.rest.starts_with("[") {
-        return None;
-    }
-    match spot.before {
-        "^" | "=" | "in" | ":" | "," | "|" => Some(
-            "a list can't be written in a template; `'a,b' | split: ','` makes one",
-        ),
-        _ => Some("`[` stands right behind a name, without white space"),
-    }
-}
-
-fn of_dot(spot: &Spot<'_>, behind: &str) -> Option<&'static str> {
+    let behind = spot.rest.strip_prefix(".")?;
     if behind.starts_with("[") {
         return Some("`[` stands right behind a name, without `.`");
     }

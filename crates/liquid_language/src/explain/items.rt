@@ -8,9 +8,12 @@ use liquid_source::{Delimiter, Fault, PlacedItem, PlacedPiece};
 /// Of an item that isn't allowed, or of a closer before which one is wanted.
 pub fn misplaced<'s>(language: &Language, fault: &Fault, piece: &PlacedPiece<'s>) -> Told<'s> {
     let spot = spot_of(fault, piece);
-    match meant(language, &spot, &piece.items) {
-        Some(told) => told,
-        None => advised(&spot),
+    if let Some(told) = meant(language, &spot, &piece.items) {
+        return told;
+    }
+    match advice(&spot) {
+        Some(words) => Told::plain(spot.rest, words),
+        None => not_wanted(&spot, spot.found),
     }
 }
 
@@ -30,14 +33,6 @@ fn spot_of<'s>(fault: &Fault, piece: &PlacedPiece<'s>) -> Spot<'s> {
         rest,
         count,
         at_item: true,
-    }
-}
-
-/// What is told of a habit, or else of what was found and what is wanted.
-fn advised<'s>(spot: &Spot<'s>) -> Told<'s> {
-    match advice(spot) {
-        Some(words) => Told::plain(spot.rest, words),
-        None => not_wanted(spot, spot.found),
     }
 }
 

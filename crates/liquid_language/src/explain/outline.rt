@@ -98,27 +98,20 @@ fn past<'s>(
     if text.len() <= outline.from.len() {
         return Ok(None);
     }
-    match read_piece(alloc, language, outline.context(), inside) {
-        Ok((piece, after)) => {
-            enter(language, outline, &piece, text)?;
+    let (markup, after) = match read_markup(alloc, inside) {
+        Ok(read) => read,
+        Err(ParseError::Fault(_)) => return Ok(None),
+        Err(ParseError::Memory) => return Err(AllocError),
+    };
+    let body = body_behind(language, outline.context(), &markup.piece);
+    match read_body(body, markup, after) {
+        Ok((markup, after)) => {
+            enter(language, outline, &markup.piece, text)?;
             Ok(Some(after))
         }
         Err(ParseError::Fault(_)) => Ok(None),
         Err(ParseError::Memory) => Err(AllocError),
     }
-}
-
-/// The piece behind a `{`, with the body behind it that isn't read, and what follows.
-fn read_piece<'s>(
-    alloc: Global,
-    language: &Language,
-    context: BlockContext,
-    text: &'s str,
-) -> Result<(Piece<'s>, &'s str), ParseError> {
-    let (markup, after) = read_markup(alloc, text)?;
-    let body = body_behind(language, context, &markup.piece);
-    let (markup, after) = read_body(body, markup, after)?;
-    Ok((markup.piece, after))
 }
 
 /// Opens or closes the block that the piece begins or ends.
@@ -132,40 +125,30 @@ fn enter<'s>(
         return Ok(());
     };
     match role_of(language, outline.context(), name) {
-        Some(Role::Block(kind)) => open_block(outline, kind, *name, from)?,
-        Some(Role::End) => drop(outline.open.pop()),
+        Some(Role::Block(kind)) => {
+            if let Some(block) = block_of(kind) {
+                outline.open.push(Opener {
+                    block,
+                    name: *name,
+                    from,
+                    otherwise: None,
+                })?;
+            }
+        }
+        Some(Role::End) => {
+            outline.open.pop();
+        }
         Some(Role::Control(Control::Else | Control::BareElse)) => {
-            see_else(outline, from, !items.is_empty());
+            if let Some(opener) = outline.open.last_mut() {
+                opener.otherwise = Some(Otherwise {
+                    from,
+                    has_items: !items.is_empty(),
+                });
+            }
         }
         Some(Role::Control(Control::Elsif | Control::When)) | Some(Role::Tag(_)) | None => {}
     }
     Ok(())
-}
-
-/// Opens a block of a kind whose body is read.
-fn open_block<'s>(
-    outline: &mut Outline<'s>,
-    kind: BlockKind,
-    name: &'s str,
-    from: &'s str,
-) -> Result<(), AllocError> {
-    let Some(block) = block_of(kind) else {
-        return Ok(());
-    };
-    outline.open.push(Opener {
-        block,
-        name,
-        from,
-        otherwise: None,
-    })?;
-    Ok(())
-}
-
-/// The innermost block has an `else`.
-fn see_else<'s>(outline: &mut Outline<'s>, from: &'s str, has_items: bool) {
-    if let Some(opener) = outline.open.last_mut() {
-        opener.otherwise = Some(Otherwise { from, has_items });
-    }
 }
 
 /// The block of a kind whose body is read.
