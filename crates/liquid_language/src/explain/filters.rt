@@ -108,19 +108,23 @@ fn miscount(
 ) -> Result<Explanation, AllocError> {
     let takes = takes(alloc, bounds, taken(call))?;
     let given = given(alloc, call.arguments)?;
-    let words = if !call.has_colon && call.arguments > 0 {
-        "`…` takes ¤, behind a `:`"
-    } else if call.names_arguments {
-        "`…` takes ¤, and ¤; arguments have no names here"
-    } else {
-        "`…` takes ¤, and ¤"
-    };
     let told = Told {
         third: given.as_str(),
-        ..Told::quoting(call.from, words, call.name, takes.as_str())
+        ..Told::quoting(call.from, miscount_words(call), call.name, takes.as_str())
     };
     // these words name no other place
     explained(alloc, "", &told)
+}
+
+/// The words for how many arguments a filter takes and how many are given.
+fn miscount_words(call: &Call<'_>) -> &'static str {
+    if !call.has_colon && call.arguments > 0 {
+        return "`…` takes ¤, behind a `:`";
+    }
+    if call.names_arguments {
+        return "`…` takes ¤, and ¤; arguments have no names here";
+    }
+    "`…` takes ¤, and ¤"
 }
 
 /// How many arguments a filter is given: none without a `:`.

@@ -12,7 +12,7 @@ use pieces::ANYWHERE;
 use tags::{ASSIGN, ELSE, LOOP, NAME, PARTIAL, SETTING, TAG};
 
 /// What kind of piece a fault is in.
-#[derive(Clone, Copy, PartialEq, Eq)]
+#[derive(Clone, Copy)]
 pub enum Site {
     Output,
     /// A tag, where its name is wanted.
@@ -114,7 +114,7 @@ fn of_map(spot: &Spot<'_>) -> Option<&'static str> {
 fn of_sum(spot: &Spot<'_>) -> Option<&'static str> {
     let behind = spot.rest.strip_prefix("+")?;
     let is_text = spot.before.starts_with(is_quote) || behind.trim_start().starts_with(is_quote);
-    if is_text && spot.site != Site::Condition {
+    if is_text && !matches!(spot.site, Site::Condition) {
         return Some("texts are joined by a filter, as `a | append: 'text'`");
     }
     None

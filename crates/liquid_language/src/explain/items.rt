@@ -68,7 +68,7 @@ fn meant<'s>(language: &Language, spot: &Spot<'s>, items: &[PlacedItem<'s>]) -> 
 
 /// What is meant by the name of a tag at the front of an output.
 fn tag_in_output<'s>(language: &Language, spot: &Spot<'s>) -> Option<Told<'s>> {
-    if spot.site != Site::Output || !is_tag(language, spot.before) {
+    if !matches!(spot.site, Site::Output) || !is_tag(language, spot.before) {
         return None;
     }
     let words = "`¤` begins a tag: write `{% ¤ .. %}`";
