@@ -1,21 +1,24 @@
 //! What a refused source is told: where its fault stands, what is found there, and what to write instead. The source is read
 //! once more for that, and only then.
 mod blocks;
+mod characters;
 mod filters;
 mod habits;
 mod items;
 mod names;
 mod near;
 mod outline;
+mod told;
 mod unread;
 
 use crate::language::Language;
 use blocks::{missing_end, unknown_tag};
 use filters::{miscounted, unknown_filter};
 use items::misplaced;
-use liquid_source::{Fault, FaultKind, placed_piece};
-use outline::outline_at;
+use liquid_source::{Fault, FaultKind, PlacedPiece, placed_piece};
+use outline::{Outline, outline_at};
 use std::alloc::{AllocError, Global};
+use told::{Told, message_of};
 use unread::unread;
 
 /// What is told of a fault: of which place, as so many bytes of the source from it on, and the message.
@@ -23,15 +26,6 @@ use unread::unread;
 pub struct Explanation {
     pub left: usize,
     pub message: String,
-}
-
-impl Explanation {
-    fn new(from: &str, message: String) -> Explanation {
-        Explanation {
-            left: from.len(),
-            message,
-        }
-    }
 }
 
 /// What is told of the fault that a source has in a language.
@@ -43,38 +37,48 @@ pub fn explanation_of(
 ) -> Result<Explanation, AllocError> {
     let outline = outline_at(alloc, source, language, fault.left)?;
     let piece = placed_piece(alloc, outline.at)?;
+    if matches!(fault.kind, FaultKind::FilterArguments) {
+        return miscounted(alloc, &language.filters, &piece, outline.at);
+    }
+    let told = told_of(alloc, language, &fault, &outline, &piece)?;
+    explained(alloc, source, &told)
+}
+
+/// What is told, with its message.
+fn explained(alloc: Global, source: &str, told: &Told<'_>) -> Result<Explanation, AllocError> {
+    let message = message_of(alloc, source, told)?;
+    Ok(Explanation {
+        left: told.from.len(),
+        message,
+    })
+}
+
+/// What is told of a fault in a piece, where that takes no number.
+fn told_of<'s>(
+    alloc: Global,
+    language: &'s Language,
+    fault: &Fault,
+    outline: &Outline<'s>,
+    piece: &PlacedPiece<'s>,
+) -> Result<Told<'s>, AllocError> {
     match fault.kind {
-        FaultKind::UnknownTag => unknown_tag(alloc, source, language, &outline, piece.name),
-        FaultKind::MissingEnd => missing_end(alloc, fault, &outline, piece.name),
-        FaultKind::UnknownFilter => unknown_filter(alloc, language, &piece, outline.at),
-        FaultKind::FilterArguments => miscounted(alloc, language, &piece, outline.at),
+        FaultKind::UnknownTag => unknown_tag(alloc, language, outline, piece.name),
+        FaultKind::UnknownFilter => unknown_filter(alloc, &language.filters, piece, outline.at),
+        FaultKind::MissingEnd => Ok(missing_end(fault, outline, piece.name)),
+        FaultKind::TooNested => Ok(too_nested(outline.from)),
         FaultKind::Expected if fault.left == outline.at.len() => {
-            misplaced(alloc, language, fault, &piece)
+            Ok(misplaced(language, fault, piece))
         }
-        FaultKind::TooNested => too_nested(alloc, source, fault),
-        FaultKind::Unclosed
-        | FaultKind::BadItem
-        | FaultKind::NumberLiteral
-        | FaultKind::FloatLiteral
-        | FaultKind::StateWord
-        | FaultKind::Expected => unread(alloc, source, fault, &outline, &piece),
+        _ => Ok(unread(fault, outline, piece)),
     }
 }
 
-fn too_nested(alloc: Global, source: &str, fault: Fault) -> Result<Explanation, AllocError> {
-    let from = rest_of(source, fault.left);
-    let what = if from.starts_with("[") {
-        "brackets"
+/// Of brackets or blocks, whichever begin there.
+fn too_nested(from: &str) -> Told<'_> {
+    let words = if from.starts_with("[") {
+        "brackets nest at most 200 deep"
     } else {
-        "blocks"
+        "blocks nest at most 200 deep"
     };
-    let message = format!(in alloc; "{what} nest at most 200 deep")?;
-    Ok(Explanation::new(from, message))
-}
-
-/// The source from the place on with so many bytes left.
-fn rest_of(source: &str, left: usize) -> &str {
-    source
-        .get(source.len().saturating_sub(left)..)
-        .unwrap_or("")
+    Told::plain(from, words)
 }

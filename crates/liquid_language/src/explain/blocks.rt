@@ -1,34 +1,27 @@
 //! Faults of tags' names and of blocks.
-use super::Explanation;
 use super::names::meant_tag;
 use super::near::{Near, nearer, nearest};
 use super::outline::{Opener, Otherwise, Outline};
+use super::told::Told;
 use crate::block::{Block, end_tag};
 use crate::language::Language;
-use liquid_source::{Fault, excerpt, location};
+use liquid_source::Fault;
 use std::alloc::{AllocError, Global};
 
 /// Of a tag whose name isn't known where it stands: an end or a control word in the wrong place, or a name that no tag has.
-pub fn unknown_tag(
+pub fn unknown_tag<'s>(
     alloc: Global,
-    source: &str,
-    language: &Language,
-    outline: &Outline<'_>,
-    name: &str,
-) -> Result<Explanation, AllocError> {
-    let message = match outline.open.last() {
-        Some(opener) if is_end(name) => wrong_end(alloc, source, opener, name)?,
-        Some(opener) if is_control(name) => wrong_control(alloc, source, opener, name)?,
-        None if is_end(name) => {
-            let name = excerpt(alloc, name)?;
-            format!(in alloc; "found `{{% {name} %}}`, and no block is open here that ends")?
-        }
-        None if is_control(name) => {
-            format!(in alloc; "found `{{% {name} %}}`, and no block is open here")?
-        }
-        _ => unknown_name(alloc, language, name)?,
-    };
-    Ok(Explanation::new(outline.at, message))
+    language: &'s Language,
+    outline: &Outline<'s>,
+    name: &'s str,
+) -> Result<Told<'s>, AllocError> {
+    if is_end(name) {
+        return Ok(wrong_end(outline, name));
+    }
+    if is_control(name) {
+        return Ok(wrong_control(outline, name));
+    }
+    unknown_name(alloc, language, outline.at, name)
 }
 
 /// Whether a name is meant as the end of a block.
@@ -45,114 +38,113 @@ fn is_control(name: &str) -> bool {
 
 /// Of a source that ends in a block, at the tag that begins it. The name is that of the piece which the fault is in, if it is in one:
 /// then that piece begins a verbatim body.
-pub fn missing_end(
-    alloc: Global,
-    fault: Fault,
-    outline: &Outline<'_>,
-    name: &str,
-) -> Result<Explanation, AllocError> {
+pub fn missing_end<'s>(fault: &Fault, outline: &Outline<'s>, name: &'s str) -> Told<'s> {
     if !outline.at.is_empty() {
-        let message = without_end(alloc, name, fault.wanted)?;
-        return Ok(Explanation::new(outline.at, message));
+        return Told::quoting(outline.at, "`{% … %}` has no ¤", name, fault.wanted);
     }
     match outline.open.last() {
-        Some(opener) => block_without_end(alloc, opener),
-        None => {
-            let end = fault.wanted;
-            let message = format!(in alloc; "the source ends where `{{% {end} %}}` is wanted")?;
-            Ok(Explanation::new("", message))
-        }
+        Some(opener) => block_without_end(opener),
+        None => Told::quoting(
+            "",
+            "the source ends where `{% ¤ %}` is wanted",
+            fault.wanted,
+            "",
+        ),
     }
 }
 
-fn without_end(alloc: Global, name: &str, end: &str) -> Result<String, AllocError> {
-    let name = excerpt(alloc, name)?;
-    format!(in alloc; "`{{% {name} %}}` has no {end}")
-}
-
-fn block_without_end(alloc: Global, opener: &Opener<'_>) -> Result<Explanation, AllocError> {
-    let name = excerpt(alloc, opener.name)?;
-    let end = end_tag(opener.block);
-    let message = format!(in alloc; "`{{% {name} %}}` has no `{{% {end} %}}`")?;
-    Ok(Explanation::new(opener.from, message))
-}
-
-/// `the `{% if %}` of line 2, column 3`
-fn opened(alloc: Global, source: &str, opener: &Opener<'_>) -> Result<String, AllocError> {
-    let name = excerpt(alloc, opener.name)?;
-    let place = location(source, opener.from.len());
-    format!(in alloc; "the `{{% {name} %}}` of {place}")
+fn block_without_end<'s>(opener: &Opener<'s>) -> Told<'s> {
+    let words = "`{% … %}` has no `{% ¤ %}`";
+    Told::quoting(opener.from, words, opener.name, end_tag(opener.block))
 }
 
 /// An end of another block than the innermost, or of none.
-fn wrong_end(
-    alloc: Global,
-    source: &str,
-    opener: &Opener<'_>,
-    name: &str,
-) -> Result<String, AllocError> {
-    let name = excerpt(alloc, name)?;
-    let end = end_tag(opener.block);
-    let opened = opened(alloc, source, opener)?;
-    format!(in alloc; "found `{{% {name} %}}` where `{{% {end} %}}` is wanted, the end of {opened}")
+fn wrong_end<'s>(outline: &Outline<'s>, name: &'s str) -> Told<'s> {
+    match outline.open.last() {
+        Some(opener) => Told {
+            from: outline.at,
+            words: "found `{% … %}` where `{% ¤ %}` is wanted, the end of the `{% … %}` of §",
+            first: name,
+            second: end_tag(opener.block),
+            third: opener.name,
+            then: "",
+            other: opener.from,
+        },
+        None => {
+            let words = "found `{% … %}`, and no block is open here that ends";
+            Told::quoting(outline.at, words, name, "")
+        }
+    }
 }
 
-/// A control word that the innermost block doesn't know, or knows no longer.
-fn wrong_control(
-    alloc: Global,
-    source: &str,
-    opener: &Opener<'_>,
-    name: &str,
-) -> Result<String, AllocError> {
+/// A control word that the innermost block doesn't know, or knows no longer, or that stands in no block.
+fn wrong_control<'s>(outline: &Outline<'s>, name: &'s str) -> Told<'s> {
+    let Some(opener) = outline.open.last() else {
+        let words = "found `{% ¤ %}`, and no block is open here";
+        return Told::quoting(outline.at, words, name, "");
+    };
     match (opener.block, opener.otherwise) {
         (Block::If | Block::Unless | Block::Case | Block::For, Some(otherwise)) => {
-            behind_else(alloc, source, otherwise, name)
+            behind_else(outline.at, otherwise, name)
         }
-        (Block::Unless, None) if name == "elsif" => {
-            let opened = opened(alloc, source, opener)?;
-            format!(in alloc;
-                "found `{{% elsif %}}`, which {opened} can't have; it may have one `{{% else %}}`"
-            )
-        }
-        _ => {
-            let end = end_tag(opener.block);
-            let opened = opened(alloc, source, opener)?;
-            format!(in alloc;
-                "found `{{% {name} %}}`, which {opened} can't have; is its `{{% {end} %}}` missing?"
-            )
-        }
+        _ => strange_control(outline.at, opener, name),
+    }
+}
+
+/// A control word that its block doesn't know.
+fn strange_control<'s>(at: &'s str, opener: &Opener<'s>, name: &'s str) -> Told<'s> {
+    let words = if name == "elsif" && matches!(opener.block, Block::Unless) {
+        "found `{% ¤ %}`, which the `{% … %}` of § can't have; it may have one `{% else %}`"
+    } else {
+        "found `{% ¤ %}`, which the `{% … %}` of § can't have; is its `{% ¤ %}` missing?"
+    };
+    Told {
+        from: at,
+        words,
+        first: name,
+        second: opener.name,
+        third: end_tag(opener.block),
+        then: "",
+        other: opener.from,
     }
 }
 
 /// A control word in the last body of its block.
-fn behind_else(
-    alloc: Global,
-    source: &str,
-    otherwise: Otherwise<'_>,
-    name: &str,
-) -> Result<String, AllocError> {
-    let place = location(source, otherwise.from.len());
-    if otherwise.has_items {
-        return format!(in alloc;
-            "found `{{% {name} %}}` behind the `else` of {place}, which comes last; write `elsif` in place of `else if`"
-        );
+fn behind_else<'s>(at: &'s str, otherwise: Otherwise<'s>, name: &'s str) -> Told<'s> {
+    let then = if otherwise.has_items {
+        "; write `elsif` in place of `else if`"
+    } else {
+        ""
+    };
+    Told {
+        from: at,
+        words: "found `{% ¤ %}` behind the `else` of §, which comes last",
+        first: name,
+        second: "",
+        third: "",
+        then,
+        other: otherwise.from,
     }
-    format!(in alloc; "found `{{% {name} %}}` behind the `else` of {place}, which comes last")
 }
 
 /// A name that no tag has here.
-fn unknown_name(alloc: Global, language: &Language, name: &str) -> Result<String, AllocError> {
-    if let Some(told) = meant_tag(name) {
-        return String::from_str(alloc, told);
+fn unknown_name<'s>(
+    alloc: Global,
+    language: &'s Language,
+    at: &'s str,
+    name: &'s str,
+) -> Result<Told<'s>, AllocError> {
+    if let Some(words) = meant_tag(name) {
+        return Ok(Told::plain(at, words));
     }
-    let quoted = excerpt(alloc, name)?;
-    match near_tag(alloc, language, name)? {
+    let near = near_tag(alloc, language, name)?;
+    Ok(match near {
         Some(near) => {
-            let meant = excerpt(alloc, near.name)?;
-            format!(in alloc; "no tag is named `{quoted}`; did you mean `{meant}`?")
+            let words = "no tag is named `…`; did you mean `…`?";
+            Told::quoting(at, words, name, near.name)
         }
-        None => format!(in alloc; "no tag is named `{quoted}`"),
-    }
+        None => Told::quoting(at, "no tag is named `…`", name, ""),
+    })
 }
 
 /// The nearest name of a tag, a block or a control word.

@@ -1,10 +1,10 @@
 //! Faults of filters: of one that isn't known, and of one with more or fewer arguments than it takes.
-use super::Explanation;
 use super::names::{lacking_filter, meant_filter};
 use super::near::nearest;
-use crate::language::Language;
+use super::told::Told;
+use super::{Explanation, explained};
 use crate::registered_filter::{FilterRegistry, RegisteredFilter};
-use liquid_source::{Item, PlacedItem, PlacedPiece, Symbol, excerpt};
+use liquid_source::{Item, PlacedItem, PlacedPiece, Symbol};
 use std::alloc::{AllocError, Global};
 
 /// No filter that exists takes more arguments.
@@ -24,109 +24,116 @@ struct Call<'s> {
 }
 
 /// Of the first filter that isn't registered.
-pub fn unknown_filter(
+pub fn unknown_filter<'s>(
     alloc: Global,
-    language: &Language,
-    piece: &PlacedPiece<'_>,
-    at: &str,
-) -> Result<Explanation, AllocError> {
+    filters: &'s FilterRegistry,
+    piece: &PlacedPiece<'s>,
+    at: &'s str,
+) -> Result<Told<'s>, AllocError> {
     let calls = calls(alloc, &piece.items)?;
-    match unregistered(&language.filters, &calls) {
-        Some(call) => {
-            let message = unknown_name(alloc, language, call.name)?;
-            Ok(Explanation::new(call.from, message))
-        }
-        None => {
-            let message = String::from_str(alloc, "a filter isn't known")?;
-            Ok(Explanation::new(at, message))
-        }
+    match unregistered(filters, &calls) {
+        Some(call) => unknown_name(alloc, filters, &call),
+        None => Ok(Told::plain(at, "a filter isn't known")),
     }
 }
 
-fn unknown_name(alloc: Global, language: &Language, name: &str) -> Result<String, AllocError> {
-    let quoted = excerpt(alloc, name)?;
-    if let Some(meant) = meant_here(language, name) {
-        return format!(in alloc; "no filter is named `{quoted}`; write `{meant}`");
+/// Of a filter that isn't registered: what it is called here, or the nearest name.
+fn unknown_name<'s>(
+    alloc: Global,
+    filters: &'s FilterRegistry,
+    call: &Call<'s>,
+) -> Result<Told<'s>, AllocError> {
+    match meant_elsewhere(filters, call) {
+        Some(told) => Ok(told),
+        None => near_filter(alloc, filters, call),
     }
-    match lacking_filter(name) {
-        Some(told) => format!(in alloc; "no filter is named `{quoted}`; {told}"),
-        None => near_filter(alloc, language, name, quoted.as_str()),
+}
+
+/// Of a filter of another language.
+fn meant_elsewhere<'s>(filters: &FilterRegistry, call: &Call<'s>) -> Option<Told<'s>> {
+    if let Some(meant) = meant_here(filters, call.name) {
+        let words = "no filter is named `…`; write `¤`";
+        return Some(Told::quoting(call.from, words, call.name, meant));
     }
+    let told = lacking_filter(call.name)?;
+    Some(Told::quoting(call.from, "no filter is named `…`; ¤", call.name, told))
 }
 
 /// The filter that is meant by a name of another language, where it is registered.
-fn meant_here(language: &Language, name: &str) -> Option<&'static str> {
+fn meant_here(filters: &FilterRegistry, name: &str) -> Option<&'static str> {
     match meant_filter(name) {
-        Some(meant) if language.filters.get(meant).is_some() => Some(meant),
+        Some(meant) if filters.get(meant).is_some() => Some(meant),
         _ => None,
     }
 }
 
 /// Of a filter whose name no other language has either.
-fn near_filter(
+fn near_filter<'s>(
     alloc: Global,
-    language: &Language,
-    name: &str,
-    quoted: &str,
-) -> Result<String, AllocError> {
-    match nearest(alloc, language.filters.names(), name, None)? {
+    filters: &'s FilterRegistry,
+    call: &Call<'s>,
+) -> Result<Told<'s>, AllocError> {
+    let near = nearest(alloc, filters.names(), call.name, None)?;
+    Ok(match near {
         Some(near) => {
-            let meant = excerpt(alloc, near.name)?;
-            format!(in alloc; "no filter is named `{quoted}`; did you mean `{meant}`?")
+            let words = "no filter is named `…`; did you mean `…`?";
+            Told::quoting(call.from, words, call.name, near.name)
         }
-        None => format!(in alloc; "no filter is named `{quoted}`"),
-    }
+        None => Told::quoting(call.from, "no filter is named `…`", call.name, ""),
+    })
 }
 
 /// Of the first filter that doesn't take the number of its arguments.
 pub fn miscounted(
     alloc: Global,
-    language: &Language,
+    filters: &FilterRegistry,
     piece: &PlacedPiece<'_>,
     at: &str,
 ) -> Result<Explanation, AllocError> {
     let calls = calls(alloc, &piece.items)?;
-    match refused(&language.filters, &calls) {
-        Some((call, filter)) => {
-            let message = miscount(alloc, call, filter)?;
-            Ok(Explanation::new(call.from, message))
-        }
+    match refused(filters, &calls) {
+        Some((call, filter)) => miscount(alloc, &call, bounds(filter)),
         None => {
-            let message = String::from_str(alloc, "a filter takes another number of arguments")?;
-            Ok(Explanation::new(at, message))
+            let told = Told::plain(at, "a filter takes another number of arguments");
+            explained(alloc, "", &told)
         }
     }
 }
 
-fn miscount(alloc: Global, call: Call<'_>, filter: RegisteredFilter) -> Result<String, AllocError> {
-    if !call.has_colon && call.arguments > 0 {
-        return without_colon(alloc, call.name, filter);
-    }
-    let name = excerpt(alloc, call.name)?;
-    let takes = takes(alloc, filter, call.arguments)?;
-    let given = given(alloc, call.arguments)?;
-    let advice = if call.names_arguments {
-        "; arguments have no names here"
-    } else {
-        ""
-    };
-    format!(in alloc; "`{name}` takes {takes}, and {given}{advice}")
-}
-
-/// Of a filter whose arguments stand behind its name without a `:`.
-fn without_colon(
+/// Of a filter that takes a least and a greatest number of arguments, and other ones are given, or without a `:`.
+fn miscount(
     alloc: Global,
-    name: &str,
-    filter: RegisteredFilter,
-) -> Result<String, AllocError> {
-    let name = excerpt(alloc, name)?;
-    let takes = takes(alloc, filter, 0)?;
-    format!(in alloc; "`{name}` takes {takes}, behind a `:`")
+    call: &Call<'_>,
+    bounds: (usize, usize),
+) -> Result<Explanation, AllocError> {
+    let takes = takes(alloc, bounds, taken(call))?;
+    let given = given(alloc, call.arguments)?;
+    let told = Told {
+        third: given.as_str(),
+        ..Told::quoting(call.from, miscount_words(call), call.name, takes.as_str())
+    };
+    // these words name no other place
+    explained(alloc, "", &told)
 }
 
-/// How many arguments a filter takes, to which so many is no number.
-fn takes(alloc: Global, filter: RegisteredFilter, count: usize) -> Result<String, AllocError> {
-    let (least, most) = bounds(filter);
+/// The words for how many arguments a filter takes and how many are given.
+fn miscount_words(call: &Call<'_>) -> &'static str {
+    if !call.has_colon && call.arguments > 0 {
+        return "`…` takes ¤, behind a `:`";
+    }
+    if call.names_arguments {
+        return "`…` takes ¤, and ¤; arguments have no names here";
+    }
+    "`…` takes ¤, and ¤"
+}
+
+/// How many arguments a filter is given: none without a `:`.
+fn taken(call: &Call<'_>) -> usize {
+    if call.has_colon { call.arguments } else { 0 }
+}
+
+/// How many arguments a filter takes that takes so many at least and at most, but not this count.
+fn takes(alloc: Global, (least, most): (usize, usize), count: usize) -> Result<String, AllocError> {
     if most == 0 {
         return String::from_str(alloc, "no argument");
     }
@@ -181,8 +188,7 @@ fn refused<'s>(
 ) -> Option<(Call<'s>, RegisteredFilter)> {
     for call in calls {
         if let Some(filter) = filters.get(call.name) {
-            let taken = if call.has_colon { call.arguments } else { 0 };
-            if !filter.accepts(taken) {
+            if !filter.accepts(taken(call)) {
                 return Some((*call, filter));
             }
         }

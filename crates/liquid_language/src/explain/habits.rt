@@ -4,6 +4,7 @@ mod outputs;
 mod pieces;
 mod tags;
 
+use super::characters::{follows_dot, is_digit, is_in_word, is_letter, is_quote};
 use conditions::CONDITION;
 use liquid_source::{Delimiter, PlacedPiece};
 use outputs::{OUTPUT, VALUE};
@@ -11,7 +12,7 @@ use pieces::ANYWHERE;
 use tags::{ASSIGN, ELSE, LOOP, NAME, PARTIAL, SETTING, TAG};
 
 /// What kind of piece a fault is in.
-#[derive(Clone, Copy, Debug, PartialEq, Eq)]
+#[derive(Clone, Copy)]
 pub enum Site {
     Output,
     /// A tag, where its name is wanted.
@@ -28,15 +29,13 @@ pub enum Site {
     Tag,
 }
 
-/// A habit: what stands before the fault (`^` for no item, empty for any), what stands at it (empty for anything), and what is
-/// told.
-#[derive(Clone, Copy)]
-pub struct Habit(pub &'static str, pub &'static str, pub &'static str);
-
 /// Where a fault is, and what stands around it.
 #[derive(Clone, Copy)]
 pub struct Spot<'s> {
+    pub kind: Delimiter,
     pub site: Site,
+    /// What is wanted at it, in words.
+    pub wanted: &'static str,
     /// The item before it, or `^` where there is none.
     pub before: &'s str,
     /// The item at it, as far as one can be read.
@@ -52,20 +51,20 @@ pub struct Spot<'s> {
 /// What is told of a habit, where one is met.
 pub fn advice(spot: &Spot<'_>) -> Option<&'static str> {
     match spot.site {
-        Site::Name => first_of(&NAME, spot),
+        Site::Name => first_of(NAME, spot),
         Site::Output => of_output(spot).or(of_any_piece(spot)),
-        _ => first_of(&TAG, spot).or(of_tag(spot)).or(of_any_piece(spot)),
+        _ => first_of(TAG, spot).or(of_tag(spot)).or(of_any_piece(spot)),
     }
 }
 
 fn of_output(spot: &Spot<'_>) -> Option<&'static str> {
-    of_map(spot).or(first_of(&OUTPUT, spot)).or(of_value(spot))
+    of_map(spot).or(first_of(OUTPUT, spot)).or(of_value(spot))
 }
 
 fn of_assign(spot: &Spot<'_>) -> Option<&'static str> {
-    let told = first_of(&ASSIGN, spot);
+    let told = first_of(ASSIGN, spot);
     if spot.count < 2 {
-        told.or(first_of(&SETTING, spot))
+        told.or(first_of(SETTING, spot))
     } else {
         told.or(of_value(spot))
     }
@@ -73,17 +72,17 @@ fn of_assign(spot: &Spot<'_>) -> Option<&'static str> {
 
 fn of_tag(spot: &Spot<'_>) -> Option<&'static str> {
     match spot.site {
-        Site::Else => first_of(&ELSE, spot),
-        Site::Condition => first_of(&CONDITION, spot),
+        Site::Else => first_of(ELSE, spot),
+        Site::Condition => first_of(CONDITION, spot),
         Site::Assign => of_assign(spot),
-        Site::Loop => first_of(&LOOP, spot),
-        Site::Partial => first_of(&PARTIAL, spot),
+        Site::Loop => first_of(LOOP, spot),
+        Site::Partial => first_of(PARTIAL, spot),
         Site::Name | Site::Output | Site::Tag => None,
     }
 }
 
 fn of_any_piece(spot: &Spot<'_>) -> Option<&'static str> {
-    of_sum(spot).or(first_of(&ANYWHERE, spot)).or(of_step(spot))
+    of_sum(spot).or(first_of(ANYWHERE, spot)).or(of_step(spot))
 }
 
 fn of_value(spot: &Spot<'_>) -> Option<&'static str> {
@@ -93,7 +92,7 @@ fn of_value(spot: &Spot<'_>) -> Option<&'static str> {
     if spot.rest.starts_with("(") && !spot.found.is_empty() {
         return Some("a range is no value; a loop goes over one, as `{% for i in (1..5) %}`");
     }
-    first_of(&VALUE, spot)
+    first_of(VALUE, spot)
 }
 
 /// A brace at the beginning of an output that begins a map, and no third brace.
@@ -115,23 +114,29 @@ fn of_map(spot: &Spot<'_>) -> Option<&'static str> {
 fn of_sum(spot: &Spot<'_>) -> Option<&'static str> {
     let behind = spot.rest.strip_prefix("+")?;
     let is_text = spot.before.starts_with(is_quote) || behind.trim_start().starts_with(is_quote);
-    if is_text && spot.site != Site::Condition {
+    if is_text && !matches!(spot.site, Site::Condition) {
         return Some("texts are joined by a filter, as `a | append: 'text'`");
     }
     None
 }
 
-fn is_quote(c: char) -> bool {
-    c == '\'' || c == '"'
+/// What is told of the first of these habits that fits, each on a line.
+fn first_of(habits: &'static str, spot: &Spot<'_>) -> Option<&'static str> {
+    for habit in habits.lines() {
+        if let Some(told) = told_of(habit, spot) {
+            return Some(told);
+        }
+    }
+    None
 }
 
-/// What is told of the first of these habits that fits.
-fn first_of(habits: &[Habit], spot: &Spot<'_>) -> Option<&'static str> {
-    for habit in habits {
-        let Habit(before, found, told) = habit;
-        if (before.is_empty() || *before == spot.before) && is_found(found, spot) {
-            return Some(*told);
-        }
+/// What is told of a habit, where it fits: what stands before the fault (`^` for no item, empty for any), what stands at it (empty
+/// for anything), and what is told, with a `¦` between them.
+fn told_of(habit: &'static str, spot: &Spot<'_>) -> Option<&'static str> {
+    let (before, behind) = habit.split_once('¦')?;
+    let (found, told) = behind.split_once('¦')?;
+    if (before.is_empty() || before == spot.before) && is_found(found, spot) {
+        return Some(told);
     }
     None
 }
@@ -144,9 +149,8 @@ fn is_found(found: &str, spot: &Spot<'_>) -> bool {
     let Some(behind) = spot.rest.strip_prefix(found) else {
         return false;
     };
-    let is_word = found.ends_with(|c: char| c.is_ascii_alphabetic());
-    let goes_on = behind.starts_with(|c: char| c.is_ascii_alphanumeric() || c == '_' || c == '-');
-    found.len() >= spot.found.len() && !(is_word && goes_on)
+    let is_cut = found.ends_with(is_letter) && behind.starts_with(is_in_word);
+    found.len() >= spot.found.len() && !is_cut
 }
 
 /// A `[` or a `.` that stands where no step of a name does.
@@ -163,10 +167,10 @@ fn of_step(spot: &Spot<'_>) -> Option<&'static str> {
     if behind.starts_with("[") {
         return Some("`[` stands right behind a name, without `.`");
     }
-    if behind.starts_with(|c: char| c.is_ascii_digit()) {
+    if behind.starts_with(is_digit) {
         return Some("a place in a list stands in brackets, as `a[0]`");
     }
-    if !behind.starts_with(|c: char| c.is_ascii_alphabetic() || c == '_' || c == ' ') {
+    if !behind.starts_with(follows_dot) {
         return None;
     }
     if spot.count == 0 && spot.at_item {

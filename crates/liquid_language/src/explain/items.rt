@@ -1,110 +1,90 @@
 //! Faults of items that aren't allowed where they stand.
-use super::Explanation;
-use super::habits::{Spot, advice, site_of};
+use super::characters::begins_value;
+use super::habits::{Site, Spot, advice, site_of};
+use super::told::Told;
 use crate::language::Language;
-use liquid_source::{Delimiter, Fault, PlacedItem, PlacedPiece, excerpt};
-use std::alloc::{AllocError, Global};
+use liquid_source::{Delimiter, Fault, PlacedItem, PlacedPiece};
 
 /// Of an item that isn't allowed, or of a closer before which one is wanted.
-pub fn misplaced(
-    alloc: Global,
-    language: &Language,
-    fault: Fault,
-    piece: &PlacedPiece<'_>,
-) -> Result<Explanation, AllocError> {
-    let index = piece.items.len().saturating_sub(fault.items_left);
-    let (from, found) = match piece.items.get(index) {
+pub fn misplaced<'s>(language: &Language, fault: &Fault, piece: &PlacedPiece<'s>) -> Told<'s> {
+    let spot = spot_of(fault, piece);
+    if let Some(told) = meant(language, &spot, &piece.items) {
+        return told;
+    }
+    match advice(&spot) {
+        Some(words) => Told::plain(spot.rest, words),
+        None => not_wanted(&spot, spot.found),
+    }
+}
+
+/// Where the item stands, or the closer.
+fn spot_of<'s>(fault: &Fault, piece: &PlacedPiece<'s>) -> Spot<'s> {
+    let count = piece.items.len().saturating_sub(fault.items_left);
+    let (rest, found) = match piece.items.get(count) {
         Some(placed) => (placed.from, placed.spelling),
         None => (piece.rest, closer_of(piece.rest, piece.kind)),
     };
-    let before = spelling_before(&piece.items, index);
-    let spot = Spot {
+    Spot {
+        kind: piece.kind,
         site: site_of(piece),
-        before,
+        wanted: fault.wanted,
+        before: spelling_before(&piece.items, count),
         found,
-        rest: from,
-        count: index,
+        rest,
+        count,
         at_item: true,
-    };
-    let message = match meant(alloc, language, fault, piece, index)? {
-        Some(told) => told,
-        None => advised(alloc, &spot, fault.wanted, piece.kind)?,
-    };
-    Ok(Explanation::new(from, message))
-}
-
-/// What is told of a habit, or else of what was found and what is wanted.
-fn advised(
-    alloc: Global,
-    spot: &Spot<'_>,
-    wanted: &str,
-    kind: Delimiter,
-) -> Result<String, AllocError> {
-    match advice(spot) {
-        Some(told) => String::from_str(alloc, told),
-        None => plain(alloc, spot.found, wanted, kind),
     }
 }
 
 /// `found X where W is wanted`
-pub fn plain(
-    alloc: Global,
-    found: &str,
-    wanted: &str,
-    kind: Delimiter,
-) -> Result<String, AllocError> {
-    let found = excerpt(alloc, found)?;
-    match wanted.strip_suffix("the closer") {
+pub fn not_wanted<'s>(spot: &Spot<'s>, found: &'s str) -> Told<'s> {
+    match spot.wanted.strip_suffix("the closer") {
         Some(front) => {
-            let closer = closer_word(kind);
-            format!(in alloc; "found `{found}` where {front}`{closer}` is wanted")
+            let words = match spot.kind {
+                Delimiter::Output => "found `…` where ¤`}}` is wanted",
+                Delimiter::Tag => "found `…` where ¤`%}` is wanted",
+            };
+            Told::quoting(spot.rest, words, found, front)
         }
-        None => format!(in alloc; "found `{found}` where {wanted} is wanted"),
+        None => Told::quoting(spot.rest, "found `…` where ¤ is wanted", found, spot.wanted),
     }
 }
 
 /// What the words of a chain or of an output show to be meant.
-fn meant(
-    alloc: Global,
-    language: &Language,
-    fault: Fault,
-    piece: &PlacedPiece<'_>,
-    index: usize,
-) -> Result<Option<String>, AllocError> {
-    if fault.wanted != "`|` or the closer" {
-        return Ok(None);
+fn meant<'s>(language: &Language, spot: &Spot<'s>, items: &[PlacedItem<'s>]) -> Option<Told<'s>> {
+    if spot.wanted != "`|` or the closer" {
+        return None;
     }
-    let found = spelling_at(&piece.items, index);
-    if language.filters.get(found).is_some() {
-        let told = format!(in alloc; "a filter stands behind a `|`: write `| {found}`")?;
-        return Ok(Some(told));
+    if language.filters.get(spot.found).is_some() {
+        let words = "a filter stands behind a `|`: write `| ¤`";
+        return Some(Told::quoting(spot.rest, words, spot.found, ""));
     }
-    if index > 1 {
-        return in_arguments(alloc, &piece.items, index);
+    match spot.count {
+        0 => None,
+        1 => tag_in_output(language, spot),
+        _ => in_arguments(spot, spelling_before(items, spot.count.saturating_sub(1))),
     }
-    let first = spelling_at(&piece.items, 0);
-    if piece.kind == Delimiter::Output && index == 1 && is_tag(language, first) {
-        let told = format!(in alloc; "`{first}` begins a tag: write `{{% {first} .. %}}`")?;
-        return Ok(Some(told));
-    }
-    Ok(None)
 }
 
-/// What is meant by what stands where the arguments of a filter may.
-fn in_arguments(
-    alloc: Global,
-    items: &[PlacedItem<'_>],
-    index: usize,
-) -> Result<Option<String>, AllocError> {
-    let found = spelling_at(items, index);
-    let bar = spelling_before(items, index.saturating_sub(1));
-    if let Some(told) = sign_in_arguments(bar, found) {
-        return Ok(Some(String::from_str(alloc, told)?));
+/// What is meant by the name of a tag at the front of an output.
+fn tag_in_output<'s>(language: &Language, spot: &Spot<'s>) -> Option<Told<'s>> {
+    if !matches!(spot.site, Site::Output) || !is_tag(language, spot.before) {
+        return None;
     }
-    if begins_value(found) && matches!(bar, "|" | ":" | ",") {
-        return Ok(Some(one_more_argument(alloc, bar, spelling_before(items, index), found)?));
+    let words = "`¤` begins a tag: write `{% ¤ .. %}`";
+    Some(Told::quoting(spot.rest, words, spot.before, spot.before))
+}
+
+/// What is meant by what stands where the arguments of a filter may; the bar stands two items before it.
+fn in_arguments<'s>(spot: &Spot<'s>, bar: &str) -> Option<Told<'s>> {
+    if let Some(words) = sign_in_arguments(bar, spot.found) {
+        return Some(Told::plain(spot.rest, words));
     }
-    Ok(None)
+    if !spot.found.starts_with(begins_value) {
+        return None;
+    }
+    let words = one_more_argument(bar)?;
+    Some(Told::quoting(spot.rest, words, spot.before, spot.found))
 }
 
 /// What is told of a sign behind a filter or an argument of one.
@@ -117,30 +97,16 @@ fn sign_in_arguments(bar: &str, found: &str) -> Option<&'static str> {
 }
 
 /// What is told of a value behind a filter's name (`|` stands before that) or behind an argument.
-fn one_more_argument(
-    alloc: Global,
-    bar: &str,
-    last: &str,
-    found: &str,
-) -> Result<String, AllocError> {
-    let last = excerpt(alloc, last)?;
-    let found = excerpt(alloc, found)?;
-    if bar == "|" {
-        return format!(in alloc; "arguments stand behind a `:`: write `{last}: {found}`");
+fn one_more_argument(bar: &str) -> Option<&'static str> {
+    match bar {
+        "|" => Some("arguments stand behind a `:`: write `…: …`"),
+        ":" | "," => Some("arguments have a `,` between them: write `…, …`"),
+        _ => None,
     }
-    format!(in alloc; "arguments have a `,` between them: write `{last}, {found}`")
 }
 
 fn is_tag(language: &Language, name: &str) -> bool {
     language.tags.get(name).is_some() || language.blocks.get(name).is_some()
-}
-
-/// Whether the item is a text, a number or a name.
-fn begins_value(item: &str) -> bool {
-    match item.chars().next() {
-        Some(first) => first == '\'' || first == '"' || first.is_ascii_alphanumeric(),
-        None => false,
-    }
 }
 
 /// The spelling of the item of the index, or none.
@@ -161,14 +127,17 @@ pub fn spelling_before<'s>(items: &[PlacedItem<'s>], index: usize) -> &'s str {
 
 /// The closer at the front, or an empty text.
 pub fn closer_of(text: &str, kind: Delimiter) -> &str {
-    let closer = closer_word(kind);
-    if text.starts_with(closer) {
-        return text.get(..2).unwrap_or("");
+    let inside = text.strip_prefix("-").unwrap_or(text);
+    match inside.strip_prefix(closer_word(kind)) {
+        Some(behind) => front_before(text, behind),
+        None => "",
     }
-    match text.strip_prefix("-") {
-        Some(behind) if behind.starts_with(closer) => text.get(..3).unwrap_or(""),
-        _ => "",
-    }
+}
+
+/// What a text has before its rest.
+pub fn front_before<'s>(text: &'s str, rest: &str) -> &'s str {
+    text.get(..text.len().saturating_sub(rest.len()))
+        .unwrap_or(text)
 }
 
 pub fn closer_word(kind: Delimiter) -> &'static str {

@@ -31,6 +31,8 @@ pub struct Outline<'s> {
     pub open: Vec<Opener<'s>>,
     /// The source from the piece on that holds the place; empty where none does.
     pub at: &'s str,
+    /// The source from the place on.
+    pub from: &'s str,
 }
 
 impl Outline<'_> {
@@ -63,6 +65,7 @@ pub fn outline_at<'s>(
     let mut outline = Outline {
         open: Vec::new(alloc),
         at: "",
+        from: rest_of(source, left),
     };
     let mut rest = source;
     // each piece takes a byte at least
@@ -71,7 +74,7 @@ pub fn outline_at<'s>(
         if behind.is_empty() {
             return Ok(outline);
         }
-        match past(alloc, language, &mut outline, behind, left)? {
+        match past(alloc, language, &mut outline, behind)? {
             Some(after) => rest = after,
             None => {
                 outline.at = behind;
@@ -88,12 +91,11 @@ fn past<'s>(
     language: &Language,
     outline: &mut Outline<'s>,
     text: &'s str,
-    left: usize,
 ) -> Result<Option<&'s str>, AllocError> {
     let Some(inside) = past_byte(text, b'{') else {
         return Ok(None);
     };
-    if text.len() <= left {
+    if text.len() <= outline.from.len() {
         return Ok(None);
     }
     let (markup, after) = match read_markup(alloc, inside) {
@@ -161,4 +163,11 @@ fn block_of(kind: BlockKind) -> Option<Block> {
         BlockKind::IfChanged => Some(Block::IfChanged),
         BlockKind::Raw | BlockKind::Comment => None,
     }
+}
+
+/// The source from the place on with so many bytes left.
+fn rest_of(source: &str, left: usize) -> &str {
+    source
+        .get(source.len().saturating_sub(left)..)
+        .unwrap_or("")
 }
