@@ -8,6 +8,7 @@ ghost use Rattle.liquid_syntax.specs.Flats.{binding_view, bindings_view};
 
 use crate::chain_items::expected;
 use crate::node::Binding;
+use crate::value_items::is_last_comma;
 use liquid_source::{FaultKind, Item, ParseError, Symbol, next_value, next_word, skip};
 use std::collections::VecDeque;
 
@@ -82,16 +83,10 @@ fn next_of(items: &mut VecDeque<Item<'_>>, style: PairStyle) -> Option<Binding>
 fn ends_pairs(items: &VecDeque<Item<'_>>, style: PairStyle) -> bool
     ensures { result ≡ ends_pairs style (tokens_view items.now.items) }
 {
-    if items.is_empty() {
-        return true;
-    }
-    if items.len() > 1 {
-        return false;
-    }
     match style {
-        PairStyle::Include => true,
-        PairStyle::JekyllInclude => false,
-        PairStyle::Render => matches!(items.front(), Some(Item::Symbol(Symbol::Comma))),
+        PairStyle::Include => items.len() <= 1,
+        PairStyle::JekyllInclude => items.is_empty(),
+        PairStyle::Render => is_last_comma(items),
     }
 }
 

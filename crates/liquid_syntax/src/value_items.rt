@@ -43,19 +43,24 @@ fn next_further(items: &mut VecDeque<Item<'_>>, separators: Separators) -> Optio
     next_value(items)
 }
 
+/// Whether the items are none but a `,`, or none at all.
+pub(crate) fn is_last_comma(items: &VecDeque<Item<'_>>) -> bool
+    ensures { result ≡ ends_values Separators.Commas (tokens_view items.now.items) }
+{
+    match items.front() {
+        None => true,
+        Some(Item::Symbol(Symbol::Comma)) => items.len() == 1,
+        Some(_) => false,
+    }
+}
+
 /// Whether the values end where the items are.
 fn ends_values(items: &VecDeque<Item<'_>>, separators: Separators) -> bool
     ensures { result ≡ ends_values separators (tokens_view items.now.items) }
 {
-    if items.is_empty() {
-        return true;
-    }
-    if items.len() > 1 {
-        return false;
-    }
     match separators {
-        Separators::CommasOr => false,
-        Separators::Commas => matches!(items.front(), Some(Item::Symbol(Symbol::Comma))),
+        Separators::Commas => is_last_comma(items),
+        Separators::CommasOr => items.is_empty(),
     }
 }
 
