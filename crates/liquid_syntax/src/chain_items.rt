@@ -33,7 +33,7 @@ pub fn read_chain(
 {
     let mut items = items;
     let Some(entry) = next_value(&mut items) else {
-        return Err(expected(at, items.len(), "a value"));
+        return Err(expected_before(at, items, "a value"));
     };
     let filters = read_filters(alloc, filters, &mut items, at)?;
     Ok(FilterChain { entry, filters })
@@ -138,4 +138,16 @@ pub fn expected(at: &str, items_left: usize, wanted: &'static str) -> ParseError
         wanted,
         items_left,
     })
+}
+
+/// The fault that something else is wanted in the piece before these items, which are left of it.
+pub(crate) fn expected_before(
+    at: &str,
+    items: VecDeque<Item<'_>>,
+    wanted: &'static str,
+) -> ParseError
+    ensures kind { IsOfKind FaultKind.Expected result }
+    ensures place { IsAt (length at.now) result }
+{
+    expected(at, items.len(), wanted)
 }

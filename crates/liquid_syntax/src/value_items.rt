@@ -7,7 +7,7 @@ ghost use Rattle.liquid_syntax.specs.Faults.{FaultsAs, FaultsAt};
 ghost use Rattle.liquid_syntax.specs.inside.ValueAnswers.{SkipsSeparator};
 ghost use Rattle.liquid_syntax.specs.ValueLists.{ends_values, further_first, further_of, values_of};
 
-use crate::chain_items::expected;
+use crate::chain_items::expected_before;
 use liquid_core::Expression;
 use liquid_source::{FaultKind, Item, ParseError, Symbol, next_value, skip, skip_word};
 use std::alloc::Global;
@@ -85,7 +85,7 @@ pub fn read_values(
 {
     let mut items = items;
     let Some(first) = next_value(&mut items) else {
-        return Err(expected(at, items.len(), "a value"));
+        return Err(expected_before(at, items, "a value"));
     };
     read_further(alloc, first, items, separators, at)
 }
@@ -107,7 +107,7 @@ pub fn read_further(
     values.push(first)?;
     'values: while !ends_values(&items, separators) {
         let Some(value) = next_further(&mut items, separators) else {
-            return Err(expected(at, items.len(), further_wanted(separators)));
+            return Err(expected_before(at, items, further_wanted(separators)));
         };
         values.push(value)?;
     }
