@@ -6,8 +6,9 @@ use Rattle.liquid_source.specs.declared.fault.ParseError.{ParseError}
 use Rattle.liquid_source.specs.declared.fault.ParseError.TheVariants as errors
 use Rattle.liquid_tree.specs.Tree.{Node, Nodes, no_nodes}
 use Rattle.liquid_syntax.specs.Flats.{flat_of}
-use Rattle.liquid_syntax.specs.OpenBlocks.{State, last, begun, ended, Level, level, depth, deeper, with_node, close, step, to_else, to_elsif}
-use Rattle.liquid_syntax.specs.inside.Building.{Begins, IsFirst, Steps, IsBuilding, IsMemory, IsStack, Closes, IsPrepared, IsSound, statement_view, opening}
+use Rattle.liquid_syntax.specs.Nesting.{Opening}
+use Rattle.liquid_syntax.specs.OpenBlocks.{State, last, begun, ended, Level, level, depth, deeper, with_node, close, to_begin, to_closed, to_else, to_elsif}
+use Rattle.liquid_syntax.specs.inside.Building.{Begins, IsFirst, Steps, IsBuilding, IsMemory, IsStack, Closes, IsPrepared, IsSound, opening}
 use Rattle.liquid_language.specs.declared.block.Block.{Block}
 use Rattle.liquid_syntax.specs.declared.build.Builder.{Builder}
 use Rattle.liquid_syntax.specs.declared.build.Statement.{Statement}
@@ -31,10 +32,8 @@ pub chain_none : (b : Builder) (chained : Bool) (ls ms : List Level) (cur now : 
 chain_none b chained ls [] cur now t e h = e ∙ ap (λ (x : Bool). close x [] now) t
 chain_none b chained ls (level r f k ∷ ms) cur now t e h = absurd h
 
-pub begins_step : (b : Block) (stage : Stage) (n : code.Node) (statement : Statement) (ls : List Level) (cur : Nodes) → statement ≡ statements.Begins b stage n → depth ls < 200
-    → step (statement_view statement) ls cur ≡ Some (level (begun (opening b stage n)) cur false ∷ ls, no_nodes)
-begins_step b stage n statement ls cur is room =
-    ap (λ (l : Statement). step (statement_view l) ls cur) is ∙ ap (λ (x : Bool). cond x (Some (level (begun (opening b stage n)) cur false ∷ ls, no_nodes)) None) (some_room (depth ls) room)
+pub begins_step : (o : Opening) (ls : List Level) (cur : Nodes) → depth ls < 200 → to_begin o ls cur ≡ Some (level (begun o) cur false ∷ ls, no_nodes)
+begins_step o ls cur room = ap (λ (x : Bool). cond x (Some (level (begun o) cur false ∷ ls, no_nodes)) None) (some_room (depth ls) room)
 
 -- what is asked of the statement of a block is asked of its node
 pub prepared_begins : {b : Block} {stage : Stage} {n : code.Node} {statement : Statement} → statement ≡ statements.Begins b stage n → IsSound statement → IsPrepared stage n
@@ -52,9 +51,8 @@ pub elsif_fails : (e : ParseError) (next : Nodes → Nodes → Node) (ls : List 
 elsif_fails errors.Memory next ls cur b is h = tt
 elsif_fails (errors.Fault f) next ls cur b (make, g, k, rest, is) h = let e : to_else ls cur ≡ Some (level (last b (make cur)) g k ∷ rest, no_nodes) = ap (λ ls. to_else ls cur) is in absurd cc
 
-pub closed_step : (n : code.Node) (statement : Statement) (ls : List Level) (cur : Nodes) → statement ≡ statements.Closed n → depth ls < 200 → step (statement_view statement) ls cur ≡ Some (ls, with_node cur ((flat_of n).head []))
-closed_step n statement ls cur is room =
-    ap (λ (l : Statement). step (statement_view l) ls cur) is ∙ ap (λ (x : Bool). cond x (Some (ls, with_node cur ((flat_of n).head []))) None) (some_room (depth ls) room)
+pub closed_step : (n : Node) (ls : List Level) (cur : Nodes) → depth ls < 200 → to_closed n ls cur ≡ Some (ls, with_node cur n)
+closed_step n ls cur room = ap (λ (x : Bool). cond x (Some (ls, with_node cur n)) None) (some_room (depth ls) room)
 
 -- a builder that isn't full has room for a block
 pub has_room : (n m : ℕ) (full : Bool) → full ≡ nat_le 200 n → full ≡ false → n ≡ m → m < 200

@@ -1,12 +1,15 @@
 -- The loops over a chain's tokens, a turn at a time.
-use Rattle.std.proofs.Common.{◌≡◌, suc, List, [], ◌∷◌, ◌++◌, length, Bool, true, false, nat_eq, cond, Option, Some, None, refl, sym, ap, ◌∙◌, append_assoc, arith, rules}
+use Rattle.std.proofs.Common.{◌≡◌, suc, List, [], ◌∷◌, ◌++◌, length, Bool, true, false, nat_eq, cond, Option, Some, None, Result, Ok, Err, refl, sym, ap, ◌∙◌, append_assoc, arith, rules}
 use Rattle.std.proofs.lemmas.List.{append-nil}
 use Rattle.std.specs.Option.{option_and_then, option_map}
 use Rattle.liquid_model.specs.Texts.{Text}
 use Rattle.liquid_model.specs.Maps.{listed}
 use Rattle.liquid_core.specs.Expression.{Expression, literal, variable, no_steps, step}
 use Rattle.liquid_tree.specs.Tree.{FilterCall}
-use Rattle.liquid_source.specs.Readers.{Fails}
+use Rattle.liquid_tree.specs.ChainView.{chain_filter_view}
+use Rattle.liquid_tree.specs.declared.chain.ChainFilter.{ChainFilter}
+use Rattle.liquid_syntax.specs.inside.Called.{TakesFilter}
+use Rattle.liquid_source.specs.Readers.{Fails, Parses}
 use Rattle.liquid_source.specs.Tokens.{Token, value, range, symbol, tokens_view, value_first, word_first, is_symbol, past}
 use Rattle.liquid_syntax.specs.Chains.{Filters}
 use Rattle.liquid_syntax.specs.ChainReading.{Called, accepted_call, call_with, filters_of, call_of, called_of, arguments_of, further_of, no_arguments, one_argument}
@@ -147,49 +150,54 @@ module _ (known : Filters) where
   no_bar before ts some h = ap (filters_behind before) (filters_first ts None some h)
 
   module _ (before : List FilterCall) (all ts : List Token) (some : length all ≡ 0 → ⊥) (barred : past Bar all ≡ Some ts) where
-    at_word : (o : Option (Text × List Token)) → word_first ts ≡ o → filters_of known all ≡ option_and_then called_with o
-    at_word o h = filters_first all (Some ts) some barred ∙ call_first ts ∙ ap (option_and_then called_with) h
+    at_bar : filters_of known all ≡ call_of known ts
+    at_bar = filters_first all (Some ts) some barred
 
-    pub no_name : word_first ts ≡ None → filters_behind before (filters_of known all) ≡ None
+    pub filter_refused : (e : ParseError) (whole : Option (List FilterCall)) → whole ≡ filters_behind before (filters_of known all) → Fails e (call_of known ts) → Fails e whole
     unfolding filters_behind
-    no_name h = ap (filters_behind before) (at_word None h)
+    filter_refused errors.Memory whole g h = tt
+    filter_refused (errors.Fault f) whole g h = g ∙ ap (filters_behind before) (at_bar ∙ h)
 
-    module _ (name : Text) (next : List Token) (named : word_first ts ≡ Some (name, next)) where
-      pub no_call : called_of known next ≡ None → filters_behind before (filters_of known all) ≡ None
-      unfolding filters_behind
-      no_call h = ap (filters_behind before) (at_word (Some (name, next)) named ∙ ap (option_and_then (call_with known name)) h)
+    one_left : (o : Option (List FilterCall)) (c : FilterCall) → filters_behind before (option_map (λ calls. c ∷ calls) o) ≡ filters_behind (before ++ (c ∷ [])) o
+    unfolding filters_behind
+    one_left None c = refl
+    one_left (Some calls) c = ap (λ cs. Some cs) (sym (append_assoc before (c ∷ []) calls))
 
-      -- behind a filter with these arguments
-      with_call : (xs : List Expression) (o : Option (List FilterCall)) (call : Option FilterCall) → accepted_call name (listed known name) xs ≡ call → called_of known next ≡ option_map (λ calls. (xs, calls)) o
-          → filters_of known all ≡ option_and_then (λ calls. option_map (λ c. c ∷ calls) call) o
-      with_call xs None call e h = at_word (Some (name, next)) named ∙ ap (option_and_then (call_with known name)) h
-      with_call xs (Some calls) call e h = at_word (Some (name, next)) named ∙ ap (option_and_then (call_with known name)) h ∙ ap (option_map (λ c. c ∷ calls)) e
+    pub one_filter : (c : FilterCall) (new : List Token) → call_of known ts ≡ option_map (λ calls. c ∷ calls) (filters_of known new) → filters_behind before (filters_of known all) ≡ filters_behind (before ++ (c ∷ [])) (filters_of known new)
+    one_filter c new h = ap (filters_behind before) (at_bar ∙ h) ∙ one_left (filters_of known new) c
 
-      nothing_left : (o : Option (List FilterCall)) → option_and_then (λ calls. option_map (λ (c : FilterCall). c ∷ calls) None) o ≡ None
-      nothing_left None = refl
-      nothing_left (Some calls) = refl
+  -- ---- a filter behind its `|`
 
-      one_left : (o : Option (List FilterCall)) (c : FilterCall) → filters_behind before (option_and_then (λ calls. option_map (λ (c : FilterCall). c ∷ calls) (Some c)) o) ≡ filters_behind (before ++ (c ∷ [])) o
-      unfolding filters_behind
-      one_left None c = refl
-      one_left (Some calls) c = ap (λ cs. Some cs) (sym (append_assoc before (c ∷ []) calls))
+  pub no_name : (ts : List Token) → word_first ts ≡ None → call_of known ts ≡ None
+  no_name ts h = call_first ts ∙ ap (option_and_then called_with) h
 
-      pub unaccepted : (xs : List Expression) (o : Option (List FilterCall)) → accepted_call name (listed known name) xs ≡ None → called_of known next ≡ option_map (λ calls. (xs, calls)) o → filters_behind before (filters_of known all) ≡ None
-      unfolding filters_behind
-      unaccepted xs o e h = ap (filters_behind before) (with_call xs o None e h ∙ nothing_left o)
+  module _ (ts : List Token) (name : Text) (next : List Token) (named : word_first ts ≡ Some (name, next)) where
+    named_call : (o : Option Called) → called_of known next ≡ o → call_of known ts ≡ option_and_then (call_with known name) o
+    named_call o h = call_first ts ∙ ap (option_and_then called_with) named ∙ ap (option_and_then (call_with known name)) h
 
-      pub one_filter : (xs : List Expression) (o : Option (List FilterCall)) (c : FilterCall) → accepted_call name (listed known name) xs ≡ Some c → called_of known next ≡ option_map (λ calls. (xs, calls)) o
-          → filters_behind before (filters_of known all) ≡ filters_behind (before ++ (c ∷ [])) o
-      one_filter xs o c e h = ap (filters_behind before) (with_call xs o (Some c) e h) ∙ one_left o c
+    pub call_refused : (e : ParseError) → Fails e (called_of known next) → Fails e (call_of known ts)
+    call_refused errors.Memory h = tt
+    call_refused (errors.Fault f) h = named_call None h
 
-      pub call_refused : (e : ParseError) (whole : Option (List FilterCall)) → whole ≡ filters_behind before (filters_of known all) → Fails e (called_of known next) → Fails e whole
-      call_refused errors.Memory whole g h = tt
-      call_refused (errors.Fault f) whole g h = g ∙ no_call h
+    -- behind a filter with these arguments
+    with_call : (xs : List Expression) (o : Option (List FilterCall)) (call : Option FilterCall) → accepted_call name (listed known name) xs ≡ call → called_of known next ≡ option_map (λ calls. (xs, calls)) o
+        → call_of known ts ≡ option_and_then (λ calls. option_map (λ c. c ∷ calls) call) o
+    with_call xs None call e h = named_call None h
+    with_call xs (Some calls) call e h = named_call (Some (xs, calls)) h ∙ ap (option_map (λ c. c ∷ calls)) e
 
-      pub acceptance_refused : (xs : List Expression) (o : Option (List FilterCall)) (e : ParseError) (whole : Option (List FilterCall)) → whole ≡ filters_behind before (filters_of known all)
-          → called_of known next ≡ option_map (λ calls. (xs, calls)) o → Fails e (accepted_call name (listed known name) xs) → Fails e whole
-      acceptance_refused xs o errors.Memory whole g h r = tt
-      acceptance_refused xs o (errors.Fault f) whole g h r = g ∙ unaccepted xs o r h
+    nothing_left : (o : Option (List FilterCall)) → option_and_then (λ calls. option_map (λ (c : FilterCall). c ∷ calls) None) o ≡ None
+    nothing_left None = refl
+    nothing_left (Some calls) = refl
+
+    one_ahead : (c : FilterCall) (o : Option (List FilterCall)) → option_and_then (λ calls. option_map (λ (c : FilterCall). c ∷ calls) (Some c)) o ≡ option_map (λ calls. c ∷ calls) o
+    one_ahead c None = refl
+    one_ahead c (Some calls) = refl
+
+    pub call_taken : (xs : List Expression) (new : List Token) (r : Result ChainFilter ParseError) → called_of known next ≡ option_map (λ calls. (xs, calls)) (filters_of known new) → Parses chain_filter_view r (accepted_call name (listed known name) xs)
+        → TakesFilter known ts new r
+    call_taken xs new (Ok c) h p = with_call xs (filters_of known new) (Some (chain_filter_view c)) p h ∙ one_ahead (chain_filter_view c) (filters_of known new)
+    call_taken xs new (Err errors.Memory) h p = tt
+    call_taken xs new (Err (errors.Fault f)) h p = with_call xs (filters_of known new) None p h ∙ nothing_left (filters_of known new)
 
 -- what is answered where nothing is to be read
 pub faulted : {Y : Type 0} (e : ParseError) (read : Option Y) → read ≡ None → Fails e read

@@ -1,16 +1,17 @@
 //! Building the list of nodes with a stack of open blocks: where a body ends is written into its block's node as it ends.
 
-ghost use Rattle.std.specs.Prelude.{◌≡◌, ◌<◌, ◌-◌, ℕ, IfSome, List, [], ◌∷◌, ◌++◌, length, map, slice_get, Some, OnOk, true};
-ghost use Rattle.liquid_syntax.specs.inside.Building.{Begins, BodyEnded, Closes, Finishes, IsAdded, IsBuilding, IsBuilt, IsFirst, IsMemory, IsPrepared, IsSound, IsStack, Steps, before_last_ended, is_full, statement_view, last_ended, of_bodies, context_at, set_before_last, takes_else, takes_when, text_added};
+ghost use Rattle.std.specs.Prelude.{◌≡◌, ◌<◌, ◌-◌, IfSome, List, [], length, map, slice_get, Some, OnOk, true};
+ghost use Rattle.liquid_syntax.specs.inside.Building.{Begins, BodyEnded, Closes, EndsFirst, Finishes, IsBuilding, IsBuilt, IsFirst, IsMemory, IsPrepared, IsSound, IsStack, Steps, is_full, statement_view, of_bodies, context_at, opening, takes_else, takes_when, text_added};
 ghost use Rattle.liquid_syntax.specs.Faults.{FaultsAt};
-ghost use Rattle.liquid_syntax.specs.Flats.{arm_ends, arm_values, flat_of, flats};
+ghost use Rattle.liquid_syntax.specs.Flats.{flat_of, flats};
 ghost use Rattle.liquid_core.specs.ExpressionView.{expression_view};
-ghost use Rattle.liquid_syntax.specs.OpenBlocks.{Level, at_end, close, step, to_else, to_elsif, to_when, with_node};
+ghost use Rattle.liquid_syntax.specs.OpenBlocks.{Level, at_end, close, step, to_begin, to_closed, to_else, to_elsif, to_when, with_node};
 ghost use Rattle.liquid_tree.specs.Tree.{Nodes, no_nodes};
 ghost use Rattle.liquid_syntax.specs.declared.build.Stage.TheVariants as stages;
 
+use crate::body_ends::{add_arm, end_before_last, end_last};
 use crate::faults::{missing_end, no_body, too_nested};
-use crate::node::{Arm, Node};
+use crate::node::Node;
 use crate::positions::Position;
 use crate::template::Template;
 use liquid_core::Expression;
@@ -208,17 +209,32 @@ impl Builder {
         }
     }
 
-    /// `elsif`: the last body begins, and in it a block that ends with the one around it.
-    fn elsif(&mut self, node: Node, left: usize) -> Result<(), ParseError>
+    /// The end of a first body, and the start of the last. It answers the block that they are bodies of.
+    fn end_first(&mut self, left: usize) -> Result<Block, ParseError>
         requires { IsBuilt self.old }
-        ensures stack { IsPrepared stages.First node → (ls : List Level) (cur : Nodes) → IsBuilding self.old ls cur → Steps (to_elsif (of_bodies (flat_of node)) ls cur) self.new result }
+        ensures stack { (ls : List Level) (cur : Nodes) → IsBuilding self.old ls cur → EndsFirst ls cur self.new result }
         ensures place { FaultsAt left result }
     {
         let Some(block) = self.first_block() else {
             return Err(ParseError::Fault(no_body(left)));
         };
         self.otherwise(left)?;
-        self.open(block, Stage::First, true, node)
+        Ok(block)
+    }
+
+    /// `elsif`: the last body begins, and in it a block that ends with the one around it.
+    fn elsif(&mut self, node: Node, left: usize) -> Result<(), ParseError>
+        requires { IsBuilt self.old }
+        ensures stack { IsPrepared stages.First node → (ls : List Level) (cur : Nodes) → IsBuilding self.old ls cur → Steps (to_elsif (of_bodies (flat_of node)) ls cur) self.new result }
+        ensures place { FaultsAt left result }
+    {
+        match self.end_first(left) {
+            Ok(block) => self.open(block, Stage::First, true, node),
+            Err(error) => {
+                drop(node);
+                Err(error)
+            }
+        }
     }
 
     /// The end of the innermost block: whether an `elsif` opened it.
@@ -252,6 +268,38 @@ impl Builder {
         Ok(())
     }
 
+    /// A block whose body isn't read, where the blocks around it aren't too deep already.
+    fn closed(&mut self, node: Node, left: usize) -> Result<(), ParseError>
+        requires { (flat_of node).ends ≡ [] }
+        ensures stack { (ls : List Level) (cur : Nodes) → IsBuilding self.old ls cur → Steps (to_closed ((flat_of node).head []) ls cur) self.new result }
+        ensures place { FaultsAt left result }
+    {
+        self.leaf(node)?;
+        if self.is_full() {
+            return Err(too_nested(left));
+        }
+        Ok(())
+    }
+
+    /// The start of a block, where the blocks around it aren't too deep already.
+    fn begin(
+        &mut self,
+        block: Block,
+        stage: Stage,
+        node: Node,
+        left: usize,
+    ) -> Result<(), ParseError>
+        ensures stack { IsPrepared stage node → (ls : List Level) (cur : Nodes) → IsBuilding self.old ls cur → Steps (to_begin (opening block stage node) ls cur) self.new result }
+        ensures place { FaultsAt left result }
+    {
+        self.open(block, stage, false, node)?;
+        if self.is_full() {
+            return Err(too_nested(left));
+        }
+        self.depth += 1;
+        Ok(())
+    }
+
     /// The next piece; so many bytes of the source are left from it on.
     pub fn add(&mut self, statement: Statement, left: usize) -> Result<(), ParseError>
         requires built { IsBuilt self.old }
@@ -261,20 +309,8 @@ impl Builder {
     {
         match statement {
             Statement::Leaf(node) => self.leaf(node),
-            Statement::Closed(node) => {
-                if self.is_full() {
-                    return Err(too_nested(left));
-                }
-                self.leaf(node)
-            }
-            Statement::Begins(block, stage, node) => {
-                if self.is_full() {
-                    return Err(too_nested(left));
-                }
-                self.open(block, stage, false, node)?;
-                self.depth += 1;
-                Ok(())
-            }
+            Statement::Closed(node) => self.closed(node, left),
+            Statement::Begins(block, stage, node) => self.begin(block, stage, node, left),
             Statement::Elsif(node) => self.elsif(node, left),
             Statement::When(values) => self.when(values, left),
             Statement::Otherwise => self.otherwise(left),
@@ -333,67 +369,5 @@ fn end_body(nodes: &mut Vec<Node>, block: Open)
         Stage::Last => {}
         Stage::Unkept => nodes.truncate(block.node_index + 1),
         Stage::Armed => end_before_last(&mut nodes[block.node_index], end),
-    }
-}
-
-/// Writes where the body before the last ends.
-fn end_before_last(node: &mut Node, end: usize)
-    ensures { flat_of node.new ≡ before_last_ended end (flat_of node.old) }
-{
-    match node {
-        Node::If(_, bodies) => bodies.first_end = end,
-        Node::Unless(_, bodies) => bodies.first_end = end,
-        Node::Case(_, arms, _) => end_last_arm(arms, end),
-        Node::For(_, bodies) => bodies.first_end = end,
-        Node::Capture(..) | Node::IfChanged(_) | Node::TableRow(..) => {}
-        Node::Text(_) | Node::Output(_) | Node::Assign(..) | Node::Raw(_) | Node::Comment => {}
-        Node::Break | Node::Continue | Node::Increment(_) | Node::Decrement(_) => {}
-        Node::Cycle(..) => {}
-        Node::Include(..) | Node::JekyllInclude(..) => {}
-        Node::Render(..) | Node::RenderEach(..) => {}
-    }
-}
-
-/// Writes where the body of the last `when` ends, if there is one.
-fn end_last_arm(arms: &mut Vec<Arm>, end: usize)
-    ensures values { arm_values arms.new.items ≡ arm_values arms.old.items }
-    ensures ends { (z : ℕ) → arm_ends arms.new.items ++ z ∷ [] ≡ set_before_last end (arm_ends arms.old.items ++ z ∷ []) }
-{
-    if let Some(arm) = arms.last_mut() {
-        arm.end = end;
-    }
-}
-
-/// Writes where the last body ends.
-fn end_last(node: &mut Node, end: usize)
-    ensures { flat_of node.new ≡ last_ended end (flat_of node.old) }
-{
-    match node {
-        Node::If(_, bodies) => bodies.last_end = end,
-        Node::Unless(_, bodies) => bodies.last_end = end,
-        Node::Case(_, _, last_end) => *last_end = end,
-        Node::For(_, bodies) => bodies.last_end = end,
-        Node::TableRow(_, body_end) => *body_end = end,
-        Node::Capture(_, body_end) => *body_end = end,
-        Node::IfChanged(body_end) => *body_end = end,
-        Node::Text(_) | Node::Output(_) | Node::Assign(..) | Node::Raw(_) | Node::Comment => {}
-        Node::Break | Node::Continue | Node::Increment(_) | Node::Decrement(_) => {}
-        Node::Cycle(..) => {}
-        Node::Include(..) | Node::JekyllInclude(..) => {}
-        Node::Render(..) | Node::RenderEach(..) => {}
-    }
-}
-
-/// A further `when` of a `case`, of which it isn't known yet where its body ends.
-fn add_arm(node: &mut Node, values: Vec<Expression>) -> Result<(), ParseError>
-    ensures added { OnOk result (IsAdded (map expression_view values.items) (flat_of node.old) (flat_of node.new)) }
-    ensures fails { IsMemory result }
-{
-    match node {
-        Node::Case(_, arms, _) => {
-            arms.push(Arm { values, end: 0 })?;
-            Ok(())
-        }
-        _ => Ok(()),
     }
 }

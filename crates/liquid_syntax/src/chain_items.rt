@@ -2,7 +2,7 @@
 ghost use Rattle.std.specs.Prelude.{◌≡◌, ◌≤◌, IfErr, length, map, string_bytes};
 ghost use Rattle.liquid_core.specs.ExpressionView.{expression_view};
 ghost use Rattle.liquid_model.specs.Maps.{listed};
-ghost use Rattle.liquid_syntax.specs.inside.Called.{Calls};
+ghost use Rattle.liquid_syntax.specs.inside.Called.{Calls, TakesFilter};
 ghost use Rattle.liquid_syntax.specs.ChainReading.{accepted_call, call_fault, filters_of, chain_of};
 ghost use Rattle.liquid_syntax.specs.Chains.{Filters};
 ghost use Rattle.liquid_syntax.specs.Faults.{FaultsAs, FaultsAt};
@@ -33,7 +33,7 @@ pub fn read_chain(
 {
     let mut items = items;
     let Some(entry) = next_value(&mut items) else {
-        return Err(expected(at, items.len(), "a value"));
+        return Err(expected_before(at, items, "a value"));
     };
     let filters = read_filters(alloc, filters, &mut items, at)?;
     Ok(FilterChain { entry, filters })
@@ -54,13 +54,27 @@ fn read_filters(
         if !skip(items, Symbol::Bar) {
             return Err(expected(at, items.len(), "`|` or the closer"));
         }
-        let Some(name) = next_word(items) else {
-            return Err(expected(at, items.len(), "the name of a filter"));
-        };
-        let arguments = read_arguments(alloc, items, at)?;
-        filters.push(accepted(known, name, arguments, at)?)?;
+        filters.push(read_filter(alloc, known, items, at)?)?;
     }
     Ok(filters)
+}
+
+/// The filter at the front, behind its `|`: its name, and the arguments that it is given.
+fn read_filter(
+    alloc: Global,
+    known: &FilterRegistry,
+    items: &mut VecDeque<Item<'_>>,
+    at: &str,
+) -> Result<ChainFilter, ParseError>
+    ensures taken { TakesFilter (registered_in known.now) (tokens_view items.old.items) (tokens_view items.new.items) result }
+    ensures shorter { length items.new.items ≤ length items.old.items }
+    ensures place { FaultsAt (length at.now) result }
+{
+    let Some(name) = next_word(items) else {
+        return Err(expected(at, items.len(), "the name of a filter"));
+    };
+    let arguments = read_arguments(alloc, items, at)?;
+    accepted(known, name, arguments, at)
 }
 
 /// The filter of the name with these arguments. `UnknownFilter` where none is registered, and `FilterArguments` where it
@@ -138,4 +152,16 @@ pub fn expected(at: &str, items_left: usize, wanted: &'static str) -> ParseError
         wanted,
         items_left,
     })
+}
+
+/// The fault that something else is wanted in the piece before these items, which are left of it.
+pub(crate) fn expected_before(
+    at: &str,
+    items: VecDeque<Item<'_>>,
+    wanted: &'static str,
+) -> ParseError
+    ensures kind { IsOfKind FaultKind.Expected result }
+    ensures place { IsAt (length at.now) result }
+{
+    expected(at, items.len(), wanted)
 }

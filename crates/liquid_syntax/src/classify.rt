@@ -12,7 +12,7 @@ mod blocks;
 mod tags;
 
 use crate::build::Statement;
-use crate::chain_items::{expected, read_chain};
+use crate::chain_items::{expected_before, read_chain};
 use crate::cycle_items::read_cycle;
 use crate::node::Node;
 use crate::partial_items::{read_include, read_jekyll_include, read_render};
@@ -145,7 +145,7 @@ fn read_end(items: VecDeque<Item<'_>>, at: &str) -> Result<Statement, ParseError
     if items.is_empty() {
         Ok(Statement::Ends)
     } else {
-        Err(expected(at, items.len(), "the closer"))
+        Err(expected_before(at, items, "the closer"))
     }
 }
 

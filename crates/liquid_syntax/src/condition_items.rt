@@ -8,7 +8,7 @@ ghost use Rattle.liquid_source.specs.PieceView.{item_view};
 ghost use Rattle.liquid_source.specs.Readers.{Parses};
 ghost use Rattle.liquid_source.specs.Tokens.{tokens_view, token_of};
 
-use crate::chain_items::expected;
+use crate::chain_items::{expected, expected_before};
 use liquid_source::{FaultKind, Item, ParseError, Symbol, is_over, is_word, next_value, skip_word};
 use liquid_tree::{Atom, ComparisonOperator, Condition};
 use std::alloc::Global;
@@ -34,7 +34,7 @@ pub fn read_condition(
             return Ok(Condition { conjunctions });
         }
         if !skip_word(&mut items, "or") {
-            return Err(expected(at, items.len(), "`and`, `or` or the closer"));
+            return Err(expected_before(at, items, "`and`, `or` or the closer"));
         }
     }
 }
@@ -84,7 +84,7 @@ fn next_operator(items: &mut VecDeque<Item<'_>>) -> Option<ComparisonOperator>
     ensures { TakesOperator items.old.items items.new.items result }
 {
     let operator = operator_of(items.front()?)?;
-    items.pop_front();
+    drop(items.pop_front());
     Some(operator)
 }
 

@@ -7,7 +7,7 @@ ghost use Rattle.liquid_source.specs.Tokens.{tokens_view};
 ghost use Rattle.liquid_syntax.specs.Cycles.{any_values_of, grouped_of, grouped_view, is_name, named_of, with_group};
 ghost use Rattle.liquid_syntax.specs.Faults.{FaultsAs, FaultsAt};
 
-use crate::chain_items::expected;
+use crate::chain_items::{expected, expected_before};
 use crate::group::{named_group, values_group};
 use crate::value_items::{Separators, read_further, read_values};
 use liquid_core::Expression;
@@ -28,7 +28,7 @@ pub fn read_cycle(
 {
     let mut items = items;
     let Some(first) = next_value(&mut items) else {
-        return Err(expected(at, items.len(), "a value"));
+        return Err(expected_before(at, items, "a value"));
     };
     if skip(&mut items, Symbol::Colon) {
         return read_named(alloc, first, items, at);

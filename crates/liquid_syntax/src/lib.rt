@@ -1,6 +1,7 @@
 //! From source to template.
 #![tactic(auto)]
 
+mod body_ends;
 mod build;
 mod chain_items;
 mod classify;

@@ -5,10 +5,10 @@ ghost use Rattle.liquid_source.specs.Tokens.{tokens_view};
 ghost use Rattle.liquid_syntax.specs.Faults.{FaultsAs, FaultsAt};
 ghost use Rattle.liquid_core.specs.Expression.{Expression as Meant};
 ghost use Rattle.liquid_core.specs.ExpressionView.{expression_view};
-ghost use Rattle.liquid_syntax.specs.Loops.{head_view, loop_of, part_first, part_value, part_view, parts_in, source_first, with_part, Part};
+ghost use Rattle.liquid_syntax.specs.Loops.{head_view, loop_of, own_part, part_first, part_value, part_view, parts_in, source_first, with_part, Part};
 ghost use Rattle.liquid_tree.specs.SourceView.{source_view};
 
-use crate::chain_items::expected;
+use crate::chain_items::expected_before;
 use crate::loop_nodes::WindowExpression;
 use liquid_core::Expression;
 use liquid_source::{
@@ -89,20 +89,26 @@ fn next_part(items: &mut VecDeque<Item<'_>>, kind: LoopKind) -> Option<LoopPart>
     if skip_word(items, "offset") {
         return Some(LoopPart::Offset(behind_colon(items)?));
     }
+    own_part(items, kind)
+}
+
+/// Takes the part at the front, if one stands there that only a loop of this kind may have.
+fn own_part(items: &mut VecDeque<Item<'_>>, kind: LoopKind) -> Option<LoopPart>
+    ensures value { option_map (λ p. (part_view p, tokens_view items.new.items)) result ≡ own_part kind (tokens_view items.old.items) }
+    ensures shorter { IfSome result (λ _. length items.new.items < length items.old.items) }
+{
     match kind {
         LoopKind::Each => {
-            if skip_word(items, "reversed") {
-                Some(LoopPart::Reversed)
-            } else {
-                None
+            if !skip_word(items, "reversed") {
+                return None;
             }
+            Some(LoopPart::Reversed)
         }
         LoopKind::Rows => {
-            if skip_word(items, "cols") {
-                Some(LoopPart::Cols(behind_colon(items)?))
-            } else {
-                None
+            if !skip_word(items, "cols") {
+                return None;
             }
+            Some(LoopPart::Cols(behind_colon(items)?))
         }
     }
 }
@@ -131,13 +137,13 @@ pub fn read_loop(items: VecDeque<Item<'_>>, kind: LoopKind, at: &str) -> Result<
 {
     let mut items = items;
     let Some(variable) = next_word(&mut items) else {
-        return Err(expected(at, items.len(), "the name of a variable"));
+        return Err(expected_before(at, items, "the name of a variable"));
     };
     if !skip_word(&mut items, "in") {
-        return Err(expected(at, items.len(), "`in`"));
+        return Err(expected_before(at, items, "`in`"));
     }
     let Some(source) = next_source(&mut items) else {
-        return Err(expected(at, items.len(), "a list or a range"));
+        return Err(expected_before(at, items, "a list or a range"));
     };
     let mut read = Loop {
         variable,
@@ -151,7 +157,7 @@ pub fn read_loop(items: VecDeque<Item<'_>>, kind: LoopKind, at: &str) -> Result<
     };
     'parts: while !is_over(&items) {
         let Some(part) = next_part(&mut items, kind) else {
-            return Err(expected(at, items.len(), part_wanted(kind)));
+            return Err(expected_before(at, items, part_wanted(kind)));
         };
         read.set(part);
     }

@@ -6,8 +6,9 @@ ghost use Rattle.liquid_syntax.specs.Bound.{ends_pairs, is_separated, mark_of, o
 ghost use Rattle.liquid_syntax.specs.Faults.{FaultsAs, FaultsAt};
 ghost use Rattle.liquid_syntax.specs.Flats.{binding_view, bindings_view};
 
-use crate::chain_items::expected;
+use crate::chain_items::expected_before;
 use crate::node::Binding;
+use crate::value_items::is_last_comma;
 use liquid_source::{FaultKind, Item, ParseError, Symbol, next_value, next_word, skip};
 use std::collections::VecDeque;
 
@@ -82,16 +83,10 @@ fn next_of(items: &mut VecDeque<Item<'_>>, style: PairStyle) -> Option<Binding>
 fn ends_pairs(items: &VecDeque<Item<'_>>, style: PairStyle) -> bool
     ensures { result ≡ ends_pairs style (tokens_view items.now.items) }
 {
-    if items.is_empty() {
-        return true;
-    }
-    if items.len() > 1 {
-        return false;
-    }
     match style {
-        PairStyle::Include => true,
-        PairStyle::JekyllInclude => false,
-        PairStyle::Render => matches!(items.front(), Some(Item::Symbol(Symbol::Comma))),
+        PairStyle::Include => items.len() <= 1,
+        PairStyle::JekyllInclude => items.is_empty(),
+        PairStyle::Render => is_last_comma(items),
     }
 }
 
@@ -110,7 +105,7 @@ pub(crate) fn read_pairs(
     let mut pairs = first;
     'pairs: while !ends_pairs(&items, style) {
         let Some(pair) = next_of(&mut items, style) else {
-            return Err(expected(at, items.len(), pair_wanted(style)));
+            return Err(expected_before(at, items, pair_wanted(style)));
         };
         pairs.push(pair)?;
     }

@@ -10,7 +10,7 @@ ghost use Rattle.liquid_syntax.specs.Classification.{leaf_or};
 ghost use Rattle.liquid_syntax.specs.PartialItems.{each_first, include_node, include_of, jekyll_node, jekyll_of, render_as, render_node, render_of, rendered_each, rendered_with, spelled_name, with_first};
 
 use crate::build::Statement;
-use crate::chain_items::expected;
+use crate::chain_items::{expected, expected_before};
 use crate::loop_items::next_source;
 use crate::loop_nodes::Each;
 use crate::node::{Binding, Node};
@@ -34,13 +34,13 @@ pub(crate) fn read_include(
 {
     let mut items = items;
     let Some(name) = next_value(&mut items) else {
-        return Err(expected(at, items.len(), "the name of a partial"));
+        return Err(expected_before(at, items, "the name of a partial"));
     };
     if is_over(&items) {
         return Ok(Statement::Leaf(Node::Include(name, Vec::new(alloc))));
     }
     let Some(first) = next_pair(&mut items, Symbol::Colon) else {
-        return Err(expected(at, items.len(), "`name: value`"));
+        return Err(expected_before(at, items, "`name: value`"));
     };
     let all = read_pairs(only(alloc, first)?, items, PairStyle::Include, at)?;
     Ok(Statement::Leaf(Node::Include(name, all)))
@@ -58,7 +58,7 @@ pub(crate) fn read_render(
 {
     let mut items = items;
     let Some(name) = next_value(&mut items) else {
-        return Err(expected(at, items.len(), "the name of a partial"));
+        return Err(expected_before(at, items, "the name of a partial"));
     };
     if skip_word(&mut items, "with") {
         return read_render_with(alloc, name, items, at);
@@ -83,7 +83,7 @@ fn read_render_with(
 {
     let mut items = items;
     let Some(first) = next_with(&mut items) else {
-        return Err(expected(at, items.len(), "`value as name`"));
+        return Err(expected_before(at, items, "`value as name`"));
     };
     let all = read_pairs(only(alloc, first)?, items, PairStyle::Render, at)?;
     Ok(Statement::Leaf(Node::Render(name, all)))
@@ -102,7 +102,7 @@ fn read_render_each(
 {
     let mut items = items;
     let Some(each) = next_each(&mut items) else {
-        return Err(expected(at, items.len(), "`list as name`"));
+        return Err(expected_before(at, items, "`list as name`"));
     };
     let all = read_pairs(Vec::new(alloc), items, PairStyle::Render, at)?;
     Ok(Statement::Leaf(Node::RenderEach(name, each, all)))

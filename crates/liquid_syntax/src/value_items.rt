@@ -7,7 +7,7 @@ ghost use Rattle.liquid_syntax.specs.Faults.{FaultsAs, FaultsAt};
 ghost use Rattle.liquid_syntax.specs.inside.ValueAnswers.{SkipsSeparator};
 ghost use Rattle.liquid_syntax.specs.ValueLists.{ends_values, further_first, further_of, values_of};
 
-use crate::chain_items::expected;
+use crate::chain_items::expected_before;
 use liquid_core::Expression;
 use liquid_source::{FaultKind, Item, ParseError, Symbol, next_value, skip, skip_word};
 use std::alloc::Global;
@@ -43,19 +43,24 @@ fn next_further(items: &mut VecDeque<Item<'_>>, separators: Separators) -> Optio
     next_value(items)
 }
 
+/// Whether the items are none but a `,`, or none at all.
+pub(crate) fn is_last_comma(items: &VecDeque<Item<'_>>) -> bool
+    ensures { result ≡ ends_values Separators.Commas (tokens_view items.now.items) }
+{
+    match items.front() {
+        None => true,
+        Some(Item::Symbol(Symbol::Comma)) => items.len() == 1,
+        Some(_) => false,
+    }
+}
+
 /// Whether the values end where the items are.
 fn ends_values(items: &VecDeque<Item<'_>>, separators: Separators) -> bool
     ensures { result ≡ ends_values separators (tokens_view items.now.items) }
 {
-    if items.is_empty() {
-        return true;
-    }
-    if items.len() > 1 {
-        return false;
-    }
     match separators {
-        Separators::CommasOr => false,
-        Separators::Commas => matches!(items.front(), Some(Item::Symbol(Symbol::Comma))),
+        Separators::Commas => is_last_comma(items),
+        Separators::CommasOr => items.is_empty(),
     }
 }
 
@@ -80,7 +85,7 @@ pub fn read_values(
 {
     let mut items = items;
     let Some(first) = next_value(&mut items) else {
-        return Err(expected(at, items.len(), "a value"));
+        return Err(expected_before(at, items, "a value"));
     };
     read_further(alloc, first, items, separators, at)
 }
@@ -102,7 +107,7 @@ pub fn read_further(
     values.push(first)?;
     'values: while !ends_values(&items, separators) {
         let Some(value) = next_further(&mut items, separators) else {
-            return Err(expected(at, items.len(), further_wanted(separators)));
+            return Err(expected_before(at, items, further_wanted(separators)));
         };
         values.push(value)?;
     }

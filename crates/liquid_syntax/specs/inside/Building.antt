@@ -200,6 +200,11 @@ abbrev pub IsFirst : List Level → Option Block → Type 0
 IsFirst ls (Some b) = (make : Nodes → Nodes → Node) × (f : Nodes) × (k : Bool) × (rest : List Level) × (ls ≡ level (first b make) f k ∷ rest)
 IsFirst ls None = (next : Nodes → Nodes → Node) (cur : Nodes) → to_elsif next ls cur ≡ None
 
+-- The first body of the block that is answered has ended, and its last has begun. No `elsif` stands where there is a fault.
+abbrev pub EndsFirst : List Level → Nodes → Builder → Result Block ParseError → Type 0
+EndsFirst ls cur b (Ok block) = (s : State) × IsBuilding b s.0 s.1 × ((next : Nodes → Nodes → Node) → to_elsif next ls cur ≡ Some (level (first block next) s.1 true ∷ s.0, no_nodes))
+EndsFirst ls cur b (Err e) = (next : Nodes → Nodes → Node) → Fails e (to_elsif next ls cur)
+
 -- no refusal but that of memory
 abbrev pub IsMemory : Result (Unit {0}) ParseError → Type 0
 IsMemory (Ok _) = Unit {0}

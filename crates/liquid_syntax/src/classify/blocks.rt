@@ -9,7 +9,7 @@ ghost use Rattle.liquid_syntax.specs.Classification.{block_statement, case_for, 
 
 use super::tags::{BareTag, read_bare, read_word};
 use crate::build::{Stage, Statement};
-use crate::chain_items::expected;
+use crate::chain_items::expected_before;
 use crate::condition_items::read_condition;
 use crate::loop_items::{LoopKind, read_loop};
 use crate::loop_nodes::{For, TableRow};
@@ -56,7 +56,7 @@ pub(super) fn read_block(
             let node = read_table_row(alloc, items, at)?;
             Ok(Statement::Begins(Block::TableRow, Stage::Last, node))
         }
-        BlockKind::Raw | BlockKind::Comment => Err(expected(at, items.len(), "the closer")),
+        BlockKind::Raw | BlockKind::Comment => Err(expected_before(at, items, "the closer")),
     }
 }
 
@@ -125,10 +125,10 @@ fn read_case(alloc: Global, items: VecDeque<Item<'_>>, at: &str) -> Result<Node,
 {
     let mut items = items;
     let Some(target) = next_value(&mut items) else {
-        return Err(expected(at, items.len(), "a value"));
+        return Err(expected_before(at, items, "a value"));
     };
     if is_over(&items) {
         return Ok(Node::Case(target, Vec::new(alloc), 0));
     }
-    Err(expected(at, items.len(), "the closer"))
+    Err(expected_before(at, items, "the closer"))
 }

@@ -9,7 +9,7 @@ ghost use Rattle.liquid_syntax.specs.inside.Classifies.{Classifies};
 ghost use Rattle.liquid_syntax.specs.Classification.{assign_of, bare, leaf_or, word_alone};
 
 use crate::build::{Stage, Statement};
-use crate::chain_items::{expected, read_chain};
+use crate::chain_items::{expected_before, read_chain};
 use crate::node::Node;
 use liquid_language::{Block, Language};
 use liquid_source::{FaultKind, Item, ParseError, Symbol, is_over, next_word, skip};
@@ -52,7 +52,7 @@ pub(super) fn read_bare(
     if items.is_empty() {
         Ok(statement_of(tag))
     } else {
-        Err(expected(at, items.len(), "the closer"))
+        Err(expected_before(at, items, "the closer"))
     }
 }
 
@@ -64,12 +64,12 @@ pub(super) fn read_word(items: VecDeque<Item<'_>>, at: &str) -> Result<String, P
 {
     let mut items = items;
     let Some(name) = next_word(&mut items) else {
-        return Err(expected(at, items.len(), "the name of a variable"));
+        return Err(expected_before(at, items, "the name of a variable"));
     };
     if is_over(&items) {
         return Ok(name);
     }
-    Err(expected(at, items.len(), "the closer"))
+    Err(expected_before(at, items, "the closer"))
 }
 
 /// `name = chain`
@@ -84,10 +84,10 @@ pub(super) fn read_assign(
 {
     let mut items = items;
     let Some(name) = next_word(&mut items) else {
-        return Err(expected(at, items.len(), "the name of a variable"));
+        return Err(expected_before(at, items, "the name of a variable"));
     };
     if !skip(&mut items, Symbol::Assign) {
-        return Err(expected(at, items.len(), "`=`"));
+        return Err(expected_before(at, items, "`=`"));
     }
     Ok(Statement::Leaf(Node::Assign(name, read_chain(alloc, &language.filters, items, at)?)))
 }

@@ -17,7 +17,7 @@ returns-then-is_over-clause-condition c =
 pub returns-then-not-skip_word-clause-condition : goal.returns-then-not-skip_word-clause-condition
 returns-then-not-skip_word-clause-condition c =
     let some = left_over c.read_conjunction.new.items.items (sym c.is_over.ensures ∙ c.if-is_over.false) in
-    faulted c.expected.result _ (
+    faulted c.expected_before.result _ (
     c.conjunctions.invariant
     ∙ no_or (map atoms_view c.conjunctions.conjunctions.items) (atoms_view c.in_ok-conjunction.conjunction) (tokens_view c.conjunctions.items.items) (tokens_view c.read_conjunction.new.items.items) c.in_ok-conjunction.ensures.taken some
     c.if-not-skip_word.ensures.0)

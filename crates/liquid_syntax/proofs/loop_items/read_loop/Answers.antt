@@ -10,7 +10,7 @@ use Rattle.liquid_syntax.proofs.loop_items.read_loop.Goals as goal
 pub returns-in_default-next_part-clause-head : goal.returns-in_default-next_part-clause-head
 returns-in_default-next_part-clause-head c =
     let l = c.parts in
-    faulted c.expected-in_default-next_part.result _ (
+    faulted c.expected_before-in_default-next_part.result _ (
     l.invariant
     ∙ ap (option_map (head_with (string_bytes l.read.variable) (source_view l.read.source)))
     (no_part_there c.args.kind (parts_in l.read) (tokens_view l.items.items) (nothing_seen l.items.items _ (sym c.is_over.ensures ∙ c.parts-test.true)) (sym c.in_default-next_part.ensures.value)))

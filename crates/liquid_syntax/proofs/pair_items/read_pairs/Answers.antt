@@ -15,7 +15,7 @@ pub returns-in_default-clause-pairs : goal.returns-in_default-clause-pairs
 returns-in_default-clause-pairs c =
     let s = c.args.style in
     let l = c.pairs in
-    faulted c.expected.result _ (
+    faulted c.expected_before.result _ (
     l.invariant ∙ stuck_loop (one_first s) (ends_pairs s) (one_shorter s) (bindings_view l.pairs.items) (tokens_view l.items.items) (sym c.ends_pairs.ensures ∙ c.pairs-test.true) (sym c.in_default.ensures.value))
 
 pub pairs-preserved : goal.pairs-preserved

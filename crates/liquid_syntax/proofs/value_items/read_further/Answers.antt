@@ -18,7 +18,7 @@ pub returns-in_default-clause-values : goal.returns-in_default-clause-values
 returns-in_default-clause-values c =
     let s = c.args.separators in
     let l = c.values in
-    faulted c.expected.result _ (
+    faulted c.expected_before.result _ (
     l.invariant ∙ stuck_loop (further_first s) (ends_values s) (further_shorter s) (map expression_view l.values.items) (tokens_view l.items.items) (sym c.ends_values.ensures ∙ c.values-test.true) (sym c.in_default.ensures.value))
 
 pub values-preserved : goal.values-preserved

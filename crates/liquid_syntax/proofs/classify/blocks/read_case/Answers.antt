@@ -21,5 +21,5 @@ returns-then-is_over-clause-node c =
 pub returns-clause-node : goal.returns-clause-node
 returns-clause-node c =
     let left = c.next_value.new.items.items in
-    case_faulted c.expected-2.result (tokens_view c.args.items.items) c.expected-2.ensures.kind
+    case_faulted c.expected_before-2.result (tokens_view c.args.items.items) c.expected_before-2.ensures.kind
     (value_more (tokens_view c.args.items.items) (expression_view c.in-Some.target) (tokens_view left) c.in-Some.ensures.value (nothing_seen left _ (sym c.is_over.ensures ∙ c.if-is_over.false)))

@@ -13,4 +13,4 @@ returns-then-is_over-clause-word c =
 pub returns-clause-word : goal.returns-clause-word
 returns-clause-word c =
     let left = c.next_word.new.items.items in
-    faulted c.expected-2.result _ (word_more (tokens_view c.args.items.items) (string_bytes c.in-Some.name) (tokens_view left) c.in-Some.ensures.value (nothing_seen left _ (sym c.is_over.ensures ∙ c.if-is_over.false)))
+    faulted c.expected_before-2.result _ (word_more (tokens_view c.args.items.items) (string_bytes c.in-Some.name) (tokens_view left) c.in-Some.ensures.value (nothing_seen left _ (sym c.is_over.ensures ∙ c.if-is_over.false)))

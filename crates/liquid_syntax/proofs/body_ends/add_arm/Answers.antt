@@ -5,7 +5,7 @@ use Rattle.liquid_syntax.specs.Flats.{arm_ends, arm_values, case_flat, flat_of, 
 use Rattle.liquid_syntax.specs.declared.node.Arm.{Arm}
 use Rattle.liquid_syntax.specs.declared.node.Node.{Node}
 use Rattle.liquid_syntax.proofs.Arms.{arm_added, no_case}
-use Rattle.liquid_syntax.proofs.build.add_arm.Goals as goal
+use Rattle.liquid_syntax.proofs.body_ends.add_arm.Goals as goal
 
 pub returns-in_ok-push-in-Case-clause-added : goal.returns-in_ok-push-in-Case-clause-added
 returns-in_ok-push-in-Case-clause-added c =

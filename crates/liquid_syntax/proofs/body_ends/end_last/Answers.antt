@@ -4,7 +4,7 @@ use Rattle.liquid_syntax.specs.inside.Building.{last_ended}
 use Rattle.liquid_syntax.specs.Flats.{arm_ends, arm_values, flat_of}
 use Rattle.liquid_syntax.specs.declared.node.Node.{Node}
 use Rattle.liquid_syntax.proofs.Arms.{case_last}
-use Rattle.liquid_syntax.proofs.build.end_last.Goals as goal
+use Rattle.liquid_syntax.proofs.body_ends.end_last.Goals as goal
 
 pub returns-in-Case : goal.returns-in-Case
 returns-in-Case c =

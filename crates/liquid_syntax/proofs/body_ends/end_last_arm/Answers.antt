@@ -1,7 +1,7 @@
 use Rattle.std.proofs.Common.{◌<◌, rules, refl}
 use Rattle.std.specs.Prelude.{vec_len}
 use Rattle.liquid_syntax.proofs.Arms.{arm_ended}
-use Rattle.liquid_syntax.proofs.build.end_last_arm.Goals as goal
+use Rattle.liquid_syntax.proofs.body_ends.end_last_arm.Goals as goal
 
 pub returns-in-Some-clause-values : goal.returns-in-Some-clause-values
 returns-in-Some-clause-values c =

@@ -1,0 +1,72 @@
+//! What is written into the nodes of blocks as their bodies end, and the further `when` parts of a `case`.
+
+ghost use Rattle.std.specs.Prelude.{◌≡◌, ℕ, List, [], ◌∷◌, ◌++◌, map, OnOk};
+ghost use Rattle.liquid_syntax.specs.inside.Building.{IsAdded, IsMemory, before_last_ended, last_ended, set_before_last};
+ghost use Rattle.liquid_syntax.specs.Flats.{arm_ends, arm_values, flat_of};
+ghost use Rattle.liquid_core.specs.ExpressionView.{expression_view};
+
+use crate::node::{Arm, Node};
+use liquid_core::Expression;
+use liquid_source::ParseError;
+
+/// Writes where the body before the last ends.
+pub(crate) fn end_before_last(node: &mut Node, end: usize)
+    ensures { flat_of node.new ≡ before_last_ended end (flat_of node.old) }
+{
+    match node {
+        Node::If(_, bodies) => bodies.first_end = end,
+        Node::Unless(_, bodies) => bodies.first_end = end,
+        Node::Case(_, arms, _) => end_last_arm(arms, end),
+        Node::For(_, bodies) => bodies.first_end = end,
+        Node::Capture(..) | Node::IfChanged(_) | Node::TableRow(..) => {}
+        Node::Text(_) | Node::Output(_) | Node::Assign(..) | Node::Raw(_) | Node::Comment => {}
+        Node::Break | Node::Continue | Node::Increment(_) | Node::Decrement(_) => {}
+        Node::Cycle(..) => {}
+        Node::Include(..) | Node::JekyllInclude(..) => {}
+        Node::Render(..) | Node::RenderEach(..) => {}
+    }
+}
+
+/// Writes where the body of the last `when` ends, if there is one.
+fn end_last_arm(arms: &mut Vec<Arm>, end: usize)
+    ensures values { arm_values arms.new.items ≡ arm_values arms.old.items }
+    ensures ends { (z : ℕ) → arm_ends arms.new.items ++ z ∷ [] ≡ set_before_last end (arm_ends arms.old.items ++ z ∷ []) }
+{
+    if let Some(arm) = arms.last_mut() {
+        arm.end = end;
+    }
+}
+
+/// Writes where the last body ends.
+pub(crate) fn end_last(node: &mut Node, end: usize)
+    ensures { flat_of node.new ≡ last_ended end (flat_of node.old) }
+{
+    match node {
+        Node::If(_, bodies) => bodies.last_end = end,
+        Node::Unless(_, bodies) => bodies.last_end = end,
+        Node::Case(_, _, last_end) => *last_end = end,
+        Node::For(_, bodies) => bodies.last_end = end,
+        Node::TableRow(_, body_end) => *body_end = end,
+        Node::Capture(_, body_end) => *body_end = end,
+        Node::IfChanged(body_end) => *body_end = end,
+        Node::Text(_) | Node::Output(_) | Node::Assign(..) | Node::Raw(_) | Node::Comment => {}
+        Node::Break | Node::Continue | Node::Increment(_) | Node::Decrement(_) => {}
+        Node::Cycle(..) => {}
+        Node::Include(..) | Node::JekyllInclude(..) => {}
+        Node::Render(..) | Node::RenderEach(..) => {}
+    }
+}
+
+/// A further `when` of a `case`, of which it isn't known yet where its body ends.
+pub(crate) fn add_arm(node: &mut Node, values: Vec<Expression>) -> Result<(), ParseError>
+    ensures added { OnOk result (IsAdded (map expression_view values.items) (flat_of node.old) (flat_of node.new)) }
+    ensures fails { IsMemory result }
+{
+    match node {
+        Node::Case(_, arms, _) => {
+            arms.push(Arm { values, end: 0 })?;
+            Ok(())
+        }
+        _ => Ok(()),
+    }
+}
