@@ -41,7 +41,7 @@ pub(crate) fn runtime_made<R: Print>(told: &Told<'_, R>, row: &Row, data: Object
     Ok(())
 }
 
-/// Tells how the step's call ended where it is the first of it. Whether it was refused memory.
+/// Tells how the step's call ended when it was made first. Whether it was refused memory.
 fn is_refused<R: Print>(
     told: &Told<'_, R>,
     step: &Value,
