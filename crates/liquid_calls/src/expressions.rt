@@ -12,12 +12,13 @@ pub(crate) fn part_call(
     chain: &FilterChain,
     state: &State<'_>,
 ) -> Result<Value> {
-    match (row.kind(), &chain.entry) {
-        ("FilterChain", _) => chain.evaluate(alloc, state, None),
-        ("Expression", expression) => expression_call(alloc, row.name(), expression, state),
-        ("Variable", Expression::Variable(variable)) => {
-            variable_call(alloc, row.name(), variable, state)
-        }
+    match row.kind() {
+        "FilterChain" => chain.evaluate(alloc, state, None),
+        "Expression" => expression_call(alloc, row.name(), &chain.entry, state),
+        "Variable" => match &chain.entry {
+            Expression::Variable(variable) => variable_call(alloc, row.name(), variable, state),
+            Expression::Literal(_) => no_call(alloc),
+        },
         _ => no_call(alloc),
     }
 }

@@ -3,9 +3,14 @@ use liquid_core::{Error, ErrorKind, Location, Origin, Result, Value};
 use liquid_refusals::Row;
 use std::alloc::Global;
 
-/// A row whose call there isn't: no row has this fault.
+/// What a row answers whose call there isn't.
 pub(crate) fn no_call(alloc: Global) -> Result<Value> {
-    Err(Error::with_message(ErrorKind::UnknownPartial, String::new(alloc)))
+    Err(unknown(alloc))
+}
+
+/// The fault of a row whose call there isn't: no row has it.
+pub(crate) fn unknown(alloc: Global) -> Error {
+    Error::with_message(ErrorKind::UnknownPartial, String::new(alloc))
 }
 
 /// The fault of the kind that a division by zero is, with the message of the row, as it is told.

@@ -1,6 +1,6 @@
 //! Filters, by their names in rows: what one answers alone and in a chain, which numbers of arguments it accepts, and which
 //! filters no row calls.
-use crate::faults::no_call;
+use crate::faults::{no_call, unknown};
 use liquid_core::{Expression, Filter, Object, Result, State, Value};
 use liquid_filters::{FilterKind, jekyll};
 use liquid_lib::STANDARD_FILTERS;
@@ -20,16 +20,16 @@ fn name_in_rows(filter: FilterKind) -> &'static str {
 }
 
 /// The filter of the name.
-fn filter_named(name: &str) -> Option<FilterKind> {
+fn filter_named(alloc: Global, name: &str) -> Result<FilterKind> {
     for filter in &STANDARD_FILTERS {
         if name_in_rows(*filter) == name {
-            return Some(*filter);
+            return Ok(*filter);
         }
     }
     if name_in_rows(JEKYLL_SORT) == name {
-        return Some(JEKYLL_SORT);
+        return Ok(JEKYLL_SORT);
     }
-    None
+    Err(unknown(alloc))
 }
 
 /// Makes the call of a row of a filter, which is noted: by the filter alone, and then by a chain of it.
@@ -39,17 +39,10 @@ pub(crate) fn filter_made<R: Print>(
     line: &str,
     row: &Row,
 ) -> Result<()> {
-    match filter_named(row.name()) {
-        Some(filter) => {
-            called.push(name_in_rows(filter))?;
-            made_alone(told, line, filter, row);
-            made_in_a_chain(told, line, filter, row)
-        }
-        None => {
-            told.answered(line, row, &no_call(told.alloc));
-            Ok(())
-        }
-    }
+    let filter = filter_named(told.alloc, row.name())?;
+    called.push(name_in_rows(filter))?;
+    made_alone(told, line, filter, row);
+    made_in_a_chain(told, line, filter, row)
 }
 
 fn made_alone<R: Print>(told: &Told<'_, R>, line: &str, filter: FilterKind, row: &Row) {
@@ -109,14 +102,12 @@ fn literals(alloc: Global, args: &[Value]) -> Result<Vec<Expression>> {
 
 /// Whether the filter of the name accepts the numbers of arguments from the row's first value to its second one, and no others.
 pub(crate) fn accepts_call(alloc: Global, name: &str, row: &Row) -> Result<Value> {
-    match filter_named(name) {
-        Some(filter) => match (&row.on, &row.with) {
-            (Value::Integer(least), Value::Integer(most)) => {
-                Ok(Value::Bool(accepts_only(filter, *least, *most)))
-            }
-            _ => no_call(alloc),
-        },
-        None => no_call(alloc),
+    let filter = filter_named(alloc, name)?;
+    match (&row.on, &row.with) {
+        (Value::Integer(least), Value::Integer(most)) => {
+            Ok(Value::Bool(accepts_only(filter, *least, *most)))
+        }
+        _ => no_call(alloc),
     }
 }
 

@@ -104,17 +104,21 @@ fn row_made<R: Print>(
         "Site" => site_made(told, &row),
         "State" => made_in_turn(told, &row.with, data),
         "Value" | "Test" | "Order" | "Error" | "argument" | "Accepts" | "Example" => {
-            told.begin();
-            let answer = called(told.alloc, &row);
-            told.end();
-            told.answered(line, &row, &answer);
+            call_made(told, line, &row);
             Ok(())
         }
         _ => template_made(told, language, line, &row, data),
     }
 }
 
-/// What a call answers that takes no template.
+/// Makes a call that takes no template.
+fn call_made<R: Print>(told: &Told<'_, R>, line: &str, row: &Row) {
+    told.begin();
+    let answer = called(told.alloc, row);
+    told.end();
+    told.answered(line, row, &answer);
+}
+
 fn called(alloc: Global, row: &Row) -> Result<Value> {
     let name = row.name();
     match row.kind() {
