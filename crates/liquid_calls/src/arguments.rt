@@ -2,7 +2,7 @@
 use crate::faults::no_call;
 use liquid_core::{Result, Value};
 use liquid_filter_base::{lower_case, text_argument, whole_argument};
-use liquid_refusals::{Row, text};
+use liquid_refusals::{Row, text, text_of};
 use std::alloc::Global;
 
 /// What a reader of arguments answers.
@@ -10,10 +10,7 @@ pub(crate) fn argument_call(alloc: Global, name: &str, row: &Row) -> Result<Valu
     match name {
         "text" => text(text_argument(alloc, &row.on)),
         "whole" => Ok(Value::Integer(whole_argument(alloc, &row.on)?)),
-        "lower_case" => match &row.on {
-            Value::Text(given) => text(lower_case(alloc, given.as_str())),
-            _ => no_call(alloc),
-        },
+        "lower_case" => text(lower_case(alloc, text_of(&row.on))),
         _ => no_call(alloc),
     }
 }

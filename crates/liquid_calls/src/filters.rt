@@ -1,10 +1,10 @@
 //! Filters, by their names in rows: what one answers alone and in a chain, which numbers of arguments it accepts, and which
 //! filters no row calls.
-use crate::faults::no_call;
+use crate::faults::{no_call, unknown};
 use liquid_core::{Expression, Filter, Object, Result, State, Value};
 use liquid_filters::{FilterKind, jekyll};
 use liquid_lib::STANDARD_FILTERS;
-use liquid_refusals::{Row, Told, ending, items};
+use liquid_refusals::{Row, Told, items};
 use liquid_syntax::{FilterCall, apply_filters};
 use std::alloc::Global;
 
@@ -20,38 +20,36 @@ fn name_in_rows(filter: FilterKind) -> &'static str {
 }
 
 /// The filter of the name.
-fn filter_named(name: &str) -> Option<FilterKind> {
+fn filter_named(alloc: Global, name: &str) -> Result<FilterKind> {
     for filter in &STANDARD_FILTERS {
         if name_in_rows(*filter) == name {
-            return Some(*filter);
+            return Ok(*filter);
         }
     }
     if name_in_rows(JEKYLL_SORT) == name {
-        return Some(JEKYLL_SORT);
+        return Ok(JEKYLL_SORT);
     }
-    None
+    Err(unknown(alloc))
 }
 
-/// The filter that the row calls, or none where it is no row of a filter.
-pub(crate) fn filter_of(row: &Row) -> Option<FilterKind> {
-    match row.call.as_str().split_once("::") {
-        Some(("Filter", name)) => filter_named(name),
-        _ => None,
-    }
-}
-
-/// Makes the call of a row of the filter: by the filter alone, and then by a chain of it.
+/// Makes the call of a row of a filter, which is noted: by the filter alone, and then by a chain of it.
 pub(crate) fn filter_made<R: Print>(
     told: &Told<'_, R>,
+    called: &mut Vec<&'static str>,
     line: &str,
-    filter: FilterKind,
     row: &Row,
 ) -> Result<()> {
+    let filter = filter_named(told.alloc, row.name())?;
+    called.push(name_in_rows(filter))?;
+    made_alone(told, line, filter, row);
+    made_in_a_chain(told, line, filter, row)
+}
+
+fn made_alone<R: Print>(told: &Told<'_, R>, line: &str, filter: FilterKind, row: &Row) {
     told.begin();
     let answer = alone(told.alloc, filter, row);
     told.end();
     told.answered(line, row, &answer);
-    made_in_a_chain(told, line, filter, row)
 }
 
 /// What the filter answers to the row's value, with the row's list as its arguments.
@@ -70,25 +68,27 @@ fn made_in_a_chain<R: Print>(
     filter: FilterKind,
     row: &Row,
 ) -> Result<()> {
-    let input = row.on.copy(told.alloc)?;
     let literals = literals(told.alloc, items(&row.with))?;
-    if !filter.accepts(literals.len()) {
-        return Ok(());
-    }
-    let calls = [FilterCall {
-        filter,
-        args: &literals,
-    }];
-    let state = State::new(told.alloc, Object::new(told.alloc));
+    let input = row.on.copy(told.alloc)?;
     told.begin();
-    let answer = apply_filters(told.alloc, input, &calls, &state);
+    let answer = in_a_chain(told.alloc, filter, input, &literals);
     told.end();
-    told.ended(
-        "apply_filters",
-        line,
-        ending(&answer, &row.answer, fault_of(row)),
-    );
+    told.answered_by("apply_filters", line, row, &answer);
     Ok(())
+}
+
+/// What a chain of the filter answers to the input.
+fn in_a_chain(
+    alloc: Global,
+    filter: FilterKind,
+    input: Value,
+    args: &[Expression],
+) -> Result<Value> {
+    if !filter.accepts(args.len()) {
+        return no_call(alloc);
+    }
+    let state = State::new(alloc, Object::new(alloc));
+    apply_filters(alloc, input, &[FilterCall { filter, args }], &state)
 }
 
 /// Copies of the arguments as literals.
@@ -100,24 +100,14 @@ fn literals(alloc: Global, args: &[Value]) -> Result<Vec<Expression>> {
     Ok(literals)
 }
 
-/// The kind of the fault that the row tells, if it tells one.
-fn fault_of(row: &Row) -> Option<&str> {
-    match row.fault.as_str() {
-        "" => None,
-        fault => Some(fault),
-    }
-}
-
 /// Whether the filter of the name accepts the numbers of arguments from the row's first value to its second one, and no others.
 pub(crate) fn accepts_call(alloc: Global, name: &str, row: &Row) -> Result<Value> {
-    match filter_named(name) {
-        Some(filter) => match (&row.on, &row.with) {
-            (Value::Integer(least), Value::Integer(most)) => {
-                Ok(Value::Bool(accepts_only(filter, *least, *most)))
-            }
-            _ => no_call(alloc),
-        },
-        None => no_call(alloc),
+    let filter = filter_named(alloc, name)?;
+    match (&row.on, &row.with) {
+        (Value::Integer(least), Value::Integer(most)) => {
+            Ok(Value::Bool(accepts_only(filter, *least, *most)))
+        }
+        _ => no_call(alloc),
     }
 }
 
@@ -133,30 +123,19 @@ fn accepts_only(filter: FilterKind, least: i64, most: i64) -> bool {
 }
 
 /// Tells each filter that isn't among the called ones, unless no row called any: then no row of a filter was given.
-pub(crate) fn each_is_called<R: Print>(told: &Told<'_, R>, called: &[FilterKind]) {
+pub(crate) fn each_is_called<R: Print>(told: &Told<'_, R>, called: &[&str]) {
     if called.is_empty() {
         return;
     }
     for filter in &STANDARD_FILTERS {
-        one_is_called(told, called, *filter);
+        one_is_called(told, called, name_in_rows(*filter));
     }
-    one_is_called(told, called, JEKYLL_SORT);
+    one_is_called(told, called, name_in_rows(JEKYLL_SORT));
 }
 
-/// Tells the filter where it isn't among the called ones.
-fn one_is_called<R: Print>(told: &Told<'_, R>, called: &[FilterKind], filter: FilterKind) {
-    let name = name_in_rows(filter);
-    if !is_called(called, name) {
+/// Tells the filter of the name where it isn't among the called ones.
+fn one_is_called<R: Print>(told: &Told<'_, R>, called: &[&str], name: &str) {
+    if !called.contains(&name) {
         let _ = println!(told.rt; "no row of {name}");
     }
-}
-
-/// Whether the filter of the name is among the called ones.
-fn is_called(called: &[FilterKind], name: &str) -> bool {
-    for filter in called {
-        if name_in_rows(*filter) == name {
-            return true;
-        }
-    }
-    false
 }

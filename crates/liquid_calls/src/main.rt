@@ -43,17 +43,16 @@ mod templates;
 mod values;
 
 use crate::arguments::argument_call;
-use crate::expressions::{chain_call, condition_call, expression_call, variable_call};
+use crate::expressions::{condition_call, part_call};
 use crate::faults::{fault_call, no_call};
-use crate::filters::{accepts_call, each_is_called, filter_made, filter_of};
-use crate::loops::{range_call, source_call, window_call};
+use crate::filters::{accepts_call, each_is_called, filter_made};
+use crate::loops::loop_call;
 use crate::site_example::shop;
 use crate::sites::site_made;
 use crate::states::made_in_turn;
 use crate::templates::{group_call, template_call};
 use crate::values::{order_call, test_call, value_call};
-use liquid_core::{Expression, Object, Result, State, Value};
-use liquid_filters::FilterKind;
+use liquid_core::{Object, Result, State, Value};
 use liquid_lib::language;
 use liquid_refusals::{Row, Told, read_row, text};
 use liquid_syntax::{Language, Node, Template, parse};
@@ -84,7 +83,7 @@ fn main(rt: HostRuntime) -> Result<()> {
 fn line_made<R: Print>(
     told: &Told<'_, R>,
     language: &Language,
-    called_filters: &mut Vec<FilterKind>,
+    called_filters: &mut Vec<&'static str>,
     line: &str,
 ) {
     if let Err(fault) = row_made(told, language, called_filters, line) {
@@ -96,22 +95,45 @@ fn line_made<R: Print>(
 fn row_made<R: Print>(
     told: &Told<'_, R>,
     language: &Language,
-    called_filters: &mut Vec<FilterKind>,
+    called_filters: &mut Vec<&'static str>,
     line: &str,
 ) -> Result<()> {
     let (row, data) = read_row(told.alloc, line)?;
-    match filter_of(&row) {
-        Some(filter) => {
-            called_filters.push(filter)?;
-            filter_made(told, line, filter, &row)
+    match row.kind() {
+        "Filter" => filter_made(told, called_filters, line, &row),
+        "Site" => site_made(told, &row),
+        "State" => made_in_turn(told, &row.with, data),
+        "Value" | "Test" | "Order" | "Error" | "argument" | "Accepts" | "Example" => {
+            call_made(told, line, &row);
+            Ok(())
         }
-        None if row.call.as_str() == "Site" => site_made(told, &row),
-        None => call_made(told, language, line, &row, data),
+        _ => template_made(told, language, line, &row, data),
     }
 }
 
-/// Makes another call than one of a filter, over the row's template and its state.
-fn call_made<R: Print>(
+/// Makes a call that takes no template.
+fn call_made<R: Print>(told: &Told<'_, R>, line: &str, row: &Row) {
+    told.begin();
+    let answer = called(told.alloc, row);
+    told.end();
+    told.answered(line, row, &answer);
+}
+
+fn called(alloc: Global, row: &Row) -> Result<Value> {
+    let name = row.name();
+    match row.kind() {
+        "Value" => value_call(alloc, name, row),
+        "Test" => test_call(alloc, name, &row.on),
+        "Order" => order_call(alloc, name, &row.on, &row.with),
+        "Error" => fault_call(alloc, name, row),
+        "argument" => argument_call(alloc, name, row),
+        "Accepts" => accepts_call(alloc, name, row),
+        _ => text(shop(alloc)),
+    }
+}
+
+/// Makes a call of the row's template, over its state.
+fn template_made<R: Print>(
     told: &Told<'_, R>,
     language: &Language,
     line: &str,
@@ -119,65 +141,29 @@ fn call_made<R: Print>(
     data: Object,
 ) -> Result<()> {
     let template = parse(told.alloc, row.source.as_str(), language)?;
-    let mut state = State::new(told.alloc, data);
-    if row.call.as_str() == "State" {
-        made_in_turn(told, &row.with, &mut state);
-        return Ok(());
-    }
+    let state = State::new(told.alloc, data);
     told.begin();
-    let answer = called(told.alloc, row, language, &template, &state);
+    let answer = match row.kind() {
+        "Template" => template_call(told.alloc, row, language, &template),
+        _ => first_node_call(told.alloc, row, &template, &state),
+    };
     told.end();
     told.answered(line, row, &answer);
     Ok(())
 }
 
-/// What the call of the row answers.
-fn called(
+/// What the call of a part of the template's first node answers.
+fn first_node_call(
     alloc: Global,
     row: &Row,
-    language: &Language,
     template: &Template,
     state: &State<'_>,
 ) -> Result<Value> {
-    let call = row.call.as_str();
-    match call.split_once("::") {
-        Some(("Value", name)) => value_call(alloc, name, row),
-        Some(("Test", name)) => test_call(alloc, name, &row.on),
-        Some(("Order", name)) => order_call(alloc, name, &row.on, &row.with),
-        Some(("Error", name)) => fault_call(alloc, name, row),
-        Some(("argument", name)) => argument_call(alloc, name, row),
-        Some(("Example", _)) => text(shop(alloc)),
-        Some(("Accepts", name)) => accepts_call(alloc, name, row),
-        Some(("Template", name)) => template_call(alloc, name, row, language, template),
-        Some((part, _)) => match template.nodes().first() {
-            Some(node) => node_call(alloc, part, row, node, state),
-            None => no_call(alloc),
-        },
-        None => no_call(alloc),
-    }
-}
-
-/// What the call of a part of the template's first node answers.
-fn node_call(
-    alloc: Global,
-    part: &str,
-    row: &Row,
-    node: &Node,
-    state: &State<'_>,
-) -> Result<Value> {
-    let (_, name) = row.call.as_str().split_once("::").unwrap_or(("", ""));
-    match (part, node) {
-        ("Expression", Node::Output(chain)) => expression_call(alloc, name, &chain.entry, state),
-        ("Variable", Node::Output(chain)) => match &chain.entry {
-            Expression::Variable(variable) => variable_call(alloc, name, variable, state),
-            Expression::Literal(_) => no_call(alloc),
-        },
-        ("FilterChain", Node::Output(chain)) => chain_call(alloc, chain, state),
-        ("Condition", Node::If(condition, _)) => condition_call(alloc, name, condition, state),
-        ("RangeExpression", Node::For(head, _)) => source_call(alloc, name, &head.source, state),
-        ("Range", Node::For(head, _)) => range_call(alloc, name, row, &head.source, state),
-        ("Window", Node::For(head, _)) => window_call(alloc, name, row, &head.window, state),
-        ("Cycle", Node::Cycle(group, values)) => group_call(alloc, group, values),
+    match template.nodes().first() {
+        Some(Node::Output(chain)) => part_call(alloc, row, chain, state),
+        Some(Node::If(condition, _)) => condition_call(alloc, row, condition, state),
+        Some(Node::For(head, _)) => loop_call(alloc, row, head, state),
+        Some(Node::Cycle(group, values)) => group_call(alloc, group, values),
         _ => no_call(alloc),
     }
 }

@@ -1,7 +1,7 @@
 //! Sites: one change after another, and what the site shows behind each.
-use liquid_core::{ErrorKind, Result, Value, look_up};
+use liquid_core::{ErrorKind, Object, Result, Value, look_up};
 use liquid_lib::{Page, language};
-use liquid_refusals::{Row, Told, items, kind_of, member, optional, text_member};
+use liquid_refusals::{Row, Told, items, kind_of, member, name_of, optional, text_member};
 use liquid_sites::{Change, Site};
 use std::alloc::Global;
 
@@ -9,9 +9,14 @@ use std::alloc::Global;
 /// empty text, what the site shows behind it, and words by which `tests/refusals/run` tells changes that make other requests.
 pub(crate) fn site_made<R: Print>(told: &Told<'_, R>, row: &Row) -> Result<()> {
     let mut site = Site::new(told.alloc, language(told.alloc)?, 32);
-    for (at, step) in items(&row.with).iter().enumerate() {
-        let before = at.checked_sub(1).and_then(|at| member(&row.with, at));
-        applied(told, &mut site, step, before)?;
+    applied_in_turn(told, &mut site, items(&row.with))
+}
+
+fn applied_in_turn<R: Print>(told: &Told<'_, R>, site: &mut Site, steps: &[Value]) -> Result<()> {
+    let mut before = None;
+    for step in steps {
+        applied(told, site, step, before)?;
+        before = Some(step);
     }
     Ok(())
 }
@@ -24,21 +29,43 @@ fn applied<R: Print>(
     step: &Value,
     before: Option<&Value>,
 ) -> Result<()> {
-    let at = named(told.alloc, step)?;
+    let kind = applied_once(told, site, step)?;
+    let end = match kind {
+        Some(ErrorKind::Memory) if shows(site, before) => "Memory",
+        Some(ErrorKind::Memory) => "another_site",
+        _ => applied_end(step, kind),
+    };
+    tell_end(told, step, end)?;
+    if matches!(kind, Some(ErrorKind::Memory)) {
+        drop(site.apply(change_of(told.alloc, step)?));
+    }
+    tell_pages(told, site, step)
+}
+
+/// Applies the step's change. The kind of the fault that it ended by, if it did.
+fn applied_once<R: Print>(
+    told: &Told<'_, R>,
+    site: &mut Site,
+    step: &Value,
+) -> Result<Option<ErrorKind>> {
     let change = change_of(told.alloc, step)?;
     told.begin();
     let kind = kind_of(&site.apply(change));
     told.end();
-    let end = match kind {
-        Some(ErrorKind::Memory) if !shows(site, before) => "another_site",
-        Some(ErrorKind::Memory) => "Memory",
-        _ => applied_end(step, kind),
-    };
+    Ok(kind)
+}
+
+/// Tells how the step's change ended.
+fn tell_end<R: Print>(told: &Told<'_, R>, step: &Value, end: &str) -> Result<()> {
+    let at = named(told.alloc, step)?;
     told.ended(text_member(step, 0), at.as_str(), end);
-    if kind == Some(ErrorKind::Memory) {
-        drop(site.apply(change_of(told.alloc, step)?));
-    }
+    Ok(())
+}
+
+/// Tells the step where the site shows other pages behind it.
+fn tell_pages<R: Print>(told: &Told<'_, R>, site: &Site, step: &Value) -> Result<()> {
     if !shows(site, Some(step)) {
+        let at = named(told.alloc, step)?;
         let _ = println!(told.rt; "the site shows other pages behind {at}");
     }
     Ok(())
@@ -52,7 +79,7 @@ fn named(alloc: Global, step: &Value) -> Result<String> {
 
 /// `done` where the kind is the one that the step says, or there is none of both.
 fn applied_end(step: &Value, kind: Option<ErrorKind>) -> &'static str {
-    if kind.map_or("", |kind| kind.name()) == text_member(step, 3) {
+    if name_of(kind) == text_member(step, 3) {
         "done"
     } else {
         "another_end"
@@ -78,24 +105,38 @@ fn shows(site: &Site, step: Option<&Value>) -> bool {
     let Some(step) = step else {
         return site.pages().is_empty() && site.rendered() == 0;
     };
-    let Some(Value::Object(wanted)) = member(step, 4) else {
-        return false;
-    };
+    match member(step, 4) {
+        Some(Value::Object(wanted)) => has_rendered(site, wanted) && has_pages(site, wanted),
+        _ => false,
+    }
+}
+
+/// Whether each page of the site is shown as it is wanted, and none is wanted beside them.
+fn has_pages(site: &Site, wanted: &Object) -> bool {
     for (name, page) in site.pages().iter() {
         if !is_shown(page, look_up(wanted, name.as_str())) {
             return false;
         }
     }
-    let rendered = i64::try_from(site.rendered()).unwrap_or(i64::MAX);
     wanted.len() == site.pages().len() + 1
-        && matches!(look_up(wanted, "rendered"), Some(Value::Integer(count)) if *count == rendered)
+}
+
+/// Whether so many pages were rendered as is wanted.
+fn has_rendered(site: &Site, wanted: &Object) -> bool {
+    match look_up(wanted, "rendered") {
+        Some(Value::Integer(count)) => u64::try_from(*count) == Ok(site.rendered()),
+        _ => false,
+    }
 }
 
 fn is_shown(page: &Page, wanted: Option<&Value>) -> bool {
     let Some(Value::Text(wanted)) = wanted else {
         return false;
     };
-    let kind = page.fault.as_ref().map_or("", |fault| fault.kind.name());
+    let kind = match &page.fault {
+        Some(fault) => fault.kind.name(),
+        None => "",
+    };
     match wanted.as_str().rsplit_once(':') {
         Some((text, end)) => text == page.text.as_str() && end == kind,
         None => false,

@@ -1,56 +1,62 @@
 //! States: calls in their order, each with its answer.
 use crate::faults::no_call;
 use liquid_core::{ErrorKind, Object, Result, State, Value};
-use liquid_refusals::{Told, items, kind_of, member, optional, text_member};
+use liquid_refusals::{
+    Change, Told, change_of, found, items, items_member, kind_of, nil, optional, owned, text_member,
+};
 use std::alloc::Global;
 
-/// Makes the calls of the list, one after another, on the same state. Each is a list: its name, a name or a path of the state,
-/// a value, and what it answers, which is the kind of its fault as a text where it ends by one. A call that was refused memory
-/// is made again, so that those behind it find what it does.
-pub(crate) fn made_in_turn<R: Print>(told: &Told<'_, R>, steps: &Value, state: &mut State<'_>) {
+/// Makes the calls of the list, one after another, on a state of this data. Each is a list: its name, a name or a path of the
+/// state, a value, and what it answers, which is the kind of its fault as a text where it ends by one.
+pub(crate) fn made_in_turn<R: Print>(
+    told: &Told<'_, R>,
+    steps: &Value,
+    data: Object,
+) -> Result<()> {
+    let mut state = State::new(told.alloc, data);
     for step in items(steps) {
-        told.begin();
-        let answer = step_made(told.alloc, state, step);
-        told.end();
-        told.step_ended(step, &answer);
-        if kind_of(&answer) == Some(ErrorKind::Memory) {
-            drop(step_made(told.alloc, state, step));
+        step_made(told, &mut state, step);
+    }
+    Ok(())
+}
+
+/// Makes the call of the step. One that was refused memory is made again, so that those behind it find what it does.
+fn step_made<R: Print>(told: &Told<'_, R>, state: &mut State<'_>, step: &Value) {
+    told.begin();
+    let answer = called(told.alloc, state, step);
+    told.end();
+    told.step_ended(step, 3, &answer);
+    if matches!(kind_of(&answer), Some(ErrorKind::Memory)) {
+        drop(called(told.alloc, state, step));
+    }
+}
+
+fn called(alloc: Global, state: &mut State<'_>, step: &Value) -> Result<Value> {
+    match change_of(alloc, step)? {
+        Some(change) => changed(state, change),
+        None => looked_up(alloc, state, step),
+    }
+}
+
+fn changed(state: &mut State<'_>, change: Change) -> Result<Value> {
+    match change {
+        Change::Index(name, value) => nil(state.set_index(name, value)),
+        Change::Global(name, value) => nil(state.set_global(name, value)),
+        Change::Push(scope) => nil(state.push_scope(scope)),
+        Change::Pop => {
+            state.pop_scope();
+            Ok(Value::Nil)
         }
     }
 }
 
-fn step_made(alloc: Global, state: &mut State<'_>, step: &Value) -> Result<Value> {
-    let name = text_member(step, 1);
-    match text_member(step, 0) {
-        "set_index" => state.set_index(String::from_str(alloc, name)?, given(alloc, step)?)?,
-        "set_global" => state.set_global(String::from_str(alloc, name)?, given(alloc, step)?)?,
-        "push_scope" => state.push_scope(scope(alloc, step)?)?,
-        "pop_scope" => state.pop_scope(),
-        _ => return looked_up(alloc, state, name, step),
-    }
-    Ok(Value::Nil)
-}
-
-fn looked_up(alloc: Global, state: &State<'_>, name: &str, step: &Value) -> Result<Value> {
-    let path = items(member(step, 1).unwrap_or(&Value::Nil));
+fn looked_up(alloc: Global, state: &State<'_>, step: &Value) -> Result<Value> {
+    let (name, path) = (text_member(step, 1), items_member(step, 1));
     match text_member(step, 0) {
         "look_up" => optional(alloc, state.look_up(name)),
         "get_index" => optional(alloc, state.get_index(name)),
-        "get" => state.get(alloc, path)?.into_owned(alloc),
-        "try_get" => Ok(Value::Bool(state.try_get(alloc, path)?.is_some())),
+        "get" => owned(alloc, state.get(alloc, path)),
+        "try_get" => found(state.try_get(alloc, path)),
         _ => no_call(alloc),
-    }
-}
-
-/// The value that the call is given.
-fn given(alloc: Global, step: &Value) -> Result<Value> {
-    optional(alloc, member(step, 2))
-}
-
-/// The map that the call is given.
-fn scope(alloc: Global, step: &Value) -> Result<Object> {
-    match given(alloc, step)? {
-        Value::Object(scope) => Ok(scope),
-        _ => Ok(Object::new(alloc)),
     }
 }

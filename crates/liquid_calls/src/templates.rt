@@ -8,56 +8,65 @@ use std::alloc::Global;
 /// A call of the template. The row has a partial with its name and its source.
 pub(crate) fn template_call(
     alloc: Global,
-    name: &str,
     row: &Row,
     language: &Language,
     template: &Template,
 ) -> Result<Value> {
-    match name {
-        "node_count" => Ok(number(i64::try_from(template.node_count()).ok())),
+    match row.name() {
+        "node_count" => Ok(node_count(template)),
         "mentions" => Ok(Value::Bool(template.mentions(text_member(&row.with, 0)))),
-        "names" => names(alloc, row, language, template),
-        "partial" => held(alloc, row, language),
+        "names" => names(alloc, template, &partials(alloc, row, language)?),
+        "partial" => Ok(held(row, &partials(alloc, row, language)?)),
         _ => no_call(alloc),
     }
+}
+
+fn node_count(template: &Template) -> Value {
+    number(i64::try_from(template.node_count()).ok())
 }
 
 /// The partials of the row.
 fn partials(alloc: Global, row: &Row, language: &Language) -> Result<Partials> {
     let mut partials = Partials::new(alloc);
-    let template = parse(alloc, text_member(&row.with, 1), language)?;
-    partials.insert(
-        String::from_str(alloc, text_member(&row.with, 0))?,
-        template,
-    )?;
+    insert(alloc, row, language, &mut partials)?;
     Ok(partials)
 }
 
-/// The names, of which each is mentioned by the template or by the partial.
-fn names(alloc: Global, row: &Row, language: &Language, template: &Template) -> Result<Value> {
-    let partials = partials(alloc, row, language)?;
+fn insert(alloc: Global, row: &Row, language: &Language, partials: &mut Partials) -> Result<()> {
+    let name = String::from_str(alloc, text_member(&row.with, 0))?;
+    let template = parse(alloc, text_member(&row.with, 1), language)?;
+    partials.insert(name, template)
+}
+
+/// The names, of which each is mentioned by the template or by a partial.
+fn names(alloc: Global, template: &Template, partials: &Partials) -> Result<Value> {
     let mut names = Vec::new(alloc);
-    for name in &template.names(alloc, &partials)? {
+    for name in &template.names(alloc, partials)? {
         if template.mentions(name.as_str()) || partials.mention(name.as_str()) {
-            names.push(Value::Text(String::from_str(alloc, name.as_str())?))?;
+            push_text(alloc, &mut names, name.as_str())?;
         }
     }
     Ok(Value::Array(names))
 }
 
+/// Puts a copy of the text behind the others.
+fn push_text(alloc: Global, texts: &mut Vec<Value>, text: &str) -> Result<()> {
+    texts.push(Value::Text(String::from_str(alloc, text)?))?;
+    Ok(())
+}
+
 /// How many nodes the partial has, and nil where there is none of the name.
-fn held(alloc: Global, row: &Row, language: &Language) -> Result<Value> {
-    let partials = partials(alloc, row, language)?;
+fn held(row: &Row, partials: &Partials) -> Value {
     match partials.get(text_member(&row.with, 2)) {
-        Some(partial) => Ok(number(i64::try_from(partial.node_count()).ok())),
-        None => Ok(Value::Nil),
+        Some(partial) => node_count(partial),
+        None => Value::Nil,
     }
 }
 
 /// The group of a `cycle`, with the number of its values.
 pub(crate) fn group_call(alloc: Global, group: &String, values: &Vec<Expression>) -> Result<Value> {
     let mut both = Vec::new(alloc);
-    both.push(Value::Text(String::from_str(alloc, group.as_str())?))?;
+    push_text(alloc, &mut both, group.as_str())?;
     both.push(number(i64::try_from(values.len()).ok()))?;
     Ok(Value::Array(both))
 }

@@ -5,10 +5,9 @@ use crate::pages::pages_made;
 use liquid_core::{
     ErrorKind, Expression, Filter, HostFilters, NamedFilters, Object, Result, State, Value,
 };
-use liquid_refusals::{Row, Told, ending, items, member, text_member};
+use liquid_refusals::{Row, Told, items, items_member, member, text_member};
 use liquid_syntax::{FilterCall, apply_filters};
 use std::alloc::Global;
-use std::collections::BTreeMap;
 
 /// The calls of the row, or its page, with the filters of a host: `shout`, which puts a `!` behind (an earlier one of that name
 /// puts a `0`), `upcase`, which puts a `?`, and `bad`.
@@ -22,39 +21,37 @@ pub(crate) fn hosted<R: Print>(told: &Told<'_, R>, row: &Row) -> Result<()> {
     let bad: Box<dyn Filter> = Box::new(alloc, Bad)?;
     filters.push((String::from_str(alloc, "bad")?, bad))?;
     let host = HostFilters::new(filters);
-    if row.call.as_str() == "filters" {
-        called_in_turn(told, &host, &row.with);
-        return Ok(());
+    match row.call.as_str() {
+        "filters" => called_in_turn(told, &host, &row.with),
+        _ => hosted_pages(told, row, &host),
     }
-    let is_lent = option(&row.on, "lacks_filters").is_none();
-    let data = Object::new(alloc);
-    pages_made(told, row, data, Some(&host).filter(|_| is_lent))
+}
+
+/// The page of the row, with the filters of the host unless it lacks them.
+fn hosted_pages<R: Print>(told: &Told<'_, R>, row: &Row, host: &HostFilters) -> Result<()> {
+    let lent = match option(&row.on, "lacks_filters") {
+        Some(_) => None,
+        None => Some(host),
+    };
+    pages_made(told, row, Object::new(told.alloc), lent)
 }
 
 /// Calls the filters of the host. Each step is a list: the call, the filter's name, the input, the arguments, and the answer or
 /// the kind of the fault.
-fn called_in_turn<R: Print>(told: &Told<'_, R>, host: &HostFilters, steps: &Value) {
+fn called_in_turn<R: Print>(told: &Told<'_, R>, host: &HostFilters, steps: &Value) -> Result<()> {
     for step in items(steps) {
         told.begin();
         let answer = called(told.alloc, host, step);
         told.end();
-        let wanted = member(step, 4).unwrap_or(&Value::Nil);
-        let fault = match answer {
-            Ok(_) => None,
-            Err(_) => Some(text_member(step, 4)),
-        };
-        told.ended(
-            text_member(step, 0),
-            text_member(step, 1),
-            ending(&answer, wanted, fault),
-        );
+        told.step_ended(step, 4, &answer);
     }
+    Ok(())
 }
 
 fn called(alloc: Global, host: &HostFilters, step: &Value) -> Result<Value> {
     let name = text_member(step, 1);
     let input = member(step, 2).unwrap_or(&Value::Nil);
-    let args = items(member(step, 3).unwrap_or(&Value::Nil));
+    let args = items_member(step, 3);
     match text_member(step, 0) {
         "accepts" => Ok(
             host.accepts(name, args.len())
@@ -78,7 +75,7 @@ fn without_a_host(alloc: Global, name: &str) -> Result<Value> {
 
 /// Two filters of one type of ours, one after the other.
 fn applied(alloc: Global, input: &Value) -> Result<Value> {
-    let state = State::new(alloc, BTreeMap::new(alloc));
+    let input = input.copy(alloc)?;
     let args: &[Expression] = &[];
     let calls = [
         FilterCall {
@@ -90,5 +87,6 @@ fn applied(alloc: Global, input: &Value) -> Result<Value> {
             args,
         },
     ];
-    apply_filters(alloc, input.copy(alloc)?, &calls, &state)
+    let state = State::new(alloc, Object::new(alloc));
+    apply_filters(alloc, input, &calls, &state)
 }

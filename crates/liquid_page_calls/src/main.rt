@@ -17,13 +17,14 @@ mod registers;
 mod runtimes;
 mod writers;
 
-use crate::examples::example_made;
+use crate::examples::example;
 use crate::hosts::hosted;
 use crate::pages::pages_made;
-use crate::registers::{forloop_made, language_made, registered};
+use crate::registers::{forloop, has_filter, registered};
 use crate::runtimes::runtime_made;
-use liquid_core::{Object, Result};
-use liquid_refusals::{Row, Told, read_row};
+use liquid_core::{Object, Result, Value};
+use liquid_refusals::{Row, Told, flag, read_row, text};
+use std::alloc::Global;
 use std::env;
 
 fn main(rt: HostRuntime) -> Result<()> {
@@ -63,17 +64,25 @@ fn row_made<R: Print>(told: &Told<'_, R>, line: &str, row: &Row, data: Object) -
         "hosted page" | "filters" => hosted(told, row),
         "runtime" => runtime_made(told, row, data),
         "registers" => registered(told, row),
-        "example" => {
-            example_made(told, line, row);
-            Ok(())
-        }
-        "forloop" => {
-            forloop_made(told, line, row);
-            Ok(())
-        }
         _ => {
-            language_made(told, line, row);
+            call_made(told, line, row);
             Ok(())
         }
+    }
+}
+
+/// Makes the one call of the row.
+fn call_made<R: Print>(told: &Told<'_, R>, line: &str, row: &Row) {
+    told.begin();
+    let answer = called(told.alloc, row);
+    told.end();
+    told.answered(line, row, &answer);
+}
+
+fn called(alloc: Global, row: &Row) -> Result<Value> {
+    match row.call.as_str() {
+        "example" => text(example(alloc, row.source.as_str())),
+        "forloop" => forloop(alloc, row),
+        _ => flag(has_filter(alloc, row)),
     }
 }

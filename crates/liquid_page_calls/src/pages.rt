@@ -1,20 +1,22 @@
 //! A page by each call that makes it.
 use crate::given::{copied, depth, language_with, option, partials_of};
-use crate::writers::{kind_ending, page_ending, page_of, writer};
+use crate::writers::{Limited, kind_ending, page_ending, page_of, writer};
 use liquid_core::{ErrorKind, HostFilters, Object, Result, Value};
 use liquid_lib::{
-    Counted, CountedWrite, Language, Partials, Renderable, Runtime, RuntimeBuilder, Template,
-    parse, render_page, render_source,
+    Counted, Language, Page, Partials, Renderable, Runtime, RuntimeBuilder, Template, parse,
+    render_page, render_source,
 };
 use liquid_refusals::{Row, Told, items, kind_of, text_member};
 
 /// What the pages of a row are made of.
 #[derive(Drop)]
-struct Given {
-    language: Language,
-    partials: Partials,
-    template: Template,
-    data: Value,
+struct Given<'g> {
+    row: &'g Row,
+    language: &'g Language,
+    partials: &'g Partials,
+    template: &'g Template,
+    data: &'g Value,
+    host: Option<&'g HostFilters>,
 }
 
 /// The page of the row by each call, with these filters of a host or without any.
@@ -25,17 +27,32 @@ pub(crate) fn pages_made<R: Print>(
     host: Option<&HostFilters>,
 ) -> Result<()> {
     let language = language_with(told.alloc, &row.on)?;
-    let partials = partials_of(told.alloc, &row.on, &language)?;
-    let Some(template) = parsed(told, row, &language) else {
-        return Ok(());
-    };
-    let given = Given {
-        language,
-        partials,
-        template,
-        data: Value::Object(data),
-    };
-    rendered_by_each(told, row, &given, host)
+    pages_in(told, row, &Value::Object(data), host, &language)
+}
+
+/// The page in the language.
+fn pages_in<R: Print>(
+    told: &Told<'_, R>,
+    row: &Row,
+    data: &Value,
+    host: Option<&HostFilters>,
+    language: &Language,
+) -> Result<()> {
+    let partials = &partials_of(told.alloc, &row.on, language)?;
+    match parsed(told, row, language) {
+        Some(template) => rendered_by_each(
+            told,
+            &Given {
+                row,
+                language,
+                partials,
+                template: &template,
+                data,
+                host,
+            },
+        ),
+        None => Ok(()),
+    }
 }
 
 /// The template, parsed again where memory was refused, or none where the row's source is refused by its fault.
@@ -44,148 +61,157 @@ fn parsed<R: Print>(told: &Told<'_, R>, row: &Row, language: &Language) -> Optio
     told.begin();
     let answer = parse(told.alloc, source, language);
     told.end();
-    match answer {
-        Ok(template) => {
-            told.ended("parse", source, "done");
-            Some(template)
-        }
-        Err(fault) if fault.kind == ErrorKind::Memory => {
-            told.ended("parse", source, "Memory");
-            parse(told.alloc, source, language).ok()
-        }
-        Err(fault) => {
-            told.ended("parse", source, kind_ending(row, Some(fault.kind)));
-            None
-        }
+    let kind = kind_of(&answer);
+    told.ended("parse", source, parse_ending(row, kind));
+    match kind {
+        Some(ErrorKind::Memory) => parse(told.alloc, source, language).ok(),
+        _ => answer.ok(),
+    }
+}
+
+/// `done` where the source was parsed, or is refused by the kind of the row's fault.
+fn parse_ending(row: &Row, kind: Option<ErrorKind>) -> &'static str {
+    match kind {
+        None => "done",
+        Some(ErrorKind::Memory) => "Memory",
+        Some(_) => kind_ending(row, kind),
     }
 }
 
 /// The page by the calls that write it, and where no write is to fail, by those that answer it.
-fn rendered_by_each<R: Print>(
-    told: &Told<'_, R>,
-    row: &Row,
-    given: &Given,
-    host: Option<&HostFilters>,
-) -> Result<()> {
-    rendered_by(told, row, given, host, "render_to")?;
-    rendered_by(told, row, given, host, "render_source")?;
-    if row.fault.as_str() == "Write" {
+fn rendered_by_each<R: Print>(told: &Told<'_, R>, given: &Given<'_>) -> Result<()> {
+    rendered_by(told, given, "render_to")?;
+    rendered_by(told, given, "render_source")?;
+    if given.row.fault.as_str() == "Write" {
         return Ok(());
     }
-    rendered_by(told, row, given, host, "render")?;
-    if host.is_none() {
-        page_rendered(told, row, given);
+    rendered_by(told, given, "render")?;
+    if given.host.is_none() {
+        page_rendered(told, given);
     }
     Ok(())
 }
 
-/// The page by a call over a runtime, which is made here: of one that is handed on to `render_source` rt ci takes it that filters
-/// of a host are made for it.
-fn rendered_by<R: Print>(
+/// The page by a call over a runtime.
+fn rendered_by<R: Print>(told: &Told<'_, R>, given: &Given<'_>, call: &str) -> Result<()> {
+    let data = copied(told.alloc, given.data)?;
+    let written = Counted::new(writer(told.alloc, given.row)?);
+    rendered_over(told, given, call, data, written)
+}
+
+/// The page by a call over a runtime of the data, which is made here: of one that is handed on to `render_source` rt ci takes it
+/// that filters of a host are made for it.
+fn rendered_over<R: Print>(
     told: &Told<'_, R>,
-    row: &Row,
-    given: &Given,
-    host: Option<&HostFilters>,
+    given: &Given<'_>,
     call: &str,
+    data: Object,
+    mut written: Counted<Limited>,
 ) -> Result<()> {
-    let alloc = told.alloc;
+    let (alloc, source) = (told.alloc, given.row.source.as_str());
     let builder = RuntimeBuilder::new(alloc)
-        .set_globals(copied(alloc, &given.data)?)
-        .set_partials(&given.partials)
-        .set_depth(depth(&row.on));
-    let mut runtime = match host {
+        .set_globals(data)
+        .set_partials(given.partials)
+        .set_depth(depth(&given.row.on));
+    let mut runtime = match given.host {
         Some(host) => builder.set_host_filters(host).build(alloc),
         None => builder.build(alloc),
     };
     if call == "render" {
-        rendered(told, row, &given.template, &mut runtime);
+        rendered(told, given, &mut runtime);
         return Ok(());
     }
-    let source = row.source.as_str();
-    let mut counted = Counted::new(writer(alloc, row)?);
     told.begin();
     let answer = match call {
-        "render_to" => given.template.render_to(alloc, &mut counted, &mut runtime),
-        _ => render_source(alloc, source, &given.language, &mut counted, &mut runtime),
+        "render_to" => given.template.render_to(alloc, &mut written, &mut runtime),
+        _ => render_source(alloc, source, given.language, &mut written, &mut runtime),
     };
     told.end();
-    let failures = counted.failures();
-    let bytes = counted.into_inner().bytes;
     told.ended(
         call,
         source,
-        page_ending(row, kind_of(&answer), &bytes, failures),
+        page_ending(given.row, kind_of(&answer), written),
     );
-    rendered_then(told, row, &given.language, &mut runtime)
+    rendered_then(told, given, &mut runtime)
 }
 
-fn rendered<R: Print>(
-    told: &Told<'_, R>,
-    row: &Row,
-    template: &Template,
-    runtime: &mut Runtime<'_>,
-) {
+fn rendered<R: Print>(told: &Told<'_, R>, given: &Given<'_>, runtime: &mut Runtime<'_>) {
     told.begin();
-    let answer = template.render(told.alloc, runtime);
+    let answer = given.template.render(told.alloc, runtime);
     told.end();
     let end = match &answer {
-        Ok(text) if text.as_str() != page_of(row) => "another_page",
-        _ => kind_ending(row, kind_of(&answer)),
+        Ok(text) if text.as_str() != page_of(given.row) => "another_page",
+        _ => kind_ending(given.row, kind_of(&answer)),
     };
-    told.ended("render", row.source.as_str(), end);
+    told.ended("render", given.row.source.as_str(), end);
 }
 
 /// Renders the row's further sources on what the runtime now is, each with its page and the kind of its fault. Nothing is looked
 /// at where calls stand between marks, for then the runtime is what a rendering that was refused memory left.
 fn rendered_then<R: Print>(
     told: &Told<'_, R>,
-    row: &Row,
-    language: &Language,
+    given: &Given<'_>,
     runtime: &mut Runtime<'_>,
 ) -> Result<()> {
     if told.marked {
         return Ok(());
     }
-    for step in items(option(&row.on, "then").unwrap_or(&Value::Nil)) {
-        let source = text_member(step, 0);
-        let template = parse(told.alloc, source, language)?;
-        let answer = template.render(told.alloc, runtime);
-        told.ended(
-            "render then",
-            source,
-            then_ending(&answer, text_member(step, 1)),
-        );
+    for step in items(option(&given.row.on, "then").unwrap_or(&Value::Nil)) {
+        step_rendered(told, given.language, runtime, step)?;
     }
+    Ok(())
+}
+
+fn step_rendered<R: Print>(
+    told: &Told<'_, R>,
+    language: &Language,
+    runtime: &mut Runtime<'_>,
+    step: &Value,
+) -> Result<()> {
+    let source = text_member(step, 0);
+    let template = parse(told.alloc, source, language)?;
+    let answer = template.render(told.alloc, runtime);
+    told.ended(
+        "render then",
+        source,
+        then_ending(&answer, text_member(step, 1)),
+    );
     Ok(())
 }
 
 /// `done` where the answer is the wanted text, or a fault of a kind of that name.
 fn then_ending(answer: &Result<String>, wanted: &str) -> &'static str {
-    let (shown, end) = match answer {
-        Ok(text) => (text.as_str(), "another_answer"),
-        Err(fault) => (fault.kind.name(), fault.kind.name()),
-    };
-    if shown == wanted { "done" } else { end }
+    match answer {
+        Ok(text) if text.as_str() == wanted => "done",
+        Ok(_) => "another_answer",
+        Err(fault) if fault.kind.name() == wanted => "done",
+        Err(fault) => fault.kind.name(),
+    }
 }
 
 /// The page over lent data, with its fault beside its text.
-fn page_rendered<R: Print>(told: &Told<'_, R>, row: &Row, given: &Given) {
-    let Value::Object(data) = &given.data else {
+fn page_rendered<R: Print>(told: &Told<'_, R>, given: &Given<'_>) {
+    let Value::Object(data) = given.data else {
         return;
     };
+    let depth = depth(&given.row.on);
     told.begin();
-    let answer = render_page(
-        told.alloc,
-        &given.template,
-        &given.partials,
-        depth(&row.on),
-        data,
-    );
+    let answer = render_page(told.alloc, given.template, given.partials, depth, data);
     told.end();
     let end = match &answer {
-        Ok(page) if page.text.as_str() != page_of(row) => "another_page",
-        Ok(page) => kind_ending(row, page.fault.as_ref().map(|fault| fault.kind)),
+        Ok(page) => shown_ending(given.row, page),
         Err(fault) => fault.kind.name(),
     };
-    told.ended("render_page", row.source.as_str(), end);
+    told.ended("render_page", given.row.source.as_str(), end);
+}
+
+/// `done` where the page has the text and the fault that the row says.
+fn shown_ending(row: &Row, page: &Page) -> &'static str {
+    if page.text.as_str() != page_of(row) {
+        return "another_page";
+    }
+    match &page.fault {
+        Some(fault) => kind_ending(row, Some(fault.kind)),
+        None => kind_ending(row, None),
+    }
 }

@@ -2,7 +2,10 @@
 use crate::given::depth;
 use liquid_core::{ErrorKind, Object, Result, Value};
 use liquid_lib::{Partials, Runtime, RuntimeBuilder};
-use liquid_refusals::{Row, Told, items, kind_of, member, optional, text_member};
+use liquid_refusals::{
+    Change, Row, Told, change_of, found, items, items_member, kind_of, nil, optional, owned,
+    text_member,
+};
 use std::alloc::Global;
 
 /// Makes the calls of the row, one after another, on the same runtime. Each is a list: its name, a name or a path of the
@@ -16,27 +19,21 @@ pub(crate) fn runtime_made<R: Print>(told: &Told<'_, R>, row: &Row, data: Object
         .set_depth(depth(&row.on))
         .build(told.alloc);
     for step in items(&row.with) {
-        for is_again in [false, true] {
-            if !is_again {
-                told.begin();
-            }
+        told.begin();
+        for is_first in [true, false] {
             // made here: of a runtime that is handed on rt ci takes it that filters of a host are made for it
             let answer = match change_of(told.alloc, step) {
-                Ok(Change::Index(name, value)) => nil(runtime.set_index(name, value)),
-                Ok(Change::Global(name, value)) => nil(runtime.set_global(name, value)),
-                Ok(Change::Push(scope)) => nil(runtime.push_scope(scope)),
-                Ok(Change::Pop) => {
+                Ok(Some(Change::Index(name, value))) => nil(runtime.set_index(name, value)),
+                Ok(Some(Change::Global(name, value))) => nil(runtime.set_global(name, value)),
+                Ok(Some(Change::Push(scope))) => nil(runtime.push_scope(scope)),
+                Ok(Some(Change::Pop)) => {
                     runtime.pop_scope();
                     Ok(Value::Nil)
                 }
-                Ok(Change::Nothing) => looked_up(told.alloc, &runtime, step),
+                Ok(None) => looked_up(told.alloc, &runtime, step),
                 Err(fault) => Err(fault),
             };
-            if !is_again {
-                told.end();
-                told.step_ended(step, &answer);
-            }
-            if kind_of(&answer) != Some(ErrorKind::Memory) {
+            if !is_refused(told, step, &answer, is_first) {
                 break;
             }
         }
@@ -44,52 +41,26 @@ pub(crate) fn runtime_made<R: Print>(told: &Told<'_, R>, row: &Row, data: Object
     Ok(())
 }
 
-/// What a call changes in a runtime.
-#[derive(Drop)]
-enum Change {
-    Index(String, Value),
-    Global(String, Value),
-    Push(Object),
-    Pop,
-    Nothing,
-}
-
-fn change_of(alloc: Global, step: &Value) -> Result<Change> {
-    let name = text_member(step, 1);
-    Ok(match text_member(step, 0) {
-        "set_index" => Change::Index(String::from_str(alloc, name)?, given(alloc, step)?),
-        "set_global" => Change::Global(String::from_str(alloc, name)?, given(alloc, step)?),
-        "push_scope" => Change::Push(scope(alloc, step)?),
-        "pop_scope" => Change::Pop,
-        _ => Change::Nothing,
-    })
-}
-
-fn nil(done: Result<()>) -> Result<Value> {
-    done?;
-    Ok(Value::Nil)
+/// Tells how the step's call ended when it was made first. Whether it was refused memory.
+fn is_refused<R: Print>(
+    told: &Told<'_, R>,
+    step: &Value,
+    answer: &Result<Value>,
+    is_first: bool,
+) -> bool {
+    if is_first {
+        told.end();
+        told.step_ended(step, 3, answer);
+    }
+    matches!(kind_of(answer), Some(ErrorKind::Memory))
 }
 
 fn looked_up(alloc: Global, runtime: &Runtime<'_>, step: &Value) -> Result<Value> {
-    let name = text_member(step, 1);
-    let path = items(member(step, 1).unwrap_or(&Value::Nil));
+    let (name, path) = (text_member(step, 1), items_member(step, 1));
     match text_member(step, 0) {
         "look_up" => optional(alloc, runtime.state().look_up(name)),
         "get_index" => optional(alloc, runtime.get_index(name)),
-        "get" => runtime.get(alloc, path)?.into_owned(alloc),
-        _ => Ok(Value::Bool(runtime.try_get(alloc, path)?.is_some())),
-    }
-}
-
-/// The value that the call is given.
-fn given(alloc: Global, step: &Value) -> Result<Value> {
-    optional(alloc, member(step, 2))
-}
-
-/// The map that the call is given.
-fn scope(alloc: Global, step: &Value) -> Result<Object> {
-    match given(alloc, step)? {
-        Value::Object(scope) => Ok(scope),
-        _ => Ok(Object::new(alloc)),
+        "get" => owned(alloc, runtime.get(alloc, path)),
+        _ => found(runtime.try_get(alloc, path)),
     }
 }

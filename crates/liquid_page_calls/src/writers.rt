@@ -1,7 +1,8 @@
 //! A writer that takes little, and fails; and how a page ended that was written to it.
-use crate::given::{number_or, option};
-use liquid_core::{ErrorKind, Result, Value};
-use liquid_refusals::Row;
+use crate::given::number_option;
+use liquid_core::{ErrorKind, Result};
+use liquid_lib::{Counted, CountedWrite};
+use liquid_refusals::{Row, name_of, text_of};
 use std::alloc::Global;
 use std::io;
 use std::io::Write;
@@ -32,50 +33,53 @@ impl Write for Limited {
 
 /// The writer of the row, with room for its page, so that it asks for none.
 pub(crate) fn writer(alloc: Global, row: &Row) -> Result<Limited> {
+    let most = number_option(&row.on, "most", 4096);
+    let writes_left = number_option(&row.on, "writes", 4096);
     Ok(Limited {
         bytes: Vec::with_capacity(alloc, page_of(row).len())?,
-        most: number_or(option(&row.on, "most"), 4096),
-        writes_left: number_or(option(&row.on, "writes"), 4096),
+        most,
+        writes_left,
     })
 }
 
 /// The page that the row says.
 pub(crate) fn page_of(row: &Row) -> &str {
-    match &row.answer {
-        Value::Text(page) => page.as_str(),
-        _ => "",
-    }
+    text_of(&row.answer)
 }
 
 /// `done` where the page was written and ended by the kind, as the row says. After refused memory it is a beginning of it.
 pub(crate) fn page_ending(
     row: &Row,
     kind: Option<ErrorKind>,
-    bytes: &[u8],
-    failures: u64,
+    written: Counted<Limited>,
 ) -> &'static str {
+    let failures = written.failures();
+    let bytes = written.into_inner().bytes;
     let page = page_of(row).as_bytes();
-    if kind == Some(ErrorKind::Memory) {
-        return if page.starts_with(bytes) {
-            "Memory"
-        } else {
-            "another_beginning"
-        };
+    match kind {
+        Some(ErrorKind::Memory) if page.starts_with(&bytes) => "Memory",
+        Some(ErrorKind::Memory) => "another_beginning",
+        _ if page != bytes.as_slice() => "another_page",
+        _ if failures != failed_writes(kind) => "another_number_of_failed_writes",
+        _ => kind_ending(row, kind),
     }
-    if page != bytes {
-        return "another_page";
+}
+
+/// How many writes fail where a page ends by the kind.
+fn failed_writes(kind: Option<ErrorKind>) -> u64 {
+    match kind {
+        Some(ErrorKind::Write) => 1,
+        _ => 0,
     }
-    if failures != u64::from(kind == Some(ErrorKind::Write)) {
-        return "another_number_of_failed_writes";
-    }
-    kind_ending(row, kind)
 }
 
 /// `done` where the kind is the one of the row's fault, or there is none of both.
 pub(crate) fn kind_ending(row: &Row, kind: Option<ErrorKind>) -> &'static str {
-    let name = kind.map_or("", |kind| kind.name());
-    if name == row.fault.as_str() {
+    if name_of(kind) == row.fault.as_str() {
         return "done";
     }
-    kind.map_or("no_fault", |kind| kind.name())
+    match kind {
+        Some(kind) => kind.name(),
+        None => "no_fault",
+    }
 }

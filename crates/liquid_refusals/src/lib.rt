@@ -3,7 +3,9 @@
 #![tactic(auto)]
 
 mod row;
+mod steps;
 mod told;
 
-pub use row::{Row, items, member, read_row, text_member};
-pub use told::{Told, ending, flag, kind_of, number, optional, text};
+pub use row::{Row, items, items_member, member, read_row, text_member, text_of};
+pub use steps::{Change, change_of};
+pub use told::{Told, ending, flag, found, kind_of, name_of, nil, number, optional, owned, text};

@@ -20,6 +20,24 @@ pub struct Row {
     pub fault: String,
 }
 
+impl Row {
+    /// The type of the call, or the whole call where no name stands behind a `::`.
+    pub fn kind(&self) -> &str {
+        match self.call.as_str().split_once("::") {
+            Some((kind, _)) => kind,
+            None => self.call.as_str(),
+        }
+    }
+
+    /// The name of the call behind its type, or an empty one.
+    pub fn name(&self) -> &str {
+        match self.call.as_str().split_once("::") {
+            Some((_, name)) => name,
+            None => "",
+        }
+    }
+}
+
 /// The row that the line holds, and the data of its state. A field that it lacks is nil, or empty.
 pub fn read_row(alloc: Global, line: &str) -> Result<(Row, Object)> {
     let mut fields = data_from_json(alloc, line)?;
@@ -62,7 +80,23 @@ pub fn member(list: &Value, place: usize) -> Option<&Value> {
 /// The text that the list has at the place, or an empty one.
 pub fn text_member(list: &Value, place: usize) -> &str {
     match member(list, place) {
-        Some(Value::Text(text)) => text.as_str(),
+        Some(value) => text_of(value),
+        None => "",
+    }
+}
+
+/// The items of the list that the list has at the place, or none.
+pub fn items_member(list: &Value, place: usize) -> &[Value] {
+    match member(list, place) {
+        Some(inner) => items(inner),
+        None => &[],
+    }
+}
+
+/// The text that the value is, or an empty one.
+pub fn text_of(value: &Value) -> &str {
+    match value {
+        Value::Text(text) => text.as_str(),
         _ => "",
     }
 }

@@ -3,8 +3,8 @@ ghost use Rattle.std.specs.Prelude.{◌≡◌, option_map};
 ghost use Rattle.liquid_model.specs.View.{view};
 ghost use Rattle.liquid_refusals.specs.Endings.{ending_of};
 
-use crate::row::{Row, member, text_member};
-use liquid_core::{ErrorKind, Result, Value};
+use crate::row::{Row, member, text_member, text_of};
+use liquid_core::{ErrorKind, Result, Value, ValueCow};
 use std::alloc::Global;
 
 /// Where answers are told, and whether each call stands between marks.
@@ -32,17 +32,25 @@ impl<R: Print> Told<'_, R> {
 
     /// How the row's call ended.
     pub fn answered(&self, line: &str, row: &Row, answer: &Result<Value>) {
-        let wanted = Some(row.fault.as_str()).filter(|fault| !fault.is_empty());
-        self.ended(row.call.as_str(), line, ending(answer, &row.answer, wanted));
+        self.answered_by(row.call.as_str(), line, row, answer);
     }
 
-    /// How the call of a step ended. A step is a list of the call's name, what it names, what it is given, and its answer or the
-    /// kind of its fault.
-    pub fn step_ended(&self, step: &Value, answer: &Result<Value>) {
-        let wanted = member(step, 3).unwrap_or(&Value::Nil);
+    /// How another call ended that answers what the row's does.
+    pub fn answered_by(&self, call: &str, line: &str, row: &Row, answer: &Result<Value>) {
+        let wanted = match row.fault.as_str() {
+            "" => None,
+            fault => Some(fault),
+        };
+        self.ended(call, line, ending(answer, &row.answer, wanted));
+    }
+
+    /// How the call of a step ended. A step is a list of the call's name, what it names, and more, with its answer or the kind of
+    /// its fault at the place.
+    pub fn step_ended(&self, step: &Value, place: usize, answer: &Result<Value>) {
+        let wanted = member(step, place).unwrap_or(&Value::Nil);
         let fault = match answer {
             Ok(_) => None,
-            Err(_) => Some(text_member(step, 3)),
+            Err(_) => Some(text_of(wanted)),
         };
         self.ended(
             text_member(step, 0),
@@ -54,10 +62,15 @@ impl<R: Print> Told<'_, R> {
     /// How a call ended: behind the second mark, or without marks only where it isn't as wanted.
     pub fn ended(&self, call: &str, at: &str, end: &str) {
         if self.marked {
-            let _ = println!(self.rt; "answer: {call} {at:?} {end}");
+            self.tell_end(call, at, end);
         } else if end != "done" {
             let _ = println!(self.rt; "{call} ends by {end}: {at}");
         }
+    }
+
+    /// How a call ended, for `tests/refusals/run`.
+    fn tell_end(&self, call: &str, at: &str, end: &str) {
+        let _ = println!(self.rt; "answer: {call} {at:?} {end}");
     }
 }
 
@@ -90,6 +103,20 @@ pub fn kind_of<T>(answer: &Result<T>) -> Option<ErrorKind> {
     }
 }
 
+/// The name of the kind, or an empty text where there is none.
+pub fn name_of(kind: Option<ErrorKind>) -> &'static str {
+    match kind {
+        Some(kind) => kind.name(),
+        None => "",
+    }
+}
+
+/// Nil, where the call is done.
+pub fn nil(done: Result<()>) -> Result<Value> {
+    done?;
+    Ok(Value::Nil)
+}
+
 /// A truth as a value.
 pub fn flag(truth: Result<bool>) -> Result<Value> {
     Ok(Value::Bool(truth?))
@@ -98,6 +125,16 @@ pub fn flag(truth: Result<bool>) -> Result<Value> {
 /// A text as a value.
 pub fn text(text: Result<String>) -> Result<Value> {
     Ok(Value::Text(text?))
+}
+
+/// The found value as one of its own.
+pub fn owned(alloc: Global, found: Result<ValueCow<'_>>) -> Result<Value> {
+    found?.into_owned(alloc)
+}
+
+/// Whether there is a found value, as a value.
+pub fn found(found: Result<Option<ValueCow<'_>>>) -> Result<Value> {
+    Ok(Value::Bool(found?.is_some()))
 }
 
 /// A number as a value, or nil where there is none.

@@ -1,8 +1,8 @@
 //! Pages of a caller who names one crate. The README shows the first of them.
 use liquid_lib::stdlib::Upcase;
 use liquid_lib::{
-    Counted, FilterKind, Language, Object, Partials, Renderable, Result, Runtime, RuntimeBuilder,
-    Template, Value, language, parse, render_page, render_source,
+    Counted, FilterKind, Language, Object, Page, Partials, Renderable, Result, Runtime,
+    RuntimeBuilder, Template, Value, language, parse, render_page, render_source,
 };
 use std::alloc::Global;
 
@@ -30,34 +30,50 @@ pub(crate) fn page(alloc: Global) -> Result<String> {
 
 /// A page of a source that is rendered once, to a writer: here bytes in memory.
 pub(crate) fn page_in_bytes(alloc: Global) -> Result<Vec<u8>> {
+    let language = language(alloc)?;
     let mut runtime = RuntimeBuilder::new(alloc)
         .set_globals(data(alloc)?)
         .build(alloc);
     let bytes: Vec<u8> = Vec::new(alloc);
     let mut writer = Counted::new(bytes);
-    let language = language(alloc)?;
     render_source(alloc, "{{ name }}", &language, &mut writer, &mut runtime)?;
     Ok(writer.into_inner())
 }
 
 /// A page that ends by a fault inside a partial: its text up to there, and the fault's kind.
 pub(crate) fn page_with_fault(alloc: Global) -> Result<String> {
-    let language = language(alloc)?;
-    let mut partials = Partials::new(alloc);
-    let row = parse(alloc, "{{ name }}, {{ age }}", &language)?;
-    partials.insert(String::from_str(alloc, "row")?, row)?;
-    let template = parse(alloc, "{% include 'row' %}", &language)?;
-    let page = render_page(alloc, &template, &partials, 1, &data(alloc)?)?;
+    let page = page_of_a_row(alloc, &language(alloc)?)?;
     let kind = page.fault.map_or("no fault", |fault| fault.kind.name());
     Ok(format!(in alloc; "{}({kind})", page.text)?)
 }
 
-/// A page in a language of one filter, without tags and blocks.
+/// A page that includes a row.
+fn page_of_a_row(alloc: Global, language: &Language) -> Result<Page> {
+    let partials = row_alone(alloc, language)?;
+    let template = parse(alloc, "{% include 'row' %}", language)?;
+    render_page(alloc, &template, &partials, 1, &data(alloc)?)
+}
+
+/// The row as the one partial. It mentions a name that isn't there.
+fn row_alone(alloc: Global, language: &Language) -> Result<Partials> {
+    let name = String::from_str(alloc, "row")?;
+    let row = parse(alloc, "{{ name }}, {{ age }}", language)?;
+    let mut partials = Partials::new(alloc);
+    partials.insert(name, row)?;
+    Ok(partials)
+}
+
+/// A page in a language of one's own.
 pub(crate) fn language_of_ones_own(alloc: Global) -> Result<String> {
-    let mut small = Language::new(alloc);
-    let name = String::from_str(alloc, "upcase")?;
-    small.filters.register(name, FilterKind::Upcase(Upcase))?;
-    let template = parse(alloc, "{{ 'b' | upcase }}", &small)?;
+    let template = parse(alloc, "{{ 'b' | upcase }}", &small_language(alloc)?)?;
     let mut runtime = RuntimeBuilder::new(alloc).build(alloc);
     template.render(alloc, &mut runtime)
+}
+
+/// A language of one filter, without tags and blocks.
+fn small_language(alloc: Global) -> Result<Language> {
+    let name = String::from_str(alloc, "upcase")?;
+    let mut small = Language::new(alloc);
+    small.filters.register(name, FilterKind::Upcase(Upcase))?;
+    Ok(small)
 }
