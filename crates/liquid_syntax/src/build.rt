@@ -274,6 +274,8 @@ impl Builder {
         ensures stack { (ls : List Level) (cur : Nodes) → IsBuilding self.old ls cur → Steps (to_closed ((flat_of node).head []) ls cur) self.new result }
         ensures place { FaultsAt left result }
     {
+        // the node goes in before the depth is looked at: a fault ends the reading anyhow, and a node that is dropped on a way out
+        // takes the prover longer than all else here
         self.leaf(node)?;
         if self.is_full() {
             return Err(too_nested(left));
@@ -292,6 +294,7 @@ impl Builder {
         ensures stack { IsPrepared stage node → (ls : List Level) (cur : Nodes) → IsBuilding self.old ls cur → Steps (to_begin (opening block stage node) ls cur) self.new result }
         ensures place { FaultsAt left result }
     {
+        // here too the node goes in first
         self.open(block, stage, false, node)?;
         if self.is_full() {
             return Err(too_nested(left));
