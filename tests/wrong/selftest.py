@@ -1,43 +1,77 @@
-"""A test of the script: an edit that changes nothing is reported, tried with others and alone, and so are one that doesn't apply
-and one that stops the compiler."""
+"""A test of the script, over a small crate that it writes: an edit that changes nothing is reported, tried with others and alone, and
+so are one that doesn't apply and one that stops the compiler."""
 import os
 import tempfile
+from dataclasses import dataclass
 
-from crates import all_crates
-from edits import read_edit
+from crates import Crate
 
-# the smallest crate that has edits of several functions
-CRATE = "liquid_filter_base"
-WRONG = "whole_argument_of_nil.edit"
-HARMLESS = "a_text_argument_is_the_values_text.edit"
-BROKEN = "wrong_input_is_a_wrong_argument.edit"
+ROOT = """//! A crate of one module.
+#![tactic(auto)]
+
+pub mod numbers;
+"""
+SOURCE = """//! Three functions, of which each gets edits.
+ghost use Rattle.std.specs.Prelude.{◌≡◌};
+
+/// The number itself.
+pub fn itself(number: u8) -> u8
+    ensures { result ≡ number }
+{
+    let same = number;
+    same
+}
+
+/// One.
+pub fn one() -> u8
+    ensures { result ≡ 1 }
+{
+    1
+}
+
+/// Seven.
+pub fn seven() -> u8
+    ensures { result ≡ 7 }
+{
+    7
+}
+"""
+EDITS = {
+    "harmless.edit": ("let same = number;", "let same = number; let _nothing = true;"),
+    "spaces.edit": ("let same = number;", "let same = number; "),
+    "broken.edit": ("    7", "    let = 7;"),
+    "lost.edit": ("    8", "    9"),
+    "wrong.edit": ("    1", "    2"),
+}
+REPORTED = ["broken.edit", "harmless.edit", "lost.edit", "spaces.edit"]
+
+
+@dataclass
+class Small(Crate):
+    """A crate that stands on nothing but std, and in a folder of its own."""
+
+    at: str = ""
+
+    @property
+    def folder(self):
+        return self.at
 
 
 def selftest(run, tell):
-    crate = all_crates()[CRATE]
     with tempfile.TemporaryDirectory(prefix="wrong-") as folder:
-        (trial,) = run([(crate, made(crate, folder))], 1, tell)
+        for path, text in [("src/lib.rt", ROOT), ("src/numbers.rt", SOURCE), ("specs/Lib.antt", "")]:
+            written(f"{folder}/{path}", text)
+        files = [written(f"{folder}/wrong/{name}", f"file: src/numbers.rt\nold: {old}\nnew: {new}\n") for name, (old, new) in EDITS.items()]
+        (trial,) = run([(Small("small", [], [], at=folder), files)], 1, tell)
     reported = sorted(name for name, _ in trial.failed)
-    wanted = ["broken.edit", "harmless.edit", "lost.edit", "spaces.edit"]
-    well = reported == wanted and trial.count == 5
-    print(f"selftest: {', '.join(reported)} reported" + ("" if well else f", and not {', '.join(wanted)}"))
+    well = reported == REPORTED and trial.count == len(EDITS)
+    print(f"selftest: {', '.join(reported)} reported" + ("" if well else f", and not {', '.join(REPORTED)}"))
     print(f"{int(well)} passed, {int(not well)} failed")
     return int(not well)
 
 
-def made(crate, folder):
-    """The files of five edits, of which the prover must refuse the last."""
-    path, old, _ = read_edit(f"{crate.folder}/wrong/{HARMLESS}").pairs[0]
-    broken, body, _ = read_edit(f"{crate.folder}/wrong/{BROKEN}").pairs[0]
-    texts = {
-        "harmless.edit": f"file: {path}\nold: {old}\nnew: {old} let _nothing = true;\n",
-        "spaces.edit": f"file: {path}\nold: {old}\nnew: {old} \n",
-        "broken.edit": f"file: {broken}\nold: {body}\nnew: {body} let = 1;\n",
-        "lost.edit": f"file: {path}\nold: {old} lost\nnew: {old}\n",
-    }
-    with open(f"{crate.folder}/wrong/{WRONG}", encoding="utf-8") as file:
-        texts["wrong.edit"] = file.read()
-    for name, text in texts.items():
-        with open(f"{folder}/{name}", "w", encoding="utf-8") as file:
-            file.write(text)
-    return [os.path.join(folder, name) for name in texts]
+def written(path, text):
+    os.makedirs(os.path.dirname(path), exist_ok=True)
+    with open(path, "w", encoding="utf-8") as file:
+        file.write(text)
+    return path
