@@ -4,7 +4,6 @@ ghost use Rattle.std.specs.Prelude.{◌<◌, ◌≤◌};
 use liquid_model::{Object, Value};
 
 /// The source of a loop.
-#[derive(Drop)]
 pub enum Items<'d> {
     /// A list that is lent for the whole run.
     Lent(&'d [Value]),
@@ -14,8 +13,18 @@ pub enum Items<'d> {
     Numbers(i64, i64),
 }
 
+/// Drops what it holds. By hand, so that a way out of a function that owns one is one call to prove.
+impl Drop for Items<'_> {
+    fn drop(self) {
+        match self {
+            Items::Lent(_) => {}
+            Items::Owned(_) => {}
+            Items::Numbers(_, _) => {}
+        }
+    }
+}
+
 /// What a loop binds beside its variable.
-#[derive(Drop)]
 pub enum LoopKind {
     /// `forloop`, with what that name held before the loop where no scope held it.
     For(Value),
@@ -23,6 +32,17 @@ pub enum LoopKind {
     Render,
     /// `tablerow`, with the number of columns.
     TableRow(Columns),
+}
+
+/// Drops what it holds. By hand, so that a way out of a function that owns one is one call to prove.
+impl Drop for LoopKind {
+    fn drop(self) {
+        match self {
+            LoopKind::For(_) => {}
+            LoopKind::Render => {}
+            LoopKind::TableRow(_) => {}
+        }
+    }
 }
 
 /// A number of columns, of which there is one at least.
@@ -34,7 +54,6 @@ pub struct Columns {
 }
 
 /// A loop at one of its items.
-#[derive(Drop)]
 pub struct LoopFrame<'d> {
     /// The loop's variable.
     pub name: &'d str,
@@ -53,11 +72,35 @@ pub struct LoopFrame<'d> {
     ghost within: { (at < count) × ((count ≤ 9223372036854775807) × (from ≤ 9223372036854775807)) },
 }
 
+/// Drops the fields. By hand, so that a way out of a function that owns one is one call to prove.
+impl Drop for LoopFrame<'_> {
+    fn drop(self) {
+        let LoopFrame {
+            name: _,
+            items: _,
+            from: _,
+            count: _,
+            reversed: _,
+            at: _,
+            kind: _,
+        } = self;
+    }
+}
+
 /// A scope: names with values of their own, or a loop at one of its items.
-#[derive(Drop)]
 pub enum Scope<'d> {
     /// Names with values of their own.
     Names(Object),
     /// A loop at one of its items.
     LoopFrame(LoopFrame<'d>),
+}
+
+/// Drops what it holds. By hand, so that a way out of a function that owns one is one call to prove.
+impl Drop for Scope<'_> {
+    fn drop(self) {
+        match self {
+            Scope::Names(_) => {}
+            Scope::LoopFrame(_) => {}
+        }
+    }
 }

@@ -98,11 +98,21 @@ impl<K: Copy + Drop> Registry<K> {
 }
 
 /// The tags, blocks and filters that a source may name.
-#[derive(Drop)]
 pub struct Language {
     pub tags: Registry<TagKind>,
     pub blocks: Registry<BlockKind>,
     pub filters: FilterRegistry,
+}
+
+/// Drops the fields. By hand, so that a way out of a function that owns one is one call to prove.
+impl Drop for Language {
+    fn drop(self) {
+        let Language {
+            tags: _,
+            blocks: _,
+            filters: _,
+        } = self;
+    }
 }
 
 impl Language {

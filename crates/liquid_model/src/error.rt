@@ -153,12 +153,23 @@ impl ErrorKind {
 
 /// A fault: its kind, a message that says what was found and what is wanted (none for `Memory` alone), and where it stands,
 /// where that is known.
-#[derive(Debug, Drop)]
+#[derive(Debug)]
 pub struct Error {
     pub kind: ErrorKind,
     pub message: Option<String>,
     /// In a box, since most answers are no faults and shouldn't be larger for it.
     pub location: Option<Box<Location>>,
+}
+
+/// Drops the fields. By hand, so that a way out of a function that owns one is one call to prove.
+impl Drop for Error {
+    fn drop(self) {
+        let Error {
+            kind: _,
+            message: _,
+            location: _,
+        } = self;
+    }
 }
 
 impl Error {
@@ -207,10 +218,15 @@ impl Error {
         if self.location.is_some() {
             return self;
         }
+        let Error {
+            kind,
+            message,
+            location: _,
+        } = self;
         match Box::new(alloc, location) {
             Ok(location) => Error {
-                kind: self.kind,
-                message: self.message,
+                kind,
+                message,
                 location: Some(location),
             },
             Err(refused) => Error::from(refused),

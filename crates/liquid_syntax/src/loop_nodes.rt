@@ -4,7 +4,6 @@ use liquid_core::Expression;
 use liquid_tree::RangeExpression;
 
 /// Which of a loop's items are asked for.
-#[derive(Drop)]
 pub struct WindowExpression {
     /// How many at most.
     pub limit: Option<Expression>,
@@ -14,16 +13,36 @@ pub struct WindowExpression {
     pub reversed: bool,
 }
 
+/// Drops the fields. By hand, so that a way out of a function that owns one is one call to prove.
+impl Drop for WindowExpression {
+    fn drop(self) {
+        let WindowExpression {
+            limit: _,
+            offset: _,
+            reversed: _,
+        } = self;
+    }
+}
+
 /// `for variable in source`, with the items that are asked for.
-#[derive(Drop)]
 pub struct For {
     pub variable: String,
     pub source: RangeExpression,
     pub window: WindowExpression,
 }
 
+/// Drops the fields. By hand, so that a way out of a function that owns one is one call to prove.
+impl Drop for For {
+    fn drop(self) {
+        let For {
+            variable: _,
+            source: _,
+            window: _,
+        } = self;
+    }
+}
+
 /// `tablerow variable in source`, with the items that are asked for and the number of columns.
-#[derive(Drop)]
 pub struct TableRow {
     pub variable: String,
     pub source: RangeExpression,
@@ -32,9 +51,30 @@ pub struct TableRow {
     pub cols: Option<Expression>,
 }
 
+/// Drops the fields. By hand, so that a way out of a function that owns one is one call to prove.
+impl Drop for TableRow {
+    fn drop(self) {
+        let TableRow {
+            variable: _,
+            source: _,
+            window: _,
+            cols: _,
+        } = self;
+    }
+}
+
 /// `for source as variable` of a `render`.
-#[derive(Drop)]
 pub struct Each {
     pub source: RangeExpression,
     pub variable: String,
+}
+
+/// Drops the fields. By hand, so that a way out of a function that owns one is one call to prove.
+impl Drop for Each {
+    fn drop(self) {
+        let Each {
+            source: _,
+            variable: _,
+        } = self;
+    }
 }

@@ -7,10 +7,16 @@ use liquid_core::Expression;
 use liquid_tree::{Condition, FilterChain};
 
 /// A pair of a tag: a name, and what it is bound to.
-#[derive(Drop)]
 pub struct Binding {
     pub name: String,
     pub value: Expression,
+}
+
+/// Drops the fields. By hand, so that a way out of a function that owns one is one call to prove.
+impl Drop for Binding {
+    fn drop(self) {
+        let Binding { name: _, value: _ } = self;
+    }
 }
 
 /// Where the two bodies of a node end, as indices of the list.
@@ -46,7 +52,6 @@ pub struct Arm {
 /// The list is in source order: a node is followed by the nodes of its bodies, body after body.
 /// A node with bodies says where each of them ends, as an index of the list; the first begins right after the node,
 /// each other one where the one before it ends.
-#[derive(Drop)]
 pub enum Node {
     /// Text outside of outputs and tags. It is never empty.
     Text(String),
@@ -93,4 +98,21 @@ pub enum Node {
     Render(Expression, Vec<Binding>),
     /// `{% render name for source as variable, pairs %}`, that runs once for each item.
     RenderEach(Expression, Each, Vec<Binding>),
+}
+
+/// Drops what it holds. By hand, so that a way out of a function that owns one is one call to prove.
+impl Drop for Node {
+    fn drop(self) {
+        match self {
+            Node::Text(_) | Node::Raw(_) | Node::Increment(_) | Node::Decrement(_) => {}
+            Node::Output(_) | Node::Assign(_, _) => {}
+            Node::Comment | Node::Break | Node::Continue => {}
+            Node::If(_, _) | Node::Unless(_, _) => {}
+            Node::Capture(_, _) | Node::IfChanged(_) => {}
+            Node::Case(_, _, _) | Node::For(_, _) | Node::TableRow(_, _) => {}
+            Node::Cycle(_, _) => {}
+            Node::Include(_, _) | Node::JekyllInclude(_, _) => {}
+            Node::Render(_, _) | Node::RenderEach(_, _, _) => {}
+        }
+    }
 }

@@ -12,12 +12,21 @@ use std::alloc::{AllocError, Global};
 use std::collections::BTreeSet;
 
 /// A parsed template: one flat list of its nodes, in source order.
-#[derive(Drop)]
 pub struct Template {
     pub(crate) nodes: Vec<Node>,
     /// Where each node begins in the source, for the faults of runs. The meaning of a template doesn't depend on it.
     pub(crate) positions: Vec<Position>,
     ghost nested: { AreNested (ends_of_nodes nodes.items) } by { AreNested-prop (ends_of_nodes nodes.items) },
+}
+
+/// Drops the fields. By hand, so that a way out of a function that owns one is one call to prove.
+impl Drop for Template {
+    fn drop(self) {
+        let Template {
+            nodes: _,
+            positions: _,
+        } = self;
+    }
 }
 
 impl Template {

@@ -13,10 +13,19 @@ use std::slice;
 
 /// The values of a call's arguments: a single one, as it is lent, or a list of copies. Most calls have one argument or none, and
 /// then nothing is copied.
-#[derive(Drop)]
 pub(crate) enum Arguments<'x> {
     One(ValueCow<'x>),
     Many(Vec<Value>),
+}
+
+/// Drops what it holds. By hand, so that a way out of a function that owns one is one call to prove.
+impl Drop for Arguments<'_> {
+    fn drop(self) {
+        match self {
+            Arguments::One(_) => {}
+            Arguments::Many(_) => {}
+        }
+    }
 }
 
 impl Arguments<'_> {

@@ -10,11 +10,20 @@ use liquid_core::{Error, Expression, HostFilters, NamedFilters, Result, State, V
 use std::alloc::Global;
 
 /// One filter of a chain with its arguments, of which it accepts the number.
-#[derive(Drop)]
 pub struct ChainFilter {
     pub filter: StoredFilter,
     pub arguments: Vec<Expression>,
     pub ghost accepted: { IsTrue (stored_counts filter (length arguments.items)) },
+}
+
+/// Drops the fields. By hand, so that a way out of a function that owns one is one call to prove.
+impl Drop for ChainFilter {
+    fn drop(self) {
+        let ChainFilter {
+            filter: _,
+            arguments: _,
+        } = self;
+    }
 }
 
 impl ChainFilter {
@@ -40,10 +49,19 @@ impl ChainFilter {
 }
 
 /// An entry, and the filters that its value goes through in order.
-#[derive(Drop)]
 pub struct FilterChain {
     pub entry: Expression,
     pub filters: Vec<ChainFilter>,
+}
+
+/// Drops the fields. By hand, so that a way out of a function that owns one is one call to prove.
+impl Drop for FilterChain {
+    fn drop(self) {
+        let FilterChain {
+            entry: _,
+            filters: _,
+        } = self;
+    }
 }
 
 impl FilterChain {
@@ -125,17 +143,17 @@ impl FilterChain {
 
 /// The fault of the filter of this name, or of its arguments: its message begins with the name. `Memory` where there is no room for that.
 #[inline(never)]
-fn of_filter(alloc: Global, name: &str, fault: Error) -> Error
+fn of_filter(alloc: Global, name: &str, mut fault: Error) -> Error
     ensures { IsKindOrMemory fault.kind result.kind }
 {
     let Some(message) = &fault.message else {
         return fault;
     };
     match format!(in alloc; "`{name}`: {message}") {
-        Ok(message) => Error {
-            message: Some(message),
-            ..fault
-        },
+        Ok(message) => {
+            fault.message = Some(message);
+            fault
+        }
         Err(refused) => Error::from(refused),
     }
 }

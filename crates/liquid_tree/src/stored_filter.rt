@@ -5,12 +5,21 @@ ghost use Rattle.liquid_tree.specs.StoredFilters.{stored_name};
 use liquid_filters::FilterKind;
 
 /// What the name of a filter was registered as when a chain was read.
-#[derive(Drop)]
 pub enum StoredFilter {
     /// One of the filters that exist.
     Kind(FilterKind),
     /// A filter of the host, by its name.
     Host(String),
+}
+
+/// Drops what it holds. By hand, so that a way out of a function that owns one is one call to prove.
+impl Drop for StoredFilter {
+    fn drop(self) {
+        match self {
+            StoredFilter::Kind(_) => {}
+            StoredFilter::Host(_) => {}
+        }
+    }
 }
 
 impl StoredFilter {
