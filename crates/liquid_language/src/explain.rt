@@ -37,23 +37,15 @@ pub fn explanation_of(
 ) -> Result<Explanation, AllocError> {
     let outline = outline_at(alloc, source, language, fault.left)?;
     let piece = placed_piece(alloc, outline.at)?;
-    if matches!(fault.kind, FaultKind::FilterArguments) {
-        return miscounted(alloc, &language.filters, &piece, outline.at);
-    }
     let told = told_of(alloc, language, &fault, &outline, &piece)?;
-    explained(alloc, source, &told)
-}
-
-/// What is told, with its message.
-fn explained(alloc: Global, source: &str, told: &Told<'_>) -> Result<Explanation, AllocError> {
-    let message = message_of(alloc, source, told)?;
+    let message = message_of(alloc, source, &told)?;
     Ok(Explanation {
         left: told.from.len(),
         message,
     })
 }
 
-/// What is told of a fault in a piece, where that takes no number.
+/// What is told of a fault in a piece.
 fn told_of<'s>(
     alloc: Global,
     language: &'s Language,
@@ -64,12 +56,18 @@ fn told_of<'s>(
     match fault.kind {
         FaultKind::UnknownTag => unknown_tag(alloc, language, outline, piece.name),
         FaultKind::UnknownFilter => unknown_filter(alloc, &language.filters, piece, outline.at),
+        FaultKind::FilterArguments => miscounted(alloc, &language.filters, piece, outline.at),
         FaultKind::MissingEnd => Ok(missing_end(fault, outline, piece.name)),
         FaultKind::TooNested => Ok(too_nested(outline.from)),
         FaultKind::Expected if fault.left == outline.at.len() => {
             Ok(misplaced(language, fault, piece))
         }
-        _ => Ok(unread(fault, outline, piece)),
+        FaultKind::Unclosed
+        | FaultKind::BadItem
+        | FaultKind::NumberLiteral
+        | FaultKind::FloatLiteral
+        | FaultKind::StateWord
+        | FaultKind::Expected => Ok(unread(fault, outline, piece)),
     }
 }
 

@@ -9,6 +9,8 @@ use Rattle.liquid_model.specs.ErrorKinds.{IsKindOrMemory, is_memory, is_refusal}
 use Rattle.liquid_model.specs.Data.{Datum}
 use Rattle.liquid_model.specs.declared.error.Error.{Error}
 use Rattle.liquid_model.specs.declared.error.ErrorKind.{ErrorKind}
+use Rattle.liquid_model.specs.declared.value.Value.{Value}
+use Rattle.liquid_model.specs.View.{view}
 use Rattle.liquid_model.specs.Fallible.{◌>>=◌}
 use Rattle.liquid_core.specs.Expression as tree
 use Rattle.liquid_core.specs.Environment.{Environment}
@@ -130,43 +132,7 @@ one_argument_faulted f e xs x kind h is v = arguments_stop f (all_required (map 
 
 -- ---- calls
 
-next_call : {X : Type 0} (f : X → Call) (e : Environment) (xs : List X) (i : ℕ) (x : X) (d : Datum) → i < length xs → x ≡ get_or xs i x
-    → applied (map f (drop i xs)) d e
-    ≡ (all_required (f x).arguments e >>= (λ ds. (f x).answers d ds >>= (λ answer. applied (map f (drop (i + 1) xs)) answer e)))
-unfolding applied
-next_call f e xs i x d h is = ap (λ y. applied (map f y) d e) (drop_more xs i x h ∙ ap (λ y. y ∷ drop (i + 1) xs) (sym is))
-
-pub calls_more : {X : Type 0} (f : X → Call) (all : Result Datum ErrorKind) (e : Environment) (xs : List X) (i : ℕ) (x : X) (d answer : Datum) (ds : List Datum)
-    → i < length xs → x ≡ get_or xs i x → all_required (f x).arguments e ≡ Ok ds → (f x).answers d ds ≡ Ok answer
-    → all ≡ applied (map f (drop i xs)) d e → all ≡ applied (map f (drop (i + 1) xs)) answer e
-calls_more f all e xs i x d answer ds h is a b so_far =
-    so_far ∙ next_call f e xs i x d h is
-    ∙ ap (λ r. r >>= (λ es. (f x).answers d es >>= (λ y. applied (map f (drop (i + 1) xs)) y e))) a
-    ∙ ap (λ r. r >>= (λ y. applied (map f (drop (i + 1) xs)) y e)) b
-
--- an argument's fault
-pub calls_stop_at_argument : {X : Type 0} (f : X → Call) (all : Result Datum ErrorKind) (e : Environment) (xs : List X) (i : ℕ) (x : X) (d : Datum) (kind : ErrorKind)
-    → i < length xs → x ≡ get_or xs i x → Faulted kind (all_required (f x).arguments e)
-    → all ≡ applied (map f (drop i xs)) d e → Faulted kind all
-calls_stop_at_argument f all e xs i x d kind h is a so_far =
-    faulted_as kind all _ (so_far ∙ next_call f e xs i x d h is)
-    (faulted_then kind (all_required (f x).arguments e) (λ ds. (f x).answers d ds >>= (λ y. applied (map f (drop (i + 1) xs)) y e)) a)
-
--- a filter's fault
-pub calls_stop : {X : Type 0} (f : X → Call) (all : Result Datum ErrorKind) (e : Environment) (xs : List X) (i : ℕ) (x : X) (d : Datum) (ds : List Datum) (kind : ErrorKind)
-    → i < length xs → x ≡ get_or xs i x → all_required (f x).arguments e ≡ Ok ds
-    → all ≡ applied (map f (drop i xs)) d e → (f x).answers d ds ≡ Err kind → all ≡ Err kind
-calls_stop f all e xs i x d ds kind h is a so_far b =
-    so_far ∙ next_call f e xs i x d h is ∙ ap (λ r. r >>= (λ es. (f x).answers d es >>= (λ y. applied (map f (drop (i + 1) xs)) y e))) a
-    ∙ ap (λ r. r >>= (λ y. applied (map f (drop (i + 1) xs)) y e)) b
-
-pub calls_end : {X : Type 0} (f : X → Call) (all : Result Datum ErrorKind) (e : Environment) (xs : List X) (i : ℕ) (d : Datum) → length xs ≤ i
-    → all ≡ applied (map f (drop i xs)) d e → all ≡ Ok d
-unfolding applied
-calls_end f all e xs i d h so_far = so_far ∙ ap (λ y. applied (map f y) d e) (drop_all i xs h)
-
--- ---- a stored chain, of which each filter is applied alone
-
+-- a call whose filter is no more than applied to its arguments, and what is done with the answer
 alone : (r : Result (List Datum) ErrorKind) (answers : Datum → List Datum → Result Datum ErrorKind) (d : Datum) (k : Datum → Result Datum ErrorKind)
     → (r >>= (λ ds. answers d ds >>= k)) ≡ ((r >>= (λ ds. answers d ds >>= (λ y. Ok y))) >>= k)
 alone (Err kind) answers d k = refl
@@ -175,6 +141,50 @@ alone (Ok ds) answers d k = on (answers d ds)
     on : (a : Result Datum ErrorKind) → (a >>= k) ≡ ((a >>= (λ y. Ok y)) >>= k)
     on (Ok y) = refl
     on (Err kind) = refl
+
+-- one call, once its arguments have values
+pub one_call : (within : Bool) (call : Call) (e : Environment) (d : Datum) (ds : List Datum) (r : Result Value Error) → all_required call.arguments e ≡ Ok ds
+    → AnswersIf within view r (call.answers d ds) → AnswersIf within view r (applied (call ∷ []) d e)
+unfolding applied
+one_call within call e d ds r values h =
+    subst (λ wanted. AnswersIf within view r wanted) (as_it_is (call.answers d ds) ∙ ap (λ given. given >>= (λ es. call.answers d es >>= (λ y. Ok y))) (sym values)) h
+  where
+    as_it_is : (a : Result Datum ErrorKind) → a ≡ (a >>= (λ y. Ok y))
+    as_it_is (Ok y) = refl
+    as_it_is (Err kind) = refl
+
+-- and where one of them has none
+pub one_call_faulted : (within : Bool) (call : Call) (e : Environment) (d : Datum) (fault : Error) → Faulted fault.kind (all_required call.arguments e)
+    → AnswersIf within view (Err fault) (applied (call ∷ []) d e)
+unfolding applied
+one_call_faulted within call e d fault h =
+    answers_if {X = Value} within view (Err fault) (applied (call ∷ []) d e) (faulted_then fault.kind (all_required call.arguments e) (λ ds. call.answers d ds >>= (λ y. Ok y)) h)
+
+next_call : {X : Type 0} (f : X → Call) (e : Environment) (xs : List X) (i : ℕ) (x : X) (d : Datum) → i < length xs → x ≡ get_or xs i x
+    → applied (map f (drop i xs)) d e ≡ (applied (f x ∷ []) d e >>= (λ y. applied (map f (drop (i + 1) xs)) y e))
+unfolding applied
+next_call f e xs i x d h is =
+    ap (λ y. applied (map f y) d e) (drop_more xs i x h ∙ ap (λ y. y ∷ drop (i + 1) xs) (sym is))
+    ∙ alone (all_required (f x).arguments e) (f x).answers d (λ y. applied (map f (drop (i + 1) xs)) y e)
+
+pub calls_more : {X : Type 0} (f : X → Call) (all : Result Datum ErrorKind) (e : Environment) (xs : List X) (i : ℕ) (x : X) (d answer : Datum)
+    → i < length xs → x ≡ get_or xs i x → applied (f x ∷ []) d e ≡ Ok answer
+    → all ≡ applied (map f (drop i xs)) d e → all ≡ applied (map f (drop (i + 1) xs)) answer e
+calls_more f all e xs i x d answer h is a so_far =
+    so_far ∙ next_call f e xs i x d h is ∙ ap (λ r. r >>= (λ y. applied (map f (drop (i + 1) xs)) y e)) a
+
+-- an argument's fault, or a filter's
+pub calls_stop : {X : Type 0} (f : X → Call) (all : Result Datum ErrorKind) (e : Environment) (xs : List X) (i : ℕ) (x : X) (d : Datum) (kind : ErrorKind)
+    → i < length xs → x ≡ get_or xs i x → all ≡ applied (map f (drop i xs)) d e → applied (f x ∷ []) d e ≡ Err kind → all ≡ Err kind
+calls_stop f all e xs i x d kind h is so_far a =
+    so_far ∙ next_call f e xs i x d h is ∙ ap (λ r. r >>= (λ y. applied (map f (drop (i + 1) xs)) y e)) a
+
+pub calls_end : {X : Type 0} (f : X → Call) (all : Result Datum ErrorKind) (e : Environment) (xs : List X) (i : ℕ) (d : Datum) → length xs ≤ i
+    → all ≡ applied (map f (drop i xs)) d e → all ≡ Ok d
+unfolding applied
+calls_end f all e xs i d h so_far = so_far ∙ ap (λ y. applied (map f y) d e) (drop_all i xs h)
+
+-- ---- a stored chain, of which each filter is applied alone
 
 next_filter : {X : Type 0} (answers : FilterAnswers) (f : X → FilterCall) (e : Environment) (xs : List X) (i : ℕ) (x : X) (d : Datum) → i < length xs → x ≡ get_or xs i x
     → applied (calls_by answers (map f (drop i xs))) d e ≡ (applied (call_by answers (f x) ∷ []) d e >>= (λ y. applied (calls_by answers (map f (drop (i + 1) xs))) y e))

@@ -55,11 +55,11 @@ count_past : (t : Bool) (a b : ℤ) (i : ℕ) → int_le a b ≡ t → cond t (s
 count_past true a b i e h = omega (arith, ints)
 count_past false a b i e h = omega (arith, ints)
 
-here : (t : Bool) (a b : ℤ) (i : ℕ) → int_le (a +ℤ pos i) b ≡ t → (a +ℤ pos i) ≤ℤ b → cond t (number (a +ℤ pos i)) nil ≡ number (a +ℤ pos i)
+pub here : (t : Bool) (a b : ℤ) (i : ℕ) → int_le (a +ℤ pos i) b ≡ t → (a +ℤ pos i) ≤ℤ b → cond t (number (a +ℤ pos i)) nil ≡ number (a +ℤ pos i)
 here true a b i e h = refl
 here false a b i e h = absurd (omega (arith, ints))
 
-beyond : (t : Bool) (a b : ℤ) (i : ℕ) → int_le (a +ℤ pos i) b ≡ t → b <ℤ (a +ℤ pos i) → cond t (number (a +ℤ pos i)) nil ≡ nil
+pub beyond : (t : Bool) (a b : ℤ) (i : ℕ) → int_le (a +ℤ pos i) b ≡ t → b <ℤ (a +ℤ pos i) → cond t (number (a +ℤ pos i)) nil ≡ nil
 beyond true a b i e h = absurd (omega (arith, ints))
 beyond false a b i e h = refl
 

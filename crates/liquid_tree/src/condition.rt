@@ -2,13 +2,16 @@
 ghost use Rattle.std.specs.Prelude.{◌≡◌, Some, map};
 ghost use Rattle.std.specs.Fmt.{WritesOnOk};
 ghost use Rattle.liquid_model.specs.Answer.{Answers};
+ghost use Rattle.liquid_model.specs.View.{view};
+ghost use Rattle.liquid_core.specs.ExpressionView.{expression_view};
 ghost use Rattle.liquid_core.specs.States.{environment_of};
 ghost use Rattle.liquid_tree.specs.ConditionView.{atom_view, atoms_view, condition_view};
 ghost use Rattle.liquid_tree.specs.Evaluation.{atom_truth, all_true, truth_of};
 ghost use Rattle.liquid_tree.specs.WrittenConditions.{written_atom, written_conjunction, written_condition};
+ghost use Rattle.liquid_tree.specs.inside.Comparisons.{truth_beside};
 
 use crate::comparison::ComparisonOperator;
-use liquid_core::{Expression, Result, State};
+use liquid_core::{Expression, Result, State, Value};
 use std::alloc::Global;
 use std::fmt;
 use std::fmt::{Formatter, Write};
@@ -77,11 +80,28 @@ impl Atom {
             },
             Atom::Compared(left, operator, right) => {
                 let left = left.evaluate(alloc, state)?;
-                let right = right.evaluate(alloc, state)?;
-                Ok(operator.holds(alloc, left.as_value(), right.as_value())?)
+                let held = holds_beside(alloc, left.as_value(), *operator, right, state);
+                drop(left);
+                held
             }
         }
     }
+}
+
+/// Whether the left value compares so with the value of the right expression.
+fn holds_beside(
+    alloc: Global,
+    left: &Value,
+    operator: ComparisonOperator,
+    right: &Expression,
+    state: &State<'_>,
+) -> Result<bool>
+    ensures { Answers (λ b. b) result (truth_beside (view left.now) operator (expression_view right.now) (environment_of state.now)) }
+{
+    let right = right.evaluate(alloc, state)?;
+    let held = operator.holds(alloc, left, right.as_value());
+    drop(right);
+    held
 }
 
 /// The conjunctions with ` or ` between them.

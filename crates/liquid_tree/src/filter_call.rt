@@ -1,5 +1,5 @@
 //! Filters in order, for filters of any type.
-ghost use Rattle.std.specs.Prelude.{length, map, All, IsTrue};
+ghost use Rattle.std.specs.Prelude.{[], ◌∷◌, length, map, All, IsTrue};
 ghost use Rattle.std.specs.List.{list_all};
 ghost use Rattle.liquid_model.specs.Cow.{cow_view};
 ghost use Rattle.liquid_core.specs.FilterAnswers.{AnswersIf};
@@ -48,11 +48,24 @@ pub fn apply_to<'v, F: Filter>(
 {
     let mut value = entry;
     for call in calls {
-        let arguments = evaluate_all(alloc, call.args, state)?;
-        value = ValueCow::Owned(
-            call.filter
-                .evaluate(alloc, value.as_value(), arguments.as_slice())?,
-        );
+        value = ValueCow::Owned(apply_one(alloc, value.as_value(), call, state)?);
     }
     Ok(value)
+}
+
+/// `apply_filters` of one call, over a value that is lent.
+fn apply_one<F: Filter>(
+    alloc: Global,
+    input: &Value,
+    call: &FilterCall<'_, F>,
+    state: &State<'_>,
+) -> Result<Value>
+    requires { IsTrue (F.counts call.now.filter (length call.now.args.now)) }
+    ensures { AnswersIf (F.within call.now.filter) view result
+        (applied (call_of (F.answer call.now.filter) call.now.args.now ∷ []) (view input.now) (environment_of state.now)) }
+{
+    let arguments = evaluate_all(alloc, call.args, state)?;
+    let answer = call.filter.evaluate(alloc, input, arguments.as_slice());
+    drop(arguments);
+    answer
 }

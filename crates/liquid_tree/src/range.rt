@@ -174,10 +174,9 @@ fn pair_at(alloc: Global, pairs: &Object, place: usize) -> Result<Value>
 pub(crate) fn pair(alloc: Global, key: &str, value: &Value) -> Result<Value>
     ensures { IsValueOrMemory view result (array (item (text key.now) (item (view value.now) no_items))) }
 {
-    let mut items = Vec::with_capacity(alloc, 2)?;
-    items.push(Value::Text(String::from_str(alloc, key)?))?;
-    items.push(value.copy(alloc)?)?;
-    Ok(Value::Array(items))
+    let key = Value::Text(String::from_str(alloc, key)?);
+    let value = value.copy(alloc)?;
+    Ok(Value::Array(vec![in alloc; key, value]?))
 }
 
 // ---- the numbers of a range

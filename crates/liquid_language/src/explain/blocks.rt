@@ -61,15 +61,14 @@ fn block_without_end<'s>(opener: &Opener<'s>) -> Told<'s> {
 /// An end of another block than the innermost, or of none.
 fn wrong_end<'s>(outline: &Outline<'s>, name: &'s str) -> Told<'s> {
     match outline.open.last() {
-        Some(opener) => Told {
-            from: outline.at,
-            words: "found `{% … %}` where `{% ¤ %}` is wanted, the end of the `{% … %}` of §",
-            first: name,
-            second: end_tag(opener.block),
-            third: opener.name,
-            then: "",
-            other: opener.from,
-        },
+        Some(opener) => {
+            let words = "found `{% … %}` where `{% ¤ %}` is wanted, the end of the `{% … %}` of §";
+            Told {
+                third: opener.name,
+                other: opener.from,
+                ..Told::quoting(outline.at, words, name, end_tag(opener.block))
+            }
+        }
         None => {
             let words = "found `{% … %}`, and no block is open here that ends";
             Told::quoting(outline.at, words, name, "")
@@ -99,13 +98,9 @@ fn strange_control<'s>(at: &'s str, opener: &Opener<'s>, name: &'s str) -> Told<
         "found `{% ¤ %}`, which the `{% … %}` of § can't have; is its `{% ¤ %}` missing?"
     };
     Told {
-        from: at,
-        words,
-        first: name,
-        second: opener.name,
         third: end_tag(opener.block),
-        then: "",
         other: opener.from,
+        ..Told::quoting(at, words, name, opener.name)
     }
 }
 
@@ -116,14 +111,11 @@ fn behind_else<'s>(at: &'s str, otherwise: Otherwise<'s>, name: &'s str) -> Told
     } else {
         ""
     };
+    let words = "found `{% ¤ %}` behind the `else` of §, which comes last";
     Told {
-        from: at,
-        words: "found `{% ¤ %}` behind the `else` of §, which comes last",
-        first: name,
-        second: "",
-        third: "",
         then,
         other: otherwise.from,
+        ..Told::quoting(at, words, name, "")
     }
 }
 

@@ -2,7 +2,6 @@
 use super::names::{lacking_filter, meant_filter};
 use super::near::nearest;
 use super::told::Told;
-use super::{Explanation, explained};
 use crate::registered_filter::{FilterRegistry, RegisteredFilter};
 use liquid_source::{Item, PlacedItem, PlacedPiece, Symbol};
 use std::alloc::{AllocError, Global};
@@ -84,75 +83,63 @@ fn near_filter<'s>(
 }
 
 /// Of the first filter that doesn't take the number of its arguments.
-pub fn miscounted(
+pub fn miscounted<'s>(
     alloc: Global,
     filters: &FilterRegistry,
-    piece: &PlacedPiece<'_>,
-    at: &str,
-) -> Result<Explanation, AllocError> {
+    piece: &PlacedPiece<'s>,
+    at: &'s str,
+) -> Result<Told<'s>, AllocError> {
     let calls = calls(alloc, &piece.items)?;
-    match refused(filters, &calls) {
-        Some((call, filter)) => miscount(alloc, &call, bounds(filter)),
-        None => {
-            let told = Told::plain(at, "a filter takes another number of arguments");
-            explained(alloc, "", &told)
-        }
-    }
+    Ok(match refused(filters, &calls) {
+        Some((call, filter)) => miscount(&call, bounds(filter)),
+        None => Told::plain(at, "a filter takes another number of arguments"),
+    })
 }
 
 /// Of a filter that takes a least and a greatest number of arguments, and other ones are given, or without a `:`.
-fn miscount(
-    alloc: Global,
-    call: &Call<'_>,
-    bounds: (usize, usize),
-) -> Result<Explanation, AllocError> {
-    let takes = takes(alloc, bounds, taken(call))?;
-    let given = given(alloc, call.arguments)?;
-    let told = Told {
-        third: given.as_str(),
-        ..Told::quoting(call.from, miscount_words(call), call.name, takes.as_str())
-    };
-    // these words name no other place
-    explained(alloc, "", &told)
+fn miscount<'s>(call: &Call<'s>, (least, most): (usize, usize)) -> Told<'s> {
+    let count = taken(call);
+    let bound = if count > most { most } else { least };
+    let noun = if bound == 1 { "argument" } else { "arguments" };
+    let words = words_of_bounds(least, most, count);
+    Told {
+        numbers: (bound, call.arguments),
+        then: words_of_given(call),
+        ..Told::quoting(call.from, words, call.name, noun)
+    }
 }
 
-/// The words for how many arguments a filter takes and how many are given.
-fn miscount_words(call: &Call<'_>) -> &'static str {
+/// The words for how many arguments a filter takes that takes so many at least and at most, but not this count.
+fn words_of_bounds(least: usize, most: usize, count: usize) -> &'static str {
+    if most == 0 {
+        "`…` takes no argument"
+    } else if least == most {
+        "`…` takes ¹ ¤"
+    } else if count > most {
+        "`…` takes at most ¹ ¤"
+    } else {
+        "`…` takes at least ¹ ¤"
+    }
+}
+
+/// The words for the arguments that a filter is given.
+fn words_of_given(call: &Call<'_>) -> &'static str {
     if !call.has_colon && call.arguments > 0 {
-        return "`…` takes ¤, behind a `:`";
+        return ", behind a `:`";
     }
-    if call.names_arguments {
-        return "`…` takes ¤, and ¤; arguments have no names here";
+    match (call.arguments, call.names_arguments) {
+        (0, false) => ", and none is given",
+        (1, false) => ", and 1 is given",
+        (_, false) => ", and ² are given",
+        (0, true) => ", and none is given; arguments have no names here",
+        (1, true) => ", and 1 is given; arguments have no names here",
+        (_, true) => ", and ² are given; arguments have no names here",
     }
-    "`…` takes ¤, and ¤"
 }
 
 /// How many arguments a filter is given: none without a `:`.
 fn taken(call: &Call<'_>) -> usize {
     if call.has_colon { call.arguments } else { 0 }
-}
-
-/// How many arguments a filter takes that takes so many at least and at most, but not this count.
-fn takes(alloc: Global, (least, most): (usize, usize), count: usize) -> Result<String, AllocError> {
-    if most == 0 {
-        return String::from_str(alloc, "no argument");
-    }
-    let bound = if count > most { most } else { least };
-    let word = match (least == most, count > most) {
-        (true, _) => "",
-        (false, true) => "at most ",
-        (false, false) => "at least ",
-    };
-    let noun = if bound == 1 { "argument" } else { "arguments" };
-    format!(in alloc; "{word}{bound} {noun}")
-}
-
-fn given(alloc: Global, count: usize) -> Result<String, AllocError> {
-    match count {
-        0 => String::from_str(alloc, "none is given"),
-        1 => String::from_str(alloc, "1 is given"),
-        _ => format!(in alloc; "{count} are given"),
-    }
 }
 
 /// The least and the greatest number of arguments that a filter takes.

@@ -4,7 +4,7 @@ use std::alloc::{AllocError, Global};
 use std::fmt::Write;
 
 /// What is told of a place of a source. In the words `…` stands for a text that is quoted as an `excerpt`, `¤` for a text as
-/// it is, and `§` for another place, as `line 2, column 3`.
+/// it is, `¹` and `²` for the numbers, and `§` for another place, as `line 2, column 3`.
 #[derive(Clone, Copy)]
 pub struct Told<'s> {
     /// The source from the place on.
@@ -14,6 +14,8 @@ pub struct Told<'s> {
     pub first: &'s str,
     pub second: &'s str,
     pub third: &'s str,
+    /// The numbers that stand in the words.
+    pub numbers: (usize, usize),
     /// The words behind these, in which no text stands.
     pub then: &'static str,
     /// The source from the other place on.
@@ -39,6 +41,7 @@ impl<'s> Told<'s> {
             first,
             second,
             third: "",
+            numbers: (0, 0),
             then: "",
             other: "",
         }
@@ -61,6 +64,8 @@ pub fn message_of(alloc: Global, source: &str, told: &Told<'_>) -> Result<String
     for sign in told.words.chars().chain(told.then.chars()) {
         match sign {
             '§' => push_place(&mut message, source, told.other)?,
+            '¹' => push_number(&mut message, told.numbers.0)?,
+            '²' => push_number(&mut message, told.numbers.1)?,
             '…' | '¤' => {
                 push_text(alloc, &mut message, sign, told.text(count))?;
                 count = count.saturating_add(1);
@@ -83,6 +88,10 @@ fn push_text(
     }
     let quoted = excerpt(alloc, text)?;
     message.push_str(quoted.as_str())
+}
+
+fn push_number(message: &mut String, number: usize) -> Result<(), AllocError> {
+    write!(message, "{number}")
 }
 
 /// Adds where the source from a place on begins.

@@ -138,14 +138,15 @@ fn in_value<'s>(spot: &Spot<'s>, at: &'s str, value: &'s str) -> Option<Told<'s>
 
 /// Of a piece that the end of the source cuts off.
 fn at_end<'s>(spot: &Spot<'s>, at: &'s str) -> Told<'s> {
+    let words = "the source ends here, and the `¤` of § has no `¤`";
     Told {
-        from: spot.rest,
-        words: "the source ends here, and the `¤` of § has no `¤`",
-        first: opener_word(spot.kind),
-        second: closer_word(spot.kind),
-        third: "",
-        then: "",
         other: at,
+        ..Told::quoting(
+            spot.rest,
+            words,
+            opener_word(spot.kind),
+            closer_word(spot.kind),
+        )
     }
 }
 

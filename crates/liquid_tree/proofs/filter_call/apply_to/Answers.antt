@@ -1,4 +1,4 @@
-use Rattle.std.proofs.Common.{Bool, Ok, Err, ap, sym, ◌∙◌}
+use Rattle.std.proofs.Common.{Bool, Ok, Err, ap}
 use Rattle.std.specs.List.{list_all}
 use Rattle.std.proofs.lemmas.Result.{err_from_is_err_and}
 use Rattle.liquid_model.specs.Cow.{cow_view}
@@ -7,42 +7,27 @@ use Rattle.liquid_model.specs.View.{view}
 use Rattle.liquid_model.specs.declared.cow.ValueCow.{ValueCow}
 use Rattle.liquid_model.specs.declared.value.Value.{Value}
 use Rattle.liquid_tree.specs.Calls.{Call, call_of}
-use Rattle.liquid_tree.specs.inside.Arguments.{arguments_view}
 use Rattle.liquid_tree.specs.declared.filter_call.FilterCall.{FilterCall}
-use Rattle.liquid_tree.proofs.Calls.{answers_if, if_answered, faulted_if, all_within, calls_more, calls_stop_at_argument, calls_stop, calls_end}
+use Rattle.liquid_tree.proofs.Calls.{answers_if, if_answered, faulted_if, all_within, calls_more, calls_stop, calls_end}
 use Rattle.liquid_tree.proofs.filter_call.apply_to.Goals as goal
 
-pub returns-in_err-arguments : goal.returns-in_err-arguments
-returns-in_err-arguments g c =
+pub returns-in_err-apply_one : goal.returns-in_err-apply_one
+returns-in_err-apply_one g c =
     let p = err_from_is_err_and c.from_residual.result c.from_residual.ensures.1 in
     let f : FilterCall g.row.F.Denot → Call = λ call. call_of (g.F.Filter.answer call.filter) call.args.now in
-    rw p.1 (answers_if {X = ValueCow} (list_all (λ call. g.F.Filter.within call.filter) c.args.calls.now) cow_view (Err p.0) _
-    (rw p.2 (calls_stop_at_argument f _ (environment_of c.args.state.now) c.args.calls.now c.loop-call.call-index c.call-item.result (cow_view c.loop-call.value) c.in_err-arguments.field-0.0.kind
-    c.loop-call-test.true c.call-item.is c.in_err-arguments.ensures.values c.loop-call.invariant)))
-
-pub returns-in_err-evaluate : goal.returns-in_err-evaluate
-returns-in_err-evaluate g c =
-    let p = err_from_is_err_and c.from_residual-in_err-evaluate.result c.from_residual-in_err-evaluate.ensures.1 in
-    let f : FilterCall g.row.F.Denot → Call = λ call. call_of (g.F.Filter.answer call.filter) call.args.now in
-    let answer = g.F.Filter.answer c.call-item.result.filter in
-    let arguments = arguments_view c.in_ok-arguments.arguments in
     let within : FilterCall g.row.F.Denot → Bool = λ call. g.F.Filter.within call.filter in
-    let as_called = ap (λ d. answer d arguments) (sym c.as_value.ensures) ∙ ap (answer (view c.as_value.result.now)) (sym c.as_slice.ensures) in
-    rw p.1 (faulted_if {V = Value} {W = ValueCow} view cow_view (within c.call-item.result) (list_all within c.args.calls.now) c.in_err-evaluate.field-0.0 p.0 _ _
+    rw p.1 (faulted_if {V = Value} {W = ValueCow} view cow_view (within c.call-item.result) (list_all within c.args.calls.now) c.in_err-apply_one.field-0.0 p.0 _ _
     (all_within within c.args.calls.now c.loop-call.call-index c.call-item.result c.loop-call-test.true c.call-item.is)
-    (λ told. calls_stop f _ (environment_of c.args.state.now) c.args.calls.now c.loop-call.call-index c.call-item.result (cow_view c.loop-call.value) arguments c.in_err-evaluate.field-0.0.kind
-    c.loop-call-test.true c.call-item.is c.in_ok-arguments.ensures.values c.loop-call.invariant (as_called ∙ told))
-    (ap (λ fault. fault.kind) p.2) c.in_err-evaluate.ensures)
+    (calls_stop f _ (environment_of c.args.state.now) c.args.calls.now c.loop-call.call-index c.call-item.result (cow_view c.loop-call.value) c.in_err-apply_one.field-0.0.kind
+    c.loop-call-test.true c.call-item.is c.loop-call.invariant)
+    (ap (λ fault. fault.kind) p.2) (rw c.as_value.ensures at c.in_err-apply_one.ensures))
 
 pub loop-call-preserved : goal.loop-call-preserved
 loop-call-preserved g c =
     let f : FilterCall g.row.F.Denot → Call = λ call. call_of (g.F.Filter.answer call.filter) call.args.now in
-    let answer = g.F.Filter.answer c.call-item.result.filter in
-    let arguments = arguments_view c.in_ok-arguments.arguments in
-    calls_more f _ (environment_of c.args.state.now) c.args.calls.now c.loop-call.call-index c.call-item.result (cow_view c.loop-call.value) (view c.in_ok-evaluate.field-0) arguments
-    c.loop-call-test.true c.call-item.is c.in_ok-arguments.ensures.values
-    (ap (λ d. answer d arguments) (sym c.as_value.ensures) ∙ ap (answer (view c.as_value.result.now)) (sym c.as_slice.ensures)
-    ∙ if_answered (g.F.Filter.within c.call-item.result.filter) view c.in_ok-evaluate.field-0 _ c.in_ok-evaluate.ensures)
+    calls_more f _ (environment_of c.args.state.now) c.args.calls.now c.loop-call.call-index c.call-item.result (cow_view c.loop-call.value) (view c.in_ok-apply_one.field-0)
+    c.loop-call-test.true c.call-item.is
+    (if_answered (g.F.Filter.within c.call-item.result.filter) view c.in_ok-apply_one.field-0 _ (rw c.as_value.ensures at c.in_ok-apply_one.ensures))
     c.loop-call.invariant
 
 pub returns : goal.returns
