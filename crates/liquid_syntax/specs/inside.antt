@@ -5,4 +5,5 @@ pub mod Classifies
 pub mod ConditionAnswers
 pub mod Mentions
 pub mod NameVisitors
+pub mod PartialAnswers
 pub mod ValueAnswers
