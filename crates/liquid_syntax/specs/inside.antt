@@ -6,4 +6,5 @@ pub mod ConditionAnswers
 pub mod Mentions
 pub mod NameVisitors
 pub mod PartialAnswers
+pub mod TemplateReading
 pub mod ValueAnswers
