@@ -201,12 +201,6 @@ no_part_more k ps ts e = ap (option_map (settled ps)) (end_turn (part_first k) i
 pub no_part_there : (k : LoopKind) (ps : Parts) (ts : List Token) → is_nothing ts ≡ false → part_first k ts ≡ None → settled_of k ps ts ≡ None
 no_part_there k ps ts e h = ap (option_map (settled ps)) (stuck_turn (part_first k) is_nothing (part_shorter k) ts e h)
 
-pub loop_step : (k : LoopKind) (w v : Text) (s r : Source) (ps qs : Parts) (ts rest : List Token) (p : Part) (whole : Option Head) → whole ≡ option_map (head_with w s) (settled_of k ps ts) → is_nothing ts ≡ false → part_first k ts ≡ Some (p, rest)
-    → qs ≡ with_part ps p → v ≡ w → r ≡ s → whole ≡ option_map (head_with v r) (settled_of k qs rest)
-loop_step k w v s r ps qs ts rest p whole h e f g a b =
-    h ∙ ap (option_map (head_with w s)) (one_part_more k ps ts p rest e f) ∙ ap (λ (ps : Parts). option_map (head_with w s) (settled_of k ps rest)) (sym g)
-    ∙ ap (λ (w : Text). option_map (head_with w s) (settled_of k qs rest)) (sym a) ∙ ap (λ (s : Source). option_map (head_with v s) (settled_of k qs rest)) (sym b)
-
 -- no item is left just where no token is
 pub nothing_seen : (is : List Item) (b : Bool) → nat_eq (length is) 0 ≡ b → is_nothing (tokens_view is) ≡ b
 nothing_seen [] b h = let e : nat_eq 0 0 ≡ true = refl in sym e ∙ h

@@ -19,11 +19,11 @@ use Rattle.liquid_language.specs.declared.language.BlockKind.TheVariants as bloc
 use Rattle.liquid_syntax.specs.Nesting.{Opening, Statement, leaf, closed, begins, elsif, arm, otherwise, ends, refused}
 use Rattle.liquid_syntax.specs.OpenBlocks.{Level, level, State, begun, depth, context_of, step, at_end, with_node}
 use Rattle.liquid_syntax.specs.Parsing.{ReadsTo}
-use Rattle.liquid_syntax.proofs.TemplateReading.{body_of, piece_step, template_at}
+use Rattle.liquid_syntax.specs.inside.TemplateReading.{begun_with, body_of, piece_step, template_at, whole_at}
 use Rattle.liquid_source.specs.Pieces as pieces
 use Rattle.liquid_source.specs.Pieces.{Piece, stripped}
 use Rattle.liquid_source.specs.Readers.{Fails}
-use Rattle.liquid_source.specs.SourceReading.{Markup, markup_at, body_at, wanted_body, text_step, source_at}
+use Rattle.liquid_source.specs.SourceReading.{Markup, markup_at, text_step, source_at}
 use Rattle.liquid_syntax.specs.Templates.{tree_of}
 use Rattle.liquid_tree.specs.Tree.{Node, Nodes, no_nodes, Whens}
 use Rattle.liquid_source.specs.ValueReading.{past_byte, text_at}
@@ -37,10 +37,6 @@ use Rattle.liquid_syntax.specs.declared.template.Template.{Template}
 use Rattle.liquid_source.proofs.SourceTurns.{last_turn, no_markup, no_body, no_step, next_turn, turn_shorter}
 use Rattle.liquid_syntax.proofs.TemplateLaws.{only_tree, no_tree}
 
--- the tree, where the source ends in this state
-abbrev pub tree_in : Option State → Option Nodes
-tree_in o = option_and_then (λ s. at_end s.0 s.1) o
-
 pub fails_by : {X Y : Type 0} (e : ParseError) (o : Option X) (p : Option Y) → (o ≡ None → p ≡ None) → Fails e o → Fails e p
 fails_by errors.Memory o p f h = tt
 fails_by (errors.Fault g) o p f h = f h
@@ -52,9 +48,32 @@ pub statement_refused : (e : ParseError) (l : Statement) (ls : List Level) (cur 
 statement_refused errors.Memory l ls cur h = tt
 statement_refused (errors.Fault f) l ls cur h = ap (λ (l : Statement). step l ls cur) h
 
-pub refused_all : (l : Language) (e : ParseError) (source : Text) → Fails e (template_at l source) → ReadsTo l source (Err e)
+refused_all : (l : Language) (e : ParseError) (source : Text) → Fails e (template_at l source) → ReadsTo l source (Err e)
 refused_all l errors.Memory source h = tt
 refused_all l (errors.Fault f) source h = no_tree l source h
+
+-- the state behind all pieces of the source
+abbrev pub all_of : Language → Text → Option State
+all_of l source = source_at (body_of l) (piece_step l) (length source) false begun_with source
+
+at_once : (l : Language) (source : Text) → template_at l source ≡ option_and_then (λ s. at_end s.0 s.1) (all_of l source)
+unfolding template_at
+at_once l source = refl
+
+-- a piece is refused, so the source is
+pub source_refused : (l : Language) (e : ParseError) (source : Text) → Fails e (all_of l source) → ReadsTo l source (Err e)
+source_refused l e source h = refused_all l e source (fails_by e (all_of l source) (template_at l source) (λ g. at_once l source ∙ ap (option_and_then (λ s. at_end s.0 s.1)) g) h)
+
+-- the template that the builder makes of the state behind all pieces
+pub source_read : (l : Language) (source : Text) (s : State) (r : Result Template ParseError) → all_of l source ≡ Some s → Finishes (at_end s.0 s.1) r → ReadsTo l source r
+source_read l source s (Ok t) e f = only_tree l (tree_of t) source (at_once l source ∙ ap (option_and_then (λ s. at_end s.0 s.1)) e ∙ f)
+source_read l source s (Err errors.Memory) e f = tt
+source_read l source s (Err (errors.Fault g)) e f = no_tree l source (at_once l source ∙ ap (option_and_then (λ s. at_end s.0 s.1)) e ∙ f)
+
+-- where a state was to come there is no fault
+pub taken_fails : {X : Type 0} (e : ParseError) (s : State) (o : Option X) → Fails e (Some s) → Fails e o
+taken_fails errors.Memory s o h = tt
+taken_fails (errors.Fault f) s o h = absurd cc
 
 -- where blocks nest as deep as they may, no block begins
 full : (n : ℕ) → nat_le 200 n ≡ true → nat_lt n 200 ≡ false
@@ -143,49 +162,44 @@ text_taken : (l : Language) (t : Text) (ls : List Level) (cur : Nodes) → text_
 text_taken l [] ls cur = refl
 text_taken l (b ∷ bs) ls cur = refl
 
-module _ (l : Language) (source rest t behind : Text) (n : ℕ) (front : Bool) (ls : List Level) (cur : Nodes)
-    (whole : template_at l source ≡ tree_in (source_at (body_of l) (piece_step l) n front (ls, cur) rest)) (cut : (t, behind) ≡ text_at rest) where
-  pub ended : (st : Text) (r : Result Template ParseError) → past_byte 123 behind ≡ None → st ≡ stripped front t false → Finishes (at_end ls (text_added st cur)) r → ReadsTo l source r
-  ended st (Ok v) none e f = only_tree l (tree_of v) source (at_last ∙ f)
-    where
-      at_last : template_at l source ≡ at_end ls (text_added st cur)
-      at_last =
-          whole ∙ ap tree_in (last_turn rest t behind cut (body_of l) (piece_step l) n front (ls, cur) none ∙ text_taken l (stripped front t false) ls cur)
-          ∙ ap (λ st. at_end ls (text_added st cur)) (sym e)
-  ended st (Err errors.Memory) none e f = tt
-  ended st (Err (errors.Fault g)) none e f = no_tree l source (at_last ∙ f)
-    where
-      at_last : template_at l source ≡ at_end ls (text_added st cur)
-      at_last =
-          whole ∙ ap tree_in (last_turn rest t behind cut (body_of l) (piece_step l) n front (ls, cur) none ∙ text_taken l (stripped front t false) ls cur)
-          ∙ ap (λ st. at_end ls (text_added st cur)) (sym e)
+-- ---- a piece, with the body behind it
+
+module _ (l : Language) (m : Markup × Text) (ls : List Level) (cur : Nodes) where
+  pub no_whole : (e : ParseError) → Fails e (whole_at l (ls, cur) m) → Fails e (option_and_then (λ v. piece_step l (ls, cur) v.0.piece) (whole_at l (ls, cur) m))
+  no_whole e h = fails_by e _ _ (λ g. ap (option_and_then (λ v. piece_step l (ls, cur) v.0.piece)) g) h
+
+  pub no_piece : (v : Markup × Text) → whole_at l (ls, cur) m ≡ Some v → (e : ParseError) → Fails e (step (reads l (context_of ls) v.0.piece) ls cur) → Fails e (option_and_then (λ v. piece_step l (ls, cur) v.0.piece) (whole_at l (ls, cur) m))
+  no_piece v is e h = fails_by e _ _ (λ g. ap (option_and_then (λ v. piece_step l (ls, cur) v.0.piece)) is ∙ g) h
+
+-- ---- a turn
+
+module _ (l : Language) (all : Option State) (rest t behind : Text) (n : ℕ) (front : Bool) (ls : List Level) (cur : Nodes)
+    (so_far : all ≡ source_at (body_of l) (piece_step l) n front (ls, cur) rest) (cut : (t, behind) ≡ text_at rest) where
+  pub last_text : (st : Text) → past_byte 123 behind ≡ None → st ≡ stripped front t false → all ≡ Some (ls, text_added st cur)
+  last_text st none e =
+      so_far ∙ last_turn rest t behind cut (body_of l) (piece_step l) n front (ls, cur) none ∙ text_taken l (stripped front t false) ls cur
+      ∙ ap (λ st. Some (ls, text_added st cur)) (sym e)
 
   module _ (inside : List ℕ) (is : Some inside ≡ past_byte 123 behind) where
-    pub markup_refused : (e : ParseError) → Fails e (markup_at inside) → ReadsTo l source (Err e)
-    markup_refused e h =
-        refused_all l e source (fails_by e (markup_at inside) (template_at l source)
-        (λ g. whole ∙ ap tree_in (no_markup rest t behind cut (body_of l) (piece_step l) n front (ls, cur) inside (sym is) g)) h)
+    pub markup_refused : (e : ParseError) → Fails e (markup_at inside) → Fails e all
+    markup_refused e h = fails_by e (markup_at inside) all (λ g. so_far ∙ no_markup rest t behind cut (body_of l) (piece_step l) n front (ls, cur) inside (sym is) g) h
 
     module _ (m : Markup × List ℕ) (found : markup_at inside ≡ Some m) (st : Text) (strip : st ≡ stripped front t m.0.before) where
       texted : text_step (piece_step l) (stripped front t m.0.before) (ls, cur) ≡ Some (ls, text_added st cur)
       texted = ap (λ t. text_step (piece_step l) t (ls, cur)) (sym strip) ∙ text_taken l st ls cur
 
-      -- a body without its end
-      pub body_refused : (e : ParseError) → Fails e (body_at (wanted_body (body_of l (ls, text_added st cur)) m.0.piece) m.0 m.1) → ReadsTo l source (Err e)
-      body_refused e h =
-          refused_all l e source (fails_by e (body_at (wanted_body (body_of l (ls, text_added st cur)) m.0.piece) m.0 m.1) (template_at l source)
-          (λ g. whole ∙ ap tree_in (no_body rest t behind cut (body_of l) (piece_step l) n front (ls, cur) inside (sym is) m found (ls, text_added st cur) texted g)) h)
+      refused_by : (o : Option (Markup × List ℕ)) → whole_at l (ls, text_added st cur) m ≡ o → option_and_then (λ v. piece_step l (ls, text_added st cur) v.0.piece) o ≡ None → all ≡ None
+      refused_by None e h = so_far ∙ no_body rest t behind cut (body_of l) (piece_step l) n front (ls, cur) inside (sym is) m found (ls, text_added st cur) texted e
+      refused_by (Some v) e h = so_far ∙ no_step rest t behind cut (body_of l) (piece_step l) n front (ls, cur) inside (sym is) m found (ls, text_added st cur) texted v e h
 
-      module _ (v : Markup × List ℕ) (closed : body_at (wanted_body (body_of l (ls, text_added st cur)) m.0.piece) m.0 m.1 ≡ Some v) where
-        pub piece_refused : (e : ParseError) → Fails e (step (reads l (context_of ls) v.0.piece) ls (text_added st cur)) → ReadsTo l source (Err e)
-        piece_refused e h =
-            refused_all l e source (fails_by e (step (reads l (context_of ls) v.0.piece) ls (text_added st cur)) (template_at l source)
-            (λ g. whole ∙ ap tree_in (no_step rest t behind cut (body_of l) (piece_step l) n front (ls, cur) inside (sym is) m found (ls, text_added st cur) texted v closed g)) h)
+      -- a body without its end, or a piece that can't stand there
+      pub piece_refused : (e : ParseError) → Fails e (option_and_then (λ v. piece_step l (ls, text_added st cur) v.0.piece) (whole_at l (ls, text_added st cur) m)) → Fails e all
+      piece_refused e h = fails_by e _ all (λ g. refused_by (whole_at l (ls, text_added st cur) m) refl g) h
 
-        pub went_on : (s : State) → length rest ≤ n → step (reads l (context_of ls) v.0.piece) ls (text_added st cur) ≡ Some s
-            → template_at l source ≡ tree_in (source_at (body_of l) (piece_step l) (n - 1) v.0.after s v.1)
-        went_on s le g =
-            whole ∙ ap tree_in (next_turn rest t behind cut (body_of l) (piece_step l) n front (ls, cur) inside (sym is) m found (ls, text_added st cur) texted v closed le s g)
+      module _ (v : Markup × List ℕ) (closed : whole_at l (ls, text_added st cur) m ≡ Some v) where
+        pub went_on : (s : State) → length rest ≤ n → piece_step l (ls, text_added st cur) v.0.piece ≡ Some s
+            → all ≡ source_at (body_of l) (piece_step l) (n - 1) v.0.after s v.1
+        went_on s le g = so_far ∙ next_turn rest t behind cut (body_of l) (piece_step l) n front (ls, cur) inside (sym is) m found (ls, text_added st cur) texted v closed le s g
 
         pub went_shorter : length v.1 < length rest
         went_shorter = turn_shorter rest t behind cut (body_of l) (piece_step l) n front (ls, cur) inside (sym is) m found (ls, text_added st cur) texted v closed

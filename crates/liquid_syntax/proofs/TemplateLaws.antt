@@ -13,7 +13,7 @@ use Rattle.liquid_syntax.specs.OpenBlocks.{Level, State, context_of, step, at_en
 use Rattle.liquid_source.specs.Pieces.{Piece, text, output, tag, raw, comment}
 use Rattle.liquid_source.specs.SourceReading.{all_steps, source_at, TakesWanted}
 use Rattle.liquid_syntax.specs.Parsing.{IsTemplate, IsOnlyTree, HasNoTree}
-use Rattle.liquid_syntax.proofs.TemplateReading.{body_of, piece_step, begun_with, template_at}
+use Rattle.liquid_syntax.specs.inside.TemplateReading.{body_of, piece_step, begun_with, template_at}
 use Rattle.liquid_tree.specs.Tree.{Nodes, no_nodes}
 use Rattle.liquid_language.specs.declared.language.Language.{Language}
 use Rattle.liquid_syntax.specs.Statements.{IsStatement}

@@ -22,13 +22,15 @@ use Rattle.liquid_syntax.specs.ValueLists.{values_of}
 use Rattle.liquid_syntax.specs.declared.value_items.Separators.TheVariants.{CommasOr}
 use Rattle.liquid_language.specs.declared.block.Block.{Block}
 use Rattle.liquid_language.specs.declared.block.Block.TheVariants.{If, Unless, Capture, Case, IfChanged, For, TableRow}
-use Rattle.liquid_language.specs.declared.block.Control.TheVariants.{Elsif, Else, BareElse, When}
+use Rattle.liquid_language.specs.declared.block.Control.{Control}
+use Rattle.liquid_language.specs.declared.block.Control.TheVariants as words
 use Rattle.liquid_language.specs.declared.block.BlockContext.{BlockContext}
 use Rattle.liquid_language.specs.declared.block.Role.{Role}
 use Rattle.liquid_language.specs.declared.block.Role.TheVariants.{End, Control as Word, Tag, Block as Start}
 use Rattle.liquid_language.specs.declared.language.BlockKind.{BlockKind}
 use Rattle.liquid_language.specs.declared.language.BlockKind.TheVariants as blocks
 use Rattle.liquid_language.specs.declared.language.Language.{Language}
+use Rattle.liquid_language.specs.declared.language.TagKind.{TagKind}
 use Rattle.liquid_language.specs.declared.language.TagKind.TheVariants as tags
 use Rattle.liquid_syntax.specs.declared.loop_items.LoopKind.TheVariants.{Each, Rows}
 
@@ -121,25 +123,31 @@ block_statement ts blocks.TableRow = one_or TableRow (rows_of ts)
 block_statement ts blocks.Raw = refused
 block_statement ts blocks.Comment = refused
 
+-- A word between the begin and the end of a block, by its items. Those of an `else` are ignored.
+abbrev pub control_statement : List Token → Control → Statement
+control_statement ts words.Elsif = elsif_or (if_of ts)
+control_statement ts words.Else = otherwise
+control_statement ts words.BareElse = bare otherwise ts
+control_statement ts words.When = arm_or (values_of CommasOr ts)
+
+-- A tag that is a node without bodies, by its items and the tokens that they are. The name of a jekyll `include` is taken as it is spelled.
+abbrev pub leaf_statement : Language → List Item → List Token → TagKind → Statement
+leaf_statement l is ts tags.Assign = leaf_or (assign_of l ts)
+leaf_statement l is ts tags.Break = bare (leaf break_loop) ts
+leaf_statement l is ts tags.Continue = bare (leaf continue_loop) ts
+leaf_statement l is ts tags.Increment = leaf_or (option_map (λ w. increment w) (word_alone ts))
+leaf_statement l is ts tags.Decrement = leaf_or (option_map (λ w. decrement w) (word_alone ts))
+leaf_statement l is ts tags.Cycle = leaf_or (option_map cycle_node (grouped_of ts))
+leaf_statement l is ts tags.Include = leaf_or (option_map include_node (include_of ts))
+leaf_statement l is ts tags.JekyllInclude = leaf_or (option_map jekyll_node (jekyll_of is))
+leaf_statement l is ts tags.Render = leaf_or (option_map render_node (render_of ts))
+
 -- a tag, its items, and the tokens that they are
 abbrev pub tag_statement : Language → List Item → List Token → Option Role → Statement
 tag_statement l is ts None = refused
 tag_statement l is ts (Some End) = ends_or ts
-tag_statement l is ts (Some (Word Elsif)) = elsif_or (if_of ts)
--- the items of an `else` are ignored
-tag_statement l is ts (Some (Word Else)) = otherwise
-tag_statement l is ts (Some (Word BareElse)) = bare otherwise ts
-tag_statement l is ts (Some (Word When)) = arm_or (values_of CommasOr ts)
-tag_statement l is ts (Some (Tag tags.Assign)) = leaf_or (assign_of l ts)
-tag_statement l is ts (Some (Tag tags.Break)) = bare (leaf break_loop) ts
-tag_statement l is ts (Some (Tag tags.Continue)) = bare (leaf continue_loop) ts
-tag_statement l is ts (Some (Tag tags.Increment)) = leaf_or (option_map (λ w. increment w) (word_alone ts))
-tag_statement l is ts (Some (Tag tags.Decrement)) = leaf_or (option_map (λ w. decrement w) (word_alone ts))
-tag_statement l is ts (Some (Tag tags.Cycle)) = leaf_or (option_map cycle_node (grouped_of ts))
-tag_statement l is ts (Some (Tag tags.Include)) = leaf_or (option_map include_node (include_of ts))
--- its name is taken as it is spelled
-tag_statement l is ts (Some (Tag tags.JekyllInclude)) = leaf_or (option_map jekyll_node (jekyll_of is))
-tag_statement l is ts (Some (Tag tags.Render)) = leaf_or (option_map render_node (render_of ts))
+tag_statement l is ts (Some (Word word)) = control_statement ts word
+tag_statement l is ts (Some (Tag kind)) = leaf_statement l is ts kind
 tag_statement l is ts (Some (Start kind)) = block_statement ts kind
 
 abbrev pub raw_statement : Text → Option Body → Statement

@@ -5,4 +5,6 @@ pub mod Classifies
 pub mod ConditionAnswers
 pub mod Mentions
 pub mod NameVisitors
+pub mod PartialAnswers
+pub mod TemplateReading
 pub mod ValueAnswers

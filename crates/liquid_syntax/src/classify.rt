@@ -9,20 +9,18 @@ ghost use Rattle.liquid_syntax.specs.Classification.{comment_statement, ends_or,
 ghost use Rattle.liquid_language.specs.Roles.{role_of};
 
 mod blocks;
+mod leaves;
 mod tags;
 
 use crate::build::Statement;
 use crate::chain_items::{expected_before, read_chain};
-use crate::cycle_items::read_cycle;
 use crate::node::Node;
-use crate::partial_items::{read_include, read_jekyll_include, read_render};
-use crate::value_items::{Separators, read_values};
-use blocks::{read_block, read_if};
-use liquid_language::{BlockContext, Control, Language, Role, TagKind, role_of, unread_body};
+use blocks::{read_block, read_control};
+use leaves::read_leaf;
+use liquid_language::{BlockContext, Language, Role, role_of, unread_body};
 use liquid_source::{Body, Fault, FaultKind, Item, ParseError, Piece};
 use std::alloc::Global;
 use std::collections::VecDeque;
-use tags::{BareTag, read_assign, read_bare, read_word};
 
 /// Whether the piece is the start of a block, whatever its items are.
 pub fn opens(language: &Language, context: BlockContext, piece: &Piece<'_>) -> bool
@@ -108,31 +106,8 @@ fn read_tag(
     match role_of(language, context, name) {
         None => Err(unknown_tag(at)),
         Some(Role::End) => read_end(items, at),
-        Some(Role::Control(Control::Elsif)) => Ok(Statement::Elsif(read_if(alloc, items, at)?)),
-        Some(Role::Control(Control::Else)) => Ok(Statement::Otherwise),
-        Some(Role::Control(Control::BareElse)) => read_bare(BareTag::Otherwise, items, at),
-        Some(Role::Control(Control::When)) => {
-            let values = read_values(alloc, items, Separators::CommasOr, at)?;
-            Ok(Statement::When(values))
-        }
-        Some(Role::Tag(TagKind::Assign)) => read_assign(alloc, language, items, at),
-        Some(Role::Tag(TagKind::Break)) => read_bare(BareTag::Break, items, at),
-        Some(Role::Tag(TagKind::Continue)) => read_bare(BareTag::Continue, items, at),
-        Some(Role::Tag(TagKind::Increment)) => {
-            let name = read_word(items, at)?;
-            Ok(Statement::Leaf(Node::Increment(name)))
-        }
-        Some(Role::Tag(TagKind::Decrement)) => {
-            let name = read_word(items, at)?;
-            Ok(Statement::Leaf(Node::Decrement(name)))
-        }
-        Some(Role::Tag(TagKind::Cycle)) => {
-            let (group, values) = read_cycle(alloc, items, at)?;
-            Ok(Statement::Leaf(Node::Cycle(group, values)))
-        }
-        Some(Role::Tag(TagKind::Include)) => read_include(alloc, items, at),
-        Some(Role::Tag(TagKind::JekyllInclude)) => read_jekyll_include(alloc, items, at),
-        Some(Role::Tag(TagKind::Render)) => read_render(alloc, items, at),
+        Some(Role::Control(control)) => read_control(alloc, control, items, at),
+        Some(Role::Tag(kind)) => read_leaf(alloc, language, kind, items, at),
         Some(Role::Block(kind)) => read_block(alloc, kind, items, at),
     }
 }

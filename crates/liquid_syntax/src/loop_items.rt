@@ -5,7 +5,7 @@ ghost use Rattle.liquid_source.specs.Tokens.{tokens_view};
 ghost use Rattle.liquid_syntax.specs.Faults.{FaultsAs, FaultsAt};
 ghost use Rattle.liquid_core.specs.Expression.{Expression as Meant};
 ghost use Rattle.liquid_core.specs.ExpressionView.{expression_view};
-ghost use Rattle.liquid_syntax.specs.Loops.{head_view, loop_of, own_part, part_first, part_value, part_view, parts_in, source_first, with_part, Part};
+ghost use Rattle.liquid_syntax.specs.Loops.{head_view, loop_of, own_part, part_first, part_value, part_view, parts_in, settled_of, source_first, with_part, Part};
 ghost use Rattle.liquid_tree.specs.SourceView.{source_view};
 
 use crate::chain_items::expected_before;
@@ -126,6 +126,28 @@ impl Loop {
             LoopPart::Reversed => self.window.reversed = true,
         }
     }
+
+    /// The parts that all the items are, each in its place.
+    fn take_parts(
+        &mut self,
+        items: VecDeque<Item<'_>>,
+        kind: LoopKind,
+        at: &str,
+    ) -> Result<(), ParseError>
+        ensures parts { Parses (λ _. parts_in self.new) result (settled_of kind (parts_in self.old) (tokens_view items.entry.items)) }
+        ensures rest { (self.new.variable ≡ self.old.variable) × (self.new.source ≡ self.old.source) }
+        ensures kind { FaultsAs FaultKind.Expected result }
+        ensures place { FaultsAt (length at.now) result }
+    {
+        let mut items = items;
+        'parts: while !is_over(&items) {
+            let Some(part) = next_part(&mut items, kind) else {
+                return Err(expected_before(at, items, part_wanted(kind)));
+            };
+            self.set(part);
+        }
+        Ok(())
+    }
 }
 
 /// The loop that all the items are: `variable in source`, and any parts that its kind may have, of which the last of a
@@ -155,11 +177,11 @@ pub fn read_loop(items: VecDeque<Item<'_>>, kind: LoopKind, at: &str) -> Result<
         },
         cols: None,
     };
-    'parts: while !is_over(&items) {
-        let Some(part) = next_part(&mut items, kind) else {
-            return Err(expected_before(at, items, part_wanted(kind)));
-        };
-        read.set(part);
+    match read.take_parts(items, kind, at) {
+        Ok(()) => Ok(read),
+        Err(error) => {
+            drop(read);
+            Err(error)
+        }
     }
-    Ok(read)
 }

@@ -1,7 +1,13 @@
 //! From a source to its template.
-ghost use Rattle.std.specs.Prelude.{◌≡◌, IfErr};
+ghost use Rattle.std.specs.Prelude.{[], IfErr, List, Some, false, length};
+ghost use Rattle.liquid_source.specs.PieceView.{markup_view};
 ghost use Rattle.liquid_source.specs.Readers.{TellsOf};
+ghost use Rattle.liquid_source.specs.SourceReading.{source_at};
+ghost use Rattle.liquid_syntax.specs.OpenBlocks.{Level};
 ghost use Rattle.liquid_syntax.specs.Parsing.{MayRefuse, ParsesTo, ReadsTo};
+ghost use Rattle.liquid_syntax.specs.inside.Building.{IsBuilding, IsBuilt, Steps, text_added};
+ghost use Rattle.liquid_syntax.specs.inside.TemplateReading.{AddsPiece, begun_with, body_of, piece_step};
+ghost use Rattle.liquid_tree.specs.Tree.{Nodes, no_nodes};
 
 use crate::build::Builder;
 use crate::classify::{classify, opens};
@@ -11,7 +17,7 @@ use crate::template::Template;
 use liquid_core::{Error, Result};
 use liquid_language::{Language, body_behind, explanation_of};
 use liquid_source::{
-    ParseError, location, past_byte, read_body, read_markup, stripped, text_before,
+    Markup, ParseError, location, past_byte, read_body, read_markup, stripped, text_before,
 };
 use std::alloc::{AllocError, Global};
 
@@ -56,30 +62,88 @@ fn read_template(
 ) -> std::result::Result<Template, ParseError>
     ensures { ReadsTo language.now source.now result }
 {
-    let mut builder = Builder::new(alloc);
-    let mut positions = Positions::new(alloc, source);
-    let mut strip_next = false;
-    let mut rest = source;
-    'pieces: loop {
-        let (text, behind) = text_before(rest);
-        let Some(inside) = past_byte(behind, b'{') else {
-            builder.text(alloc, stripped(strip_next, text, false))?;
-            positions.mark(rest.len(), builder.nodes.len())?;
-            return builder.finish(positions.nodes);
-        };
-        let (markup, after) = read_markup(alloc, inside)?;
-        builder.text(alloc, stripped(strip_next, text, markup.before))?;
-        positions.mark(rest.len(), builder.nodes.len())?;
-        let context = builder.context();
+    let mut reader = Reader {
+        builder: Builder::new(alloc),
+        positions: Positions::new(alloc, source),
+    };
+    reader.read(alloc, source, language)?;
+    let Reader { builder, positions } = reader;
+    builder.finish(positions.nodes)
+}
+
+/// What is read of a source: its nodes, and where they begin.
+#[derive(Drop)]
+struct Reader<'s> {
+    builder: Builder,
+    positions: Positions<'s>,
+}
+
+impl Reader<'_> {
+    /// All pieces of a source, from left to right.
+    fn read(
+        &mut self,
+        alloc: Global,
+        source: &str,
+        language: &Language,
+    ) -> std::result::Result<(), ParseError>
+        requires { IsBuilding self.old.builder [] no_nodes }
+        ensures { Steps (source_at (body_of language.now) (piece_step language.now) (length source.now) false begun_with source.now) self.new.builder result }
+    {
+        let mut strip_next = false;
+        let mut rest = source;
+        'pieces: loop {
+            let (text, behind) = text_before(rest);
+            let Some(inside) = past_byte(behind, b'{') else {
+                return self.text(alloc, stripped(strip_next, text, false), rest.len());
+            };
+            let found = read_markup(alloc, inside)?;
+            self.text(
+                alloc,
+                stripped(strip_next, text, found.0.before),
+                rest.len(),
+            )?;
+            let (strips, after) = self.piece(alloc, language, found, behind)?;
+            strip_next = strips;
+            rest = after;
+        }
+    }
+
+    /// A text; so many bytes of the source are left from it on.
+    fn text(
+        &mut self,
+        alloc: Global,
+        text: &str,
+        left: usize,
+    ) -> std::result::Result<(), ParseError>
+        ensures { (ls : List Level) (cur : Nodes) → IsBuilding self.old.builder ls cur → Steps (Some (ls, text_added text.now cur)) self.new.builder result }
+    {
+        self.builder.text(alloc, text)?;
+        self.positions.mark(left, self.builder.nodes.len())?;
+        Ok(())
+    }
+
+    /// An output or a tag and what follows it, read on by the body that is to stand there. The answer is whether the closer
+    /// strips what is left, and what that is. `at` is the source from the piece on.
+    fn piece<'t>(
+        &mut self,
+        alloc: Global,
+        language: &Language,
+        found: (Markup<'t>, &'t str),
+        at: &str,
+    ) -> std::result::Result<(bool, &'t str), ParseError>
+        requires { IsBuilt self.old.builder }
+        ensures { (ls : List Level) (cur : Nodes) → IsBuilding self.old.builder ls cur → AddsPiece language.now (markup_view found.entry.0, found.entry.1.now) (ls, cur) self.new.builder result }
+    {
+        let context = self.builder.context();
+        let (markup, after) = found;
         let body = body_behind(language, context, &markup.piece);
         let (markup, after) = read_body(body, markup, after)?;
-        if builder.is_full() && opens(language, context, &markup.piece) {
-            return Err(too_nested(behind.len()));
+        if self.builder.is_full() && opens(language, context, &markup.piece) {
+            return Err(too_nested(at.len()));
         }
-        let statement = classify(alloc, language, context, markup.piece, behind)?;
-        builder.add(statement, behind.len())?;
-        positions.mark(behind.len(), builder.nodes.len())?;
-        strip_next = markup.after;
-        rest = after;
+        let statement = classify(alloc, language, context, markup.piece, at)?;
+        self.builder.add(statement, at.len())?;
+        self.positions.mark(at.len(), self.builder.nodes.len())?;
+        Ok((markup.after, after))
     }
 }

@@ -1,16 +1,18 @@
 //! Tags that run a partial, read from the items of a piece.
 ghost use Rattle.std.specs.Prelude.{◌≡◌, [], ◌∷◌, IfOk, length, option_map, string_bytes};
 ghost use Rattle.liquid_core.specs.ExpressionView.{expression_view};
-ghost use Rattle.liquid_source.specs.PieceView.{items_view};
-ghost use Rattle.liquid_source.specs.Tokens.{tokens_view};
+ghost use Rattle.liquid_source.specs.PieceView.{item_view, items_view};
+ghost use Rattle.liquid_source.specs.Readers.{Parses};
+ghost use Rattle.liquid_source.specs.Tokens.{tokens_view, value_first};
 ghost use Rattle.liquid_syntax.specs.Faults.{FaultsAs, FaultsAt};
-ghost use Rattle.liquid_syntax.specs.Flats.{binding_view, bindings_view, each_view};
+ghost use Rattle.liquid_syntax.specs.Flats.{binding_view, bindings_view, each_view, flat_of, leaf};
 ghost use Rattle.liquid_syntax.specs.inside.Classifies.{Classifies};
+ghost use Rattle.liquid_syntax.specs.inside.PartialAnswers.{first_spelling, rendered_view, spelling_of};
 ghost use Rattle.liquid_syntax.specs.Classification.{leaf_or};
-ghost use Rattle.liquid_syntax.specs.PartialItems.{each_first, include_node, include_of, jekyll_node, jekyll_of, render_as, render_node, render_of, rendered_each, rendered_with, spelled_name, with_first};
+ghost use Rattle.liquid_syntax.specs.PartialItems.{each_first, include_node, include_of, included_pairs, jekyll_node, jekyll_of, render_node, render_of, rendered_each, rendered_of, rendered_with, spelled_name, with_first};
 
 use crate::build::Statement;
-use crate::chain_items::{expected, expected_before};
+use crate::chain_items::expected_before;
 use crate::loop_items::next_source;
 use crate::loop_nodes::Each;
 use crate::node::{Binding, Node};
@@ -36,14 +38,41 @@ pub(crate) fn read_include(
     let Some(name) = next_value(&mut items) else {
         return Err(expected_before(at, items, "the name of a partial"));
     };
+    match read_included_pairs(alloc, items, at) {
+        Ok(all) => Ok(Statement::Leaf(Node::Include(name, all))),
+        Err(error) => {
+            drop(name);
+            Err(error)
+        }
+    }
+}
+
+/// `w: v, w: v`, behind the name of an `include`: no pairs, or a first one and those behind it.
+fn read_included_pairs(
+    alloc: Global,
+    items: VecDeque<Item<'_>>,
+    at: &str,
+) -> Result<Vec<Binding>, ParseError>
+    ensures pairs { Parses (λ ps. bindings_view ps.items) result (included_pairs (tokens_view items.entry.items)) }
+    ensures kind { FaultsAs FaultKind.Expected result }
+    ensures place { FaultsAt (length at.now) result }
+{
+    let mut items = items;
     if is_over(&items) {
-        return Ok(Statement::Leaf(Node::Include(name, Vec::new(alloc))));
+        return Ok(Vec::new(alloc));
     }
     let Some(first) = next_pair(&mut items, Symbol::Colon) else {
         return Err(expected_before(at, items, "`name: value`"));
     };
-    let all = read_pairs(only(alloc, first)?, items, PairStyle::Include, at)?;
-    Ok(Statement::Leaf(Node::Include(name, all)))
+    let first = only(alloc, first)?;
+    read_pairs(first, items, PairStyle::Include, at)
+}
+
+/// What stands behind the name of a `render`: what it runs for each item of, if `for` stands there, and its pairs.
+#[derive(Drop)]
+struct Rendered {
+    each: Option<Each>,
+    pairs: Vec<Binding>,
 }
 
 /// `name w: v`, with `with v as w` or `for R as w` behind the name: the node of a `render`.
@@ -60,24 +89,50 @@ pub(crate) fn read_render(
     let Some(name) = next_value(&mut items) else {
         return Err(expected_before(at, items, "the name of a partial"));
     };
-    if skip_word(&mut items, "with") {
-        return read_render_with(alloc, name, items, at);
+    match read_rendered(alloc, items, at) {
+        Ok(rendered) => Ok(Statement::Leaf(render_node(name, rendered))),
+        Err(error) => {
+            drop(name);
+            Err(error)
+        }
     }
-    if skip_word(&mut items, "for") {
-        return read_render_each(alloc, name, items, at);
-    }
-    let all = read_pairs(Vec::new(alloc), items, PairStyle::Render, at)?;
-    Ok(Statement::Leaf(Node::Render(name, all)))
 }
 
-/// `v as w, w: v`, behind `with`: the node of a `render` that runs once.
-fn read_render_with(
+/// The node of a `render` of this name, by what stands behind the name.
+fn render_node(name: Expression, rendered: Rendered) -> Node
+    ensures { flat_of result ≡ leaf (render_node (expression_view name, rendered_view rendered)) }
+{
+    let Rendered { each, pairs } = rendered;
+    match each {
+        None => Node::Render(name, pairs),
+        Some(each) => Node::RenderEach(name, each, pairs),
+    }
+}
+
+/// What all the items are, behind the name of a `render`.
+fn read_rendered(alloc: Global, items: VecDeque<Item<'_>>, at: &str) -> Result<Rendered, ParseError>
+    ensures rendered { Parses rendered_view result (rendered_of (tokens_view items.entry.items)) }
+    ensures kind { FaultsAs FaultKind.Expected result }
+    ensures place { FaultsAt (length at.now) result }
+{
+    let mut items = items;
+    if skip_word(&mut items, "with") {
+        return read_rendered_with(alloc, items, at);
+    }
+    if skip_word(&mut items, "for") {
+        return read_rendered_each(alloc, items, at);
+    }
+    let pairs = read_pairs(Vec::new(alloc), items, PairStyle::Render, at)?;
+    Ok(Rendered { each: None, pairs })
+}
+
+/// `v as w, w: v`, behind `with`: a `render` that runs once.
+fn read_rendered_with(
     alloc: Global,
-    name: Expression,
     items: VecDeque<Item<'_>>,
     at: &str,
-) -> Result<Statement, ParseError>
-    ensures statement { Classifies (leaf_or (render_as (expression_view name) (rendered_with (tokens_view items.entry.items)))) result }
+) -> Result<Rendered, ParseError>
+    ensures rendered { Parses rendered_view result (rendered_with (tokens_view items.entry.items)) }
     ensures kind { FaultsAs FaultKind.Expected result }
     ensures place { FaultsAt (length at.now) result }
 {
@@ -85,18 +140,18 @@ fn read_render_with(
     let Some(first) = next_with(&mut items) else {
         return Err(expected_before(at, items, "`value as name`"));
     };
-    let all = read_pairs(only(alloc, first)?, items, PairStyle::Render, at)?;
-    Ok(Statement::Leaf(Node::Render(name, all)))
+    let first = only(alloc, first)?;
+    let pairs = read_pairs(first, items, PairStyle::Render, at)?;
+    Ok(Rendered { each: None, pairs })
 }
 
-/// `R as w, w: v`, behind `for`: the node of a `render` that runs for each item.
-fn read_render_each(
+/// `R as w, w: v`, behind `for`: a `render` that runs for each item.
+fn read_rendered_each(
     alloc: Global,
-    name: Expression,
     items: VecDeque<Item<'_>>,
     at: &str,
-) -> Result<Statement, ParseError>
-    ensures statement { Classifies (leaf_or (render_as (expression_view name) (rendered_each (tokens_view items.entry.items)))) result }
+) -> Result<Rendered, ParseError>
+    ensures rendered { Parses rendered_view result (rendered_each (tokens_view items.entry.items)) }
     ensures kind { FaultsAs FaultKind.Expected result }
     ensures place { FaultsAt (length at.now) result }
 {
@@ -104,8 +159,16 @@ fn read_render_each(
     let Some(each) = next_each(&mut items) else {
         return Err(expected_before(at, items, "`list as name`"));
     };
-    let all = read_pairs(Vec::new(alloc), items, PairStyle::Render, at)?;
-    Ok(Statement::Leaf(Node::RenderEach(name, each, all)))
+    match read_pairs(Vec::new(alloc), items, PairStyle::Render, at) {
+        Ok(pairs) => Ok(Rendered {
+            each: Some(each),
+            pairs,
+        }),
+        Err(error) => {
+            drop(each);
+            Err(error)
+        }
+    }
 }
 
 /// Takes what stands behind `for` off the front, if it stands there: a source, `as` and the name of an item.
@@ -133,7 +196,6 @@ fn next_with(items: &mut VecDeque<Item<'_>>) -> Option<Binding>
 }
 
 /// `name w=v w=v`: the node of Jekyll's `include`.
-#[tactic(auto, using(liquid_source::proofs::Seen::seen_tokens))]
 pub(crate) fn read_jekyll_include(
     alloc: Global,
     items: VecDeque<Item<'_>>,
@@ -144,16 +206,31 @@ pub(crate) fn read_jekyll_include(
     ensures place { FaultsAt (length at.now) result }
 {
     let mut items = items;
-    let count = items.len();
-    match items.pop_front() {
-        Some(Item::Value(value, spelling)) => {
-            let name = spelled_name(alloc, value, spelling)?;
-            let all = read_pairs(Vec::new(alloc), items, PairStyle::JekyllInclude, at)?;
-            Ok(Statement::Leaf(Node::JekyllInclude(name, all)))
-        }
-        Some(Item::Range(_, _)) => Err(expected(at, count, "the name of a partial")),
-        Some(Item::Symbol(_)) => Err(expected(at, count, "the name of a partial")),
-        None => Err(expected(at, count, "the name of a partial")),
+    let Some((value, spelling)) = next_spelled(&mut items) else {
+        return Err(expected_before(at, items, "the name of a partial"));
+    };
+    let name = spelled_name(alloc, value, spelling)?;
+    let all = read_pairs(Vec::new(alloc), items, PairStyle::JekyllInclude, at)?;
+    Ok(Statement::Leaf(Node::JekyllInclude(name, all)))
+}
+
+/// Takes the value at the front, with how it is spelled, if one stands there; else takes nothing.
+fn next_spelled<'s>(items: &mut VecDeque<Item<'s>>) -> Option<(Expression, &'s str)>
+    ensures value { option_map (λ x. (expression_view x.0, tokens_view items.new.items)) result ≡ value_first (tokens_view items.old.items) }
+    ensures spelling { option_map (λ x. x.1.now) result ≡ first_spelling (items_view items.old.items) }
+{
+    let spelling = spelling_of(items.front()?)?;
+    Some((next_value(items)?, spelling))
+}
+
+/// How the item is spelled, if it is a value.
+fn spelling_of<'s>(item: &Item<'s>) -> Option<&'s str>
+    ensures { option_map (λ s. s.now) result ≡ spelling_of (item_view item.now) }
+{
+    match item {
+        Item::Value(_, spelling) => Some(*spelling),
+        Item::Range(_, _) => None,
+        Item::Symbol(_) => None,
     }
 }
 

@@ -8,6 +8,7 @@ use Rattle.liquid_tree.specs.Tree.{Node, Nodes}
 use Rattle.liquid_language.specs.declared.block.Block.{Block}
 use Rattle.liquid_syntax.specs.declared.build.Stage.{Stage}
 use Rattle.liquid_syntax.specs.declared.build.Statement.{Statement}
+use Rattle.liquid_syntax.specs.declared.build.Statement.TheVariants.{Begins}
 use Rattle.liquid_syntax.specs.declared.build.Stage.TheVariants.{First}
 use Rattle.liquid_source.specs.declared.fault.ParseError.{ParseError}
 use Rattle.liquid_source.specs.declared.fault.ParseError.TheVariants as errors
@@ -29,3 +30,8 @@ ReadsBlock b stage l (Err (errors.Fault f)) = l ≡ nesting.refused
 abbrev pub ReadsTwo : Option (Nodes → Nodes → Node) → Result code.Node ParseError → Type 0
 ReadsTwo o (Ok n) = (o ≡ Some (of_bodies (flat_of n))) × IsPrepared First n
 ReadsTwo o (Err e) = Fails e o
+
+-- the block that begins with the node that was read
+abbrev pub begins : Block → Stage → Result code.Node ParseError → Result Statement ParseError
+begins b stage (Ok n) = Ok (Begins b stage n)
+begins b stage (Err e) = Err e

@@ -1,11 +1,11 @@
-//! The start of a block, by its items.
+//! The start of a block and the words between its bodies, by their items.
 ghost use Rattle.std.specs.Prelude.{◌≡◌, length};
 ghost use Rattle.liquid_source.specs.Tokens.{tokens_view};
 ghost use Rattle.liquid_syntax.specs.Faults.{FaultsAs, FaultsAt};
 ghost use Rattle.liquid_language.specs.declared.block.Block.TheVariants as BlockOf;
 ghost use Rattle.liquid_syntax.specs.declared.build.Stage.TheVariants as StageOf;
-ghost use Rattle.liquid_syntax.specs.inside.Classifies.{Classifies, ReadsBlock, ReadsTwo};
-ghost use Rattle.liquid_syntax.specs.Classification.{block_statement, case_for, for_of, if_of, many_or, one_or, rows_of, unless_of};
+ghost use Rattle.liquid_syntax.specs.inside.Classifies.{begins, Classifies, ReadsBlock, ReadsTwo};
+ghost use Rattle.liquid_syntax.specs.Classification.{block_statement, capture_of, case_for, control_statement, for_of, if_of, many_or, one_or, rows_of, unless_of};
 
 use super::tags::{BareTag, read_bare, read_word};
 use crate::build::{Stage, Statement};
@@ -14,7 +14,8 @@ use crate::condition_items::read_condition;
 use crate::loop_items::{LoopKind, read_loop};
 use crate::loop_nodes::{For, TableRow};
 use crate::node::{Node, TwoBodies};
-use liquid_language::{Block, BlockKind};
+use crate::value_items::{Separators, read_values};
+use liquid_language::{Block, BlockKind, Control};
 use liquid_source::{FaultKind, Item, ParseError, is_over, next_value};
 use std::alloc::Global;
 use std::collections::VecDeque;
@@ -31,41 +32,64 @@ pub(super) fn read_block(
     ensures place { FaultsAt (length at.now) result }
 {
     match kind {
-        BlockKind::If => {
-            let node = read_if(alloc, items, at)?;
-            Ok(Statement::Begins(Block::If, Stage::First, node))
-        }
-        BlockKind::Unless => {
-            let node = read_unless(alloc, items, at)?;
-            Ok(Statement::Begins(Block::Unless, Stage::First, node))
-        }
-        BlockKind::Capture => {
-            let name = read_word(items, at)?;
-            Ok(Statement::Begins(Block::Capture, Stage::Last, Node::Capture(name, 0)))
-        }
-        BlockKind::Case => {
-            let node = read_case(alloc, items, at)?;
-            Ok(Statement::Begins(Block::Case, Stage::Unkept, node))
-        }
+        BlockKind::If => begins(Block::If, Stage::First, read_if(alloc, items, at)),
+        BlockKind::Unless => begins(Block::Unless, Stage::First, read_unless(alloc, items, at)),
+        BlockKind::Capture => begins(Block::Capture, Stage::Last, read_capture(items, at)),
+        BlockKind::Case => begins(Block::Case, Stage::Unkept, read_case(alloc, items, at)),
         BlockKind::IfChanged => read_bare(BareTag::IfChanged, items, at),
-        BlockKind::For => {
-            let node = read_for(alloc, items, at)?;
-            Ok(Statement::Begins(Block::For, Stage::First, node))
-        }
+        BlockKind::For => begins(Block::For, Stage::First, read_for(alloc, items, at)),
         BlockKind::TableRow => {
-            let node = read_table_row(alloc, items, at)?;
-            Ok(Statement::Begins(Block::TableRow, Stage::Last, node))
+            begins(
+                Block::TableRow,
+                Stage::Last,
+                read_table_row(alloc, items, at),
+            )
         }
         BlockKind::Raw | BlockKind::Comment => Err(expected_before(at, items, "the closer")),
     }
 }
 
-/// The node of an `if` or an `elsif`: a condition, before its bodies are read.
-pub(super) fn read_if(
+/// The statement of a block that begins with this node, if the node was read.
+fn begins(
+    block: Block,
+    stage: Stage,
+    read: Result<Node, ParseError>,
+) -> Result<Statement, ParseError>
+    ensures { result ≡ begins block stage read }
+{
+    match read {
+        Ok(node) => Ok(Statement::Begins(block, stage, node)),
+        Err(error) => Err(error),
+    }
+}
+
+/// The statement of a word between the begin and the end of a block.
+pub(super) fn read_control(
     alloc: Global,
+    control: Control,
     items: VecDeque<Item<'_>>,
     at: &str,
-) -> Result<Node, ParseError>
+) -> Result<Statement, ParseError>
+    ensures statement { Classifies (control_statement (tokens_view items.entry.items) control) result }
+    ensures kind { FaultsAs FaultKind.Expected result }
+    ensures place { FaultsAt (length at.now) result }
+{
+    match control {
+        Control::Elsif => {
+            let node = read_if(alloc, items, at)?;
+            Ok(Statement::Elsif(node))
+        }
+        Control::Else => Ok(Statement::Otherwise),
+        Control::BareElse => read_bare(BareTag::Otherwise, items, at),
+        Control::When => {
+            let values = read_values(alloc, items, Separators::CommasOr, at)?;
+            Ok(Statement::When(values))
+        }
+    }
+}
+
+/// The node of an `if` or an `elsif`: a condition, before its bodies are read.
+fn read_if(alloc: Global, items: VecDeque<Item<'_>>, at: &str) -> Result<Node, ParseError>
     ensures node { ReadsTwo (if_of (tokens_view items.entry.items)) result }
     ensures kind { FaultsAs FaultKind.Expected result }
     ensures place { FaultsAt (length at.now) result }
@@ -115,6 +139,16 @@ fn read_table_row(alloc: Global, items: VecDeque<Item<'_>>, at: &str) -> Result<
     };
     let head = Box::new(alloc, head)?;
     Ok(Node::TableRow(head, 0))
+}
+
+/// The node of a `capture`, before its body is read.
+fn read_capture(items: VecDeque<Item<'_>>, at: &str) -> Result<Node, ParseError>
+    ensures node { ReadsBlock BlockOf.Capture StageOf.Last (one_or BlockOf.Capture (capture_of (tokens_view items.entry.items))) result }
+    ensures kind { FaultsAs FaultKind.Expected result }
+    ensures place { FaultsAt (length at.now) result }
+{
+    let name = read_word(items, at)?;
+    Ok(Node::Capture(name, 0))
 }
 
 /// The node of a `case`, before its `when` parts are read.

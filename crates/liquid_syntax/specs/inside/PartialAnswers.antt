@@ -1,0 +1,22 @@
+-- What reading the tags that run a partial answers.
+use Rattle.std.specs.Prelude.{List, [], ◌∷◌, Option, Some, None}
+use Rattle.std.specs.Option.{option_map}
+use Rattle.liquid_model.specs.Texts.{Text}
+use Rattle.liquid_source.specs.Items as items
+use Rattle.liquid_syntax.specs.Flats.{bindings_view, each_view}
+use Rattle.liquid_syntax.specs.PartialItems as partials
+use Rattle.liquid_syntax.specs.declared.partial_items.Rendered.{Rendered}
+
+-- how an item is spelled, if it is a value
+abbrev pub spelling_of : items.Item → Option Text
+spelling_of (items.value x spelling) = Some spelling
+spelling_of (items.range x y) = None
+spelling_of (items.symbol s) = None
+
+abbrev pub first_spelling : List items.Item → Option Text
+first_spelling [] = None
+first_spelling (i ∷ is) = spelling_of i
+
+-- what stands behind the name of a `render`
+abbrev pub rendered_view : Rendered → partials.Rendered
+rendered_view r = (option_map each_view r.each, bindings_view r.pairs.items)
