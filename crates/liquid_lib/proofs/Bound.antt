@@ -85,7 +85,7 @@ pub mapped : {A B : Type 0} (r : Result A ErrorKind) (f : A → B) (y : B) → (
 mapped (Ok x) f y h = (x, refl, cc)
 mapped (Err kind) f y h = absurd cc
 
-from_ok : {A : Type 0} {x y : A} → ◌≡◌ {A = Result A ErrorKind} (Ok x) (Ok y) → x ≡ y
+pub from_ok : {A : Type 0} {x y : A} → ◌≡◌ {A = Result A ErrorKind} (Ok x) (Ok y) → x ≡ y
 from_ok h = cc
 
 -- ---- as a scope

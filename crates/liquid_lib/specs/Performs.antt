@@ -24,10 +24,6 @@ pub record Configuration : Type 0 where
 abbrev pub configuration_of : {W : Type 0} → (W → Option (List ℕ)) → (W → ℕ) → Output W → State → Configuration
 configuration_of contents failure_count out state = record { sink = sink_of contents failure_count out; environment = environment_of state }
 
--- the same beside an environment that isn't the state's
-abbrev pub configuration_beside : {W : Type 0} → (W → Option (List ℕ)) → (W → ℕ) → Output W → Environment → Configuration
-configuration_beside contents failure_count out e = record { sink = sink_of contents failure_count out; environment = e }
-
 abbrev pub answer_of : {V A : Type 0} → (V → A) → Result V Error → Result A ErrorKind
 answer_of view (Ok value) = Ok (view value)
 answer_of view (Err e) = Err e.kind

@@ -1,5 +1,12 @@
 //! What a run is given beside its state.
-use liquid_syntax::{Partials, Position};
+ghost use Rattle.std.specs.Prelude.{◌≡◌, IfOk};
+ghost use Rattle.liquid_model.specs.Answer.{Answers};
+ghost use Rattle.liquid_model.specs.ErrorKinds.{IsKindOrMemory};
+ghost use Rattle.liquid_lib.specs.inside.Partials.{depth_left};
+
+use liquid_core::{Error, ErrorKind, Result};
+use liquid_syntax::{Partials, Position, Template};
+use std::alloc::Global;
 
 /// The partials, the filters of the host, how many nested partials there may still be, and where the nodes of the template or
 /// the partial begin whose nodes run.
@@ -9,4 +16,33 @@ pub(crate) struct RunContext<'g, H> {
     pub(crate) host: &'g H,
     pub(crate) depth: u32,
     pub(crate) positions: &'g [Position],
+}
+
+impl<'g, H> RunContext<'g, H> {
+    /// What the nodes of a partial are given that is entered here, or `TooDeep` with no depth left.
+    pub(crate) fn deeper(&self, alloc: Global, partial: &'g Template) -> Result<RunContext<'g, H>>
+        ensures depth { Answers (λ c. c.depth) result (depth_left self.now.depth) }
+        ensures same { IfOk result (λ c. (c.partials.now ≡ self.now.partials.now) × (c.host.now ≡ self.now.host.now)) }
+    {
+        if self.depth == 0 {
+            return Err(too_deep(alloc));
+        }
+        Ok(RunContext {
+            partials: self.partials,
+            host: self.host,
+            depth: self.depth - 1,
+            positions: partial.positions(),
+        })
+    }
+}
+
+/// The fault of a partial that is entered with no depth left.
+fn too_deep(alloc: Global) -> Error
+    ensures { IsKindOrMemory ErrorKind.TooDeep result.kind }
+{
+    Error::new(
+        alloc,
+        ErrorKind::TooDeep,
+        "a partial runs in as many others as may be",
+    )
 }

@@ -2,20 +2,17 @@
 //!
 //! A node in blocks in partials stands as deep in these calls as it is nested. So that a level takes little of the stack, what a
 //! node does beside calling on is kept out of the frames of [run_range], [run_node] and [run_chosen], by `#[inline(never)]`.
-ghost use Rattle.std.specs.Prelude.{◌≡◌, ℕ, ◌+◌, ◌<◌, ◌≤◌, IfOk, length};
+ghost use Rattle.std.specs.Prelude.{◌≡◌, ℕ, ◌+◌, ◌<◌, ◌≤◌, IfOk};
 ghost use Rattle.liquid_core.specs.ExpressionView.{expression_view};
-ghost use Rattle.liquid_core.specs.Held.{held};
 ghost use Rattle.liquid_core.specs.States.{environment_of, layers_of, loops_of};
 ghost use Rattle.liquid_syntax.specs.Flats.{Maker, StandsAt, IsRange, NodeAt, IsNode, bindings_view, nodes_of};
 ghost use Rattle.liquid_syntax.specs.Forest.{Forest};
-ghost use Rattle.liquid_syntax.specs.Templates.{list_of, most_of, tree_of};
 ghost use Rattle.liquid_tree.specs.Names.{node_names, nodes_names};
 ghost use Rattle.liquid_tree.specs.Tree as tree;
 ghost use Rattle.liquid_lib.specs.inside.Choices.{NodeComesTo};
-ghost use Rattle.liquid_lib.specs.inside.Engine.{setting_of, node_in, nodes_in, partial_in};
+ghost use Rattle.liquid_lib.specs.inside.Engine.{setting_of, node_in, nodes_in};
 ghost use Rattle.liquid_lib.specs.Kept.{Keeps, IsRender, AreRenders};
 ghost use Rattle.liquid_lib.specs.Performs.{Performs, configuration_of};
-ghost use Rattle.liquid_meaning.specs.Runs.{with_scope};
 
 mod loops;
 mod renders;
@@ -30,9 +27,9 @@ use crate::ifchanged::show_if_changed;
 use crate::leaves::{run_assign, run_output, run_raw, run_text};
 use crate::nodes::next_after;
 use crate::output::Output;
-use crate::partial::{include_scope, pairs_scope, partial_called, partial_name, too_deep};
-use liquid_core::{Expression, Interrupt, NamedFilters, Object, Result, State, Value};
-use liquid_syntax::{Binding, Node, Template};
+use crate::partial::{enter_include, enter_jekyll_include};
+use liquid_core::{Expression, Interrupt, NamedFilters, Result, State, Value};
+use liquid_syntax::{Binding, Node};
 use loops::{run_for, run_tablerow};
 use renders::{run_render, run_render_each};
 use std::alloc::Global;
@@ -264,10 +261,10 @@ fn run_include<'d, W: CountedWrite, H: NamedFilters>(
     ensures kept { Keeps (node_names (tree.include (expression_view name.now) (bindings_view bindings.now))) (setting_of H.named context.now) state.old state.new }
     ensures loops { loops_of state.new ≡ loops_of state.old }
 {
-    let called = partial_name(alloc, name, state)?;
-    let scope = pairs_scope(alloc, bindings, state)?;
-    let partial = partial_called(alloc, context.partials, called.as_str())?;
-    let answer = run_partial(alloc, context, partial, scope, out, state);
+    let (called, inner) = enter_include(alloc, context, name, bindings, state)?;
+    let nodes = inner.partial.nodes();
+    let answer = run_range(alloc, &inner.context, nodes, 0, nodes.len(), out, state);
+    state.pop_scope();
     in_partial(alloc, called.as_str(), answer)
 }
 
@@ -289,43 +286,9 @@ fn run_jekyll_include<'d, W: CountedWrite, H: NamedFilters>(
     ensures kept { Keeps (node_names (tree.jekyll_include name.now (bindings_view bindings.now))) (setting_of H.named context.now) state.old state.new }
     ensures loops { loops_of state.new ≡ loops_of state.old }
 {
-    let scope = include_scope(alloc, bindings, state)?;
-    let partial = partial_called(alloc, context.partials, name)?;
-    let answer = run_partial(alloc, context, partial, scope, out, state);
-    in_partial(alloc, name, answer)
-}
-
-/// Enters a partial, with a scope of its own over the caller's names.
-#[cycle(run)]
-#[inline(never)]
-fn run_partial<'d, W: CountedWrite, H: NamedFilters>(
-    alloc: Global,
-    context: &RunContext<'d, H>,
-    partial: &'d Template,
-    scope: Object,
-    out: &mut Output<'_, W>,
-    state: &mut State<'d>,
-) -> Result<()>
-    requires small { length (list_of partial.now) ≤ most_of context.now.partials.now }
-    ensures performs { Performs result (with_scope (held scope) (partial_in H.named context.now (tree_of partial.now)))
-        (configuration_of W.contents W.failure_count out.old state.old)
-        (configuration_of W.contents W.failure_count out.new state.new) }
-    ensures same_writer { out.new.writer.ghost_name ≡ out.old.writer.ghost_name }
-    ensures kept { Keeps (nodes_names (tree_of partial.now)) (setting_of H.named context.now) state.old state.new }
-    ensures loops { loops_of state.new ≡ loops_of state.old }
-{
-    if context.depth == 0 {
-        return Err(too_deep(alloc));
-    }
-    let inner = RunContext {
-        partials: context.partials,
-        host: context.host,
-        depth: context.depth - 1,
-        positions: partial.positions(),
-    };
-    state.push_scope(scope)?;
-    let nodes = partial.nodes();
-    let answer = run_range(alloc, &inner, nodes, 0, nodes.len(), out, state);
+    let inner = enter_jekyll_include(alloc, context, name, bindings, state)?;
+    let nodes = inner.partial.nodes();
+    let answer = run_range(alloc, &inner.context, nodes, 0, nodes.len(), out, state);
     state.pop_scope();
-    answer
+    in_partial(alloc, name, answer)
 }

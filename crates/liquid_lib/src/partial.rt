@@ -1,20 +1,90 @@
-//! What a tag that runs a partial names: the partial, and the scope of its pairs.
-ghost use Rattle.std.specs.Prelude.{◌≤◌, IfOk, length, string_bytes};
+//! What a tag that runs a partial names: the partial, and the scope of its pairs; and how an `include` enters it.
+ghost use Rattle.std.specs.Prelude.{◌≡◌, ◌≤◌, IfOk, OnErr, length, string_bytes};
 ghost use Rattle.liquid_model.specs.Answer.{Answers};
 ghost use Rattle.liquid_model.specs.ErrorKinds.{IsKindOrMemory};
 ghost use Rattle.liquid_model.specs.View.{pairs_view};
 ghost use Rattle.liquid_core.specs.ExpressionView.{expression_view};
 ghost use Rattle.liquid_core.specs.Held.{held};
-ghost use Rattle.liquid_core.specs.States.{environment_of};
+ghost use Rattle.liquid_core.specs.LoopFrames.{without_innermost};
+ghost use Rattle.liquid_core.specs.States.{environment_of, layers_of, loops_of};
 ghost use Rattle.liquid_syntax.specs.Flats.{bindings_view};
 ghost use Rattle.liquid_syntax.specs.Templates.{list_of, most_of, partials_of, tree_of};
-ghost use Rattle.liquid_lib.specs.inside.Partials.{bound_include, bound_object, bound_scope, partial_of, rendered_of};
+ghost use Rattle.liquid_lib.specs.inside.Partials.{Enters, IsWithin, bound_include, bound_object, bound_scope, entry_at, include_entry, jekyll_entry, partial_of, rendered_of};
 ghost use Rattle.liquid_meaning.specs.Meaning.{name_of};
 
+use crate::context::RunContext;
 use liquid_core::{Error, ErrorKind, Expression, Object, Result, State, Value, store};
 use liquid_syntax::{Binding, Partials, Template};
 use std::alloc::Global;
 use std::collections::BTreeMap;
+
+/// A partial that is entered: the partial, and what its nodes are given.
+#[derive(Drop)]
+pub(crate) struct Entered<'d, H> {
+    pub(crate) partial: &'d Template,
+    pub(crate) context: RunContext<'d, H>,
+}
+
+/// Enters the partial of an `include`, with the scope of the pairs over the caller's names; its name is told with it. The name
+/// is evaluated before the pairs, and the partial is looked up after them.
+#[inline(never)]
+pub(crate) fn enter_include<'d, H>(
+    alloc: Global,
+    context: &RunContext<'d, H>,
+    name: &Expression,
+    bindings: &[Binding],
+    state: &mut State<'_>,
+) -> Result<(String, Entered<'d, H>)>
+    ensures entered { Enters (λ r. (string_bytes r.0, (tree_of r.1.partial.now, r.1.context.depth))) result (include_entry (partials_of context.now.partials.now) context.now.depth (expression_view name.now) (bindings_view bindings.now) (environment_of state.old)) (layers_of state.old) (layers_of state.new) }
+    ensures within { IfOk result (λ r. IsWithin context.now r.1.partial.now r.1.context) }
+    ensures loops { IfOk result (λ r. without_innermost (loops_of state.new) ≡ loops_of state.old) }
+    ensures unchanged { OnErr result (loops_of state.new ≡ loops_of state.old) }
+{
+    let called = partial_name(alloc, name, state)?;
+    let scope = pairs_scope(alloc, bindings, state)?;
+    let partial = partial_called(alloc, context.partials, called.as_str())?;
+    let entered = enter(alloc, context, partial, scope, state)?;
+    Ok((called, entered))
+}
+
+/// Enters the partial of a jekyll `include`, with the scope of the pairs over the caller's names. The pairs are evaluated
+/// before the partial is looked up.
+#[inline(never)]
+pub(crate) fn enter_jekyll_include<'d, H>(
+    alloc: Global,
+    context: &RunContext<'d, H>,
+    name: &str,
+    bindings: &[Binding],
+    state: &mut State<'_>,
+) -> Result<Entered<'d, H>>
+    ensures entered { Enters (λ r. (tree_of r.partial.now, r.context.depth)) result (jekyll_entry (partials_of context.now.partials.now) context.now.depth name.now (bindings_view bindings.now) (environment_of state.old)) (layers_of state.old) (layers_of state.new) }
+    ensures within { IfOk result (λ r. IsWithin context.now r.partial.now r.context) }
+    ensures loops { IfOk result (λ r. without_innermost (loops_of state.new) ≡ loops_of state.old) }
+    ensures unchanged { OnErr result (loops_of state.new ≡ loops_of state.old) }
+{
+    let scope = include_scope(alloc, bindings, state)?;
+    let partial = partial_called(alloc, context.partials, name)?;
+    enter(alloc, context, partial, scope, state)
+}
+
+/// Enters a partial with a scope over the caller's names.
+fn enter<'d, H>(
+    alloc: Global,
+    context: &RunContext<'d, H>,
+    partial: &'d Template,
+    scope: Object,
+    state: &mut State<'_>,
+) -> Result<Entered<'d, H>>
+    requires { length (list_of partial.now) ≤ most_of context.now.partials.now }
+    ensures entered { Enters (λ r. (tree_of r.partial.now, r.context.depth)) result (entry_at context.now.depth (held scope) (tree_of partial.now)) (layers_of state.old) (layers_of state.new) }
+    ensures within { IfOk result (λ r. IsWithin context.now r.partial.now r.context) }
+    ensures loops { IfOk result (λ r. without_innermost (loops_of state.new) ≡ loops_of state.old) }
+    ensures unchanged { OnErr result (loops_of state.new ≡ loops_of state.old) }
+{
+    let context = context.deeper(alloc, partial)?;
+    state.push_scope(scope)?;
+    Ok(Entered { partial, context })
+}
 
 /// The name of a partial, which is a scalar's text.
 #[inline(never)]
@@ -56,11 +126,7 @@ pub(crate) fn pairs_scope(alloc: Global, bindings: &[Binding], state: &State<'_>
 
 /// The scope of the pairs of a jekyll `include`: one object that is named `include`, or nothing without pairs.
 #[inline(never)]
-pub(crate) fn include_scope(
-    alloc: Global,
-    bindings: &[Binding],
-    state: &State<'_>,
-) -> Result<Object>
+fn include_scope(alloc: Global, bindings: &[Binding], state: &State<'_>) -> Result<Object>
     ensures { Answers held result (bound_include (bindings_view bindings.now) (environment_of state.now)) }
 {
     let mut scope: Object = BTreeMap::new(alloc);
@@ -79,11 +145,7 @@ pub(crate) fn include_scope(
 /// The partial of this name.
 #[tactic(auto, using(crate::proofs::PartialRuns::small_list))]
 #[inline(never)]
-pub(crate) fn partial_called<'p>(
-    alloc: Global,
-    partials: &'p Partials,
-    name: &str,
-) -> Result<&'p Template>
+fn partial_called<'p>(alloc: Global, partials: &'p Partials, name: &str) -> Result<&'p Template>
     ensures found { Answers (λ t. tree_of t.now) result (partial_of (partials_of partials.now) name.now) }
     ensures small { IfOk result (λ t. length (list_of t.now) ≤ most_of partials.now) }
 {
@@ -122,16 +184,5 @@ fn unknown(alloc: Global, name: &str) -> Error
         alloc,
         ErrorKind::UnknownPartial,
         format_args!("no partial is named `{name}`; hand one in by this name"),
-    )
-}
-
-/// The fault of a partial that is entered with no depth left.
-pub(crate) fn too_deep(alloc: Global) -> Error
-    ensures { IsKindOrMemory ErrorKind.TooDeep result.kind }
-{
-    Error::new(
-        alloc,
-        ErrorKind::TooDeep,
-        "a partial runs in as many others as may be",
     )
 }

@@ -26,6 +26,3 @@ node_in named context n = node_meant (setting_of named context) context.depth n
 
 abbrev pub nodes_in : {H : Type 0} → (H → Text → FilterAnswer) → RunContext H → tree.Nodes → Run Nothing
 nodes_in named context nodes = nodes_meant (setting_of named context) context.depth nodes
-
-abbrev pub partial_in : {H : Type 0} → (H → Text → FilterAnswer) → RunContext H → tree.Nodes → Run Nothing
-partial_in named context nodes = deeper_meaning (setting_of named context) context.depth nodes

@@ -1,18 +1,12 @@
 //! Runs of `render`: a partial apart, once or for each item.
-ghost use Rattle.std.specs.Prelude.{◌≡◌, ◌≤◌, Some, None, length, string_bytes};
-ghost use Rattle.liquid_model.specs.Data.{Datum};
-ghost use Rattle.liquid_model.specs.Maps.{Map};
-ghost use Rattle.liquid_core.specs.Environment.{Environment, new_environment};
+ghost use Rattle.std.specs.Prelude.{◌≡◌, ◌<◌, ◌≤◌, Some, None};
 ghost use Rattle.liquid_core.specs.ExpressionView.{expression_view};
-ghost use Rattle.liquid_core.specs.States.{environment_of};
-ghost use Rattle.liquid_core.specs.LoopFrames.{frame_map};
 ghost use Rattle.liquid_syntax.specs.Flats.{bindings_view, each_view};
-ghost use Rattle.liquid_syntax.specs.Templates.{list_of, most_of, tree_of};
 ghost use Rattle.liquid_tree.specs.Tree as tree;
-ghost use Rattle.liquid_lib.specs.inside.Engine.{setting_of, node_in, partial_in};
-ghost use Rattle.liquid_lib.specs.Performs.{Meets, Performs, configuration_of, configuration_beside};
+ghost use Rattle.liquid_lib.specs.inside.Engine.{setting_of, node_in};
+ghost use Rattle.liquid_lib.specs.inside.Partials.{item_scope};
+ghost use Rattle.liquid_lib.specs.Performs.{Meets, Performs, configuration_of};
 ghost use Rattle.liquid_meaning.specs.Meaning.{deeper_meaning, render_apart};
-ghost use Rattle.liquid_meaning.specs.Runs.{apart};
 
 use super::run_range;
 use crate::context::RunContext;
@@ -20,10 +14,10 @@ use crate::counted::CountedWrite;
 use crate::fault_location::in_partial;
 use crate::loop_turns::ends_items;
 use crate::output::Output;
-use crate::own_state::{frame_at, own_state, state_at};
-use crate::partial::{pairs_scope, partial_name, partial_rendered, too_deep};
-use liquid_core::{Expression, Interrupt, LoopFrame, NamedFilters, Result, State};
-use liquid_syntax::{Binding, Each, Template};
+use crate::own_state::{EachItem, enter_render, enter_render_item, left_by};
+use crate::partial::partial_name;
+use liquid_core::{Expression, Interrupt, NamedFilters, Result, State};
+use liquid_syntax::{Binding, Each};
 use std::alloc::Global;
 
 /// Runs a partial once, apart: it sees the pairs alone. The caller's state is only read.
@@ -42,13 +36,13 @@ pub(super) fn run_render<'d, W: CountedWrite, H: NamedFilters>(
         (configuration_of W.contents W.failure_count out.new state.now) }
     ensures same_writer { out.new.writer.ghost_name ≡ out.old.writer.ghost_name }
 {
-    let called = partial_name(alloc, name, state)?;
-    let scope = pairs_scope(alloc, bindings, state)?;
-    let partial = partial_rendered(alloc, context.partials, called.as_str())?;
-    let own = own_state(alloc, scope)?;
-    let answer = run_apart(alloc, context, partial, own, out);
-    in_partial(alloc, called.as_str(), answer)?;
-    Ok(())
+    let (called, apart) = enter_render(alloc, context, name, bindings, state)?;
+    let inner = apart.inner;
+    let mut own = apart.own;
+    let nodes = inner.partial.nodes();
+    let answer = run_range(alloc, &inner.context, nodes, 0, nodes.len(), out, &mut own);
+    drop(own);
+    in_partial(alloc, called.as_str(), answer)
 }
 
 /// Runs a partial once for each item, up to one that leaves a break. The caller's state is only read.
@@ -78,8 +72,12 @@ pub(super) fn run_render_each<'d, W: CountedWrite, H: NamedFilters>(
     };
     let mut at = 0;
     while at < source.count {
-        let frame = frame_at(&*each, &source, at);
-        let left = run_item(alloc, &near, called.as_str(), bindings, frame, out, state)?;
+        let item = EachItem {
+            each: &*each,
+            source: &source,
+            at,
+        };
+        let left = run_item(alloc, &near, called.as_str(), bindings, &item, out, state)?;
         if ends_items(left) {
             return Ok(());
         }
@@ -96,51 +94,23 @@ fn run_item<'d, W: CountedWrite, H: NamedFilters>(
     context: &RunContext<'d, H>,
     name: &str,
     bindings: &[Binding],
-    frame: LoopFrame<'d>,
+    item: &EachItem<'d>,
     out: &mut Output<'_, W>,
     state: &State<'_>,
 ) -> Result<Option<Interrupt>>
-    ensures performs { (over : Map Datum) → ((local : Map Datum) → frame_map frame.entry local ≡ over) →
-        Meets (λ i. i) result (render_apart (setting_of H.named context.now) (deeper_meaning (setting_of H.named context.now) context.now.depth) name.now (bindings_view bindings.now) over)
+    requires item { item.now.at < item.now.source.now.count }
+    requires within { item.now.source.now.count ≤ 9223372036854775807 }
+    ensures performs { Meets (λ i. i) result (render_apart (setting_of H.named context.now) (deeper_meaning (setting_of H.named context.now) context.now.depth) name.now (bindings_view bindings.now) (item_scope item.now))
         (configuration_of W.contents W.failure_count out.old state.now)
         (configuration_of W.contents W.failure_count out.new state.now) }
     ensures same_writer { out.new.writer.ghost_name ≡ out.old.writer.ghost_name }
 {
-    let names = pairs_scope(alloc, bindings, state)?;
-    let partial = partial_rendered(alloc, context.partials, name)?;
-    let own = state_at(alloc, names, frame)?;
-    let answer = run_apart(alloc, context, partial, own, out);
-    in_partial(alloc, name, answer)
-}
-
-/// Enters a partial in a state of its own, which holds certain names alone: the interrupt that it leaves.
-#[cycle(run)]
-#[inline(never)]
-fn run_apart<'d, W: CountedWrite, H: NamedFilters>(
-    alloc: Global,
-    context: &RunContext<'d, H>,
-    partial: &'d Template,
-    own: State<'d>,
-    out: &mut Output<'_, W>,
-) -> Result<Option<Interrupt>>
-    requires small { length (list_of partial.now) ≤ most_of context.now.partials.now }
-    ensures performs { (names : Map Datum) (e : Environment) → environment_of own.entry ≡ new_environment names →
-        Meets (λ i. i) result (apart names (partial_in H.named context.now (tree_of partial.now)))
-        (configuration_beside W.contents W.failure_count out.old e)
-        (configuration_beside W.contents W.failure_count out.new e) }
-    ensures same_writer { out.new.writer.ghost_name ≡ out.old.writer.ghost_name }
-{
-    if context.depth == 0 {
-        return Err(too_deep(alloc));
-    }
-    let inner = RunContext {
-        partials: context.partials,
-        host: context.host,
-        depth: context.depth - 1,
-        positions: partial.positions(),
-    };
-    let mut own = own;
-    let nodes = partial.nodes();
-    run_range(alloc, &inner, nodes, 0, nodes.len(), out, &mut own)?;
-    Ok(own.interrupt)
+    let apart = enter_render_item(alloc, context, name, bindings, item, state)?;
+    let inner = apart.inner;
+    let mut own = apart.own;
+    let nodes = inner.partial.nodes();
+    let answer = run_range(alloc, &inner.context, nodes, 0, nodes.len(), out, &mut own);
+    let left = left_by(in_partial(alloc, name, answer), &own);
+    drop(own);
+    left
 }

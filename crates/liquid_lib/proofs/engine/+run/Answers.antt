@@ -1,4 +1,4 @@
-use Rattle.std.proofs.Common.{rules, arith, ℕ, ◌≡◌, ◌+◌, ◌-◌, ◌*◌, ◌<◌, ◌≤◌, ◌∙◌, length, map, true, refl, sym, ap, subst, string_bytes, Option, Some, None, Ok, Err, List, [], false}
+use Rattle.std.proofs.Common.{Result, rules, arith, ℕ, ◌≡◌, ◌+◌, ◌-◌, ◌*◌, ◌<◌, ◌≤◌, ◌∙◌, length, map, true, refl, sym, ap, subst, string_bytes, Option, Some, None, Ok, Err, List, [], false}
 use Rattle.std.specs.Option.{option_map}
 use Rattle.std.proofs.lemmas.Result.{err_from_is_err_and}
 use Rattle.liquid_model.specs.Answer.{Faulted, IsValueOrMemory}
@@ -36,17 +36,18 @@ use Rattle.liquid_lib.specs.inside.Changed.{shown_if_changed}
 use Rattle.liquid_lib.specs.inside.Choices.{CaseStands, IsCase, Chosen, NodeComesTo}
 use Rattle.liquid_lib.specs.inside.Engine.{setting_of, node_meant, nodes_meant}
 use Rattle.liquid_lib.specs.Kept.{Keeps, LayersKept}
-use Rattle.liquid_lib.specs.inside.Partials.{partial_of, rendered_of}
+use Rattle.liquid_lib.specs.inside.Partials.{item_scope}
+use Rattle.liquid_meaning.specs.Within.{Within}
+use Rattle.liquid_tree.specs.Names.{partials_names}
 use Rattle.liquid_lib.specs.Performs.{Configuration, Meets, Performs, configuration_of, unit, Writes}
 use Rattle.liquid_lib.specs.Sinks.{sink_of}
-use Rattle.liquid_lib.proofs.Apart.{apart_met, apart_faulted}
 use Rattle.liquid_lib.proofs.Cases.{the_case, case_performs, case_keeps, case_other}
 use Rattle.liquid_lib.proofs.Choices.{chosen_inside, chosen_performs, refused_performs}
 use Rattle.liquid_lib.proofs.Going.{leaf_performs, leaf_keeps, leaf_other, one, one_performs, one_keeps, one_other, two, two_performs, two_keeps, two_other, going_fault, going_halt, going_node, going_on, going_end, going_past, kept_step, alone_step, node_before}
 use Rattle.liquid_lib.proofs.Interrupts.{interrupt_of, some_of, none_of}
 use Rattle.liquid_lib.proofs.Joined.{by_rule, bind_met, bind_faulted, buffered_met, buffered_faulted, buffered_memory, change_met, done_met, gives_merged, memory_at}
 use Rattle.liquid_lib.proofs.Kept.{kept_same, kept_after, kept_assigned, kept_interrupt}
-use Rattle.liquid_lib.proofs.PartialRuns.{reserve, reserve_step, deeper_is, scope_deep, apart_deep, found_some, pairs_refused, not_found, entered, include_refused, include_named, jekyll_met, render_refused, render_faulted, render_met, within_all, kept_around, partial_met}
+use Rattle.liquid_lib.proofs.PartialRuns.{reserve, reserve_left, same_setting, include_found, include_refused, include_runs, item_refused, item_runs, jekyll_found, jekyll_refused, jekyll_runs, render_refused, render_runs, within_all, kept_around, partial_met}
 use Rattle.liquid_lib.proofs.ItemRuns.{items_left, item_on, item_breaks, item_faulted, items_end}
 use Rattle.liquid_lib.proofs.RenderEach.{item_run, items_run, name_refused, items_refused, items_met}
 use Rattle.liquid_lib.proofs.Retold.{fault_again, met_again}
@@ -400,181 +401,174 @@ run_capture-returns-in_err-from_str-clause-kept g t c b here N names inside =
 
 pub run_include-returns-in_err-called-clause-performs : goal.run_include-returns-in_err-called-clause-performs
 run_include-returns-in_err-called-clause-performs g t c =
+    let sink = sink_of g.W.CountedWrite.contents g.W.CountedWrite.failure_count in
     let place = configuration_of g.W.CountedWrite.contents g.W.CountedWrite.failure_count in
+    let setting = setting_of g.H.NamedFilters.named c.args.context.now in
+    let depth = c.args.context.now.depth in
+    let bs = bindings_view c.args.bindings.now in
     let p = err_from_is_err_and c.from_residual.result c.from_residual.ensures.1 in
-    rw (p.1, p.2) (include_refused (setting_of g.H.NamedFilters.named c.args.context.now) (deeper_meaning (setting_of g.H.NamedFilters.named c.args.context.now) c.args.context.now.depth) (expression_view c.args.name.now) (bindings_view c.args.bindings.now) c.in_err-called.field-0.0 (place c.args.out.now c.args.state.now) c.in_err-called.ensures)
+    rw (p.1, p.2) (subst (λ l. Performs (Err c.in_err-called.field-0.0) (node_meaning setting (deeper_meaning setting depth) (tree.include (expression_view c.args.name.now) bs)) (place c.args.out.now c.args.state.now) (record { sink = sink c.args.out.now; environment = merged_layers l })) (sym c.in_err-called.ensures.entered.1)
+    (include_refused setting depth (expression_view c.args.name.now) bs c.in_err-called.field-0.0 (place c.args.out.now c.args.state.now) c.in_err-called.ensures.entered.0))
 
-pub run_include-returns-in_err-scope-clause-performs : goal.run_include-returns-in_err-scope-clause-performs
-run_include-returns-in_err-scope-clause-performs g t c =
-    let place = configuration_of g.W.CountedWrite.contents g.W.CountedWrite.failure_count in
-    let p = err_from_is_err_and c.from_residual-in_err-scope.result c.from_residual-in_err-scope.ensures.1 in
-    rw (p.1, p.2) (include_named (setting_of g.H.NamedFilters.named c.args.context.now) (deeper_meaning (setting_of g.H.NamedFilters.named c.args.context.now) c.args.context.now.depth) (expression_view c.args.name.now) (bindings_view c.args.bindings.now) (Err c.in_err-scope.field-0.0) (string_bytes c.in_ok-called.called) (place c.args.out.now c.args.state.now) (place c.args.out.now c.args.state.now) c.in_ok-called.ensures
-    (pairs_refused unit pairs_scope (bindings_view c.args.bindings.now) (partial_of (partials_of c.args.context.now.partials.now) (string_bytes c.in_ok-called.called)) (λ scope partial. with_scope scope (deeper_meaning (setting_of g.H.NamedFilters.named c.args.context.now) c.args.context.now.depth partial)) c.in_err-scope.field-0.0 (place c.args.out.now c.args.state.now) c.in_err-scope.ensures))
+pub run_include-returns-in_err-called-clause-kept : goal.run_include-returns-in_err-called-clause-kept
+run_include-returns-in_err-called-clause-kept g t c N names inside = kept_same N (layers_of c.args.state.now) (layers_of c.enter_include.new.state) c.in_err-called.ensures.entered.1
 
-pub run_include-returns-in_err-partial-clause-performs : goal.run_include-returns-in_err-partial-clause-performs
-run_include-returns-in_err-partial-clause-performs g t c =
-    let place = configuration_of g.W.CountedWrite.contents g.W.CountedWrite.failure_count in
-    let p = err_from_is_err_and c.from_residual-in_err-partial.result c.from_residual-in_err-partial.ensures.1 in
-    rw (p.1, p.2) (include_named (setting_of g.H.NamedFilters.named c.args.context.now) (deeper_meaning (setting_of g.H.NamedFilters.named c.args.context.now) c.args.context.now.depth) (expression_view c.args.name.now) (bindings_view c.args.bindings.now) (Err c.in_err-partial.field-0.0) (string_bytes c.in_ok-called.called) (place c.args.out.now c.args.state.now) (place c.args.out.now c.args.state.now) c.in_ok-called.ensures
-    (not_found unit pairs_scope (bindings_view c.args.bindings.now) (partial_of (partials_of c.args.context.now.partials.now) (string_bytes c.in_ok-called.called)) (λ scope partial. with_scope scope (deeper_meaning (setting_of g.H.NamedFilters.named c.args.context.now) c.args.context.now.depth partial)) c.in_err-partial.field-0.0 (held c.in_ok-scope.scope) (place c.args.out.now c.args.state.now) c.in_ok-scope.ensures (subst (λ x. Faulted c.in_err-partial.field-0.0.kind (partial_of (partials_of c.args.context.now.partials.now) x)) c.as_str.ensures.value c.in_err-partial.ensures.found)))
+pub run_include-run_range-answer-requires : goal.run_include-run_range-answer-requires
+run_include-run_range-answer-requires g t c κs within =
+    let (small, deeper, ps, hs) = c.in_ok-called.ensures.within in
+    let few : length c.nodes-nodes.result.now ≤ most_of c.args.context.now.partials.now = subst (λ n. n ≤ most_of c.args.context.now.partials.now) (sym (ap length c.nodes-nodes.ensures)) small in
+    let step = reserve_left c.args.context.now.depth c.in_ok-called.inner.context.depth (length c.nodes-nodes.result.now) c.args.context.now.partials.now c.in_ok-called.inner.context.partials.now deeper ps few in
+    (let lt : 4 * (length c.nodes-nodes.result.now - 0) + 1 + reserve c.in_ok-called.inner.context.depth c.in_ok-called.inner.context.partials.now < t = omega arith in lt, (within.0, (within.1, (forest_of c.in_ok-called.inner.partial.now, (stood_in c.in_ok-called.inner.partial.now c.nodes-nodes.result.now c.nodes-nodes.ensures)))))
 
 pub run_include-returns-clause-performs : goal.run_include-returns-clause-performs
+unfolding tree_of
 run_include-returns-clause-performs g t c =
+    let sink = sink_of g.W.CountedWrite.contents g.W.CountedWrite.failure_count in
     let place = configuration_of g.W.CountedWrite.contents g.W.CountedWrite.failure_count in
-    met_again c.run_partial-answer.result c.in_partial.result c.in_partial.ensures
-    (include_named (setting_of g.H.NamedFilters.named c.args.context.now) (deeper_meaning (setting_of g.H.NamedFilters.named c.args.context.now) c.args.context.now.depth) (expression_view c.args.name.now) (bindings_view c.args.bindings.now) c.run_partial-answer.result (string_bytes c.in_ok-called.called) (place c.args.out.now c.args.state.now) (place c.run_partial-answer.new.out c.run_partial-answer.new.state) c.in_ok-called.ensures
-    (entered unit pairs_scope (bindings_view c.args.bindings.now) (partial_of (partials_of c.args.context.now.partials.now) (string_bytes c.in_ok-called.called)) (λ scope partial. with_scope scope (deeper_meaning (setting_of g.H.NamedFilters.named c.args.context.now) c.args.context.now.depth partial)) c.run_partial-answer.result (held c.in_ok-scope.scope) (tree_of c.in_ok-partial.partial.now) (place c.args.out.now c.args.state.now) (place c.run_partial-answer.new.out c.run_partial-answer.new.state) c.in_ok-scope.ensures (subst (λ x. partial_of (partials_of c.args.context.now.partials.now) x ≡ Ok (tree_of c.in_ok-partial.partial.now)) c.as_str.ensures.value c.in_ok-partial.ensures.found) c.run_partial-answer.ensures.performs))
+    let setting = setting_of g.H.NamedFilters.named c.args.context.now in
+    let depth = c.args.context.now.depth in
+    let bs = bindings_view c.args.bindings.now in
+    let (small, deeper, ps, hs) = c.in_ok-called.ensures.within in
+    let same = same_setting g.H.NamedFilters.named c.args.context.now c.in_ok-called.inner.context ps hs in
+    let (scope, is, pushed) = c.in_ok-called.ensures.entered in
+    let stood = stood_in c.in_ok-called.inner.partial.now c.nodes-nodes.result.now c.nodes-nodes.ensures in
+    let kept = c.run_range-answer.ensures.kept (forest_of c.in_ok-called.inner.partial.now) stood (λ name. true) (within_all _) (within_all _) in
+    let meant = nodes_meant (setting_of g.H.NamedFilters.named c.in_ok-called.inner.context) c.in_ok-called.inner.context.depth (tree_of c.in_ok-called.inner.partial.now) in
+    met_again c.run_range-answer.result c.in_partial.result c.in_partial.ensures
+    (include_runs setting depth (expression_view c.args.name.now) bs (setting_of g.H.NamedFilters.named c.in_ok-called.inner.context) c.run_range-answer.result scope (string_bytes c.in_ok-called.called) (tree_of c.in_ok-called.inner.partial.now) c.in_ok-called.inner.context.depth (place c.args.out.now c.args.state.now) (place c.run_range-answer.new.out c.pop_scope.new.self) same is
+    (partial_met scope c.run_range-answer.result meant (sink c.args.out.now) (sink c.run_range-answer.new.out) (layers_of c.args.state.now) (layers_of c.enter_include.new.state) (layers_of c.run_range-answer.new.state) (layers_of c.pop_scope.new.self)
+    pushed kept.scopes c.pop_scope.ensures.popped (c.run_range-answer.ensures.performs (forest_of c.in_ok-called.inner.partial.now) stood)))
 
 pub run_include-returns-clause-kept : goal.run_include-returns-clause-kept
+unfolding tree_of
 run_include-returns-clause-kept g t c N names inside =
-    let found = subst (λ x. partial_of (partials_of c.args.context.now.partials.now) x ≡ Ok (tree_of c.in_ok-partial.partial.now)) c.as_str.ensures.value c.in_ok-partial.ensures.found in
-    c.run_partial-answer.ensures.kept N (within_found N (partials_of c.args.context.now.partials.now) (string_bytes c.in_ok-called.called) (tree_of c.in_ok-partial.partial.now) inside (found_some _ UnknownPartial _ found)) inside
+    let (small, deeper, ps, hs) = c.in_ok-called.ensures.within in
+    let same = same_setting g.H.NamedFilters.named c.args.context.now c.in_ok-called.inner.context ps hs in
+    let (scope, is, pushed) = c.in_ok-called.ensures.entered in
+    let known = include_found (partials_of c.args.context.now.partials.now) c.args.context.now.depth (expression_view c.args.name.now) (bindings_view c.args.bindings.now) (environment_of c.args.state.now) scope (string_bytes c.in_ok-called.called) (tree_of c.in_ok-called.inner.partial.now) c.in_ok-called.inner.context.depth is in
+    let within = within_found N (partials_of c.args.context.now.partials.now) (string_bytes c.in_ok-called.called) (tree_of c.in_ok-called.inner.partial.now) inside known in
+    kept_around N scope (layers_of c.args.state.now) (layers_of c.enter_include.new.state) (layers_of c.run_range-answer.new.state) (layers_of c.pop_scope.new.self)
+    pushed (c.run_range-answer.ensures.kept (forest_of c.in_ok-called.inner.partial.now) (stood_in c.in_ok-called.inner.partial.now c.nodes-nodes.result.now c.nodes-nodes.ensures) N within (subst (λ z. Within N (partials_names z.partials)) (sym same) inside)) c.pop_scope.ensures.popped
 
-pub run_jekyll_include-returns-in_err-scope-clause-performs : goal.run_jekyll_include-returns-in_err-scope-clause-performs
-run_jekyll_include-returns-in_err-scope-clause-performs g t c =
+pub run_include-returns-clause-loops : goal.run_include-returns-clause-loops
+run_include-returns-clause-loops g t c = c.pop_scope.ensures.loops ∙ ap without_innermost c.run_range-answer.ensures.loops ∙ c.in_ok-called.ensures.loops
+
+pub run_jekyll_include-returns-in_err-inner-clause-performs : goal.run_jekyll_include-returns-in_err-inner-clause-performs
+run_jekyll_include-returns-in_err-inner-clause-performs g t c =
+    let sink = sink_of g.W.CountedWrite.contents g.W.CountedWrite.failure_count in
     let place = configuration_of g.W.CountedWrite.contents g.W.CountedWrite.failure_count in
+    let setting = setting_of g.H.NamedFilters.named c.args.context.now in
+    let depth = c.args.context.now.depth in
+    let bs = bindings_view c.args.bindings.now in
     let p = err_from_is_err_and c.from_residual.result c.from_residual.ensures.1 in
-    rw (p.1, p.2) (jekyll_met (setting_of g.H.NamedFilters.named c.args.context.now) (deeper_meaning (setting_of g.H.NamedFilters.named c.args.context.now) c.args.context.now.depth) c.args.name.now (bindings_view c.args.bindings.now) (Err c.in_err-scope.field-0.0) (place c.args.out.now c.args.state.now) (place c.args.out.now c.args.state.now)
-    (pairs_refused unit include_scope (bindings_view c.args.bindings.now) (partial_of (partials_of c.args.context.now.partials.now) c.args.name.now) (λ scope partial. with_scope scope (deeper_meaning (setting_of g.H.NamedFilters.named c.args.context.now) c.args.context.now.depth partial)) c.in_err-scope.field-0.0 (place c.args.out.now c.args.state.now) c.in_err-scope.ensures))
+    rw (p.1, p.2) (subst (λ l. Performs (Err c.in_err-inner.field-0.0) (node_meaning setting (deeper_meaning setting depth) (tree.jekyll_include c.args.name.now bs)) (place c.args.out.now c.args.state.now) (record { sink = sink c.args.out.now; environment = merged_layers l })) (sym c.in_err-inner.ensures.entered.1)
+    (jekyll_refused setting depth c.args.name.now bs c.in_err-inner.field-0.0 (place c.args.out.now c.args.state.now) c.in_err-inner.ensures.entered.0))
 
-pub run_jekyll_include-returns-in_err-partial-clause-performs : goal.run_jekyll_include-returns-in_err-partial-clause-performs
-run_jekyll_include-returns-in_err-partial-clause-performs g t c =
-    let place = configuration_of g.W.CountedWrite.contents g.W.CountedWrite.failure_count in
-    let p = err_from_is_err_and c.from_residual-in_err-partial.result c.from_residual-in_err-partial.ensures.1 in
-    rw (p.1, p.2) (jekyll_met (setting_of g.H.NamedFilters.named c.args.context.now) (deeper_meaning (setting_of g.H.NamedFilters.named c.args.context.now) c.args.context.now.depth) c.args.name.now (bindings_view c.args.bindings.now) (Err c.in_err-partial.field-0.0) (place c.args.out.now c.args.state.now) (place c.args.out.now c.args.state.now)
-    (not_found unit include_scope (bindings_view c.args.bindings.now) (partial_of (partials_of c.args.context.now.partials.now) c.args.name.now) (λ scope partial. with_scope scope (deeper_meaning (setting_of g.H.NamedFilters.named c.args.context.now) c.args.context.now.depth partial)) c.in_err-partial.field-0.0 (held c.in_ok-scope.scope) (place c.args.out.now c.args.state.now) c.in_ok-scope.ensures c.in_err-partial.ensures.found))
+pub run_jekyll_include-returns-in_err-inner-clause-kept : goal.run_jekyll_include-returns-in_err-inner-clause-kept
+run_jekyll_include-returns-in_err-inner-clause-kept g t c N names inside = kept_same N (layers_of c.args.state.now) (layers_of c.enter_jekyll_include.new.state) c.in_err-inner.ensures.entered.1
+
+pub run_jekyll_include-run_range-answer-requires : goal.run_jekyll_include-run_range-answer-requires
+run_jekyll_include-run_range-answer-requires g t c κs within =
+    let (small, deeper, ps, hs) = c.in_ok-inner.ensures.within in
+    let few : length c.nodes-nodes.result.now ≤ most_of c.args.context.now.partials.now = subst (λ n. n ≤ most_of c.args.context.now.partials.now) (sym (ap length c.nodes-nodes.ensures)) small in
+    let step = reserve_left c.args.context.now.depth c.in_ok-inner.inner.context.depth (length c.nodes-nodes.result.now) c.args.context.now.partials.now c.in_ok-inner.inner.context.partials.now deeper ps few in
+    (let lt : 4 * (length c.nodes-nodes.result.now - 0) + 1 + reserve c.in_ok-inner.inner.context.depth c.in_ok-inner.inner.context.partials.now < t = omega arith in lt, (within.0, (within.1, (forest_of c.in_ok-inner.inner.partial.now, (stood_in c.in_ok-inner.inner.partial.now c.nodes-nodes.result.now c.nodes-nodes.ensures)))))
 
 pub run_jekyll_include-returns-clause-performs : goal.run_jekyll_include-returns-clause-performs
+unfolding tree_of
 run_jekyll_include-returns-clause-performs g t c =
+    let sink = sink_of g.W.CountedWrite.contents g.W.CountedWrite.failure_count in
     let place = configuration_of g.W.CountedWrite.contents g.W.CountedWrite.failure_count in
-    let after = place c.run_partial-answer.new.out c.run_partial-answer.new.state in
-    met_again c.run_partial-answer.result c.in_partial.result c.in_partial.ensures
-    (jekyll_met (setting_of g.H.NamedFilters.named c.args.context.now) (deeper_meaning (setting_of g.H.NamedFilters.named c.args.context.now) c.args.context.now.depth) c.args.name.now (bindings_view c.args.bindings.now) c.run_partial-answer.result (place c.args.out.now c.args.state.now) after
-    (entered unit include_scope (bindings_view c.args.bindings.now) (partial_of (partials_of c.args.context.now.partials.now) c.args.name.now) (λ scope partial. with_scope scope (deeper_meaning (setting_of g.H.NamedFilters.named c.args.context.now) c.args.context.now.depth partial)) c.run_partial-answer.result (held c.in_ok-scope.scope) (tree_of c.in_ok-partial.partial.now) (place c.args.out.now c.args.state.now) after c.in_ok-scope.ensures c.in_ok-partial.ensures.found c.run_partial-answer.ensures.performs))
+    let setting = setting_of g.H.NamedFilters.named c.args.context.now in
+    let depth = c.args.context.now.depth in
+    let bs = bindings_view c.args.bindings.now in
+    let (small, deeper, ps, hs) = c.in_ok-inner.ensures.within in
+    let same = same_setting g.H.NamedFilters.named c.args.context.now c.in_ok-inner.inner.context ps hs in
+    let (scope, is, pushed) = c.in_ok-inner.ensures.entered in
+    let stood = stood_in c.in_ok-inner.inner.partial.now c.nodes-nodes.result.now c.nodes-nodes.ensures in
+    let kept = c.run_range-answer.ensures.kept (forest_of c.in_ok-inner.inner.partial.now) stood (λ name. true) (within_all _) (within_all _) in
+    let meant = nodes_meant (setting_of g.H.NamedFilters.named c.in_ok-inner.inner.context) c.in_ok-inner.inner.context.depth (tree_of c.in_ok-inner.inner.partial.now) in
+    met_again c.run_range-answer.result c.in_partial.result c.in_partial.ensures
+    (jekyll_runs setting depth c.args.name.now bs (setting_of g.H.NamedFilters.named c.in_ok-inner.inner.context) c.run_range-answer.result scope (tree_of c.in_ok-inner.inner.partial.now) c.in_ok-inner.inner.context.depth (place c.args.out.now c.args.state.now) (place c.run_range-answer.new.out c.pop_scope.new.self) same is
+    (partial_met scope c.run_range-answer.result meant (sink c.args.out.now) (sink c.run_range-answer.new.out) (layers_of c.args.state.now) (layers_of c.enter_jekyll_include.new.state) (layers_of c.run_range-answer.new.state) (layers_of c.pop_scope.new.self)
+    pushed kept.scopes c.pop_scope.ensures.popped (c.run_range-answer.ensures.performs (forest_of c.in_ok-inner.inner.partial.now) stood)))
 
 pub run_jekyll_include-returns-clause-kept : goal.run_jekyll_include-returns-clause-kept
+unfolding tree_of
 run_jekyll_include-returns-clause-kept g t c N names inside =
-    c.run_partial-answer.ensures.kept N (within_found N (partials_of c.args.context.now.partials.now) c.args.name.now (tree_of c.in_ok-partial.partial.now) inside (found_some _ UnknownPartial _ c.in_ok-partial.ensures.found)) inside
+    let (small, deeper, ps, hs) = c.in_ok-inner.ensures.within in
+    let same = same_setting g.H.NamedFilters.named c.args.context.now c.in_ok-inner.inner.context ps hs in
+    let (scope, is, pushed) = c.in_ok-inner.ensures.entered in
+    let known = jekyll_found (partials_of c.args.context.now.partials.now) c.args.context.now.depth c.args.name.now (bindings_view c.args.bindings.now) (environment_of c.args.state.now) scope (tree_of c.in_ok-inner.inner.partial.now) c.in_ok-inner.inner.context.depth is in
+    let within = within_found N (partials_of c.args.context.now.partials.now) c.args.name.now (tree_of c.in_ok-inner.inner.partial.now) inside known in
+    kept_around N scope (layers_of c.args.state.now) (layers_of c.enter_jekyll_include.new.state) (layers_of c.run_range-answer.new.state) (layers_of c.pop_scope.new.self)
+    pushed (c.run_range-answer.ensures.kept (forest_of c.in_ok-inner.inner.partial.now) (stood_in c.in_ok-inner.inner.partial.now c.nodes-nodes.result.now c.nodes-nodes.ensures) N within (subst (λ z. Within N (partials_names z.partials)) (sym same) inside)) c.pop_scope.ensures.popped
 
-pub run_partial-returns-then-context-eq0-clause-performs : goal.run_partial-returns-then-context-eq0-clause-performs
-run_partial-returns-then-context-eq0-clause-performs g t c =
-    let sink = sink_of g.W.CountedWrite.contents g.W.CountedWrite.failure_count in
-    scope_deep (setting_of g.H.NamedFilters.named c.args.context.now) c.args.context.now.depth (tree_of c.args.partial.now) (held c.args.scope) c.too_deep.result (sink c.args.out.now) (environment_of c.args.state.now) c.if-context-eq0.true c.too_deep.ensures
-
-pub run_partial-returns-in_err-push_scope-clause-performs : goal.run_partial-returns-in_err-push_scope-clause-performs
-run_partial-returns-in_err-push_scope-clause-performs g t c =
-    let p = err_from_is_err_and c.from_residual.result c.from_residual.ensures.1 in
-    rw (p.1, p.2) (memory_at _ c.in_err-push_scope.ensures.pushed)
-
-pub run_partial-returns-clause-loops : goal.run_partial-returns-clause-loops
-run_partial-returns-clause-loops g t c =
-    c.pop_scope.ensures.loops ∙ ap without_innermost (c.run_range-answer.ensures.loops ∙ c.in_ok-push_scope.ensures.over) ∙ named_off (loops_of c.args.state.now) c.args.scope
-
-pub run_partial-run_range-answer-requires : goal.run_partial-run_range-answer-requires
-run_partial-run_range-answer-requires g t c κs within =
-    let small : length c.nodes-nodes.result.now ≤ most_of c.args.context.now.partials.now = subst (λ n. n ≤ most_of c.args.context.now.partials.now) (sym (ap length c.nodes-nodes.ensures)) c.requires.small in
-    let step = reserve_step c.args.context.now.depth (length c.nodes-nodes.result.now) c.args.context.now.partials.now c.if-context-eq0.false small in
-    (let lt : 4 * (length c.nodes-nodes.result.now - 0) + 1 + reserve (c.args.context.now.depth - 1) c.args.context.now.partials.now < t = omega arith in lt, (within.0, (within.1, (forest_of c.args.partial.now, (stood_in c.args.partial.now c.nodes-nodes.result.now c.nodes-nodes.ensures)))))
-
-pub run_partial-returns-clause-performs : goal.run_partial-returns-clause-performs
-unfolding tree_of
-run_partial-returns-clause-performs g t c =
-    let place = configuration_of g.W.CountedWrite.contents g.W.CountedWrite.failure_count in
-    let sink = sink_of g.W.CountedWrite.contents g.W.CountedWrite.failure_count in
-    let kept = c.run_range-answer.ensures.kept (forest_of c.args.partial.now) (stood_in c.args.partial.now c.nodes-nodes.result.now c.nodes-nodes.ensures) (λ name. true) (within_all _) (within_all _) in
-    subst (λ m. Performs c.run_range-answer.result (with_scope (held c.args.scope) m) (place c.args.out.now c.args.state.now) (place c.run_range-answer.new.out c.pop_scope.new.self)) (sym (deeper_is (setting_of g.H.NamedFilters.named c.args.context.now) c.args.context.now.depth (tree_of c.args.partial.now) c.if-context-eq0.false))
-    (partial_met (held c.args.scope) c.run_range-answer.result (nodes_meant (setting_of g.H.NamedFilters.named c.args.context.now) (c.args.context.now.depth - 1) (tree_of c.args.partial.now)) (sink c.args.out.now) (sink c.run_range-answer.new.out) (layers_of c.args.state.now) (layers_of c.push_scope.new.self) (layers_of c.run_range-answer.new.state) (layers_of c.pop_scope.new.self)
-    c.in_ok-push_scope.ensures.pushed kept.scopes c.pop_scope.ensures.popped (c.run_range-answer.ensures.performs (forest_of c.args.partial.now) (stood_in c.args.partial.now c.nodes-nodes.result.now c.nodes-nodes.ensures)))
-
-pub run_partial-returns-clause-kept : goal.run_partial-returns-clause-kept
-unfolding tree_of
-run_partial-returns-clause-kept g t c N names inside =
-    kept_around N (held c.args.scope) (layers_of c.args.state.now) (layers_of c.push_scope.new.self) (layers_of c.run_range-answer.new.state) (layers_of c.pop_scope.new.self)
-    c.in_ok-push_scope.ensures.pushed (c.run_range-answer.ensures.kept (forest_of c.args.partial.now) (stood_in c.args.partial.now c.nodes-nodes.result.now c.nodes-nodes.ensures) N names inside) c.pop_scope.ensures.popped
+pub run_jekyll_include-returns-clause-loops : goal.run_jekyll_include-returns-clause-loops
+run_jekyll_include-returns-clause-loops g t c = c.pop_scope.ensures.loops ∙ ap without_innermost c.run_range-answer.ensures.loops ∙ c.in_ok-inner.ensures.loops
 
 pub renders::run_render-returns-in_err-called-clause-performs : goal.renders::run_render-returns-in_err-called-clause-performs
 renders::run_render-returns-in_err-called-clause-performs g t c =
+    let sink = sink_of g.W.CountedWrite.contents g.W.CountedWrite.failure_count in
     let place = configuration_of g.W.CountedWrite.contents g.W.CountedWrite.failure_count in
+    let setting = setting_of g.H.NamedFilters.named c.args.context.now in
+    let depth = c.args.context.now.depth in
+    let bs = bindings_view c.args.bindings.now in
     let p = err_from_is_err_and c.from_residual.result c.from_residual.ensures.1 in
-    rw (p.1, p.2) (render_refused (setting_of g.H.NamedFilters.named c.args.context.now) (deeper_meaning (setting_of g.H.NamedFilters.named c.args.context.now) c.args.context.now.depth) (expression_view c.args.name.now) (bindings_view c.args.bindings.now) c.in_err-called.field-0.0 (place c.args.out.now c.args.state.now) c.in_err-called.ensures)
+    rw (p.1, p.2) (render_refused setting depth (expression_view c.args.name.now) bs c.in_err-called.field-0.0 (place c.args.out.now c.args.state.now) c.in_err-called.ensures.apart)
 
-pub renders::run_render-returns-in_err-scope-clause-performs : goal.renders::run_render-returns-in_err-scope-clause-performs
-renders::run_render-returns-in_err-scope-clause-performs g t c =
-    let place = configuration_of g.W.CountedWrite.contents g.W.CountedWrite.failure_count in
-    let p = err_from_is_err_and c.from_residual-in_err-scope.result c.from_residual-in_err-scope.ensures.1 in
-    rw (p.1, p.2) (render_faulted (setting_of g.H.NamedFilters.named c.args.context.now) (deeper_meaning (setting_of g.H.NamedFilters.named c.args.context.now) c.args.context.now.depth) (expression_view c.args.name.now) (bindings_view c.args.bindings.now) c.in_err-scope.field-0.0 (string_bytes c.in_ok-called.called) (place c.args.out.now c.args.state.now) (place c.args.out.now c.args.state.now) c.in_ok-called.ensures
-    (pairs_refused (λ (i : Option Interrupt). i) pairs_scope (bindings_view c.args.bindings.now) (rendered_of (partials_of c.args.context.now.partials.now) (string_bytes c.in_ok-called.called)) (λ scope partial. apart scope (deeper_meaning (setting_of g.H.NamedFilters.named c.args.context.now) c.args.context.now.depth partial)) c.in_err-scope.field-0.0 (place c.args.out.now c.args.state.now) c.in_err-scope.ensures))
-
-pub renders::run_render-returns-in_err-partial-clause-performs : goal.renders::run_render-returns-in_err-partial-clause-performs
-renders::run_render-returns-in_err-partial-clause-performs g t c =
-    let place = configuration_of g.W.CountedWrite.contents g.W.CountedWrite.failure_count in
-    let p = err_from_is_err_and c.from_residual-in_err-partial.result c.from_residual-in_err-partial.ensures.1 in
-    rw (p.1, p.2) (render_faulted (setting_of g.H.NamedFilters.named c.args.context.now) (deeper_meaning (setting_of g.H.NamedFilters.named c.args.context.now) c.args.context.now.depth) (expression_view c.args.name.now) (bindings_view c.args.bindings.now) c.in_err-partial.field-0.0 (string_bytes c.in_ok-called.called) (place c.args.out.now c.args.state.now) (place c.args.out.now c.args.state.now) c.in_ok-called.ensures
-    (not_found (λ (i : Option Interrupt). i) pairs_scope (bindings_view c.args.bindings.now) (rendered_of (partials_of c.args.context.now.partials.now) (string_bytes c.in_ok-called.called)) (λ scope partial. apart scope (deeper_meaning (setting_of g.H.NamedFilters.named c.args.context.now) c.args.context.now.depth partial)) c.in_err-partial.field-0.0 (held c.in_ok-scope.scope) (place c.args.out.now c.args.state.now) c.in_ok-scope.ensures (subst (λ x. Faulted c.in_err-partial.field-0.0.kind (rendered_of (partials_of c.args.context.now.partials.now) x)) c.as_str.ensures.value c.in_err-partial.ensures.found)))
-
-pub renders::run_render-returns-in_err-in_partial-clause-performs : goal.renders::run_render-returns-in_err-in_partial-clause-performs
-renders::run_render-returns-in_err-in_partial-clause-performs g t c =
-    let place = configuration_of g.W.CountedWrite.contents g.W.CountedWrite.failure_count in
-    let p = err_from_is_err_and c.from_residual-in_err-in_partial.result c.from_residual-in_err-in_partial.ensures.1 in
-    rw (p.1, p.2) (render_faulted (setting_of g.H.NamedFilters.named c.args.context.now) (deeper_meaning (setting_of g.H.NamedFilters.named c.args.context.now) c.args.context.now.depth) (expression_view c.args.name.now) (bindings_view c.args.bindings.now) c.in_err-in_partial.field-0.0 (string_bytes c.in_ok-called.called) (place c.args.out.now c.args.state.now) (place c.run_apart-answer.new.out c.args.state.now) c.in_ok-called.ensures
-    (entered (λ (i : Option Interrupt). i) pairs_scope (bindings_view c.args.bindings.now) (rendered_of (partials_of c.args.context.now.partials.now) (string_bytes c.in_ok-called.called)) (λ scope partial. apart scope (deeper_meaning (setting_of g.H.NamedFilters.named c.args.context.now) c.args.context.now.depth partial)) (Err c.in_err-in_partial.field-0.0) (held c.in_ok-scope.scope) (tree_of c.in_ok-partial.partial.now) (place c.args.out.now c.args.state.now) (place c.run_apart-answer.new.out c.args.state.now) c.in_ok-scope.ensures (subst (λ x. rendered_of (partials_of c.args.context.now.partials.now) x ≡ Ok (tree_of c.in_ok-partial.partial.now)) c.as_str.ensures.value c.in_ok-partial.ensures.found) (met_again c.run_apart-answer.result (Err c.in_err-in_partial.field-0.0) c.in_err-in_partial.ensures (c.run_apart-answer.ensures.performs (held c.in_ok-scope.scope) (environment_of c.args.state.now) c.in_ok-own.ensures))))
+pub renders::run_render-run_range-answer-requires : goal.renders::run_render-run_range-answer-requires
+renders::run_render-run_range-answer-requires g t c κs within =
+    let (small, deeper, ps, hs) = c.in_ok-called.ensures.within in
+    let few : length c.nodes-nodes.result.now ≤ most_of c.args.context.now.partials.now = subst (λ n. n ≤ most_of c.args.context.now.partials.now) (sym (ap length c.nodes-nodes.ensures)) small in
+    let step = reserve_left c.args.context.now.depth c.in_ok-called.apart.inner.context.depth (length c.nodes-nodes.result.now) c.args.context.now.partials.now c.in_ok-called.apart.inner.context.partials.now deeper ps few in
+    (let lt : 4 * (length c.nodes-nodes.result.now - 0) + 1 + reserve c.in_ok-called.apart.inner.context.depth c.in_ok-called.apart.inner.context.partials.now < t = omega arith in lt, (within.0, (within.1, (forest_of c.in_ok-called.apart.inner.partial.now, (stood_in c.in_ok-called.apart.inner.partial.now c.nodes-nodes.result.now c.nodes-nodes.ensures)))))
 
 pub renders::run_render-returns-clause-performs : goal.renders::run_render-returns-clause-performs
+unfolding tree_of
 renders::run_render-returns-clause-performs g t c =
+    let sink = sink_of g.W.CountedWrite.contents g.W.CountedWrite.failure_count in
     let place = configuration_of g.W.CountedWrite.contents g.W.CountedWrite.failure_count in
-    render_met (setting_of g.H.NamedFilters.named c.args.context.now) (deeper_meaning (setting_of g.H.NamedFilters.named c.args.context.now) c.args.context.now.depth) (expression_view c.args.name.now) (bindings_view c.args.bindings.now) tt c.in_ok-in_partial.field-0 (string_bytes c.in_ok-called.called) (place c.args.out.now c.args.state.now) (place c.run_apart-answer.new.out c.args.state.now) c.in_ok-called.ensures
-    (entered (λ (i : Option Interrupt). i) pairs_scope (bindings_view c.args.bindings.now) (rendered_of (partials_of c.args.context.now.partials.now) (string_bytes c.in_ok-called.called)) (λ scope partial. apart scope (deeper_meaning (setting_of g.H.NamedFilters.named c.args.context.now) c.args.context.now.depth partial)) (Ok c.in_ok-in_partial.field-0) (held c.in_ok-scope.scope) (tree_of c.in_ok-partial.partial.now) (place c.args.out.now c.args.state.now) (place c.run_apart-answer.new.out c.args.state.now) c.in_ok-scope.ensures (subst (λ x. rendered_of (partials_of c.args.context.now.partials.now) x ≡ Ok (tree_of c.in_ok-partial.partial.now)) c.as_str.ensures.value c.in_ok-partial.ensures.found) (met_again c.run_apart-answer.result (Ok c.in_ok-in_partial.field-0) c.in_ok-in_partial.ensures (c.run_apart-answer.ensures.performs (held c.in_ok-scope.scope) (environment_of c.args.state.now) c.in_ok-own.ensures)))
+    let setting = setting_of g.H.NamedFilters.named c.args.context.now in
+    let depth = c.args.context.now.depth in
+    let bs = bindings_view c.args.bindings.now in
+    let (small, deeper, ps, hs) = c.in_ok-called.ensures.within in
+    let same = same_setting g.H.NamedFilters.named c.args.context.now c.in_ok-called.apart.inner.context ps hs in
+    let ran = c.run_range-answer.ensures.performs (forest_of c.in_ok-called.apart.inner.partial.now) (stood_in c.in_ok-called.apart.inner.partial.now c.nodes-nodes.result.now c.nodes-nodes.ensures) in
+    render_runs setting depth (expression_view c.args.name.now) bs (setting_of g.H.NamedFilters.named c.in_ok-called.apart.inner.context) c.in_partial.result (environment_of c.in_ok-called.apart.own) (string_bytes c.in_ok-called.called) (tree_of c.in_ok-called.apart.inner.partial.now) c.in_ok-called.apart.inner.context.depth
+    (sink c.args.out.now) (sink c.run_range-answer.new.out) (environment_of c.args.state.now) (environment_of c.run_range-answer.new.state) same c.in_ok-called.ensures.apart (met_again c.run_range-answer.result c.in_partial.result c.in_partial.ensures ran)
 
-pub renders::run_apart-returns-then-context-eq0-clause-performs : goal.renders::run_apart-returns-then-context-eq0-clause-performs
-renders::run_apart-returns-then-context-eq0-clause-performs g t c names e is =
+pub renders::run_item-returns-in_err-apart-clause-performs : goal.renders::run_item-returns-in_err-apart-clause-performs
+renders::run_item-returns-in_err-apart-clause-performs g t c =
     let sink = sink_of g.W.CountedWrite.contents g.W.CountedWrite.failure_count in
-    apart_deep (setting_of g.H.NamedFilters.named c.args.context.now) c.args.context.now.depth (tree_of c.args.partial.now) names c.too_deep.result (sink c.args.out.now) e c.if-context-eq0.true c.too_deep.ensures
-
-pub renders::run_apart-run_range-requires : goal.renders::run_apart-run_range-requires
-renders::run_apart-run_range-requires g t c κs within =
-    let small : length c.nodes-nodes.result.now ≤ most_of c.args.context.now.partials.now = subst (λ n. n ≤ most_of c.args.context.now.partials.now) (sym (ap length c.nodes-nodes.ensures)) c.requires.small in
-    let step = reserve_step c.args.context.now.depth (length c.nodes-nodes.result.now) c.args.context.now.partials.now c.if-context-eq0.false small in
-    (let lt : 4 * (length c.nodes-nodes.result.now - 0) + 1 + reserve (c.args.context.now.depth - 1) c.args.context.now.partials.now < t = omega arith in lt, (within.0, (within.1, (forest_of c.args.partial.now, (stood_in c.args.partial.now c.nodes-nodes.result.now c.nodes-nodes.ensures)))))
-
-pub renders::run_apart-returns-in_err-run_range-clause-performs : goal.renders::run_apart-returns-in_err-run_range-clause-performs
-unfolding tree_of
-renders::run_apart-returns-in_err-run_range-clause-performs g t c names e is =
-    let sink = sink_of g.W.CountedWrite.contents g.W.CountedWrite.failure_count in
-    let after : Configuration = record { sink = sink c.run_range.new.out; environment = environment_of c.run_range.new.state } in
-    let inside : Performs (Err c.in_err-run_range.field-0.0) (deeper_meaning (setting_of g.H.NamedFilters.named c.args.context.now) c.args.context.now.depth (tree_of c.args.partial.now)) (record { sink = sink c.args.out.now; environment = new_environment names }) after =
-    subst (λ m. Performs (Err c.in_err-run_range.field-0.0) m (record { sink = sink c.args.out.now; environment = new_environment names }) after) (sym (deeper_is (setting_of g.H.NamedFilters.named c.args.context.now) c.args.context.now.depth (tree_of c.args.partial.now) c.if-context-eq0.false))
-    (subst (λ h. Performs (Err c.in_err-run_range.field-0.0) (nodes_meant (setting_of g.H.NamedFilters.named c.args.context.now) (c.args.context.now.depth - 1) (tree_of c.args.partial.now)) (record { sink = sink c.args.out.now; environment = h }) after) is (c.in_err-run_range.ensures.performs (forest_of c.args.partial.now) (stood_in c.args.partial.now c.nodes-nodes.result.now c.nodes-nodes.ensures))) in
+    let place = configuration_of g.W.CountedWrite.contents g.W.CountedWrite.failure_count in
+    let setting = setting_of g.H.NamedFilters.named c.args.context.now in
+    let depth = c.args.context.now.depth in
+    let bs = bindings_view c.args.bindings.now in
     let p = err_from_is_err_and c.from_residual.result c.from_residual.ensures.1 in
-    rw (p.1, p.2) (apart_faulted unit (λ (i : Option Interrupt). i) c.in_err-run_range.field-0.0 names (deeper_meaning (setting_of g.H.NamedFilters.named c.args.context.now) c.args.context.now.depth (tree_of c.args.partial.now)) (sink c.args.out.now) (sink c.run_range.new.out) e (environment_of c.run_range.new.state) inside)
+    rw (p.1, p.2) (item_refused setting depth c.args.name.now bs (item_scope c.args.item.now) c.in_err-apart.field-0.0 (place c.args.out.now c.args.state.now) c.in_err-apart.ensures.apart)
 
-pub renders::run_apart-returns-clause-performs : goal.renders::run_apart-returns-clause-performs
-unfolding tree_of
-renders::run_apart-returns-clause-performs g t c names e is =
-    let sink = sink_of g.W.CountedWrite.contents g.W.CountedWrite.failure_count in
-    let after : Configuration = record { sink = sink c.run_range.new.out; environment = environment_of c.run_range.new.state } in
-    let inside : Performs (Ok c.in_ok-run_range.field-0) (deeper_meaning (setting_of g.H.NamedFilters.named c.args.context.now) c.args.context.now.depth (tree_of c.args.partial.now)) (record { sink = sink c.args.out.now; environment = new_environment names }) after =
-    subst (λ m. Performs (Ok c.in_ok-run_range.field-0) m (record { sink = sink c.args.out.now; environment = new_environment names }) after) (sym (deeper_is (setting_of g.H.NamedFilters.named c.args.context.now) c.args.context.now.depth (tree_of c.args.partial.now) c.if-context-eq0.false))
-    (subst (λ h. Performs (Ok c.in_ok-run_range.field-0) (nodes_meant (setting_of g.H.NamedFilters.named c.args.context.now) (c.args.context.now.depth - 1) (tree_of c.args.partial.now)) (record { sink = sink c.args.out.now; environment = h }) after) is (c.in_ok-run_range.ensures.performs (forest_of c.args.partial.now) (stood_in c.args.partial.now c.nodes-nodes.result.now c.nodes-nodes.ensures))) in
-    subst (λ i. Meets (λ (i : Option Interrupt). i) (Ok i) (apart names (deeper_meaning (setting_of g.H.NamedFilters.named c.args.context.now) c.args.context.now.depth (tree_of c.args.partial.now))) (record { sink = sink c.args.out.now; environment = e }) (record { sink = sink c.run_range.new.out; environment = e })) (interrupt_of c.run_range.new.state _ refl)
-    (apart_met unit c.in_ok-run_range.field-0 names (deeper_meaning (setting_of g.H.NamedFilters.named c.args.context.now) c.args.context.now.depth (tree_of c.args.partial.now)) (sink c.args.out.now) (sink c.run_range.new.out) e (environment_of c.run_range.new.state) inside)
-
-pub renders::run_item-returns-in_err-names-clause-performs : goal.renders::run_item-returns-in_err-names-clause-performs
-renders::run_item-returns-in_err-names-clause-performs g t c over is =
-    let place = configuration_of g.W.CountedWrite.contents g.W.CountedWrite.failure_count in
-    let p = err_from_is_err_and c.from_residual.result c.from_residual.ensures.1 in
-    rw (p.1, p.2) (pairs_refused (λ (i : Option Interrupt). i) pairs_scope (bindings_view c.args.bindings.now) (rendered_of (partials_of c.args.context.now.partials.now) c.args.name.now) (λ scope partial. apart (merged over scope) (deeper_meaning (setting_of g.H.NamedFilters.named c.args.context.now) c.args.context.now.depth partial)) c.in_err-names.field-0.0 (place c.args.out.now c.args.state.now) c.in_err-names.ensures)
-
-pub renders::run_item-returns-in_err-partial-clause-performs : goal.renders::run_item-returns-in_err-partial-clause-performs
-renders::run_item-returns-in_err-partial-clause-performs g t c over is =
-    let place = configuration_of g.W.CountedWrite.contents g.W.CountedWrite.failure_count in
-    let p = err_from_is_err_and c.from_residual-in_err-partial.result c.from_residual-in_err-partial.ensures.1 in
-    rw (p.1, p.2) (not_found (λ (i : Option Interrupt). i) pairs_scope (bindings_view c.args.bindings.now) (rendered_of (partials_of c.args.context.now.partials.now) c.args.name.now) (λ scope partial. apart (merged over scope) (deeper_meaning (setting_of g.H.NamedFilters.named c.args.context.now) c.args.context.now.depth partial)) c.in_err-partial.field-0.0 (held c.in_ok-names.names) (place c.args.out.now c.args.state.now) c.in_ok-names.ensures c.in_err-partial.ensures.found)
+pub renders::run_item-run_range-answer-requires : goal.renders::run_item-run_range-answer-requires
+renders::run_item-run_range-answer-requires g t c κs within =
+    let (small, deeper, ps, hs) = c.in_ok-apart.ensures.within in
+    let few : length c.nodes-nodes.result.now ≤ most_of c.args.context.now.partials.now = subst (λ n. n ≤ most_of c.args.context.now.partials.now) (sym (ap length c.nodes-nodes.ensures)) small in
+    let step = reserve_left c.args.context.now.depth c.in_ok-apart.apart.inner.context.depth (length c.nodes-nodes.result.now) c.args.context.now.partials.now c.in_ok-apart.apart.inner.context.partials.now deeper ps few in
+    (let lt : 4 * (length c.nodes-nodes.result.now - 0) + 1 + reserve c.in_ok-apart.apart.inner.context.depth c.in_ok-apart.apart.inner.context.partials.now < t = omega arith in lt, (within.0, (within.1, (forest_of c.in_ok-apart.apart.inner.partial.now, (stood_in c.in_ok-apart.apart.inner.partial.now c.nodes-nodes.result.now c.nodes-nodes.ensures)))))
 
 pub renders::run_item-returns-clause-performs : goal.renders::run_item-returns-clause-performs
-renders::run_item-returns-clause-performs g t c over is =
+unfolding tree_of
+renders::run_item-returns-clause-performs g t c =
+    let sink = sink_of g.W.CountedWrite.contents g.W.CountedWrite.failure_count in
     let place = configuration_of g.W.CountedWrite.contents g.W.CountedWrite.failure_count in
-    met_again c.run_apart-answer.result c.in_partial.result c.in_partial.ensures
-    (entered (λ (i : Option Interrupt). i) pairs_scope (bindings_view c.args.bindings.now) (rendered_of (partials_of c.args.context.now.partials.now) c.args.name.now) (λ scope partial. apart (merged over scope) (deeper_meaning (setting_of g.H.NamedFilters.named c.args.context.now) c.args.context.now.depth partial)) c.run_apart-answer.result (held c.in_ok-names.names) (tree_of c.in_ok-partial.partial.now) (place c.args.out.now c.args.state.now) (place c.run_apart-answer.new.out c.args.state.now) c.in_ok-names.ensures c.in_ok-partial.ensures.found (c.run_apart-answer.ensures.performs (merged over (held c.in_ok-names.names)) (environment_of c.args.state.now) (c.in_ok-own.ensures over is)))
+    let setting = setting_of g.H.NamedFilters.named c.args.context.now in
+    let depth = c.args.context.now.depth in
+    let bs = bindings_view c.args.bindings.now in
+    let (small, deeper, ps, hs) = c.in_ok-apart.ensures.within in
+    let same = same_setting g.H.NamedFilters.named c.args.context.now c.in_ok-apart.apart.inner.context ps hs in
+    let ran = c.run_range-answer.ensures.performs (forest_of c.in_ok-apart.apart.inner.partial.now) (stood_in c.in_ok-apart.apart.inner.partial.now c.nodes-nodes.result.now c.nodes-nodes.ensures) in
+    subst (λ (r : Result (Option Interrupt) Error). Meets (λ (i : Option Interrupt). i) r (render_apart setting (deeper_meaning setting depth) c.args.name.now bs (item_scope c.args.item.now)) (place c.args.out.now c.args.state.now) (place c.run_range-answer.new.out c.args.state.now)) (sym c.left_by-left.ensures)
+    (item_runs setting depth c.args.name.now bs (item_scope c.args.item.now) (setting_of g.H.NamedFilters.named c.in_ok-apart.apart.inner.context) c.in_partial.result (environment_of c.in_ok-apart.apart.own) (tree_of c.in_ok-apart.apart.inner.partial.now) c.in_ok-apart.apart.inner.context.depth
+    (sink c.args.out.now) (sink c.run_range-answer.new.out) (environment_of c.args.state.now) (environment_of c.run_range-answer.new.state) same c.in_ok-apart.ensures.apart (met_again c.run_range-answer.result c.in_partial.result c.in_partial.ensures ran))
 
 pub renders::run_render_each-returns-in_err-called-clause-performs : goal.renders::run_render_each-returns-in_err-called-clause-performs
 renders::run_render_each-returns-in_err-called-clause-performs g t c =
@@ -588,11 +582,6 @@ renders::run_render_each-returns-in_err-source-clause-performs g t c =
     let p = err_from_is_err_and c.from_residual-in_err-source.result c.from_residual-in_err-source.ensures.1 in
     rw (p.1, p.2) (items_refused (setting_of g.H.NamedFilters.named c.args.context.now) (deeper_meaning (setting_of g.H.NamedFilters.named c.args.context.now) c.args.context.now.depth) (expression_view c.args.name.now) (each_view c.args.each.now) (bindings_view c.args.bindings.now) c.in_err-source.field-0.0 (string_bytes c.in_ok-called.called) (place c.args.out.now c.args.state.now) c.in_ok-called.ensures c.in_err-source.ensures.items)
 
-pub renders::run_item-returns-in_err-own-clause-performs : goal.renders::run_item-returns-in_err-own-clause-performs
-renders::run_item-returns-in_err-own-clause-performs g t c over is =
-    let p = err_from_is_err_and c.from_residual-in_err-own.result c.from_residual-in_err-own.ensures.1 in
-    rw (p.1, p.2) (memory_at _ (c.in_err-own.ensures over is))
-
 pub renders::run_render_each-returns-in_err-left-clause-performs : goal.renders::run_render_each-returns-in_err-left-clause-performs
 renders::run_render_each-returns-in_err-left-clause-performs g t c =
     let place = configuration_of g.W.CountedWrite.contents g.W.CountedWrite.failure_count in
@@ -603,7 +592,7 @@ renders::run_render_each-returns-in_err-left-clause-performs g t c =
     let count : source.count ≡ length ds = c.in_ok-source.ensures.count in
     let lt : c.loop-at.at < length ds = subst (λ m. c.loop-at.at < m) count c.loop-at-test.true in
     let over : Datum → Map Datum = λ d. loop_scope (codes "forloop") (forloop_object c.loop-at.at source.count nil) (string_bytes c.args.each.now.variable) d in
-    let is : (local : Map Datum) → frame_map c.frame_at-frame.result local ≡ over (get_or ds c.loop-at.at nil) = λ local. c.frame_at-frame.ensures local ∙ ap over (item_by_place source.items c.loop-at.at) in
+    let is = item_by_place source.items c.loop-at.at in
     let start = place c.args.out.now c.args.state.now in
     let here = place c.loop-at.out c.args.state.now in
     let there = place c.run_item.new.out c.args.state.now in
@@ -611,7 +600,7 @@ renders::run_render_each-returns-in_err-left-clause-performs g t c =
     rw (p.1, p.2) (items_met (setting_of g.H.NamedFilters.named c.args.context.now) (deeper_meaning (setting_of g.H.NamedFilters.named c.args.context.now) c.args.context.now.depth) (expression_view c.args.name.now) (each_view c.args.each.now) (bindings_view c.args.bindings.now) (Err c.in_err-left.field-0.0) name ds start there c.in_ok-called.ensures c.in_ok-source.ensures.items
     (subst (λ m. Performs (Err c.in_err-left.field-0.0) (items_left (run m) ds 0) start there) count
     (item_faulted (run source.count) ds c.loop-at.at c.in_err-left.field-0.0 start here there lt
-    (subst (λ x. Meets (λ (i : Option Interrupt). i) (Err c.in_err-left.field-0.0) (render_apart (setting_of g.H.NamedFilters.named c.args.context.now) (deeper_meaning (setting_of g.H.NamedFilters.named c.args.context.now) c.args.context.now.depth) x (bindings_view c.args.bindings.now) (over (get_or ds c.loop-at.at nil))) here there) c.as_str.ensures.value (c.in_err-left.ensures.performs (over (get_or ds c.loop-at.at nil)) is)) c.loop-at.invariant.leads)))
+    (subst (λ x. Meets (λ (i : Option Interrupt). i) (Err c.in_err-left.field-0.0) (render_apart (setting_of g.H.NamedFilters.named c.args.context.now) (deeper_meaning (setting_of g.H.NamedFilters.named c.args.context.now) c.args.context.now.depth) x (bindings_view c.args.bindings.now) (over (get_or ds c.loop-at.at nil))) here there) c.as_str.ensures.value ((subst (λ d. Meets (λ (i : Option Interrupt). i) (Err c.in_err-left.field-0.0) (render_apart (setting_of g.H.NamedFilters.named c.args.context.now) (deeper_meaning (setting_of g.H.NamedFilters.named c.args.context.now) c.args.context.now.depth) c.as_str.result.now (bindings_view c.args.bindings.now) (over d)) here there) is c.in_err-left.ensures.performs))) c.loop-at.invariant.leads)))
 
 pub renders::run_render_each-returns-then-ends_items-clause-performs : goal.renders::run_render_each-returns-then-ends_items-clause-performs
 renders::run_render_each-returns-then-ends_items-clause-performs g t c =
@@ -623,14 +612,14 @@ renders::run_render_each-returns-then-ends_items-clause-performs g t c =
     let count : source.count ≡ length ds = c.in_ok-source.ensures.count in
     let lt : c.loop-at.at < length ds = subst (λ m. c.loop-at.at < m) count c.loop-at-test.true in
     let over : Datum → Map Datum = λ d. loop_scope (codes "forloop") (forloop_object c.loop-at.at source.count nil) (string_bytes c.args.each.now.variable) d in
-    let is : (local : Map Datum) → frame_map c.frame_at-frame.result local ≡ over (get_or ds c.loop-at.at nil) = λ local. c.frame_at-frame.ensures local ∙ ap over (item_by_place source.items c.loop-at.at) in
+    let is = item_by_place source.items c.loop-at.at in
     let start = place c.args.out.now c.args.state.now in
     let here = place c.loop-at.out c.args.state.now in
     let there = place c.run_item.new.out c.args.state.now in
     items_met (setting_of g.H.NamedFilters.named c.args.context.now) (deeper_meaning (setting_of g.H.NamedFilters.named c.args.context.now) c.args.context.now.depth) (expression_view c.args.name.now) (each_view c.args.each.now) (bindings_view c.args.bindings.now) (Ok tt) name ds start there c.in_ok-called.ensures c.in_ok-source.ensures.items
     (subst (λ m. Performs (Ok tt) (items_left (run m) ds 0) start there) count
     (item_breaks (run source.count) ds c.loop-at.at c.in_ok-left.left tt start here there lt (sym c.ends_items.ensures ∙ c.if-ends_items.true)
-    (subst (λ x. Meets (λ (i : Option Interrupt). i) (Ok c.in_ok-left.left) (render_apart (setting_of g.H.NamedFilters.named c.args.context.now) (deeper_meaning (setting_of g.H.NamedFilters.named c.args.context.now) c.args.context.now.depth) x (bindings_view c.args.bindings.now) (over (get_or ds c.loop-at.at nil))) here there) c.as_str.ensures.value (c.in_ok-left.ensures.performs (over (get_or ds c.loop-at.at nil)) is)) c.loop-at.invariant.leads))
+    (subst (λ x. Meets (λ (i : Option Interrupt). i) (Ok c.in_ok-left.left) (render_apart (setting_of g.H.NamedFilters.named c.args.context.now) (deeper_meaning (setting_of g.H.NamedFilters.named c.args.context.now) c.args.context.now.depth) x (bindings_view c.args.bindings.now) (over (get_or ds c.loop-at.at nil))) here there) c.as_str.ensures.value ((subst (λ d. Meets (λ (i : Option Interrupt). i) (Ok c.in_ok-left.left) (render_apart (setting_of g.H.NamedFilters.named c.args.context.now) (deeper_meaning (setting_of g.H.NamedFilters.named c.args.context.now) c.args.context.now.depth) c.as_str.result.now (bindings_view c.args.bindings.now) (over d)) here there) is c.in_ok-left.ensures.performs))) c.loop-at.invariant.leads))
 
 pub renders::run_render_each-loop-at-preserved : goal.renders::run_render_each-loop-at-preserved
 renders::run_render_each-loop-at-preserved g t c =
@@ -642,14 +631,14 @@ renders::run_render_each-loop-at-preserved g t c =
     let count : source.count ≡ length ds = c.in_ok-source.ensures.count in
     let lt : c.loop-at.at < length ds = subst (λ m. c.loop-at.at < m) count c.loop-at-test.true in
     let over : Datum → Map Datum = λ d. loop_scope (codes "forloop") (forloop_object c.loop-at.at source.count nil) (string_bytes c.args.each.now.variable) d in
-    let is : (local : Map Datum) → frame_map c.frame_at-frame.result local ≡ over (get_or ds c.loop-at.at nil) = λ local. c.frame_at-frame.ensures local ∙ ap over (item_by_place source.items c.loop-at.at) in
+    let is = item_by_place source.items c.loop-at.at in
     let start = place c.args.out.now c.args.state.now in
     let here = place c.loop-at.out c.args.state.now in
     let there = place c.run_item.new.out c.args.state.now in
     record {
       ordered = (let le : c.loop-at.at + 1 ≤ source.count = omega (arith, c.loop-at-test.true) in le);
       leads = item_on (run source.count) ds c.loop-at.at c.in_ok-left.left start here there lt (sym c.ends_items.ensures ∙ c.if-ends_items.false)
-          (subst (λ x. Meets (λ (i : Option Interrupt). i) (Ok c.in_ok-left.left) (render_apart (setting_of g.H.NamedFilters.named c.args.context.now) (deeper_meaning (setting_of g.H.NamedFilters.named c.args.context.now) c.args.context.now.depth) x (bindings_view c.args.bindings.now) (over (get_or ds c.loop-at.at nil))) here there) c.as_str.ensures.value (c.in_ok-left.ensures.performs (over (get_or ds c.loop-at.at nil)) is)) c.loop-at.invariant.leads;
+          (subst (λ x. Meets (λ (i : Option Interrupt). i) (Ok c.in_ok-left.left) (render_apart (setting_of g.H.NamedFilters.named c.args.context.now) (deeper_meaning (setting_of g.H.NamedFilters.named c.args.context.now) c.args.context.now.depth) x (bindings_view c.args.bindings.now) (over (get_or ds c.loop-at.at nil))) here there) c.as_str.ensures.value ((subst (λ d. Meets (λ (i : Option Interrupt). i) (Ok c.in_ok-left.left) (render_apart (setting_of g.H.NamedFilters.named c.args.context.now) (deeper_meaning (setting_of g.H.NamedFilters.named c.args.context.now) c.args.context.now.depth) c.as_str.result.now (bindings_view c.args.bindings.now) (over d)) here there) is c.in_ok-left.ensures.performs))) c.loop-at.invariant.leads;
       same_writer = c.run_item.ensures.same_writer ∙ c.loop-at.invariant.same_writer;
     }
 

@@ -42,9 +42,6 @@ decreases-run_include g l = reserve l.context.now.depth l.context.now.partials.n
 abbrev pub decreases-run_jekyll_include : goal.decreases-run_jekyll_include
 decreases-run_jekyll_include g l = reserve l.context.now.depth l.context.now.partials.now + 2
 
-abbrev pub decreases-run_partial : goal.decreases-run_partial
-decreases-run_partial g l = reserve l.context.now.depth l.context.now.partials.now + 1
-
 abbrev pub decreases-renders::run_render : goal.decreases-renders::run_render
 decreases-renders::run_render g l = reserve l.context.now.depth l.context.now.partials.now + 2
 
@@ -53,9 +50,6 @@ decreases-renders::run_render_each g l = reserve l.context.now.depth l.context.n
 
 abbrev pub decreases-renders::run_item : goal.decreases-renders::run_item
 decreases-renders::run_item g l = reserve l.context.now.depth l.context.now.partials.now + 2
-
-abbrev pub decreases-renders::run_apart : goal.decreases-renders::run_apart
-decreases-renders::run_apart g l = reserve l.context.now.depth l.context.now.partials.now + 1
 
 abbrev pub invariant-run_range-loop-at : goal.invariant-run_range-loop-at
 invariant-run_range-loop-at g l =

@@ -7,7 +7,9 @@ use Rattle.liquid_lib.proofs.own_state.frame_at.Goals as goal
 
 pub returns : goal.returns
 returns c local =
-    let e : 0 + c.args.at ≡ c.args.at = omega arith in
-    ap (λ k. loop_scope (codes "forloop") (forloop_object c.args.at c.args.source.now.count nil) c.as_str.result.now (item_of c.lent.result k)) e
-    ∙ ap (λ name. loop_scope (codes "forloop") (forloop_object c.args.at c.args.source.now.count nil) name (item_of c.lent.result c.args.at)) c.as_str.ensures.value
-    ∙ ap (λ item. loop_scope (codes "forloop") (forloop_object c.args.at c.args.source.now.count nil) (string_bytes c.args.each.now.variable) (item c.args.at)) c.lent.ensures
+    let item = c.args.item.now in
+    let e : 0 + item.at ≡ item.at = omega arith in
+    let bound = loop_scope (codes "forloop") (forloop_object item.at item.source.now.count nil) in
+    ap (λ k. bound c.as_str.result.now (item_of c.lent.result k)) e
+    ∙ ap (λ name. bound name (item_of c.lent.result item.at)) c.as_str.ensures.value
+    ∙ ap (λ of. bound (string_bytes item.each.now.variable) (of item.at)) c.lent.ensures
