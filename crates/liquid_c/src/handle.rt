@@ -99,9 +99,6 @@ impl Handle {
 
 impl Drop for Handle {
     fn drop(self) {
-        match self.unseal() {
-            Some(kept) => drop(kept.into_box()),
-            None => {}
-        }
+        drop(self.into_box());
     }
 }

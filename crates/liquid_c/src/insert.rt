@@ -84,6 +84,9 @@ fn put_template(
             drop(partials.exchange(name, Some(template)));
             (0, None)
         }
-        _ => (0, None),
+        held => {
+            drop(held);
+            (0, None)
+        }
     }
 }

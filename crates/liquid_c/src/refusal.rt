@@ -9,7 +9,7 @@ use liquid_core::ErrorKind;
 use std::alloc::Global;
 
 /// Why a call can't be.
-#[derive(Clone, Copy, Debug, Drop)]
+#[derive(Clone, Copy, Drop)]
 pub enum Refusal {
     /// The bytes are no UTF-8.
     NoText,

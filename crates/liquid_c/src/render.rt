@@ -2,15 +2,15 @@
 ghost use Rattle.std.specs.Prelude.{◌≡◌, [], Some, option_map};
 ghost use Rattle.liquid_model.specs.Maps.{empty};
 ghost use Rattle.liquid_core.specs.Held.{held as map_held};
-ghost use Rattle.liquid_syntax.specs.Templates.{partials_of};
-ghost use Rattle.liquid_c.specs.Calls.{IsRendering, facts_behind, partials_behind};
+ghost use Rattle.liquid_syntax.specs.Templates.{partials_of, tree_of};
+ghost use Rattle.liquid_c.specs.Calls.{IsRendering, Shows, facts_behind, partials_behind};
 ghost use Rattle.liquid_c.specs.Settled.{Settled};
 
 use crate::handle::Handle;
 use crate::held::{Held, seen};
 use crate::refusal::{Refusal, settle};
 use liquid_core::Object;
-use liquid_lib::{Partials, render_page};
+use liquid_lib::{Partials, Template, render_page};
 use std::alloc::Global;
 use std::collections::BTreeMap;
 
@@ -58,20 +58,39 @@ fn page(
 ) -> Result<Held, Refusal>
     ensures { IsRendering (option_map (λ h. h.now) template.entry) (option_map (λ h. h.now) facts.entry) (option_map (λ h. h.now) partials.entry) depth result }
 {
+    let Some(Held::Template(template)) = template else {
+        return Err(Refusal::OtherHandle);
+    };
     let no_facts = empty_facts(alloc);
     let no_partials = Partials::new(alloc);
-    match template {
-        Some(Held::Template(template)) => match facts_held(facts, &no_facts) {
-            Some(facts) => match partials_held(partials, &no_partials) {
-                Some(partials) => match render_page(alloc, template, partials, depth, facts) {
-                    Ok(page) => Ok(Held::Page(page)),
-                    Err(fault) => Ok(Held::Fault(fault)),
-                },
-                None => Err(Refusal::OtherHandle),
-            },
-            None => Err(Refusal::OtherHandle),
-        },
-        _ => Err(Refusal::OtherHandle),
+    shown(
+        alloc,
+        template,
+        facts_held(facts, &no_facts),
+        partials_held(partials, &no_partials),
+        depth,
+    )
+}
+
+/// The page of a template over data and with partials, where both are there.
+fn shown(
+    alloc: Global,
+    template: &Template,
+    facts: Option<&Object>,
+    partials: Option<&Partials>,
+    depth: u32,
+) -> Result<Held, Refusal>
+    ensures { Shows (tree_of template.now) (option_map (λ d. map_held d.now) facts.entry) (option_map (λ p. partials_of p.now) partials.entry) depth result }
+{
+    let Some(facts) = facts else {
+        return Err(Refusal::OtherHandle);
+    };
+    let Some(partials) = partials else {
+        return Err(Refusal::OtherHandle);
+    };
+    match render_page(alloc, template, partials, depth, facts) {
+        Ok(page) => Ok(Held::Page(page)),
+        Err(fault) => Ok(Held::Fault(fault)),
     }
 }
 

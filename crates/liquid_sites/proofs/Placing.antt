@@ -95,6 +95,16 @@ taken test show done all e left q h is whole =
     append_assoc done (q ∷ []) (all_pages show w) ∙ ap (λ r. done ++ r ∷ all_pages show w) is
     ∙ sym (ap (λ b. done ++ all_pages show (cond b ((string_bytes e.0, tree_of e.1) ∷ w) w)) h) ∙ whole
 
+pub passed : (test : Nodes → Bool) (show : Nodes → Shown) (done all : Pages) (e : String Global × Template) (left : List (String Global × Template)) → test (tree_of e.1) ≡ false
+    → done ++ all_pages show (wanted_of test (seen tree_of (e ∷ left))) ≡ all → done ++ all_pages show (wanted_of test (seen tree_of left)) ≡ all
+passed test show done all e left h whole =
+    let w = wanted_of test (seen tree_of left) in
+    sym (ap (λ b. done ++ all_pages show (cond b ((string_bytes e.0, tree_of e.1) ∷ w) w)) h) ∙ whole
+
 pub or_true : (a b : Bool) → b ≡ true → (a || b) ≡ true
 or_true true b h = refl
 or_true false b h = h
+
+pub or_false : (a b : Bool) → a ≡ false → b ≡ false → (a || b) ≡ false
+or_false true b h k = h
+or_false false b h k = k

@@ -58,6 +58,7 @@ fn rendered_page(
     ensures { IsValueOrMemory named_page result
         (name.now, page_over context.now.depth (partials_of context.now.partials.now) (held context.now.facts.now) (tree_of template.now)) }
 {
+    let own = String::from_str(alloc, name)?;
     let page = render_page(
         alloc,
         template,
@@ -65,7 +66,6 @@ fn rendered_page(
         context.depth,
         context.facts,
     )?;
-    let own = String::from_str(alloc, name)?;
     Ok((own, page))
 }
 

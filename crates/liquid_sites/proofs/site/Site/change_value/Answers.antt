@@ -29,3 +29,8 @@ returns-clause-counted c =
     let items : vec_len c.in_ok-fresh.fresh ≡ length c.in_ok-fresh.fresh.items = search rules in
     c.saturating_add-self.ensures
     ∙ ap (raised s.rendered) (c.len.ensures ∙ items ∙ (sym (length-map c.in_ok-fresh.fresh.items _) ∙ ap length c.in_ok-fresh.ensures.pages ∙ length-map _ _ ∙ ap (λ b. length (wanted_of (wanted b n) ts)) c.mention-all.ensures ∙ counted_mentions (partials_of s.partials) n ts))
+
+pub returns-clause-set : goal.returns-clause-set
+returns-clause-set c =
+    let s = c.args.self.now in
+    λ i. record { depth = s.depth; pages = trees_in s.templates; partials = partials_of s.partials; facts = c.in_ok-facts.ensures i }

@@ -26,3 +26,6 @@ invariant_of-self-2 c =
           ∙ put_shown show name t (trees_in s.templates)
           ∙ ap (all_pages show) (sym c.in_ok-put_page.ensures.templates);
     }
+
+pub returns-clause-counted : goal.returns-clause-counted
+returns-clause-counted c = c.saturating_add-self.ensures
