@@ -46,7 +46,6 @@ pub struct Arm {
 /// The list is in source order: a node is followed by the nodes of its bodies, body after body.
 /// A node with bodies says where each of them ends, as an index of the list; the first begins right after the node,
 /// each other one where the one before it ends.
-#[derive(Drop)]
 pub enum Node {
     /// Text outside of outputs and tags. It is never empty.
     Text(String),
@@ -93,4 +92,22 @@ pub enum Node {
     Render(Expression, Vec<Binding>),
     /// `{% render name for source as variable, pairs %}`, that runs once for each item.
     RenderEach(Expression, Each, Vec<Binding>),
+}
+
+/// Drops what the node holds. It isn't derived, since a derived drop is written out and proved anew at each way out of each
+/// function that owns a node, where this one is a call.
+impl Drop for Node {
+    fn drop(self) {
+        match self {
+            Node::Text(_) | Node::Raw(_) | Node::Increment(_) | Node::Decrement(_) => {}
+            Node::Output(_) | Node::Assign(_, _) => {}
+            Node::Comment | Node::Break | Node::Continue => {}
+            Node::If(_, _) | Node::Unless(_, _) => {}
+            Node::Capture(_, _) | Node::IfChanged(_) => {}
+            Node::Case(_, _, _) | Node::For(_, _) | Node::TableRow(_, _) => {}
+            Node::Cycle(_, _) => {}
+            Node::Include(_, _) | Node::JekyllInclude(_, _) => {}
+            Node::Render(_, _) | Node::RenderEach(_, _, _) => {}
+        }
+    }
 }
