@@ -3,6 +3,7 @@ import re
 from dataclasses import dataclass
 
 FUNCTION = re.compile(r'^( *)(?:pub(?:\([^)]*\))? )?(const )?(?:unsafe )?(?:extern "C" )?fn (\w+)')
+TRAIT = re.compile(r"^(?:pub )?trait (\w+)")
 HEAD = re.compile(r"^(?:unsafe )?(?:pub )?(impl|trait)\b")
 CYCLE = re.compile(r"^ *#\[cycle\((\w+)\)\]")
 ENSURES = re.compile(r"^ *ensures\b")
@@ -82,6 +83,43 @@ def stated_functions(text, path):
             is_of_trait = bool(indent) and not is_inherent
             found.append(Stated(path, name, cycle, is_inherent, is_of_trait, first_line(lines, head), marked, opens, closes))
     return found
+
+
+def bound_functions(text, path, traits):
+    """The functions of a file that have no contract of their own, but one by their trait, without those in a cycle of calls. The traits
+    are given by their names, each with the functions for which it states one."""
+    lines, found = text.split("\n"), []
+    for head, line in enumerate(lines):
+        called = FUNCTION.match(line)
+        if not called or not called[1] or called[2] or called[3] not in traits.get(trait_of(lines[: head + 1]), ()):
+            continue
+        indent = called[1]
+        opens = next(at for at in range(head, len(lines)) if lines[at].endswith(("{", ";", "}")))
+        is_in_cycle = bool(cycle_of(lines[: head + 1])[0])
+        if lines[opens].endswith(" {") and not is_in_cycle and not any(ENSURES.match(it) for it in lines[head : opens + 1]):
+            name, _ = known_as(lines[: head + 1], path)
+            found.append(Stated(path, name, "", False, True, first_line(lines, head), len(lines), opens, lines.index(indent + "}", opens)))
+    return found
+
+
+def trait_functions(text):
+    """The names of the functions for which the traits of a file state a contract, by the name of the trait."""
+    lines, found = text.split("\n"), {}
+    for head, line in enumerate(lines):
+        called = FUNCTION.match(line)
+        named = next((TRAIT.match(it) for it in reversed(lines[:head]) if HEAD.match(it)), None)
+        if called and called[1] and named:
+            ends = next((at for at in range(head + 1, len(lines)) if lines[at] == "}" or FUNCTION.match(lines[at])), head)
+            if any(ENSURES.match(it) for it in lines[head:ends]):
+                found.setdefault(named[1], set()).add(called[3])
+    return found
+
+
+def trait_of(lines):
+    """The name of the trait that the impl is of in which the last line stands, or an empty text."""
+    head = next((it for it in reversed(lines) if HEAD.match(it)), "")
+    found = re.match(r"(?:unsafe )?impl\b(?:<.*?>)? (?:\w+::)*(\w+)(?:<.*>)? for ", head)
+    return found[1] if found else ""
 
 
 def first_line(lines, head):

@@ -1,14 +1,17 @@
 """A copy of a crate in which only some functions are left to prove: each other one is taken at its word.
 
-A proof sees the contracts of the functions that it calls, and not their bodies. So each function that has a contract of its own,
-and isn't to be proved, gets a body with nothing in it, and a proof with a hole, which a check that allows holes goes past.
+A proof sees the contracts of the functions that it calls, and not their bodies. So each function that has a contract, its own or
+that of its trait, and isn't to be proved, gets a body with nothing in it, and a proof with a hole, which a check that allows holes goes past.
 """
+import functools
 import os
 import re
 import shutil
 
 from edits import sources, text_of
-from functions import Twin, modules, stated_functions
+from functions import Twin, bound_functions, modules, stated_functions, trait_functions
+
+CRATES = f"{os.path.dirname(os.path.dirname(os.path.dirname(os.path.abspath(__file__))))}/crates"
 
 TYPE = re.compile(r"^(?:pub(?:\([^)]*\))? )?(?:struct|enum) (\w+)", re.M)
 HOLE = """use Rattle.{crate}.proofs.{path}.Statement.{{statement}}
@@ -29,7 +32,8 @@ def stub(crate, folder, proved):
     names, cycles = {it.name for it in proved}, {it.cycle for it in proved if it.cycle}
     for path, text in texts.items():
         lines = text.split("\n")
-        for it in reversed(stated_functions(text, path)):
+        of_traits = bound_functions(text, path, all_traits())
+        for it in sorted(stated_functions(text, path) + of_traits, key=lambda it: -it.opens):
             if it.name not in names and it.cycle not in cycles:
                 empty_body(lines, it)
                 leave_hole(crate, folder, it, homes)
@@ -37,8 +41,18 @@ def stub(crate, folder, proved):
             file.write("\n".join(lines))
 
 
+@functools.cache
+def all_traits():
+    """The functions for which traits of the crates state a contract, by the name of the trait."""
+    found = {}
+    for name in sorted(os.listdir(CRATES)):
+        for path in sources(f"{CRATES}/{name}"):
+            found |= trait_functions(text_of(f"{CRATES}/{name}/{path}"))
+    return found
+
+
 def empty_body(lines, function):
-    indent = lines[function.opens].removesuffix("{")
+    indent = re.match(" *", lines[function.opens])[0]
     lines[function.opens + 1 : function.closes] = [indent + "    loop {}"]
     if function.cycle:
         lines[function.marked] = ""
