@@ -1,6 +1,7 @@
 //! The group of a `cycle`, which is settled as the template is parsed.
-ghost use Rattle.std.specs.Prelude.{◌≡◌, IfOk, Some, map, string_bytes};
+ghost use Rattle.std.specs.Prelude.{◌≡◌, ◌++◌, IfOk, OnOk, Some, codes, map, string_bytes};
 ghost use Rattle.liquid_core.specs.ExpressionView.{expression_view};
+ghost use Rattle.liquid_core.specs.Written.{written_form};
 ghost use Rattle.liquid_tree.specs.Groups.{group_of, name_text, values_group};
 
 use liquid_core::Expression;
@@ -42,9 +43,17 @@ pub fn values_group(alloc: Global, values: &[Expression]) -> Result<String, Allo
         Some((first, rest)) => {
             write!(group, "{first}")?;
             for value in rest {
-                write!(group, "-{value}")?;
+                write_further(&mut group, value)?;
             }
             Ok(group)
         }
     }
+}
+
+/// Writes a value behind others, with a `-` before it.
+fn write_further(group: &mut String, value: &Expression) -> Result<(), AllocError>
+    ensures { OnOk result (string_bytes group.new ≡ string_bytes group.old ++ (codes "-" ++ written_form (expression_view value.now))) }
+{
+    write!(group, "-{value}")?;
+    Ok(())
 }
