@@ -1,35 +1,32 @@
 use Rattle.std.proofs.Common.{Result, rules, arith, ℕ, ◌≡◌, ◌+◌, ◌-◌, ◌*◌, ◌<◌, ◌≤◌, ◌∙◌, length, map, true, refl, sym, ap, subst, string_bytes, Option, Some, None, Ok, Err, List, [], false}
 use Rattle.std.specs.Option.{option_map}
 use Rattle.std.proofs.lemmas.Result.{err_from_is_err_and}
-use Rattle.liquid_model.specs.Answer.{Faulted, IsValueOrMemory}
+use Rattle.liquid_model.specs.Answer.{IsValueOrMemory}
 use Rattle.std.specs.Prelude.{codes, get_or}
 use Rattle.liquid_model.specs.Data.{Datum, nil, text}
-use Rattle.liquid_model.specs.Maps.{Map, merged}
-use Rattle.liquid_model.specs.declared.error.ErrorKind.TheVariants.{UnknownPartial}
+use Rattle.liquid_model.specs.Maps.{Map}
 use Rattle.liquid_model.specs.declared.error.Error.{Error}
 use Rattle.liquid_model.proofs.Views.{view-Text}
-use Rattle.liquid_core.specs.Environment.{new_environment}
 use Rattle.liquid_core.specs.ExpressionView.{expression_view}
-use Rattle.liquid_core.specs.Held.{held}
-use Rattle.liquid_core.specs.States.{environment_of, layers_of, loops_of, merged_layers, with_assigned, with_scope_pushed, scopes_behind, with_scope_popped, with_interrupt}
+use Rattle.liquid_core.specs.States.{environment_of, layers_of, loops_of, merged_layers, with_assigned, scopes_behind, with_scope_popped}
 use Rattle.liquid_core.specs.declared.interrupt.Interrupt.{Interrupt}
 use Rattle.liquid_core.specs.declared.interrupt.Interrupt.TheVariants as interrupts
 use Rattle.liquid_core.specs.Loops.{loop_scope, forloop_object}
-use Rattle.liquid_core.specs.LoopFrames.{frame_map, frame_map_at, without_innermost}
-use Rattle.liquid_core.proofs.States.{interrupt_set, named_off, turn_off}
+use Rattle.liquid_core.specs.LoopFrames.{frame_map, without_innermost}
+use Rattle.liquid_core.proofs.States.{interrupt_set, turn_off}
 use Rattle.liquid_tree.specs.ItemLists.{all_items}
 use Rattle.liquid_tree.proofs.ItemPlaces.{item_by_place}
 use Rattle.liquid_tree.specs.ChainView.{chain_view}
 use Rattle.liquid_tree.specs.ConditionView.{condition_view}
-use Rattle.liquid_tree.specs.Names.{node_names, nodes_names}
+use Rattle.liquid_tree.specs.Names.{node_names}
 use Rattle.liquid_tree.specs.Tree as tree
 use Rattle.liquid_syntax.specs.Flats.{Maker, StandsAt, IsRange, bindings_view, each_view, flats, nodes_of, window_view}
 use Rattle.liquid_syntax.specs.Forest.{Forest}
 use Rattle.liquid_syntax.specs.Templates.{forest_of, most_of, partials_of, tree_of}
 use Rattle.liquid_syntax.proofs.Places.{Stands-le}
 use Rattle.liquid_meaning.specs.Effects.{assigned_to, interrupted_by}
-use Rattle.liquid_meaning.specs.Meaning.{node_meaning, deeper_meaning, include_scope, pairs_scope, render_apart}
-use Rattle.liquid_meaning.specs.Runs.{apart, buffered, change, with_scope}
+use Rattle.liquid_meaning.specs.Meaning.{node_meaning, deeper_meaning, render_apart}
+use Rattle.liquid_meaning.specs.Runs.{apart, buffered, change}
 use Rattle.liquid_meaning.proofs.Law.{within_found}
 use Rattle.liquid_meaning.proofs.Rules.{comment_rule, break_rule, continue_rule, capture_rule, ifchanged_rule}
 use Rattle.liquid_lib.specs.inside.Changed.{shown_if_changed}
@@ -39,7 +36,7 @@ use Rattle.liquid_lib.specs.Kept.{Keeps, LayersKept}
 use Rattle.liquid_lib.specs.inside.Partials.{item_scope}
 use Rattle.liquid_meaning.specs.Within.{Within}
 use Rattle.liquid_tree.specs.Names.{partials_names}
-use Rattle.liquid_lib.specs.Performs.{Configuration, Meets, Performs, configuration_of, unit, Writes}
+use Rattle.liquid_lib.specs.Performs.{Meets, Performs, configuration_of, unit, Writes}
 use Rattle.liquid_lib.specs.Sinks.{sink_of}
 use Rattle.liquid_lib.proofs.Cases.{the_case, case_performs, case_keeps, case_other}
 use Rattle.liquid_lib.proofs.Choices.{chosen_inside, chosen_performs, refused_performs}
@@ -49,7 +46,7 @@ use Rattle.liquid_lib.proofs.Joined.{by_rule, bind_met, bind_faulted, buffered_m
 use Rattle.liquid_lib.proofs.Kept.{kept_same, kept_after, kept_assigned, kept_interrupt}
 use Rattle.liquid_lib.proofs.PartialRuns.{reserve, reserve_left, same_setting, include_found, include_refused, include_runs, item_refused, item_runs, jekyll_found, jekyll_refused, jekyll_runs, render_refused, render_runs, within_all, kept_around, partial_met}
 use Rattle.liquid_lib.proofs.ItemRuns.{items_left, item_on, item_breaks, item_faulted, items_end}
-use Rattle.liquid_lib.proofs.RenderEach.{item_run, items_run, name_refused, items_refused, items_met}
+use Rattle.liquid_lib.proofs.RenderEach.{item_run, name_refused, items_refused, items_met}
 use Rattle.liquid_lib.proofs.Retold.{fault_again, met_again}
 use Rattle.liquid_lib.proofs.Sinks.{Around}
 use Rattle.liquid_lib.proofs.Whole.{stood_in}
@@ -62,7 +59,7 @@ use Rattle.liquid_lib.specs.inside.LoopRuns.{StartsAt, behind, cells_meant, conf
 use Rattle.liquid_lib.specs.inside.LoopTurns.{AreRows, IsFor, IsRow, cells_asked, cells_of, items_asked, turn_items, turns_of}
 use Rattle.std.specs.Prelude.{IfOk, IfSome}
 use Rattle.liquid_meaning.specs.Loops.{cell_end}
-use Rattle.liquid_lib.proofs.Turning.{TurnsLead, CellsLead, AtTurn, advanced_behind, at_goes_on, at_kept, at_next, at_off, at_pushed, at_start, cell_fault, cell_faulted, cell_on, cell_ran, cell_unopened, cells_end, cells_start, for_within, from_behind, row_within, kept_cell, kept_from_behind, kept_turn, turn_break, turn_fault, turn_faulted, turn_on, turn_ran, turns_end, turns_start}
+use Rattle.liquid_lib.proofs.Turning.{TurnsLead, CellsLead, advanced_behind, at_goes_on, at_kept, at_next, at_off, at_pushed, at_start, cell_fault, cell_faulted, cell_on, cell_ran, cell_unopened, cells_end, cells_start, for_within, from_behind, row_within, kept_cell, kept_from_behind, kept_turn, turn_break, turn_fault, turn_faulted, turn_on, turn_ran, turns_end, turns_start}
 use Rattle.liquid_lib.proofs.LoopMeanings.{for_none, for_refused, for_some, row_none, row_refused, row_some}
 use Rattle.liquid_lib.proofs.engine.+run.Goals as goal
 

@@ -1,8 +1,6 @@
-use Rattle.std.proofs.Common.{◌≡◌, Ok, sym, ap, subst, ◌∙◌, string_bytes}
+use Rattle.std.proofs.Common.{Ok, sym, ap, ◌∙◌}
 use Rattle.std.proofs.lemmas.Result.{err_from_is_err_and}
-use Rattle.liquid_model.specs.Answer.{Faulted}
 use Rattle.liquid_core.specs.Environment.{new_environment}
-use Rattle.liquid_core.specs.ExpressionView.{expression_view}
 use Rattle.liquid_core.specs.Held.{held}
 use Rattle.liquid_core.specs.States.{environment_of}
 use Rattle.liquid_syntax.specs.Flats.{bindings_view}
