@@ -1,25 +1,30 @@
 -- The items of a loop before its first turn.
-use Rattle.std.proofs.Common.{◌≡◌, ℕ, zero, suc, ◌+◌, ◌-◌, ◌<◌, Bool, false, List, [], ◌∷◌, length, get_or, slice_get, Option, Some, None, Result, Ok, refl, sym, ap, subst, ◌∙◌, arith, codes}
+use Rattle.std.proofs.Common.{◌≡◌, ℕ, zero, suc, ◌+◌, ◌-◌, ◌<◌, Bool, false, List, [], ◌∷◌, length, get_or, slice_get, Option, Some, None, Result, Ok, Err, IsOk, refl, sym, ap, subst, ◌∙◌, arith, codes}
 use Rattle.std.specs.Prelude.{ℤ}
 use Rattle.std.specs.Option.{unwrap_or}
 use mathlib.Core.Path.{fun_ext}
 use Rattle.liquid_model.specs.Answer.{Faulted}
 use Rattle.liquid_model.specs.Data.{Datum, nil}
 use Rattle.liquid_model.specs.Fallible.{◌>>=◌}
-use Rattle.liquid_model.specs.Texts.{◌else◌}
+use Rattle.liquid_model.specs.Texts.{Text, ◌else◌}
+use Rattle.liquid_model.specs.View.{view}
+use Rattle.liquid_model.specs.declared.value.Value.{Value}
 use Rattle.liquid_model.specs.declared.error.ErrorKind.{ErrorKind}
 use Rattle.liquid_core.specs.Environment.{Environment, lookup}
 use Rattle.liquid_core.specs.Expression.{Expression}
 use Rattle.liquid_core.specs.Places.{place_of}
-use Rattle.liquid_core.specs.LoopFrames.{item_of, parent_of}
+use Rattle.liquid_core.specs.LoopFrames.{frame_item_at, item_of, loop_name, loop_object, parent_of}
+use Rattle.liquid_core.specs.Loops.{forloop_object, loop_scope}
 use Rattle.liquid_core.specs.declared.frame.Items.{Items}
+use Rattle.liquid_core.specs.declared.frame.LoopFrame.{LoopFrame}
+use Rattle.liquid_core.specs.declared.frame.LoopKind.TheVariants.{For}
 use Rattle.liquid_tree.specs.Evaluation.{amount, asked_for, skipped, source_items, wanted, window_items}
 use Rattle.liquid_tree.specs.ItemLists.{all_items}
 use Rattle.liquid_tree.specs.Tree.{Source, Window}
 use Rattle.liquid_tree.proofs.Calls.{faulted_as, faulted_then}
 use Rattle.liquid_tree.proofs.ItemPlaces.{item_by_place}
 use Rattle.liquid_tree.proofs.Windows.{window_by_place}
-use Rattle.liquid_lib.specs.inside.LoopTurns.{cells_asked, each_from, in_columns, items_asked, placed, some_columns}
+use Rattle.liquid_lib.specs.inside.LoopTurns.{IsFor, cells_asked, each_from, in_columns, items_asked, placed, some_columns}
 use Rattle.liquid_meaning.specs.Effects.{value_or_nil}
 use Rattle.liquid_meaning.specs.Loops.{columns_of}
 
@@ -133,6 +138,16 @@ elsewhere e v found near is = on (e.local (codes "forloop")) refl
     on (Some d) at = refl
     on None at = sym is ∙ ap (λ o. unwrap_or o nil) (near at ∙ ap beyond at)
 
+-- a loop at its first item that was given what was found elsewhere
+pub begins_for : (t : LoopFrame) (name : Text) (e : Environment) (parent : Value) → t.at ≡ 0 → t.kind ≡ For parent → t.name.now ≡ name → parent_of (e.local (codes "forloop")) (view parent) ≡ value_or_nil (codes "forloop") e → IsFor name e t
+begins_for t name e parent first kind called is = record {
+  first = first;
+  names = λ k i. loop_scope (loop_name (kind i)) (around k i) (called i) (frame_item_at t k);
+}
+  where
+    around : (k : ℕ) → loop_object t.kind k t.count e.local ≡ forloop_object k t.count (value_or_nil (codes "forloop") e)
+    around k = ap (λ k0. loop_object k0 k t.count e.local) kind ∙ ap (λ d. forloop_object k t.count d) is
+
 -- ---- columns
 
 module _ (source : Source) (window : Window) (columns : Option Expression) (e : Environment) where
@@ -154,6 +169,14 @@ module _ (source : Source) (window : Window) (columns : Option Expression) (e : 
   pub rows_window_faulted : (all : List Datum) (asked : Option ℤ) (kind : ErrorKind) → source_items source e ≡ Ok all → amount columns e ≡ Ok asked → Faulted kind (asked_for window all e) → Faulted kind (cells_asked source window columns e)
   rows_window_faulted all asked kind is many h =
       faulted_as kind _ _ (known all asked is many) (faulted_then kind (asked_for window all e) (λ items. in_columns items (columns_of (length items) asked)) h)
+
+  -- where the columns are no fault, the window's is the first
+  pub rows_window_next : (all : List Datum) (kind : ErrorKind) → source_items source e ≡ Ok all → IsOk (amount columns e) → Faulted kind (asked_for window all e) → Faulted kind (cells_asked source window columns e)
+  rows_window_next all kind is columns_ok h = on (amount columns e) refl columns_ok
+    where
+      on : (r : Result (Option ℤ) ErrorKind) → amount columns e ≡ r → IsOk r → Faulted kind (cells_asked source window columns e)
+      on (Ok asked) many ok = rows_window_faulted all asked kind is many h
+      on (Err k) many ok = absurd cc
 
   pub cells_asked_of : (all items : List Datum) (asked : Option ℤ) → source_items source e ≡ Ok all → amount columns e ≡ Ok asked → asked_for window all e ≡ Ok items
       → cells_asked source window columns e ≡ in_columns items (columns_of (length items) asked)

@@ -1,13 +1,13 @@
 -- Runs of partials: the measure, what a partial is entered with, and what an `include` and a `render` do.
 use Rattle.std.proofs.Common.{◌≡◌, ℕ, zero, suc, cond, ◌+◌, ◌-◌, ◌*◌, ◌<◌, ◌≤◌, List, length, true, Option, Some, None, Result, Ok, Err, refl, sym, ap, subst, ◌∙◌, arith}
-use Rattle.std.specs.Prelude.{[], ◌∷◌}
+use Rattle.std.specs.Prelude.{[], ◌∷◌, ◌++◌, codes}
 use Rattle.std.specs.Option.{ok_or}
 use Rattle.std.proofs.lemmas.Bool.{ne_eqb}
 use Rattle.liquid_model.specs.Answer.{Faulted}
 use Rattle.liquid_model.specs.Data.{Datum}
 use Rattle.liquid_model.specs.Fallible.{◌>>=◌}
 use Rattle.liquid_model.specs.Maps.{Map, listed, merged}
-use Rattle.liquid_model.specs.Texts.{Text}
+use Rattle.liquid_model.specs.Texts.{Text, ◌else◌}
 use Rattle.liquid_model.specs.declared.error.Error.{Error}
 use Rattle.liquid_model.specs.declared.error.ErrorKind.{ErrorKind}
 use Rattle.liquid_model.specs.declared.error.ErrorKind.TheVariants.{Memory, TooDeep, UnknownPartial}
@@ -22,7 +22,7 @@ use Rattle.liquid_syntax.specs.Templates.{list_of, most_of, node_count_of, parti
 use Rattle.liquid_syntax.specs.declared.template.Template.{Template}
 use Rattle.liquid_syntax.proofs.TreeCounts.{template_count}
 use Rattle.liquid_syntax.specs.declared.partials.Partials.{Partials}
-use Rattle.liquid_meaning.specs.Meaning.{Setting, name_of, include_scope, pairs_scope, node_meaning, deeper_meaning, render_apart}
+use Rattle.liquid_meaning.specs.Meaning.{Setting, found, name_of, include_scope, pairs_scope, node_meaning, deeper_meaning, render_apart}
 use Rattle.liquid_meaning.specs.Runs as runs
 use Rattle.liquid_meaning.specs.Runs.{Nothing, Outcome, Run, apart, done, evaluate, fault, go_on, with_scope}
 use Rattle.liquid_meaning.specs.Within.{Within}
@@ -364,3 +364,7 @@ partial_met scope r m s t l p q z pushed kept popped h =
 -- a template with no more nodes than these has no longer list
 pub small_list : (t : Template) (n : ℕ) → node_count_of t ≤ n → length (list_of t) ≤ n
 small_list t n h = subst (λ k. k ≤ n) (template_count t) h
+
+-- a partial of the very name comes first
+pub rendered_name : (partials : List (Text × tree.Nodes)) (name : Text) (partial : tree.Nodes) → listed partials name ≡ Some partial → rendered_of partials name ≡ Ok partial
+rendered_name partials name partial is = ap (λ o. found (o else listed partials (name ++ codes ".liquid"))) is

@@ -1,15 +1,21 @@
 -- The text of a value, kind by kind.
-use Rattle.std.proofs.Common.{◌≡◌, ℤ, Bool, Vec, BTreeMap, String, Global, string_bytes, ap, sym, ◌∙◌, rules}
-use Rattle.liquid_model.specs.Data.{truth, number, text_of, items_text, pairs_text}
+use Rattle.std.proofs.Common.{◌≡◌, ℤ, [], Bool, Vec, BTreeMap, String, Global, string_bytes, ap, sym, ◌∙◌, rules}
+use Rattle.liquid_model.specs.Data.{nil, truth, number, text_of, items_text, pairs_text}
 use Rattle.liquid_model.specs.View.{view, items_view, pairs_view}
-use Rattle.liquid_model.specs.declared.value.Value.{Value, Bool as Truth, Integer, Text, Array, Object, the_lemmas}
+use Rattle.liquid_model.specs.declared.value.Value.{Value, Nil, Bool as Truth, Integer, Text, Array, Object, the_lemmas}
 use Rattle.liquid_model.proofs.Views.{view-Text, view-Array, view-Object}
+
+view-Nil : view Nil ≡ nil
+view-Nil = search (rules, the_lemmas)
 
 view-Bool : (b : Bool) → view (Truth b) ≡ truth b
 view-Bool b = search (rules, the_lemmas)
 
 view-Integer : (n : ℤ) → view (Integer n) ≡ number n
 view-Integer n = search (rules, the_lemmas)
+
+pub nil_text : (value : Value) → value ≡ Nil → [] ≡ text_of (view value)
+nil_text value is = sym (ap (λ v. text_of (view v)) is ∙ ap text_of view-Nil)
 
 pub truth_text : (value : Value) (b : Bool) → value ≡ Truth b → text_of (truth b) ≡ text_of (view value)
 truth_text value b is = sym (ap (λ v. text_of (view v)) is ∙ ap text_of (view-Bool b))

@@ -1,4 +1,4 @@
-use Rattle.std.proofs.Common.{rules}
+use Rattle.std.proofs.Common.{subst}
 use Rattle.std.proofs.lemmas.Result.{err_from_is_err_and}
 use Rattle.liquid_model.specs.Answer.{IsValueOrMemory}
 use Rattle.liquid_model.specs.View.{view}
@@ -29,7 +29,8 @@ pub returns-clause-performs : goal.returns-clause-performs
 returns-clause-performs g c =
     let place = configuration_of g.W.CountedWrite.contents g.W.CountedWrite.failure_count in
     let d = view c.in_ok-value.value in
-    let stored : IsValueOrMemory (λ _. layers_of c.set_global.new.self) c.set_global.result (with_assigned c.args.name.now d (layers_of c.args.state.now)) = search rules in
+    let stored : IsValueOrMemory (λ _. layers_of c.set_global.new.self) c.set_global.result (with_assigned c.args.name.now d (layers_of c.args.state.now)) =
+    subst (λ n. IsValueOrMemory (λ _. layers_of c.set_global.new.self) c.set_global.result (with_assigned n d (layers_of c.args.state.now))) c.in_ok-from_str.ensures.ok c.set_global.ensures.set in
     by_rule (assign_rule _ _ _ _) (given_met {V = Value} view unit c.in_ok-value.value c.set_global.result (chain_value (answers_with (g.H.NamedFilters.named c.args.context.now.host.now)) (chain_view c.args.chain.now)) (λ x. change (assigned_to c.args.name.now x)) (place c.args.out.now c.args.state.now) (place c.args.out.now c.set_global.new.self)
     c.in_ok-value.ensures (change_met c.set_global.result (assigned_to c.args.name.now d) _ (environment_of c.args.state.now) _ (gives_merged c.set_global.result _ _ stored)))
 
@@ -37,5 +38,6 @@ pub returns-clause-kept : goal.returns-clause-kept
 unfolding node_names
 returns-clause-kept g c N within inside =
     let d = view c.in_ok-value.value in
-    let stored : IsValueOrMemory (λ _. layers_of c.set_global.new.self) c.set_global.result (with_assigned c.args.name.now d (layers_of c.args.state.now)) = search rules in
+    let stored : IsValueOrMemory (λ _. layers_of c.set_global.new.self) c.set_global.result (with_assigned c.args.name.now d (layers_of c.args.state.now)) =
+    subst (λ n. IsValueOrMemory (λ _. layers_of c.set_global.new.self) c.set_global.result (with_assigned n d (layers_of c.args.state.now))) c.in_ok-from_str.ensures.ok c.set_global.ensures.set in
     kept_assigned N c.args.name.now d (layers_of c.args.state.now) (layers_of c.set_global.new.self) c.set_global.result within.0 stored c.set_global.ensures.unchanged

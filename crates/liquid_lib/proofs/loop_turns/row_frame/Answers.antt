@@ -1,12 +1,23 @@
-use Rattle.std.proofs.Common.{◌<◌, Ok, Some, sym, ap, ◌∙◌, option_map, arith}
+use Rattle.std.proofs.Common.{◌<◌, Ok, IsOk, Some, sym, ap, ◌∙◌, option_map, arith, rules}
 use Rattle.std.proofs.lemmas.Result.{err_from_is_err_and}
 use Rattle.liquid_core.specs.ExpressionView.{expression_view}
 use Rattle.liquid_core.specs.States.{environment_of}
+use Rattle.liquid_tree.specs.Evaluation.{amount}
 use Rattle.liquid_tree.specs.ItemLists.{all_items}
 use Rattle.liquid_tree.specs.SourceView.{source_view}
 use Rattle.liquid_syntax.specs.Flats.{window_view}
-use Rattle.liquid_lib.proofs.LoopItems.{row_cells, row_faulted, turn_list}
+use Rattle.liquid_lib.proofs.LoopItems.{row_cells, row_faulted, rows_window_next, turn_list}
 use Rattle.liquid_lib.proofs.loop_turns.row_frame.Goals as goal
+
+pub returns-in_err-window-clause-items : goal.returns-in_err-window-clause-items
+returns-in_err-window-clause-items c =
+    let p = err_from_is_err_and c.from_residual-in_err-window.result c.from_residual-in_err-window.ensures.1 in
+    let all = all_items c.in_ok-all.all.items in
+    let columns = option_map expression_view c.args.head.now.cols in
+    let e = environment_of c.args.state.now in
+    let some : IsOk (amount columns e) = search rules in
+    rw (p.1, p.2) (rows_window_next (source_view c.args.head.now.source) (window_view c.args.head.now.window) columns e all c.in_err-window.field-0.0.kind
+    c.in_ok-all.ensures.items some (c.in_err-window.ensures.items all (sym c.in_ok-all.ensures.count)))
 
 pub returns-in_err-columns-clause-items : goal.returns-in_err-columns-clause-items
 returns-in_err-columns-clause-items c =

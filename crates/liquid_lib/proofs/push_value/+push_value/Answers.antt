@@ -8,9 +8,14 @@ use Rattle.liquid_model.specs.Data.{number, text_of, items_text, pairs_text}
 use Rattle.liquid_model.specs.View.{view, items_view, pairs_view}
 use Rattle.liquid_lib.specs.Performs.{Writes}
 use Rattle.liquid_lib.specs.Sinks.{sink_of}
-use Rattle.liquid_lib.proofs.Pieces.{GoesOn, writes_as, goes_on, goes_wrong, goes_to_end, next_pair}
-use Rattle.liquid_lib.proofs.ValueTexts.{truth_text, number_text, text_text, array_text, object_text}
+use Rattle.liquid_lib.proofs.Pieces.{GoesOn, writes_as, goes_on, goes_wrong, goes_to_end, next_pair, writes_nothing}
+use Rattle.liquid_lib.proofs.ValueTexts.{nil_text, truth_text, number_text, text_text, array_text, object_text}
 use Rattle.liquid_lib.proofs.push_value.+push_value.Goals as goal
+
+pub push_value-returns-in-Nil-clause-writes : goal.push_value-returns-in-Nil-clause-writes
+push_value-returns-in-Nil-clause-writes g t c =
+    let here = sink_of g.W.CountedWrite.contents g.W.CountedWrite.failure_count c.args.out.now in
+    writes_as (Ok tt) [] (text_of (view c.args.value.now)) here here (nil_text c.args.value.now c.in-Nil.is) (writes_nothing tt here)
 
 pub push_value-returns-in-Bool-clause-writes : goal.push_value-returns-in-Bool-clause-writes
 push_value-returns-in-Bool-clause-writes g t c =
