@@ -1,7 +1,8 @@
 use Rattle.std.proofs.Common.{◌≡◌, ◌++◌, ◌∙◌, option_to_list, refl, sym, ap, append-nil}
 use Rattle.std.proofs.lemmas.List.{drop_all}
+use Rattle.std.proofs.lemmas.Result.{err_from_is_err_and}
 use Rattle.liquid_sites.specs.SiteViews.{contents_of, language_of}
-use Rattle.liquid_folders.proofs.Takes.{taken_first, taken_on, all_taken, told_first, told_on, all_told}
+use Rattle.liquid_folders.proofs.Takes.{no_more, none_told, taken_first, taken_on, all_taken, told_first, told_on, all_told}
 use Rattle.liquid_folders.proofs.rounds.take_all.Goals.{in-Some+in_ok-push, in_default}
 use Rattle.liquid_folders.proofs.rounds.take_all.Goals as goal
 
@@ -26,6 +27,18 @@ loop-changed-preserved g c =
       told = told_on _ (language_of c.args.site.now) (language_of c.loop-changed.site) c.args.folder.now c.args.changes.now c.loop-changed.changed-index c.changed-item.result refusal before c.match-branch-2.refusals.items c.loop-changed.invariant.language
           c.changed-item.is c.loop-changed-test.true c.loop-changed.invariant.told c.in_ok-refusal.ensures.refused c.in_ok-refusal.ensures.path joined;
     }
+
+pub returns-in_err-refusal-clause-taken : goal.returns-in_err-refusal-clause-taken
+returns-in_err-refusal-clause-taken g c = no_more _ _ _ _ (err_from_is_err_and c.from_residual.result c.from_residual.ensures.1).1
+
+pub returns-in_err-refusal-clause-refusals : goal.returns-in_err-refusal-clause-refusals
+returns-in_err-refusal-clause-refusals g c = none_told _ _ _ _ (err_from_is_err_and c.from_residual.result c.from_residual.ensures.1).1
+
+pub returns-in_err-push-clause-taken : goal.returns-in_err-push-clause-taken
+returns-in_err-push-clause-taken g c = no_more _ _ _ _ (err_from_is_err_and c.from_residual-in_err-push.result c.from_residual-in_err-push.ensures.1).1
+
+pub returns-in_err-push-clause-refusals : goal.returns-in_err-push-clause-refusals
+returns-in_err-push-clause-refusals g c = none_told _ _ _ _ (err_from_is_err_and c.from_residual-in_err-push.result c.from_residual-in_err-push.ensures.1).1
 
 pub returns-clause-taken : goal.returns-clause-taken
 returns-clause-taken g c =
