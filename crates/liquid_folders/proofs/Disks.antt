@@ -1,5 +1,5 @@
 -- A file that is put where it stands already.
-use Rattle.std.specs.Prelude.{◌≡◌, ℕ, [], ◌∷◌, ◌++◌, ◌||◌, not, Bool, true, false, cond, bytes_eq, Option, Some, None, Result, Ok, Err, IfSome, ⊤, MatchBool, option_map, string_bytes}
+use Rattle.std.specs.Prelude.{◌≡◌, ℕ, [], ◌∷◌, ◌++◌, ◌||◌, not, Bool, true, false, cond, bytes_eq, Option, Some, None, Result, Ok, Err, IfOk, OnOk, IfSome, ⊤, MatchBool, option_map, string_bytes}
 use Rattle.std.proofs.Common.{append_assoc}
 use Rattle.std.proofs.lemmas.Slice.Eq.{bytes_eq-Decides}
 use mathlib.Core.Path.{refl, sym, ap, subst, fun_ext, ◌∙◌}
@@ -35,6 +35,15 @@ unchanged_at (Some f) path = (f path, ap Some (sym (file_there f path (f path) r
 pub already : (o : Option Files) (path given text : Text) (b : Bool) → given ≡ path → IfSome o (λ f. b ≡ is_held (f given) text) → b ≡ true → IfSome o (λ f. o ≡ Some (with_file f path (holds text)))
 already None path given text b is h k = tt
 already (Some f) path given text b is h k = ap Some (sym (file_there f path (holds text) (holding (f path) text (ap (λ p. is_held (f p) text) (sym is) ∙ sym h ∙ k))))
+
+-- a fault says nothing of what holds where there is none
+pub no_more : {X : Type 0} (o : Option Files) (r : Result X Error) (e : Error) (P : Files → Type 0) → r ≡ Err e → IfSome o (λ f. OnOk r (P f))
+no_more None r e P failed = tt
+no_more (Some f) r e P failed = subst (λ x. OnOk x (P f)) (sym failed) tt
+
+pub none_told : {X : Type 0} (o : Option Files) (r : Result X Error) (e : Error) (P : Files → X → Type 0) → r ≡ Err e → IfSome o (λ f. IfOk r (P f))
+none_told None r e P failed = tt
+none_told (Some f) r e P failed = subst (λ x. IfOk x (P f)) (sym failed) tt
 
 -- ---- a file that is written
 

@@ -42,15 +42,6 @@ refused_facts (Ok o) kind given text f c h faulted is there =
 next_item : {X : Type 0} (xs : List X) (i : ℕ) (x : X) → x ≡ get_or xs i x → i < length xs → drop i xs ≡ x ∷ drop (i + 1) xs
 next_item xs i x is lt = rw add-one (drop-cons xs i x lt ∙ ap (λ y. y ∷ drop (suc i) xs) (sym is))
 
--- a fault says nothing of what is taken, nor of what is told
-pub no_more : {X : Type 0} (o : Option Files) (r : Result X Error) (e : Error) (P : Files → Type 0) → r ≡ Err e → IfSome o (λ f. OnOk r (P f))
-no_more None r e P failed = tt
-no_more (Some f) r e P failed = subst (λ x. OnOk x (P f)) (sym failed) tt
-
-pub none_told : {X : Type 0} (o : Option Files) (r : Result X Error) (e : Error) (P : Files → X → Type 0) → r ≡ Err e → IfSome o (λ f. IfOk r (P f))
-none_told None r e P failed = tt
-none_told (Some f) r e P failed = subst (λ x. IfOk x (P f)) (sym failed) tt
-
 -- before the first file
 pub taken_first : (o : Option Files) (l : Language) (folder : Folder) (changes : List Changed) (first : Contents) → IfSome o (λ f. (d : Contents) → AreTaken l folder f changes first d → AreTaken l folder f changes first d)
 taken_first None l folder changes first = tt

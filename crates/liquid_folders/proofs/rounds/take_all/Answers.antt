@@ -2,7 +2,8 @@ use Rattle.std.proofs.Common.{◌≡◌, ◌++◌, ◌∙◌, option_to_list, re
 use Rattle.std.proofs.lemmas.List.{drop_all}
 use Rattle.std.proofs.lemmas.Result.{err_from_is_err_and}
 use Rattle.liquid_sites.specs.SiteViews.{contents_of, language_of}
-use Rattle.liquid_folders.proofs.Takes.{no_more, none_told, taken_first, taken_on, all_taken, told_first, told_on, all_told}
+use Rattle.liquid_folders.proofs.Disks.{no_more, none_told}
+use Rattle.liquid_folders.proofs.Takes.{taken_first, taken_on, all_taken, told_first, told_on, all_told}
 use Rattle.liquid_folders.proofs.rounds.take_all.Goals.{in-Some+in_ok-push, in_default}
 use Rattle.liquid_folders.proofs.rounds.take_all.Goals as goal
 
