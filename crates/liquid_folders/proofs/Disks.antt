@@ -1,5 +1,5 @@
 -- A file that is put where it stands already.
-use Rattle.std.specs.Prelude.{◌≡◌, ℕ, [], ◌∷◌, ◌++◌, ◌||◌, not, Bool, true, false, cond, bytes_eq, Option, Some, None, IfSome, ⊤, MatchBool, option_map, string_bytes}
+use Rattle.std.specs.Prelude.{◌≡◌, ℕ, [], ◌∷◌, ◌++◌, ◌||◌, not, Bool, true, false, cond, bytes_eq, Option, Some, None, Result, Ok, Err, IfOk, OnOk, IfSome, ⊤, MatchBool, option_map, string_bytes}
 use Rattle.std.proofs.Common.{append_assoc}
 use Rattle.std.proofs.lemmas.Slice.Eq.{bytes_eq-Decides}
 use mathlib.Core.Path.{refl, sym, ap, subst, fun_ext, ◌∙◌}
@@ -11,7 +11,8 @@ use Rattle.liquid_lib.specs.Pages.{Shown}
 use Rattle.liquid_sites.specs.Contents.{Pages}
 use Rattle.liquid_sites.specs.Steps.{raised}
 use Rattle.liquid_folders.specs.Written.{all_written, count_from, is_page_path, KeepsOthers, unwritten_message, IsUnwritten, TellsUnwritten}
-use Rattle.liquid_folders.specs.Files.{File, Files, gone, holds, unread, with_file, is_held, ChangesAt}
+use Rattle.liquid_folders.specs.Files.{File, Files, gone, holds, unread, with_file, is_held, ChangesAt, IsPut}
+use Rattle.liquid_folders.specs.declared.disk.DiskFault.{DiskFault}
 use Rattle.liquid_folders.specs.inside.Needed.{NeededUnlessMemory}
 
 pub file_there : (files : Files) (path : Text) (file : File) → files path ≡ file → with_file files path file ≡ files
@@ -34,6 +35,45 @@ unchanged_at (Some f) path = (f path, ap Some (sym (file_there f path (f path) r
 pub already : (o : Option Files) (path given text : Text) (b : Bool) → given ≡ path → IfSome o (λ f. b ≡ is_held (f given) text) → b ≡ true → IfSome o (λ f. o ≡ Some (with_file f path (holds text)))
 already None path given text b is h k = tt
 already (Some f) path given text b is h k = ap Some (sym (file_there f path (holds text) (holding (f path) text (ap (λ p. is_held (f p) text) (sym is) ∙ sym h ∙ k))))
+
+-- a fault says nothing of what holds where there is none
+pub no_more : {X : Type 0} (o : Option Files) (r : Result X Error) (e : Error) (P : Files → Type 0) → r ≡ Err e → IfSome o (λ f. OnOk r (P f))
+no_more None r e P failed = tt
+no_more (Some f) r e P failed = subst (λ x. OnOk x (P f)) (sym failed) tt
+
+pub none_told : {X : Type 0} (o : Option Files) (r : Result X Error) (e : Error) (P : Files → X → Type 0) → r ≡ Err e → IfSome o (λ f. IfOk r (P f))
+none_told None r e P failed = tt
+none_told (Some f) r e P failed = subst (λ x. IfOk x (P f)) (sym failed) tt
+
+-- ---- a file that is written
+
+-- it changes alone, whatever the disk answers
+pub put_alone : (o v : Option Files) (path given text : Text) (r : Result (Unit {0}) DiskFault) → given ≡ path → IfSome o (λ f. IsPut given text f r v) → IfSome o (λ f. ChangesAt path f v)
+put_alone None v path given text r is put = tt
+put_alone (Some f) v path given text (Ok u) is put = (holds text, put ∙ (λ i. Some (with_file f (is i) (holds text))))
+put_alone (Some f) v path given text (Err e) is put = (put.0, put.1 ∙ (λ i. Some (with_file f (is i) put.0)))
+
+-- it holds the text where the disk takes it
+pub put_there : (o v : Option Files) (path given text : Text) (r : Result (Unit {0}) DiskFault) (u : Unit {0}) → given ≡ path → r ≡ Ok u → IfSome o (λ f. IsPut given text f r v) → IfSome o (λ f. v ≡ Some (with_file f path (holds text)))
+put_there None v path given text r u is taken put = tt
+put_there (Some f) v path given text (Ok w) u is taken put = put ∙ (λ i. Some (with_file f (is i) (holds text)))
+put_there (Some f) v path given text (Err e) u is taken put = absurd cc
+
+held_other : (f : Files) (path given text : Text) (b : Bool) → given ≡ path → b ≡ is_held (f given) text → b ≡ false → is_held (f path) text ≡ false
+held_other f path given text b is told other = sym (ap (λ p. is_held (f p) text) is) ∙ sym told ∙ other
+
+-- it held another text
+pub is_needed : (o : Option Files) (path given text : Text) (b : Bool) → given ≡ path → IfSome o (λ f. b ≡ is_held (f given) text) → b ≡ false → IfSome o (λ f. true ≡ not (is_held (f path) text))
+is_needed None path given text b is told other = tt
+is_needed (Some f) path given text b is told other = sym (ap not (held_other f path given text b is told other))
+
+pub stays_needed : (o : Option Files) (path given text : Text) (b : Bool) (e : Error) → given ≡ path → IfSome o (λ f. b ≡ is_held (f given) text) → b ≡ false → IfSome o (λ f. NeededUnlessMemory (f path) text e)
+stays_needed None path given text b e is told other = tt
+stays_needed (Some f) path given text b e is told other = at (is_memory e.kind)
+  where
+    at : (m : Bool) → MatchBool m ⊤ (is_held (f path) text ≡ false)
+    at true = tt
+    at false = held_other f path given text b is told other
 
 -- ---- pages so far
 

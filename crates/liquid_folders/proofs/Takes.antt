@@ -42,6 +42,11 @@ refused_facts (Ok o) kind given text f c h faulted is there =
 next_item : {X : Type 0} (xs : List X) (i : ℕ) (x : X) → x ≡ get_or xs i x → i < length xs → drop i xs ≡ x ∷ drop (i + 1) xs
 next_item xs i x is lt = rw add-one (drop-cons xs i x lt ∙ ap (λ y. y ∷ drop (suc i) xs) (sym is))
 
+-- before the first file
+pub taken_first : (o : Option Files) (l : Language) (folder : Folder) (changes : List Changed) (first : Contents) → IfSome o (λ f. (d : Contents) → AreTaken l folder f changes first d → AreTaken l folder f changes first d)
+taken_first None l folder changes first = tt
+taken_first (Some f) l folder changes first = λ d h. h
+
 -- one more file is taken
 pub taken_on : (o : Option Files) (l own : Language) (folder : Folder) (changes : List Changed) (i : ℕ) (changed : Changed) (first now new : Contents) → own ≡ l → changed ≡ get_or changes i changed → i < length changes
     → IfSome o (λ f. (d : Contents) → AreTaken l folder f (drop i changes) now d → AreTaken l folder f changes first d) → IfSome o (λ f. Takes own changed (f (path_of folder changed)) now new)
@@ -51,12 +56,23 @@ taken_on (Some f) l own folder changes i changed first now new same is lt so ste
     let here : Takes l changed (f (path_of folder changed)) now new = subst (λ k. Takes k changed (f (path_of folder changed)) now new) same step in
     λ d more. so d (subst (λ cs. AreTaken l folder f cs now d) (sym (next_item changes i changed is lt)) (new, here, more))
 
+-- all files are taken
+pub all_taken : (o : Option Files) (l : Language) (folder : Folder) (changes : List Changed) (i : ℕ) (first now : Contents) → drop i changes ≡ []
+    → IfSome o (λ f. (d : Contents) → AreTaken l folder f (drop i changes) now d → AreTaken l folder f changes first d) → IfSome o (λ f. AreTaken l folder f changes first now)
+all_taken None l folder changes i first now none so = tt
+all_taken (Some f) l folder changes i first now none so = so now (subst (λ cs. AreTaken l folder f cs now now) (sym none) refl)
+
 -- ---- what is told
 
 is_refusal_of : (l : Language) (folder : Folder) (files : Files) (changed : Changed) (r : Option Refusal) → Refuses l changed (files (path_of folder changed)) (option_map (λ refusal. refusal.why) r) → IfSome r (λ refusal. string_bytes refusal.path ≡ path_of folder changed)
     → IsRefusal l folder files changed r
 is_refusal_of l folder files changed None why path = why
 is_refusal_of l folder files changed (Some refusal) why path = (path, why)
+
+-- nothing is told before the first file
+pub told_first : (o : Option Files) (l : Language) (folder : Folder) (changes : List Changed) (told : List Refusal) → told ≡ [] → IfSome o (λ f. (rs : List Refusal) → AreRefusals l folder f changes rs → AreRefusals l folder f changes (told ++ rs))
+told_first None l folder changes told none = tt
+told_first (Some f) l folder changes told none = λ rs h. subst (λ ts. AreRefusals l folder f changes (ts ++ rs)) (sym none) h
 
 -- one more file is told of, or is not refused
 pub told_on : (o : Option Files) (l own : Language) (folder : Folder) (changes : List Changed) (i : ℕ) (changed : Changed) (r : Option Refusal) (before after : List Refusal) → own ≡ l → changed ≡ get_or changes i changed → i < length changes
