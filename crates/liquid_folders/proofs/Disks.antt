@@ -1,4 +1,4 @@
--- A file that is put where it stands already.
+-- What putting a file leaves of a disk, and what no file that is written leaves.
 use Rattle.std.specs.Prelude.{◌≡◌, ℕ, [], ◌∷◌, ◌++◌, ◌||◌, not, Bool, true, false, cond, bytes_eq, Option, Some, None, Result, Ok, Err, IfOk, OnOk, IfSome, ⊤, MatchBool, option_map, string_bytes}
 use Rattle.std.proofs.Common.{append_assoc}
 use Rattle.std.proofs.lemmas.Slice.Eq.{bytes_eq-Decides}
