@@ -1,6 +1,7 @@
 """Expressions, chains and conditions as lists of items, and how items are spelled."""
 from . import samples
 from .data import LISTS, POOLS, value_of
+from .dates import date_of, pattern_of
 
 TEXT_KINDS = ("text", "digits", "decimal", "markup", "escaped", "date")
 # a filter: the kinds of its input, the kinds of its arguments (a ? may be missing), and the kind of its answer
@@ -67,7 +68,6 @@ ARGUMENTS = {
     "small": samples.SMALL,
     "length": (0, 1, 2, 3, 4, 5, 10, 25, 60, -1),
     "mode": ("raw", "none", "ascii", "pretty", "default", "latin", "Raw"),
-    "pattern": samples.PATTERNS,
     "hours": samples.HOURS,
 }
 TAKEN = {
@@ -149,7 +149,7 @@ class Expressions:
             return self.rng.choice(samples.MISSING)
         if kind == "any" or self.dares(0.06):
             kind = self.rng.choice(("number", "text", "truth", "nil", *LISTS, "map", *POOLS))
-        if kind in ARGUMENTS:
+        if kind in ARGUMENTS or kind == "pattern":
             return self.argument(kind)
         path = self.variable(self.kinds(kind))
         if path and self.chance(0.6):
@@ -177,7 +177,15 @@ class Expressions:
     def argument(self, kind):
         if self.dares(0.15):
             return self.expression("number" if kind in ("small", "length", "hours") else "text")
+        if kind == "pattern":
+            return literal(self.rng, pattern_of(self.rng, self.dares(0.1)))
         return literal(self.rng, self.rng.choice(ARGUMENTS[kind]))
+
+    def dated(self):
+        """The items of a chain that prints a date."""
+        name = self.rng.choice(("date", "date", "date_in_tz"))
+        date = literal(self.rng, date_of(self.rng)) if self.chance(0.7) else self.expression("date")
+        return [date, "|", name, *self.arguments(name)]
 
     def chain(self):
         """The items of a chain, and the kind that it likely comes to."""

@@ -59,6 +59,9 @@ class Nodes:
         path = self.made.variable((*SCALAR_KINDS, "list", "map")) or "nope"
         return self.output([path, "|", "default", ":", "'-'"] if self.chance(0.5) else [path])
 
+    def dated(self, _depth):
+        return self.output(self.made.dated())
+
     def assign(self, _depth):
         items, kind = self.made.chain()
         name = self.name()
@@ -217,6 +220,7 @@ LEAVES = (
     + [Nodes.value] * 9
     + [Nodes.shown] * 4
     + [Nodes.assign] * 4
+    + [Nodes.dated] * 2
     + [Nodes.counter, Nodes.counter, Nodes.cycle, Nodes.cycle, Nodes.interrupt, Nodes.include, Nodes.include, Nodes.render, Nodes.render, Nodes.comment, Nodes.raw]
 )
 BLOCKS = [Nodes.choice] * 4 + [Nodes.unless, Nodes.case, Nodes.case] + [Nodes.loop] * 5 + [Nodes.tablerow] * 2 + [Nodes.capture] * 2 + [Nodes.ifchanged] * 2
