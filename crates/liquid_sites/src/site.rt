@@ -64,16 +64,7 @@ impl Site {
         ensures language { language_of result ≡ language }
         ensures rendered { count_of result ≡ 0 }
     {
-        Site {
-            alloc,
-            language,
-            depth,
-            templates: BTreeMap::new(alloc),
-            partials: Partials::new(alloc),
-            facts: BTreeMap::new(alloc),
-            pages: BTreeMap::new(alloc),
-            rendered: 0,
-        }
+        Site::over(alloc, language, depth, Object::new(alloc))
     }
 
     /// A site over this data, without pages and partials, of so many nested partials. It takes no memory.
