@@ -205,9 +205,6 @@ arms_over ns e names meant target from last x = on x.whens x.stands x.within x.s
     }
     on (tree.when values body more) s within same = absurd s
 
-pub over_le : (ns : List Node) (e : Environment) (names : List Text) (meant : Meant) (target : Datum) (arms : List Arm) (from last : ℕ) → CaseLeft ns e names meant target arms from last → from ≤ last
-over_le ns e names meant target arms from last x = case_le ns from arms last x.whens x.otherwise x.stands
-
 -- ---- the walk along the parts, by their place
 
 pub left_next : (ns : List Node) (e : Environment) (names : List Text) (meant : Meant) (target : Datum) (arms : List Arm) (i : ℕ) (arm : Arm) (from last : ℕ) → i < length arms → arm ≡ get_or arms i arm

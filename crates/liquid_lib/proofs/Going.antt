@@ -65,9 +65,6 @@ Going setting depth ns from at to start here = (f : Forest Maker) → StandsAt n
     × (AreRenders (nodes_of f) → AreRenders (nodes_of rest))
     × ((r : Result (Unit {0}) Error) (after : Configuration) → Performs r (nodes_meant setting depth (nodes_of rest)) here after → Performs r (nodes_meant setting depth (nodes_of f)) start after)
 
-pub going_start : (setting : Setting) (depth : ℕ) (ns : List Node) (from to : ℕ) (start : Configuration) → Going setting depth ns from from to start start
-going_start setting depth ns from to start f s = (f, s, λ N h. h, λ h. h, λ r after h. h)
-
 -- what a range begins with
 abbrev pub First : List Node → ℕ → Forest Maker → ℕ → Type 0
 First ns at f to = (n : tree.Node) × (next : ℕ) × (rest : Forest Maker) × NodeAt ns at n next × (nodes_of f ≡ tree.node n (nodes_of rest)) × StandsAt ns next rest to × (next ≤ to) × (at < next)

@@ -68,9 +68,6 @@ bind_faulted va vb e m k p q (inr x) = inr (record { cause = x.cause; adds = par
 
 -- ---- want of memory
 
-pub memory_met : {V A : Type 0} (view : V → A) (e : Error) (m : Run A) (s : Sink) (g h : Environment) → e.kind ≡ Memory → Meets view (Err e) m (record { sink = s; environment = g }) (record { sink = s; environment = h })
-memory_met view e m s g h is = inr (record { cause = inl (is, inl refl); adds = AddsPart-none s _ })
-
 -- the same, with every argument told by the goal
 pub memory_at : {V A : Type 0} {view : V → A} {o : Outcome A} {s : Sink} {h : Environment} (e : Error) → e.kind ≡ Memory → MeetsAt view (Err e) o s s h
 memory_at e is = inr (record { cause = inl (is, inl refl); adds = AddsPart-none _ _ })
@@ -152,9 +149,6 @@ scope_met view r scope m s t e g (inl x) =
     inl (record { end = x.end; within = x.within; adds = x.adds; none_failed = x.none_failed; same = ap back x.same })
 scope_met view r scope m s t e g (inr x) = inr (record { cause = x.cause; adds = x.adds })
 
-same_text_of : Text → Text
-same_text_of t = t
-
 pub buffered_met : {V A : Type 0} (view : V → A) (value : V) (m : Run A) (s p q u : Sink) (text : Text) (e g : Environment)
     → Around s p q u text → Meets view (Ok value) m (record { sink = p; environment = e }) (record { sink = q; environment = g })
     → Meets (λ t. t) (Ok text) (buffered m) (record { sink = s; environment = e }) (record { sink = u; environment = g })
@@ -221,8 +215,3 @@ module _ (setting : Setting) (deeper : Nodes → Run Nothing) where
 
   pub list_end : (value : Unit {0}) (p : Configuration) → Performs (Ok value) (nodes_meaning setting deeper no_nodes) p p
   list_end value p = by_rule (nodes_meaning-none setting deeper) (done_met value p)
-
--- the same of a value that stands for a text
-pub text_met : {V : Type 0} (view : V → Text) (value : V) (m : Run Text) (p q : Configuration) → Meets (λ (t : Text). t) (Ok (view value)) m p q → Meets view (Ok value) m p q
-text_met view value m p q (inl x) = inl (record { end = x.end; within = refl; adds = x.adds; none_failed = x.none_failed; same = x.same })
-text_met view value m p q (inr x) = absurd x.cause

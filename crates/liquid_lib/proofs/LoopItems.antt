@@ -1,16 +1,15 @@
 -- The items of a loop before its first turn.
-use Rattle.std.proofs.Common.{◌≡◌, ℕ, zero, suc, ◌+◌, ◌-◌, ◌<◌, Bool, false, List, [], ◌∷◌, length, get_or, slice_get, Option, Some, None, Result, Ok, Err, IsOk, refl, sym, ap, subst, ◌∙◌, arith, codes}
+use Rattle.std.proofs.Common.{◌≡◌, ℕ, zero, suc, ◌+◌, ◌-◌, ◌<◌, Bool, List, [], ◌∷◌, length, get_or, slice_get, Option, Some, Result, Ok, Err, IsOk, refl, sym, ap, subst, ◌∙◌, arith, codes}
 use Rattle.std.specs.Prelude.{ℤ}
-use Rattle.std.specs.Option.{unwrap_or}
 use mathlib.Core.Path.{fun_ext}
 use Rattle.liquid_model.specs.Answer.{Faulted}
 use Rattle.liquid_model.specs.Data.{Datum, nil}
 use Rattle.liquid_model.specs.Fallible.{◌>>=◌}
-use Rattle.liquid_model.specs.Texts.{Text, ◌else◌}
+use Rattle.liquid_model.specs.Texts.{Text}
 use Rattle.liquid_model.specs.View.{view}
 use Rattle.liquid_model.specs.declared.value.Value.{Value}
 use Rattle.liquid_model.specs.declared.error.ErrorKind.{ErrorKind}
-use Rattle.liquid_core.specs.Environment.{Environment, lookup}
+use Rattle.liquid_core.specs.Environment.{Environment}
 use Rattle.liquid_core.specs.Expression.{Expression}
 use Rattle.liquid_core.specs.Places.{place_of}
 use Rattle.liquid_core.specs.LoopFrames.{frame_item_at, item_of, loop_name, loop_object, parent_of}
@@ -96,47 +95,10 @@ pub turn_list : (items : Items) (o m : ℕ) (reversed : Bool) → placed (all_it
 turn_list items o m reversed = ap (λ f. each_from f 0 m) (fun_ext (λ k. sym (item_by_place items (place_of reversed o m k))))
 
 module _ (source : Source) (window : Window) (e : Environment) where
-  pub source_faulted : (kind : ErrorKind) → Faulted kind (source_items source e) → Faulted kind (items_asked source window e)
-  source_faulted kind h = faulted_then kind (source_items source e) (λ all. asked_for window all e) h
-
-  pub window_faulted : (all : List Datum) (kind : ErrorKind) → source_items source e ≡ Ok all → Faulted kind (asked_for window all e) → Faulted kind (items_asked source window e)
-  window_faulted all kind is h = faulted_as kind _ _ (ap (λ r. r >>= (λ all. asked_for window all e)) is) h
-
   pub asked_of : (all items : List Datum) → source_items source e ≡ Ok all → asked_for window all e ≡ Ok items → items_asked source window e ≡ Ok items
   asked_of all items is h = ap (λ r. r >>= (λ all. asked_for window all e)) is ∙ h
 
--- no item is asked for
-pub none_placed : (ds : List Datum) (o m : ℕ) (reversed : Bool) → m ≡ 0 → placed ds o m reversed ≡ []
-none_placed ds o m reversed none = ap (λ n. each_from (λ k. get_or ds (place_of reversed o m k) nil) 0 n) none
-
--- a source whole
-pub whole_placed : (ds : List Datum) (n : ℕ) → length ds ≡ n → ds ≡ placed ds 0 n false
-whole_placed ds n long =
-    listed_from ds (λ k. get_or ds k nil) 0 (λ i lt. at ds i lt ∙ ap (λ k. Some (get_or ds k nil)) (let e : i ≡ 0 + i = omega arith in e))
-    ∙ ap (each_from (λ k. get_or ds k nil) 0) long
-    ∙ ap (λ f. each_from f 0 n) (fun_ext (λ k. ap (λ j. get_or ds j nil) (let e : k ≡ 0 + k = omega arith in e)))
-  where
-    at : (ds : List Datum) (i : ℕ) → i < length ds → slice_get ds i ≡ Some (get_or ds i nil)
-    at [] i lt = absurd (omega arith)
-    at (d ∷ ds) zero lt = refl
-    at (d ∷ ds) (suc i) lt = at ds i (omega arith)
-
 -- ---- `forloop` before the loop
-
-forloop_in : Environment → Option Datum
-forloop_in e = e.local (codes "forloop")
-
--- what was found elsewhere counts where no scope holds the name
-pub elsewhere : (e : Environment) (v : Datum) (found : Option Datum) → (e.local (codes "forloop") ≡ None → found ≡ lookup e (codes "forloop")) → unwrap_or found nil ≡ v
-    → parent_of (e.local (codes "forloop")) v ≡ value_or_nil (codes "forloop") e
-elsewhere e v found near is = on (e.local (codes "forloop")) refl
-  where
-    beyond : Option Datum → Option Datum
-    beyond local = ((local else e.assigned (codes "forloop")) else e.counters (codes "forloop")) else e.globals (codes "forloop")
-
-    on : (local : Option Datum) → e.local (codes "forloop") ≡ local → parent_of local v ≡ unwrap_or (beyond local) nil
-    on (Some d) at = refl
-    on None at = sym is ∙ ap (λ o. unwrap_or o nil) (near at ∙ ap beyond at)
 
 -- a loop at its first item that was given what was found elsewhere
 pub begins_for : (t : LoopFrame) (name : Text) (e : Environment) (parent : Value) → t.at ≡ 0 → t.kind ≡ For parent → t.name.now ≡ name → parent_of (e.local (codes "forloop")) (view parent) ≡ value_or_nil (codes "forloop") e → IsFor name e t
@@ -156,12 +118,6 @@ module _ (source : Source) (window : Window) (columns : Option Expression) (e : 
 
   abbrev of_source : List Datum → Result (Option (List Datum × ℕ)) ErrorKind
   of_source all = amount columns e >>= in_rows all
-
-  pub rows_source_faulted : (kind : ErrorKind) → Faulted kind (source_items source e) → Faulted kind (cells_asked source window columns e)
-  rows_source_faulted kind h = faulted_then kind (source_items source e) of_source h
-
-  pub rows_amount_faulted : (all : List Datum) (kind : ErrorKind) → source_items source e ≡ Ok all → Faulted kind (amount columns e) → Faulted kind (cells_asked source window columns e)
-  rows_amount_faulted all kind is h = faulted_as kind _ _ (ap (λ r. r >>= of_source) is) (faulted_then kind (amount columns e) (in_rows all) h)
 
   known : (all : List Datum) (asked : Option ℤ) → source_items source e ≡ Ok all → amount columns e ≡ Ok asked → cells_asked source window columns e ≡ in_rows all asked
   known all asked is many = ap (λ r. r >>= of_source) is ∙ ap (λ r. r >>= in_rows all) many

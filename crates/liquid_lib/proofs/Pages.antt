@@ -1,6 +1,6 @@
 -- A page that a run wrote into a buffer.
 use Rattle.std.proofs.lemmas.Bool.{true≢false}
-use Rattle.std.proofs.Common.{◌≡◌, ℕ, false, Result, Ok, Err, ◌⊎◌, inl, inr, refl, sym, ap, ◌∙◌, String, Global, string_bytes}
+use Rattle.std.proofs.Common.{◌≡◌, [], false, Result, Ok, Err, ◌⊎◌, inl, inr, sym, ap, ◌∙◌}
 use Rattle.std.specs.Prelude.{IfErr, IfOk}
 use Rattle.liquid_model.specs.Answer.{IsValueOrMemory}
 use Rattle.liquid_model.specs.ErrorKinds.{is_memory}
@@ -12,22 +12,24 @@ use Rattle.liquid_meaning.specs.Runs.{Nothing, Run}
 use Rattle.liquid_lib.specs.Failures.{OneFailed, AtMostOneFailed}
 use Rattle.liquid_lib.specs.Pages.{ended_page, fault_of, page_view, shown}
 use Rattle.liquid_lib.specs.Performs.{Performs}
-use Rattle.liquid_lib.specs.Sinks.{Sink}
 use Rattle.liquid_lib.specs.declared.page.Page.{Page}
-use Rattle.liquid_lib.proofs.Sinks.{Around, around-text}
+use Rattle.liquid_lib.specs.inside.Engine.{in_buffer}
+use Rattle.liquid_lib.proofs.Written.{never_failed}
 
-module _ (text : Text) (m : Run Nothing) (s p q u : Sink) (e g : Environment) (around : Around s p q u text) (never_failed : OneFailed p.failures q.failures → ⊥) where
-  whole : (answer : Result (Unit {0}) Error) → Performs answer m (record { sink = p; environment = e }) (record { sink = q; environment = g }) → IfErr answer (λ x. is_memory x.kind ≡ false) → ended_page text answer ≡ shown (m e)
-  whole answer (inl x) ran = λ i. record { text = around-text s p q u text (m e).text around x.adds i; fault = fault_of (x.end i) }
+module _ (text : Text) (m : Run Nothing) (e g : Environment) where
+  whole : (answer : Result (Unit {0}) Error) → Performs answer m (in_buffer [] e) (in_buffer text g) → IfErr answer (λ x. is_memory x.kind ≡ false) → ended_page text answer ≡ shown (m e)
+  whole answer (inl x) ran =
+      let is : text ≡ (m e).text = x.adds.added in
+      λ i. record { text = is i; fault = fault_of (x.end i) }
   whole (Ok value) (inr x) ran = absurd x.cause
   whole (Err x) (inr y) ran = on y.cause
     where
-      on : (((x.kind ≡ Memory) × AtMostOneFailed p.failures q.failures) ⊎ ((x.kind ≡ Write) × OneFailed p.failures q.failures)) → ended_page text (Err x) ≡ shown (m e)
+      on : (((x.kind ≡ Memory) × AtMostOneFailed 0 0) ⊎ ((x.kind ≡ Write) × OneFailed 0 0)) → ended_page text (Err x) ≡ shown (m e)
       on (inl both) = absurd (true≢false (sym (ap is_memory both.0) ∙ ran))
       on (inr both) = absurd (never_failed both.1)
 
   -- the page of what a run wrote is the run's, unless memory ran out
-  pub page_met : (result : Result Page Error) (answer : Result (Unit {0}) Error) → Performs answer m (record { sink = p; environment = e }) (record { sink = q; environment = g })
+  pub page_met : (result : Result Page Error) (answer : Result (Unit {0}) Error) → Performs answer m (in_buffer [] e) (in_buffer text g)
       → IfOk result (λ page. page_view page ≡ ended_page text answer) → IfOk result (λ page. IfErr answer (λ x. is_memory x.kind ≡ false)) → IfErr result (λ x. x.kind ≡ Memory)
       → IsValueOrMemory page_view result (shown (m e))
   page_met (Ok page) answer performs is ran memory = is ∙ whole answer performs ran

@@ -1,5 +1,5 @@
 -- Renderings end by kinds of runs, by refused memory or by a failed write.
-use Rattle.std.proofs.Common.{◌≡◌, ℕ, ◌≤◌, List, Option, Some, None, String, Global, Bool, true, false, cond, T, nat_le, Result, Ok, Err, ◌⊎◌, inl, inr, refl, sym, ap, subst, arith, ◌∙◌}
+use Rattle.std.proofs.Common.{◌≡◌, ℕ, ◌≤◌, List, Option, Some, None, Bool, true, false, cond, T, nat_le, Result, Ok, Err, ◌⊎◌, inl, inr, refl, sym, ap, subst, arith}
 use Rattle.std.specs.Prelude.{IfErr, MatchBool, ⊤, length}
 use Rattle.std.specs.Borrow.{Bor}
 use Rattle.std.proofs.Math.Facts.{leb_yes, yes_leb}
@@ -19,7 +19,7 @@ use Rattle.liquid_meaning.specs.Laws.{EndsWithHost}
 use Rattle.liquid_meaning.specs.Meaning.{meaning}
 use Rattle.liquid_meaning.specs.Runs.{Nothing, Run, ended_with}
 use Rattle.liquid_meaning.proofs.RunKinds.{kinds_with_host}
-use Rattle.liquid_lib.specs.Performs.{Configuration, Performs, answer_of, unit}
+use Rattle.liquid_lib.specs.Performs.{Configuration, Performs}
 use Rattle.liquid_lib.specs.Rendered.{is_rendering_kind}
 use Rattle.liquid_lib.proofs.Joined.{memory_of}
 use Rattle.liquid_core.specs.Environment.{Environment}

@@ -1,10 +1,9 @@
 -- What rendering a source comes to where it isn't parsed.
-use Rattle.std.proofs.Common.{◌≡◌, Bool, true, false, Result, Ok, Err, refl, sym, subst}
-use Rattle.std.specs.Prelude.{MatchBool, ⊤, IfErr}
+use Rattle.std.proofs.Common.{◌≡◌, Bool, true, false, Err, refl}
+use Rattle.std.specs.Prelude.{MatchBool, ⊤}
 use Rattle.liquid_model.specs.Texts.{Text}
 use Rattle.liquid_model.specs.ErrorKinds.{is_memory}
 use Rattle.liquid_model.specs.declared.error.Error.{Error}
-use Rattle.liquid_model.specs.declared.error.ErrorKind.TheVariants.{Memory}
 use Rattle.liquid_syntax.specs.Parsing.{HasNoTree, IsOfSource, MayRefuse}
 use Rattle.liquid_language.specs.declared.language.Language.{Language}
 use Rattle.liquid_tree.specs.Tree.{Nodes}

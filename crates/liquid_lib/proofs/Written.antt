@@ -1,70 +1,21 @@
 -- What a run with no buffer open says of the caller's writer.
 use Rattle.std.proofs.lemmas.Bool.{true≢false}
-use Rattle.std.proofs.Common.{arith, ◌<◌, OnOk, IfErr, IsErrAnd, ◌≡◌, ℕ, [], Bool, true, false, Option, Some, None, IsSome, is_some, Result, Ok, Err, ◌⊎◌, inl, inr, refl, sym, ap, subst, ◌∙◌, append-nil, String, Global, string_bytes, option_map}
-use Rattle.std.specs.Io.KnownBytes.{Appends}
+use Rattle.std.proofs.Common.{arith, ◌≡◌, ℕ, [], Bool, true, false, Option, Some, None, IsSome, is_some, Result, Ok, Err, ◌⊎◌, inl, inr, refl, sym, ap, subst, ◌∙◌, String, Global, string_bytes, option_map}
 use Rattle.liquid_model.specs.Texts.{Text}
 use Rattle.liquid_model.specs.ErrorKinds.{is_memory, is_refusal}
 use Rattle.liquid_core.specs.Environment.{Names, Environment}
 use Rattle.liquid_model.specs.declared.error.Error.{Error}
 use Rattle.liquid_model.specs.declared.error.ErrorKind.{ErrorKind}
 use Rattle.liquid_model.specs.declared.error.ErrorKind.TheVariants.{Memory, Write}
-use Rattle.liquid_lib.specs.Added.{AppendsPart}
 use Rattle.liquid_lib.specs.Failures.{OneFailed, AtMostOneFailed}
 use Rattle.liquid_model.specs.Answer.{Answers, Faulted}
 use Rattle.liquid_lib.proofs.Joined.{memory_of}
 use Rattle.liquid_lib.specs.Sinks.{Sink, Adds, AddsPart}
-use Rattle.liquid_meaning.specs.Runs.{Nothing, Outcome, Run}
+use Rattle.liquid_meaning.specs.Runs.{Nothing, Outcome, Run, ended_with}
 use Rattle.liquid_meaning.specs.Isolation.{IsAsCut, changes}
-use Rattle.liquid_lib.specs.Performs.{Configuration, Exact, IsCut, MeetsAt, Meets, Performs, is_refused, writer_sink}
-use Rattle.liquid_lib.specs.Rendered.{PerformsForCut, nowhere}
-
-begun : {V A : Type 0} (view : V → A) (r : Result V Error) (o : Outcome A) (s t : Sink) (g : Environment) → MeetsAt view r o s t g → AddsPart s t o.text
-begun view r o s t g (inl p) = record { front = o.text; rest = []; whole = append-nil o.text; adds = p.adds }
-begun view r o s t g (inr p) = p.adds
-
-pub writer_whole : {V A : Type 0} (view : V → A) (r : Result V Error) (o : Outcome A) (old new : Option Text) (n m : ℕ) (g : Environment) → MeetsAt view r o (writer_sink old n) (writer_sink new m) g → OnOk r (Appends old new o.text)
-writer_whole view (Ok value) o old new n m g (inl p) = p.adds.added
-writer_whole view (Ok value) o old new n m g (inr p) = absurd p.cause
-writer_whole view (Err e) o old new n m g p = tt
-
-pub writer_begun : {V A : Type 0} (view : V → A) (r : Result V Error) (o : Outcome A) (old new : Option Text) (n m : ℕ) (g : Environment) → MeetsAt view r o (writer_sink old n) (writer_sink new m) g → AppendsPart old new o.text
-writer_begun view r o old new n m g p =
-    let b = begun view r o (writer_sink old n) (writer_sink new m) g p in
-    record { front = b.front; rest = b.rest; whole = b.whole; appended = b.adds.added }
-
-write-is_refusal : (kind : ErrorKind) → kind ≡ Write → is_refusal kind ≡ false → ⊥
-write-is_refusal kind e f = true≢false (sym (ap is_refusal e) ∙ f)
-
-memory-is_write : (kind : ErrorKind) → kind ≡ Memory → kind ≡ Write → ⊥
-memory-is_write kind memory write = cc
-
-pub writer_write : {V A : Type 0} (view : V → A) (r : Result V Error) (o : Outcome A) (s t : Sink) (g : Environment) → MeetsAt view r o s t g → IfErr r (λ e. e.kind ≡ Write → OneFailed s.failures t.failures)
-writer_write view (Ok value) o s t g p = tt
-writer_write view (Err e) o s t g (inl p) = λ write. absurd (write-is_refusal e.kind write p.within)
-writer_write view (Err e) o s t g (inr p) = λ write. failed p.cause write
-  where
-    failed : (((e.kind ≡ Memory) × AtMostOneFailed s.failures t.failures) ⊎ ((e.kind ≡ Write) × OneFailed s.failures t.failures)) → e.kind ≡ Write → OneFailed s.failures t.failures
-    failed (inl both) write = absurd (memory-is_write e.kind both.0 write)
-    failed (inr both) write = both.1
-
-pub writer_failed : {V A : Type 0} (view : V → A) (r : Result V Error) (o : Outcome A) (s t : Sink) (g : Environment) → MeetsAt view r o s t g → s.failures < t.failures → IsErrAnd r (λ e. (e.kind ≡ Memory) ⊎ (e.kind ≡ Write))
-writer_failed view r o s t g (inl p) rose = absurd (omega (arith, p.none_failed))
-writer_failed view (Ok value) o s t g (inr p) rose = absurd p.cause
-writer_failed view (Err e) o s t g (inr p) rose = kinds p.cause
-  where
-    kinds : (((e.kind ≡ Memory) × AtMostOneFailed s.failures t.failures) ⊎ ((e.kind ≡ Write) × OneFailed s.failures t.failures)) → (e.kind ≡ Memory) ⊎ (e.kind ≡ Write)
-    kinds (inl both) = inl both.0
-    kinds (inr both) = inr both.0
-
--- no failed write was tried again
-pub writer_once : {V A : Type 0} (view : V → A) (r : Result V Error) (o : Outcome A) (s t : Sink) (g : Environment) → MeetsAt view r o s t g → AtMostOneFailed s.failures t.failures
-writer_once view r o s t g (inl p) = inl p.none_failed
-writer_once view (Ok value) o s t g (inr p) = absurd p.cause
-writer_once view (Err e) o s t g (inr p) = at_most p.cause
-  where
-    at_most : (((e.kind ≡ Memory) × AtMostOneFailed s.failures t.failures) ⊎ ((e.kind ≡ Write) × OneFailed s.failures t.failures)) → AtMostOneFailed s.failures t.failures
-    at_most (inl both) = both.1
-    at_most (inr both) = inr both.1
+use Rattle.liquid_lib.specs.Performs.{Configuration, Exact, IsCut, MeetsAt, Performs, is_refused, unit, writer_sink}
+use Rattle.liquid_lib.specs.Rendered.{PerformsForCut}
+use Rattle.liquid_lib.specs.inside.Engine.{in_buffer}
 
 is_none-same : (a b : Option Text) → is_some b ≡ is_some a → a ≡ None → b ≡ None
 is_none-same a None e none = refl
@@ -131,13 +82,37 @@ no_memory kind within = on (is_memory kind) refl
     on false is = is
     on true is = absurd (true≢false (sym (ap is_refusal (memory_of kind is)) ∙ within))
 
--- a run that no writer sees answers its end, or `Memory`
-pub answered : {V A : Type 0} (view : V → A) (r : Result V Error) (m : Run A) (e g : Environment) → Meets view r m (nowhere e) (nowhere g) → Answers view r (m e).end
-answered view (Ok value) m e g (inl p) = sym p.end
-answered view (Ok value) m e g (inr p) = absurd p.cause
-answered view (Err x) m e g (inl p) = rw (no_memory x.kind p.within) (sym p.end, p.within)
-answered view (Err x) m e g (inr p) = on p.cause
+-- a buffer that was empty before a run, and holds this text after it
+pub in_its_buffer : (answer : Result (Unit {0}) Error) (m : Run Nothing) (e g : Environment) (old : Text) (now : Option (String Global)) (text : String Global) → old ≡ [] → now ≡ Some text
+    → Performs answer m (in_buffer old e) (record { sink = record { buffer = option_map string_bytes now; contents = None; failures = 0 }; environment = g })
+    → Performs answer m (in_buffer [] e) (in_buffer (string_bytes text) g)
+in_its_buffer answer m e g old now text empty is h =
+    subst (λ b. Performs answer m (in_buffer [] e) (record { sink = record { buffer = option_map string_bytes b; contents = None; failures = 0 }; environment = g })) is
+    (subst (λ t. Performs answer m (in_buffer t e) (record { sink = record { buffer = option_map string_bytes now; contents = None; failures = 0 }; environment = g })) empty h)
+
+-- the text of a run into a buffer
+pub text_answered : (answer : Result (Unit {0}) Error) (value : Unit {0}) (text : String Global) (m : Run Nothing) (e g : Environment) → answer ≡ Ok value
+    → Performs answer m (in_buffer [] e) (in_buffer (string_bytes text) g) → Answers (λ t. string_bytes t) (Ok text) (ended_with (m e).text (m e).end)
+text_answered answer value text m e g is h = on (subst (λ r. Performs r m (in_buffer [] e) (in_buffer (string_bytes text) g)) is h)
   where
-    on : (((x.kind ≡ Memory) × AtMostOneFailed 0 0) ⊎ ((x.kind ≡ Write) × OneFailed 0 0)) → Faulted x.kind (m e).end
-    on (inl both) = rw (memory_is x.kind both.0) tt
-    on (inr both) = absurd (never_failed both.1)
+    on : Performs (Ok value) m (in_buffer [] e) (in_buffer (string_bytes text) g) → ended_with (m e).text (m e).end ≡ Ok (string_bytes text)
+    on (inl p) = let same : string_bytes text ≡ (m e).text = p.adds.added in sym (ap Ok same ∙ ap (ended_with (m e).text) p.end)
+    on (inr p) = absurd p.cause
+
+-- the fault that it ended by, or `Memory`
+pub fault_answered : (answer : Result (Unit {0}) Error) (x : Error) (text : Text) (m : Run Nothing) (e g : Environment) → answer ≡ Err x
+    → Performs answer m (in_buffer [] e) (in_buffer text g) → Answers {X = String Global} (λ t. string_bytes t) (Err x) (ended_with (m e).text (m e).end)
+fault_answered answer x text m e g is h = on (subst (λ r. Performs r m (in_buffer [] e) (in_buffer text g)) is h)
+  where
+    refused : (((x.kind ≡ Memory) × AtMostOneFailed 0 0) ⊎ ((x.kind ≡ Write) × OneFailed 0 0)) → Faulted x.kind (ended_with (m e).text (m e).end)
+    refused (inl both) = rw (memory_is x.kind both.0) tt
+    refused (inr both) = absurd (never_failed both.1)
+
+    on : Performs (Err x) m (in_buffer [] e) (in_buffer text g) → Faulted x.kind (ended_with (m e).text (m e).end)
+    on (inl p) = rw (no_memory x.kind p.within) (ap (ended_with (m e).text) (sym p.end), p.within)
+    on (inr p) = refused p.cause
+
+-- what the run left, unless memory ran out
+pub environment_left : {V : Type 0} (r : Result V Error) (answer : Result (Unit {0}) Error) (text : Text) (m : Run Nothing) (e g : Environment) → is_refused answer ≡ is_refused r
+    → Performs answer m (in_buffer [] e) (in_buffer text g) → is_refused r ≡ false → g ≡ (m e).environment
+environment_left r answer text m e g same h within = (exact unit answer (m e) _ _ g h (same ∙ within)).same

@@ -1,5 +1,5 @@
 -- What rendering a source comes to.
-use Rattle.std.specs.Prelude.{◌≡◌, List, Result, IsErrAnd}
+use Rattle.std.specs.Prelude.{◌≡◌, Result, IsErrAnd}
 use Rattle.liquid_model.specs.Texts.{Text}
 use Rattle.liquid_model.specs.declared.error.Error.{Error}
 use Rattle.liquid_model.specs.declared.error.ErrorKind.TheVariants.{Memory}

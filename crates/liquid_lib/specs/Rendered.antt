@@ -1,5 +1,5 @@
 -- What a whole rendering has done.
-use Rattle.std.specs.Prelude.{◌≡◌, ℕ, nat_le, Bool, List, Result, ◌⊎◌, Option, None}
+use Rattle.std.specs.Prelude.{◌≡◌, ℕ, nat_le, Bool, List, Result, ◌⊎◌, Option}
 use Rattle.liquid_model.specs.ErrorKinds.{number_of}
 use Rattle.liquid_model.specs.declared.error.Error.{Error}
 use Rattle.liquid_model.specs.declared.error.ErrorKind.{ErrorKind}
@@ -37,10 +37,6 @@ is_rendering_kind kind = nat_le (number_of kind) 18
 -- a run with no buffer open
 abbrev pub at_writer : {W : Type 0} → (W → Option (List ℕ)) → (W → ℕ) → W → Environment → Configuration
 at_writer contents failure_count writer environment = record { sink = writer_sink (contents writer) (failure_count writer); environment = environment }
-
--- a run that no writer sees
-abbrev pub nowhere : Environment → Configuration
-nowhere environment = record { sink = writer_sink None 0; environment = environment }
 
 -- text, end and changes are those of m for the environment cut to N
 pub record ExactForCut (N : Names) (r : Result (Unit {0}) Error) (m : Run Nothing) (before after : Configuration) : Type 0 where

@@ -1,5 +1,5 @@
 //! Which nodes an `if`, an `unless` or a `case` comes to.
-ghost use Rattle.std.specs.Prelude.{◌≡◌, ◌+◌, ◌<◌, ◌≤◌, IfOk, List, map};
+ghost use Rattle.std.specs.Prelude.{◌+◌, ◌<◌, ◌≤◌, IfOk, List, map};
 ghost use Rattle.liquid_model.specs.Answer.{Answers};
 ghost use Rattle.liquid_model.specs.Texts.{Text};
 ghost use Rattle.liquid_model.specs.View.{view};

@@ -4,22 +4,50 @@ ghost use Rattle.liquid_core.specs.States.{layers_of, loops_of};
 ghost use Rattle.liquid_syntax.specs.Templates.{tree_of};
 ghost use Rattle.liquid_tree.specs.Names.{nodes_names};
 ghost use Rattle.liquid_lib.specs.inside.Engine.{setting_of, nodes_in};
-ghost use Rattle.liquid_lib.specs.Kept.{Keeps, AreRenders};
+ghost use Rattle.liquid_lib.specs.Kept.{Keeps, LayersKept, AreRenders};
 ghost use Rattle.liquid_lib.specs.Performs.{Performs, configuration_of};
+ghost use Rattle.liquid_lib.specs.Rendered.{run_in, names_in};
+ghost use Rattle.liquid_lib.specs.RuntimeView.{SettingKept, layers_in};
 
 use crate::context::RunContext;
 use crate::counted::CountedWrite;
 use crate::engine::run_range;
 use crate::output::Output;
+use crate::runtime::Runtime;
 use liquid_core::{Data, NamedFilters, Result, State};
-use liquid_syntax::Template;
+use liquid_syntax::{Partials, Template};
 use std::alloc::Global;
 use std::collections::BTreeMap;
 use std::mem;
 
+/// Runs the nodes of a template with what the runtime holds.
+pub(crate) fn run_template<W: CountedWrite>(
+    alloc: Global,
+    template: &Template,
+    out: &mut Output<'_, W>,
+    runtime: &mut Runtime<'_>,
+) -> Result<()>
+    ensures performs { Performs result (run_in counts answer runtime.old (tree_of template.now))
+        (configuration_of W.contents W.failure_count out.old runtime.old.state)
+        (configuration_of W.contents W.failure_count out.new runtime.new.state) }
+    ensures same_writer { out.new.writer.ghost_name ≡ out.old.writer.ghost_name }
+    ensures kept { LayersKept (names_in runtime.old (tree_of template.now)) (layers_in runtime.old) (layers_in runtime.new) }
+    ensures alone { AreRenders (tree_of template.now) → layers_in runtime.new ≡ layers_in runtime.old }
+    ensures same { SettingKept runtime.old runtime.new }
+{
+    let none = Partials::new(alloc);
+    let context = RunContext {
+        partials: runtime.partials.unwrap_or(&none),
+        host: &runtime.host,
+        depth: runtime.depth,
+        positions: template.positions(),
+    };
+    run_lent(alloc, template, &context, out, &mut runtime.state)
+}
+
 /// Runs the nodes of a template. The data is taken out of the state, so that loops can go over its lists while the run
 /// changes the rest, and is put back after any answer.
-pub(crate) fn run_template<W: CountedWrite, H: NamedFilters>(
+fn run_lent<W: CountedWrite, H: NamedFilters>(
     alloc: Global,
     template: &Template,
     context: &RunContext<'_, H>,
@@ -38,14 +66,8 @@ pub(crate) fn run_template<W: CountedWrite, H: NamedFilters>(
     let empty = State::new(alloc, BTreeMap::new(alloc));
     let (parts, data) = mem::replace(state, empty).into_parts();
     let mut lent = State::from_parts(alloc, parts, Data::Lent(data.object()));
-    let inner = RunContext {
-        partials: context.partials,
-        host: context.host,
-        depth: context.depth,
-        positions: template.positions(),
-    };
     let nodes = template.nodes();
-    let answer = run_range(alloc, &inner, nodes, 0, nodes.len(), out, &mut lent);
+    let answer = run_range(alloc, context, nodes, 0, nodes.len(), out, &mut lent);
     let (parts, ended) = lent.into_parts();
     drop(ended);
     *state = State::from_parts(alloc, parts, data);

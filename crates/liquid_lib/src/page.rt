@@ -1,19 +1,15 @@
 //! Pages: what a template shows in a run of its own, with how that run ended.
-ghost use Rattle.std.specs.Prelude.{◌≡◌, [], false, length, IfErr, IfOk, string_bytes};
+ghost use Rattle.std.specs.Prelude.{◌≡◌, [], false, IfErr, IfOk, string_bytes};
 ghost use Rattle.liquid_model.specs.Answer.{IsValueOrMemory};
 ghost use Rattle.liquid_model.specs.ErrorKinds.{is_memory};
 ghost use Rattle.liquid_core.specs.Held.{held};
-ghost use Rattle.liquid_core.specs.States.{environment_of, layers_of, loops_of, new_layers};
+ghost use Rattle.liquid_core.specs.States.{layers_of, loops_of, new_layers};
 ghost use Rattle.liquid_syntax.specs.Templates.{partials_of, tree_of};
-ghost use Rattle.liquid_meaning.specs.Meaning.{meaning};
-ghost use Rattle.liquid_lib.specs.inside.Engine.{setting_of};
-ghost use Rattle.liquid_lib.specs.Pages.{ended_page, page_over, page_view, shown};
+ghost use Rattle.liquid_lib.specs.Pages.{ended_page, page_over, page_view};
 
-use crate::context::RunContext;
-use crate::counted::NoWriter;
-use crate::lent::run_template;
-use crate::output::Output;
-use liquid_core::{Data, Error, ErrorKind, HostFilters, NamedFilters, Object, Result, State};
+use crate::render::text_of_run;
+use crate::runtime::Runtime;
+use liquid_core::{Data, Error, ErrorKind, Object, Result, State};
 use liquid_syntax::{Partials, Template};
 use std::alloc::Global;
 use std::collections::BTreeMap;
@@ -41,15 +37,14 @@ pub fn render_page(
 ) -> Result<Page>
     ensures { IsValueOrMemory page_view result (page_over depth (partials_of partials.now) (held facts.now) (tree_of template.now)) }
 {
-    let host: Option<&HostFilters> = None;
-    let context = RunContext {
-        partials,
-        host: &host,
+    let mut runtime = Runtime {
+        state: state_over(alloc, facts),
+        partials: Some(partials),
+        host: None,
         depth,
-        positions: template.positions(),
     };
-    let mut state = state_over(alloc, facts);
-    page_of_run(alloc, template, &context, &mut state)
+    let (text, answer) = text_of_run(alloc, template, &mut runtime);
+    page_of_end(text, answer)
 }
 
 /// A new state over data that is lent. It takes no memory.
@@ -60,27 +55,6 @@ fn state_over<'d>(alloc: Global, facts: &'d Object) -> State<'d>
     let (parts, none) = State::new(alloc, BTreeMap::new(alloc)).into_parts();
     drop(none);
     State::from_parts(alloc, parts, Data::Lent(facts))
-}
-
-/// Runs the nodes of a template into a buffer.
-fn page_of_run<H: NamedFilters>(
-    alloc: Global,
-    template: &Template,
-    context: &RunContext<'_, H>,
-    state: &mut State<'_>,
-) -> Result<Page>
-    requires plain { length (loops_of state.old) ≡ 0 }
-    ensures { IsValueOrMemory page_view result (shown (meaning (setting_of H.named context.now) context.now.depth (tree_of template.now) (environment_of state.old))) }
-{
-    let mut writer = NoWriter;
-    let mut out = Output {
-        writer: &mut writer,
-        buffer: None,
-    };
-    let outer = out.open(alloc);
-    let answer = run_template(alloc, template, context, &mut out, state);
-    let text = out.close(outer);
-    page_of_end(text, answer)
 }
 
 /// The page of a run that wrote this text and ended so.

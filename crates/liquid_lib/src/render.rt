@@ -1,29 +1,26 @@
 //! Whole renderings.
-ghost use Rattle.std.specs.Prelude.{◌≡◌, ◌<◌, ◌⊎◌, T, false, IfErr, IsErrAnd, length, string_bytes};
+ghost use Rattle.std.specs.Prelude.{◌≡◌, ◌<◌, ◌⊎◌, T, [], false, IfErr, IsErrAnd, string_bytes};
 ghost use Rattle.std.specs.Io.KnownBytes.{Appends};
 ghost use Rattle.liquid_model.specs.Answer.{Answers};
 ghost use Rattle.liquid_core.specs.Environment.{cut};
-ghost use Rattle.liquid_core.specs.States.{environment_of, layers_of, loops_of};
 ghost use Rattle.liquid_syntax.specs.Templates.{tree_of};
 ghost use Rattle.liquid_tree.specs.Tree.{Nodes};
 ghost use Rattle.liquid_lib.specs.Added.{AppendsPart};
-ghost use Rattle.liquid_lib.specs.inside.Engine.{setting_of};
+ghost use Rattle.liquid_lib.specs.inside.Engine.{in_buffer};
 ghost use Rattle.liquid_lib.specs.Failures.{OneFailed, AtMostOneFailed};
-ghost use Rattle.liquid_meaning.specs.Isolation.{changes, names_of_run};
+ghost use Rattle.liquid_meaning.specs.Isolation.{changes};
 ghost use Rattle.liquid_lib.specs.Kept.{LayersKept, AreRenders};
-ghost use Rattle.liquid_meaning.specs.Meaning.{meaning};
-ghost use Rattle.liquid_lib.specs.Performs.{Meets, Performs, answer_of, is_refused, unit};
-ghost use Rattle.liquid_lib.specs.Rendered.{PerformsForCut, run_in, outcome_in, names_in, at_writer, nowhere, is_rendering_kind};
-ghost use Rattle.liquid_meaning.specs.Runs.{buffered, ended_with};
+ghost use Rattle.liquid_lib.specs.Performs.{Performs, answer_of, is_refused, unit};
+ghost use Rattle.liquid_lib.specs.Rendered.{PerformsForCut, run_in, outcome_in, names_in, at_writer, is_rendering_kind};
+ghost use Rattle.liquid_meaning.specs.Runs.{ended_with};
 ghost use Rattle.liquid_lib.specs.RuntimeView.{SettingKept, layers_in, environment_in};
 
-use crate::context::RunContext;
 use crate::counted::{CountedWrite, NoWriter};
 use crate::lent::run_template;
 use crate::output::Output;
 use crate::runtime::Runtime;
-use liquid_core::{ErrorKind, NamedFilters, Result, State};
-use liquid_syntax::{Partials, Template};
+use liquid_core::{ErrorKind, Result};
+use liquid_syntax::Template;
 use std::alloc::Global;
 
 /// What can be rendered.
@@ -106,116 +103,46 @@ impl Renderable for Template {
         writer: &mut W,
         runtime: &mut Runtime<'_>,
     ) -> Result<()> {
-        match runtime.partials {
-            Some(partials) => write_template(
-                alloc,
-                self,
-                &RunContext {
-                    partials,
-                    host: &runtime.host,
-                    depth: runtime.depth,
-                    positions: self.positions(),
-                },
-                writer,
-                &mut runtime.state,
-            ),
-            None => write_template(
-                alloc,
-                self,
-                &RunContext {
-                    partials: &Partials::new(alloc),
-                    host: &runtime.host,
-                    depth: runtime.depth,
-                    positions: self.positions(),
-                },
-                writer,
-                &mut runtime.state,
-            ),
-        }
+        let mut out = Output {
+            writer,
+            buffer: None,
+        };
+        let answer = run_template(alloc, self, &mut out, runtime);
+        let Output {
+            writer: written,
+            buffer,
+        } = out;
+        drop(buffer);
+        // No effect at run time. The proof reads what the writer holds from this use.
+        let _ = &*written;
+        answer
     }
 
     fn render(&self, alloc: Global, runtime: &mut Runtime<'_>) -> Result<String> {
-        match runtime.partials {
-            Some(partials) => template_text(
-                alloc,
-                self,
-                &RunContext {
-                    partials,
-                    host: &runtime.host,
-                    depth: runtime.depth,
-                    positions: self.positions(),
-                },
-                &mut runtime.state,
-            ),
-            None => template_text(
-                alloc,
-                self,
-                &RunContext {
-                    partials: &Partials::new(alloc),
-                    host: &runtime.host,
-                    depth: runtime.depth,
-                    positions: self.positions(),
-                },
-                &mut runtime.state,
-            ),
-        }
+        let (text, answer) = text_of_run(alloc, self, runtime);
+        answer?;
+        Ok(text)
     }
 }
 
-/// Runs the nodes of a template to a writer.
-fn write_template<W: CountedWrite, H: NamedFilters>(
+/// Runs the nodes of a template into a buffer. The text, up to the first fault, and how the run ended.
+pub(crate) fn text_of_run(
     alloc: Global,
     template: &Template,
-    context: &RunContext<'_, H>,
-    writer: &mut W,
-    state: &mut State<'_>,
-) -> Result<()>
-    requires plain { length (loops_of state.old) ≡ 0 }
-    ensures performs { Performs result (meaning (setting_of H.named context.now) context.now.depth (tree_of template.now))
-        (at_writer W.contents W.failure_count writer.old (environment_of state.old))
-        (at_writer W.contents W.failure_count writer.new (environment_of state.new)) }
-    ensures kept { LayersKept (names_of_run (setting_of H.named context.now) (tree_of template.now)) (layers_of state.old) (layers_of state.new) }
-    ensures alone { AreRenders (tree_of template.now) → layers_of state.new ≡ layers_of state.old }
-    ensures plain { length (loops_of state.new) ≡ 0 }
-{
-    let mut out = Output {
-        writer,
-        buffer: None,
-    };
-    let answer = run_template(alloc, template, context, &mut out, state);
-    let Output {
-        writer: written,
-        buffer,
-    } = out;
-    drop(buffer);
-    // No effect at run time. The proof reads what the writer holds from this use.
-    let _ = &*written;
-    answer
-}
-
-/// Runs the nodes of a template into a buffer.
-fn template_text<H: NamedFilters>(
-    alloc: Global,
-    template: &Template,
-    context: &RunContext<'_, H>,
-    state: &mut State<'_>,
-) -> Result<String>
-    requires plain { length (loops_of state.old) ≡ 0 }
-    ensures performs { Meets (λ t. string_bytes t) result (buffered (meaning (setting_of H.named context.now) context.now.depth (tree_of template.now)))
-        (nowhere (environment_of state.old))
-        (nowhere (environment_of state.new)) }
-    ensures kept { LayersKept (names_of_run (setting_of H.named context.now) (tree_of template.now)) (layers_of state.old) (layers_of state.new) }
-    ensures alone { AreRenders (tree_of template.now) → layers_of state.new ≡ layers_of state.old }
-    ensures plain { length (loops_of state.new) ≡ 0 }
+    runtime: &mut Runtime<'_>,
+) -> (String, Result<()>)
+    ensures performs { Performs result.1 (run_in counts answer runtime.old (tree_of template.now))
+        (in_buffer [] (environment_in runtime.old))
+        (in_buffer (string_bytes result.0) (environment_in runtime.new)) }
+    ensures kept { LayersKept (names_in runtime.old (tree_of template.now)) (layers_in runtime.old) (layers_in runtime.new) }
+    ensures alone { AreRenders (tree_of template.now) → layers_in runtime.new ≡ layers_in runtime.old }
+    ensures same { SettingKept runtime.old runtime.new }
 {
     let mut writer = NoWriter;
     let mut out = Output {
         writer: &mut writer,
-        buffer: None,
+        buffer: Some(String::new(alloc)),
     };
-    let outer = out.open(alloc);
-    let answer = run_template(alloc, template, context, &mut out, state);
-    let text = out.close(outer);
-    answer?;
-    Ok(text)
+    let answer = run_template(alloc, template, &mut out, runtime);
+    (out.close(None), answer)
 }

@@ -1,10 +1,12 @@
 -- What the functions of a run do.
-use Rattle.std.specs.Prelude.{ℕ}
+use Rattle.std.specs.Prelude.{ℕ, Some, None}
 use Rattle.liquid_model.specs.Texts.{Text}
+use Rattle.liquid_core.specs.Environment.{Environment}
 use Rattle.liquid_core.specs.FilterAnswers.{FilterAnswer}
 use Rattle.liquid_tree.specs.Evaluation.{answers_with}
 use Rattle.liquid_tree.specs.Tree as tree
 use Rattle.liquid_syntax.specs.Templates.{partials_of}
+use Rattle.liquid_lib.specs.Performs.{Configuration}
 use Rattle.liquid_lib.specs.declared.context.RunContext.{RunContext}
 use Rattle.liquid_meaning.specs.Runs.{Nothing, Run}
 use Rattle.liquid_meaning.specs.Meaning.{Setting, node_meaning, nodes_meaning, deeper_meaning}
@@ -26,3 +28,7 @@ node_in named context n = node_meant (setting_of named context) context.depth n
 
 abbrev pub nodes_in : {H : Type 0} → (H → Text → FilterAnswer) → RunContext H → tree.Nodes → Run Nothing
 nodes_in named context nodes = nodes_meant (setting_of named context) context.depth nodes
+
+-- a run into a buffer that holds this text, which no writer sees
+abbrev pub in_buffer : Text → Environment → Configuration
+in_buffer text environment = record { sink = record { buffer = Some text; contents = None; failures = 0 }; environment = environment }

@@ -1,4 +1,4 @@
-use Rattle.std.proofs.Common.{Result, rules, arith, ℕ, ◌≡◌, ◌+◌, ◌-◌, ◌*◌, ◌<◌, ◌≤◌, ◌∙◌, length, map, true, refl, sym, ap, subst, string_bytes, Option, Some, None, Ok, Err, List, [], false}
+use Rattle.std.proofs.Common.{Result, rules, arith, ℕ, ◌≡◌, ◌+◌, ◌-◌, ◌*◌, ◌<◌, ◌≤◌, ◌∙◌, length, map, true, refl, sym, ap, subst, string_bytes, Option, Some, None, Ok, Err, List, []}
 use Rattle.std.specs.Option.{option_map}
 use Rattle.std.proofs.lemmas.Result.{err_from_is_err_and}
 use Rattle.liquid_model.specs.Answer.{IsValueOrMemory}
@@ -26,7 +26,7 @@ use Rattle.liquid_syntax.specs.Templates.{forest_of, most_of, partials_of, tree_
 use Rattle.liquid_syntax.proofs.Places.{Stands-le}
 use Rattle.liquid_meaning.specs.Effects.{assigned_to, interrupted_by}
 use Rattle.liquid_meaning.specs.Meaning.{node_meaning, deeper_meaning, render_apart}
-use Rattle.liquid_meaning.specs.Runs.{apart, buffered, change}
+use Rattle.liquid_meaning.specs.Runs.{buffered, change}
 use Rattle.liquid_meaning.proofs.Law.{within_found}
 use Rattle.liquid_meaning.proofs.Rules.{comment_rule, break_rule, continue_rule, capture_rule, ifchanged_rule}
 use Rattle.liquid_lib.specs.inside.Changed.{shown_if_changed}
