@@ -46,9 +46,19 @@ fn put_under_each<R: Print>(
     names: &[Value],
 ) -> Result<()> {
     for name in names {
-        for call in CALLS {
-            put_by(told, language, partials, call, text_of(name))?;
-        }
+        put_under(told, language, partials, text_of(name))?;
+    }
+    Ok(())
+}
+
+fn put_under<R: Print>(
+    told: &Told<'_, R>,
+    language: &mut Language,
+    partials: &mut Partials,
+    name: &str,
+) -> Result<()> {
+    for call in CALLS {
+        put_by(told, language, partials, call, name)?;
     }
     Ok(())
 }

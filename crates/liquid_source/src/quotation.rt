@@ -13,13 +13,19 @@ pub fn excerpt(alloc: Global, text: &str) -> Result<String, AllocError> {
             quoted.push_str("...")?;
             return Ok(quoted);
         }
-        if c.is_control() {
-            for escaped in c.escape_default() {
-                quoted.push(escaped)?;
-            }
-        } else {
-            quoted.push(c)?;
-        }
+        push_quoted(&mut quoted, c)?;
     }
     Ok(quoted)
+}
+
+/// Appends a character as a message quotes it.
+fn push_quoted(quoted: &mut String, c: char) -> Result<(), AllocError> {
+    if !c.is_control() {
+        quoted.push(c)?;
+        return Ok(());
+    }
+    for escaped in c.escape_default() {
+        quoted.push(escaped)?;
+    }
+    Ok(())
 }
