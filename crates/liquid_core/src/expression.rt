@@ -75,6 +75,7 @@ impl Expression {
     ) -> Result<Resolved<'a, 'd>>
         ensures value { Answers resolved_view result (required (expression_view self.now) (environment_of state.now)) }
         ensures no_memory { TakesNoMemory result (required (expression_view self.now) (environment_of state.now)) }
+        ensures message { IfErr result (λ e. HasMessageUnlessMemory (without_value_message (written_form (expression_view self.now))) e) }
     {
         match expression_value(self, state) {
             Some(resolved) => Ok(resolved),
