@@ -6,7 +6,7 @@ use std::alloc::Global;
 /// A filter by which a stored chain is run.
 ///
 /// A chain asks of it what it asks of any `Filter`, and no more.
-#[derive(Clone, Copy, Drop)]
+#[derive(Drop)]
 pub enum AnyFilter<'h, H> {
     /// One of the filters that exist.
     Kind(FilterKind),
