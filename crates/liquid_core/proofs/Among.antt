@@ -1,11 +1,11 @@
 -- Where a loop that was found stands.
-use Rattle.std.proofs.Common.{◌≡◌, ◌<◌, ◌++◌, ◌∷◌, ◌+◌, List, [], Option, Some, None, IfSome, ℕ, get_or, map, reverse, length, take, drop, arith, sym, ap, ◌∙◌}
+use Rattle.std.proofs.Common.{◌≡◌, ◌<◌, ◌++◌, ◌∷◌, ◌+◌, List, [], Option, Some, None, IfSome, ℕ, get_or, map, reverse, length, take, drop, sym, ap, ◌∙◌}
 use Rattle.std.proofs.lemmas.List.{append_assoc, drop_more, take-append-drop}
 use Rattle.std.specs.Option.{option_map}
 use Rattle.liquid_model.specs.Data.{Datum}
 use Rattle.liquid_core.specs.Environment.{local_of}
 use Rattle.liquid_core.specs.Held.{Outer, held}
-use Rattle.liquid_core.specs.Resolved.{IsAmong, IsHeld, depth, resolved_view}
+use Rattle.liquid_core.specs.Resolved.{IsAmong, IsHeld, resolved_view}
 use Rattle.liquid_core.specs.States.{loops_of, FindsLoop, IsPlain}
 use Rattle.liquid_core.specs.LoopFrames.{standing, frame_object}
 use Rattle.liquid_core.specs.declared.resolved.Resolved.{Resolved}
@@ -21,16 +21,6 @@ plain_finds_none s found plain finds = none finds.below (sym plain ∙ finds.amo
     none : (below : List Scope) → [] ≡ below ++ variants.LoopFrame finds.loop ∷ finds.above → ⊥
     none [] e = cc
     none (b ∷ bs) e = cc
-
-pub held_among : (scopes : List Scope) (outer : List Outer) (x : Resolved) → IsHeld x → IsAmong scopes outer x
-held_among scopes outer (Lent f) h = tt
-held_among scopes outer (Near f) h = tt
-held_among scopes outer (Loop frame behind) h = absurd h
-
-pub flat_among : (scopes : List Scope) (outer : List Outer) (x : Resolved) → depth x ≡ 0 → IsAmong scopes outer x
-flat_among scopes outer (Lent f) h = tt
-flat_among scopes outer (Near f) h = tt
-flat_among scopes outer (Loop frame behind) h = absurd (omega (arith, h))
 
 -- what is among the lower scopes is among all of them
 wider : (scopes below above : List Scope) (outer : List Outer) (x : Resolved) → scopes ≡ below ++ above → IsAmong below outer x → IsAmong scopes outer x

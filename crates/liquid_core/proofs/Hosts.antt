@@ -1,14 +1,14 @@
 -- The filters of a host: what stands under a name, entry by entry, and what is answered.
-use Rattle.std.proofs.Common.{◌≡◌, ℕ, ◌+◌, ◌<◌, ◌≤◌, List, [], ◌∷◌, ◌++◌, length, take, get_or, ap, refl, sym, ◌∙◌, Option, Some, None, String, Global, string_bytes, cond, Bool, true, false, MatchBool, Result, Ok, Err, nat_le}
+use Rattle.std.proofs.Common.{◌≡◌, ℕ, ◌+◌, ◌<◌, List, [], ◌∷◌, ◌++◌, length, take, get_or, ap, refl, sym, ◌∙◌, Option, Some, None, String, Global, string_bytes, cond, Bool, true, false, MatchBool, Result, Ok, Err, nat_le}
 use Rattle.std.specs.Bool.{⊤}
-use Rattle.std.proofs.lemmas.List.{take_more, take_all}
+use Rattle.std.proofs.lemmas.List.{take_more}
 use Rattle.liquid_model.specs.Answer.{Faulted}
 use Rattle.liquid_model.specs.Data.{Datum}
 use Rattle.liquid_model.specs.Texts.{Text, same_text, ◌else◌}
 use Rattle.liquid_model.specs.ErrorKinds.{IsKindOrMemory, is_memory, is_refusal, number_of}
 use Rattle.liquid_model.specs.declared.error.Error.{Error}
 use Rattle.liquid_model.specs.declared.error.ErrorKind.{ErrorKind}
-use Rattle.liquid_model.specs.declared.error.ErrorKind.TheVariants.{UnknownVariable, InvalidInput, InvalidArgument, UnexpectedValue, NumberRange, DivideByZero, Float, CycleBounds, ZeroColumns, RangeTooLong, UnknownPartial, PartialName, TooDeep, DateFormat, TimezoneRange, Unsupported, Memory, Write, Unclosed, BadItem, NumberLiteral, FloatLiteral, StateWord, UnknownTag, UnknownFilter, FilterArguments, Expected, MissingEnd, TooNested}
+use Rattle.liquid_model.specs.declared.error.ErrorKind.TheVariants.{InvalidInput, Memory, Write, Unclosed, BadItem, NumberLiteral, FloatLiteral, StateWord, UnknownTag, UnknownFilter, FilterArguments, Expected, MissingEnd, TooNested}
 use Rattle.liquid_core.specs.FilterAnswers.{AnswersIf, Tells}
 use Rattle.liquid_core.specs.Hosts.{last_named, of_host}
 
@@ -39,9 +39,6 @@ last_more name es i e h is =
     ap (last_named name) (take_more es i e h ∙ ap (λ y. take i es ++ y ∷ []) (sym is)) ∙ last_behind name (take i es) e
     ∙ if_named (same_text (string_bytes e.0) name) e.1 (last_named name (take i es))
 
-pub last_of_all : {X : Type 0} (name : Text) (es : List (String Global × X)) (i : ℕ) → length es ≤ i → last_named name (take i es) ≡ last_named name es
-last_of_all name es i h = ap (last_named name) (take_all i es h)
-
 pub last_is_this : {X : Type 0} (name : Text) (es : List (String Global × X)) (i : ℕ) (e : String Global × X) (o : Option X) → i < length es → e ≡ get_or es i e
     → same_text (string_bytes e.0) name ≡ true → o ≡ Some e.1 → o ≡ last_named name (take (i + 1) es)
 last_is_this name es i e o h is t s = s ∙ ap (λ b. cond b (Some e.1) (last_named name (take i es))) (sym t) ∙ sym (last_more name es i e h is)
@@ -51,46 +48,6 @@ pub last_is_before : {X : Type 0} (name : Text) (es : List (String Global × X))
 last_is_before name es i e o h is t s = s ∙ ap (λ b. cond b (Some e.1) (last_named name (take i es))) (sym t) ∙ sym (last_more name es i e h is)
 
 -- ---- the kinds of a run
-
-within_run : (kind : ErrorKind) → nat_le (number_of kind) 17 ≡ true → is_memory kind ≡ false → is_refusal kind ≡ false
-within_run UnknownVariable h m = refl
-within_run InvalidInput h m = refl
-within_run InvalidArgument h m = refl
-within_run UnexpectedValue h m = refl
-within_run NumberRange h m = refl
-within_run DivideByZero h m = refl
-within_run Float h m = refl
-within_run CycleBounds h m = refl
-within_run ZeroColumns h m = refl
-within_run RangeTooLong h m = refl
-within_run UnknownPartial h m = refl
-within_run PartialName h m = refl
-within_run TooDeep h m = refl
-within_run DateFormat h m = refl
-within_run TimezoneRange h m = refl
-within_run Unsupported h m = refl
-within_run Memory h m = absurd cc
-within_run Write h m = absurd cc
-within_run Unclosed h m = refl
-within_run BadItem h m = refl
-within_run NumberLiteral h m = refl
-within_run FloatLiteral h m = refl
-within_run StateWord h m = refl
-within_run UnknownTag h m = refl
-within_run UnknownFilter h m = refl
-within_run FilterArguments h m = refl
-within_run Expected h m = refl
-within_run MissingEnd h m = refl
-within_run TooNested h m = refl
-
--- a kind of a run is answered as it is
-pub kind_kept : (kind : ErrorKind) (wanted : Result Datum ErrorKind) → nat_le (number_of kind) 17 ≡ true
-    → MatchBool (is_memory kind) ⊤ (wanted ≡ Err kind) → Faulted kind (of_host wanted)
-kind_kept kind wanted h = on (is_memory kind) refl
-  where
-    on : (b : Bool) → is_memory kind ≡ b → MatchBool b ⊤ (wanted ≡ Err kind) → MatchBool b ⊤ ((of_host wanted ≡ Err kind) × (is_refusal kind ≡ false))
-    on true e m = m
-    on false e m = (ap of_host m ∙ ap (λ b. Err (cond b kind InvalidInput)) h, within_run kind h e)
 
 -- memory is a kind of a run, so that another one is the wanted answer's
 not_memory : (kind : ErrorKind) → nat_le (number_of kind) 17 ≡ false → is_memory kind ≡ false

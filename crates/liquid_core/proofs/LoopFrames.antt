@@ -8,7 +8,7 @@ use Rattle.liquid_core.specs.Environment.{local_of}
 use Rattle.std.proofs.Common.{set}
 use Rattle.std.proofs.lemmas.List.{length-append}
 use Rattle.std.proofs.Math.Seq.{get_or-append_seam, set-append_seam}
-use Rattle.liquid_core.specs.LoopFrames.{standing, scope_map, object_part, loop_object, EndsIn, GoesOn}
+use Rattle.liquid_core.specs.LoopFrames.{standing, scope_map, object_part, loop_object, EndsIn}
 use Rattle.liquid_core.specs.declared.frame.Scope.TheVariants as variants
 use Rattle.liquid_core.specs.declared.frame.LoopFrame.{LoopFrame}
 use Rattle.liquid_core.specs.declared.frame.LoopKind.{LoopKind}
@@ -135,14 +135,6 @@ innermost_is ss before t d e = ap (λ n. get_or ss n d) (innermost ss before t e
 
 pub innermost_set : (ss before : List Scope) (t : LoopFrame) (s : Scope) → EndsIn ss before t → set ss (length ss - 1) s ≡ before ++ s ∷ []
 innermost_set ss before t s e = ap (λ n. set ss n s) (innermost ss before t e) ∙ ap (λ l. set l (length before) s) e ∙ set-append_seam before (variants.LoopFrame t) [] s
-
-pub some_loop : (ss : List Scope) → GoesOn ss → 0 < length ss
-some_loop [] g = absurd (none g.0 g.1.0 g.1.1.0)
-  where
-    none : (before : List Scope) (t : LoopFrame) → [] ≡ before ++ variants.LoopFrame t ∷ [] → ⊥
-    none [] t e = cc
-    none (b ∷ bs) t e = cc
-some_loop (s ∷ ss) g = omega arith
 
 -- the loop that a scope is
 abbrev pub turn_in : Scope → LoopFrame → LoopFrame

@@ -300,10 +300,6 @@ pub interrupt_set : (s : State) (i : Option Interrupt) → layers_of (record s {
 unfolding layers_of
 interrupt_set s i = refl
 
-pub changed_of : (s : State) → (layers_of s).registers.changed ≡ option_map string_bytes s.changed
-unfolding layers_of
-changed_of s = refl
-
 pub changed_set : (s : State) (shown : Option (String Global)) → layers_of (record s { changed = shown }) ≡ with_changed (option_map string_bytes shown) (layers_of s)
 unfolding layers_of
 changed_set s shown = refl

@@ -4,7 +4,7 @@ ghost use Rattle.liquid_model.specs.Answer.{Answers, IsValueOrMemory, TakesNoMem
 ghost use Rattle.liquid_model.specs.Cow.{cow_view};
 ghost use Rattle.liquid_model.specs.Errors.{HasMessageUnlessMemory, without_value_message};
 ghost use Rattle.liquid_core.specs.Expressions.{value_of, required};
-ghost use Rattle.liquid_core.specs.ExpressionView.{expression_view, variable_view, steps_view};
+ghost use Rattle.liquid_core.specs.ExpressionView.{expression_view, variable_view};
 ghost use Rattle.liquid_core.specs.States.{environment_of, loops_of, FindsLoop};
 ghost use Rattle.liquid_core.specs.Resolved.{resolved_view, IsAmong, IsHeld};
 ghost use Rattle.liquid_model.specs.ErrorKinds.{IsKindOrMemory};

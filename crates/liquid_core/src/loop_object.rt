@@ -1,9 +1,9 @@
 //! The object of a loop as a value, for where a template asks for the whole of it.
-ghost use Rattle.std.specs.Prelude.{◌≡◌, ◌<◌, ◌≤◌, ◌+◌, ◌-◌, ◌%◌, ◌==◌, ◌||◌, codes};
+ghost use Rattle.std.specs.Prelude.{◌<◌, ◌≤◌, ◌+◌, ◌-◌, ◌%◌, ◌==◌, ◌||◌, codes};
 ghost use Rattle.liquid_model.specs.Answer.{IsValueOrMemory};
 ghost use Rattle.liquid_model.specs.Data.{object, put, truth};
 ghost use Rattle.liquid_model.specs.View.{view, pairs_view};
-ghost use Rattle.liquid_core.specs.Loops.{count, forloop_object, is_last_column, tablerow_object};
+ghost use Rattle.liquid_core.specs.Loops.{count, forloop_object, tablerow_object};
 
 use liquid_model::{Object, Result, Value, store};
 use std::alloc::Global;

@@ -1,6 +1,5 @@
 //! Printing a date by a pattern of strftime.
 ghost use Rattle.std.specs.Prelude.{◌≡◌, ◌+ℤ◌, pos, option_map, string_bytes};
-ghost use Rattle.jiff.specs.Words.{plain_zoned};
 ghost use Rattle.jiff_core.specs.DateTime.{civil_nanos};
 ghost use Rattle.jiff_core.specs.Timestamp.{nanos_of_seconds};
 ghost use Rattle.jiff_strtime.specs.Text.{parts_of};

@@ -1,7 +1,6 @@
 -- Ends by a value or by a kind that a run has, and how they come about.
-use Rattle.std.specs.Prelude.{Bool, true, false, cond, T, Option, Some, None, Result, Ok, Err}
+use Rattle.std.specs.Prelude.{Bool, true, false, cond, T, Result, Ok, Err}
 use mathlib.Core.Path.{refl, ap, subst}
-use Rattle.std.specs.Option.{ok_or}
 use Rattle.liquid_model.specs.Fallible as fallible
 use Rattle.liquid_model.specs.declared.error.ErrorKind.{ErrorKind}
 use Rattle.liquid_model.specs.declared.error.ErrorKind.TheVariants.{UnknownVariable}
@@ -27,7 +26,3 @@ ended_then {x = Err kind} ix ik = ended_err kind (ix.ended kind refl)
 pub ended_cond : {A : Type 0} {x y : Result A ErrorKind} (b : Bool) → Ended x → Ended y → Ended (cond b x y)
 ended_cond true i j = i
 ended_cond false i j = j
-
-pub ended_ok_or : {A : Type 0} (o : Option A) (kind : ErrorKind) → T (is_run_kind kind) → Ended (ok_or o kind)
-ended_ok_or None kind ok = ended_err kind ok
-ended_ok_or (Some a) kind ok = ended_ok a

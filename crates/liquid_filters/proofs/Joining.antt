@@ -1,5 +1,5 @@
 -- The pieces of a `split`, joined.
-use Rattle.std.proofs.Common.{◌≡◌, Ok, ap, ◌∙◌}
+use Rattle.std.proofs.Common.{Ok, ap, ◌∙◌}
 use Rattle.liquid_model.specs.Data.{text}
 use Rattle.liquid_filter_base.specs.Joined.{joined}
 use Rattle.liquid_text_filters.specs.Split.{divided}

@@ -1,5 +1,5 @@
 -- The status of a program that ends before its input does.
-use Rattle.std.specs.Prelude.{◌≡◌, ℕ}
+use Rattle.std.specs.Prelude.{ℕ}
 use Rattle.liquid_folder.specs.declared.stop.Stop.{Stop}
 use Rattle.liquid_folder.specs.declared.stop.Stop.TheVariants.{Usage, Unread, Fault, Streams}
 

@@ -20,7 +20,7 @@ use Rattle.liquid_sites.specs.Applied.{Applies}
 use Rattle.liquid_sites.specs.Contents.{Contents}
 use Rattle.liquid_sites.specs.SiteViews.{contents_of}
 use Rattle.liquid_sites.specs.Steps.{stepped, with_fact}
-use Rattle.liquid_sites.specs.declared.change.Change.TheVariants.{SetValue, RemoveValue}
+use Rattle.liquid_sites.specs.declared.change.Change.TheVariants.{SetValue}
 use Rattle.liquid_sites.specs.declared.site.Site.{Site}
 use Rattle.liquid_folders.specs.inside.Facts.{texts, all_removed}
 use Rattle.liquid_folders.proofs.Gone.{names_removed}
@@ -34,10 +34,6 @@ memory_is kind h = absurd cc
 no_source : (kind : ErrorKind) (P : Type 0) (b : Bool) → is_memory kind ≡ b → MatchBool b ⊤ (⊥ × P) → kind ≡ Memory
 no_source kind P true h why = memory_is kind h
 no_source kind P false h why = absurd why.0
-
-pub removal : (r : Result (Unit {0}) Error) (name : String _) (old new : Site) → Applies (RemoveValue name) r old new → IsValueOrMemory (λ u. contents_of new) r (record (contents_of old) { facts = with_fact (contents_of old).facts (string_bytes name) None })
-removal (Ok u) name old new done = done.contents ∙ ap (λ s. stepped s (contents_of old)) done.is_step
-removal (Err e) name old new done = no_source e.kind _ (is_memory e.kind) refl done.why
 
 pub setting : (r : Result (Unit {0}) Error) (name : String _) (value : Value) (old new : Site) → Applies (SetValue name value) r old new
     → IsValueOrMemory (λ u. contents_of new) r (record (contents_of old) { facts = with_fact (contents_of old).facts (string_bytes name) (Some (view value)) })

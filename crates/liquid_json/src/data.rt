@@ -1,5 +1,4 @@
 //! Data from JSON.
-ghost use Rattle.std.specs.Prelude.{◌≡◌};
 ghost use Rattle.liquid_model.specs.Answer.{Answers};
 ghost use Rattle.liquid_model.specs.View.{view, items_view, pairs_view};
 ghost use Rattle.liquid_json.specs.Json.{datum_of, items_of, pairs_of, object_of, data_of};

@@ -1,7 +1,6 @@
 //! Data straight from the tokens of a text of JSON, where each number is whole.
 ghost use Rattle.std.specs.Prelude.{◌≡◌, ◌<◌, length, Ok, Some, IfOk, IfSome, OnOk};
-ghost use Rattle.json.specs.Json.{value, items, members};
-ghost use Rattle.serde_json.specs.Read.{converted};
+ghost use Rattle.json.specs.Json.{value, items};
 ghost use Rattle.liquid_model.specs.Data.{no_pairs};
 ghost use Rattle.liquid_model.specs.View.{view, items_view, pairs_view};
 ghost use Rattle.liquid_json.specs.Json.{data_of};

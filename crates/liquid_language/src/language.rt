@@ -1,5 +1,5 @@
 //! What tags, blocks and filters are called.
-ghost use Rattle.std.specs.Prelude.{◌≡◌, [], map, option_map, OnErr, string_bytes};
+ghost use Rattle.std.specs.Prelude.{◌≡◌, [], map, OnErr, string_bytes};
 ghost use Rattle.liquid_model.specs.Answer.{IsValueOrMemory};
 ghost use Rattle.liquid_model.specs.Maps.{listed, insert};
 ghost use Rattle.liquid_language.specs.Languages.{kinds_of};

@@ -5,7 +5,6 @@ use Rattle.std.proofs.lemmas.List.{append-nil}
 use Rattle.std.proofs.lemmas.Str.{IsUtf8-drop, IsCharBoundary-from_take, chars-append, chars-nil, chars_past_char}
 use Rattle.std.specs.Char.{encode_utf8}
 use Rattle.std.specs.Str.{chars, IsUtf8}
-use Rattle.liquid_list_filters.specs.Ends.{character, last_character}
 use Rattle.liquid_model.specs.Find.{item_at, item_back}
 use Rattle.liquid_model.specs.View.{view, items_view}
 use Rattle.liquid_model.specs.declared.value.Value.{Value}
@@ -32,6 +31,3 @@ chars_last s t c whole before e =
     let end : IsUtf8 (encode_utf8 c) = subst IsUtf8 (ap (drop (length t)) e ∙ drop-append_seam t (encode_utf8 c)) (IsUtf8-drop s (length t) whole edge) in
     let one : chars (encode_utf8 c) ≡ c ∷ chars [] = chars_past_char (encode_utf8 c) [] c end (sym (append-nil (encode_utf8 c))) in
     ap chars e ∙ chars-append t (encode_utf8 c) before ∙ ap (λ l. chars t ++ l) (one ∙ ap (λ l. c ∷ l) chars-nil)
-
-pub last_character_is : (s t : List ℕ) (c : ℕ) → chars s ≡ chars t ++ c ∷ [] → character (Some c) ≡ last_character s
-last_character_is s t c e = sym (ap (λ l. character (slice_get l (length l - 1))) e ∙ ap character (slice_get_last (chars t) c))

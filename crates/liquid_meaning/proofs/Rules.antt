@@ -1,5 +1,5 @@
 -- The rules of nodes, to go by: to unfold `node_meaning` elsewhere shows the rule of every kind.
-use Rattle.std.specs.Prelude.{◌≡◌, ℕ, suc, ◌==◌, pos, ◌+ℤ◌, ◌-ℤ◌, Bool, true, false, cond, List, [], ◌∷◌, ◌++◌, length, Option, Some, None, Result, Ok, Err, codes}
+use Rattle.std.specs.Prelude.{◌≡◌, ℕ, suc, pos, ◌+ℤ◌, ◌-ℤ◌, cond, List, [], ◌∷◌, ◌++◌, length, Option, Some, None, Result, Ok, Err, codes}
 use Rattle.std.specs.Fmt.{signed_decimal}
 use mathlib.Core.Path.{refl, fun_ext}
 use Rattle.liquid_model.specs.Texts.{Text, ◌else◌}

@@ -1,6 +1,6 @@
 -- Loops over items that are known.
 --     loop name parent items body      the turns of a `for`;   rows name columns items body      the cells of a `tablerow`
-use Rattle.std.specs.Prelude.{ℕ, suc, ◌+◌, ◌-◌, ◌/◌, ◌%◌, ◌==◌, ℤ, pos, Bool, cond, ◌||◌, List, [], ◌∷◌, ◌++◌, length, Option, Some, codes, decimal, if◌then◌else◌}
+use Rattle.std.specs.Prelude.{ℕ, suc, ◌+◌, ◌/◌, ◌%◌, ◌==◌, ℤ, pos, cond, List, [], ◌∷◌, ◌++◌, length, Option, Some, codes, decimal, if◌then◌else◌}
 use Rattle.liquid_model.specs.Texts.{Text}
 use Rattle.liquid_model.specs.Data.{Datum}
 use Rattle.liquid_model.specs.declared.error.ErrorKind.TheVariants.{ZeroColumns}

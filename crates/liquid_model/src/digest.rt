@@ -1,6 +1,6 @@
 //! What a value feeds a hasher: equal values feed it alike.
-ghost use Rattle.std.specs.Prelude.{◌≡◌, ◌++◌, fold};
-ghost use Rattle.liquid_model.specs.Digest.{digest, items_digest, pairs_digest, items_len, pairs_len, same_digest};
+ghost use Rattle.std.specs.Prelude.{◌≡◌, fold};
+ghost use Rattle.liquid_model.specs.Digest.{digest, items_digest, pairs_digest, same_digest};
 ghost use Rattle.liquid_model.specs.View.{view, items_view, pairs_view};
 
 use crate::value::{Object, Value};

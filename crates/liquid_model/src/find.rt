@@ -1,5 +1,5 @@
 //! Finding along a path: step by step, with nothing copied and no memory taken.
-ghost use Rattle.std.specs.Prelude.{◌≡◌, ℕ, pos, length, map, Some, option_map, string_bytes, codes, true, IsOk};
+ghost use Rattle.std.specs.Prelude.{◌≡◌, length, map, Some, option_map, true, IsOk};
 ghost use Rattle.liquid_model.specs.Answer.{IsValueOrMemory};
 ghost use Rattle.liquid_model.specs.Cow.{cow_view};
 ghost use Rattle.liquid_model.specs.Data.{truth, number, array, object, text_of};

@@ -1,5 +1,5 @@
 //! Maps from texts to values.
-ghost use Rattle.std.specs.Prelude.{◌≡◌, IfOk, IfErr, OnOk, OnErr, string_bytes, option_map};
+ghost use Rattle.std.specs.Prelude.{◌≡◌, OnErr, string_bytes, option_map};
 ghost use Rattle.liquid_model.specs.Answer.{IsValueOrMemory};
 ghost use Rattle.liquid_model.specs.Data.{put};
 ghost use Rattle.liquid_model.specs.Find.{value_at};

@@ -1,6 +1,6 @@
 //! Equality and the total order: kinds by rank, then by content, lists and maps by the first unequal place.
-ghost use Rattle.std.specs.Prelude.{◌≡◌, ◌↔◌, IsTrue, string_bytes};
-ghost use Rattle.std.specs.Ordering.{on, is_eq, eq_by_cmp, as_partial_cmp};
+ghost use Rattle.std.specs.Prelude.{◌≡◌, ◌↔◌, IsTrue};
+ghost use Rattle.std.specs.Ordering.{on, as_partial_cmp};
 ghost use Rattle.std.specs.Cmp.{on_equiv, on_total, eq_by_cmp_equiv, partial_equiv_from_equiv, partial_order_from_agreeing_total};
 ghost use Rattle.std.proofs.Common.{refl};
 ghost use Rattle.liquid_model.specs.Order.{order, items_order, pairs_order, same, rank};

@@ -1,5 +1,5 @@
 //! The text of a value: what an output writes.
-ghost use Rattle.std.specs.Prelude.{◌≡◌, ◌++◌, Some, string_bytes};
+ghost use Rattle.std.specs.Prelude.{Some, string_bytes};
 ghost use Rattle.std.specs.Fmt.{WritesOnOk};
 ghost use Rattle.liquid_model.specs.Answer.{IsValueOrMemory};
 ghost use Rattle.liquid_model.specs.Data.{text_of, items_text, pairs_text};

@@ -1,8 +1,8 @@
 -- What a page leaves at its writer, from what was written through a buffer.
-use Rattle.std.proofs.Common.{◌≡◌, ℕ, List, [], ◌++◌, Option, Some, None, Ok, Err, Result, IfSome, inl, inr, refl, sym, ap, ◌∙◌, subst, append_assoc}
+use Rattle.std.proofs.Common.{◌≡◌, ℕ, List, [], ◌++◌, Option, Some, None, Ok, Result, IfSome, inl, inr, refl, sym, ap, ◌∙◌, subst, append_assoc}
 use Rattle.std.specs.Prelude.{◌⊎◌}
 use Rattle.std.specs.Io.KnownBytes.{Keeps, append_known}
-use Rattle.std.proofs.KnownBytes.{Keeps-refl, Appends-nil, Appends-kept}
+use Rattle.std.proofs.KnownBytes.{Appends-nil, Appends-kept}
 use Rattle.liquid_model.specs.declared.error.Error.{Error}
 use Rattle.liquid_model.specs.Texts.{Text}
 use Rattle.liquid_lib.specs.Added.{AppendsPart}
@@ -10,10 +10,6 @@ use Rattle.liquid_site.specs.Page.{Sources, Texts}
 use Rattle.liquid_site.specs.Shown.{RanOut, ShowsStandard}
 use Rattle.liquid_page.specs.Files.{Stop, Files, Leaves}
 use Rattle.liquid_page.specs.Written.{HoldsBeginning, IsBegun, a_page, no_page}
-
-holds_same : (o : Option (List ℕ)) → HoldsBeginning o o []
-holds_same None = tt
-holds_same (Some xs) = ([], refl)
 
 -- of a text's beginning behind what was there, the writer has what isn't held back
 holds_front : (before start after now : Option (List ℕ)) (held text : List ℕ) → Keeps before start → AppendsPart start after text → Keeps after (append_known now held) → HoldsBeginning before now text
@@ -27,24 +23,11 @@ holds_front (Some x) (Some y) (Some z) (Some w) held text p q k =
 part_of_none : (a b : Option (List ℕ)) → Keeps a b → AppendsPart a b []
 part_of_none a b p = record { front = []; rest = []; whole = refl; appended = Appends-kept a a b [] (Appends-nil a) p }
 
--- nothing was written
-pub begun_same : (texts : Texts) (o : Option (List ℕ)) → IsBegun texts o o
-begun_same texts o = no_page (holds_same o)
-
 -- a run wrote to a buffer in front of the writer, and some of what the buffer held was handed on
 pub begun_behind : (texts : Texts) (r : Result (Unit {0}) Error) (before start done now : Option (List ℕ)) (held : List ℕ)
     → Keeps before start → RanOut r start done ⊎ ShowsStandard texts r start done → Keeps done (append_known now held) → IsBegun texts before now
 begun_behind texts r before start done now held p (inl out) k = no_page (holds_front before start done now held [] p (part_of_none start done out.kept) k)
 begun_behind texts r before start done now held p (inr shown) k = a_page {text = shown.2.text} (shown.2.end, (shown.0, shown.1, shown.2.is_page)) (holds_front before start done now held shown.2.text p shown.2.begun k)
-
-leaves_same : (wanted : Result Texts Stop) (o : Option (List ℕ)) → Leaves wanted o o
-leaves_same (Ok texts) o = begun_same texts o
-leaves_same (Err stop) o = Keeps-refl o
-
--- no page is written to a writer that is left alone
-pub left_alone : (known : Option Files) (wanted : Files → Result Texts Stop) (o : Option (List ℕ)) → IfSome known (λ files. Leaves (wanted files) o o)
-left_alone None wanted o = tt
-left_alone (Some files) wanted o = leaves_same (wanted files) o
 
 -- the page of the texts that were read is begun
 left_begun : (known : Option Files) (wanted : Files → Result Texts Stop) (texts : Texts) (old new : Option (List ℕ))

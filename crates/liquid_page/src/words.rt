@@ -1,5 +1,5 @@
 //! The words of a call.
-ghost use Rattle.std.specs.Prelude.{◌≡◌, [], map, option_map, string_bytes, Ok};
+ghost use Rattle.std.specs.Prelude.{◌≡◌, map, option_map, string_bytes, Ok};
 ghost use Rattle.liquid_model.specs.Answer.{Answers};
 ghost use Rattle.liquid_page.specs.Words.{pair_of, lent, call_of, call_view};
 

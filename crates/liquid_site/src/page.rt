@@ -1,5 +1,5 @@
 //! A page of its texts: a template, data and partials.
-ghost use Rattle.std.specs.Prelude.{◌≡◌, ◌<◌, ◌⊎◌, [], false, IfErr, IsErrAnd, string_bytes};
+ghost use Rattle.std.specs.Prelude.{◌≡◌, ◌<◌, ◌⊎◌, [], false, IfErr, IsErrAnd};
 ghost use Rattle.std.specs.Io.KnownBytes.{Appends};
 ghost use Rattle.liquid_syntax.specs.Parsing.{MayRefuse, ParsesTo};
 ghost use Rattle.liquid_lib.specs.Added.{AppendsPart};

@@ -52,10 +52,6 @@ or_either : {A : Type 0} (o p : Option A) (x : A) → option_or o p ≡ Some x �
 or_either None p x h = inr (refl, h)
 or_either (Some y) p x h = inl h
 
-or_none : {A : Type 0} (o p : Option A) → option_or o p ≡ None → (o ≡ None) × (p ≡ None)
-or_none None p h = (refl, h)
-or_none (Some y) p h = absurd cc
-
 Spelled : List ℕ → Symbol × List ℕ → Type 0
 Spelled bs x = bs ≡ spelling_of x.0 ++ x.1
 

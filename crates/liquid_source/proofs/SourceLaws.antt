@@ -80,19 +80,6 @@ tag_again (is_tag {before = before} {w = w} {bs = bs} {inside = inside} {from = 
 tag_shorter : {before after : Bool} {w : List ℕ} {is : List Item} {bs rest : List ℕ} → IsTag before w is after bs rest → length rest ≤ length bs
 tag_shorter (is_tag o b n items) = omega (arith, opener_shorter o, blank_shorter b, word_shorter n, items_shorter items)
 
-opened_shorter : (before : Bool) (p : Piece) (after : Bool) (bs rest : List ℕ) → Opened before p after bs rest → length rest ≤ length bs
-unfolding Opened
-opened_shorter before (output is) after bs rest h = omega (arith, opener_shorter h.1, items_shorter h.2)
-opened_shorter before (tag w is) after bs rest h = tag_shorter h
-opened_shorter before (text t) after bs rest h = absurd h
-opened_shorter before (raw w t) after bs rest h = absurd h
-opened_shorter before (comment w) after bs rest h = absurd h
-
--- what is read behind a `{` is no longer than what stands there
-pub markup_read_shorter : (bs : List ℕ) (x : Markup × List ℕ) → markup_at bs ≡ Some x → length x.1 ≤ length bs
-unfolding Marked
-markup_read_shorter bs x h = opened_shorter x.0.before x.0.piece x.0.after bs x.1 (markup_takes bs x h)
-
 -- ---- with its body
 
 Whole : List ℕ → Markup × List ℕ → Type 0

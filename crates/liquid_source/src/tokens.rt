@@ -1,7 +1,7 @@
 //! The items of a piece, taken off the front one after another.
-ghost use Rattle.std.specs.Prelude.{◌≡◌, ◌≤◌, ◌<◌, nat_eq, is_some, length, map, option_map, string_bytes, MatchBool, MatchOption, ⊤, Bool};
+ghost use Rattle.std.specs.Prelude.{◌≡◌, ◌≤◌, ◌<◌, nat_eq, is_some, length, option_map, string_bytes, MatchOption, ⊤};
 ghost use Rattle.liquid_core.specs.ExpressionView.{expression_view};
-ghost use Rattle.liquid_source.specs.Tokens.{Token, tokens_view, value_first, word_first, word_in, word_of, token_of, is_symbol, is_word, is_that};
+ghost use Rattle.liquid_source.specs.Tokens.{tokens_view, value_first, word_first, word_in, word_of, token_of, is_symbol, is_word, is_that};
 ghost use Rattle.liquid_source.specs.PieceView.{item_view};
 ghost use Rattle.liquid_source.specs.TokenReading.{Skips, SkipsWord};
 

@@ -1,7 +1,7 @@
 //! Values: literals, and variables with their steps.
 ghost use Rattle.std.specs.Prelude.{◌≡◌, [], length};
 ghost use Rattle.liquid_model.specs.View.{view};
-ghost use Rattle.liquid_core.specs.ExpressionView.{expression_view, steps_view};
+ghost use Rattle.liquid_core.specs.ExpressionView.{steps_view};
 ghost use Rattle.liquid_model.specs.Whole.{whole_text};
 ghost use Rattle.liquid_source.specs.inside.ValueFaults.{number_fault, value_fault};
 ghost use Rattle.liquid_source.specs.Values.{word_kind};

@@ -1,19 +1,14 @@
 -- The next piece, on the code's stack of open blocks.
-use Rattle.std.proofs.Common.{◌≡◌, ◌<◌, ℕ, nat_le, arith, List, [], ◌∷◌, Bool, true, false, cond, Option, Some, None, Result, Ok, Err, OnOk, sym, ap, subst, ◌∙◌}
+use Rattle.std.proofs.Common.{◌≡◌, ◌<◌, ℕ, nat_le, arith, List, [], ◌∷◌, Bool, true, false, cond, Option, Some, None, Result, Ok, Err, OnOk, sym, ap, ◌∙◌}
 use Rattle.std.proofs.lemmas.Bool.Decides.{nat_tests}
-use Rattle.liquid_source.specs.Readers.{Fails}
 use Rattle.liquid_source.specs.declared.fault.ParseError.{ParseError}
 use Rattle.liquid_source.specs.declared.fault.ParseError.TheVariants as errors
-use Rattle.liquid_tree.specs.Tree.{Node, Nodes, no_nodes}
-use Rattle.liquid_syntax.specs.Flats.{flat_of}
+use Rattle.liquid_tree.specs.Tree.{Nodes, no_nodes}
 use Rattle.liquid_syntax.specs.Nesting.{Opening}
-use Rattle.liquid_syntax.specs.OpenBlocks.{State, last, begun, ended, Level, level, depth, deeper, with_node, close, to_begin, to_closed, to_else, to_elsif}
-use Rattle.liquid_syntax.specs.inside.Building.{Begins, IsFirst, Steps, IsBuilding, IsMemory, IsStack, Closes, IsPrepared, IsSound, opening}
+use Rattle.liquid_syntax.specs.OpenBlocks.{State, begun, ended, Level, level, depth, deeper, with_node, close, to_begin}
+use Rattle.liquid_syntax.specs.inside.Building.{Begins, Steps, IsBuilding, IsMemory, IsStack, Closes, opening}
 use Rattle.liquid_language.specs.declared.block.Block.{Block}
 use Rattle.liquid_syntax.specs.declared.build.Builder.{Builder}
-use Rattle.liquid_syntax.specs.declared.build.Statement.{Statement}
-use Rattle.liquid_syntax.specs.declared.build.Statement.TheVariants as statements
-use Rattle.liquid_syntax.specs.declared.build.Stage.{Stage}
 use Rattle.liquid_syntax.specs.declared.build.Stage.TheVariants.{First}
 use Rattle.liquid_syntax.specs.declared.node.Node as code
 use Rattle.liquid_syntax.proofs.NestingLaws.{some_room}
@@ -35,24 +30,12 @@ chain_none b chained ls (level r f k ∷ ms) cur now t e h = absurd h
 pub begins_step : (o : Opening) (ls : List Level) (cur : Nodes) → depth ls < 200 → to_begin o ls cur ≡ Some (level (begun o) cur false ∷ ls, no_nodes)
 begins_step o ls cur room = ap (λ (x : Bool). cond x (Some (level (begun o) cur false ∷ ls, no_nodes)) None) (some_room (depth ls) room)
 
--- what is asked of the statement of a block is asked of its node
-pub prepared_begins : {b : Block} {stage : Stage} {n : code.Node} {statement : Statement} → statement ≡ statements.Begins b stage n → IsSound statement → IsPrepared stage n
-prepared_begins is sound = subst (λ (l : Statement). IsSound l) is sound
-
 -- a block that is opened behind an `elsif`
 pub elsif_opens : (r : Result (Unit {0}) ParseError) (b was : Builder) (block : Block) (n : code.Node) (read : Option State) (s : State) → IsMemory r → read ≡ Some (level (begun (opening block First n)) s.1 true ∷ s.0, no_nodes)
     → OnOk r (b.depth ≡ was.depth) → OnOk r ((ls : List Level) (cur : Nodes) → IsStack was ls cur → Begins block First true n ls cur b) → IsBuilding was s.0 s.1 → Steps read b r
 elsif_opens (Ok u) b was block n read s memory is deep opens built = ((level (begun (opening block First n)) s.1 true ∷ s.0, no_nodes), is, (opens s.0 s.1 built.0, deep ∙ built.1))
 elsif_opens (Err errors.Memory) b was block n read s memory is deep opens built = tt
 elsif_opens (Err (errors.Fault f)) b was block n read s memory is deep opens built = absurd cc
-
--- where an `elsif` stands in no first body, or no memory is left for the end of one
-pub elsif_fails : (e : ParseError) (next : Nodes → Nodes → Node) (ls : List Level) (cur : Nodes) (b : Block) → IsFirst ls (Some b) → Fails e (to_else ls cur) → Fails e (to_elsif next ls cur)
-elsif_fails errors.Memory next ls cur b is h = tt
-elsif_fails (errors.Fault f) next ls cur b (make, g, k, rest, is) h = let e : to_else ls cur ≡ Some (level (last b (make cur)) g k ∷ rest, no_nodes) = ap (λ ls. to_else ls cur) is in absurd cc
-
-pub closed_step : (n : Node) (ls : List Level) (cur : Nodes) → depth ls < 200 → to_closed n ls cur ≡ Some (ls, with_node cur n)
-closed_step n ls cur room = ap (λ (x : Bool). cond x (Some (ls, with_node cur n)) None) (some_room (depth ls) room)
 
 -- a builder that isn't full has room for a block
 pub has_room : (n m : ℕ) (full : Bool) → full ≡ nat_le 200 n → full ≡ false → n ≡ m → m < 200

@@ -5,18 +5,10 @@ use Rattle.std.specs.Option.{option_and_then, option_map}
 use Rattle.liquid_core.specs.Expression.{Expression}
 use Rattle.liquid_syntax.specs.inside.ConditionAnswers.{operator_before, operator_first, before_alternatives}
 use Rattle.liquid_syntax.specs.ConditionReading.{operator_of, with_atom, joined, compared_or, condition_of, behind_value, behind_operator, behind_atom, alternatives_of}
-use Rattle.liquid_source.specs.Readers.{Fails}
 use Rattle.liquid_source.specs.Tokens.{Token, value, range, symbol, value_first, is_word, past_word}
 use Rattle.liquid_tree.specs.Tree.{Atom, bare, compared, Condition}
 use Rattle.liquid_tree.specs.declared.comparison.ComparisonOperator.{ComparisonOperator}
-use Rattle.liquid_source.specs.declared.fault.ParseError.{ParseError}
-use Rattle.liquid_source.specs.declared.fault.ParseError.TheVariants as errors
 use Rattle.liquid_syntax.proofs.Printed.{from_some}
-
--- where a part can't be read, the whole can't
-pub part_refused : {X Y : Type 0} (e : ParseError) (f : X → Y) (part : Option X) (whole : Option Y) → whole ≡ option_map f part → Fails e part → Fails e whole
-part_refused errors.Memory f part whole h refused = tt
-part_refused (errors.Fault fault) f part whole h refused = h ∙ ap (option_map f) refused
 
 -- ---- an atom
 
@@ -144,10 +136,6 @@ module _ (atoms : List Atom) (a : Atom) (all ts : List Token) (taken : condition
 -- conjunctions before those that are left
 abbrev pub conjunctions_then : Condition → Option Condition → Option Condition
 conjunctions_then before o = option_map (λ cs. before ++ cs) o
-
-pub conjunctions_nothing : (o : Option Condition) → o ≡ conjunctions_then [] o
-conjunctions_nothing None = refl
-conjunctions_nothing (Some cs) = refl
 
 then_conjunction : (before : Condition) (c : List Atom) (o : Option Condition) → conjunctions_then before (before_alternatives c o) ≡ conjunctions_then (before ++ (c ∷ [])) o
 then_conjunction before c None = refl

@@ -1,6 +1,6 @@
 -- Each step of building.
-use Rattle.std.proofs.Common.{◌≡◌, ℕ, suc, ◌+◌, ◌-◌, ◌<◌, List, [], ◌∷◌, ◌++◌, length, get_or, reverse, Bool, Some, None, refl, sym, ap, ◌∙◌, subst, arith, append_assoc, length-append}
-use Rattle.std.proofs.lemmas.List.{append-nil, reverse-append, reverse-reverse, length-reverse}
+use Rattle.std.proofs.Common.{◌≡◌, ℕ, suc, ◌+◌, ◌-◌, ◌<◌, List, [], ◌∷◌, ◌++◌, length, get_or, reverse, Bool, Some, refl, sym, ap, ◌∙◌, subst, arith, append_assoc, length-append}
+use Rattle.std.proofs.lemmas.List.{append-nil, reverse-append, reverse-reverse}
 use Rattle.std.specs.Prelude.{slice_set, slice_get}
 use Rattle.std.proofs.Math.Seq.{set-append_seam, get_or-append_seam}
 use Rattle.std.proofs.lemmas.Option.{slice_get-get_or}
@@ -9,13 +9,13 @@ use Rattle.liquid_syntax.specs.Forest.{Forest, Bodies, empty, node, no_bodies, b
 use Rattle.liquid_syntax.specs.Laid.{Flat, ends_of, laid, laid_bodies}
 use Rattle.liquid_syntax.proofs.Round as round
 use Rattle.liquid_syntax.proofs.Round.{length-laid, length-laid_bodies}
-use Rattle.liquid_syntax.specs.OpenBlocks.{append, Reading, last, first, unkept, armed, begun, to_elsif, to_when, context_in, ended, Level, level, context_of, depth, State, with_node, to_else, at_end}
+use Rattle.liquid_syntax.specs.OpenBlocks.{append, Reading, last, first, unkept, armed, begun, to_when, context_in, ended, Level, level, context_of, depth, State, with_node, to_else}
 use Rattle.liquid_tree.specs.Tree as tree
 use Rattle.liquid_tree.specs.Tree.{Nodes, no_nodes, Whens, no_whens, when}
 use Rattle.liquid_syntax.specs.Flats.{case_flat, flat_of, flats, with_arms}
 use Rattle.liquid_core.specs.Expression.{Expression}
 use Rattle.std.specs.Prelude.{take, true, false}
-use Rattle.liquid_syntax.specs.inside.Building.{IsPrepared, opening, set_before_last, set_last, before_last_ended, last_ended, behind_arms, armed_with, IsCase, IsAdded, IsFirst, EndIsSet, BodyEnded, takes_else, takes_when, Fits, Builds, Closes, stage_context, context_at}
+use Rattle.liquid_syntax.specs.inside.Building.{IsPrepared, opening, set_before_last, set_last, before_last_ended, last_ended, behind_arms, armed_with, IsCase, IsAdded, EndIsSet, BodyEnded, takes_else, takes_when, Fits, Builds, Closes, stage_context, context_at}
 use Rattle.liquid_language.specs.declared.block.Block.{Block}
 use Rattle.liquid_syntax.specs.declared.build.Builder.{Builder}
 use Rattle.liquid_language.specs.declared.block.BlockContext.{BlockContext}
@@ -54,11 +54,6 @@ bodies_with : (bs : Bodies Maker) (f : Trees) → bodies_of (with_body bs f) ≡
 unfolding with_body
 bodies_with no_bodies f = refl
 bodies_with (body g bs) f = ap (λ l. nodes_of g ∷ l) (bodies_with bs f)
-
-sizes_with : (bs : Bodies Maker) (f : Trees) → sizes (with_body bs f) ≡ sizes bs + size f
-unfolding with_body
-sizes_with no_bodies f = omega arith
-sizes_with (body g bs) f = omega (arith, sizes_with bs f)
 
 ends_with : (k : ℕ) (bs : Bodies Maker) (f : Trees) → ends_of k (with_body bs f) ≡ ends_of k bs ++ (k + sizes bs + size f) ∷ []
 unfolding with_body
@@ -159,11 +154,6 @@ leaf ns ms x os ls cur e none b =
 pub begin : (ns ms : Flats) (x : Flat Maker) (r : Reading) (o : Open) (os : List Open) (ls : List Level) (cur : Nodes) → ms ≡ ns ++ x ∷ [] → o.node_index ≡ length ns → Fits o r x no_bodies (length ns + 1) → Builds ns os ls cur
     → Builds ms (o ∷ os) (level r cur o.chained ∷ ls) no_nodes
 begin ns ms x r o os ls cur e at fits b = (ns, x, no_bodies, empty, refl, at, refl, fits, e, b)
-
--- the place of an open block is inside the list
-pub open-within : (ns : Flats) (o : Open) (os : List Open) (ls : List Level) (cur : Nodes) → Builds ns (o ∷ os) ls cur → o.node_index < length ns
-open-within ns o os [] cur b = absurd b
-open-within ns o os (level r f k ∷ ls) cur (pre, x, bs, c, is, at, chained, fits, e, below) = omega (arith, level-length pre x bs c ns e)
 
 -- the node of an open block
 there : (pre : Flats) (x : Flat Maker) (rest ns : Flats) (at : ℕ) (old : Flat Maker) → at ≡ length pre → ns ≡ pre ++ x ∷ rest → old ≡ get_or ns at old → old ≡ x
@@ -336,9 +326,6 @@ last_top (o ∷ os) = let e : reverse (o ∷ os) ≡ reverse os ++ o ∷ [] = re
 pub context_is : (ns : Flats) (xs : List Open) (ls : List Level) (cur : Nodes) → Builds ns (reverse xs) ls cur → context_at (slice_get xs (length xs - 1)) ≡ context_of ls
 context_is ns xs ls cur b = ap (λ l. context_at (slice_get l (length l - 1))) (sym (reverse-reverse xs)) ∙ last_top (reverse xs) ∙ top_is ns (reverse xs) ls cur b
 
-pub within_on : (ns : Flats) (all rest : List Open) (o : Open) (ls : List Level) (cur : Nodes) → all ≡ rest ++ o ∷ [] → Builds ns (reverse all) ls cur → o.node_index < length ns
-within_on ns all rest o ls cur e h = open-within ns o (reverse rest) ls cur (subst (λ os. Builds ns os ls cur) (ap reverse e ∙ reverse-last rest o) h)
-
 -- the last body begins
 pub record Goes (ms : Flats) (os : List Open) (ls : List Level) (cur : Nodes) (s : State) : Type 0 where
   pub read : to_else ls cur ≡ Some s
@@ -387,16 +374,6 @@ else_on ns ms all rest now o p e e2 done takes at ch bl st ls cur h =
     let r = else_by ns ms o p (reverse rest) done takes at ch bl st ls cur h' in
     (r.0, r.1.read, subst (λ os. Builds ms os r.0.0 r.0.1) (sym (ap reverse e2 ∙ reverse-last rest p)) r.1.built, r.1.deep)
 
-no_else_by : (ns : Flats) (o : Open) (os : List Open) → takes_else o.stage ≡ false → (ls : List Level) (cur : Nodes) → Builds ns (o ∷ os) ls cur → to_else ls cur ≡ None
-no_else_by ns o os st [] cur h = absurd h
-no_else_by ns o os st (level (last b make) f k ∷ ls) cur h = refl
-no_else_by ns o os st (level (first b make) f k ∷ ls) cur h = let no : true ≡ false = subst (λ (s : Stage). takes_else s ≡ false) h.7.0 st in absurd cc
-no_else_by ns o os st (level (unkept b make) f k ∷ ls) cur h = let no : true ≡ false = subst (λ (s : Stage). takes_else s ≡ false) h.7.0 st in absurd cc
-no_else_by ns o os st (level (armed b make) f k ∷ ls) cur h = let no : true ≡ false = subst (λ (s : Stage). takes_else s ≡ false) h.7.0 st in absurd cc
-
-pub no_else : (ns : Flats) (all rest : List Open) (o : Open) → all ≡ rest ++ o ∷ [] → takes_else o.stage ≡ false → (ls : List Level) (cur : Nodes) → Builds ns (reverse all) ls cur → to_else ls cur ≡ None
-no_else ns all rest o e st ls cur h = no_else_by ns o (reverse rest) st ls cur (subst (λ os. Builds ns os ls cur) (ap reverse e ∙ reverse-last rest o) h)
-
 -- a `when`
 when_by : (ns mid ms : Flats) (o p : Open) (os : List Open) (vs : List Expression) (old y : Flat Maker) → BodyEnded o.stage o.node_index ns mid → takes_when o.stage ≡ true
     → ms ≡ slice_set mid o.node_index y → old ≡ get_or mid o.node_index old → IsAdded vs old y
@@ -431,16 +408,6 @@ when_on ns mid ms all rest now o p vs old y e e2 done takes set was added at ch 
     let r = when_by ns mid ms o p (reverse rest) vs old y done takes set was added at ch bl st ls cur h' in
     (r.0, r.1, subst (λ os. Builds ms os r.0.0 r.0.1) (sym (ap reverse e2 ∙ reverse-last rest p)) r.2, r.3)
 
-no_when_by : (ns : Flats) (o : Open) (os : List Open) (vs : List Expression) → takes_when o.stage ≡ false → (ls : List Level) (cur : Nodes) → Builds ns (o ∷ os) ls cur → to_when vs ls cur ≡ None
-no_when_by ns o os vs st [] cur h = absurd h
-no_when_by ns o os vs st (level (last b make) f k ∷ ls) cur h = refl
-no_when_by ns o os vs st (level (first b make) f k ∷ ls) cur h = refl
-no_when_by ns o os vs st (level (unkept b make) f k ∷ ls) cur h = let no : true ≡ false = subst (λ (s : Stage). takes_when s ≡ false) h.7.0 st in absurd cc
-no_when_by ns o os vs st (level (armed b make) f k ∷ ls) cur h = let no : true ≡ false = subst (λ (s : Stage). takes_when s ≡ false) h.7.0 st in absurd cc
-
-pub no_when : (ns : Flats) (all rest : List Open) (o : Open) (vs : List Expression) → all ≡ rest ++ o ∷ [] → takes_when o.stage ≡ false → (ls : List Level) (cur : Nodes) → Builds ns (reverse all) ls cur → to_when vs ls cur ≡ None
-no_when ns all rest o vs e st ls cur h = no_when_by ns o (reverse rest) vs st ls cur (subst (λ os. Builds ns os ls cur) (ap reverse e ∙ reverse-last rest o) h)
-
 -- a block ends: its last body, or another, behind which the last is empty
 last_open : Open → Open
 last_open o = record { node_index = o.node_index; block = o.block; stage = Last; chained = o.chained }
@@ -474,21 +441,6 @@ pub closes_on : (ns mid : Flats) (all : List Open) (o : Open) (b : Builder) (old
 closes_on ns mid all o b old y long e n done set was is ls cur h =
     closes_by ns mid o (reverse b.blocks.items) b old y done set was (is ∙ ap (λ k. last_ended k old) n) refl ls cur (subst (λ os. Builds ns os ls cur) (ap reverse e ∙ reverse-last b.blocks.items o) h)
 
-none_by : (ns : Flats) (ls : List Level) (cur : Nodes) → Builds ns [] ls cur → ls ≡ []
-none_by ns [] cur b = refl
-none_by ns (l ∷ ls) cur b = absurd b
-
-pub none_on : (ns : Flats) (all : List Open) (ls : List Level) (cur : Nodes) → all ≡ [] → Builds ns (reverse all) ls cur → ls ≡ []
-none_on ns all ls cur e b = none_by ns ls cur (subst (λ os. Builds ns os ls cur) (ap reverse e) b)
-
-not_end : (ns : Flats) (os : List Open) (ls : List Level) (cur : Nodes) → (length os ≡ 0 → ⊥) → Builds ns os ls cur → at_end ls cur ≡ None
-not_end ns [] ls cur h b = absurd (h refl)
-not_end ns (o ∷ os) [] cur h b = absurd b
-not_end ns (o ∷ os) (l ∷ ls) cur h b = refl
-
-pub still_open : (ns : Flats) (xs : List Open) (ls : List Level) (cur : Nodes) → (length xs ≡ 0 → ⊥) → Builds ns (reverse xs) ls cur → at_end ls cur ≡ None
-still_open ns xs ls cur h b = not_end ns (reverse xs) ls cur (λ e. h (sym (length-reverse xs) ∙ e)) b
-
 prepared_fits : (o : Open) (b : Block) (stage : Stage) (n : code.Node) (k : ℕ) → o.stage ≡ stage → o.block ≡ b → IsPrepared stage n → Fits o (begun (opening b stage n)) (flat_of n) no_bodies k
 prepared_fits o b First n k st bl prepared = (st, bl, refl, prepared, λ g h. refl)
 prepared_fits o b Last n k st bl prepared = (st, bl, prepared, λ g. refl)
@@ -501,52 +453,3 @@ pub begins_on : (ns ms : Flats) (n : code.Node) (all now : List Open) (o : Open)
 begins_on ns ms n all now o b stage ls cur e stack at st bl prepared built =
     subst (λ os. Builds ms os (level (begun (opening b stage n)) cur o.chained ∷ ls) no_nodes) (sym (ap reverse stack ∙ reverse-last all o))
     (begin ns ms (flat_of n) (begun (opening b stage n)) o (reverse all) ls cur e at (prepared_fits o b stage n (length ns + 1) st bl prepared) built)
-
--- which body the innermost block is in
-first_by : (ns : Flats) (o : Open) (os : List Open) → o.stage ≡ First → (ls : List Level) (cur : Nodes) → Builds ns (o ∷ os) ls cur → IsFirst ls (Some o.block)
-first_by ns o os st [] cur h = absurd h
-first_by ns o os st (level (last b make) f k ∷ ls) cur h = let no : First ≡ Last = sym st ∙ h.7.0 in absurd cc
-first_by ns o os st (level (first b make) f k ∷ ls) cur h = (make, f, k, ls, ap (λ (b : Block). level (first b make) f k ∷ ls) (sym h.7.1))
-first_by ns o os st (level (unkept b make) f k ∷ ls) cur h = let no : First ≡ Unkept = sym st ∙ h.7.0 in absurd cc
-first_by ns o os st (level (armed b make) f k ∷ ls) cur h = let no : First ≡ Armed = sym st ∙ h.7.0 in absurd cc
-
-not_first_by : (ns : Flats) (o : Open) (os : List Open) → (o.stage ≡ First → ⊥) → (ls : List Level) (cur : Nodes) → Builds ns (o ∷ os) ls cur → IsFirst ls None
-not_first_by ns o os st [] cur h = absurd h
-not_first_by ns o os st (level (last b make) f k ∷ ls) cur h = λ next cur. refl
-not_first_by ns o os st (level (first b make) f k ∷ ls) cur h = absurd (st h.7.0)
-not_first_by ns o os st (level (unkept b make) f k ∷ ls) cur h = λ next cur. refl
-not_first_by ns o os st (level (armed b make) f k ∷ ls) cur h = λ next cur. refl
-
--- the innermost block is the last of the code's stack
-top_of : (xs : List Open) (o : Open) → slice_get xs (length xs - 1) ≡ Some o → (rest : List Open) × (reverse xs ≡ o ∷ rest)
-top_of xs o h =
-    top_by (reverse xs) (ap (λ l. slice_get l (length l - 1)) (reverse-reverse xs) ∙ h)
-  where
-    top_by : (ys : List Open) → slice_get (reverse ys) (length (reverse ys) - 1) ≡ Some o → (rest : List Open) × (ys ≡ o ∷ rest)
-    top_by [] g = absurd cc
-    top_by (y ∷ ys) g =
-        let e : reverse (y ∷ ys) ≡ reverse ys ++ y ∷ [] = reverse-append (y ∷ []) ys in
-        let is : Some y ≡ Some o = sym (ap (λ l. slice_get l (length l - 1)) e ∙ last_get (reverse ys) y) ∙ g in
-        let same : y ≡ o = cc in
-        (ys, ap (λ (y : Open). y ∷ ys) same)
-
-pub first_on : (ns : Flats) (xs : List Open) (o : Open) → slice_get xs (length xs - 1) ≡ Some o → o.stage ≡ First → (ls : List Level) (cur : Nodes) → Builds ns (reverse xs) ls cur → IsFirst ls (Some o.block)
-first_on ns xs o e st ls cur h = let (rest, is) = top_of xs o e in first_by ns o rest st ls cur (subst (λ os. Builds ns os ls cur) is h)
-
-pub not_first_on : (ns : Flats) (xs : List Open) (o : Open) → slice_get xs (length xs - 1) ≡ Some o → (o.stage ≡ First → ⊥) → (ls : List Level) (cur : Nodes) → Builds ns (reverse xs) ls cur → IsFirst ls None
-not_first_on ns xs o e st ls cur h = let (rest, is) = top_of xs o e in not_first_by ns o rest st ls cur (subst (λ os. Builds ns os ls cur) is h)
-
--- with no open block
-pub none_first : (ns : Flats) (xs : List Open) → xs ≡ [] → (ls : List Level) (cur : Nodes) → Builds ns (reverse xs) ls cur → IsFirst ls None
-none_first ns xs e [] cur h = λ next cur. refl
-none_first ns xs e (l ∷ ls) cur h = let no : (l ∷ ls) ≡ [] = none_on ns xs (l ∷ ls) cur e h in absurd cc
-
-same_state : (s t : State) → Some s ≡ Some t → s ≡ t
-same_state s t e = cc
-
--- an `elsif`: the last body begins, and in it a block that ends with the one around it
-pub elsif_after : (next : Nodes → Nodes → tree.Node) (ls : List Level) (cur : Nodes) (s : State) (b : Block) → IsFirst ls (Some b) → to_else ls cur ≡ Some s
-    → to_elsif next ls cur ≡ Some (level (first b next) s.1 true ∷ s.0, no_nodes)
-elsif_after next ls cur s b (make, f, k, rest, is) h =
-    let same = same_state (level (last b (make cur)) f k ∷ rest, no_nodes) s (sym (ap (λ ls. to_else ls cur) is) ∙ h) in
-    ap (λ ls. to_elsif next ls cur) is ∙ ap (λ (s : State). Some (level (first b next) s.1 true ∷ s.0, no_nodes)) same

@@ -3,7 +3,6 @@ use Rattle.std.proofs.Common.{◌≡◌, ℕ, ◌+◌, ◌<◌, ◌≤◌, List,
 use Rattle.std.specs.Prelude.{slice_get}
 use Rattle.std.proofs.lemmas.Option.{slice_get_within}
 use Rattle.liquid_syntax.specs.Forest.{Forest, Bodies, empty, node, no_bodies, body}
-use Rattle.liquid_syntax.proofs.Round.{append}
 use Rattle.liquid_syntax.specs.Laid.{Flat, Stands, StandBodies, last_end}
 
 -- a range does not end before it begins
@@ -18,12 +17,6 @@ mutual
   StandBodies-le ns at es (body f bs) (e, rest, eq, here, more) =
       subst (λ l. at ≤ last_end at l) (sym eq)
       (omega (arith, Stands-le ns at f e here, StandBodies-le ns e rest bs more))
-
--- one forest after another
-pub Stands-append : {A : Type 0} → (ns : List (Flat A)) (at : ℕ) (f : Forest A) (mid : ℕ) (g : Forest A) (to : ℕ) → Stands ns at f mid → Stands ns mid g to → Stands ns at (append f g) to
-Stands-append ns at empty mid g to s t = subst (λ k. Stands ns k g to) (sym s) t
-Stands-append ns at (node h bs rest) mid g to (x, is, eq, inner, after) t =
-    (x, is, eq, inner, Stands-append ns (last_end (at + 1) x.ends) rest mid g to after t)
 
 -- what is at the first place of a range that is not empty
 abbrev pub First : {A : Type 0} → List (Flat A) → ℕ → Forest A → ℕ → Flat A → Type 0

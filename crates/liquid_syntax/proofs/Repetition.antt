@@ -13,11 +13,6 @@ pub behind_is : {A : Type 0} (xs : List A) (o : Option (List A)) → option_map 
 unfolding behind_those
 behind_is xs o = refl
 
-pub behind_no_one : {A : Type 0} (o : Option (List A)) → o ≡ behind_those [] o
-unfolding behind_those
-behind_no_one None = refl
-behind_no_one (Some ys) = refl
-
 behind_one : {A : Type 0} (xs : List A) (x : A) (o : Option (List A)) → behind_those xs (option_map (λ ys. x ∷ ys) o) ≡ behind_those (xs ++ x ∷ []) o
 unfolding behind_those
 behind_one xs x None = refl

@@ -23,14 +23,6 @@ pub append-empty : {A : Type 0} → (f : Forest A) → append f empty ≡ f
 append-empty empty = refl
 append-empty (node x bs rest) = ap (node x bs) (append-empty rest)
 
-pub size-append : {A : Type 0} → (f g : Forest A) → size (append f g) ≡ size f + size g
-size-append empty g = omega arith
-size-append (node x bs rest) g = omega (arith, size-append rest g)
-
-pub size-joined : {A : Type 0} → (bs : Bodies A) → size (joined bs) ≡ sizes bs
-size-joined no_bodies = refl
-size-joined (body f bs) = size-append f (joined bs) ∙ ap (λ n. size f + n) (size-joined bs)
-
 front-none : {A : Type 0} → (g : Forest A) → front g 0 ≡ empty
 front-none empty = refl
 front-none (node h bs rest) = refl

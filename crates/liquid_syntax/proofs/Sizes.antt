@@ -1,5 +1,5 @@
 -- The greatest number of nodes of a partial.
-use Rattle.std.proofs.Common.{◌≡◌, ℕ, List, [], ◌∷◌, max, Bool, true, false, Option, Some, None, option_map, IfSome, Bor, String, Global, cond, ◌≤◌, sym, subst, arith}
+use Rattle.std.proofs.Common.{◌≡◌, ℕ, List, [], ◌∷◌, max, Bool, true, false, Option, Some, None, String, Global, cond, ◌≤◌, sym, subst, arith}
 use Rattle.std.specs.Map.{lookup}
 use Rattle.liquid_syntax.specs.Templates.{node_count_of, most_nodes, nodes_held}
 use Rattle.liquid_syntax.specs.declared.template.Template.{Template}

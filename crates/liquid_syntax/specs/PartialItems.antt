@@ -97,9 +97,5 @@ include_node r = include r.0 r.1
 abbrev pub render_node : Expression × Rendered → Node
 render_node r = render r.0 r.1.0 r.1.1
 
--- the node of a `render` of this name, by what stands behind the name
-abbrev pub render_as : Expression → Option Rendered → Option Node
-render_as x o = option_map render_node (option_map (λ r. (x, r)) o)
-
 abbrev pub jekyll_node : Text × Bindings → Node
 jekyll_node r = jekyll_include r.0 r.1

@@ -1,6 +1,6 @@
 //! What is written into the nodes of blocks as their bodies end, and the further `when` parts of a `case`.
 
-ghost use Rattle.std.specs.Prelude.{◌≡◌, ℕ, List, [], ◌∷◌, ◌++◌, map, OnOk};
+ghost use Rattle.std.specs.Prelude.{◌≡◌, ℕ, [], ◌∷◌, ◌++◌, map, OnOk};
 ghost use Rattle.liquid_syntax.specs.inside.Building.{IsAdded, IsMemory, before_last_ended, last_ended, set_before_last};
 ghost use Rattle.liquid_syntax.specs.Flats.{arm_ends, arm_values, flat_of};
 ghost use Rattle.liquid_core.specs.ExpressionView.{expression_view};

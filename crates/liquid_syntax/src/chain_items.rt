@@ -1,5 +1,5 @@
 //! Chains, read from the items of a piece.
-ghost use Rattle.std.specs.Prelude.{◌≡◌, ◌≤◌, IfErr, length, map, string_bytes};
+ghost use Rattle.std.specs.Prelude.{◌≤◌, IfErr, length, map, string_bytes};
 ghost use Rattle.liquid_core.specs.ExpressionView.{expression_view};
 ghost use Rattle.liquid_model.specs.Maps.{listed};
 ghost use Rattle.liquid_syntax.specs.inside.Called.{Calls, TakesFilter};

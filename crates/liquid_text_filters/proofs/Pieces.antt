@@ -3,7 +3,7 @@ use Rattle.std.proofs.Common.{◌≡◌, ◌≢◌, ℕ, zero, suc, ◌-◌, ◌
 use Rattle.std.proofs.lemmas.Bool.Decides.{nat_tests}
 use Rattle.liquid_filter_base.specs.Joined.{joined, joined_rest}
 use Rattle.liquid_filter_base.specs.Text.{begins}
-use Rattle.liquid_text_filters.specs.Pieces.{push, pieces, split_by}
+use Rattle.liquid_text_filters.specs.Pieces.{push, pieces}
 
 joined-push : (p : List ℕ) (b : ℕ) (ps : List (List ℕ)) → joined p (push b ps) ≡ b ∷ joined p ps
 joined-push p b [] = refl
@@ -95,7 +95,3 @@ pieces_none p [] l h = refl
 pieces_none p (b ∷ s) l h =
     ap (λ t. if t then [] ∷ pieces p (length p - 1) s else push b (pieces p 0 s)) (begins_not p (b ∷ s) (begins p (b ∷ s)) refl (h 0 (omega arith)))
     ∙ ap (push b) (pieces_none p s l (λ k m. h (suc k) (omega arith)))
-
-pub split_by_is : (p s : List ℕ) → 0 < length p → split_by p s ≡ pieces p 0 s
-split_by_is [] s l = absurd (omega arith)
-split_by_is (x ∷ p) s l = refl

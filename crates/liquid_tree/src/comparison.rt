@@ -1,7 +1,7 @@
 //! How two values are compared.
-ghost use Rattle.std.specs.Prelude.{◌≡◌, Ok, Some, List, string_bytes, ℕ};
+ghost use Rattle.std.specs.Prelude.{◌≡◌, Ok, Some};
 ghost use Rattle.liquid_model.specs.Answer.{Answers, IsValueOrMemory};
-ghost use Rattle.liquid_model.specs.Data.{text_of, scalar};
+ghost use Rattle.liquid_model.specs.Data.{text_of};
 ghost use Rattle.liquid_model.specs.View.{view, pairs_view};
 ghost use Rattle.liquid_tree.specs.Evaluation.{comparison_truth, contains, has_key, occurs_in};
 ghost use Rattle.liquid_tree.specs.WrittenConditions.{written_operator};

@@ -1,6 +1,6 @@
 //! The names that chains, conditions and loop sources mention, told to a visitor in the order in which they stand. Each
 //! function answers whether the visitor ended the telling.
-ghost use Rattle.std.specs.Prelude.{◌≡◌, map, option_map};
+ghost use Rattle.std.specs.Prelude.{map, option_map};
 ghost use Rattle.liquid_core.specs.ExpressionView.{expression_view, variable_view, steps_view};
 ghost use Rattle.liquid_tree.specs.ChainView.{chain_view, chain_filter_view};
 ghost use Rattle.liquid_tree.specs.ConditionView.{atom_view, atoms_view, condition_view};

@@ -1,5 +1,5 @@
 -- Breaks of lines, over characters.
-use Rattle.std.proofs.Common.{◌≡◌, ℕ, ◌≤◌, false, ◌==◌, List, [], ◌∷◌, ◌++◌, codes, length, refl, ap, sym, ◌∙◌, arith, if◌then◌else◌}
+use Rattle.std.proofs.Common.{◌≡◌, ℕ, ◌≤◌, false, ◌==◌, [], ◌∷◌, ◌++◌, codes, refl, ap, sym, ◌∙◌, arith, if◌then◌else◌}
 use Rattle.std.proofs.lemmas.Bool.Decides.{nat_tests}
 use Rattle.std.proofs.lemmas.Str.{encode_ascii}
 use Rattle.std.specs.List.{flat_map}

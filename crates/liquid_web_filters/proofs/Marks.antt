@@ -1,6 +1,6 @@
 -- Marks in a text: their first character is looked for by its byte, and the rest of them character by character.
-use Rattle.std.proofs.Common.{◌≡◌, ◌≢◌, ℕ, zero, suc, ◌+◌, ◌-◌, ◌<◌, ◌≤◌, Bool, true, false, ◌&&◌, ◌||◌, ◌==◌, List, [], ◌∷◌, ◌++◌, length, take, drop, get_or, Option, Some, None, option_map, ap, ap₂, subst, refl, sym, ◌∙◌, arith, append_assoc, append-nil, codes}
-use Rattle.std.proofs.Math.Seq.{take-append_seam, drop-append_seam}
+use Rattle.std.proofs.Common.{◌≡◌, ℕ, ◌+◌, ◌-◌, ◌<◌, Bool, true, false, ◌&&◌, ◌||◌, ◌==◌, List, [], ◌∷◌, ◌++◌, length, take, drop, Some, None, ap, ap₂, subst, refl, sym, ◌∙◌, arith, append_assoc, append-nil, codes}
+use Rattle.std.proofs.Math.Seq.{take-append_seam}
 use Rattle.std.proofs.lemmas.Bool.Decides.{nat_tests}
 use Rattle.std.proofs.lemmas.List.{take-append-drop, length-append}
 use Rattle.std.proofs.lemmas.Str.{encode_ascii, len_utf8_ascii, encodes-append, encodes-chars, chars-append, chars-nil, chars_past_char, chars_from_encodes, chars-encodes, scalars-chars, IsUtf8-append, IsUtf8-from_ascii, IsUtf8-nil, IsUtf8-drop, IsUtf8-take, IsUtf8-past_char, IsCharBoundary-before_ascii, IsCharBoundary-at_seam}
@@ -8,10 +8,10 @@ use Rattle.std.proofs.lemmas.Str.Ascii.{IsAscii-cons, IsAscii-nil}
 use Rattle.std.specs.Str.{chars, encode_utf8_all, IsCharBoundary, IsUtf8, NoCharPasses, NonePass}
 use Rattle.std.specs.Str.Pattern.{FindsChar, SplitsAroundMatch}
 use lib.Utf8.{scalars}
-use Rattle.liquid_web_filters.specs.Tags.{SplitsAtFirst, begins_mark, first_mark, is_mark, is_opener, stands_for, strip_html, without_pairs}
+use Rattle.liquid_web_filters.specs.Tags.{SplitsAtFirst, begins_mark, first_mark, is_mark, stands_for, strip_html, without_pairs}
 use Rattle.liquid_web_filters.proofs.HtmlLaws.{kept_scalars}
 use Rattle.liquid_web_filters.specs.HtmlLaws.{HasNoTag, has_close}
-use Rattle.liquid_web_filters.proofs.Tags.{Seeks, no_change, after_more, seeks_start, seeks_more, seeks_found, seeks_none}
+use Rattle.liquid_web_filters.proofs.Tags.{Seeks, no_change, seeks_start, seeks_more, seeks_found, seeks_none}
 
 -- ---- a mark's first character
 -- it is ASCII, and stands for itself alone

@@ -276,11 +276,6 @@ untagged-no_tag i [] = tt
 untagged-no_tag true (b ∷ s) = untagged-no_tag (if eqb b 62 then false else true) s
 untagged-no_tag false (b ∷ s) = no_tag_either b s (eqb b 60 && has_close s) refl (untagged-no_tag true s) (untagged-no_tag false s)
 
--- and where there is none, the pass changes nothing
-pub untagged-same : (s : List ℕ) → HasNoTag s → untagged false s ≡ s
-untagged-same [] h = refl
-untagged-same (b ∷ s) h = ap (λ t. if t then untagged true s else b ∷ untagged false s) h.0 ∙ ap (λ t. b ∷ t) (untagged-same s h.1)
-
 -- ---- nothing is left, and a second run changes nothing
 pub nothing_left : (s : List ℕ) → HasNoTag (without_tags s)
 nothing_left s = let t = without_pairs (codes "<!--") (codes "-->") (without_pairs (codes "<style") (codes "</style>") (without_pairs (codes "<script") (codes "</script>") s)) in

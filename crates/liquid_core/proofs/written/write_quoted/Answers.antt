@@ -1,4 +1,4 @@
-use Rattle.std.proofs.Common.{rules, ◌++◌, codes, refl}
+use Rattle.std.proofs.Common.{rules, refl}
 use Rattle.std.proofs.lemmas.Grind.{put_three}
 use Rattle.liquid_core.proofs.written.write_quoted.Goals as goal
 

@@ -1,5 +1,5 @@
 //! Paths of properties: a word followed by any of `.word` and `[literal]`.
-ghost use Rattle.std.specs.Prelude.{map, option_map};
+ghost use Rattle.std.specs.Prelude.{map};
 ghost use Rattle.liquid_model.specs.Answer.{IsValueOrMemory};
 ghost use Rattle.liquid_model.specs.View.{view};
 ghost use Rattle.liquid_jekyll_filters.specs.Path.{bracketed_at, member_at, path, step_at, with_steps};

@@ -1,7 +1,7 @@
 //! The filter that measures a value.
 ghost use Rattle.std.specs.Prelude.{◌≡◌, IsOk, IsTrue, length, map, nat_eq};
 ghost use Rattle.liquid_model.specs.Answer.{Answers};
-ghost use Rattle.liquid_model.specs.Data.{text_of, truth, number};
+ghost use Rattle.liquid_model.specs.Data.{text_of, number};
 ghost use Rattle.liquid_model.specs.Find.{counted};
 ghost use Rattle.liquid_model.specs.View.{view};
 ghost use Rattle.liquid_text_filters.specs.Size.{size_answer, size_of};

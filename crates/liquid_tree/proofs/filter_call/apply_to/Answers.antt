@@ -1,4 +1,4 @@
-use Rattle.std.proofs.Common.{Bool, Ok, Err, ap}
+use Rattle.std.proofs.Common.{Bool, Ok, ap}
 use Rattle.std.specs.List.{list_all}
 use Rattle.std.proofs.lemmas.Result.{err_from_is_err_and}
 use Rattle.liquid_model.specs.Cow.{cow_view}

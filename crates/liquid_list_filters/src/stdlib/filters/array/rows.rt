@@ -5,7 +5,7 @@ ghost use Rattle.liquid_model.specs.Lists.{list_of};
 ghost use Rattle.liquid_model.specs.View.{view, items_view};
 ghost use Rattle.liquid_filter_base.specs.Stands.{Stands, WithFirst};
 ghost use Rattle.liquid_list_filters.specs.Laws.{Concats, Reverses};
-ghost use Rattle.liquid_list_filters.specs.Rows.{concat_by, concat_answer, reverse_answer};
+ghost use Rattle.liquid_list_filters.specs.Rows.{concat_answer, reverse_answer};
 
 use liquid_core::{Filter, Result, Value};
 use liquid_filter_base::{invalid_argument, invalid_input};

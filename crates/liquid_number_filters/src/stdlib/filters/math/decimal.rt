@@ -1,10 +1,9 @@
 //! Decimal texts: an optional sign, digits, and optionally a point and more digits.
-ghost use Rattle.std.specs.Prelude.{◌≡◌, ◌<◌, ◌≤◌, ◌^◌, ◌==◌, IsTrue, MatchOption, Some, None, false, not, if◌then◌else◌};
+ghost use Rattle.std.specs.Prelude.{◌≡◌, ◌<◌, ◌≤◌, ◌^◌, ◌==◌, IsTrue, MatchOption, Some, None, false, not};
 ghost use Rattle.std.specs.Char.{is_ascii_digit};
 ghost use Rattle.std.specs.List.{list_all, list_any};
 ghost use Rattle.std.specs.Str.{all_ascii_digits};
 ghost use Rattle.std.specs.Str.Parse.{without_leading_sign, digits_value};
-ghost use Rattle.liquid_model.specs.Whole.{fits};
 ghost use Rattle.liquid_number_filters.specs.Decimals.{is_decimal, is_numeral, if_fits, IsReadFrom};
 ghost use Rattle.liquid_number_filters.specs.Rounding.{goes_away, signed, size};
 

@@ -1,5 +1,5 @@
 //! The whole numbers that a filter over numbers computes with.
-ghost use Rattle.std.specs.Prelude.{MatchOption, ⊤, false, true, ◌≡◌};
+ghost use Rattle.std.specs.Prelude.{false, ◌≡◌};
 ghost use Rattle.liquid_model.specs.Answer.{Answers, TakesNoMemory};
 ghost use Rattle.liquid_model.specs.ErrorKinds.{IsKindOrMemory};
 ghost use Rattle.liquid_model.specs.View.{view};

@@ -4,7 +4,7 @@ use Rattle.liquid_syntax.specs.Templates.{tree_of, node_count_of, most_nodes}
 use Rattle.liquid_syntax.specs.declared.template.Template.{Template}
 use Rattle.liquid_syntax.proofs.Held.{held_found}
 use Rattle.liquid_language.proofs.Inserted.{named}
-use Rattle.liquid_syntax.proofs.Sizes.{Entry, small_found}
+use Rattle.liquid_syntax.proofs.Sizes.{small_found}
 use Rattle.liquid_syntax.proofs.partials.Partials.get.Goals as goal
 
 copied : (r : Option (Bor Template)) → option_map (λ t. tree_of t.now) r ≡ option_map tree_of (option_copied r)

@@ -1,5 +1,5 @@
 //! Filters that join texts, and that replace parts of them.
-ghost use Rattle.std.specs.Prelude.{◌&&◌, ◌++◌, nat_eq, nat_le, string_bytes, IsTrue, length, map};
+ghost use Rattle.std.specs.Prelude.{◌&&◌, nat_eq, nat_le, string_bytes, IsTrue, length, map};
 ghost use Rattle.liquid_model.specs.Answer.{IsValueOrMemory, Answers};
 ghost use Rattle.liquid_text_filters.specs.Operate.{append_answer, prepend_answer, remove_answer, remove_first_answer, replace_answer, replace_first_answer, replaced, replaced_first};
 ghost use Rattle.liquid_model.specs.View.{view};

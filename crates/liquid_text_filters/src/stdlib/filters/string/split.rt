@@ -4,7 +4,7 @@ ghost use Rattle.liquid_model.specs.Answer.{IsValueOrMemory, Answers};
 ghost use Rattle.liquid_model.specs.Data.{text as text_datum};
 ghost use Rattle.liquid_model.specs.View.{view};
 ghost use Rattle.liquid_filter_base.specs.Stands.{Stands};
-ghost use Rattle.liquid_text_filters.specs.Pieces.{pieces, single_characters, split_by};
+ghost use Rattle.liquid_text_filters.specs.Pieces.{pieces, single_characters};
 ghost use Rattle.liquid_text_filters.specs.Split.{divided, split_answer};
 ghost use Rattle.liquid_text_filters.specs.Laws.{SplitsText};
 

@@ -1,4 +1,4 @@
-use Rattle.std.proofs.Common.{refl, rules, arith}
+use Rattle.std.proofs.Common.{refl, rules}
 use Rattle.liquid_web_filters.specs.Escapes.{escape_of}
 use Rattle.liquid_web_filters.proofs.Escapes.{escaped_turn, escaped_end, mark_is}
 use Rattle.liquid_web_filters.proofs.stdlib.filters.html.escape.escaped.Goals as goal

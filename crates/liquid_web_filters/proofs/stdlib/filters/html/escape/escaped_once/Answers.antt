@@ -1,4 +1,4 @@
-use Rattle.std.proofs.Common.{refl, rules, arith}
+use Rattle.std.proofs.Common.{refl, rules}
 use Rattle.liquid_web_filters.specs.Escapes.{escape_of}
 use Rattle.liquid_web_filters.proofs.Escapes.{once_turn, once_end, some_of}
 use Rattle.liquid_web_filters.proofs.stdlib.filters.html.escape.escaped_once.Goals as goal
