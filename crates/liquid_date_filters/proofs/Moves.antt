@@ -1,5 +1,5 @@
 -- The clock at an instant is the clock that jiff shows.
-use Rattle.std.proofs.Common.{◌≡◌, inl, inr, refl, sym, ap, ◌∙◌, ℕ, zero, suc, ◌+◌, ◌-◌, ◌/◌, ◌%◌, ◌<◌, ◌≤◌, ℤ, pos, neg_ℤ, ◌+ℤ◌, ◌-ℤ◌, ◌<ℤ◌, ◌≤ℤ◌, int_le, unsigned_abs, Bool, true, false, rules, arith}
+use Rattle.std.proofs.Common.{◌≡◌, inl, inr, refl, sym, ap, ◌∙◌, ℕ, zero, suc, ◌+◌, ◌-◌, ◌/◌, ◌%◌, ◌<◌, ◌≤◌, ℤ, pos, neg_ℤ, ◌+ℤ◌, ◌-ℤ◌, ◌<ℤ◌, ◌≤ℤ◌, int_le, unsigned_abs, true, false, rules, arith}
 use Rattle.std.proofs.lemmas.Int.{by_lt_z, ints}
 use Rattle.std.specs.Int.{int_rem_euclid}
 use Rattle.jiff_core.specs.declared.civil.date.Date.{Date}
@@ -10,7 +10,8 @@ use Rattle.jiff_core.specs.Date.{epoch_day}
 use Rattle.jiff_core.specs.DateTime.{civil_nanos}
 use Rattle.jiff_core.specs.Time.{time_nanos}
 use Rattle.jiff_core.specs.Timestamp.{nanos_of_seconds}
-use Rattle.std.proofs.Common.{◌&&◌, to_z, of_z, w8}
+use Rattle.std.proofs.Common.{to_z, of_z, w8}
+use Rattle.std.proofs.lemmas.Bool.{and_parts}
 use Rattle.liquid_date_filters.specs.Dates.{is_zone}
 use Rattle.jiff_core.proofs.SignedLemmas.{signed_arith, one_part, back_small}
 use Rattle.jiff_core.proofs.CalendarLemmas.{days_in_month_bounds}
@@ -39,10 +40,10 @@ later_month : (d : Date) (m : ℕ) → (1 ≤ m) × (m ≤ 12) → d.month < m �
 unfolding first
 later_month d m month h = epoch_day-lt d (first d.year d.year_in m month) (inr (refl, inl h))
 
-le_yes : (x y : ℤ) → x ≤ℤ y → int_le x y ≡ true
+pub le_yes : (x y : ℤ) → x ≤ℤ y → int_le x y ≡ true
 le_yes x y h = grind (arith, ints)
 
-le_no : (x y : ℤ) → y <ℤ x → int_le x y ≡ false
+pub le_no : (x y : ℤ) → y <ℤ x → int_le x y ≡ false
 le_no x y h = grind (arith, ints)
 
 begun : (d : Date) → days_from_civil d.year 1 1 ≤ℤ epoch_day d
@@ -108,10 +109,6 @@ moved_is z w o seconds at zone same =
     w.shows ∙ ap (λ t. t.nanosecond +ℤ nanos_of_seconds w.offset.seconds) at ∙ ap (λ s. z.timestamp.nanosecond +ℤ nanos_of_seconds s) offset ∙ ap (λ n. n +ℤ nanos_of_seconds seconds) (sym (instant_is z)) in
     ap (λ s. clock_of w.datetime s) offset ∙ sym (after_is w.datetime seconds) ∙ ap (λ n. clock_after n seconds) nanos
 
-both : (a b : Bool) → (a && b) ≡ true → (a ≡ true) × (b ≡ true)
-both true b e = (refl, e)
-both false b e = search (rules, e)
-
 bounded : (h : ℤ) → (int_le (neg_ℤ (pos 23)) h ≡ true) × (int_le h (pos 23) ≡ true) → unsigned_abs h < 128
 bounded h e =
     let low : neg_ℤ (pos 23) ≤ℤ h = grind (arith, ints) in
@@ -120,4 +117,4 @@ bounded h e =
 
 -- the hours of a zone fit a small number
 pub small_hours : (h : ℤ) → is_zone h ≡ true → to_z w8 (of_z w8 h) ≡ h
-small_hours h zone = back_small w8 h (bounded h (both _ _ zone))
+small_hours h zone = back_small w8 h (bounded h (and_parts _ _ zone))

@@ -1,5 +1,5 @@
 -- A week date of a day has the year and the week that the definition gives.
-use Rattle.std.proofs.Common.{◌≡◌, ℕ, ◌+◌, ◌-◌, ◌*◌, ◌/◌, unsigned_abs, ◌<◌, ◌≤◌, refl, arith, rules, ℤ, pos, neg_ℤ, ◌+ℤ◌, ◌-ℤ◌, ◌<ℤ◌, ◌≤ℤ◌, int_le, int_lt, true, false}
+use Rattle.std.proofs.Common.{◌≡◌, ℕ, ◌+◌, ◌-◌, ◌*◌, ◌/◌, unsigned_abs, ◌<◌, ◌≤◌, refl, arith, rules, ℤ, pos, neg_ℤ, ◌+ℤ◌, ◌-ℤ◌, ◌<ℤ◌, ◌≤ℤ◌, int_lt, true, false}
 use Rattle.std.proofs.lemmas.Int.{by_lt_z, ints}
 use Rattle.jiff_core.specs.Calendar.{iso_year_start, IsBetween, IsYear}
 use Rattle.jiff_core.specs.declared.civil.date.Date.{Date}
@@ -14,6 +14,7 @@ use Rattle.jiff_core.proofs.SignedLemmas.{signed_arith, one_part}
 use Rattle.jiff_core.proofs.CalendarLemmas.{days_from_civil-day_count, day_count-lt_year, day_count-last_of_year, days_in_year_bounds}
 use Rattle.jiff_core.proofs.IsoWeekLemmas.{weeks_in_year-next, iso_year_start_near, in_year_before, in_year_after, in_year_last}
 use Rattle.liquid_date_filters.specs.Clock.{week_year_of, week_of}
+use Rattle.liquid_date_filters.proofs.Moves.{le_yes, le_no}
 
 monday_zero_bound : (w : Weekday) → monday_zero w < 7
 monday_zero_bound Monday = search arith
@@ -91,12 +92,6 @@ lt_yes x y h = grind (arith, ints)
 
 lt_no : (x y : ℤ) → y ≤ℤ x → int_lt x y ≡ false
 lt_no x y h = grind (arith, ints)
-
-le_yes : (x y : ℤ) → x ≤ℤ y → int_le x y ≡ true
-le_yes x y h = grind (arith, ints)
-
-le_no : (x y : ℤ) → y <ℤ x → int_le x y ≡ false
-le_no x y h = grind (arith, ints)
 
 -- the year of a week date is the definition's
 pub year_is : (d : Date) (i : ISOWeekDate) → iso_epoch_day i ≡ epoch_day d → i.year ≡ week_year_of d.year (epoch_day d)

@@ -9,7 +9,7 @@ use Rattle.liquid_filters.specs.RunKinds.{is_run_kind, EndsAsRun}
 pub record Ended {A : Type 0} (x : Result A ErrorKind) : Type 0 where
   pub ended : EndsAsRun x
 
-abbrev kind_in : {A : Type 0} → Result A ErrorKind → ErrorKind
+abbrev pub kind_in : {A : Type 0} → Result A ErrorKind → ErrorKind
 kind_in (Ok a) = UnknownVariable
 kind_in (Err kind) = kind
 

@@ -1,8 +1,9 @@
 -- What putting a file leaves of a disk, and what no file that is written leaves.
-use Rattle.std.specs.Prelude.{◌≡◌, ℕ, [], ◌∷◌, ◌++◌, ◌||◌, not, Bool, true, false, cond, bytes_eq, Option, Some, None, Result, Ok, Err, IfOk, OnOk, IfSome, ⊤, MatchBool, option_map, string_bytes}
+use Rattle.std.specs.Prelude.{◌≡◌, ℕ, [], ◌∷◌, ◌++◌, not, Bool, true, false, cond, bytes_eq, Option, Some, None, Result, Ok, Err, IfOk, OnOk, IfSome, ⊤, MatchBool, option_map, string_bytes}
 use Rattle.std.proofs.Common.{append_assoc}
 use Rattle.std.proofs.lemmas.Slice.Eq.{bytes_eq-Decides}
 use mathlib.Core.Path.{refl, sym, ap, subst, fun_ext, ◌∙◌}
+use Rattle.std.proofs.lemmas.Bool.{or_parts}
 use Rattle.liquid_model.specs.ErrorKinds.{is_memory}
 use Rattle.liquid_model.specs.Errors.{HasMessageUnlessMemory}
 use Rattle.liquid_model.specs.Texts.{Text}
@@ -91,17 +92,13 @@ abbrev pub Progress : Text → Pages → Pages → ℕ → Files → Option File
 Progress out all left n old None = ⊥
 Progress out all left n old (Some new) = IsOn out all left n old new
 
-neither : (a b : Bool) → (a || b) ≡ false → (a ≡ false) × (b ≡ false)
-neither true b h = absurd cc
-neither false b h = (refl, h)
-
 elsewhere : (f : Files) (path q : Text) (file : File) → bytes_eq path q ≡ false → with_file f path file q ≡ f q
 unfolding with_file
 elsewhere f path q file h = ap (λ b. cond b file (f q)) h
 
 -- a page's file alone changes
 others_kept : (out : Text) (all rest : Pages) (p : Text × Shown) (n : ℕ) (old g : Files) (file : File) → IsOn out all (p ∷ rest) n old g → (q : Text) → is_page_path out all q ≡ false → with_file g (out ++ p.0) file q ≡ old q
-others_kept out all rest p n old g file on q h = elsewhere g (out ++ p.0) q file (neither (bytes_eq (out ++ p.0) q) (is_page_path out rest q) (on.later q h)).0 ∙ on.others q h
+others_kept out all rest p n old g file on q h = elsewhere g (out ++ p.0) q file (or_parts (bytes_eq (out ++ p.0) q) (is_page_path out rest q) (on.later q h)).0 ∙ on.others q h
 
 written_last : (out : Text) (ps : Pages) (p : Text × Shown) (old : Files) → all_written out (ps ++ p ∷ []) old ≡ with_file (all_written out ps old) (out ++ p.0) (holds p.1.text)
 written_last out [] p old = refl
@@ -115,7 +112,7 @@ step out all rest p n m old g on count = record {
   done = on.done ++ p ∷ [];
   split = on.split ∙ sym (append_assoc on.done (p ∷ []) rest);
   so_far = (λ i. with_file (on.so_far i) (out ++ p.0) (holds p.1.text)) ∙ sym (written_last out on.done p old);
-  later = λ q h. (neither (bytes_eq (out ++ p.0) q) (is_page_path out rest q) (on.later q h)).1;
+  later = λ q h. (or_parts (bytes_eq (out ++ p.0) q) (is_page_path out rest q) (on.later q h)).1;
   others = others_kept out all rest p n old g (holds p.1.text) on;
 }
 

@@ -24,15 +24,12 @@ use Rattle.liquid_sites.specs.declared.change.Change.TheVariants.{SetValue}
 use Rattle.liquid_sites.specs.declared.site.Site.{Site}
 use Rattle.liquid_folders.specs.inside.Facts.{texts, all_removed}
 use Rattle.liquid_folders.proofs.Gone.{names_removed}
+use Rattle.liquid_lib.proofs.Joined.{memory_of}
 
 -- ---- what an answer of a change of a value says
 
-memory_is : (kind : ErrorKind) → is_memory kind ≡ true → kind ≡ Memory
-memory_is Memory h = refl
-memory_is kind h = absurd cc
-
 no_source : (kind : ErrorKind) (P : Type 0) (b : Bool) → is_memory kind ≡ b → MatchBool b ⊤ (⊥ × P) → kind ≡ Memory
-no_source kind P true h why = memory_is kind h
+no_source kind P true h why = memory_of kind h
 no_source kind P false h why = absurd why.0
 
 pub setting : (r : Result (Unit {0}) Error) (name : String _) (value : Value) (old new : Site) → Applies (SetValue name value) r old new

@@ -20,6 +20,7 @@ use Rattle.liquid_list_filters.proofs.Keys.{keys_order}
 use Rattle.liquid_list_filters.proofs.Ones.{followed_one}
 use Rattle.liquid_list_filters.proofs.Sorts.{sorted_twice, all_sorted}
 use Rattle.liquid_list_filters.proofs.SortsByKey.{sort_one}
+use Rattle.liquid_list_filters.proofs.EachLaw.{list_of_items}
 use Rattle.liquid_jekyll_filters.specs.Ends.{without_last}
 use Rattle.liquid_jekyll_filters.specs.Laws.{Reads, LosesLast, LosesFirst, GoesOn, IsSentence, SortsItems, mode_given, PushIsOne, UnshiftIsOne, PopIsOne, ShiftIsOne, PopUndoesPush, ShiftUndoesUnshift, SentenceIsOne, SortIsOne, SortTwiceIsOnce, SlugifyIsOne}
 use Rattle.liquid_jekyll_filters.specs.Runs.{IsSlugOf}
@@ -39,22 +40,19 @@ answer d = Ok d
 lists_one : (R : List Datum → Type 0) (ds : List Datum) → IsTheOne R ds → IsTheOne (Lists R) (answer (list ds))
 lists_one R ds h = image_one R (λ l. answer (list l)) ds h
 
-refused : (a : Answer) → IsTheOne (λ b. b ≡ a) a
-refused a = same_one a
-
 -- what is read, and then done with it
 read_one : {X : Type 0} (r : Result X ErrorKind) (R : X → Answer → Type 0) (f : X → Answer) → ((x : X) → IsTheOne (R x) (f x)) → IsTheOne (Reads r R) (r >>= f)
 read_one (Ok x) R f h = h x
-read_one (Err kind) R f h = refused (Err kind)
+read_one (Err kind) R f h = same_one (Err kind)
 
 -- ---- ends
 pub push_is_one : PushIsOne
 push_is_one (array ds) x args = lists_one _ _ (followed_one (list_of ds) (x ∷ []))
-push_is_one d x args = refused (Err InvalidInput)
+push_is_one d x args = same_one (Err InvalidInput)
 
 pub unshift_is_one : UnshiftIsOne
 unshift_is_one (array ds) x args = lists_one _ _ (followed_one (x ∷ []) (list_of ds))
-unshift_is_one d x args = refused (Err InvalidInput)
+unshift_is_one d x args = same_one (Err InvalidInput)
 
 last_of : (d : Datum) (ds : List Datum) → (x : Datum) × (d ∷ ds ≡ take (length ds) (d ∷ ds) ++ x ∷ [])
 last_of d [] = (d, refl)
@@ -72,7 +70,7 @@ last_unique ds out (inr h) = h.1 ∙ sym (ap without_last h.0)
 
 pub pop_is_one : PopIsOne
 pop_is_one (array ds) args = lists_one _ _ (one (LosesLast (list_of ds)) (without_last (list_of ds)) (loses_last (list_of ds)) (last_unique (list_of ds)))
-pop_is_one d args = refused (Err InvalidInput)
+pop_is_one d args = same_one (Err InvalidInput)
 
 loses_first : (ds : List Datum) → LosesFirst ds (drop 1 ds)
 loses_first [] = inr (refl, refl)
@@ -84,13 +82,9 @@ first_unique ds out (inr h) = h.1 ∙ sym (ap (drop 1) h.0)
 
 pub shift_is_one : ShiftIsOne
 shift_is_one (array ds) args = lists_one _ _ (one (LosesFirst (list_of ds)) (drop 1 (list_of ds)) (loses_first (list_of ds)) (first_unique (list_of ds)))
-shift_is_one d args = refused (Err InvalidInput)
+shift_is_one d args = same_one (Err InvalidInput)
 
 -- ---- back again
-list_of_items : (ds : List Datum) → list_of (items_of ds) ≡ ds
-list_of_items [] = refl
-list_of_items (d ∷ ds) = ap (λ l. d ∷ l) (list_of_items ds)
-
 items_of_list : (ds : Items) → items_of (list_of ds) ≡ ds
 items_of_list no_items = refl
 items_of_list (item d ds) = ap (λ l. item d l) (items_of_list ds)
@@ -143,7 +137,7 @@ sentence_one connector (t ∷ ts) =
 
 pub sentence_is_one : SentenceIsOne
 sentence_is_one (array ds) args = image_one (IsSentence (text_or (codes "and") args) (map text_of (list_of ds))) (λ s. Ok (text s)) _ (sentence_one _ _)
-sentence_is_one d args = refused (Err InvalidInput)
+sentence_is_one d args = same_one (Err InvalidInput)
 
 -- ---- sorts
 pub items_sort : (ds args : List Datum) → IsTheOne (SortsItems ds args) (sort_items ds args)
@@ -151,10 +145,10 @@ items_sort ds [] = lists_one _ _ (sort_one (found_key First []) ds)
 items_sort ds (name ∷ args) =
     either_one (all_maps ds) _ _ _ _
     (read_one (nils_given (first_of args)) _ _ (λ nils. read_one (path_given (text_of name)) _ _ (λ p. lists_one _ _ (sort_one (found_key nils p) ds))))
-    (refused (Err InvalidInput))
+    (same_one (Err InvalidInput))
 
 pub sort_is_one : SortIsOne
-sort_is_one d args = either_one (length (sequence d) == 0) _ _ _ _ (refused (Err InvalidInput)) (items_sort (sequence d) args)
+sort_is_one d args = either_one (length (sequence d) == 0) _ _ _ _ (same_one (Err InvalidInput)) (items_sort (sequence d) args)
 
 placed_length : (lt : Datum → Datum → Bool) (x : Datum) (ys : List Datum) → length (insert_in_order lt x ys) ≡ suc (length ys)
 placed_length lt x [] = refl

@@ -2,6 +2,7 @@
 use Rattle.std.proofs.Common.{◌≡◌, ℕ, suc, ◌==◌, ◌&&◌, Bool, true, false, cond, not, List, [], ◌∷◌, ◌++◌, length, map, ap, refl, sym, subst, ◌∙◌, append-nil, arith}
 use Rattle.std.proofs.lemmas.Bool.Decides.{nat_tests}
 use Rattle.std.specs.List.{concat}
+use Rattle.std.proofs.Math.Bool.{and-false}
 use Rattle.liquid_model.specs.Answer.{IsTheOne}
 use Rattle.liquid_jekyll_filters.specs.Runs.{Part, kept, other, characters_of, shown_of, AreOther, EndsRun, AreParts, Hyphens, AreHyphens, StartsOther, EndsOther, CutsHyphens}
 use Rattle.liquid_jekyll_filters.specs.Slugs.{hyphened, inner, shown, without_first, without_last}
@@ -100,16 +101,12 @@ drop_hyphens (c ∷ cs) hs a = ap (λ t. cond ((c == 45) && length t == 0) [] (c
 not_zero : (n : ℕ) → (suc n == 0) ≡ false
 not_zero n = grind (arith, nat_tests)
 
-and_false : (t : Bool) → (t && false) ≡ false
-and_false true = refl
-and_false false = refl
-
 pub last_stays : (cs : List ℕ) → EndsOther cs → without_last cs ≡ cs
 last_stays [] p = refl
 last_stays (c ∷ []) p = ap (λ t. cond (t && true) [] (c ∷ [])) p
 last_stays (c ∷ (d ∷ cs)) p =
     ap (λ t. cond ((c == 45) && length t == 0) [] (c ∷ t)) (last_stays (d ∷ cs) p)
-    ∙ ap (λ t. cond ((c == 45) && t) [] (c ∷ (d ∷ cs))) (not_zero (length cs)) ∙ ap (λ t. cond t [] (c ∷ (d ∷ cs))) (and_false (c == 45))
+    ∙ ap (λ t. cond ((c == 45) && t) [] (c ∷ (d ∷ cs))) (not_zero (length cs)) ∙ ap (λ t. cond t [] (c ∷ (d ∷ cs))) (and-false (c == 45))
 
 abbrev Dropped : List ℕ → List ℕ → Type 0
 Dropped cs left = (after : List ℕ) × (cs ≡ left ++ after) × AreHyphens after × EndsOther left

@@ -6,11 +6,8 @@ use Rattle.liquid_model.specs.Lists.{list_of}
 use Rattle.liquid_model.specs.Texts.{Text}
 use Rattle.liquid_model.specs.View.{view, items_view}
 use Rattle.liquid_model.specs.declared.value.Value.{Value}
-use Rattle.liquid_model.proofs.Views.{list_of_view}
+use Rattle.liquid_model.proofs.Views.{items_length}
 use Rattle.liquid_jekyll_filters.specs.Sentence.{next_text, next_texts}
-
-pub counted : (vs : List Value) → length (list_of (items_view vs)) ≡ length vs
-counted vs = ap length (list_of_view vs) ∙ length-map vs view
 
 abbrev texts : List Value → List Text
 texts vs = map text_of (list_of (items_view vs))
@@ -21,6 +18,6 @@ pub turn : (connector : Text) (left after : List Value) (item : Value) (last : B
 turn connector left after item last old next all e l g h =
     let t = text_of (view item) in
     let rest = next_texts connector (texts after) in
-    let n : (length (texts after) == 0) ≡ last = ap (λ n. n == 0) (length-map (list_of (items_view after)) text_of ∙ counted after) ∙ sym l in
+    let n : (length (texts after) == 0) ≡ last = ap (λ n. n == 0) (length-map (list_of (items_view after)) text_of ∙ items_length after) ∙ sym l in
     h ∙ ap (λ vs. old ++ next_texts connector (texts vs)) e ∙ ap (λ b. old ++ (next_text connector b t ++ rest)) n
     ∙ sym (append_assoc old (next_text connector last t) rest) ∙ ap (λ s. s ++ rest) (sym g)

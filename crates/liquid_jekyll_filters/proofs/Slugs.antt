@@ -3,6 +3,7 @@ use Rattle.std.proofs.Common.{◌≡◌, ℕ, suc, ◌<◌, ◌==◌, ◌&&◌, 
 use Rattle.std.proofs.lemmas.Str.{chars_past_char, chars-encodes, chars-nil, encodes-append, encodes-chars, IsUtf8-past_char, scalars-chars}
 use Rattle.std.specs.Char.{encode_utf8, to_ascii_lowercase}
 use Rattle.std.specs.Str.{all_scalars, chars, encode_utf8_all, IsUtf8, trim}
+use Rattle.std.proofs.lemmas.Bool.{and_parts}
 use lib.Utf8.{scalar}
 use Rattle.liquid_list_filters.proofs.Ends.{chars_last}
 use Rattle.liquid_jekyll_filters.specs.Slugs.{hyphened, inner, keeps, shown, slug, without_first, without_last}
@@ -73,14 +74,10 @@ shown_scalars true after c cs h k = ap (λ b. b && all_scalars cs) h ∙ k
 shown_scalars false true c cs h k = k
 shown_scalars false false c cs h k = k
 
-both : (a b : Bool) → (a && b) ≡ true → (a ≡ true) × (b ≡ true)
-both true b h = (refl, h)
-both false b h = let u : ⊥ = cc in absurd u
-
 hyphened_scalars : (keeps : ℕ → Bool) (after : Bool) (cs : List ℕ) → all_scalars cs ≡ true → all_scalars (hyphened keeps after cs) ≡ true
 hyphened_scalars keeps after [] h = refl
 hyphened_scalars keeps after (c ∷ cs) h =
-    let p = both (scalar c) (all_scalars cs) h in
+    let p = and_parts (scalar c) (all_scalars cs) h in
     shown_scalars (keeps c) after c (hyphened keeps (not (keeps c)) cs) p.0 (hyphened_scalars keeps (not (keeps c)) cs p.1)
 
 pub slug_is : (mode : Mode) (s trimmed all cut out : List ℕ) → IsUtf8 trimmed → trimmed ≡ trim s → all ≡ encode_utf8_all (hyphened (keeps mode) false (chars trimmed))

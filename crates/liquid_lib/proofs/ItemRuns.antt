@@ -1,5 +1,5 @@
 -- A run for each item, on its way: what is left of it does from here what the whole did from the start.
-use Rattle.std.proofs.Common.{◌≡◌, ℕ, ◌+◌, ◌<◌, ◌≤◌, true, false, cond, List, length, get_or, Option, Result, Ok, Err, sym, ap, subst, ◌∙◌, arith}
+use Rattle.std.proofs.Common.{◌≡◌, ℕ, ◌+◌, ◌<◌, ◌≤◌, true, false, cond, List, length, get_or, Option, Ok, Err, sym, ap, subst, ◌∙◌, arith}
 use Rattle.std.specs.Prelude.{drop}
 use Rattle.std.proofs.lemmas.List.{drop_all, drop_more}
 use Rattle.liquid_model.specs.Data.{Datum, nil}
@@ -11,10 +11,7 @@ use Rattle.liquid_meaning.specs.Runs.{Nothing, Run, done, ◌>>=◌}
 use Rattle.liquid_meaning.proofs.Rules.{until_none, until_more}
 use Rattle.liquid_lib.specs.Performs.{Configuration, Meets, Performs, unit}
 use Rattle.liquid_lib.proofs.Joined.{by_rule, bind_met, bind_faulted, done_met}
-
--- what n does from here, m does from the start
-abbrev pub Leads : Run Nothing → Run Nothing → Configuration → Configuration → Type 0
-Leads m n start here = (r : Result (Unit {0}) Error) (after : Configuration) → Performs r n here after → Performs r m start after
+use Rattle.liquid_lib.proofs.Turning.{Leads}
 
 abbrev left_as : Option Interrupt → Option Interrupt
 left_as i = i

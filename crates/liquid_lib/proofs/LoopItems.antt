@@ -2,6 +2,7 @@
 use Rattle.std.proofs.Common.{◌≡◌, ℕ, zero, suc, ◌+◌, ◌-◌, ◌<◌, Bool, List, [], ◌∷◌, length, get_or, slice_get, Option, Some, Result, Ok, Err, IsOk, refl, sym, ap, subst, ◌∙◌, arith, codes}
 use Rattle.std.specs.Prelude.{ℤ}
 use mathlib.Core.Path.{fun_ext}
+use Rattle.std.proofs.lemmas.Option.{same_Some}
 use Rattle.liquid_model.specs.Answer.{Faulted}
 use Rattle.liquid_model.specs.Data.{Datum, nil}
 use Rattle.liquid_model.specs.Fallible.{◌>>=◌}
@@ -29,13 +30,10 @@ use Rattle.liquid_meaning.specs.Loops.{columns_of}
 
 -- ---- lists by place
 
-from_some : (x y : Datum) → Some x ≡ Some y → x ≡ y
-from_some x y h = cc
-
 pub listed_from : (xs : List Datum) (item : ℕ → Datum) (k : ℕ) → ((i : ℕ) → i < length xs → slice_get xs i ≡ Some (item (k + i))) → xs ≡ each_from item k (length xs)
 listed_from [] item k h = refl
 listed_from (x ∷ xs) item k h =
-    let head : x ≡ item k = from_some x (item k) (h 0 (omega arith) ∙ ap (λ n. Some (item n)) (let e : k + 0 ≡ k = omega arith in e)) in
+    let head : x ≡ item k = same_Some x (item k) (h 0 (omega arith) ∙ ap (λ n. Some (item n)) (let e : k + 0 ≡ k = omega arith in e)) in
     let tail : xs ≡ each_from item (suc k) (length xs) = listed_from xs item (suc k) (λ i lt. h (suc i) (omega arith) ∙ ap (λ n. Some (item n)) (let e : k + suc i ≡ suc k + i = omega arith in e)) in
     λ i. head i ∷ tail i
 

@@ -23,15 +23,11 @@ use Rattle.liquid_lib.specs.Performs.{Configuration, Performs}
 use Rattle.liquid_lib.specs.Rendered.{is_rendering_kind}
 use Rattle.liquid_lib.proofs.Joined.{memory_of}
 use Rattle.liquid_core.specs.Environment.{Environment}
-
-kind_in : {A : Type 0} → Result A ErrorKind → ErrorKind
-kind_in (Ok a) = Unsupported
-kind_in (Err kind) = kind
+use Rattle.liquid_filters.proofs.Ended.{kind_in}
 
 -- ---- what filters of a host answer
 
 known : {A : Type 0} (told : ErrorKind) → T (nat_le (number_of told) 17) → EndsWithHost {A = A} (Err told)
-unfolding kind_in
 known told within kind is = subst (λ k. T (nat_le (number_of k) 17)) (ap kind_in is) within
 
 replaced : (kind : ErrorKind) → T (nat_le (number_of (as_of_run kind)) 17)

@@ -4,15 +4,13 @@ use Rattle.liquid_model.specs.Data.{nil, truth, number, text_of, items_text, pai
 use Rattle.liquid_model.specs.View.{view, items_view, pairs_view}
 use Rattle.liquid_model.specs.declared.value.Value.{Value, Nil, Bool as Truth, Integer, Text, Array, Object, the_lemmas}
 use Rattle.liquid_model.proofs.Views.{view-Text, view-Array, view-Object}
+use Rattle.liquid_lib.proofs.Counting.{view-Integer}
 
 view-Nil : view Nil ≡ nil
 view-Nil = search (rules, the_lemmas)
 
 view-Bool : (b : Bool) → view (Truth b) ≡ truth b
 view-Bool b = search (rules, the_lemmas)
-
-view-Integer : (n : ℤ) → view (Integer n) ≡ number n
-view-Integer n = search (rules, the_lemmas)
 
 pub nil_text : (value : Value) → value ≡ Nil → [] ≡ text_of (view value)
 nil_text value is = sym (ap (λ v. text_of (view v)) is ∙ ap text_of view-Nil)

@@ -28,23 +28,20 @@ use Rattle.liquid_list_filters.proofs.SortsByKey.{sort_one}
 lists_one : (R : List Datum → Type 0) (ds : List Datum) → IsTheOne R ds → IsTheOne (Lists R) (Ok (list ds))
 lists_one R ds h = image_one R (λ l. Ok (list l)) ds h
 
-refused : (a : Answer) → IsTheOne (λ b. b ≡ a) a
-refused a = same_one a
-
 pub join_is_one : JoinIsOne
 join_is_one (array ds) args = image_one (IsJoined (text_or (codes " ") args) (map text_of (list_of ds))) (λ s. Ok (text s)) _ (joined_one _ _)
-join_is_one d args = refused (Err InvalidInput)
+join_is_one d args = same_one (Err InvalidInput)
 
 pub sort_is_one : SortIsOne
 sort_is_one d [] = lists_one _ _ (sort_one (key_of None) (sequence d))
-sort_is_one d (name ∷ args) = either_one (all_maps (sequence d)) _ _ _ _ (lists_one _ _ (sort_one (key_of (Some (text_of name))) (sequence d))) (refused (Err InvalidInput))
+sort_is_one d (name ∷ args) = either_one (all_maps (sequence d)) _ _ _ _ (lists_one _ _ (sort_one (key_of (Some (text_of name))) (sequence d))) (same_one (Err InvalidInput))
 
 pub sort_natural_is_one : SortNaturalIsOne
 sort_natural_is_one d [] = lists_one _ _ (sort_one (natural_key_of None) (sequence d))
-sort_natural_is_one d (name ∷ args) = either_one (all_maps (sequence d)) _ _ _ _ (lists_one _ _ (sort_one (natural_key_of (Some (text_of name))) (sequence d))) (refused (Err InvalidInput))
+sort_natural_is_one d (name ∷ args) = either_one (all_maps (sequence d)) _ _ _ _ (lists_one _ _ (sort_one (natural_key_of (Some (text_of name))) (sequence d))) (same_one (Err InvalidInput))
 
 -- ---- a second sort
-list_of_items : (ds : List Datum) → list_of (items_of ds) ≡ ds
+pub list_of_items : (ds : List Datum) → list_of (items_of ds) ≡ ds
 list_of_items [] = refl
 list_of_items (d ∷ ds) = ap (λ l. d ∷ l) (list_of_items ds)
 
@@ -100,31 +97,31 @@ wanted_one name target ds = keeps_one (Has name (Wants target)) (λ d. is_wanted
 
 pub compact_is_one : CompactIsOne
 compact_is_one (array ds) [] = lists_one _ _ (keeps_one (λ e. e ≢ nil) (λ e. not (is_nil e)) not_nil (list_of ds))
-compact_is_one (array ds) (name ∷ args) = either_one (all_maps (list_of ds)) _ _ _ _ (lists_one _ _ (given_one (text_of name) (list_of ds))) (refused (Err InvalidInput))
-compact_is_one d [] = refused (Err InvalidInput)
-compact_is_one d (name ∷ args) = refused (Err InvalidInput)
+compact_is_one (array ds) (name ∷ args) = either_one (all_maps (list_of ds)) _ _ _ _ (lists_one _ _ (given_one (text_of name) (list_of ds))) (same_one (Err InvalidInput))
+compact_is_one d [] = same_one (Err InvalidInput)
+compact_is_one d (name ∷ args) = same_one (Err InvalidInput)
 
 pub where_is_one : WhereIsOne
-where_is_one (array ds) name args = either_one (all_maps (list_of ds)) _ _ _ _ (lists_one _ _ (wanted_one (text_of name) (first_of args) (list_of ds))) (refused (Ok nil))
+where_is_one (array ds) name args = either_one (all_maps (list_of ds)) _ _ _ _ (lists_one _ _ (wanted_one (text_of name) (first_of args) (list_of ds))) (same_one (Ok nil))
 where_is_one (object ps) name args = lists_one _ _ (wanted_one (text_of name) (first_of args) (object ps ∷ []))
-where_is_one d name args = refused (Err InvalidInput)
+where_is_one d name args = same_one (Err InvalidInput)
 
 pub map_is_one : MapIsOne
 map_is_one (array ds) name args = lists_one _ _ (values_one (property (text_of name)) (list_of ds))
-map_is_one d name args = refused (Err InvalidInput)
+map_is_one d name args = same_one (Err InvalidInput)
 
 pub uniq_is_one : UniqIsOne
 uniq_is_one (array ds) args = lists_one _ _ (firsts_one (list_of ds))
-uniq_is_one d args = refused (Err InvalidInput)
+uniq_is_one d args = same_one (Err InvalidInput)
 
 pub reverse_is_one : ReverseIsOne
 reverse_is_one (array ds) args = lists_one _ _ (reversed_one (list_of ds))
-reverse_is_one d args = refused (Err InvalidInput)
+reverse_is_one d args = same_one (Err InvalidInput)
 
 pub concat_is_one : ConcatIsOne
 concat_is_one (array ds) (array es) args = lists_one _ _ (followed_one (list_of ds) (list_of es))
-concat_is_one (array ds) e args = refused (Err InvalidArgument)
-concat_is_one d e args = refused (Err InvalidInput)
+concat_is_one (array ds) e args = same_one (Err InvalidArgument)
+concat_is_one d e args = same_one (Err InvalidInput)
 
 -- ---- ends
 placed : (ds : Items) (n : ℕ) → item_at n ds ≡ slice_get (list_of ds) n
@@ -152,13 +149,13 @@ abbrev of_character : Option ℕ → Answer
 of_character o = Ok (text (character o))
 
 pub first_is_one : FirstIsOne
-first_is_one nil args = refused (Err InvalidInput)
-first_is_one (object ps) args = refused (Err InvalidInput)
+first_is_one nil args = same_one (Err InvalidInput)
+first_is_one (object ps) args = same_one (Err InvalidInput)
 first_is_one (array ds) args = image_one (StartsWith (list_of ds)) (λ o. answer (or_nil o)) (item_at 0 ds) (first_of_list ds)
 first_is_one d args = image_one (StartsWith (chars (text_of d))) of_character _ (starts_one (chars (text_of d)))
 
 pub last_is_one : LastIsOne
-last_is_one nil args = refused (Err InvalidInput)
-last_is_one (object ps) args = refused (Err InvalidInput)
+last_is_one nil args = same_one (Err InvalidInput)
+last_is_one (object ps) args = same_one (Err InvalidInput)
 last_is_one (array ds) args = image_one (EndsWith (list_of ds)) (λ o. answer (or_nil o)) (item_back 1 ds) (last_of_list ds)
 last_is_one d args = image_one (EndsWith (chars (text_of d))) of_character _ (ends_one (chars (text_of d)))

@@ -1,15 +1,11 @@
 -- A list turned round, told by places.
-use Rattle.std.proofs.Common.{◌≡◌, ℕ, zero, suc, ◌-◌, ◌<◌, List, [], ◌∷◌, length, slice_get, get_or, reverse, Some, ap, refl, sym, ◌∙◌, arith}
+use Rattle.std.proofs.Common.{◌≡◌, ℕ, suc, ◌-◌, ◌<◌, List, [], ◌∷◌, length, slice_get, reverse, Some, ap, refl, sym, ◌∙◌, arith}
 use Rattle.std.proofs.lemmas.List.{get_or-reverse, length-reverse}
+use Rattle.std.proofs.lemmas.Option.{slice_get-get_or}
 use Rattle.liquid_model.specs.Answer.{IsTheOne}
 use Rattle.liquid_model.specs.Data.{Datum}
 use Rattle.liquid_filter_base.proofs.Ones.{one}
 use Rattle.liquid_list_filters.specs.Places.{IsReversed}
-
-got : {X : Type 0} (xs : List X) (i : ℕ) (d : X) → i < length xs → slice_get xs i ≡ Some (get_or xs i d)
-got [] i d h = absurd (omega arith)
-got (x ∷ xs) zero d h = refl
-got (x ∷ xs) (suc i) d h = got xs i d (omega arith)
 
 same_places : {X : Type 0} (xs ys : List X) → length xs ≡ length ys → ((i : ℕ) → i < length ys → slice_get xs i ≡ slice_get ys i) → xs ≡ ys
 same_places [] [] n h = refl
@@ -23,9 +19,9 @@ same_places (x ∷ xs) (y ∷ ys) n h =
 turned : (ds : List Datum) (i : ℕ) → i < length ds → slice_get (reverse ds) i ≡ slice_get ds (length ds - 1 - i)
 turned [] i h = absurd (omega arith)
 turned (d ∷ ds) i h =
-    got (reverse (d ∷ ds)) i d (omega (arith, length-reverse (d ∷ ds)))
+    slice_get-get_or (reverse (d ∷ ds)) i d (omega (arith, length-reverse (d ∷ ds)))
     ∙ ap Some (get_or-reverse (d ∷ ds) i d h)
-    ∙ sym (got (d ∷ ds) (length (d ∷ ds) - 1 - i) d (omega arith))
+    ∙ sym (slice_get-get_or (d ∷ ds) (length (d ∷ ds) - 1 - i) d (omega arith))
 
 pub reversed_one : (ds : List Datum) → IsTheOne (IsReversed ds) (reverse ds)
 reversed_one ds = one (IsReversed ds) (reverse ds) (length-reverse ds, turned ds)

@@ -6,6 +6,7 @@ use Rattle.liquid_model.specs.Data.{Datum}
 use Rattle.liquid_model.specs.Maps.{Map, insert, merged}
 use Rattle.liquid_model.specs.declared.error.ErrorKind.{ErrorKind}
 use Rattle.liquid_model.specs.declared.error.ErrorKind.TheVariants.{ZeroColumns}
+use Rattle.liquid_model.proofs.Maps.{same_key}
 use Rattle.liquid_core.specs.Environment.{Environment}
 use Rattle.liquid_core.specs.declared.interrupt.Interrupt.{Interrupt}
 use Rattle.liquid_tree.specs.Tree.{Node, Nodes}
@@ -14,7 +15,6 @@ use Rattle.liquid_meaning.specs.Effects.{assigned_to, is_break, if_none, unless_
 use Rattle.liquid_meaning.specs.Loops.{until_break, for_all, needs_columns, loop, rows, columns_of}
 use Rattle.liquid_meaning.specs.Meaning.{Setting, node_meaning, nodes_meaning, deeper_meaning, meaning}
 use Rattle.liquid_meaning.specs.Assigning.{RanAmong, RanIn, RanAtItem, RanInCell, at_first, behind, the_assign, in_if, in_unless, in_capture, in_ifchanged, in_for, in_tablerow, at_item, at_later, in_cell, in_later, turn, cell, for_scope, row_scope, AssignedAnywhere}
-use Rattle.liquid_meaning.proofs.Maps.{same_text_itself}
 use Rattle.liquid_meaning.proofs.Stays.{Stays, stays_bind, stays_done, stays_cond, stays_with_scope, stays_until_break, stays_take_interrupt, stays_unless, stays_read, stays_change, stays_write, stays_assign, stays_for_all, nodes_stay, deeper_stays}
 
 -- under the name something stands after m
@@ -55,7 +55,7 @@ module _ (name : Text) where
 
   held_assign : (d : Datum) (e : Environment) → Held name (change (assigned_to name d)) e
   unfolding change insert
-  held_assign d e = subst (λ b. IsSome (cond b (Some d) (e.assigned name))) (sym (same_text_itself name)) refl
+  held_assign d e = subst (λ b. IsSome (cond b (Some d) (e.assigned name))) (sym (same_key name)) refl
 
   held_scope : {A : Type 0} (scope : Map Datum) (m : Run A) (e : Environment) → Held name m (record e { local = merged scope e.local }) → Held name (with_scope scope m) e
   unfolding with_scope

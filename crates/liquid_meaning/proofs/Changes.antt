@@ -1,11 +1,10 @@
 -- The changes of a run over an environment are those over its cut.
 use Rattle.std.specs.Prelude.{◌≡◌, Bool, true, false, cond, not, T, Option, Some, None}
 use mathlib.Core.Path.{refl, sym, fun_ext, ap, ◌∙◌}
-use Rattle.liquid_model.specs.OrderLaws.{same_Decides}
 use Rattle.liquid_model.specs.Maps.{Map, retain_keys}
 use Rattle.liquid_model.specs.Texts.{Text}
 use Rattle.liquid_model.specs.Data.{Datum}
-use Rattle.liquid_model.specs.Order.{same}
+use Rattle.liquid_model.proofs.Lawful.{same_itself}
 use Rattle.liquid_core.specs.Environment.{Names, Environment, cut, cut_map}
 use Rattle.liquid_meaning.specs.Runs.{Run}
 use Rattle.liquid_meaning.specs.Meaning.{meaning}
@@ -13,9 +12,6 @@ use Rattle.liquid_meaning.specs.Isolation.{HoldsOutside, is_new, changed_pairs, 
 use Rattle.liquid_meaning.proofs.Maps.{AgreeAt, agree_cut}
 use Rattle.liquid_meaning.proofs.Runs.{Isolated}
 use Rattle.liquid_meaning.proofs.Law.{run_isolated, agree_on_cut, agree_on, same_cuts}
-
-pub same_itself : (d : Datum) → same d d ≡ true
-same_itself d = (same_Decides d d).1 refl
 
 unchanged : (o : Option Datum) → is_new o o ≡ false
 unchanged None = refl

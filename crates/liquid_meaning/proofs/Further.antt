@@ -7,6 +7,7 @@ use Rattle.liquid_model.specs.Data.{Datum}
 use Rattle.liquid_model.specs.declared.error.ErrorKind.{ErrorKind}
 use Rattle.liquid_core.specs.declared.interrupt.Interrupt.{Interrupt}
 use Rattle.liquid_model.specs.Maps.{Map, insert, merged}
+use Rattle.liquid_model.proofs.Maps.{same_key}
 use Rattle.liquid_core.specs.Environment.{Environment}
 use Rattle.liquid_tree.specs.Tree.{Chain, Source, Window, Nodes, node, assign, plain, for_each}
 use Rattle.liquid_tree.specs.Evaluation.{source_items, asked_for}
@@ -15,7 +16,6 @@ use Rattle.liquid_meaning.specs.Effects.{assigned_to}
 use Rattle.liquid_meaning.specs.Loops.{until_break, loop}
 use Rattle.liquid_meaning.specs.Meaning.{Setting, node_meaning, nodes_meaning, deeper_meaning, meaning}
 use Rattle.liquid_meaning.specs.Laws.{TextIsItself, AssignedStay, AssignedInLoop, ForloopCountsItems}
-use Rattle.liquid_meaning.proofs.Maps.{same_text_itself}
 use Rattle.liquid_meaning.proofs.Steps.{alone}
 use Rattle.liquid_meaning.proofs.Stays.{Stays, Assigns, stays_bind, stays_done, stays_cond, stays_with_scope, stays_until_break, stays_take_interrupt, stays_unless, nodes_stay, deeper_stays}
 
@@ -72,7 +72,7 @@ module _ {name : Text} where
 
   assigns_change : (d : Datum) → Assigns name (change (assigned_to name d))
   unfolding change insert
-  assigns_change d = record { assigns = λ e a h. subst (λ b. IsSome (cond b (Some d) (e.assigned name))) (sym (same_text_itself name)) refl }
+  assigns_change d = record { assigns = λ e a h. subst (λ b. IsSome (cond b (Some d) (e.assigned name))) (sym (same_key name)) refl }
 
   -- the first of some items
   assigns_until_break : (one : ℕ → Datum → Run (Option Interrupt)) → ((k : ℕ) (d : Datum) → Assigns name (one k d)) → ((k : ℕ) (d : Datum) → Stays name (one k d))

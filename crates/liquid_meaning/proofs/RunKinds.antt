@@ -24,6 +24,7 @@ use Rattle.std.proofs.Common.{arith}
 use Rattle.std.proofs.Math.Facts.{leb_yes, yes_leb}
 use Rattle.liquid_filters.specs.RunKinds.{is_run_kind, EndsAsRun}
 use Rattle.liquid_filters.proofs.AnswerKinds.{kinds_of_answers}
+use Rattle.liquid_filters.proofs.Ended.{kind_in}
 use Rattle.liquid_model.specs.Fallible as fallible
 use Rattle.liquid_model.specs.ErrorKinds.{number_of}
 use Rattle.liquid_core.specs.Hosts.{no_host}
@@ -37,10 +38,6 @@ use Rattle.liquid_meaning.specs.Laws.{EndsWithHost, KindsOfRuns, KindsOfOwnRuns,
 module _ (limit : ℕ) (least : (kind : ErrorKind) → T (is_run_kind kind) → T (nat_le (number_of kind) limit)) where
   record Ended {A : Type 0} (x : Result A ErrorKind) : Type 0 where
     ended : (kind : ErrorKind) → x ≡ Err kind → T (nat_le (number_of kind) limit)
-
-  abbrev kind_in : {A : Type 0} → Result A ErrorKind → ErrorKind
-  kind_in (Ok a) = UnknownVariable
-  kind_in (Err kind) = kind
 
   ended_ok : {A : Type 0} (a : A) → Ended {A = A} (Ok a)
   ended_ok a = record { ended = λ kind h. cc }
@@ -350,7 +347,7 @@ own_answers (existing kind) d ds = kinds_of_answers kind d ds
 own_answers (hosted name) d ds = unsupported
   where
     unsupported : (kind : ErrorKind) → ◌≡◌ {A = Result Datum ErrorKind} (Err Unsupported) (Err kind) → T (is_run_kind kind)
-    unsupported kind h = subst (λ x. T (is_run_kind x)) (ap (kind_in 16 (λ kind ok. ok)) h) tt
+    unsupported kind h = subst (λ x. T (is_run_kind x)) (ap kind_in h) tt
 
 pub kinds_of_own_runs : KindsOfOwnRuns
 kinds_of_own_runs partials depth nodes e = kinds_of_runs (record { answers = answers_with no_host; partials = partials }) own_answers depth nodes e

@@ -1,8 +1,8 @@
 -- Lists of names that stand in a set.
 use Rattle.std.specs.Prelude.{Bool, true, false, ◌||◌, T, List, [], ◌∷◌, ◌++◌}
 use mathlib.Core.Path.{sym, subst}
-use Rattle.liquid_meaning.proofs.Maps.{same_text_itself}
 use Rattle.liquid_model.specs.Texts.{Text, same_text}
+use Rattle.liquid_model.proofs.Maps.{same_key}
 use Rattle.liquid_meaning.specs.Within.{Within}
 use Rattle.liquid_core.specs.Environment.{Names}
 use Rattle.liquid_tree.specs.Names.{mentioned}
@@ -20,7 +20,7 @@ within_more N M k [] h = tt
 within_more N M k (x ∷ xs) h = (k x h.0, within_more N M k xs h.1)
 
 text_ties_itself : (t : Text) → T (same_text t t)
-text_ties_itself t = subst (λ b. T b) (sym (same_text_itself t)) tt
+text_ties_itself t = subst (λ b. T b) (sym (same_key t)) tt
 
 or_left : (a b : Bool) → T a → T (a || b)
 or_left true b h = tt

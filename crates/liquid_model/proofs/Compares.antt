@@ -19,7 +19,7 @@ pub items_compare_next : (xs ys rest others : List Value) (x y : Value) → xs �
     → items_compare (items_view rest) (items_view others) ≡ items_compare (items_view xs) (items_view ys)
 items_compare_next xs ys rest others x y e f h = rw (e, f, h) refl
 
-own : IsNumeralModel (λ ds. all_ascii_digits ds ≡ true) (digits_value 10)
+pub own : IsNumeralModel (λ ds. all_ascii_digits ds ≡ true) (digits_value 10)
 own = numerals_by_value _ tells_all_ascii_digits
 
 fits_from : (z : ℤ) → SFits w64 z → fits z ≡ true

@@ -44,7 +44,7 @@ kinds_are_ranked d e h = ap (λ o. ordering_then o (order_within d e)) (sym (nat
 pub scalars_are_ordered : ScalarsAreOrdered
 scalars_are_ordered = (refl, λ x y. (λ h. int_ranked x y Less (sym h), λ h. sym (int_cmp_is x y Less h)), λ s t. refl)
 
-same_itself : (d : Datum) → same d d ≡ true
+pub same_itself : (d : Datum) → same d d ≡ true
 same_itself d = (same_Decides d d).1 refl
 
 longer_is_more : (ds : List Datum) (e : Datum) (es : List Datum) → order (array_of ds) (array_of (ds ++ e ∷ es)) ≡ Less

@@ -7,7 +7,7 @@ use Rattle.std.specs.Ordering.{match_ordering}
 use Rattle.liquid_model.specs.Data.{Datum, Pairs, no_pairs, pair, put}
 use Rattle.liquid_model.specs.Find.{value_at}
 
-same_key : (k : List ℕ) → bytes_eq k k ≡ true
+pub same_key : (k : List ℕ) → bytes_eq k k ≡ true
 same_key k = (bytes_eq-Decides k k).1 refl
 
 at_put : (o : Ordering) (k l : List ℕ) (d e : Datum) (ms : Pairs) → slice_cmp nat_cmp k l ≡ o → value_at k (put k d ms) ≡ Some d

@@ -4,6 +4,7 @@ use Rattle.std.specs.Prelude.{codes}
 use Rattle.std.specs.Fmt.{digit_glyph, digits_onto, digits, decimal, signed_decimal}
 use Rattle.std.specs.Str.{IsAscii, IsUtf8}
 use Rattle.std.proofs.lemmas.Str.{IsUtf8-append, IsUtf8-from_ascii, IsUtf8-nil, IsUtf8-string_bytes}
+use Rattle.std.proofs.lemmas.Str.Ascii.{IsAscii-cons}
 use Rattle.liquid_model.specs.Data.{Datum, truth, text_of, items_text, pairs_text}
 use Rattle.liquid_model.specs.View.{view, view_step, items_view, pairs_view}
 use Rattle.liquid_model.specs.declared.value.Value.{Value}
@@ -15,10 +16,6 @@ use Rattle.liquid_model.specs.declared.value.Value.TheOpen.{Value-F}
 
 ascii_nil : IsAscii []
 ascii_nil i = omega arith
-
-ascii_cons : (b : ℕ) (bs : List ℕ) → b < 128 → IsAscii bs → IsAscii (b ∷ bs)
-ascii_cons b bs h a zero = h
-ascii_cons b bs h a (suc i) = a i
 
 glyph_by : (b : Bool) (d : ℕ) → d < 10 → cond b (48 + d) (87 + d) < 128
 glyph_by true d h = omega arith
@@ -34,7 +31,7 @@ onto_by false xs ys a c = c
 digits_ascii : (k n : ℕ) (bs : List ℕ) → IsAscii bs → IsAscii (digits_onto k 10 false n bs)
 digits_ascii zero n bs a = a
 digits_ascii (suc k) n bs a =
-    let glyphs = ascii_cons (digit_glyph false (n % 10)) bs (glyph_ascii n) a in
+    let glyphs = IsAscii-cons (digit_glyph false (n % 10)) bs (glyph_ascii n) a in
     onto_by (n / 10 == 0) _ _ glyphs (digits_ascii k (n / 10) (digit_glyph false (n % 10) ∷ bs) glyphs)
 
 decimal_ascii : (n : ℕ) → IsAscii (decimal n)
@@ -43,13 +40,13 @@ decimal_ascii n = digits_ascii 64 n [] ascii_nil
 
 signed_ascii : (z : ℤ) → IsAscii (signed_decimal z)
 signed_ascii (pos n) = decimal_ascii n
-signed_ascii (negsuc n) = ascii_cons 45 (decimal (suc n)) (omega arith) (decimal_ascii (suc n))
+signed_ascii (negsuc n) = IsAscii-cons 45 (decimal (suc n)) (omega arith) (decimal_ascii (suc n))
 
 truth_ascii : (b : Bool) → IsAscii (text_of (truth b))
-truth_ascii true = ascii_cons 116 (codes "rue") (omega arith) (ascii_cons 114 (codes "ue") (omega arith) (ascii_cons 117 (codes "e") (omega arith) (ascii_cons 101 [] (omega arith) ascii_nil)))
+truth_ascii true = IsAscii-cons 116 (codes "rue") (omega arith) (IsAscii-cons 114 (codes "ue") (omega arith) (IsAscii-cons 117 (codes "e") (omega arith) (IsAscii-cons 101 [] (omega arith) ascii_nil)))
 truth_ascii false =
-    ascii_cons 102 (codes "alse") (omega arith) (ascii_cons 97 (codes "lse") (omega arith)
-    (ascii_cons 108 (codes "se") (omega arith) (ascii_cons 115 (codes "e") (omega arith) (ascii_cons 101 [] (omega arith) ascii_nil))))
+    IsAscii-cons 102 (codes "alse") (omega arith) (IsAscii-cons 97 (codes "lse") (omega arith)
+    (IsAscii-cons 108 (codes "se") (omega arith) (IsAscii-cons 115 (codes "e") (omega arith) (IsAscii-cons 101 [] (omega arith) ascii_nil))))
 
 -- ---- values
 

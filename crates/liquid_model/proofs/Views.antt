@@ -92,3 +92,7 @@ view-lookup name (e ∷ es) = found_or (is_eq (slice_cmp nat_cmp name (string_by
 pub list_of_view : (vs : List Value) → list_of (items_view vs) ≡ map view vs
 list_of_view [] = refl
 list_of_view (v ∷ vs) = ap (λ l. view v ∷ l) (list_of_view vs)
+
+pub items_length : (vs : List Value) → length (list_of (items_view vs)) ≡ length vs
+items_length [] = refl
+items_length (v ∷ vs) = ap suc (items_length vs)

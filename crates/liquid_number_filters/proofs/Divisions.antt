@@ -30,7 +30,7 @@ alike_at a (negsuc r) h = let f : ⊥ = cc in absurd f
 alike : (a r : ℤ) → (r ≡ pos 0) ⊎ (is_negative r ≡ is_negative a) → Alike a r
 alike a r h = ⊎_elim (alike_at a r) (alike_same a r) h
 
-at_least : (k n : ℕ) → n ≤ suc k * n
+pub at_least : (k n : ℕ) → n ≤ suc k * n
 at_least k n = grind arith
 
 parts : (m n k s : ℕ) → s < n → m ≡ k * n + s → (k ≡ m / n) × (s ≡ m % n)

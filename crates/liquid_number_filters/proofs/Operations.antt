@@ -12,13 +12,11 @@ use Rattle.liquid_model.specs.Whole.{whole, fits}
 use Rattle.liquid_model.specs.declared.error.ErrorKind.{ErrorKind}
 use Rattle.liquid_model.specs.declared.error.ErrorKind.TheVariants.{InvalidInput, InvalidArgument, DivideByZero, Float}
 use Rattle.liquid_filter_base.specs.Arguments.{Answer}
+use Rattle.liquid_filter_base.proofs.Ones.{same_one}
 use Rattle.liquid_number_filters.specs.Decimals.{is_decimal_text}
 use Rattle.liquid_number_filters.specs.Numbers.{operands_of, both_or, or_range, in_range, unlike, plus, minus, times, divided_by, modulo, at_least, at_most, absolute, abs}
 use Rattle.liquid_number_filters.specs.NumberLaws.{StepsOf, Steps, IsSum, IsDifference, IsProduct, IsQuotient, IsRemainder, IsGreater, IsLesser, AbsoluteOf}
 use Rattle.liquid_number_filters.proofs.Divisions.{division_is, division_meets}
-
-same_one : {X : Type 0} (a : X) → IsTheOne (λ x. x ≡ a) a
-same_one a = λ x. (λ e. e, λ e. e)
 
 -- ---- the steps stand for one answer, where the relation of two whole numbers does
 abbrev NonZero : Bool → ℤ → Type 0

@@ -9,6 +9,7 @@ use Rattle.liquid_model.specs.Whole.{whole}
 use Rattle.liquid_model.specs.declared.error.ErrorKind.TheVariants.{Float, InvalidArgument, InvalidInput}
 use Rattle.liquid_model.specs.Fallible.{◌>>=◌}
 use Rattle.liquid_filter_base.specs.Arguments.{number_or_fault}
+use Rattle.liquid_filter_base.proofs.Ones.{same_one}
 use Rattle.liquid_number_filters.specs.Decimals.{is_decimal, is_decimal_text, whole_digits, fraction_digits}
 use Rattle.liquid_number_filters.specs.Numbers.{in_range}
 use Rattle.liquid_number_filters.specs.Rounding.{signed, nearest, magnitude, size, round, rounded, rounded_of, rounded_decimal, rounded_to, unrounded_of}
@@ -16,6 +17,7 @@ use Rattle.liquid_number_filters.specs.RoundingLaws.{scale, IsMultipleFor, IsBro
 use Rattle.liquid_number_filters.specs.declared.stdlib.filters.math.decimal.Rounding.{Rounding}
 use Rattle.liquid_number_filters.specs.declared.stdlib.filters.math.decimal.Rounding.TheVariants.{Nearest, Up, Down}
 use Rattle.liquid_number_filters.proofs.Roundings.{floor_is, floor_meets, ceiling_is, ceiling_meets, pow_pos10}
+use Rattle.liquid_number_filters.proofs.Divisions.{at_least}
 
 -- ---- sizes and signs
 abs_either : (z : ℤ) → (z ≡ pos (unsigned_abs z)) ⊎ (z ≡ neg_ℤ (pos (unsigned_abs z)))
@@ -47,9 +49,6 @@ of_sign false (negsuc k) = inr (k, refl)
 of_sign true (pos zero) = inl (0, refl)
 of_sign true (pos (suc k)) = inr (k, refl)
 of_sign true (negsuc k) = inl (suc k, refl)
-
-at_least : (k d : ℕ) → d ≤ suc k * d
-at_least k d = grind arith
 
 -- ---- the nearest one
 above_bounds : (n y d D : ℕ) → 0 < d → 2 * D ≤ d → (2 * D ≡ d → n < y) → n ≡ y + D → (2 * y ≤ 2 * n + d) × (2 * n + d < 2 * y + 2 * d)
@@ -121,9 +120,6 @@ brought_one how s = λ x. (
   λ h. h.2 ∙ ap in_range (multiple_is how (starts_with_minus s) (digits_value 10 (whole_digits s ++ fraction_digits s)) (scale s) h.0 (pow_pos10 (length (fraction_digits s))) h.1),
   λ e. (signed (starts_with_minus s) (size how (starts_with_minus s) (whole_digits s) (fraction_digits s)), brought_meets how (starts_with_minus s) (digits_value 10 (whole_digits s ++ fraction_digits s)) (scale s) (pow_pos10 (length (fraction_digits s))), e),
 )
-
-same_one : {X : Type 0} (a : X) → IsTheOne (λ x. x ≡ a) a
-same_one a = λ x. (λ e. e, λ e. e)
 
 text_one : (how : Rounding) (s : List ℕ) (decimal : Bool) → IsTheOne (λ x. MatchBool decimal (IsBroughtTo how s x) (x ≡ Err InvalidInput)) (if decimal then rounded_decimal how s else Err InvalidInput)
 text_one how s true = brought_one how s

@@ -1,5 +1,5 @@
 -- Rounding by products, and by a look at the digits after the point.
-use Rattle.std.proofs.Common.{◌≡◌, ℕ, zero, suc, ◌+◌, ◌-◌, ◌*◌, ◌^◌, ◌/◌, ◌<◌, ◌≤◌, List, [], ◌∷◌, ◌++◌, length, get_or, cond, eqb, leb, not, ◌||◌, Bool, true, false, refl, sym, ap, ◌∙◌, arith, ◌&&◌}
+use Rattle.std.proofs.Common.{◌≡◌, ℕ, zero, suc, ◌+◌, ◌-◌, ◌*◌, ◌^◌, ◌/◌, ◌<◌, ◌≤◌, List, [], ◌∷◌, ◌++◌, length, get_or, cond, eqb, leb, not, ◌||◌, Bool, true, false, refl, sym, ap, ◌∙◌, arith}
 use Rattle.std.proofs.lemmas.Bool.Decides.{nat_tests}
 use Rattle.std.proofs.lemmas.Nat.{div-mul-add, div-add-mod', mod_below, mul-le}
 use Rattle.std.proofs.Math.Nat.{one-le-pow, pow-suc, pow-succ'}
@@ -9,12 +9,14 @@ use Rattle.std.specs.Str.{all_ascii_digits}
 use Rattle.std.specs.Str.Parse.{AllDigits, digits_value, digits_value_after, IsNumeral, without_leading_plus}
 use Rattle.std.proofs.lemmas.Int.Digits.{digits_value-lt}
 use Rattle.std.proofs.lemmas.Str.{digit_value_digit}
-use Rattle.std.proofs.lemmas.Str.Parse.{IsNumeralModel, numerals_by_value, tells_all_ascii_digits, digit_from_value, parse_digits}
+use Rattle.std.proofs.lemmas.Str.Parse.{digit_from_value, parse_digits}
 use Rattle.std.proofs.Common.{ℤ, Some, None, Err, Option, if◌then◌else◌}
 use mir.Val.{bool_byte}
 use Rattle.std.specs.Prelude.{IsTrue, nat_lt}
+use Rattle.std.proofs.lemmas.Bool.{and_parts}
 use Rattle.liquid_number_filters.specs.Decimals.{is_numeral, if_fits}
 use Rattle.liquid_model.specs.Whole.{fits}
+use Rattle.liquid_model.proofs.Compares.{own}
 use Rattle.liquid_number_filters.specs.Rounding.{signed, nearest, away, towards, magnitude, size, goes_away}
 use Rattle.liquid_number_filters.specs.declared.stdlib.filters.math.decimal.Rounding.{Rounding}
 use Rattle.liquid_number_filters.specs.declared.stdlib.filters.math.decimal.Rounding.TheVariants.{Nearest, Up, Down}
@@ -77,9 +79,6 @@ value_append n (c ∷ ws) fs = value_append (n * 10 + digit_value c) ws fs
 pub value_parts : (ws fs : List ℕ) → digits_value 10 (ws ++ fs) ≡ digits_value 10 ws * 10 ^ length fs + digits_value 10 fs
 value_parts ws fs = value_append 0 ws fs ∙ value_after (digits_value 10 ws) fs
 
-pub own : IsNumeralModel (λ ds. all_ascii_digits ds ≡ true) (digits_value 10)
-own = numerals_by_value _ tells_all_ascii_digits
-
 pub pow_pos10 : (k : ℕ) → 0 < 10 ^ k
 pow_pos10 k = one-le-pow k 10 (omega arith)
 
@@ -141,10 +140,6 @@ size_is Down true ws fs d = let a = own.to fs d in ap (λ n. away n (10 ^ length
 size_is Down false ws fs d = let a = own.to fs d in ap (λ n. towards n (10 ^ length fs)) (value_parts ws fs) ∙ towards_is _ _ _ (digits_value-lt 10 fs a) ∙ omega arith
 
 -- ---- the code's steps
-and_parts : (a b : Bool) → (a && b) ≡ true → (a ≡ true) × (b ≡ true)
-and_parts true b h = (refl, h)
-and_parts false b h = cc
-
 large : (n : ℕ) → (n < 2 ^ 64 → ⊥) → 2 ^ 63 < n
 large n h = grind arith
 

@@ -1,7 +1,8 @@
 -- What is known where the texts of a page are read, and where they are not.
-use Rattle.std.proofs.Common.{◌≡◌, ℕ, ◌≤◌, List, [], Bool, true, false, MatchBool, Option, Some, None, Ok, Err, Result, inl, inr, refl, sym, ap, subst, ◌∙◌, arith, append-nil}
+use Rattle.std.proofs.Common.{◌≡◌, ℕ, ◌≤◌, List, [], Bool, true, false, MatchBool, Option, Ok, Err, Result, inl, inr, refl, ap, subst, ◌∙◌, arith}
 use Rattle.std.specs.Prelude.{⊤, ◌⊎◌}
-use Rattle.std.specs.Io.KnownBytes.{Appends, Keeps}
+use Rattle.std.specs.Io.KnownBytes.{Appends}
+use Rattle.std.proofs.KnownBytes.{Appends-nil, Keeps-refl}
 use Rattle.liquid_model.specs.Answer.{Faulted}
 use Rattle.liquid_model.specs.Data.{Pairs}
 use Rattle.liquid_model.specs.ErrorKinds.{IsKindOrMemory, is_memory, is_refusal}
@@ -14,6 +15,7 @@ use Rattle.liquid_language.specs.declared.language.Language.{Language}
 use Rattle.liquid_lib.specs.Added.{AppendsPart}
 use Rattle.liquid_lib.specs.Performs.{answer_of, is_refused, unit}
 use Rattle.liquid_lib.specs.Standard.{IsStandard}
+use Rattle.liquid_lib.proofs.Joined.{memory_of}
 use Rattle.liquid_json.specs.Json.{data_of}
 use Rattle.liquid_site.specs.Page.{Texts, Sources, HasBadPartial, Read, IsRead, Refused, no_template, no_facts, bad_partial, page, no_page, page_outcome}
 use Rattle.liquid_site.specs.Shown.{Reads, ReadsPartials, Shows, RanOut}
@@ -62,24 +64,12 @@ told_source e f same h = told_source_by e f (is_memory f.kind) refl same h
 
 -- ---- the page
 
-kept : (o : Option (List ℕ)) → Keeps o o
-kept None = tt
-kept (Some xs) = refl
-
-nothing_added : (o : Option (List ℕ)) → Appends o o []
-nothing_added None = tt
-nothing_added (Some xs) = sym (append-nil xs)
-
-memory_is : (k : ErrorKind) → is_memory k ≡ true → k ≡ Memory
-memory_is Memory h = refl
-memory_is _ h = absurd cc
-
 ToldBy : Language → Texts → Result (Unit {0}) Error → Option (List ℕ) → Type 0
 ToldBy l texts r o = RanOut r o o ⊎ ((x : Language) × IsStandard x × Shows x texts r o o)
 
 refused_by : (l : Language) (texts : Texts) (e : Error) (o : Option (List ℕ)) (b : Bool) → IsStandard l → is_memory e.kind ≡ b → MatchBool b ⊤ (Refused l texts e.kind × (is_refusal e.kind ≡ false)) → ToldBy l texts (Err e) o
 unfolding ToldBy
-refused_by l texts e o true standard is h = inl (record { told = memory_is e.kind is; kept = kept o })
+refused_by l texts e o true standard is h = inl (record { told = memory_of e.kind is; kept = Keeps-refl o })
 refused_by l texts e o false standard is h =
     inr (
       l,
@@ -88,8 +78,8 @@ refused_by l texts e o false standard is h =
         text = [];
         end = Err e.kind;
         is_page = no_page h.0;
-        begun = record { front = []; rest = []; whole = refl; appended = nothing_added o };
-        whole = λ not. nothing_added o;
+        begun = record { front = []; rest = []; whole = refl; appended = Appends-nil o };
+        whole = λ not. Appends-nil o;
         ended = λ not. refl;
       },
     )

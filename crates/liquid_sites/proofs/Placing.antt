@@ -1,17 +1,19 @@
 -- Pages that are put in the place of those before.
-use Rattle.std.specs.Prelude.{◌≡◌, Bool, true, false, cond, ◌||◌, List, [], ◌∷◌, ◌++◌, filter, length, Option, String, string_bytes}
+use Rattle.std.specs.Prelude.{◌≡◌, Bool, true, false, cond, List, [], ◌∷◌, ◌++◌, filter, length, Option, String, string_bytes}
 use Rattle.std.proofs.Common.{append_assoc}
 use Rattle.std.specs.declared.alloc.Global.{Global}
 use Rattle.liquid_model.specs.Data.{Datum}
 use Rattle.liquid_model.specs.Maps.{Map}
 use mathlib.Core.Path.{refl, sym, ap, fun_ext, ◌∙◌}
+use Rattle.std.proofs.Math.Bool.{or_comm}
 use Rattle.liquid_model.specs.Texts.{Text}
+use Rattle.liquid_model.proofs.Maps.{same_key}
 use Rattle.liquid_tree.specs.Tree.{Nodes}
 use Rattle.liquid_tree.specs.Names.{mentioned, nodes_names, partials_names}
 use Rattle.liquid_language.specs.Entries.{seen, placed}
 use Rattle.liquid_syntax.specs.Templates.{tree_of}
 use Rattle.liquid_syntax.specs.declared.template.Template.{Template}
-use Rattle.liquid_syntax.proofs.Held.{AllAbove, Ascend, apart, below_other, names, same_itself}
+use Rattle.liquid_syntax.proofs.Held.{AllAbove, Ascend, apart, below_other, names}
 use Rattle.liquid_syntax.specs.inside.NameVisitors.{mentioned_both}
 use Rattle.liquid_lib.specs.Pages.{Shown, page_over}
 use Rattle.liquid_sites.specs.Contents.{Trees, Contents, Pages, page_of, all_pages, pages_from_scratch, mentions}
@@ -40,7 +42,7 @@ module _ (test : Nodes → Bool) (show : Nodes → Shown) where
       on : (b : Bool) → all_placed (all_pages show (wanted_of test ts)) (all_pages before ts) ≡ refreshed test show ts (all_pages before ts)
           → all_placed (all_pages show (cond b (p ∷ wanted_of test ts) (wanted_of test ts))) ((p.0, before p.1) ∷ all_pages before ts) ≡ (p.0, cond b (show p.1) (before p.1)) ∷ refreshed test show ts (all_pages before ts)
       on true rest =
-          ap (λ b. all_placed (all_pages show (wanted_of test ts)) (cond b ((p.0, show p.1) ∷ all_pages before ts) ((p.0, before p.1) ∷ placed p.0 (show p.1) (all_pages before ts)))) (same_itself p.0)
+          ap (λ b. all_placed (all_pages show (wanted_of test ts)) (cond b ((p.0, show p.1) ∷ all_pages before ts) ((p.0, before p.1) ∷ placed p.0 (show p.1) (all_pages before ts)))) (same_key p.0)
           ∙ behind p.0 (show p.1) (all_pages show (wanted_of test ts)) (all_pages before ts) (wanted_above p.0 ts h.0)
           ∙ ap (λ l. (p.0, show p.1) ∷ l) rest
       on false rest = behind p.0 (before p.1) (all_pages show (wanted_of test ts)) (all_pages before ts) (wanted_above p.0 ts h.0) ∙ ap (λ l. (p.0, before p.1) ∷ l) rest
@@ -51,14 +53,8 @@ module _ (test : Nodes → Bool) (show : Nodes → Shown) where
 
 -- ---- which pages are wanted
 
-or_turned : (a b : Bool) → (a || b) ≡ (b || a)
-or_turned true true = refl
-or_turned true false = refl
-or_turned false true = refl
-or_turned false false = refl
-
 pub wanted_mentions : (partials : Trees) (name : Text) (nodes : Nodes) → mentions partials name nodes ≡ wanted (mentioned (partials_names partials) name) name nodes
-wanted_mentions partials name nodes = mentioned_both (nodes_names nodes) (partials_names partials) name ∙ or_turned (mentioned (nodes_names nodes) name) (mentioned (partials_names partials) name)
+wanted_mentions partials name nodes = mentioned_both (nodes_names nodes) (partials_names partials) name ∙ or_comm (mentioned (nodes_names nodes) name) (mentioned (partials_names partials) name)
 
 pub counted_mentions : (partials : Trees) (name : Text) (ts : Trees) → length (wanted_of (wanted (mentioned (partials_names partials) name) name) ts) ≡ length (filter (λ p. mentions partials name p.1) ts)
 counted_mentions partials name ts = ap (λ test. length (filter test ts)) (fun_ext (λ p. sym (wanted_mentions partials name p.1)))
@@ -100,11 +96,3 @@ pub passed : (test : Nodes → Bool) (show : Nodes → Shown) (done all : Pages)
 passed test show done all e left h whole =
     let w = wanted_of test (seen tree_of left) in
     sym (ap (λ b. done ++ all_pages show (cond b ((string_bytes e.0, tree_of e.1) ∷ w) w)) h) ∙ whole
-
-pub or_true : (a b : Bool) → b ≡ true → (a || b) ≡ true
-or_true true b h = refl
-or_true false b h = h
-
-pub or_false : (a b : Bool) → a ≡ false → b ≡ false → (a || b) ≡ false
-or_false true b h k = h
-or_false false b h k = k

@@ -1,11 +1,13 @@
 -- The body of `comment`: what is read stands in the grammar, and what stands in the grammar is read.
 use Rattle.std.proofs.Common.{◌≡◌, ℕ, zero, suc, ◌<◌, ◌≤◌, List, [], ◌∷◌, length, drop, Bool, true, false, cond, not, ◌&&◌, codes, bytes_eq, Option, Some, None, refl, ap, subst, ◌∙◌, sym, arith}
 use Rattle.std.specs.Option.{option_and_then}
+use Rattle.std.proofs.lemmas.Bool.{and_parts}
+use Rattle.std.proofs.lemmas.Option.{none-some}
 use Rattle.liquid_source.specs.Words.{passes}
 use Rattle.liquid_source.specs.ValueReading.{run_len}
 use Rattle.liquid_source.specs.Verbatim.{IsMark, NoMark, IsComment, skipped, inner, raw_inside, inner_ends, ends}
 use Rattle.liquid_source.specs.SourceReading.{Mark, mark_at, is_named, raw_at, in_comment, Skips, comment_ends, past_mark, comment_at}
-use Rattle.liquid_source.proofs.WordLaws.{bind_some, from_some, none_some, and_parts, run_stops}
+use Rattle.liquid_source.proofs.WordLaws.{bind_some, from_some, run_stops}
 use Rattle.liquid_source.proofs.MarkLaws.{un_not, nothing_marked, mark_again, mark_shorter, mark_named, no_mark_takes, no_mark_again, raw_takes, raw_again, raw_shorter}
 
 -- ---- what is read stands in the grammar
@@ -33,7 +35,7 @@ third_by false false false h e f = absurd cc
 third_mark : (bs : List ℕ) (m : Mark × List ℕ) → passes in_comment bs ≡ false → mark_at bs ≡ Some m → bytes_eq m.0.name (codes "comment") ≡ false → bytes_eq m.0.name (codes "raw") ≡ false
     → bytes_eq m.0.name (codes "endcomment") ≡ true
 unfolding in_comment
-third_mark [] m stop e f g = absurd (none_some m (sym nothing_marked ∙ e))
+third_mark [] m stop e f g = absurd (none-some m (sym nothing_marked ∙ e))
 third_mark (b ∷ bs) m stop e f g =
     sym (ap (is_named (codes "endcomment")) e)
     ∙ third_by (is_named (codes "comment") (mark_at (b ∷ bs))) (is_named (codes "raw") (mark_at (b ∷ bs))) (is_named (codes "endcomment") (mark_at (b ∷ bs))) stop (ap (is_named (codes "comment")) e ∙ f) (ap (is_named (codes "raw")) e ∙ g)
@@ -94,7 +96,7 @@ stops_here b bs e = rw e refl
 
 counts_by : (m : Mark × List ℕ) (bs : List ℕ) → mark_at bs ≡ Some m → ((o : Option (Mark × List ℕ)) → o ≡ Some m → (not (is_named (codes "comment") o) && (not (is_named (codes "raw") o) && not (is_named (codes "endcomment") o))) ≡ false) → Counts bs
 unfolding in_comment
-counts_by m [] e h = absurd (none_some m (sym nothing_marked ∙ e))
+counts_by m [] e h = absurd (none-some m (sym nothing_marked ∙ e))
 counts_by m (b ∷ bs) e h = stops_here b bs (h (mark_at (b ∷ bs)) e)
 
 turn_again : (again : Skips) (n : ℕ) (bs : List ℕ) (m : Mark × List ℕ) → mark_at bs ≡ Some m → Counts bs → option_and_then (past_mark again n) (mark_at (drop (run_len in_comment bs) bs)) ≡ past_mark again n m

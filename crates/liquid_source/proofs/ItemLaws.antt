@@ -10,11 +10,12 @@ use Rattle.liquid_source.specs.declared.symbol.Symbol.{Symbol}
 use Rattle.liquid_source.specs.declared.symbol.Symbol.TheVariants.{Equals, NotEquals, LessOrGreater, LessThanEquals, GreaterThanEquals, LessThan, GreaterThan, Assign, Colon, Comma, Bar}
 use Rattle.liquid_source.specs.declared.item.Delimiter.{Delimiter}
 use Rattle.liquid_source.specs.declared.item.Delimiter.TheVariants.{Output, Tag}
-use Rattle.liquid_source.proofs.WordLaws.{none_some, bind_some, map_some, from_some, byte_some, blank_takes, blank_again, blank_shorter, opens_value}
+use Rattle.liquid_source.proofs.WordLaws.{bind_some, map_some, from_some, byte_some, blank_takes, blank_again, blank_shorter, opens_value}
 use Rattle.liquid_source.proofs.ValueLaws.{value_takes, value_again, value_shrinks, value_opens, value_at_front, apart}
 use Rattle.std.proofs.lemmas.Bool.{ne_eqb}
 use Rattle.std.proofs.lemmas.List.{length-append}
 use Rattle.std.proofs.Math.Seq.{take-append_seam}
+use Rattle.std.proofs.lemmas.Option.{none-some}
 
 -- ---- closers
 
@@ -37,7 +38,7 @@ closer_again Tag true rest = refl
 closer_again Tag false rest = refl
 
 pub closer_none : (k : Delimiter) (bs : List ℕ) → closer_at k bs ≡ None → NoCloser k bs
-closer_none k bs h d rest e = none_some (d, rest) (sym h ∙ ap (closer_at k) e ∙ closer_again k d rest)
+closer_none k bs h d rest e = none-some (d, rest) (sym h ∙ ap (closer_at k) e ∙ closer_again k d rest)
 
 no_closer_by : (k : Delimiter) (bs : List ℕ) (o : Option (Bool × List ℕ)) → closer_at k bs ≡ o → NoCloser k bs → o ≡ None
 no_closer_by k bs None e h = refl
@@ -144,7 +145,7 @@ two_or_one Bar = inr refl
 
 none_long : (bs : List ℕ) → long_symbol_at bs ≡ None → (t : Symbol) (after : List ℕ) → bs ≡ spelling_of t ++ after → length (spelling_of t) ≤ 1
 none_long bs h t after e = elim (two_or_one t) [
-  | inl two ↦ absurd (none_some (t, after) (sym h ∙ ap long_symbol_at e ∙ long_again t after two))
+  | inl two ↦ absurd (none-some (t, after) (sym h ∙ ap long_symbol_at e ∙ long_again t after two))
   | inr one ↦ omega (arith, one)
 ]
 

@@ -3,6 +3,8 @@ use Rattle.std.proofs.Common.{◌≡◌, ℕ, suc, ◌<◌, ◌≤◌, List, [],
 use Rattle.std.specs.Option.{option_map}
 use Rattle.std.proofs.lemmas.Slice.Eq.{bytes_eq-Decides}
 use Rattle.std.proofs.lemmas.List.{length-append}
+use Rattle.std.proofs.lemmas.Option.{none-some}
+use Rattle.std.proofs.lemmas.Bool.{false_from_ne_true}
 use Rattle.liquid_source.specs.Words.{begins_with}
 use Rattle.liquid_source.specs.ValueReading.{run_len, past_white, past_byte, word_at}
 use Rattle.liquid_source.specs.Items.{dash_if}
@@ -12,9 +14,9 @@ use Rattle.liquid_source.specs.Verbatim.{IsMark, is_mark, NoMark, IsRaw, ends, g
 use Rattle.liquid_source.specs.SourceReading.{dashed, Mark, mark_behind, mark_at, is_named, in_raw, raw_at}
 use Rattle.liquid_source.specs.declared.item.Delimiter.{Delimiter}
 use Rattle.liquid_source.specs.declared.item.Delimiter.TheVariants.{Tag}
-use Rattle.liquid_source.proofs.WordLaws.{bind_some, map_some, from_some, none_some, byte_some, blank_takes, blank_again, blank_shorter, word_takes, word_again, word_shorter}
-use Rattle.liquid_source.proofs.ValueLaws.{not_true}
+use Rattle.liquid_source.proofs.WordLaws.{bind_some, map_some, from_some, byte_some, blank_takes, blank_again, blank_shorter, word_takes, word_again, word_shorter}
 use Rattle.liquid_source.proofs.ItemLaws.{closer_takes, closer_again}
+use Rattle.liquid_model.proofs.Maps.{same_key}
 
 -- ---- openers
 
@@ -23,7 +25,7 @@ no_byte q [] h = refl
 no_byte q (b ∷ bs) h = by_test (eqb b q) h
   where
     by_test : (c : Bool) → cond c (Some bs) None ≡ None → c ≡ false
-    by_test true h = absurd (none_some bs (sym h))
+    by_test true h = absurd (none-some bs (sym h))
     by_test false h = refl
 
 no_byte_again : (q : ℕ) (bs : List ℕ) → begins_with q bs ≡ false → past_byte q bs ≡ None
@@ -78,14 +80,11 @@ mark_shorter (is_mark {after = after} {rest = rest} o a n b c) =
 
 -- ---- marks of a name
 
-same_bytes : (w : List ℕ) → bytes_eq w w ≡ true
-same_bytes w = (bytes_eq-Decides w w).1 refl
-
 equal_bytes : (v w : List ℕ) → bytes_eq v w ≡ true → v ≡ w
 equal_bytes v w h = (bytes_eq-Decides v w).0 h
 
 pub named_again : {w bs rest : List ℕ} {before after : Bool} → IsMark w before after bs rest → is_named w (mark_at bs) ≡ true
-named_again {w} h = ap (is_named w) (mark_again h) ∙ same_bytes w
+named_again {w} h = ap (is_named w) (mark_again h) ∙ same_key w
 
 pub no_mark_takes : (w bs : List ℕ) → is_named w (mark_at bs) ≡ false → NoMark w bs
 no_mark_takes w bs h before after rest m = let g : true ≡ false = sym (named_again m) ∙ h in absurd cc
@@ -95,7 +94,7 @@ named_mark w bs None e h none = absurd cc
 named_mark w bs (Some m) e h none = none m.0.before m.0.after m.1 (subst (λ (v : List ℕ). IsMark v m.0.before m.0.after bs m.1) (equal_bytes m.0.name w h) (mark_takes bs m e))
 
 pub no_mark_again : (w bs : List ℕ) → NoMark w bs → is_named w (mark_at bs) ≡ false
-no_mark_again w bs none = not_true _ (λ h. named_mark w bs (mark_at bs) refl h none)
+no_mark_again w bs none = false_from_ne_true _ (λ h. named_mark w bs (mark_at bs) refl h none)
 
 -- the mark that is read, where it has the name
 pub mark_named : (w bs : List ℕ) (m : Mark × List ℕ) → mark_at bs ≡ Some m → bytes_eq m.0.name w ≡ true → IsMark w m.0.before m.0.after bs m.1
@@ -136,16 +135,16 @@ nothing_marked = refl
 
 pub raw_takes : (bs : List ℕ) (x : List ℕ × Mark × List ℕ) → raw_at bs ≡ Some x → IsRaw x.0 x.1.before x.1.after bs x.2
 unfolding raw_at Read
-raw_takes [] x h = let m = map_some (mark_at []) _ x h in absurd (none_some m.0 (sym nothing_marked ∙ m.1))
+raw_takes [] x h = let m = map_some (mark_at []) _ x h in absurd (none-some m.0 (sym nothing_marked ∙ m.1))
 raw_takes (b ∷ bs) x h = raw_by b bs (in_raw b bs) x refl (raw_takes bs) h
 
 raw_stop : (bs : List ℕ) (m : Mark × List ℕ) → mark_at bs ≡ Some m → is_named (codes "endraw") (mark_at bs) ≡ true → raw_at bs ≡ Some ([], m.0, m.1)
 unfolding raw_at in_raw
-raw_stop [] m e h = absurd (none_some m (sym nothing_marked ∙ e))
+raw_stop [] m e h = absurd (none-some m (sym nothing_marked ∙ e))
 raw_stop (b ∷ bs) m e h = rw (h, e) refl
 
 joined_raw : (b : ℕ) (t : List ℕ) (o : Option (Mark × List ℕ)) (x : List ℕ × Mark × List ℕ) → option_map (with_body t) o ≡ Some x → option_map (with_body (b ∷ t)) o ≡ Some (b ∷ x.0, x.1, x.2)
-joined_raw b t None x h = absurd (none_some x h)
+joined_raw b t None x h = absurd (none-some x h)
 joined_raw b t (Some m) x h = ap (λ (x : List ℕ × Mark × List ℕ). Some (b ∷ x.0, x.1, x.2)) (from_some h)
 
 raw_more : (b : ℕ) (bs : List ℕ) (x : List ℕ × Mark × List ℕ) → is_named (codes "endraw") (mark_at (b ∷ bs)) ≡ false → raw_at bs ≡ Some x → raw_at (b ∷ bs) ≡ Some (b ∷ x.0, x.1, x.2)

@@ -2,18 +2,19 @@
 use Rattle.std.proofs.Common.{◌≡◌, ℕ, zero, suc, ◌-◌, ◌<◌, ◌≤◌, List, [], ◌∷◌, ◌++◌, length, Bool, false, Option, Some, None, refl, sym, ap, ◌∙◌, arith}
 use Rattle.std.specs.Option.{option_and_then}
 use Rattle.std.proofs.lemmas.List.{take-append-drop, length-append}
+use Rattle.std.proofs.lemmas.Option.{none-some}
 use Rattle.liquid_source.specs.Bytes.{plain}
 use Rattle.liquid_source.specs.Words.{passes}
 use Rattle.liquid_source.specs.ValueReading.{run_len, past_byte, text_at}
 use Rattle.liquid_source.specs.Pieces.{Piece, stripped}
 use Rattle.liquid_source.specs.SourceReading.{Markup, markup_at, body_at, wanted_body, text_step, Goes, marked, turn, source_at}
 use Rattle.liquid_source.specs.declared.piece.Body.{Body}
-use Rattle.liquid_source.proofs.WordLaws.{byte_some, byte_again, run_stops, none_some}
+use Rattle.liquid_source.proofs.WordLaws.{byte_some, byte_again, run_stops}
 use Rattle.liquid_source.proofs.SourceLaws.{not_plain, body_takes, markup_shorter}
 
 nothing_behind : (behind : List ℕ) → passes plain behind ≡ false → past_byte 123 behind ≡ None → behind ≡ []
 nothing_behind [] s h = refl
-nothing_behind (b ∷ bs) s h = absurd (none_some bs (sym h ∙ ap (λ (c : ℕ). past_byte 123 (c ∷ bs)) (not_plain b bs s) ∙ byte_again 123 bs))
+nothing_behind (b ∷ bs) s h = absurd (none-some bs (sym h ∙ ap (λ (c : ℕ). past_byte 123 (c ∷ bs)) (not_plain b bs s) ∙ byte_again 123 bs))
 
 -- the text `t` up to the leftmost opener of bs, and what stands behind it
 module _ (bs t behind : List ℕ) (cut : (t, behind) ≡ text_at bs) where

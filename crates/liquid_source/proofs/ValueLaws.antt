@@ -7,9 +7,9 @@ use Rattle.liquid_source.specs.Bytes.{is_letter, is_digit, in_word}
 use Rattle.liquid_source.specs.Words.{passes, Blank, Word, Quoted, Number}
 use Rattle.liquid_source.specs.Values.{WordKind, name, constant, state, word_kind, dotted, step_begins, IsValue, is_text, is_number, is_constant, is_variable, AreSteps, no_step, is_member, is_index}
 use Rattle.liquid_source.specs.ValueReading.{Reads, past_white, past_byte, word_at, quoted_at, number_at, literal_by, literal_at, member_at, index_at, step_by, step_at, more_steps, steps_at, named_by, value_by, value_at, inner_of}
-use Rattle.liquid_source.proofs.WordLaws.{opens_value, bind_some, map_some, guard_none, from_some, blank_takes, blank_again, word_takes, word_again, quoted_takes, quoted_again, number_takes, number_again, number_front, byte_some, blank_shorter, word_shorter, quoted_shorter, number_shorter, either, or_left, or_right}
+use Rattle.liquid_source.proofs.WordLaws.{opens_value, bind_some, map_some, guard_none, from_some, blank_takes, blank_again, word_takes, word_again, quoted_takes, quoted_again, number_takes, number_again, number_front, byte_some, blank_shorter, word_shorter, quoted_shorter, number_shorter, either}
 use Rattle.std.proofs.lemmas.List.{length-append}
-use Rattle.std.proofs.lemmas.Bool.{eqb-true, ne_eqb}
+use Rattle.std.proofs.lemmas.Bool.{eqb-true, ne_eqb, or_left, or_right, or_from, or_parts, false_from_ne_true}
 use Rattle.std.proofs.Common.{append_assoc}
 use Rattle.std.proofs.lemmas.Bool.Decides.{nat_tests}
 
@@ -26,9 +26,6 @@ mutual
   steps_shorter (is_index a v b ss) = omega (arith, blank_shorter a, value_shorter v, blank_shorter b, steps_shorter ss)
 
 -- ---- values: what is read stands in the grammar
-
-neither : (a b : Bool) → a ≡ false → b ≡ false → (a || b) ≡ false
-neither a b h k = rw (h, k)
 
 none_by : {A : Type 0} (b : Bool) (x : A) → cond b (Some x) None ≡ None → b ≡ false
 none_by true x h = absurd cc
@@ -74,7 +71,7 @@ module _ (d : ℕ) (inner : Reads Expression) (inner_takes : (bs : List ℕ) (x 
   member_takes : (bs : List ℕ) (x : Option (Expression × List ℕ)) (o : Option (List ℕ)) → past_byte 91 bs ≡ None → past_byte 46 bs ≡ o → member_at o ≡ x → Stepped d bs x
   unfolding Stepped
   member_takes [] x o k e h = subst (Stepped d []) (ap member_at e ∙ h) refl
-  member_takes (b ∷ bs) x None k e h = subst (Stepped d (b ∷ bs)) h (neither _ _ (byte_none 91 b bs k) (rw (byte_none 46 b bs e)))
+  member_takes (b ∷ bs) x None k e h = subst (Stepped d (b ∷ bs)) h (or_from _ _ (byte_none 91 b bs k) (rw (byte_none 46 b bs e)))
   member_takes (b ∷ bs) x (Some from) k e h = subst (λ (l : List ℕ). Stepped d l x) (sym (byte_some 46 (b ∷ bs) from e)) (dot_takes d from x (word_at from) refl h)
 
   stepped : (bs : List ℕ) (x : Option (Expression × List ℕ)) (o : Option (List ℕ)) → past_byte 91 bs ≡ o → step_by inner bs o ≡ Some x → Stepped d bs x
@@ -134,10 +131,6 @@ value_takes d bs x h = value_by_takes d (inner_of d) (inner_takes d) bs (word_at
 
 -- ---- values: what stands in the grammar is read
 
-neither_one : (a b : Bool) → (a || b) ≡ false → (a ≡ false) × (b ≡ false)
-neither_one true b h = absurd cc
-neither_one false b h = (refl, h)
-
 no_member : (t : Bool) (bs : List ℕ) → (t && is_letter (get_or bs 0 0)) ≡ false → member_at (cond t (Some bs) None) ≡ None
 unfolding word_at
 no_member true bs h = rw h
@@ -146,7 +139,7 @@ no_member false bs h = refl
 no_step_again : (inner : Reads Expression) (bs : List ℕ) → step_begins bs ≡ false → step_at inner bs ≡ Some None
 unfolding step_at
 no_step_again inner [] h = refl
-no_step_again inner (b ∷ bs) h = let n = neither_one (eqb b 91) (eqb b 46 && is_letter (get_or bs 0 0)) h in rw (n.0, no_member (eqb b 46) bs n.1)
+no_step_again inner (b ∷ bs) h = let n = or_parts (eqb b 91) (eqb b 46 && is_letter (get_or bs 0 0)) h in rw (n.0, no_member (eqb b 46) bs n.1)
 
 member_again : (inner : Reads Expression) (w from after : List ℕ) → Word w from after → step_at inner (46 ∷ from) ≡ Some (Some (literal (text w), after))
 unfolding step_at
@@ -164,11 +157,6 @@ no_word : (s bs rest : List ℕ) → Quoted s bs rest → word_at bs ≡ None
 unfolding word_at
 no_word s bs rest h =
     let e : is_letter (get_or bs 0 0) ≡ false = ap (λ (l : List ℕ). is_letter (get_or l 0 0)) h.joined ∙ no_letter h.quote h.double_or_single in rw e
-
--- what begins with no letter is no word; with no quote, no quoted text
-pub not_true : (b : Bool) → (b ≡ true → ⊥) → b ≡ false
-not_true true h = absurd (h refl)
-not_true false h = refl
 
 letter_high : (b : ℕ) → is_letter b ≡ true → 65 ≤ b
 letter_high b h = grind (arith, nat_tests)
@@ -189,7 +177,7 @@ number_no_word : (n : ℤ) (bs rest : List ℕ) → Number n bs rest → word_at
 unfolding word_at
 number_no_word n bs rest h =
     let r = numeric (get_or bs 0 0) (number_front n bs rest h) in
-    let e : is_letter (get_or bs 0 0) ≡ false = not_true _ (λ l. omega (arith, r.0, r.1, letter_high (get_or bs 0 0) l)) in rw e
+    let e : is_letter (get_or bs 0 0) ≡ false = false_from_ne_true _ (λ l. omega (arith, r.0, r.1, letter_high (get_or bs 0 0) l)) in rw e
 
 number_no_quote : (n : ℤ) (bs rest : List ℕ) → Number n bs rest → quoted_at bs ≡ None
 unfolding quoted_at

@@ -8,8 +8,9 @@ use Rattle.liquid_source.specs.Words.{passes, IsRun, Blank, Word, Quoted, Number
 use Rattle.liquid_source.specs.ValueReading.{run_len, past_white, past_byte, word_at, until_quote, quoted_at, number_at, number_len, with_sign}
 use Rattle.std.proofs.lemmas.List.{take-append-drop, length-append}
 use Rattle.std.proofs.Math.Seq.{take-append_seam, drop-append_seam}
-use Rattle.std.proofs.lemmas.Bool.{eqb-true, eq-eqb}
+use Rattle.std.proofs.lemmas.Bool.{eqb-true, eq-eqb, and_parts, or_left, or_right}
 use Rattle.std.proofs.lemmas.Bool.Decides.{nat_tests}
+use Rattle.std.proofs.lemmas.Option.{cond_some}
 
 -- ---- tools
 
@@ -20,13 +21,6 @@ bind_some (Some x) f y h = (x, refl, h)
 pub map_some : {A B : Type 0} (o : Option A) (f : A → B) (y : B) → option_map f o ≡ Some y → (x : A) × (o ≡ Some x) × (f x ≡ y)
 map_some None f y h = absurd cc
 map_some (Some x) f y h = (x, refl, cc)
-
-pub none_some : {A : Type 0} (x : A) → None ≡ Some x → ⊥
-none_some x h = cc
-
-pub guard_some : {A : Type 0} (b : Bool) (x y : A) → cond b (Some x) None ≡ Some y → (b ≡ true) × (x ≡ y)
-guard_some true x y h = (refl, cc)
-guard_some false x y h = absurd cc
 
 pub from_some : {A : Type 0} {x y : A} → Some x ≡ Some y → x ≡ y
 from_some h = cc
@@ -67,7 +61,7 @@ blank_again bs rest h = rw (h.joined, run_len_is is_white h.blank rest h.run, dr
 
 pub word_takes : (bs : List ℕ) (x : List ℕ × List ℕ) → word_at bs ≡ Some x → Word x.0 bs x.1
 unfolding word_at
-word_takes bs x h = let g = guard_some (is_letter (get_or bs 0 0)) _ x h in
+word_takes bs x h = let g = cond_some (is_letter (get_or bs 0 0)) _ x h in
     subst (λ (x : List ℕ × List ℕ). Word x.0 bs x.1) g.1 (record { joined = sym (take-append-drop (run_len in_word bs) bs); begins = g.0; run = run_front in_word bs })
 
 pub word_again : (w bs rest : List ℕ) → Word w bs rest → word_at bs ≡ Some (w, rest)
@@ -78,7 +72,7 @@ word_again w bs rest h = rw (h.begins, h.joined, run_len_is in_word w rest h.run
 
 pub byte_some : (q : ℕ) (bs rest : List ℕ) → past_byte q bs ≡ Some rest → bs ≡ q ∷ rest
 byte_some q [] rest h = absurd cc
-byte_some q (c ∷ cs) rest h = let g = guard_some (eqb c q) cs rest h in grind (arith, nat_tests, g.0, g.1)
+byte_some q (c ∷ cs) rest h = let g = cond_some (eqb c q) cs rest h in grind (arith, nat_tests, g.0, g.1)
 
 pub byte_again : (q : ℕ) (rest : List ℕ) → past_byte q (q ∷ rest) ≡ Some rest
 byte_again q rest = ap (λ (b : Bool). cond b (Some rest) None) (eq-eqb q q refl)
@@ -147,10 +141,6 @@ number_takes bs x h =
     let m = map_some (whole_text (take (number_len bs) bs)) _ x g.1 in
     subst (λ (x : ℤ × List ℕ). Number x.0 bs x.1) m.2 (record { spelling = take (number_len bs) bs; joined = sym (take-append-drop (number_len bs) bs); whole = m.1; ends = g.0 })
 
-pub and_parts : (a b : Bool) → (a && b) ≡ true → (a ≡ true) × (b ≡ true)
-and_parts true b h = (refl, h)
-and_parts false b h = absurd cc
-
 digits_run : (ds rest : List ℕ) → all_ascii_digits ds ≡ true → passes is_digit rest ≡ false → IsRun is_digit ds rest
 digits_run [] rest h e = e
 digits_run (c ∷ cs) rest h e = let p = and_parts (is_digit c (cs ++ rest)) (all_ascii_digits cs) h in (p.0, digits_run cs rest p.1 e)
@@ -185,7 +175,7 @@ no_digit (b ∷ bs) h = first_false (is_digit b bs) _ h
     first_false false c h = refl
 
 pub is_whole : (s : List ℕ) (n : ℤ) → whole_text s ≡ Some n → is_whole_text s ≡ true
-is_whole s n h = (and_parts (is_whole_text s) _ (guard_some _ _ n h).0).0
+is_whole s n h = (and_parts (is_whole_text s) _ (cond_some _ _ n h).0).0
 
 pub number_again : (n : ℤ) (bs rest : List ℕ) → Number n bs rest → number_at bs ≡ Some (n, rest)
 unfolding number_at
@@ -197,13 +187,6 @@ number_again n bs rest h =
 -- a letter, `_`, a digit, a quote or a sign
 unfoldable pub opens_value : ℕ → Bool
 opens_value b = is_letter b || (is_digit b [] || ((eqb b 34 || eqb b 39) || (eqb b 43 || eqb b 45)))
-
-pub or_left : (a b : Bool) → a ≡ true → (a || b) ≡ true
-or_left a b h = rw h refl
-
-pub or_right : (a b : Bool) → b ≡ true → (a || b) ≡ true
-or_right true b h = refl
-or_right false b h = h
 
 whole_front_by : (b : ℕ) (t : List ℕ) (m p : Bool) → eqb b 45 ≡ m → eqb b 43 ≡ p → nat_lt 0 (length (cond m t (drop (cond p 1 0) (b ∷ t)))) && all_ascii_digits (cond m t (drop (cond p 1 0) (b ∷ t))) ≡ true
     → (is_digit b [] || (eqb b 43 || eqb b 45)) ≡ true

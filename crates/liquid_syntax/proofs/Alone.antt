@@ -11,12 +11,13 @@ use Rattle.liquid_source.specs.Readers.{IsOfKind}
 use Rattle.liquid_source.specs.declared.fault.FaultKind.TheVariants.{Expected}
 use Rattle.liquid_source.specs.declared.fault.ParseError.{ParseError}
 use Rattle.liquid_source.specs.declared.fault.ParseError.TheVariants as errors
+use Rattle.liquid_source.proofs.WordLaws.{bind_some, from_some}
 use Rattle.liquid_tree.specs.Tree.{case_of}
 use Rattle.liquid_syntax.specs.inside.Classifies.{ReadsBlock}
 use Rattle.liquid_syntax.specs.Classification.{case_for, many_or}
 use Rattle.liquid_language.specs.declared.block.Block.TheVariants.{Case}
 use Rattle.liquid_syntax.specs.declared.build.Stage.TheVariants.{Unkept}
-use Rattle.liquid_syntax.proofs.Printed.{bind_some, from_some, first_word}
+use Rattle.liquid_syntax.proofs.Printed.{first_word}
 use Rattle.liquid_syntax.proofs.TokenLaws.{first_value}
 
 alone_is : {A : Type 0} (x : A × List Token) (y : A) → alone x ≡ Some y → (x.0 ≡ y) × (x.1 ≡ [])

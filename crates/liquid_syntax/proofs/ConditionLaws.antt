@@ -12,8 +12,8 @@ use Rattle.liquid_tree.specs.Tree.{Atom, bare, compared, Condition}
 use Rattle.liquid_tree.specs.declared.comparison.ComparisonOperator.{ComparisonOperator}
 use Rattle.liquid_source.specs.declared.symbol.Symbol.{Symbol}
 use Rattle.liquid_source.specs.declared.symbol.Symbol.TheVariants.{Equals, NotEquals, LessOrGreater, LessThanEquals, GreaterThanEquals, LessThan, GreaterThan, Assign, Colon, Comma, Bar}
+use Rattle.liquid_source.proofs.WordLaws.{from_some, map_some}
 use Rattle.liquid_tree.specs.declared.comparison.ComparisonOperator.TheVariants as operators
-use Rattle.liquid_syntax.proofs.Printed.{from_some, map_some}
 
 -- ---- what is written is read
 

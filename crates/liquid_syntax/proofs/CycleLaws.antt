@@ -9,13 +9,13 @@ use Rattle.liquid_core.specs.declared.expression.Variable as declared
 use Rattle.liquid_model.specs.Texts.{Text}
 use Rattle.liquid_source.specs.Tokens.{Token, value, symbol, value_first, past}
 use Rattle.liquid_source.specs.declared.symbol.Symbol.TheVariants.{Colon}
+use Rattle.liquid_source.proofs.WordLaws.{bind_some, map_some, from_some, guard_opt}
 use Rattle.liquid_tree.specs.Groups.{values_group}
 use Rattle.liquid_syntax.specs.Cycles.{Cycle, with_group, grouped_of, IsName, an_identifier, a_literal, IsCycle, without_name, with_name, name_alone, is_name, has_no_steps, any_values_of, named_of, behind_first, cycle_of}
 use Rattle.liquid_syntax.specs.Repeated.{AreRepeated, no_more, one_more}
 use Rattle.liquid_syntax.specs.ValueLists.{a_comma, IsFurther, a_further, IsValuesEnd, no_value, a_last_comma, AreValues, some_values, further_of}
 use Rattle.liquid_syntax.specs.declared.value_items.Separators.TheVariants.{Commas}
 use Rattle.liquid_syntax.proofs.ItemLaws.{all_further_takes, all_further_again, values_takes, values_again}
-use Rattle.liquid_syntax.proofs.Printed.{bind_some, map_some, from_some}
 use Rattle.liquid_syntax.proofs.TokenLaws.{past_is, first_value}
 
 -- ---- names
@@ -45,17 +45,13 @@ name_seen x v b is without with_some = steps_seen v.indexes.items b without with
 
 -- ---- what is read is a cycle
 
-kept_some : {A : Type 0} (b : Bool) (o : Option A) (y : A) → cond b o None ≡ Some y → (b ≡ true) × (o ≡ Some y)
-kept_some true o y h = (refl, h)
-kept_some false o y h = absurd cc
-
 any_values_take : (name : Expression) (ts : List Token) (xs : List Expression) → IsName name → any_values_of ts ≡ Some xs → IsCycle (Some name) xs (value name ∷ symbol Colon ∷ ts)
 any_values_take name [] xs is h = subst (λ (xs : List Expression). IsCycle (Some name) xs (value name ∷ symbol Colon ∷ [])) (from_some h) (name_alone is)
 any_values_take name (t ∷ ts) xs is h = with_name is (values_takes Commas xs (t ∷ ts) h)
 
 named_takes : (name : Expression) (ts : List Token) (c : Cycle) → named_of name ts ≡ Some c → IsCycle c.0 c.1 (value name ∷ symbol Colon ∷ ts)
 named_takes name ts c h =
-    let (named, made) = kept_some (is_name name) (option_map (λ xs. (Some name, xs)) (any_values_of ts)) c h in
+    let (named, made) = guard_opt (is_name name) (option_map (λ xs. (Some name, xs)) (any_values_of ts)) c h in
     let (xs, read, same) = map_some (any_values_of ts) (λ xs. (Some name, xs)) c made in
     subst (λ (c : Cycle). IsCycle c.0 c.1 (value name ∷ symbol Colon ∷ ts)) same (any_values_take name ts xs (name_is name named) read)
 

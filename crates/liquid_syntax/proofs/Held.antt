@@ -18,6 +18,7 @@ use Rattle.std.proofs.lemmas.Slice.Eq.{bytes_eq-Decides}
 use mathlib.Core.Path.{refl, sym, ap, subst, ◌∙◌}
 use Rattle.liquid_model.specs.Texts.{Text, same_text}
 use Rattle.liquid_model.specs.Maps.{listed, insert}
+use Rattle.liquid_model.proofs.Maps.{same_key}
 use Rattle.liquid_language.proofs.Inserted.{named, looked_up, seen_inserted, listed_inserted}
 use Rattle.liquid_language.specs.Entries.{seen, put, placed, without}
 use Rattle.liquid_syntax.specs.Slots.{with_held, filled, reserved, exchanged}
@@ -46,9 +47,6 @@ unequal h = cc
 
 order_itself : (a : Text) → order a a ≡ Equal
 order_itself a = tied_itself nat_list_cmp_total a
-
-pub same_itself : (a : Text) → same_text a a ≡ true
-same_itself a = (bytes_eq-Decides a a).1 refl
 
 same_is : (a b : Text) → same_text a b ≡ true → a ≡ b
 same_is a b h = (bytes_eq-Decides a b).0 h
@@ -159,7 +157,7 @@ module _ {Y : Type 0} where
       on : (o : Ordering) → order name e.0 ≡ o → (b : Bool) → same_text e.0 name ≡ b → cond b (Some e.1) (listed es name) ≡ None → (listed es name ≡ None → filled (put name None es) ≡ filled es) → filled (match_ordering (order name e.0) ((name, None) ∷ e ∷ es) ((e.0, None) ∷ es) (e ∷ put name None es)) ≡ filled (e ∷ es)
       on o k true s l rest = absurd (none e.1 None l)
       on Less k false s l rest = ap (λ x. filled (match_ordering x ((name, None) ∷ e ∷ es) ((e.0, None) ∷ es) (e ∷ put name None es))) k
-      on Equal k false s l rest = absurd (apart (sym (same_itself e.0) ∙ ap (same_text e.0) (sym (equal_is name e.0 k)) ∙ s))
+      on Equal k false s l rest = absurd (apart (sym (same_key e.0) ∙ ap (same_text e.0) (sym (equal_is name e.0 k)) ∙ s))
       on Greater k false s l rest = ap (λ x. filled (match_ordering x ((name, None) ∷ e ∷ es) ((e.0, None) ∷ es) (e ∷ put name None es))) k ∙ ap (λ ps. with_held e.0 e.1 ps) (rest l)
 
   pub filled_emptied : (name : Text) (es : List (Text × Option Y)) → Ascend es → filled (placed name None es) ≡ without name (filled es)
@@ -238,7 +236,7 @@ held_found f name es found h k = listed_filled name (seen (option_map f) es) (as
 
 pub inserted_there : {X Y : Type 0} (f : X → Y) (new es : List (String Global × X)) (k : String Global) (x : X) → new ≡ insert_entry string_cmp es k x → IsSome (listed (seen f new) (string_bytes k))
 unfolding insert
-inserted_there f new es k x e = ap (λ m. is_some (m (string_bytes k))) (listed_inserted f new es k x e) ∙ ap (λ b. is_some (cond b (Some (f x)) (listed (seen f es) (string_bytes k)))) (same_itself (string_bytes k))
+inserted_there f new es k x e = ap (λ m. is_some (m (string_bytes k))) (listed_inserted f new es k x e) ∙ ap (λ b. is_some (cond b (Some (f x)) (listed (seen f es) (string_bytes k)))) (same_key (string_bytes k))
 
 pub reserved_same : {X Y : Type 0} (f : X → Y) (new es : List (String Global × Option X)) (k : String Global) → new ≡ insert_entry string_cmp es k None → is_some (lookup (named (string_bytes k)) es) ≡ false → filled (seen (option_map f) new) ≡ filled (seen (option_map f) es)
 reserved_same f new es k e h =

@@ -1,6 +1,7 @@
 -- Values, loops and pairs are read just where the grammar says so.
 use Rattle.std.proofs.Common.{◌≡◌, ◌<◌, suc, nat_eq, rules, List, [], ◌∷◌, ◌++◌, length, Bool, true, false, codes, cond, Option, Some, None, refl, sym, ap, subst, ◌∙◌, arith}
 use Rattle.std.specs.Option.{option_and_then, option_map}
+use Rattle.std.proofs.lemmas.Option.{cond_some}
 use Rattle.liquid_core.specs.Expression.{Expression}
 use Rattle.liquid_model.specs.Texts.{Text}
 use Rattle.liquid_source.specs.Tokens.{Token, value, range, symbol, word, value_first, word_first, past, past_word, is_symbol, is_word}
@@ -8,6 +9,7 @@ use Rattle.liquid_source.specs.Tokens.{tokens_view}
 use Rattle.liquid_source.specs.declared.item.Item.{Item}
 use Rattle.liquid_source.specs.declared.symbol.Symbol.{Symbol}
 use Rattle.liquid_source.specs.declared.symbol.Symbol.TheVariants.{Colon, Comma}
+use Rattle.liquid_source.proofs.WordLaws.{bind_some, map_some, from_some}
 use Rattle.liquid_tree.specs.Tree.{Bindings, Source, each_of, counted}
 use Rattle.liquid_syntax.specs.Bound.{ArePairs, IsOneOf, IsPair, IsPairsEnd, a_pair, any_item, behind_comma, ends_pairs, is_separated, last_comma, mark_of, no_item, one_first, pair_first, pairs_of, past_comma, unseparated}
 use Rattle.liquid_syntax.specs.Loops.{source_token, source_of, source_first, Part, limit_is, offset_is, cols_is, is_reversed, IsPart, a_limit, an_offset, a_reversal, a_width, Parts, no_parts, settled, with_part, IsNothing, is_nothing, Head, head_with, IsLoop, a_loop, part_value, or_else, own_part, part_first, parts_of, settled_of, loop_of}
@@ -20,7 +22,7 @@ use Rattle.liquid_syntax.specs.declared.pair_items.PairStyle.TheVariants.{Includ
 use Rattle.liquid_syntax.specs.declared.value_items.Separators.{Separators}
 use Rattle.liquid_syntax.specs.declared.value_items.Separators.TheVariants.{Commas, CommasOr}
 use Rattle.liquid_syntax.proofs.ConditionLaws.{word_is}
-use Rattle.liquid_syntax.proofs.Printed.{bind_some, map_some, from_some, guard_some, first_word}
+use Rattle.liquid_syntax.proofs.Printed.{first_word}
 use Rattle.liquid_syntax.proofs.Repetition.{behind_those, repeated_takes, repeated_again, more_turn, end_turn, stuck_turn}
 use Rattle.liquid_syntax.proofs.TokenLaws.{symbol_is, past_again, past_is, past_word_is, first_value, cut_shorter}
 
@@ -41,7 +43,7 @@ separator_again CommasOr t an_or = refl
 
 past_separator_is : (s : Separators) (ts rest : List Token) → past_separator s ts ≡ Some rest → (t : Token) × (ts ≡ t ∷ rest) × IsSeparator s t
 past_separator_is s [] rest h = absurd cc
-past_separator_is s (t ∷ ts) rest h = let (e, same) = guard_some (is_separator s t) ts rest h in (t, ap (λ (ts : List Token). t ∷ ts) same, separator_is s t e)
+past_separator_is s (t ∷ ts) rest h = let (e, same) = cond_some (is_separator s t) ts rest h in (t, ap (λ (ts : List Token). t ∷ ts) same, separator_is s t e)
 
 further_takes : (s : Separators) (ts : List Token) (x : Expression) (rest : List Token) → further_first s ts ≡ Some (x, rest) → (us : List Token) × (ts ≡ us ++ rest) × IsFurther s x us
 further_takes s ts x rest h =

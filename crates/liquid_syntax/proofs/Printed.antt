@@ -1,6 +1,7 @@
 -- A chain that is written out is read, and what is read is written so.
 use Rattle.std.proofs.Common.{◌≡◌, List, [], ◌∷◌, ◌++◌, length, Bool, true, false, cond, Option, Some, None, refl, sym, ap, subst, ◌∙◌}
 use Rattle.std.specs.Option.{option_and_then, option_map}
+use Rattle.std.proofs.lemmas.Option.{cond_some}
 use Rattle.liquid_core.specs.Expression.{Expression, literal, variable, no_steps, step}
 use Rattle.liquid_model.specs.Maps.{listed}
 use Rattle.liquid_model.specs.Texts.{Text}
@@ -14,23 +15,9 @@ use Rattle.liquid_language.specs.Registered.{registered_in}
 use Rattle.liquid_tree.specs.Tree.{FilterCall, Chain, assign}
 use Rattle.liquid_language.specs.declared.language.Language.{Language}
 use Rattle.liquid_source.specs.declared.symbol.Symbol.TheVariants.{Equals, NotEquals, LessOrGreater, LessThanEquals, GreaterThanEquals, LessThan, GreaterThan, Assign, Colon, Comma, Bar}
+use Rattle.liquid_source.proofs.WordLaws.{bind_some, map_some, from_some}
 
 -- ---- options
-
-pub from_some : {A : Type 0} {x y : A} → Some x ≡ Some y → x ≡ y
-from_some h = cc
-
-pub bind_some : {A B : Type 0} (o : Option A) (f : A → Option B) (y : B) → option_and_then f o ≡ Some y → (x : A) × (o ≡ Some x) × (f x ≡ Some y)
-bind_some None f y h = absurd cc
-bind_some (Some x) f y h = (x, refl, h)
-
-pub map_some : {A B : Type 0} (o : Option A) (f : A → B) (y : B) → option_map f o ≡ Some y → (x : A) × (o ≡ Some x) × (f x ≡ y)
-map_some None f y h = absurd cc
-map_some (Some x) f y h = (x, refl, from_some h)
-
-pub guard_some : {A : Type 0} (b : Bool) (x y : A) → cond b (Some x) None ≡ Some y → (b ≡ true) × (x ≡ y)
-guard_some true x y h = (refl, from_some h)
-guard_some false x y h = absurd cc
 
 module _ (l : Filters) where
   more_again : (vs : List Expression) {fs : List FilterCall} {rest : List Token} → AreFilters l fs rest → filters_of l rest ≡ Some fs → further_of l (further_arguments vs ++ rest) ≡ Some (vs, fs)
@@ -108,7 +95,7 @@ comma_is (symbol Bar) h = absurd cc
 accepted_takes : (name : Text) (o : Option RegisteredFilter) (xs : List Expression) (call : FilterCall) → accepted_call name o xs ≡ Some call → (kind : RegisteredFilter) × (o ≡ Some kind) × (registered_counts kind (length xs) ≡ true) × (record { filter = called_as name kind; arguments = xs } ≡ call)
 accepted_takes name None xs call h = absurd cc
 accepted_takes name (Some kind) xs call h =
-    let (counts, same) = guard_some (registered_counts kind (length xs)) _ call h in
+    let (counts, same) = cond_some (registered_counts kind (length xs)) _ call h in
     (kind, refl, counts, same)
 
 word_is : (i : Token) (w : Text) → word_of i ≡ Some w → i ≡ word w
@@ -224,7 +211,7 @@ first_word (symbol s ∷ is) w rest h = absurd cc
 past_assign : (is : List Token) (rest : List Token) → past Assign is ≡ Some rest → is ≡ symbol Assign ∷ rest
 past_assign [] rest h = absurd cc
 past_assign (i ∷ is) rest h =
-    let (e, same) = guard_some (is_symbol Assign i) is rest h in
+    let (e, same) = cond_some (is_symbol Assign i) is rest h in
     ap (λ (i : Token). i ∷ is) (assign_is i e) ∙ ap (λ (is : List Token). symbol Assign ∷ is) same
 
 module _ (l : Language) where

@@ -4,6 +4,7 @@ use Rattle.std.specs.Option.{option_and_then, option_map}
 use Rattle.liquid_core.specs.Expression.{Expression}
 use Rattle.liquid_model.specs.Texts.{Text}
 use Rattle.liquid_source.specs.Tokens.{Token, value, word, value_first, word_first, past_word}
+use Rattle.liquid_source.proofs.WordLaws.{bind_some, map_some}
 use Rattle.liquid_tree.specs.Tree.{Bindings, Source, each_of, counted}
 use Rattle.liquid_syntax.specs.Bound.{ArePairs, behind_comma, last_comma, no_item, pairs_of, unseparated}
 use Rattle.liquid_syntax.specs.Loops.{or_else, source_first, source_token}
@@ -11,7 +12,7 @@ use Rattle.liquid_syntax.specs.PartialItems.{IsRender, Rendered, each_first, for
 use Rattle.liquid_syntax.specs.Repeated.{no_more, one_more}
 use Rattle.liquid_syntax.specs.declared.pair_items.PairStyle.TheVariants.{Render}
 use Rattle.liquid_syntax.proofs.ItemLaws.{first_source, pairs_again, pairs_takes}
-use Rattle.liquid_syntax.proofs.Printed.{bind_some, map_some, first_word}
+use Rattle.liquid_syntax.proofs.Printed.{first_word}
 use Rattle.liquid_syntax.proofs.TokenLaws.{first_value, past_word_is}
 
 -- ---- what is read is written so

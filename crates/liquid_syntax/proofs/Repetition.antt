@@ -2,8 +2,8 @@
 use Rattle.std.proofs.Common.{◌≡◌, ℕ, zero, suc, ◌<◌, ◌≤◌, arith, List, [], ◌∷◌, ◌++◌, length, Bool, true, false, Option, Some, None, refl, sym, ap, subst, ◌∙◌, append_assoc}
 use Rattle.std.specs.Option.{option_map}
 use Rattle.liquid_source.specs.Tokens.{Token}
+use Rattle.liquid_source.proofs.WordLaws.{map_some, from_some}
 use Rattle.liquid_syntax.specs.Repeated.{AreRepeated, no_more, one_more, repeats_by, repeated_at, repeated_of}
-use Rattle.liquid_syntax.proofs.Printed.{map_some, from_some}
 
 -- what is read behind the first ones
 unfoldable pub behind_those : {A : Type 0} → List A → Option (List A) → Option (List A)

@@ -8,6 +8,7 @@ use Rattle.liquid_source.specs.Tokens.{Token, tokens_of, word_first, past}
 use Rattle.liquid_source.specs.declared.piece.Body.{Body}
 use Rattle.liquid_source.specs.declared.piece.Body.TheVariants as bodies
 use Rattle.liquid_source.specs.declared.symbol.Symbol.TheVariants.{Assign}
+use Rattle.liquid_source.proofs.WordLaws.{bind_some, map_some}
 use Rattle.liquid_syntax.specs.ChainReading.{chain_of}
 use Rattle.liquid_syntax.specs.ConditionReading.{condition_of}
 use Rattle.liquid_syntax.specs.Classification.{leaf_or, assign_of, if_node, unless_node, bare, word_alone, value_alone, one_or, many_or, arm_or, capture_of, case_for, two_or, elsif_or, ends_or, tag_statement, raw_statement, comment_statement, reads}
@@ -37,7 +38,7 @@ use Rattle.liquid_syntax.proofs.CycleLaws.{cycle_takes, cycle_again}
 use Rattle.liquid_syntax.proofs.ItemLaws.{loop_takes, loop_again, values_takes, values_again}
 use Rattle.liquid_syntax.proofs.NestingLaws.{Stands}
 use Rattle.liquid_syntax.proofs.PartialLaws.{include_takes, include_again, jekyll_takes, jekyll_again}
-use Rattle.liquid_syntax.proofs.Printed.{bind_some, map_some, chain_takes, chain_again, assign_takes, assign_again}
+use Rattle.liquid_syntax.proofs.Printed.{chain_takes, chain_again, assign_takes, assign_again}
 use Rattle.liquid_syntax.proofs.RenderLaws.{render_takes, render_again}
 
 pub statement_says : (l : Language) (x : BlockContext) (p : Piece) (statement : Statement) → IsStatement l x p statement → reads l x p ≡ statement

@@ -20,13 +20,7 @@ use Rattle.liquid_syntax.specs.Statements.{IsStatement}
 use Rattle.liquid_syntax.proofs.StatementLaws.{statement_says, statement_stands}
 use Rattle.liquid_syntax.proofs.NestingLaws.{tree_takes, tree_again}
 use Rattle.liquid_source.proofs.SourceLaws.{source_takes, source_again}
-
-pub from_some : {A : Type 0} {x y : A} → Some x ≡ Some y → x ≡ y
-from_some h = cc
-
-some_of : {A B : Type 0} (o : Option A) (f : A → Option B) (y : B) → option_and_then f o ≡ Some y → (x : A) × (o ≡ Some x) × (f x ≡ Some y)
-some_of None f y h = absurd cc
-some_of (Some x) f y h = (x, refl, h)
+use Rattle.liquid_source.proofs.WordLaws.{bind_some, from_some}
 
 module _ (l : Language) where
   bare_tag : (role : Option Role) (s next : State) → step (tag_statement l [] [] role) s.0 s.1 ≡ Some next → unread_body role ≡ None
@@ -76,14 +70,14 @@ module _ (l : Language) where
   pub template_takes : (t : Nodes) (source : Text) → template_at l source ≡ Some t → IsTemplate l t source
   unfolding template_at IsTemplate
   template_takes t source h =
-      let (s, at_s, ends) = some_of (source_at (body_of l) (piece_step l) (length source) false begun_with source) (λ s. at_end s.0 s.1) t h in
+      let (s, at_s, ends) = bind_some (source_at (body_of l) (piece_step l) (length source) false begun_with source) (λ s. at_end s.0 s.1) t h in
       let (ps, is, steps) = source_takes (body_of l) (piece_step l) (length source) false begun_with source s at_s in
       (ps, is, tree_takes (IsStatement l) (reads l) (statement_says l) (statement_stands l) t ps (sym (steps_read ps [] no_nodes) ∙ ap (option_and_then (λ s. at_end s.0 s.1)) steps ∙ ends))
 
   pub template_again : (t : Nodes) (source : Text) → IsTemplate l t source → template_at l source ≡ Some t
   unfolding template_at IsTemplate
   template_again t source (ps, is, nodes) =
-      let (s, steps, ends) = some_of (all_steps (piece_step l) ps begun_with) (λ s. at_end s.0 s.1) t (steps_read ps [] no_nodes ∙ tree_again (IsStatement l) (reads l) (statement_says l) (statement_stands l) t ps nodes) in
+      let (s, steps, ends) = bind_some (all_steps (piece_step l) ps begun_with) (λ s. at_end s.0 s.1) t (steps_read ps [] no_nodes ∙ tree_again (IsStatement l) (reads l) (statement_says l) (statement_stands l) t ps nodes) in
       ap (option_and_then (λ s. at_end s.0 s.1)) (source_again (body_of l) (piece_step l) agrees is (length source) (omega arith) begun_with s steps) ∙ ends
 
   pub only_tree : (t : Nodes) (source : Text) → template_at l source ≡ Some t → IsOnlyTree l t source

@@ -2,13 +2,14 @@
 use Rattle.std.proofs.Common.{◌≡◌, ℕ, nat_eq, List, [], ◌∷◌, ◌++◌, get_or, length, ◌<◌, Bool, true, cond, Some, None, refl, sym, ap, ◌∙◌, arith}
 use Rattle.std.proofs.lemmas.Bool.Decides.{nat_tests}
 use Rattle.std.proofs.Common.{length-append}
+use Rattle.std.proofs.lemmas.Option.{cond_some}
 use Rattle.liquid_core.specs.Expression.{Expression}
 use Rattle.liquid_model.specs.Texts.{Text}
 use Rattle.liquid_source.specs.Tokens.{Token, value, range, symbol, word, number_of, is_symbol, past, past_word, is_word, value_first}
 use Rattle.liquid_source.specs.declared.symbol.Symbol.{Symbol}
 use Rattle.liquid_source.specs.declared.symbol.Symbol.TheVariants.{Equals, NotEquals, LessOrGreater, LessThanEquals, GreaterThanEquals, LessThan, GreaterThan, Assign, Colon, Comma, Bar}
+use Rattle.liquid_source.proofs.WordLaws.{from_some}
 use Rattle.liquid_syntax.proofs.ConditionLaws.{word_is}
-use Rattle.liquid_syntax.proofs.Printed.{guard_some, from_some}
 
 -- the symbol at a place
 at_place : ℕ → Symbol
@@ -54,11 +55,11 @@ past_again s ts = ap (λ (b : Bool). cond b (Some ts) None) (symbol_again s)
 
 pub past_is : (s : Symbol) (ts rest : List Token) → past s ts ≡ Some rest → ts ≡ symbol s ∷ rest
 past_is s [] rest h = absurd cc
-past_is s (t ∷ ts) rest h = let (e, same) = guard_some (is_symbol s t) ts rest h in ap (λ (t : Token). t ∷ ts) (symbol_is s t e) ∙ ap (λ (ts : List Token). symbol s ∷ ts) same
+past_is s (t ∷ ts) rest h = let (e, same) = cond_some (is_symbol s t) ts rest h in ap (λ (t : Token). t ∷ ts) (symbol_is s t e) ∙ ap (λ (ts : List Token). symbol s ∷ ts) same
 
 pub past_word_is : (w : Text) (ts rest : List Token) → past_word w ts ≡ Some rest → ts ≡ word w ∷ rest
 past_word_is w [] rest h = absurd cc
-past_word_is w (t ∷ ts) rest h = let (e, same) = guard_some (is_word w t) ts rest h in ap (λ (t : Token). t ∷ ts) (word_is w t e) ∙ ap (λ (ts : List Token). word w ∷ ts) same
+past_word_is w (t ∷ ts) rest h = let (e, same) = cond_some (is_word w t) ts rest h in ap (λ (t : Token). t ∷ ts) (word_is w t e) ∙ ap (λ (ts : List Token). word w ∷ ts) same
 
 pub first_value : (ts : List Token) (x : Expression) (rest : List Token) → value_first ts ≡ Some (x, rest) → ts ≡ value x ∷ rest
 first_value [] x rest h = absurd cc

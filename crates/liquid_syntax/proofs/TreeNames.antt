@@ -1,7 +1,8 @@
 -- The names of a tree are those of the nodes of its list.
-use Rattle.std.specs.Prelude.{◌≡◌, Bool, true, false, ◌||◌, List, [], ◌∷◌, ◌++◌, map, string_bytes, codes, Some, None, option_map}
+use Rattle.std.specs.Prelude.{◌≡◌, Bool, false, ◌||◌, List, [], ◌∷◌, ◌++◌, map, string_bytes, codes, Some, None, option_map}
 use mathlib.Core.Path.{refl, sym, ap, subst, ◌∙◌}
 use Rattle.std.proofs.Common.{append_assoc}
+use Rattle.std.proofs.Math.Bool.{or_comm}
 use Rattle.liquid_core.specs.Expression.{Expression}
 use Rattle.liquid_core.specs.ExpressionView.{expression_view}
 use Rattle.liquid_model.specs.Texts.{Text}
@@ -20,12 +21,6 @@ use Rattle.liquid_syntax.specs.declared.node.Node.TheVariants.{Text as Plain, Ou
 use Rattle.liquid_syntax.specs.declared.template.Template.{Template}
 use Rattle.liquid_syntax.specs.inside.NameVisitors.{mentioned_both, or_assoc, or_false}
 use Rattle.liquid_syntax.proofs.Totals.{IsTotal, Makes, leaf_makes, one_makes, two_makes, of_arms, case_makes, list_total, tree_total}
-
-or_swapped : (a b : Bool) → (a || b) ≡ (b || a)
-or_swapped true true = refl
-or_swapped true false = refl
-or_swapped false true = refl
-or_swapped false false = refl
 
 module _ (name : Text) where
   abbrev either : Bool → Bool → Bool
@@ -52,7 +47,7 @@ module _ (name : Text) where
     left = λ a. refl;
     right = λ a. sym (or_false a);
     grouped = or_assoc;
-    swapped = or_swapped;
+    swapped = or_comm;
     nothing = refl;
     more = λ n ns. mentioned_both (node_names n) (nodes_names ns) name;
   }

@@ -8,11 +8,12 @@ use Rattle.liquid_source.specs.Pieces.{last}
 use Rattle.liquid_source.specs.Words.{IsRun}
 use Rattle.liquid_source.specs.declared.item.Delimiter.{Delimiter}
 use Rattle.liquid_source.specs.declared.item.Delimiter.TheVariants.{Output, Tag}
+use Rattle.liquid_source.proofs.WordLaws.{from_some}
 use Rattle.liquid_syntax.specs.Statements.{is_text}
 use Rattle.liquid_syntax.specs.Nesting.{none, is_leaf}
 use Rattle.liquid_syntax.specs.Parsing.{IsTemplate}
 use Rattle.liquid_syntax.specs.TemplateLaw.{HasNoOpener, PlainSources, AtMostOneTemplate}
-use Rattle.liquid_syntax.proofs.TemplateLaws.{from_some, template_again}
+use Rattle.liquid_syntax.proofs.TemplateLaws.{template_again}
 
 -- no opener begins at the front
 NoneBegins : List ℕ → Type 0

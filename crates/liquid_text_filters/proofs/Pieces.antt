@@ -1,6 +1,7 @@
 -- The pieces of a text: where a search for p cuts, the pieces are cut, and joining them gives the text back.
 use Rattle.std.proofs.Common.{◌≡◌, ◌≢◌, ℕ, zero, suc, ◌-◌, ◌<◌, ◌≤◌, Bool, true, false, ◌&&◌, ◌==◌, List, [], ◌∷◌, ◌++◌, length, take, drop, ap, refl, sym, ◌∙◌, arith, if◌then◌else◌}
 use Rattle.std.proofs.lemmas.Bool.Decides.{nat_tests}
+use Rattle.std.proofs.lemmas.Bool.{and_parts}
 use Rattle.liquid_filter_base.specs.Joined.{joined, joined_rest}
 use Rattle.liquid_filter_base.specs.Text.{begins}
 use Rattle.liquid_text_filters.specs.Pieces.{push, pieces}
@@ -12,10 +13,6 @@ joined-push p b (x ∷ xs) = refl
 joined_rest-push : (p : List ℕ) (b : ℕ) (ps : List (List ℕ)) → joined_rest p (push b ps) ≡ p ++ joined p (push b ps)
 joined_rest-push p b [] = refl
 joined_rest-push p b (x ∷ xs) = refl
-
-and_parts : (a b : Bool) → (a && b) ≡ true → (a ≡ true) × (b ≡ true)
-and_parts true b h = (refl, h)
-and_parts false b h = cc
 
 eq_from : (x y : ℕ) → (x == y) ≡ true → x ≡ y
 eq_from x y h = grind (arith, nat_tests)

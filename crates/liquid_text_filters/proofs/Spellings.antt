@@ -7,6 +7,7 @@ use Rattle.std.proofs.lemmas.Str.Ascii.{lowercase_ascii, uppercase_ascii}
 use Rattle.std.specs.Char.{is_whitespace, to_ascii_lowercase, to_ascii_uppercase}
 use Rattle.std.specs.List.{filter}
 use Rattle.std.specs.Str.{all_scalars, chars, drop_trailing_whitespace, encode_utf8_all, IsUtf8, skip_leading_whitespace, trim, trim_end, trim_start}
+use Rattle.std.proofs.Math.Bool.{and-false}
 use lib.Utf8.{encode, scalar}
 use Rattle.liquid_model.specs.Answer.{IsTheOne}
 use Rattle.liquid_text_filters.specs.Case.{capitalized, upper_first}
@@ -135,16 +136,12 @@ drop_white (c ∷ cs) ws a = ap (λ t. cond (is_whitespace c && length t == 0) [
 not_zero : (n : ℕ) → (suc n == 0) ≡ false
 not_zero n = grind (arith, nat_tests)
 
-and_false : (t : Bool) → (t && false) ≡ false
-and_false true = refl
-and_false false = refl
-
 drop_plain : (cs : List ℕ) → EndsPlain cs → drop_trailing_whitespace cs ≡ cs
 drop_plain [] p = refl
 drop_plain (c ∷ []) p = ap (λ t. cond (t && true) [] (c ∷ [])) p
 drop_plain (c ∷ (d ∷ cs)) p =
     ap (λ t. cond (is_whitespace c && length t == 0) [] (c ∷ t)) (drop_plain (d ∷ cs) p)
-    ∙ ap (λ t. cond (is_whitespace c && t) [] (c ∷ (d ∷ cs))) (not_zero (length cs)) ∙ ap (λ t. cond t [] (c ∷ (d ∷ cs))) (and_false (is_whitespace c))
+    ∙ ap (λ t. cond (is_whitespace c && t) [] (c ∷ (d ∷ cs))) (not_zero (length cs)) ∙ ap (λ t. cond t [] (c ∷ (d ∷ cs))) (and-false (is_whitespace c))
 
 abbrev Dropped : List ℕ → List ℕ → Type 0
 Dropped cs kept = (white : List ℕ) × (cs ≡ kept ++ white) × AreWhite white × EndsPlain kept

@@ -10,6 +10,7 @@ use Rattle.liquid_model.specs.declared.value.Value.{Value, Array}
 use Rattle.liquid_model.proofs.Views.{view-Array}
 use Rattle.std.proofs.lemmas.Bool.Decides.{Decides-eqb}
 use Rattle.std.proofs.lemmas.Slice.Eq.{starts_is}
+use Rattle.std.proofs.lemmas.Bool.{or_left, or_right}
 use Rattle.liquid_model.specs.Texts.{Text}
 use Rattle.liquid_tree.specs.Evaluation.{contains, occurs_in}
 
@@ -26,14 +27,6 @@ either false b h left right = right h
 found : (n s : Text) → occurs_in n s ≡ true → HasSubslice s n
 found n [] h = begins n [] h
 found n (c ∷ s) h = either _ _ h (begins n (c ∷ s)) (λ later. behind n s c (found n s later))
-
-or_right : (a b : Bool) → b ≡ true → (a || b) ≡ true
-or_right true b h = refl
-or_right false b h = h
-
-or_left : (a b : Bool) → a ≡ true → (a || b) ≡ true
-or_left true b h = refl
-or_left false b h = cc
 
 at_front : (n s back : Text) → s ≡ n ++ back → occurs_in n s ≡ true
 at_front n [] back e = (starts_is Decides-eqb [] n _ refl).1 back e

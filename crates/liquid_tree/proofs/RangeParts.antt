@@ -1,14 +1,14 @@
 -- What the parts of a range's code answer.
 use Rattle.std.proofs.Common.{rules, ◌≡◌, ℕ, zero, suc, ◌+◌, ◌<◌, ◌≤◌, nat_le, ℤ, pos, ◌+ℤ◌, ◌≤ℤ◌, ◌<ℤ◌, int_le, Bool, true, false, MatchBool, cond, List, [], ◌∷◌, ◌++◌, length, map, get_or, Vec, Global, Result, Ok, Err, refl, sym, ap, ◌∙◌, subst, arith}
 use Rattle.std.specs.Bool.{⊤}
-use Rattle.std.proofs.lemmas.List.{get_or-map, map-append}
+use Rattle.std.proofs.lemmas.List.{map-append}
 use Rattle.liquid_model.specs.Answer.{Answers, IsValueOrMemory, Faulted}
 use Rattle.liquid_model.specs.Cow.{cow_view}
 use Rattle.liquid_model.specs.Data.{Datum, nil, number}
 use Rattle.liquid_model.specs.ErrorKinds.{is_memory, is_refusal}
 use Rattle.liquid_model.specs.Fallible.{◌>>=◌}
-use Rattle.liquid_model.specs.Lists.{list_of, pair_lists}
-use Rattle.liquid_model.specs.View.{view, items_view, pairs_view}
+use Rattle.liquid_model.specs.Lists.{pair_lists}
+use Rattle.liquid_model.specs.View.{view, pairs_view}
 use Rattle.liquid_model.specs.declared.error.Error.{Error}
 use Rattle.liquid_model.specs.declared.error.ErrorKind.{ErrorKind}
 use Rattle.liquid_model.specs.declared.error.ErrorKind.TheVariants.{RangeTooLong}
@@ -29,16 +29,9 @@ use Rattle.liquid_tree.proofs.Ranges.{beyond, count_of_numbers, here, numbers_co
 
 -- ---- the items of a value
 
-pub items_length : (vs : List Value) → length (list_of (items_view vs)) ≡ length vs
-items_length [] = refl
-items_length (v ∷ vs) = ap suc (items_length vs)
-
 pub pairs_length : (ms : List Entry) → length (pair_lists (pairs_view ms)) ≡ length ms
 pairs_length [] = refl
 pairs_length (m ∷ ms) = ap suc (pairs_length ms)
-
-pub item_within : (vs : List Value) (i : ℕ) (d : Value) → i < length vs → view (get_or vs i d) ≡ get_or (map view vs) i nil
-item_within vs i d h = sym (get_or-map view vs i d nil h)
 
 pub item_past : (vs : List Value) (i : ℕ) → length vs ≤ i → nil ≡ get_or (map view vs) i nil
 item_past [] i h = refl

@@ -5,6 +5,7 @@ use Rattle.std.proofs.lemmas.Str.{encode_ascii}
 use Rattle.std.proofs.lemmas.List.Elements.{All-head, All-tail}
 use Rattle.std.specs.Prelude.{All, IfSome, IsSome}
 use Rattle.std.specs.List.{flat_map}
+use Rattle.std.proofs.lemmas.Bool.{and_parts}
 use lib.Utf8.{encode}
 use Rattle.liquid_filter_base.specs.Text.{begins}
 use Rattle.liquid_web_filters.specs.Escapes.{ends_escape, escape_of, escape_or, escaped_byte, escaped_letter, escaped, once_byte, once_letter, escaped_once}
@@ -132,10 +133,6 @@ is_plain b = escaped_byte b ≡ b ∷ []
 abbrev ArePlain : List ℕ → Type 0
 ArePlain [] = Unit {0}
 ArePlain (x ∷ p) = ((x == 38) ≡ false) × is_plain x × ArePlain p
-
-and_parts : (a b : Bool) → (a && b) ≡ true → (a ≡ true) × (b ≡ true)
-and_parts true b h = (refl, h)
-and_parts false b h = cc
 
 plain_once : (x : ℕ) (s : List ℕ) → (x == 38) ≡ false → is_plain x → escaped_once (x ∷ s) ≡ x ∷ escaped_once s
 plain_once x s a e =

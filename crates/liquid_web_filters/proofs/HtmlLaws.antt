@@ -5,6 +5,7 @@ use Rattle.std.proofs.lemmas.List.Concat.{flat_map-append}
 use Rattle.std.proofs.lemmas.Str.{encode_ascii, encodes-chars, chars-encodes, scalars-chars}
 use Rattle.std.specs.List.{flat_map}
 use Rattle.std.specs.Str.{chars, encode_utf8_all, IsUtf8}
+use Rattle.std.proofs.lemmas.Bool.{and_parts, and_from}
 use lib.Utf8.{encode, encodes, scalar, scalars}
 use Rattle.liquid_model.specs.Answer.{IsTheOne}
 use Rattle.liquid_model.specs.Data.{Datum, nil, truth, number, text, array, object, text_of}
@@ -130,26 +131,18 @@ pub no_tag_left : (s : Text) → IsUtf8 s → HasNoTag (strip_html s)
 no_tag_left s u = bytes_no_tag (without_tags (chars s)) (nothing_left (chars s))
 
 -- ---- a pass keeps characters, so a second run sees the same ones
-and_split : (a b : Bool) → (a && b) ≡ true → (a ≡ true) × (b ≡ true)
-and_split true b h = (refl, h)
-and_split false b h = cc
-
-and_join : (a b : Bool) → a ≡ true → b ≡ true → (a && b) ≡ true
-and_join true b h k = k
-and_join false b h k = cc
-
 either_scalars : (t : Bool) (xs ys : List ℕ) → scalars xs ≡ true → scalars ys ≡ true → scalars (if t then xs else ys) ≡ true
 either_scalars true xs ys h k = h
 either_scalars false xs ys h k = k
 
 pub kept_scalars : (o e : List ℕ) (b : Bool) (k : ℕ) (s : List ℕ) → scalars s ≡ true → scalars (kept o e b k s) ≡ true
 kept_scalars o e b k [] h = refl
-kept_scalars o e b (suc k) (c ∷ s) h = kept_scalars o e b k s (and_split (scalar c) (scalars s) h).1
+kept_scalars o e b (suc k) (c ∷ s) h = kept_scalars o e b k s (and_parts (scalar c) (scalars s) h).1
 kept_scalars o e false zero (c ∷ s) h =
-    let q = and_split (scalar c) (scalars s) h in
-    either_scalars (begins_mark o (c ∷ s) && has_mark e (drop (length o) (c ∷ s))) (kept o e true (length o - 1) s) (c ∷ kept o e false 0 s) (kept_scalars o e true (length o - 1) s q.1) (and_join (scalar c) (scalars (kept o e false 0 s)) q.0 (kept_scalars o e false 0 s q.1))
+    let q = and_parts (scalar c) (scalars s) h in
+    either_scalars (begins_mark o (c ∷ s) && has_mark e (drop (length o) (c ∷ s))) (kept o e true (length o - 1) s) (c ∷ kept o e false 0 s) (kept_scalars o e true (length o - 1) s q.1) (and_from (scalar c) (scalars (kept o e false 0 s)) q.0 (kept_scalars o e false 0 s q.1))
 kept_scalars o e true zero (c ∷ s) h =
-    let q = and_split (scalar c) (scalars s) h in
+    let q = and_parts (scalar c) (scalars s) h in
     either_scalars (begins_mark e (c ∷ s)) (kept o e false (length e - 1) s) (kept o e true 0 s) (kept_scalars o e false (length e - 1) s q.1) (kept_scalars o e true 0 s q.1)
 
 tags_scalars : (s : List ℕ) → scalars s ≡ true → scalars (without_tags s) ≡ true

@@ -7,6 +7,7 @@ use Rattle.std.proofs.lemmas.Str.{encode_ascii, len_utf8_ascii, encodes-append, 
 use Rattle.std.proofs.lemmas.Str.Ascii.{IsAscii-cons, IsAscii-nil}
 use Rattle.std.specs.Str.{chars, encode_utf8_all, IsCharBoundary, IsUtf8, NoCharPasses, NonePass}
 use Rattle.std.specs.Str.Pattern.{FindsChar, SplitsAroundMatch}
+use Rattle.std.proofs.lemmas.Bool.{and_right}
 use lib.Utf8.{scalars}
 use Rattle.liquid_web_filters.specs.Tags.{SplitsAtFirst, begins_mark, first_mark, is_mark, stands_for, strip_html, without_pairs}
 use Rattle.liquid_web_filters.proofs.HtmlLaws.{kept_scalars}
@@ -170,13 +171,9 @@ no_close : (cs : List ℕ) → NonePass (λ d. d == 62) cs → has_close cs ≡ 
 no_close [] h = refl
 no_close (c ∷ cs) h = ap (λ t. t || has_close cs) h.0 ∙ no_close cs h.1
 
-neither : (a b : Bool) → b ≡ false → (a && b) ≡ false
-neither true b h = h
-neither false b h = refl
-
 no_tag : (cs : List ℕ) → NonePass (λ d. d == 62) cs → HasNoTag cs
 no_tag [] h = tt
-no_tag (c ∷ cs) h = (neither (c == 60) (has_close cs) (no_close cs h.1), no_tag cs h.1)
+no_tag (c ∷ cs) h = (and_right (c == 60) (has_close cs) (no_close cs h.1), no_tag cs h.1)
 
 pub without_close : (s : List ℕ) → IsUtf8 s → NoCharPasses (λ d. d == 62) s → s ≡ strip_html s
 without_close s u h = sym (ap encode_utf8_all (no_change (chars s) (no_tag (chars s) (none_pass 62 s u h))) ∙ encodes-chars s u)

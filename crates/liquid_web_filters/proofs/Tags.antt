@@ -6,32 +6,21 @@ use Rattle.std.proofs.Common.{length-drop, get_or}
 use Rattle.std.proofs.Math.Seq.{drop-cons}
 use Rattle.std.specs.Prelude.{IsTrue}
 use Rattle.std.specs.List.{list_any}
+use Rattle.std.proofs.lemmas.Bool.{and_parts, and_right, or_parts}
 use Rattle.liquid_web_filters.specs.Tags.{SplitsAtFirst, stands_for, begins_mark, has_mark, kept, without_pairs, without_tags, first_mark, is_opener}
 use Rattle.liquid_web_filters.specs.HtmlLaws.{has_close, HasNoTag}
-
-and_parts : (a b : Bool) → (a && b) ≡ true → (a ≡ true) × (b ≡ true)
-and_parts true b h = (refl, h)
-and_parts false b h = cc
-
-or_false : (a b : Bool) → (a || b) ≡ false → (a ≡ false) × (b ≡ false)
-or_false true b h = cc
-or_false false b h = (refl, h)
-
-and_false : (a b : Bool) → b ≡ false → (a && b) ≡ false
-and_false true b h = h
-and_false false b h = refl
 
 -- ---- a closer that does not stand in a text stands in no end of it
 has_drop : (p s : List ℕ) (k : ℕ) → has_mark p s ≡ false → has_mark p (drop k s) ≡ false
 has_drop p s zero h = h
 has_drop p [] (suc k) h = refl
-has_drop p (c ∷ s) (suc k) h = has_drop p s k (or_false (begins_mark p (c ∷ s)) (has_mark p s) h).1
+has_drop p (c ∷ s) (suc k) h = has_drop p s k (or_parts (begins_mark p (c ∷ s)) (has_mark p s) h).1
 
 kept_all : (o e s : List ℕ) → has_mark e s ≡ false → kept o e false 0 s ≡ s
 kept_all o e [] h = refl
 kept_all o e (c ∷ s) h =
-    ap (λ t. if t then kept o e true (length o - 1) s else c ∷ kept o e false 0 s) (and_false (begins_mark o (c ∷ s)) (has_mark e (drop (length o) (c ∷ s))) (has_drop e (c ∷ s) (length o) h))
-    ∙ ap (λ t. c ∷ t) (kept_all o e s (or_false (begins_mark e (c ∷ s)) (has_mark e s) h).1)
+    ap (λ t. if t then kept o e true (length o - 1) s else c ∷ kept o e false 0 s) (and_right (begins_mark o (c ∷ s)) (has_mark e (drop (length o) (c ∷ s))) (has_drop e (c ∷ s) (length o) h))
+    ∙ ap (λ t. c ∷ t) (kept_all o e s (or_parts (begins_mark e (c ∷ s)) (has_mark e s) h).1)
 
 -- ---- no opener begins inside an opener
 abbrev No60 : ℕ → List ℕ → Type 0
@@ -168,7 +157,7 @@ kept_open [] e s i f h = cc
 kept_open (x ∷ p) e [] i f h = refl
 kept_open (x ∷ p) e (c ∷ s) i f h =
     ap (λ t. if begins_mark (x ∷ p) (c ∷ s) && t then kept (x ∷ p) e true (length (x ∷ p) - 1) s else c ∷ kept (x ∷ p) e false 0 s) h
-    ∙ ap (λ t. if t then kept (x ∷ p) e true (length (x ∷ p) - 1) s else c ∷ kept (x ∷ p) e false 0 s) (and_false (begins_mark (x ∷ p) (c ∷ s)) false refl)
+    ∙ ap (λ t. if t then kept (x ∷ p) e true (length (x ∷ p) - 1) s else c ∷ kept (x ∷ p) e false 0 s) (and_right (begins_mark (x ∷ p) (c ∷ s)) false refl)
     ∙ ap (λ t. c ∷ t) (kept_inner (x ∷ p) e (length p) s i (inner p s (and_parts (eqb x 60) _ i).1 (and_parts (stands_for x c) (begins_mark p s) f).1) h)
 
 pub drop_past : (k : ℕ) → drop {A = ℕ} k [] ≡ []
@@ -256,9 +245,9 @@ untag_either b s false e x y = ap (λ t. t || has_close (untagged false s)) e �
 -- what has_mark no `>` keeps none
 closed_kept : (i : Bool) (s : List ℕ) → has_close s ≡ false → has_close (untagged i s) ≡ false
 closed_kept i [] h = refl
-closed_kept true (b ∷ s) h = let q = or_false (eqb b 62) (has_close s) h in closed_kept (if eqb b 62 then false else true) s q.1
+closed_kept true (b ∷ s) h = let q = or_parts (eqb b 62) (has_close s) h in closed_kept (if eqb b 62 then false else true) s q.1
 closed_kept false (b ∷ s) h =
-    let q = or_false (eqb b 62) (has_close s) h in
+    let q = or_parts (eqb b 62) (has_close s) h in
     untag_either b s (eqb b 60 && has_close s) q.0 (closed_kept true s q.1) (closed_kept false s q.1)
 
 and_no : (a b c : Bool) → (a && b) ≡ false → (b ≡ false → c ≡ false) → (a && c) ≡ false
@@ -284,28 +273,28 @@ nothing_left s = let t = without_pairs (codes "<!--") (codes "-->") (without_pai
 close_drop : (k : ℕ) (s : List ℕ) → has_close s ≡ false → has_close (drop k s) ≡ false
 close_drop zero s h = h
 close_drop (suc k) [] h = refl
-close_drop (suc k) (c ∷ s) h = close_drop k s (or_false (eqb c 62) (has_close s) h).1
+close_drop (suc k) (c ∷ s) h = close_drop k s (or_parts (eqb c 62) (has_close s) h).1
 
 alike_62 : (c : ℕ) → eqb c 62 ≡ false → stands_for 62 c ≡ false
 alike_62 c h = alike_is62 c ∙ h
 
 no_opens_at : (y : ℕ) (e : List ℕ) (c : ℕ) (s : List ℕ) (t : Bool) → eqb y 62 ≡ t → (t || list_any (λ z. eqb z 62) e) ≡ true → eqb c 62 ≡ false → (list_any (λ z. eqb z 62) e ≡ true → begins_mark e s ≡ false) → (stands_for y c && begins_mark e s) ≡ false
 no_opens_at y e c s true k a h next = let q : y ≡ 62 = grind (arith, nat_tests) in ap (λ z. stands_for z c && begins_mark e s) q ∙ ap (λ t. t && begins_mark e s) (alike_62 c h)
-no_opens_at y e c s false k a h next = and_false (stands_for y c) (begins_mark e s) (next a)
+no_opens_at y e c s false k a h next = and_right (stands_for y c) (begins_mark e s) (next a)
 
 no_opens : (e s : List ℕ) → list_any (λ y. eqb y 62) e ≡ true → has_close s ≡ false → begins_mark e s ≡ false
 no_opens [] s a h = cc
 no_opens (y ∷ e) [] a h = refl
-no_opens (y ∷ e) (c ∷ s) a h = no_opens_at y e c s (eqb y 62) refl a (or_false (eqb c 62) (has_close s) h).0 (λ b. no_opens e s b (or_false (eqb c 62) (has_close s) h).1)
+no_opens (y ∷ e) (c ∷ s) a h = no_opens_at y e c s (eqb y 62) refl a (or_parts (eqb c 62) (has_close s) h).0 (λ b. no_opens e s b (or_parts (eqb c 62) (has_close s) h).1)
 
 no_has : (e s : List ℕ) → list_any (λ y. eqb y 62) e ≡ true → has_close s ≡ false → has_mark e s ≡ false
 no_has e [] a h = refl
-no_has e (c ∷ s) a h = ap (λ t. t || has_mark e s) (no_opens e (c ∷ s) a h) ∙ no_has e s a (or_false (eqb c 62) (has_close s) h).1
+no_has e (c ∷ s) a h = ap (λ t. t || has_mark e s) (no_opens e (c ∷ s) a h) ∙ no_has e s a (or_parts (eqb c 62) (has_close s) h).1
 
 stays_at : (o e s : List ℕ) (c : ℕ) (t : Bool) → is_opener o ≡ true → list_any (λ y. eqb y 62) e ≡ true → eqb c 60 ≡ t → (t && has_close s) ≡ false → (begins_mark o (c ∷ s) && has_mark e (drop (length o) (c ∷ s))) ≡ false
 stays_at o e s c false i a k h = let n : c ≢ 60 = (λ z. let u : ⊥ = grind (arith, nat_tests) in u) in ap (λ t. t && has_mark e (drop (length o) (c ∷ s))) (opener_60 o s c i n)
 stays_at [] e s c true i a k h = cc
-stays_at (x ∷ p) e s c true i a k h = and_false (begins_mark (x ∷ p) (c ∷ s)) (has_mark e (drop (length p) s)) (no_has e (drop (length p) s) a (close_drop (length p) s h))
+stays_at (x ∷ p) e s c true i a k h = and_right (begins_mark (x ∷ p) (c ∷ s)) (has_mark e (drop (length p) s)) (no_has e (drop (length p) s) a (close_drop (length p) s h))
 
 stays : (o e s : List ℕ) → is_opener o ≡ true → list_any (λ y. eqb y 62) e ≡ true → HasNoTag s → kept o e false 0 s ≡ s
 stays o e [] i a h = refl

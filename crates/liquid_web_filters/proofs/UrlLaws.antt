@@ -4,6 +4,7 @@ use Rattle.std.proofs.lemmas.Bool.Decides.{nat_tests}
 use Rattle.std.proofs.lemmas.List.Elements.{All-append, All-from_recursion, All-nil}
 use Rattle.std.specs.Char.{digit_value, is_digit}
 use Rattle.std.specs.Str.{IsUtf8}
+use Rattle.std.proofs.lemmas.Bool.{and_parts}
 use lib.Utf8.{encode, encodes, scalar, scalars, scalar_cases}
 use Rattle.percent_encoding.specs.Percent.{is_escape, percent_decode}
 use Rattle.percent_encoding.proofs.PercentLemmas.{IsByte}
@@ -20,10 +21,6 @@ use Rattle.liquid_web_filters.specs.UrlLaws.{BeginsNoEscape, Decodes, UrlDecodes
 use Rattle.liquid_web_filters.specs.Urls.{plus_to_space, text_of_bytes, unescaped, url_decode_answer, url_encode_answer, url_escaped, url_escaped_byte}
 use Rattle.liquid_web_filters.proofs.HtmlLaws.{concatenation}
 use Rattle.liquid_web_filters.proofs.Urls.{of_bytes_text, url_round_trip}
-
-and_parts : (a b : Bool) → (a && b) ≡ true → (a ≡ true) × (b ≡ true)
-and_parts true b h = (refl, h)
-and_parts false b h = cc
 
 -- ---- the bytes of a text are below 256
 small_by_width : (c : ℕ) (s t u : Bool) → ltb c 128 ≡ s → ltb c 2048 ≡ t → ltb c 65536 ≡ u → c < 1114112 → All IsByte (encode c)

@@ -13,12 +13,12 @@ use Rattle.liquid_core.specs.ExpressionView.{expression_view}
 use Rattle.liquid_syntax.specs.Flats.{bindings_view, each_view}
 use Rattle.liquid_tree.specs.ItemLists.{all_items}
 use Rattle.liquid_meaning.specs.Meaning.{deeper_meaning}
-use Rattle.liquid_lib.proofs.ItemRuns.{Leads, items_left}
+use Rattle.liquid_lib.proofs.ItemRuns.{items_left}
 use Rattle.liquid_lib.proofs.RenderEach.{item_run}
 use Rattle.liquid_core.specs.declared.frame.Scope.{Scope}
 use Rattle.liquid_core.specs.declared.frame.LoopFrame.{LoopFrame}
 use Rattle.liquid_lib.specs.inside.LoopRuns.{KeepsBehind, StartsAt, behind, configuration_behind}
-use Rattle.liquid_lib.proofs.Turning.{AtTurn, CellsLead, TurnsLead}
+use Rattle.liquid_lib.proofs.Turning.{AtTurn, CellsLead, TurnsLead, Leads}
 use Rattle.liquid_lib.proofs.engine.+run.Given as goal
 
 abbrev pub decreases-run_range : goal.decreases-run_range

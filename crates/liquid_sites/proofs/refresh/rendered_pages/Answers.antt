@@ -1,5 +1,6 @@
 use Rattle.std.proofs.Common.{◌≡◌, ◌∷◌, [], ◌++◌, ◌||◌, true, false, String, Global, string_bytes, sym, ap, ◌∙◌}
 use Rattle.std.proofs.lemmas.List.{map-append}
+use Rattle.std.proofs.lemmas.Bool.{or_from, or_right}
 use Rattle.liquid_core.specs.Held.{held}
 use Rattle.liquid_tree.specs.Names.{mentioned, nodes_names}
 use Rattle.liquid_language.specs.Entries.{seen}
@@ -10,7 +11,7 @@ use Rattle.liquid_sites.specs.Contents.{all_pages}
 use Rattle.liquid_sites.specs.inside.Fresh.{wanted, wanted_of}
 use Rattle.liquid_lib.specs.Pages.{page_view}
 use Rattle.liquid_sites.specs.Parts.{trees_in, listed_pages}
-use Rattle.liquid_sites.proofs.Placing.{taken, passed, or_true, or_false}
+use Rattle.liquid_sites.proofs.Placing.{taken, passed}
 use Rattle.liquid_sites.proofs.refresh.rendered_pages.Goals as goal
 use Rattle.liquid_sites.proofs.refresh.rendered_pages.Goals.{then-all-via-then-all, then-all-via-else-all+then-mentions}
 
@@ -28,7 +29,7 @@ loop-page-preserved-in-loop-page c =
     let all = all_pages show (wanted_of test (trees_in c.args.templates.now)) in
     let hit : test t ≡ true = elim c.then-all.branch [
       | then-all-via-then-all w ↦ ap (λ b. b || mentioned (nodes_names t) c.args.name.now) w.if-all.true
-      | then-all-via-else-all+then-mentions w ↦ or_true c.args.all (mentioned (nodes_names t) c.args.name.now) (sym w.mentions.ensures ∙ w.if-mentions.true)
+      | then-all-via-else-all+then-mentions w ↦ or_right c.args.all (mentioned (nodes_names t) c.args.name.now) (sym w.mentions.ensures ∙ w.if-mentions.true)
     ] in
     ap (λ l. listed_pages l ++ rest) c.in_ok-push.ensures.items
     ∙ ap (λ l. l ++ rest) (map-append (λ p. (string_bytes p.0, page_view p.1)) c.loop-page.pages.items (fresh ∷ []))
@@ -45,5 +46,5 @@ loop-page-preserved c =
     let done = listed_pages c.loop-page.pages.items in
     let all = all_pages show (wanted_of test (trees_in c.args.templates.now)) in
     let chosen : c.args.all ≡ false = cc in
-    let miss = or_false c.args.all (mentioned (nodes_names t) c.args.name.now) chosen (sym c.mentions.ensures ∙ c.if-mentions.false) in
+    let miss = or_from c.args.all (mentioned (nodes_names t) c.args.name.now) chosen (sym c.mentions.ensures ∙ c.if-mentions.false) in
     passed test show done all e c.next.new.self miss (ap (λ es. done ++ all_pages show (wanted_of test (seen tree_of es))) (sym c.in-Some.ensures.steps) ∙ c.loop-page.invariant)

@@ -3,8 +3,9 @@ use Rattle.liquid_model.specs.Data.{nil}
 use Rattle.liquid_model.specs.View.{view}
 use Rattle.liquid_model.specs.declared.value.Value.{the_lemmas}
 use Rattle.liquid_model.specs.declared.value.Value.TheVariants.{Nil}
-use Rattle.liquid_tree.proofs.RangeParts.{item_within, item_past}
+use Rattle.liquid_tree.proofs.RangeParts.{item_past}
 use Rattle.liquid_tree.proofs.range.item_at.Goals as goal
+use Rattle.liquid_core.proofs.LoopFrames.{item_within}
 
 pub returns-then-place-len : goal.returns-then-place-len
 returns-then-place-len c = ap view c.index.ensures ∙ item_within c.args.items.now.items c.args.place c.index.result.now (omega arith)

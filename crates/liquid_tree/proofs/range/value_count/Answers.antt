@@ -1,8 +1,8 @@
 use Rattle.std.proofs.Common.{Ok, sym, ap, ◌∙◌}
 use Rattle.liquid_model.specs.View.{view}
-use Rattle.liquid_model.proofs.Views.{view-Array, view-Object}
+use Rattle.liquid_model.proofs.Views.{view-Array, view-Object, items_length}
 use Rattle.liquid_tree.specs.Ranges.{value_count}
-use Rattle.liquid_tree.proofs.RangeParts.{items_length, pairs_length}
+use Rattle.liquid_tree.proofs.RangeParts.{pairs_length}
 use Rattle.liquid_tree.proofs.range.value_count.Goals as goal
 
 pub returns-in-Array-clause-value : goal.returns-in-Array-clause-value
