@@ -1,4 +1,4 @@
--- What a run with no buffer open says of the caller's writer.
+-- What a run with no buffer open says of the caller's writer, and one into a buffer of its text.
 use Rattle.std.proofs.lemmas.Bool.{true≢false}
 use Rattle.std.proofs.Common.{arith, ◌≡◌, ℕ, [], Bool, true, false, Option, Some, None, IsSome, is_some, Result, Ok, Err, ◌⊎◌, inl, inr, refl, sym, ap, subst, ◌∙◌, String, Global, string_bytes, option_map}
 use Rattle.liquid_model.specs.Texts.{Text}
