@@ -1,0 +1,367 @@
+-- What is evaluated in two environments that are alike is alike in what is granted.
+use Rattle.std.specs.Prelude.{◌≡◌, ℕ, zero, suc, ℤ, Bool, true, false, cond, ◌&&◌, T, List, [], ◌∷◌, length, get_or, nat_le, Option, Some, None, Result, Ok, Err}
+use mathlib.Core.List.{reverse, reverse_aux}
+use Rattle.std.specs.Fmt.{signed_decimal}
+use mathlib.Core.Path.{refl, sym, ap, subst, subst₂, ◌∙◌}
+use Rattle.std.specs.Option.{option_and_then, ok_or, unwrap_or}
+use Rattle.liquid_model.specs.Texts.{Text, ◌else◌}
+use Rattle.liquid_model.specs.Data.{Datum, nil, truth, number, text, array, object, scalar, text_of}
+use Rattle.liquid_model.specs.Whole.{whole, fits}
+use Rattle.liquid_model.proofs.Compares.{number_text_is_read}
+use Rattle.liquid_model.specs.declared.error.ErrorKind.{ErrorKind}
+use Rattle.liquid_model.specs.declared.error.ErrorKind.TheVariants.{UnknownVariable, UnexpectedValue, RangeTooLong}
+use Rattle.liquid_model.specs.Find.{find, step_into}
+use Rattle.liquid_model.specs.Find as finding
+use Rattle.liquid_core.specs.Expression.{Expression, literal, variable, Steps, no_steps, step}
+use Rattle.liquid_core.specs.Environment.{Environment, lookup}
+use Rattle.liquid_core.specs.Expressions.{value_of, path_of, required, all_required, needed_whole}
+use Rattle.liquid_model.specs.Fallible.{◌>>=◌}
+use Rattle.liquid_tree.specs.Calls.{applied}
+use Rattle.liquid_tree.specs.Tree.{FilterCall, Chain, Atom, bare, compared, Condition, Source, each_of, counted, Window, Bindings}
+use Rattle.liquid_tree.specs.Evaluation.{FilterAnswers, entry_value, calls_by, chain_value, bare_truth, atom_truth, all_true, truth_of, value_items, most_items, not_too_long, source_items, amount, skipped, wanted, items_at, window_items, asked_for, bound_values}
+use Rattle.liquid_meaning.specs.Uses.{Use, everything, parts, no_fields, every, there, shape_of, member, items, Pairwise, Alike, use_at, is_everything, asks_whether}
+use Rattle.liquid_meaning.specs.Reading.{Uses, key_of, key, by_key, grants, grants_along, grants_all, grants_optional, grants_filters, Needs, use_before, grants_chain, grants_atom, grants_atoms, grants_condition, grants_source, grants_window, grants_bindings}
+use Rattle.liquid_meaning.specs.Reads.{AlikeIn, Both, Respects}
+use Rattle.liquid_meaning.proofs.Uses.{both_left, both_right, pairwise_same, alike_same, alike_shape, alike_at, alike_included, alike_everything, present_asks, alike_present, alike_else}
+
+-- ---- results
+
+abbrev pub Same : {A : Type 0} → A → A → Type 0
+Same a b = a ≡ b
+
+pub both_equal : {A : Type 0} (R : A → A → Type 0) → ((a : A) → R a a) → (x y : Result A ErrorKind) → x ≡ y → Both R x y
+both_equal R r x y e = subst (λ z. Both R x z) e (at x)
+  where
+    at : (z : Result _ ErrorKind) → Both R z z
+    at (Ok a) = r a
+    at (Err k) = refl
+
+pub equal_both : {A : Type 0} (x y : Result A ErrorKind) → Both Same x y → x ≡ y
+equal_both (Ok a) (Ok b) h = ap Ok h
+equal_both (Ok a) (Err l) h = absurd h
+equal_both (Err k) (Ok b) h = absurd h
+equal_both (Err k) (Err l) h = ap Err h
+
+pub both_then : {A B : Type 0} (R : A → A → Type 0) (S : B → B → Type 0) (x y : Result A ErrorKind) (k l : A → Result B ErrorKind)
+    → Both R x y → ((a b : A) → R a b → Both S (k a) (l b)) → Both S (x >>= k) (y >>= l)
+both_then R S (Ok a) (Ok b) k l h g = g a b h
+both_then R S (Ok a) (Err d) k l h g = absurd h
+both_then R S (Err c) (Ok b) k l h g = absurd h
+both_then R S (Err c) (Err d) k l h g = h
+
+-- first the same, and then the same of each value
+pub same_then : {A B : Type 0} {x y : Result A ErrorKind} {k l : A → Result B ErrorKind} → x ≡ y → ((a : A) → k a ≡ l a) → (x >>= k) ≡ (y >>= l)
+same_then {x = x} {k = k} {l = l} e h = on x ∙ ap (λ z. z >>= l) e
+  where
+    on : (z : Result _ ErrorKind) → (z >>= k) ≡ (z >>= l)
+    on (Ok a) = h a
+    on (Err kind) = refl
+
+-- ---- steps
+
+-- on from a value along a path
+abbrev along : Option Datum → Option (List Datum) → Option Datum
+along o path = option_and_then (λ ds. option_and_then (λ d. find d ds) o) path
+
+abbrev stepped : Option Datum → Option Datum → Option Datum
+stepped s o = option_and_then (λ d. option_and_then (λ c. finding.step c d) o) s
+
+abbrev with_step : Option Datum → Option (List Datum) → Option (List Datum)
+with_step s path = option_and_then (λ d. cond (scalar d) (option_and_then (λ ds. Some (d ∷ ds)) path) None) s
+
+none_along : (path : Option (List Datum)) → along None path ≡ None
+none_along None = refl
+none_along (Some ds) = refl
+
+-- a step, and then the others
+step_first : (s o : Option Datum) (path : Option (List Datum)) → along o (with_step s path) ≡ along (stepped s o) path
+step_first None o path = sym (none_along path)
+step_first (Some d) o path = at (scalar d) refl o path
+  where
+    at : (b : Bool) → scalar d ≡ b → (c : Option Datum) (p : Option (List Datum))
+        → along c (cond b (option_and_then (λ ds. Some (d ∷ ds)) p) None) ≡ along (option_and_then (λ a. finding.step a d) c) p
+    at true e None None = refl
+    at true e None (Some ds) = refl
+    at true e (Some a) None = refl
+    at true e (Some a) (Some ds) = refl
+    at false e None p = sym (none_along p)
+    at false e (Some a) p = sym (ap (λ b. along (cond b (step_into a (whole d) (text_of d)) None) p) e ∙ none_along p)
+
+-- no step
+along_none : (o : Option Datum) → along o (Some []) ≡ o
+along_none None = refl
+along_none (Some d) = refl
+
+-- ---- a step that is known
+
+key_finds : (s : Datum) (k : Text) → key_of s ≡ Some k → (o : Option Datum) → stepped (Some s) o ≡ member k o
+key_finds s k e None = refl
+key_finds s k e (Some d) = on s k e
+  where
+    of_number : (z : ℤ) (b : Bool) (t : Text) → fits z ≡ b → cond b (Some (signed_decimal z)) None ≡ Some t → finding.step d (number z) ≡ finding.step d (text t)
+    of_number z true t f e = ap (λ i. step_into d i (signed_decimal z)) (number_text_is_read z f) ∙ ap (λ o. finding.step d (text (unwrap_or o t))) e
+    of_number z false t f e = absurd cc
+
+    on : (s : Datum) (t : Text) → key_of s ≡ Some t → finding.step d s ≡ finding.step d (text t)
+    on nil t e = absurd cc
+    on (truth true) t e = ap (λ o. finding.step d (text (unwrap_or o t))) e
+    on (truth false) t e = ap (λ o. finding.step d (text (unwrap_or o t))) e
+    on (number z) t e = of_number z (fits z) t refl e
+    on (text u) t e = ap (λ o. finding.step d (text (unwrap_or o t))) e
+    on (array ds) t e = absurd cc
+    on (object ps) t e = absurd cc
+
+-- ---- expressions
+
+module _ (U : Uses) (e f : Environment) (agree : AlikeIn U e f) where
+  pub lookup_alike : (name : Text) → Alike (U name) (lookup e name) (lookup f name)
+  lookup_alike name =
+      let u = U name in
+      alike_else u _ _ _ _ (alike_else u _ _ _ _ (alike_else u _ _ _ _ (agree.local name) (agree.assigned name)) (agree.counters name)) (agree.globals name)
+
+  -- what is next: the rest of the steps, from values that are alike
+  abbrev Next : Steps → Type 0
+  Next more = (u v : Use) (o p : Option Datum) → Alike u o p → T (grants_along U u more v) → Alike v (along o (path_of more e)) (along p (path_of more f))
+
+  -- from equal values, by equal steps
+  unknown_step : (more : Steps) → Next more → (v : Use) (s t o p : Option Datum) → s ≡ t → o ≡ p → T (grants_along U everything more v)
+      → Alike v (along o (with_step s (path_of more e))) (along p (with_step t (path_of more f)))
+  unknown_step more next v s t o p is a h =
+      subst₂ (Alike v) (sym (step_first s o (path_of more e))) (sym (step_first t p (path_of more f)))
+      (next everything v (stepped s o) (stepped t p) (λ i. stepped (is i) (a i)) h)
+
+  -- by a known step
+  known_step : (more : Steps) → Next more → (u v : Use) (d : Datum) (k : Text) (o p : Option Datum) → key_of d ≡ Some k → Alike u o p → T (grants_along U (use_at k u) more v)
+      → Alike v (along o (with_step (Some d) (path_of more e))) (along p (with_step (Some d) (path_of more f)))
+  known_step more next u v d k o p is a h =
+      subst₂ (Alike v)
+      (sym (step_first (Some d) o (path_of more e) ∙ ap (λ q. along q (path_of more e)) (key_finds d k is o)))
+      (sym (step_first (Some d) p (path_of more f) ∙ ap (λ q. along q (path_of more f)) (key_finds d k is p)))
+      (next (use_at k u) v (member k o) (member k p) (alike_at k u o p a) h)
+
+  any_step : (x : Expression) (more : Steps) → Next more → (T (grants U x everything) → value_of x e ≡ value_of x f) → (k : Option Text) → key x ≡ k → (u v : Use) (o p : Option Datum) → Alike u o p
+      → T (by_key k (λ k. grants_along U (use_at k u) more v) (is_everything u && (grants U x everything && grants_along U everything more v)))
+      → Alike v (along o (with_step (value_of x e) (path_of more e))) (along p (with_step (value_of x f) (path_of more f)))
+  unfolding value_of
+  any_step x more next same None is u v o p a h =
+      let rest = both_right (is_everything u) _ h in
+      unknown_step more next v (value_of x e) (value_of x f) o p (same (both_left (grants U x everything) _ rest)) (alike_everything u o p (both_left (is_everything u) _ h) a) (both_right (grants U x everything) _ rest)
+  any_step (literal d) more next same (Some k) is u v o p a h = known_step more next u v d k o p is a h
+  any_step (variable name steps) more next same (Some k) is u v o p a h = absurd cc
+
+  mutual
+    unfolding value_of grants
+
+    pub value_alike : (x : Expression) (v : Use) → T (grants U x v) → Alike v (value_of x e) (value_of x f)
+    value_alike (literal d) v h = alike_same v (Some d)
+    value_alike (variable name steps) v h = steps_alike steps (U name) v (lookup e name) (lookup f name) (lookup_alike name) h
+
+    steps_alike : (steps : Steps) → Next steps
+    steps_alike no_steps u v o p a h = subst₂ (Alike v) (sym (along_none o)) (sym (along_none p)) (alike_included v u o p h a)
+    steps_alike (step x more) u v o p a h =
+        any_step x more (λ u v o p a h. steps_alike more u v o p a h) (λ h. value_alike x everything h) (key x) refl u v o p a h
+
+  pub required_alike : (x : Expression) (v : Use) → T (asks_whether v) → T (grants U x v) → Both (λ c d. Alike v (Some c) (Some d)) (required x e) (required x f)
+  required_alike x v asks h = at (value_of x e) (value_of x f) (value_alike x v h)
+    where
+      at : (o p : Option Datum) → Alike v o p → Both (λ c d. Alike v (Some c) (Some d)) (ok_or o UnknownVariable) (ok_or p UnknownVariable)
+      at None None a = refl
+      at None (Some d) a = let e = alike_shape v None (Some d) asks a in absurd cc
+      at (Some c) None a = let e = alike_shape v (Some c) None asks a in absurd cc
+      at (Some c) (Some d) a = a
+
+  pub required_equal : (x : Expression) → T (grants U x everything) → required x e ≡ required x f
+  required_equal x h = ap (λ o. ok_or o UnknownVariable) (value_alike x everything h)
+
+  pub whole_equal : (x : Expression) → T (grants U x everything) → needed_whole x e ≡ needed_whole x f
+  unfolding needed_whole
+  whole_equal x h = same_then (required_equal x h) (λ d. refl)
+
+  pub all_required_equal : (xs : List Expression) → T (grants_all U xs) → all_required xs e ≡ all_required xs f
+  unfolding all_required grants_all
+  all_required_equal [] h = refl
+  all_required_equal (x ∷ xs) h = same_then (required_equal x (both_left (grants U x everything) _ h)) (λ d. same_then (all_required_equal xs (both_right (grants U x everything) _ h)) (λ ds. refl))
+
+  entries_alike : (v : Use) → T (asks_whether v) → (calls : List FilterCall) (o p : Option Datum) → Alike v o p → Both (λ c d. Alike v (Some c) (Some d)) (entry_value o calls) (entry_value p calls)
+  entries_alike v asks [] None None a = refl
+  entries_alike v asks (call ∷ calls) None None a = alike_same v (Some nil)
+  entries_alike v asks calls None (Some d) a = let e = alike_shape v None (Some d) asks a in absurd cc
+  entries_alike v asks calls (Some c) None a = let e = alike_shape v (Some c) None asks a in absurd cc
+  entries_alike v asks calls (Some c) (Some d) a = a
+
+  module _ (answers : FilterAnswers) (needs : Needs) (respects : Respects answers needs) where
+    calls_alike : (calls : List FilterCall) (v : Use) → T (grants_filters U calls) → (c d : Datum) → Alike (use_before needs calls v) (Some c) (Some d)
+        → Both (λ a b. Alike v (Some a) (Some b)) (applied (calls_by answers calls) c e) (applied (calls_by answers calls) d f)
+    unfolding applied grants_filters
+    calls_alike [] v h c d a = a
+    calls_alike (call ∷ calls) v h c d a =
+        let w = use_before needs calls v in
+        subst (λ r. Both (λ a b. Alike v (Some a) (Some b)) (all_required call.arguments e >>= (λ arguments. answers call.filter c arguments >>= (λ answer. applied (calls_by answers calls) answer e)))
+        (r >>= (λ arguments. answers call.filter d arguments >>= (λ answer. applied (calls_by answers calls) answer f))))
+        (all_required_equal call.arguments (both_left (grants_all U call.arguments) _ h))
+        (called (all_required call.arguments e) refl (λ x y b. calls_alike calls v (both_right (grants_all U call.arguments) _ h) x y b))
+      where
+        called : (r : Result (List Datum) ErrorKind) → all_required call.arguments e ≡ r
+            → ((x y : Datum) → Alike (use_before needs calls v) (Some x) (Some y) → Both (λ a b. Alike v (Some a) (Some b)) (applied (calls_by answers calls) x e) (applied (calls_by answers calls) y f))
+            → Both (λ a b. Alike v (Some a) (Some b)) (r >>= (λ arguments. answers call.filter c arguments >>= (λ answer. applied (calls_by answers calls) answer e)))
+            (r >>= (λ arguments. answers call.filter d arguments >>= (λ answer. applied (calls_by answers calls) answer f)))
+        called (Ok arguments) is next = both_then (λ x y. Alike (use_before needs calls v) (Some x) (Some y)) _ _ _ _ _
+            (respects call (use_before needs calls v) e arguments is c d (alike_present (needs call (use_before needs calls v)) (Some c) (Some d) a)) next
+        called (Err kind) is next = refl
+
+    use_before_asks : (calls : List FilterCall) (v : Use) → T (asks_whether v) → T (asks_whether (use_before needs calls v))
+    use_before_asks [] v asks = asks
+    use_before_asks (call ∷ calls) v asks = present_asks (needs call (use_before needs calls v))
+
+    pub chain_alike : (chain : Chain) (v : Use) → T (asks_whether v) → T (grants_chain needs U v chain) → Both (λ c d. Alike v (Some c) (Some d)) (chain_value answers chain e) (chain_value answers chain f)
+    unfolding chain_value grants_chain
+    chain_alike chain v asks h =
+        let u = use_before needs chain.filters v in
+        both_then (λ c d. Alike (use_before needs chain.filters v) (Some c) (Some d)) _ _ _ _ _
+        (entries_alike u (use_before_asks chain.filters v asks) chain.filters (value_of chain.entry e) (value_of chain.entry f) (value_alike chain.entry u (both_left (grants U chain.entry u) _ h)))
+        (λ c d a. calls_alike chain.filters v (both_right (grants U chain.entry u) _ h) c d a)
+
+  atom_equal : (atom : Atom) → T (grants_atom U atom) → atom_truth atom e ≡ atom_truth atom f
+  unfolding atom_truth grants_atom
+  atom_equal (bare x) h = ap Ok (at (value_of x e) (value_of x f) (value_alike x there h).0)
+    where
+      of_shape : (o : Option Datum) → bare_truth (shape_of o) ≡ bare_truth o
+      of_shape None = refl
+      of_shape (Some nil) = refl
+      of_shape (Some (truth b)) = refl
+      of_shape (Some (number z)) = refl
+      of_shape (Some (text s)) = refl
+      of_shape (Some (array ds)) = refl
+      of_shape (Some (object ps)) = refl
+
+      at : (o p : Option Datum) → shape_of o ≡ shape_of p → bare_truth o ≡ bare_truth p
+      at o p e = sym (of_shape o) ∙ (ap bare_truth e ∙ of_shape p)
+  atom_equal (compared x comparison y) h = same_then (required_equal x (both_left (grants U x everything) _ h)) (λ l. same_then (required_equal y (both_right (grants U x everything) _ h)) (λ r. refl))
+
+  all_true_equal : (atoms : List Atom) → T (grants_atoms U atoms) → all_true atoms e ≡ all_true atoms f
+  unfolding all_true grants_atoms
+  all_true_equal [] h = refl
+  all_true_equal (atom ∷ atoms) h = same_then (atom_equal atom (both_left (grants_atom U atom) _ h)) (λ holds. ap (λ z. cond holds z (Ok false)) (all_true_equal atoms (both_right (grants_atom U atom) _ h)))
+
+  pub truth_equal : (condition : Condition) → T (grants_condition U condition) → truth_of condition e ≡ truth_of condition f
+  unfolding truth_of grants_condition
+  truth_equal [] h = refl
+  truth_equal (conjunction ∷ more) h = same_then (all_true_equal conjunction (both_left (grants_atoms U conjunction) _ h)) (λ holds. ap (λ z. cond holds (Ok true) z) (truth_equal more (both_right (grants_atoms U conjunction) _ h)))
+
+  pub amount_equal : (x : Option Expression) → T (grants_optional U x) → amount x e ≡ amount x f
+  unfolding amount grants_optional
+  amount_equal None h = refl
+  amount_equal (Some x) h = same_then (whole_equal x h) (λ n. refl)
+
+-- ---- the items of loops
+
+pub then_both : {A B : Type 0} (S : B → B → Type 0) (x y : Result A ErrorKind) (k l : A → Result B ErrorKind) → x ≡ y → ((a : A) → Both S (k a) (l a)) → Both S (x >>= k) (y >>= l)
+then_both S x y k l e g = subst (λ z. Both S (x >>= k) (z >>= l)) e (at x)
+  where
+    at : (z : Result _ ErrorKind) → Both S (z >>= k) (z >>= l)
+    at (Ok a) = g a
+    at (Err kind) = refl
+
+module _ {A : Type 0} (R : A → A → Type 0) where
+  pub pairwise_length : (xs ys : List A) → Pairwise R xs ys → length xs ≡ length ys
+  pairwise_length [] [] h = refl
+  pairwise_length [] (y ∷ ys) h = absurd h
+  pairwise_length (x ∷ xs) [] h = absurd h
+  pairwise_length (x ∷ xs) (y ∷ ys) h = ap suc (pairwise_length xs ys h.1)
+
+  pairwise_get : (z : A) → R z z → (xs ys : List A) (i : ℕ) → Pairwise R xs ys → R (get_or xs i z) (get_or ys i z)
+  pairwise_get z r [] [] i h = r
+  pairwise_get z r [] (y ∷ ys) i h = absurd h
+  pairwise_get z r (x ∷ xs) [] i h = absurd h
+  pairwise_get z r (x ∷ xs) (y ∷ ys) zero h = h.0
+  pairwise_get z r (x ∷ xs) (y ∷ ys) (suc i) h = pairwise_get z r xs ys i h.1
+
+  pairwise_turned : (xs ys zs ws : List A) → Pairwise R xs ys → Pairwise R zs ws → Pairwise R (reverse_aux xs zs) (reverse_aux ys ws)
+  pairwise_turned [] [] zs ws h k = k
+  pairwise_turned [] (y ∷ ys) zs ws h k = absurd h
+  pairwise_turned (x ∷ xs) [] zs ws h k = absurd h
+  pairwise_turned (x ∷ xs) (y ∷ ys) zs ws h k = pairwise_turned xs ys (x ∷ zs) (y ∷ ws) h.1 (h.0, k)
+
+  pub pairwise_reverse : (xs ys : List A) → Pairwise R xs ys → Pairwise R (reverse xs) (reverse ys)
+  pairwise_reverse xs ys h = pairwise_turned xs ys [] [] h tt
+
+-- whether a loop goes over values of this kind
+goes : Option Datum → Bool
+goes (Some nil) = true
+goes (Some (array ds)) = true
+goes (Some (object ps)) = true
+goes _ = false
+
+by_kind : (d : Datum) → value_items d ≡ cond (goes (shape_of (Some d))) (Ok (items d)) (Err UnexpectedValue)
+unfolding goes
+by_kind nil = refl
+by_kind (truth b) = refl
+by_kind (number z) = refl
+by_kind (text s) = refl
+by_kind (array ds) = refl
+by_kind (object ps) = refl
+
+module _ (u : Use) where
+  abbrev pub AlikeLists : List Datum → List Datum → Type 0
+  AlikeLists ds es = Pairwise (λ c d. Alike u (Some c) (Some d)) ds es
+
+  not_too_long_alike : (n m : ℕ) (ds es : List Datum) → n ≡ m → AlikeLists ds es → Both AlikeLists (not_too_long n ds) (not_too_long m es)
+  not_too_long_alike n m ds es e h = subst (λ k. Both AlikeLists (not_too_long n ds) (not_too_long k es)) e (at (nat_le n most_items))
+    where
+      at : (b : Bool) → Both AlikeLists (cond b (Ok ds) (Err RangeTooLong)) (cond b (Ok es) (Err RangeTooLong))
+      at true = h
+      at false = refl
+
+  value_items_alike : (c d : Datum) → shape_of (Some c) ≡ shape_of (Some d) → AlikeLists (items c) (items d) → Both AlikeLists (value_items c) (value_items d)
+  value_items_alike c d e h = subst₂ (Both AlikeLists) (sym (by_kind c)) (sym (by_kind d)) (subst (λ b. Both AlikeLists (cond (goes (shape_of (Some c))) (Ok (items c)) (Err UnexpectedValue)) (cond b (Ok (items d)) (Err UnexpectedValue))) (ap goes e) (at (goes (shape_of (Some c)))))
+    where
+      at : (b : Bool) → Both AlikeLists (cond b (Ok (items c)) (Err UnexpectedValue)) (cond b (Ok (items d)) (Err UnexpectedValue))
+      at true = h
+      at false = refl
+
+  items_at_alike : (ds es : List Datum) (o m : ℕ) → AlikeLists ds es → AlikeLists (items_at ds o m) (items_at es o m)
+  items_at_alike ds es o zero h = tt
+  items_at_alike ds es o (suc m) h = (pairwise_get _ nil (alike_same u (Some nil)) ds es o h, items_at_alike ds es (suc o) m h)
+
+  -- the items of a list of n
+  abbrev within : Option ℤ → Option ℤ → ℕ → List Datum → List Datum
+  within limit offset n ds = items_at ds (skipped n offset) (wanted n (skipped n offset) limit)
+
+  window_alike : (ds es : List Datum) (limit offset : Option ℤ) (reversed : Bool) → AlikeLists ds es → AlikeLists (window_items ds limit offset reversed) (window_items es limit offset reversed)
+  window_alike ds es limit offset reversed h = at (length ds) (length es) (pairwise_length _ ds es h)
+    where
+      turned : (xs ys : List Datum) (b : Bool) → AlikeLists xs ys → AlikeLists (cond b (reverse xs) xs) (cond b (reverse ys) ys)
+      turned xs ys true k = pairwise_reverse _ xs ys k
+      turned xs ys false k = k
+
+      at : (n m : ℕ) → n ≡ m → AlikeLists (cond reversed (reverse (within limit offset n ds)) (within limit offset n ds)) (cond reversed (reverse (within limit offset m es)) (within limit offset m es))
+      at n m e = subst (λ m. AlikeLists (cond reversed (reverse (within limit offset n ds)) (within limit offset n ds)) (cond reversed (reverse (within limit offset m es)) (within limit offset m es))) e (turned (within limit offset n ds) (within limit offset n es) reversed (items_at_alike ds es (skipped n offset) (wanted n (skipped n offset) limit) h))
+
+module _ (U : Uses) (e f : Environment) (agree : AlikeIn U e f) where
+  pub source_alike : (name : Text) (source : Source) → T (grants_source U name source) → Both (AlikeLists (U name)) (source_items source e) (source_items source f)
+  unfolding source_items grants_source
+  source_alike name (each_of x) h =
+      both_then (λ c d. Alike (parts no_fields (every (U name))) (Some c) (Some d)) _ _ _ _ _ (required_alike U e f agree x (parts no_fields (every (U name))) tt h) (λ c d a.
+      both_then (AlikeLists (U name)) _ _ _ _ _ (value_items_alike (U name) c d a.0 a.1.1) (λ ds es k.
+      not_too_long_alike (U name) (length ds) (length es) ds es (pairwise_length _ ds es k) k))
+  source_alike name (counted x y) h = both_equal _ (λ ds. pairwise_same _ (λ d. alike_same (U name) (Some d)) ds) _ _
+      (same_then (whole_equal U e f agree x (both_left (grants U x everything) _ h)) (λ a. same_then (whole_equal U e f agree y (both_right (grants U x everything) _ h)) (λ b. refl)))
+
+  pub asked_alike : (u : Use) (window : Window) (ds es : List Datum) → AlikeLists u ds es → T (grants_window U window) → Both (AlikeLists u) (asked_for window ds e) (asked_for window es f)
+  unfolding asked_for grants_window
+  asked_alike u window ds es k h =
+      then_both _ _ _ _ _ (amount_equal U e f agree window.limit (both_left (grants_optional U window.limit) _ h)) (λ limit.
+      then_both _ _ _ _ _ (amount_equal U e f agree window.offset (both_right (grants_optional U window.limit) _ h)) (λ offset.
+      window_alike u ds es limit offset window.reversed k))
+
+  -- ---- the pairs of a tag
+
+  abbrev pub AlikePair : (Text → Use) → Text × Datum → Text × Datum → Type 0
+  AlikePair W p q = (p.0 ≡ q.0) × Alike (W p.0) (Some p.1) (Some q.1)
+
+  pub bound_alike : (W : Text → Use) → ((name : Text) → T (asks_whether (W name))) → (bindings : Bindings) → T (grants_bindings U W bindings) → Both (Pairwise (AlikePair W)) (bound_values bindings e) (bound_values bindings f)
+  unfolding bound_values grants_bindings
+  bound_alike W asks [] h = tt
+  bound_alike W asks (b ∷ bs) h =
+      both_then (λ c d. Alike (W b.0) (Some c) (Some d)) _ _ _ _ _ (required_alike U e f agree b.1 (W b.0) (asks b.0) (both_left (grants U b.1 (W b.0)) _ h)) (λ c d a.
+      both_then (Pairwise (AlikePair W)) _ _ _ _ _ (bound_alike W asks bs (both_right (grants U b.1 (W b.0)) _ h)) (λ ps qs k. ((refl, a), k)))

@@ -1,0 +1,68 @@
+-- What the filters that go through lists ask of their input.
+--     known_needs      of each call of a filter: `size` sees how many items there are, `first` and `last` an end, `reverse` and `concat` what is
+--     asked of the answer's items, `where`, `sort` and `sort_natural` with a property also that, `map` its property alone; all others see everything
+use Rattle.std.specs.Prelude.{cond, List, ◌∷◌, Option, Some, None, codes}
+use Rattle.liquid_model.specs.Texts.{Text, same_text}
+use Rattle.liquid_model.specs.Data.{text_of}
+use Rattle.liquid_core.specs.Expression.{Expression, literal}
+use Rattle.liquid_filters.specs.declared.kind.FilterKind.{FilterKind}
+use Rattle.liquid_filters.specs.declared.kind.FilterKind.TheVariants.{Sort, SortNatural, Where, Reverse, Map, Concat, First, Last, Size}
+use Rattle.liquid_tree.specs.Tree.{Filter, existing, hosted}
+use Rattle.liquid_tree.specs.Evaluation.{answers_with}
+use Rattle.liquid_core.specs.FilterAnswers.{FilterAnswer}
+use Rattle.liquid_meaning.specs.Uses.{Use, nothing, everything, parts, no_fields, field, uncounted, every, present, use_of_each, join, items_wanted}
+use Rattle.liquid_meaning.specs.Reading.{Needs}
+use Rattle.liquid_meaning.specs.Reads.{Respects}
+
+-- ---- uses of lists
+
+-- how many items there are, and this of each
+abbrev pub items_each : Use → Use
+items_each u = parts no_fields (every u)
+
+-- w of a value of that name, and u
+abbrev pub with_field : Text → Use → Use → Use
+with_field name w u = join (parts (field name w no_fields) uncounted) u
+
+-- u of each item of a list, and of a map that counts as a list of itself
+abbrev pub items_or_itself : Use → Use
+items_or_itself (parts members turns) = parts members (every (join (parts members turns) (use_of_each turns)))
+items_or_itself _ = everything
+
+-- ---- the filters
+
+abbrev pub one_field : Text → Use → Use
+one_field name u = parts (field name u no_fields) uncounted
+
+-- the text of a first argument that is a literal
+abbrev pub named_by : List Expression → Option Text
+named_by (literal d ∷ xs) = Some (text_of d)
+named_by _ = None
+
+-- a property, whose step of the name finds it and no length
+abbrev pub by_property : Option Text → (Text → Use) → Use
+by_property None f = everything
+by_property (Some name) f = cond (same_text name (codes "size")) everything (f name)
+
+abbrev pub kind_needs : FilterKind → List Expression → Use → Use
+kind_needs (Size f) arguments v = items_each nothing
+kind_needs (First f) arguments v = one_field (codes "first") v
+kind_needs (Last f) arguments v = one_field (codes "last") v
+kind_needs (Reverse f) arguments v = items_each (items_wanted v)
+kind_needs (Concat f) arguments v = items_each (items_wanted v)
+kind_needs (Map f) arguments v = by_property (named_by arguments) (λ name. items_each (one_field name (present (items_wanted v))))
+kind_needs (Where f) arguments v = by_property (named_by arguments) (λ name. items_or_itself (with_field name everything (items_wanted v)))
+kind_needs (Sort f) arguments v = by_property (named_by arguments) (λ name. items_or_itself (with_field name everything (items_wanted v)))
+kind_needs (SortNatural f) arguments v = by_property (named_by arguments) (λ name. items_or_itself (with_field name everything (items_wanted v)))
+kind_needs _ arguments v = everything
+
+abbrev pub filter_needs : Filter → List Expression → Use → Use
+filter_needs (existing kind) arguments v = kind_needs kind arguments v
+filter_needs (hosted name) arguments v = everything
+
+abbrev pub known_needs : Needs
+known_needs call v = filter_needs call.filter call.arguments v
+
+-- the filters that exist respect these, whatever a host's answer
+abbrev pub KnownRespected : Type 0
+KnownRespected = (named : Text → FilterAnswer) → Respects (answers_with named) known_needs

@@ -1,0 +1,150 @@
+-- What a template asks of its environment, name by name.
+--     Uses      what is asked of the value of each name
+--     grants U x v      where environments are alike in U, the expression's values are alike in v
+--     Needs      what each call of a filter asks of its input
+--     covers needs U setting nodes      U grants all that the template or a partial asks for: a test
+use Rattle.std.specs.Prelude.{Bool, true, false, cond, ◌&&◌, List, [], ◌∷◌, Option, Some, None, codes}
+use Rattle.std.specs.Fmt.{signed_decimal}
+use Rattle.liquid_model.specs.Texts.{Text}
+use Rattle.liquid_model.specs.Data.{Datum, truth, number, text, text_of}
+use Rattle.liquid_model.specs.Whole.{fits}
+use Rattle.liquid_core.specs.Expression.{Expression, literal, variable, Steps, no_steps, step}
+use Rattle.liquid_tree.specs.Tree.{FilterCall, Chain, Atom, bare, compared, Condition, Source, each_of, counted, Window, Bindings, Node, plain, raw, comment, output, assign, increment, decrement, break_loop, continue_loop, cycle, if_true, unless, case_of, for_each, tablerow, capture, ifchanged, include, jekyll_include, render, Nodes, no_nodes, node, Whens, no_whens, when}
+use Rattle.liquid_meaning.specs.Meaning.{Setting}
+use Rattle.liquid_meaning.specs.Uses.{Use, everything, parts, no_fields, every, there, is_everything, asks_whether, present, use_at, includes}
+
+abbrev pub Uses : Type 0
+Uses = Text → Use
+
+-- ---- expressions
+
+-- the text of a step whose value is known, where a step by that text finds the same
+abbrev pub key_of : Datum → Option Text
+key_of (truth b) = Some (text_of (truth b))
+key_of (number z) = cond (fits z) (Some (signed_decimal z)) None
+key_of (text s) = Some s
+key_of _ = None
+
+abbrev pub key : Expression → Option Text
+key (literal d) = key_of d
+key (variable name steps) = None
+
+abbrev pub by_key : Option Text → (Text → Bool) → Bool → Bool
+by_key None known unknown = unknown
+by_key (Some k) known unknown = known k
+
+unfoldable mutual
+  pub grants : Uses → Expression → Use → Bool
+  grants U (literal d) v = true
+  grants U (variable name steps) v = grants_along U (U name) steps v
+
+  -- u is asked of the value that the steps begin at. A step that is known asks a member, and any other step everything
+  pub grants_along : Uses → Use → Steps → Use → Bool
+  grants_along U u no_steps v = includes u v
+  grants_along U u (step x more) v = by_key (key x) (λ k. grants_along U (use_at k u) more v) (is_everything u && (grants U x everything && grants_along U everything more v))
+
+unfoldable pub grants_all : Uses → List Expression → Bool
+grants_all U [] = true
+grants_all U (x ∷ xs) = grants U x everything && grants_all U xs
+
+unfoldable pub grants_optional : Uses → Option Expression → Bool
+grants_optional U None = true
+grants_optional U (Some x) = grants U x everything
+
+-- ---- chains, conditions and sources
+
+unfoldable pub grants_filters : Uses → List FilterCall → Bool
+grants_filters U [] = true
+grants_filters U (call ∷ calls) = grants_all U call.arguments && grants_filters U calls
+
+-- what a call of a filter asks of its input, where this is asked of its answer
+abbrev pub Needs : Type 0
+Needs = FilterCall → Use → Use
+
+-- what is asked of the value that goes through these filters
+abbrev pub use_before : Needs → List FilterCall → Use → Use
+use_before needs [] v = v
+use_before needs (call ∷ calls) v = present (needs call (use_before needs calls v))
+
+unfoldable pub grants_chain : Needs → Uses → Use → Chain → Bool
+grants_chain needs U v chain = grants U chain.entry (use_before needs chain.filters v) && grants_filters U chain.filters
+
+-- the truth of a value is seen by its kind
+unfoldable pub grants_atom : Uses → Atom → Bool
+grants_atom U (bare x) = grants U x there
+grants_atom U (compared left comparison right) = grants U left everything && grants U right everything
+
+unfoldable pub grants_atoms : Uses → List Atom → Bool
+grants_atoms U [] = true
+grants_atoms U (atom ∷ atoms) = grants_atom U atom && grants_atoms U atoms
+
+unfoldable pub grants_condition : Uses → Condition → Bool
+grants_condition U [] = true
+grants_condition U (conjunction ∷ conjunctions) = grants_atoms U conjunction && grants_condition U conjunctions
+
+-- of a loop over a value each item is seen as the loop's variable is
+unfoldable pub grants_source : Uses → Text → Source → Bool
+grants_source U name (each_of x) = grants U x (parts no_fields (every (U name)))
+grants_source U name (counted first last) = grants U first everything && grants U last everything
+
+unfoldable pub grants_window : Uses → Window → Bool
+grants_window U window = grants_optional U window.limit && grants_optional U window.offset
+
+-- the values of pairs, each seen as W says for its name
+unfoldable pub grants_bindings : Uses → (Text → Use) → Bindings → Bool
+grants_bindings U W [] = true
+grants_bindings U W (b ∷ bs) = grants U b.1 (W b.0) && grants_bindings U W bs
+
+abbrev pub bound_use : Uses → Text → Use
+bound_use U name = present (U name)
+
+abbrev pub all_of : Text → Use
+all_of name = everything
+
+-- `forloop` of an outer loop stands in that of an inner one, so it is asked for whole or not at all
+abbrev pub is_flat : Use → Bool
+is_flat (parts members turns) = false
+is_flat _ = true
+
+-- ---- the tree
+
+module _ (needs : Needs) where
+  unfoldable mutual
+    pub grants_node : Uses → Node → Bool
+    grants_node U (plain content) = true
+    grants_node U (raw content) = true
+    grants_node U comment = true
+    grants_node U (output chain) = grants_chain needs U everything chain
+    grants_node U (assign name chain) = grants_chain needs U (present (U name)) chain
+    grants_node U (increment name) = asks_whether (U name)
+    grants_node U (decrement name) = asks_whether (U name)
+    grants_node U break_loop = true
+    grants_node U continue_loop = true
+    grants_node U (cycle group values) = grants_all U values
+    grants_node U (if_true condition body otherwise) = grants_condition U condition && (grants_nodes U body && grants_nodes U otherwise)
+    grants_node U (unless condition body otherwise) = grants_condition U condition && (grants_nodes U body && grants_nodes U otherwise)
+    grants_node U (case_of target whens otherwise) = grants U target everything && (grants_whens U whens && grants_nodes U otherwise)
+    grants_node U (for_each name source window body otherwise) = is_flat (U (codes "forloop")) && (grants_source U name source && (grants_window U window && (grants_nodes U body && grants_nodes U otherwise)))
+    grants_node U (tablerow name source window columns body) = grants_source U name source && (grants_optional U columns && (grants_window U window && grants_nodes U body))
+    grants_node U (capture name body) = grants_nodes U body
+    grants_node U (ifchanged body) = grants_nodes U body
+    grants_node U (include x bindings) = grants U x everything && grants_bindings U (bound_use U) bindings
+    grants_node U (jekyll_include name bindings) = grants_bindings U all_of bindings
+    grants_node U (render x None bindings) = grants U x everything && grants_bindings U (bound_use U) bindings
+    grants_node U (render x (Some each) bindings) = grants U x everything && (grants_source U each.1 each.0 && grants_bindings U (bound_use U) bindings)
+
+    pub grants_nodes : Uses → Nodes → Bool
+    grants_nodes U no_nodes = true
+    grants_nodes U (node n more) = grants_node U n && grants_nodes U more
+
+    pub grants_whens : Uses → Whens → Bool
+    grants_whens U no_whens = true
+    grants_whens U (when values body more) = grants_all U values && (grants_nodes U body && grants_whens U more)
+
+  unfoldable pub grants_partials : Uses → List (Text × Nodes) → Bool
+  grants_partials U [] = true
+  grants_partials U (p ∷ ps) = grants_nodes U p.1 && grants_partials U ps
+
+  -- the template and every partial
+  abbrev pub covers : Uses → Setting → Nodes → Bool
+  covers U setting nodes = grants_nodes U nodes && grants_partials U setting.partials
