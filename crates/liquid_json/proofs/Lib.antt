@@ -1,4 +1,5 @@
 mod After
 mod Members
 mod Plain
+mod PlainPlans
 mod Turns

@@ -1,2 +1,3 @@
 pub mod Json
+pub mod Plans
 pub mod inside

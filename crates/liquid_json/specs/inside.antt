@@ -1,1 +1,3 @@
+pub mod Planned
+pub mod Skipped
 pub mod Tokens

@@ -17,7 +17,7 @@ const MAX_DEPTH: usize = 127;
 
 /// Why the tokens gave no data: memory was refused, or they have what only the tree tells.
 #[derive(Clone, Copy, Drop)]
-enum Stop {
+pub enum Stop {
     Memory,
     Other,
 }
@@ -31,6 +31,12 @@ impl From<AllocError> for Stop {
 impl<T: Drop> From<AllocFailed<T>> for Stop {
     fn from(_refused: AllocFailed<T>) -> Stop {
         Stop::Memory
+    }
+}
+
+impl From<crate::skip::Refused> for Stop {
+    fn from(_refused: crate::skip::Refused) -> Stop {
+        Stop::Other
     }
 }
 
@@ -62,7 +68,7 @@ pub fn data_from_tokens(alloc: Global, text: &str) -> Result<Option<Object>, All
 
 #[cycle(read)]
 #[inline(always)]
-fn read(alloc: Global, reader: &mut Reader<'_>, depth: usize) -> Result<Value, Stop>
+pub fn read(alloc: Global, reader: &mut Reader<'_>, depth: usize) -> Result<Value, Stop>
     ensures ok { IfOk result (λ v. datum_at depth reader.old ≡ Some (view v, reader.new)) }
     ensures shorter { OnOk result (length reader.new < length reader.old) }
 {
@@ -107,7 +113,7 @@ fn read_items(alloc: Global, reader: &mut Reader<'_>, depth: usize) -> Result<Ve
 
 #[cycle(read)]
 #[inline(never)]
-fn read_pairs(alloc: Global, reader: &mut Reader<'_>, depth: usize) -> Result<Object, Stop>
+pub fn read_pairs(alloc: Global, reader: &mut Reader<'_>, depth: usize) -> Result<Object, Stop>
     ensures ok { IfOk result (λ m. pairs_at depth no_pairs (length reader.old) reader.old ≡ Some (pairs_view m.entries, reader.new)) }
     ensures shorter { OnOk result (length reader.new < length reader.old) }
 {

@@ -1,0 +1,19 @@
+-- What is built of the values that tokens have at their front.
+use Rattle.std.specs.Prelude.{◌≡◌, ℕ, List, length, Some}
+use Rattle.json.specs.Token.{Token}
+use Rattle.liquid_model.specs.Data.{Datum, Items, Pairs, no_pairs}
+use Rattle.liquid_model.specs.Lists.{list_of}
+use Rattle.liquid_meaning.specs.Uses.{Use, Fields, uncounted, Alike, Pairwise}
+use Rattle.liquid_meaning.specs.Projected.{pairs_wanted}
+use Rattle.liquid_meaning.specs.Skipping.{AlikeKeys}
+use Rattle.liquid_json.specs.inside.Tokens.{datum_at, items_at, pairs_at}
+
+-- d is alike with the value that stands in front of the rest
+abbrev pub IsPlanned : Use → ℕ → List Token → Datum → List Token → Type 0
+IsPlanned u depth ts d rest = (c : Datum) × (datum_at depth ts ≡ Some (c, rest)) × Alike u (Some c) (Some d)
+
+abbrev pub ArePlanned : Use → ℕ → List Token → Items → List Token → Type 0
+ArePlanned u depth ts ds rest = (cs : Items) × (items_at depth (length ts) ts ≡ Some (cs, rest)) × Pairwise (λ c d. Alike u (Some c) (Some d)) (list_of cs) (list_of ds)
+
+abbrev pub PairsPlanned : Fields → ℕ → List Token → Pairs → List Token → Type 0
+PairsPlanned members depth ts ps rest = (qs : Pairs) × (pairs_at depth no_pairs (length ts) ts ≡ Some (qs, rest)) × AlikeKeys (pairs_wanted members uncounted) qs ps

@@ -1,0 +1,73 @@
+//! Past what nobody asks for: its tokens are looked at, and no value is made.
+ghost use Rattle.std.specs.Prelude.{◌<◌, length, IfOk, OnOk};
+ghost use Rattle.json.specs.Reads.{token_of};
+ghost use Rattle.liquid_json.specs.inside.Skipped.{IsValue, IsItems, IsPairs};
+
+use crate::whole::integer_of;
+use json::{Invalid, Reader, Token};
+
+/// The tokens are no value of JSON, or have a number that isn't whole.
+#[derive(Clone, Copy, Drop)]
+pub struct Refused;
+
+impl From<Invalid> for Refused {
+    fn from(_invalid: Invalid) -> Refused {
+        Refused
+    }
+}
+
+/// Past the value at the front of the tokens.
+#[cycle(skipped)]
+pub fn skipped(reader: &mut Reader<'_>, depth: usize) -> Result<(), Refused>
+    ensures ok { IfOk result (λ u. IsValue depth reader.old reader.new) }
+    ensures shorter { OnOk result (length reader.new < length reader.old) }
+{
+    let token = reader.next().ok_or(Refused)?;
+    match token {
+        Token::String(_text) => Ok(()),
+        Token::Number(text) => match integer_of(text) {
+            Some(_n) => Ok(()),
+            None => Err(Refused),
+        },
+        Token::Bool(_b) => Ok(()),
+        Token::Null => Ok(()),
+        Token::EndObject | Token::EndArray | Token::Key(_) | Token::Bad => Err(Refused),
+        Token::BeginArray => {
+            if depth == 0 {
+                return Err(Refused);
+            }
+            skip_items(reader, depth - 1)
+        }
+        Token::BeginObject => {
+            if depth == 0 {
+                return Err(Refused);
+            }
+            skip_pairs(reader, depth - 1)
+        }
+    }
+}
+
+#[cycle(skipped)]
+#[inline(never)]
+pub fn skip_items(reader: &mut Reader<'_>, depth: usize) -> Result<(), Refused>
+    ensures ok { IfOk result (λ u. IsItems depth reader.old reader.new) }
+    ensures shorter { OnOk result (length reader.new < length reader.old) }
+{
+    'items: while !reader.take_end_array() {
+        skipped(reader, depth)?;
+    }
+    Ok(())
+}
+
+#[cycle(skipped)]
+#[inline(never)]
+fn skip_pairs(reader: &mut Reader<'_>, depth: usize) -> Result<(), Refused>
+    ensures ok { IfOk result (λ u. IsPairs depth reader.old reader.new) }
+    ensures shorter { OnOk result (length reader.new < length reader.old) }
+{
+    'pairs: while let Some(name) = reader.next_key()? {
+        let _ = name.len();
+        skipped(reader, depth)?;
+    }
+    Ok(())
+}
