@@ -6,7 +6,8 @@ use Rattle.liquid_model.specs.Data.{Datum}
 use Rattle.liquid_model.specs.Find.{step}
 use Rattle.liquid_core.specs.Environment.{Environment, lookup}
 use Rattle.liquid_core.specs.Expressions.{value_of}
-use Rattle.liquid_core.proofs.Steps.{led, led_from}
+use Rattle.liquid_core.specs.Led.{led}
+use Rattle.liquid_core.proofs.Steps.{led_from}
 use Rattle.liquid_model.specs.View.{view}
 use Rattle.liquid_core.specs.Expression as tree
 use Rattle.liquid_core.specs.ExpressionView.{expression_view, variable_view, steps_view}

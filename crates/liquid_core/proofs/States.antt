@@ -259,7 +259,7 @@ behind_none (s ∷ ss) b q h = second (scope_map s (local_of b) q) (local_of b q
     first_is : (s : Scope) (b : List (Map Datum)) (q : Text) → (scope_map s (local_of b) q else local_of b q) ≡ local_of (scope_map s (local_of b) ∷ b) q
     first_is s b q = refl
 
-beside_as : (s : State) (q : Text) → local_of (reverse (map held s.scopes.items)) q ≡ (environment_of s).local q → held_beside s q ≡ lookup (environment_of s) q
+pub beside_as : (s : State) (q : Text) → local_of (reverse (map held s.scopes.items)) q ≡ (environment_of s).local q → held_beside s q ≡ lookup (environment_of s) q
 beside_as s q h = ap (λ o. ((o else (environment_of s).assigned q) else (environment_of s).counters q) else (environment_of s).globals q) h
 
 -- without a loop that is all there is

@@ -10,11 +10,7 @@ use Rattle.liquid_model.specs.Find as finding
 use Rattle.liquid_core.specs.Environment.{Environment, lookup}
 use Rattle.liquid_core.specs.Expression.{literal, variable, Steps, no_steps, step}
 use Rattle.liquid_core.specs.Expressions.{value_of, path_of}
-
--- what the steps lead to from d
-abbrev pub led : Datum → Steps → Environment → Option Datum
-led d no_steps e = Some d
-led d (step x more) e = option_and_then (λ s. option_and_then (λ next. led next more e) (finding.step d s)) (value_of x e)
+use Rattle.liquid_core.specs.Led.{led}
 
 nowhere : {X Y : Type 0} (o : Option X) → option_and_then {U = Y} (λ x. None) o ≡ None
 nowhere None = refl

@@ -6,9 +6,11 @@ pub mod FilterAnswers
 pub mod Held
 pub mod Hosts
 pub mod Laws
+pub mod Led
 pub mod LoopFrames
 pub mod Loops
 pub mod Places
 pub mod Resolved
+pub mod Said
 pub mod States
 pub mod Written

@@ -1,17 +1,22 @@
 //! Expressions: literals, and variables with their steps.
-ghost use Rattle.std.specs.Prelude.{◌≡◌, option_map, map, IsOk, IfSome, IfErr};
+ghost use Rattle.std.specs.Prelude.{◌≡◌, option_map, option_and_then, map, IsOk, IfSome, IfErr, None, Some};
+ghost use Rattle.liquid_core.specs.Environment.{Environment};
+ghost use Rattle.liquid_core.specs.Said.{Says};
+ghost use Rattle.liquid_core.specs.Led.{led};
+ghost use Rattle.liquid_model.specs.Find.{step};
+ghost use Rattle.liquid_model.specs.View.{view};
 ghost use Rattle.liquid_model.specs.Answer.{Answers, IsValueOrMemory, TakesNoMemory};
 ghost use Rattle.liquid_model.specs.Cow.{cow_view};
 ghost use Rattle.liquid_model.specs.Errors.{HasMessageUnlessMemory, without_value_message};
 ghost use Rattle.liquid_core.specs.Expressions.{value_of, required};
-ghost use Rattle.liquid_core.specs.ExpressionView.{expression_view, variable_view};
+ghost use Rattle.liquid_core.specs.ExpressionView.{expression_view, steps_view, variable_view};
 ghost use Rattle.liquid_core.specs.States.{environment_of, loops_of, FindsLoop};
 ghost use Rattle.liquid_core.specs.Resolved.{resolved_view, IsAmong, IsHeld};
 ghost use Rattle.liquid_model.specs.ErrorKinds.{IsKindOrMemory};
 ghost use Rattle.liquid_core.specs.Written.{written_form};
 ghost use Rattle.liquid_model.specs.declared.error.ErrorKind.TheVariants.{UnknownVariable};
 
-use crate::resolved::Resolved;
+use crate::resolved::{Near, Resolved};
 use crate::state::State;
 use liquid_model::{Error, ErrorKind, Found, Result, Value, ValueCow};
 use std::alloc::Global;
@@ -66,6 +71,17 @@ impl Expression {
         }
     }
 
+    /// The value of the expression, where it is lent or a number: a literal, or a name that is no loop's object, with steps
+    /// that are keys and places of items. It takes no memory.
+    pub fn near<'a>(&'a self, state: &'a State<'_>) -> Near<'a>
+        ensures { Says result (value_of (expression_view self.now) (environment_of state.now)) None }
+    {
+        match self {
+            Expression::Literal(value) => Near::Held(value),
+            Expression::Variable(variable) => variable.near(state),
+        }
+    }
+
     /// What the expression leads to, as it is lent: for the whole run where the data lends it. Else as `evaluate`. Only the
     /// fault takes memory.
     pub fn resolve<'a, 'd>(
@@ -92,6 +108,20 @@ impl Expression {
 }
 
 impl Variable {
+    /// `Expression::near` of a variable.
+    fn near<'a>(&'a self, state: &'a State<'_>) -> Near<'a>
+        ensures { Says result (value_of (variable_view self.now) (environment_of state.now)) None }
+    {
+        match state.near(self.name.as_str()) {
+            Near::Held(value) => match near_along(value, &self.indexes) {
+                Some(found) => Near::Held(found),
+                None => Near::Unsaid,
+            },
+            Near::Number(n) if self.indexes.is_empty() => Near::Number(n),
+            _ => Near::Unsaid,
+        }
+    }
+
     /// The value of the variable, where it has one, as `Expression::try_evaluate`.
     pub fn try_evaluate<'a>(
         &'a self,
@@ -163,6 +193,27 @@ fn variable_value<'a, 'd>(variable: &'a Variable, state: &'a State<'d>) -> Optio
         found = found.stepped_by(part)?;
     }
     Some(found)
+}
+
+/// What steps by literals lead to, by keys and by the places of items. None says nothing.
+fn near_along<'a>(value: &'a Value, indexes: &Vec<Expression>) -> Option<&'a Value>
+    ensures { (e : Environment) → IfSome result (λ v. Some (view v.now) ≡ led (view value.now) (steps_view indexes.now.items) e) }
+{
+    let mut found = value;
+    for index in indexes {
+        found = near_step(found, index)?;
+    }
+    Some(found)
+}
+
+/// A step by a literal: a key of a map, or the place of an item. None says nothing.
+fn near_step<'a>(value: &'a Value, index: &Expression) -> Option<&'a Value>
+    ensures { (e : Environment) → IfSome result (λ v. Some (view v.now) ≡ option_and_then (step (view value.now)) (value_of (expression_view index.now) e)) }
+{
+    match index {
+        Expression::Literal(part) => value.near_part(part),
+        Expression::Variable(_) => None,
+    }
 }
 
 /// The value of what was found.

@@ -22,5 +22,5 @@ pub use liquid_model::{
     Error, ErrorKind, Found, Location, Object, Origin, Result, Value, ValueCow, copy_items,
     look_up, store, whole_of,
 };
-pub use resolved::{Resolved, Scopes};
+pub use resolved::{Near, Resolved, Scopes};
 pub use state::{Data, Parts, State};

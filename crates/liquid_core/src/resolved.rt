@@ -1,15 +1,17 @@
 //! What names and paths lead to.
-ghost use Rattle.std.specs.Prelude.{◌≡◌, ◌<◌, ◌≤◌, ◌+◌, ◌++◌, ◌∷◌, List, length, drop, take, [], IfSome, IsOk, option_map, map, reverse};
+ghost use Rattle.std.specs.Prelude.{◌≡◌, ◌<◌, ◌≤◌, ◌+◌, ◌++◌, ◌∷◌, List, length, drop, take, [], IfSome, IsOk, option_map, map, reverse, Some, None};
 ghost use Rattle.liquid_model.specs.Answer.{IsValueOrMemory};
 ghost use Rattle.liquid_model.specs.Cow.{cow_view};
 ghost use Rattle.liquid_model.specs.Find.{step};
 ghost use Rattle.liquid_model.specs.Found.{found_view};
 ghost use Rattle.liquid_model.specs.View.{view, pairs_view};
-ghost use Rattle.liquid_model.specs.Data.{object};
+ghost use Rattle.liquid_model.specs.Data.{Datum, object};
 ghost use Rattle.liquid_core.specs.Environment.{local_of};
 ghost use Rattle.liquid_core.specs.Held.{Outer, held};
 ghost use Rattle.liquid_core.specs.Places.{number_at};
 ghost use Rattle.liquid_core.specs.Resolved.{scopes_view, resolved_view, IsAmong, IsHeld, depth};
+ghost use Rattle.liquid_core.specs.Said.{Says};
+ghost use Rattle.liquid_model.specs.Maps.{Map};
 ghost use Rattle.liquid_core.specs.declared.frame.Scope.{Scope};
 ghost use Rattle.liquid_core.specs.declared.frame.Scope.TheVariants as scope;
 ghost use Rattle.liquid_core.specs.declared.frame.LoopFrame.{LoopFrame};
@@ -41,7 +43,61 @@ pub enum Resolved<'a, 'd> {
     Loop(&'a LoopFrame<'d>, Scopes<'a, 'd>),
 }
 
+/// What a name or an expression is, where that is a value that is lent, or a number of a range.
+#[derive(Clone, Copy, Drop)]
+pub enum Near<'a> {
+    /// This value.
+    Held(&'a Value),
+    /// This number.
+    Number(i64),
+    /// Nothing.
+    Nothing,
+    /// It isn't said: a loop's object, or what steps of other kinds lead to.
+    Unsaid,
+}
+
 impl<'d> LoopFrame<'d> {
+    /// The item, where a value holds it, or it is a number.
+    fn near_item<'a>(&'a self) -> Near<'a>
+        ensures { Says result (Some (frame_item self.now)) None }
+    {
+        let forwards = self.at;
+        let place = if self.reversed {
+            self.count - forwards - 1
+        } else {
+            forwards
+        };
+        let place = self.from + place;
+        let items: &'a [Value] = match &self.items {
+            Items::Lent(items) => *items,
+            Items::Owned(items) => items.as_slice(),
+            Items::Numbers(first, last) => {
+                return match number_at(*first, *last, place) {
+                    Found::Length(n) => Near::Number(n),
+                    _ => Near::Unsaid,
+                };
+            }
+        };
+        if place < items.len() {
+            Near::Held(&items[place])
+        } else {
+            Near::Unsaid
+        }
+    }
+
+    /// `find` of what a value holds, and of numbers.
+    fn near<'a>(&'a self, name: &str) -> Near<'a>
+        ensures { (local : Map Datum) → Says result (frame_map self.now local name.now) None }
+    {
+        if name == self.name {
+            self.near_item()
+        } else if name == self.kind.name() {
+            Near::Unsaid
+        } else {
+            Near::Nothing
+        }
+    }
+
     /// The item.
     fn item<'a>(&'a self) -> Resolved<'a, 'd>
         ensures value { resolved_view result ≡ frame_item self.now }
@@ -216,6 +272,20 @@ impl<'d> Scope<'d> {
         }
     }
 
+    /// `find` of what a value holds, and of numbers.
+    #[tactic(auto, using(crate::proofs::States::held_at))]
+    fn near<'a>(&'a self, name: &str) -> Near<'a>
+        ensures { (local : Map Datum) → Says result (scope_map self.now local name.now) None }
+    {
+        match self {
+            Scope::Names(object) => match look_up(object, name) {
+                Some(value) => Near::Held(value),
+                None => Near::Nothing,
+            },
+            Scope::LoopFrame(frame) => frame.near(name),
+        }
+    }
+
     /// What the scope binds to the name.
     #[tactic(auto, using(crate::proofs::States::held_at))]
     fn find<'a>(&'a self, name: &str, behind: Scopes<'a, 'd>) -> Option<Resolved<'a, 'd>>
@@ -287,6 +357,23 @@ impl<'a, 'd> Resolved<'a, 'd> {
 }
 
 impl<'a, 'd> Scopes<'a, 'd> {
+    /// `find` of what a value holds, and of numbers; where no loop says anything, the scopes behind each loop do.
+    #[inline(never)]
+    pub(crate) fn near(self, name: &str) -> Near<'a>
+        ensures { Says result (local_of (scopes_view self.entry) name.now) (local_of (reverse (map held self.entry.outer.now)) name.now) }
+    {
+        let frames = self.frames;
+        let mut left = frames.len();
+        while left > 0 {
+            let last = left - 1;
+            match frames[last].near(name) {
+                Near::Nothing => left = last,
+                said => return said,
+            }
+        }
+        Near::Nothing
+    }
+
     /// What the scope at a place binds to the name.
     fn find_at(self, last: usize, name: &str) -> Option<Resolved<'a, 'd>>
         requires { last < length self.frames.now }

@@ -11,8 +11,8 @@ ghost use Rattle.liquid_lib.specs.Performs.{Performs, configuration_of};
 use crate::context::RunContext;
 use crate::counted::CountedWrite;
 use crate::output::Output;
-use crate::push_value::push_value;
-use liquid_core::{NamedFilters, Result, State};
+use crate::push_value::{push_number, push_value};
+use liquid_core::{NamedFilters, Near, Result, State};
 use liquid_syntax::FilterChain;
 use std::alloc::Global;
 
@@ -55,6 +55,29 @@ pub(crate) fn run_raw<W: CountedWrite, H: NamedFilters>(
 /// Writes the text of a chain's value.
 #[inline(never)]
 pub(crate) fn run_output<W: CountedWrite, H: NamedFilters>(
+    alloc: Global,
+    context: &RunContext<'_, H>,
+    chain: &FilterChain,
+    out: &mut Output<'_, W>,
+    state: &mut State<'_>,
+) -> Result<()>
+    ensures performs { Performs result (node_in H.named context.now (tree.output (chain_view chain.now)))
+        (configuration_of W.contents W.failure_count out.old state.old)
+        (configuration_of W.contents W.failure_count out.new state.new) }
+    ensures same_writer { out.new.writer.ghost_name ≡ out.old.writer.ghost_name }
+    ensures kept { Keeps (node_names (tree.output (chain_view chain.now))) (setting_of H.named context.now) state.old state.new }
+    ensures loops { loops_of state.new ≡ loops_of state.old }
+{
+    match chain.near(state) {
+        Near::Held(value) => push_value(alloc, value, out),
+        Near::Number(n) => push_number(alloc, n, out),
+        _ => run_chain(alloc, context, chain, out, state),
+    }
+}
+
+/// Writes the text of a chain's value, which a filter makes, or no value holds.
+#[inline(never)]
+fn run_chain<W: CountedWrite, H: NamedFilters>(
     alloc: Global,
     context: &RunContext<'_, H>,
     chain: &FilterChain,

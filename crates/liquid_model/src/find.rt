@@ -1,5 +1,5 @@
 //! Finding along a path: step by step, with nothing copied and no memory taken.
-ghost use Rattle.std.specs.Prelude.{◌≡◌, length, map, Some, option_map, true, IsOk};
+ghost use Rattle.std.specs.Prelude.{◌≡◌, length, map, Some, option_map, true, IsOk, IfSome};
 ghost use Rattle.liquid_model.specs.Answer.{IsValueOrMemory};
 ghost use Rattle.liquid_model.specs.Cow.{cow_view};
 ghost use Rattle.liquid_model.specs.Data.{truth, number, array, object, text_of};
@@ -44,6 +44,23 @@ impl Value {
         ensures no_memory { IsOk result }
     {
         Ok(found_along(self, path))
+    }
+
+    /// One step on, where it is the key of a map, or leads to an item of a list. None says nothing.
+    pub fn near_part<'a>(&'a self, part: &Value) -> Option<&'a Value>
+        ensures { IfSome result (λ v. Some (view v.now) ≡ step (view self.now) (view part.now)) }
+    {
+        match self {
+            Value::Object(pairs) => match part {
+                Value::Text(name) => look_up(pairs, name.as_str()),
+                _ => None,
+            },
+            Value::Array(items) => match items_stepped(items, part) {
+                Some(Found::Held(value)) => Some(value),
+                _ => None,
+            },
+            _ => None,
+        }
     }
 }
 

@@ -1,12 +1,12 @@
 -- Chains of filters, call by call.
-use Rattle.std.proofs.Common.{◌≡◌, ℕ, ◌+◌, ◌<◌, ◌≤◌, List, [], ◌∷◌, ◌++◌, length, drop, map, get_or, Bool, true, false, MatchBool, Result, Ok, Err, refl, sym, ap, ◌∙◌, subst, append_assoc, append-nil}
+use Rattle.std.proofs.Common.{◌≡◌, ℕ, ◌+◌, ◌<◌, ◌≤◌, List, [], ◌∷◌, ◌++◌, length, drop, map, get_or, Bool, true, false, MatchBool, Option, Some, None, Result, Ok, Err, arith, refl, sym, ap, ◌∙◌, subst, append_assoc, append-nil}
 use Rattle.std.specs.Bool.{⊤}
 use Rattle.std.proofs.lemmas.List.{drop_more, drop_all}
 use Rattle.std.specs.List.{list_all}
 use Rattle.std.proofs.lemmas.List.Sums.{AllPass-from_list_all}
 use Rattle.liquid_model.specs.Answer.{Answers, Faulted}
 use Rattle.liquid_model.specs.ErrorKinds.{IsKindOrMemory, is_memory, is_refusal}
-use Rattle.liquid_model.specs.Data.{Datum}
+use Rattle.liquid_model.specs.Data.{Datum, number}
 use Rattle.liquid_model.specs.declared.error.Error.{Error}
 use Rattle.liquid_model.specs.declared.error.ErrorKind.{ErrorKind}
 use Rattle.liquid_model.specs.declared.value.Value.{Value}
@@ -16,7 +16,11 @@ use Rattle.liquid_core.specs.Expression as tree
 use Rattle.liquid_core.specs.Environment.{Environment}
 use Rattle.liquid_core.specs.Expressions.{value_of, required, all_required}
 use Rattle.liquid_core.specs.FilterAnswers.{AnswersIf}
+use Rattle.liquid_core.specs.Said.{Says}
+use Rattle.liquid_core.specs.declared.resolved.Near.{Near}
+use Rattle.liquid_core.specs.declared.resolved.Near.TheVariants.{Held, Number, Nothing, Unsaid}
 use Rattle.liquid_tree.specs.Calls.{Call, applied}
+use Rattle.liquid_tree.specs.Said.{SaysOf}
 use Rattle.liquid_tree.specs.Tree.{FilterCall, Chain}
 use Rattle.liquid_tree.specs.Evaluation.{FilterAnswers, entry_value, call_by, calls_by, chain_value}
 
@@ -221,3 +225,23 @@ pub chain_faulted : (answers : FilterAnswers) (chain : Chain) (e : Environment) 
     → Faulted kind (chain_value answers chain e)
 unfolding chain_value
 chain_faulted answers chain e kind h = faulted_then kind (entry_value (value_of chain.entry e) chain.filters) (λ y. applied (calls_by answers chain.filters) y e) h
+
+-- ---- a chain without filters
+
+nothing_applied : (answers : FilterAnswers) (d : Datum) (e : Environment) → applied (calls_by answers []) d e ≡ Ok d
+unfolding applied
+nothing_applied answers d e = refl
+
+its_entry : (answers : FilterAnswers) (chain : Chain) (e : Environment) (d : Datum) → chain.filters ≡ [] → Some d ≡ value_of chain.entry e → chain_value answers chain e ≡ Ok d
+its_entry answers chain e d none h =
+    chain_from answers chain e d (sym (ap (λ o. entry_value o chain.filters) h)) ∙ ap (λ fs. applied (calls_by answers fs) d e) none ∙ nothing_applied answers d e
+
+pub said_of : (n : Near) (chain : Chain) (e : Environment) → chain.filters ≡ [] → Says n (value_of chain.entry e) None → SaysOf n chain e
+said_of (Held v) chain e none h = λ answers. its_entry answers chain e (view v.now) none h
+said_of (Number n) chain e none h = λ answers. its_entry answers chain e (number n) none h
+said_of Nothing chain e none h = tt
+said_of Unsaid chain e none h = tt
+
+pub none_of : {X Y : Type 0} (f : X → Y) (xs : List X) → length xs ≡ 0 → map f xs ≡ []
+none_of f [] h = refl
+none_of f (x ∷ xs) h = absurd (omega (arith, h))

@@ -9,6 +9,7 @@ pub mod ItemLists
 pub mod Laws
 pub mod Names
 pub mod Ranges
+pub mod Said
 pub mod SourceView
 pub mod StoredFilters
 pub mod Telling

@@ -6,7 +6,7 @@ ghost use Rattle.liquid_tree.specs.StoredFilters.{stored_counts};
 use crate::any_filter::AnyFilter;
 use crate::filter_call::{FilterCall, apply_to};
 use crate::stored_filter::StoredFilter;
-use liquid_core::{Error, Expression, HostFilters, NamedFilters, Result, State, Value, ValueCow};
+use liquid_core::{Error, Expression, HostFilters, NamedFilters, Near, Result, State, Value, ValueCow};
 use std::alloc::Global;
 
 /// One filter of a chain with its arguments, of which it accepts the number.
@@ -30,6 +30,7 @@ impl ChainFilter {
     ghost use Rattle.liquid_tree.specs.AnyFilters.{any_answer, any_counts};
     ghost use Rattle.liquid_tree.specs.Calls.{call_of};
     ghost use Rattle.liquid_tree.specs.ChainView.{chain_filter_view};
+    ghost use Rattle.liquid_tree.specs.Said.{SaysOf};
     ghost use Rattle.liquid_tree.specs.Evaluation.{answers_with, call_by};
 
     /// The call by which the filter is run on its arguments, whose number it accepts.
@@ -72,6 +73,7 @@ impl FilterChain {
     ghost use Rattle.liquid_core.specs.States.{environment_of, FindsLoop};
     ghost use Rattle.liquid_model.specs.View.{view};
     ghost use Rattle.liquid_tree.specs.ChainView.{chain_view};
+    ghost use Rattle.liquid_tree.specs.Said.{SaysOf};
     ghost use Rattle.liquid_tree.specs.Evaluation.{answers_with, chain_value, entry_value};
 
     /// The value of the chain: that of its entry, through its filters in order.
@@ -125,6 +127,17 @@ impl FilterChain {
         Ok(value)
     }
 
+    /// The value of a chain without filters, where it is lent or a number, as `Expression::near`.
+    pub fn near<'a>(&'a self, state: &'a State<'_>) -> Near<'a>
+        ensures { SaysOf result (chain_view self.now) (environment_of state.now) }
+    {
+        if self.filters.is_empty() {
+            self.entry.near(state)
+        } else {
+            Near::Unsaid
+        }
+    }
+
     /// The entry's value, or nil where it is missing before a filter.
     fn evaluate_entry<'a>(&'a self, alloc: Global, state: &'a State<'_>) -> Result<ValueCow<'a>>
         ensures value { Answers cow_view result (entry_value (value_of (chain_view self.now).entry (environment_of state.now)) (chain_view self.now).filters) }
@@ -133,6 +146,9 @@ impl FilterChain {
     {
         if self.filters.is_empty() {
             return self.entry.evaluate(alloc, state);
+        }
+        if let Near::Held(value) = self.entry.near(state) {
+            return Ok(ValueCow::Borrowed(value));
         }
         match self.entry.try_evaluate(alloc, state)? {
             Some(value) => Ok(value),

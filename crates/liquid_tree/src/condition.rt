@@ -11,7 +11,7 @@ ghost use Rattle.liquid_tree.specs.WrittenConditions.{written_atom, written_conj
 ghost use Rattle.liquid_tree.specs.inside.Comparisons.{truth_beside};
 
 use crate::comparison::ComparisonOperator;
-use liquid_core::{Expression, Result, State, Value};
+use liquid_core::{Expression, Near, Result, State, Value};
 use std::alloc::Global;
 use std::fmt;
 use std::fmt::{Formatter, Write};
@@ -79,6 +79,18 @@ impl Atom {
                 None => Ok(false),
             },
             Atom::Compared(left, operator, right) => {
+                match left.near(state) {
+                    Near::Held(left) => {
+                        return holds_beside(alloc, left, *operator, right, state);
+                    }
+                    Near::Number(n) => {
+                        let left = Value::Integer(n);
+                        let held = holds_beside(alloc, &left, *operator, right, state);
+                        drop(left);
+                        return held;
+                    }
+                    _ => {}
+                }
                 let left = left.evaluate(alloc, state)?;
                 let held = holds_beside(alloc, left.as_value(), *operator, right, state);
                 drop(left);
@@ -98,6 +110,9 @@ fn holds_beside(
 ) -> Result<bool>
     ensures { Answers (λ b. b) result (truth_beside (view left.now) operator (expression_view right.now) (environment_of state.now)) }
 {
+    if let Near::Held(right) = right.near(state) {
+        return operator.holds(alloc, left, right);
+    }
     let right = right.evaluate(alloc, state)?;
     let held = operator.holds(alloc, left, right.as_value());
     drop(right);

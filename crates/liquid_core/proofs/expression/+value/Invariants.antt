@@ -2,7 +2,7 @@ use Rattle.std.proofs.Common.{◌≡◌, drop}
 use Rattle.liquid_core.specs.ExpressionView.{steps_view}
 use Rattle.liquid_core.specs.Resolved.{resolved_view, IsAmong}
 use Rattle.liquid_core.specs.States.{environment_of, loops_of}
-use Rattle.liquid_core.proofs.Steps.{led}
+use Rattle.liquid_core.specs.Led.{led}
 use Rattle.liquid_core.proofs.expression.+value.Given as goal
 
 -- the steps that are left lead on to what all of them lead to

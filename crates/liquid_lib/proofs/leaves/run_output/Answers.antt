@@ -1,26 +1,29 @@
-use Rattle.std.proofs.Common.{ap}
-use Rattle.std.proofs.lemmas.Result.{err_from_is_err_and}
-use Rattle.liquid_model.specs.Cow.{cow_view}
-use Rattle.liquid_model.specs.Data.{text_of}
+use Rattle.std.proofs.Common.{ℤ, rules}
+use Rattle.liquid_model.specs.Data.{number, text_of}
+use Rattle.liquid_model.specs.View.{view}
+use Rattle.liquid_model.specs.declared.value.Value.{Value}
 use Rattle.liquid_core.specs.States.{environment_of}
-use Rattle.liquid_model.specs.declared.cow.ValueCow.{ValueCow}
 use Rattle.liquid_tree.specs.ChainView.{chain_view}
 use Rattle.liquid_tree.specs.Evaluation.{answers_with, chain_value}
 use Rattle.liquid_meaning.specs.Runs.{write}
 use Rattle.liquid_lib.specs.Performs.{unit, configuration_of}
-use Rattle.liquid_lib.proofs.Joined.{by_rule, write_met, given_met, refused_met}
+use Rattle.liquid_lib.proofs.Joined.{by_rule, write_met, given_met}
 use Rattle.liquid_lib.proofs.Pieces.{writes_as}
 use Rattle.liquid_meaning.proofs.Rules.{output_rule}
 use Rattle.liquid_lib.proofs.leaves.run_output.Goals as goal
 
-pub returns-in_err-value-clause-performs : goal.returns-in_err-value-clause-performs
-returns-in_err-value-clause-performs g c =
-    let p = err_from_is_err_and c.from_residual.result c.from_residual.ensures.1 in
-    rw (p.1, p.2) (by_rule (output_rule _ _ _) (refused_met {V = ValueCow} cow_view unit _ _ _ _ c.in_err-value.ensures.value))
-
-pub returns-clause-performs : goal.returns-clause-performs
-returns-clause-performs g c =
+pub returns-in-Held-clause-performs : goal.returns-in-Held-clause-performs
+returns-in-Held-clause-performs g c =
     let place = configuration_of g.W.CountedWrite.contents g.W.CountedWrite.failure_count in
-    let d = cow_view c.in_ok-value.value in
-    by_rule (output_rule _ _ _) (given_met {V = ValueCow} cow_view unit c.in_ok-value.value c.push_value.result (chain_value (answers_with (g.H.NamedFilters.named c.args.context.now.host.now)) (chain_view c.args.chain.now)) (λ x. write (text_of x)) (place c.args.out.now c.args.state.now) (place c.push_value.new.out c.args.state.now)
-    c.in_ok-value.ensures.value (write_met c.push_value.result (text_of d) _ _ (environment_of c.args.state.now) (writes_as c.push_value.result _ (text_of d) _ _ (ap text_of c.as_value.ensures) c.push_value.ensures.writes)))
+    let answers = answers_with (g.H.NamedFilters.named c.args.context.now.host.now) in
+    let v = c.in-Held.value.now in
+    by_rule (output_rule _ _ _) (given_met {V = Value} view unit v c.push_value.result (chain_value answers (chain_view c.args.chain.now)) (λ x. write (text_of x)) (place c.args.out.now c.args.state.now) (place c.push_value.new.out c.args.state.now)
+    (c.in-Held.ensures answers) (write_met c.push_value.result (text_of (view v)) _ _ (environment_of c.args.state.now) c.push_value.ensures.writes))
+
+pub returns-in-Number-clause-performs : goal.returns-in-Number-clause-performs
+returns-in-Number-clause-performs g c =
+    let place = configuration_of g.W.CountedWrite.contents g.W.CountedWrite.failure_count in
+    let answers = answers_with (g.H.NamedFilters.named c.args.context.now.host.now) in
+    let n = c.in-Number.n in
+    by_rule (output_rule _ _ _) (given_met {V = ℤ} number unit n c.push_number.result (chain_value answers (chain_view c.args.chain.now)) (λ x. write (text_of x)) (place c.args.out.now c.args.state.now) (place c.push_number.new.out c.args.state.now)
+    (c.in-Number.ensures answers) (write_met c.push_number.result (text_of (number n)) _ _ (environment_of c.args.state.now) (writes_as c.push_number.result _ (text_of (number n)) _ _ (search rules) c.push_number.ensures.writes)))

@@ -1,0 +1,86 @@
+-- What is said of a name, by what it is.
+use Rattle.std.proofs.Common.{◌≡◌, ◌<◌, ◌+◌, ◌-◌, ◌∷◌, ℕ, List, [], arith, Option, Some, None, IfSome, Bor, get_or, drop, take, length, refl, sym, ap, subst, ◌∙◌}
+use Rattle.std.specs.Option.{option_and_then}
+use Rattle.liquid_model.specs.Data.{Datum, number}
+use Rattle.liquid_model.specs.Find.{step}
+use Rattle.liquid_model.specs.Maps.{Map}
+use Rattle.liquid_model.specs.Texts.{Text}
+use Rattle.liquid_model.specs.View.{view}
+use Rattle.liquid_model.specs.declared.value.Value.{Value}
+use Rattle.liquid_model.specs.Find.{value_at}
+use Rattle.liquid_model.specs.Texts.{◌else◌}
+use Rattle.liquid_model.specs.View.{pairs_view}
+use Rattle.liquid_core.specs.States.{environment_of, layers_of, data_held}
+use Rattle.liquid_core.specs.declared.state.State.{State}
+use Rattle.liquid_core.proofs.States.{looked_up}
+use Rattle.std.proofs.lemmas.List.{drop_more}
+use Rattle.liquid_core.specs.Environment.{Environment, local_of, lookup}
+use Rattle.liquid_core.specs.Expressions.{value_of}
+use Rattle.liquid_core.specs.ExpressionView.{expression_view, steps_view}
+use Rattle.liquid_core.specs.LoopFrames.{scope_map, standing}
+use Rattle.liquid_core.specs.Said.{Says}
+use Rattle.liquid_core.specs.declared.expression.Expression.{Expression, Literal}
+use Rattle.liquid_core.specs.declared.frame.Scope.{Scope}
+use Rattle.liquid_core.specs.declared.resolved.Near.{Near}
+use Rattle.liquid_core.specs.declared.resolved.Near.TheVariants.{Held, Number, Nothing, Unsaid}
+use Rattle.liquid_core.proofs.ExpressionViews.{literal_is}
+use Rattle.liquid_core.proofs.LoopFrames.{found_here, missing_here}
+use Rattle.liquid_core.specs.Led.{led}
+use Rattle.liquid_core.proofs.Steps.{literal_value}
+
+pub says_as : (n : Near) (a b behind : Option Datum) → a ≡ b → Says n a behind → Says n b behind
+says_as n a b behind same h = subst (λ o. Says n o behind) same h
+
+head_of : (x y : Scope) (xs ys : List Scope) → x ∷ xs ≡ y ∷ ys → x ≡ y
+head_of x y xs ys e = cc
+
+same_scope : (ts : List Scope) (i : ℕ) (s x : Scope) → i < length ts → s ≡ get_or ts i s → drop i ts ≡ x ∷ drop (i + 1) ts → s ≡ x
+same_scope ts i s x h at there = at ∙ head_of (get_or ts i s) x (drop (i + 1) ts) (drop (i + 1) ts) (sym (drop_more ts i s h) ∙ there)
+
+-- what is said of the innermost of some scopes is said of all of them, but that it is nothing
+module _ (q : Text) (ts : List Scope) (l i : ℕ) (b : List (Map Datum)) (s : Scope) (e : l ≡ i + 1) (h : i < length ts) (at : s ≡ get_or ts i s) where
+  there_is : (d : Datum) → ((local : Map Datum) → Some d ≡ scope_map s local q) → Some d ≡ local_of (standing (take l ts) b) q
+  there_is d f = found_here q ts l i b d e h (λ x there. subst (λ y. Some d ≡ scope_map y (local_of (standing (take i ts) b)) q) (same_scope ts i s x h at there) (f (local_of (standing (take i ts) b))))
+
+  pub said_here : (n : Near) (all behind : Option Datum) → ((local : Map Datum) → Says n (scope_map s local q) None) → local_of (standing (take l ts) b) q ≡ all → (n ≡ Nothing → ⊥) → Says n all behind
+  said_here (Held v) all behind f same other = there_is (view v.now) f ∙ same
+  said_here (Number n) all behind f same other = there_is (number n) f ∙ same
+  said_here Nothing all behind f same other = absurd (other refl)
+  said_here Unsaid all behind f same other = tt
+
+  pub nothing_here : ((local : Map Datum) → None ≡ scope_map s local q) → local_of (standing (take i ts) b) q ≡ local_of (standing (take l ts) b) q
+  nothing_here f = missing_here q ts l i b e h (λ x there. subst (λ y. None ≡ scope_map y (local_of (standing (take i ts) b)) q) (same_scope ts i s x h at there) (f (local_of (standing (take i ts) b))))
+
+-- ---- a name
+
+first : (s : State) (q : Text) (d : Datum) → Some d ≡ (environment_of s).local q → Some d ≡ lookup (environment_of s) q
+first s q d h = ap (λ o. ((o else value_at q (pairs_view s.assigned.entries)) else (layers_of s).counters q) else data_held s.«data» q) h ∙ sym (looked_up s q)
+
+pub said_local : (s : State) (q : Text) (n : Near) (behind : Option Datum) → Says n ((environment_of s).local q) behind → (n ≡ Nothing → ⊥) → Says n (lookup (environment_of s) q) None
+said_local s q (Held v) behind h other = first s q (view v.now) h
+said_local s q (Number n) behind h other = first s q (number n) h
+said_local s q Nothing behind h other = absurd (other refl)
+said_local s q Unsaid behind h other = tt
+
+-- ---- steps
+
+abbrev SteppedTo : Option (Bor Value) → Option Datum → Type 0
+SteppedTo o next = IfSome o (λ v. Some (view v.now) ≡ next)
+
+pub by_literal : (o : Option (Bor Value)) (d : Value) (x : Expression) (p : Value) (e : Environment) → x ≡ Literal p
+    → SteppedTo o (step (view d) (view p)) → SteppedTo o (option_and_then (step (view d)) (value_of (expression_view x) e))
+by_literal o d x p e is h = subst (SteppedTo o) (sym (ap (option_and_then (step (view d))) (ap (λ y. value_of (expression_view y) e) is ∙ ap (λ y. value_of y e) (literal_is p) ∙ literal_value (view p) e))) h
+
+assoc : {X Y Z : Type 0} (f : X → Option Y) (k : Y → Option Z) (v : Option X) → option_and_then k (option_and_then f v) ≡ option_and_then (λ s. option_and_then k (f s)) v
+assoc f k None = refl
+assoc f k (Some s) = refl
+
+pub along_step : (d n : Datum) (x : Expression) (xs rest : List Expression) (e : Environment) → xs ≡ x ∷ rest → Some n ≡ option_and_then (step d) (value_of (expression_view x) e) → led n (steps_view rest) e ≡ led d (steps_view xs) e
+along_step d n x xs rest e at h =
+    ap (option_and_then (λ next. led next (steps_view rest) e)) h
+    ∙ assoc (step d) (λ next. led next (steps_view rest) e) (value_of (expression_view x) e)
+    ∙ sym (ap (λ l. led d (steps_view l) e) at)
+
+pub empty_of : {X : Type 0} (xs : List X) → length xs ≡ 0 → xs ≡ []
+empty_of [] h = refl
+empty_of (x ∷ xs) h = absurd (omega (arith, h))
