@@ -10,17 +10,22 @@ pub struct Position {
 }
 
 impl Position {
-    /// The place behind a text that begins here.
+    /// The place behind a text that begins here. A character is a byte that begins one.
     fn behind(self, text: &str) -> Position {
-        match text.rsplit_once('\n') {
-            None => Position {
-                line: self.line,
-                column: further(self.column, characters(text)),
-            },
-            Some((lines, last)) => Position {
-                line: further(further(self.line, 1), line_ends(lines)),
-                column: further(1, characters(last)),
-            },
+        let mut lines: usize = 0;
+        let mut characters: usize = 0;
+        for byte in text.bytes() {
+            if byte == b'\n' {
+                lines = lines.wrapping_add(1);
+                characters = 0;
+            } else if byte & 0xc0 != 0x80 {
+                characters = characters.wrapping_add(1);
+            }
+        }
+        let first = if lines == 0 { self.column } else { 1 };
+        Position {
+            line: further(self.line, lines),
+            column: further(first, characters),
         }
     }
 }
@@ -28,15 +33,6 @@ impl Position {
 /// So much more, up to the greatest value.
 fn further(from: u32, count: usize) -> u32 {
     from.saturating_add(u32::try_from(count).unwrap_or(u32::MAX))
-}
-
-fn line_ends(text: &str) -> usize {
-    text.bytes().filter(|byte| *byte == b'\n').count()
-}
-
-/// How many characters a text has: as many as bytes that begin one.
-fn characters(text: &str) -> usize {
-    text.bytes().filter(|byte| *byte & 0xc0 != 0x80).count()
 }
 
 /// The places of the nodes that are read so far. The source is gone through once, piece by piece.
