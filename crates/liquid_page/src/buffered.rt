@@ -65,6 +65,26 @@ impl<W: Write> Buffered<W> {
         answer
     }
 
+    /// `write` where the buffer has no room for the bytes, or a write failed. Apart, since most writes are short.
+    #[inline(never)]
+    fn write_over(&mut self, bytes: &[u8]) -> io::Result<usize>
+        ensures bound { WritesAtMost result bytes.now }
+        ensures bytes { WriteAppends (behind W.contents self.old) (behind W.contents self.new) result bytes.now }
+        ensures stopped { self.old.failed ≡ true → self.new ≡ self.old }
+    {
+        if bytes.len() > ROOM.saturating_sub(self.held.len()) {
+            self.flush_buffer()?;
+        }
+        if self.failed {
+            return Err(io::Error::from(io::ErrorKind::BrokenPipe));
+        }
+        if bytes.len() > ROOM {
+            return self.write_past(bytes);
+        }
+        self.held.extend_from_slice(bytes)?;
+        Ok(bytes.len())
+    }
+
     /// Hands on what is longer than the buffer, which is empty.
     fn write_past(&mut self, bytes: &[u8]) -> io::Result<usize>
         requires { self.old.held.items ≡ [] }
@@ -87,14 +107,8 @@ impl<W: Write> Write for Buffered<W> {
         ensures bytes { WriteAppends (behind W.contents self.old) (behind W.contents self.new) result bytes.now }
         ensures stopped { self.old.failed ≡ true → self.new ≡ self.old }
     {
-        if bytes.len() > ROOM.saturating_sub(self.held.len()) {
-            self.flush_buffer()?;
-        }
-        if self.failed {
-            return Err(io::Error::from(io::ErrorKind::BrokenPipe));
-        }
-        if bytes.len() > ROOM {
-            return self.write_past(bytes);
+        if self.failed || bytes.len() > ROOM.saturating_sub(self.held.len()) {
+            return self.write_over(bytes);
         }
         self.held.extend_from_slice(bytes)?;
         Ok(bytes.len())
