@@ -25,6 +25,7 @@ pub mod Retold
 pub mod Sinks
 pub mod SourceRuns
 pub mod Turning
+pub mod Turns
 pub mod ValueTexts
 pub mod Whole
 pub mod Written

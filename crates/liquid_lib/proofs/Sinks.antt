@@ -5,7 +5,7 @@ use Rattle.std.proofs.KnownBytes.{Appends-trans, Appends-nil}
 use Rattle.liquid_lib.specs.Sinks.{Sink, held, held_in, Adds, AddsPart}
 
 pub Adds-nil : (s : Sink) → Adds s s []
-Adds-nil s = record { added = Appends-nil (held s); same_place = refl; behind = λ _. (refl, refl) }
+Adds-nil s = record { added = Appends-nil (held s); same_place = refl; behind = λ _. refl }
 
 IsSome-same : {A : Type 0} (a b : Option A) → is_some b ≡ is_some a → IsSome a → IsSome b
 IsSome-same a b e h = cc
@@ -14,10 +14,7 @@ pub Adds-trans : (s t u : Sink) (xs ys : List ℕ) → Adds s t xs → Adds t u 
 Adds-trans s t u xs ys p q = record {
   added = Appends-trans (held s) (held t) (held u) xs ys p.added q.added;
   same_place = q.same_place ∙ p.same_place;
-  behind = λ inside.
-      let first = p.behind inside in
-      let next = q.behind (IsSome-same s.buffer t.buffer p.same_place inside) in
-      (next.0 ∙ first.0, next.1 ∙ first.1);
+  behind = λ inside. q.behind (IsSome-same s.buffer t.buffer p.same_place inside) ∙ p.behind inside;
 }
 
 pub AddsPart-after : (s t u : Sink) (xs ys : List ℕ) → Adds s t xs → AddsPart t u ys → AddsPart s u (xs ++ ys)
@@ -41,11 +38,11 @@ pub AddsPart-none : (s : Sink) (xs : List ℕ) → AddsPart s s xs
 AddsPart-none s xs = record { front = []; rest = xs; whole = refl; adds = Adds-nil s }
 
 -- an output as it was
-pub Adds-same : (s u : Sink) → u.buffer ≡ s.buffer → u.contents ≡ s.contents → u.failures ≡ s.failures → Adds s u []
-Adds-same s u b k f = record {
+pub Adds-same : (s u : Sink) → u.buffer ≡ s.buffer → u.contents ≡ s.contents → Adds s u []
+Adds-same s u b k = record {
   added = subst (λ v. Appends (held s) v []) (ap (λ x. held_in x s.contents) (sym b) ∙ ap (held_in u.buffer) (sym k)) (Appends-nil (held s));
   same_place = ap is_some b;
-  behind = λ inside. (k, f);
+  behind = λ inside. k;
 }
 
 -- s before a buffer is opened, p with the empty buffer, q after the body, u with the buffer closed
@@ -64,7 +61,7 @@ IsSome-of o x e = ap is_some e
 pub around-adds : (s p q u : Sink) (text front : List ℕ) → Around s p q u text → Adds p q front → Adds s u []
 around-adds s p q u text front around a =
     let inside = a.behind (IsSome-of p.buffer [] around.opened) in
-    Adds-same s u around.back (around.contents_out ∙ inside.0 ∙ around.contents_in) (around.failures_out ∙ inside.1 ∙ around.failures_in)
+    Adds-same s u around.back (around.contents_out ∙ inside ∙ around.contents_in)
 
 pub around-text : (s p q u : Sink) (text front : List ℕ) → Around s p q u text → Adds p q front → text ≡ front
 around-text s p q u text front around a =

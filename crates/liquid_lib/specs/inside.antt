@@ -5,4 +5,5 @@ pub mod Engine
 pub mod LoopRuns
 pub mod LoopTurns
 pub mod Partials
+pub mod Puts
 pub mod Retold

@@ -55,6 +55,7 @@ pub(crate) fn run_range<'d, W: CountedWrite, H: NamedFilters>(
     ensures alone { (f : Forest Maker) → StandsAt nodes.now from f to → AreRenders (nodes_of f) → layers_of state.new ≡ layers_of state.old }
     ensures loops { loops_of state.new ≡ loops_of state.old }
 {
+    out.turn(alloc)?;
     let mut at = from;
     while at < to {
         if let Err(fault) = run_node(alloc, context, nodes, at, to, out, state) {

@@ -32,7 +32,7 @@ mod standard;
 pub mod stdlib;
 mod write_all;
 
-pub use counted::{Counted, CountedWrite};
+pub use counted::{Counted, CountedWrite, Limited};
 pub use liquid_core::{
     Error, ErrorKind, Filter, HostFilters, Location, Object, Origin, Result, State, Value, ValueCow,
 };

@@ -1,14 +1,17 @@
 //! The caller's writer, behind open buffers.
-ghost use Rattle.std.specs.Prelude.{◌≡◌, [], Some, IsSome};
+ghost use Rattle.std.specs.Prelude.{◌≡◌, [], Some, IsSome, OnOk, OnErr};
 ghost use Rattle.std.specs.Option.{option_map};
 ghost use Rattle.std.specs.String.{string_bytes};
-ghost use Rattle.liquid_lib.specs.Performs.{Writes};
+ghost use Rattle.liquid_lib.specs.Performs.{Cut, Writes};
+ghost use Rattle.liquid_lib.specs.inside.Puts.{Puts};
 ghost use Rattle.liquid_lib.specs.Sinks.{sink_of};
+ghost use Rattle.liquid_model.specs.ErrorKinds.{IsKindOrMemory};
+ghost use Rattle.liquid_model.specs.declared.error.ErrorKind.TheVariants.{Write};
 
 use crate::counted::CountedWrite;
 use crate::write_all::write_all;
 use liquid_core::{Error, ErrorKind, Result};
-use std::alloc::Global;
+use std::alloc::{AllocError, Global};
 use std::mem;
 
 /// Where a run writes: the innermost open buffer, or the caller's writer where none is open.
@@ -19,6 +22,14 @@ pub struct Output<'w, W> {
     pub buffer: Option<String>,
 }
 
+/// How a text was added: all of it, or a beginning, since the buffer can't grow or the writer failed.
+#[derive(Clone, Copy, Drop)]
+enum Put {
+    All,
+    NoMemory,
+    NotWritten,
+}
+
 impl<'w, W: CountedWrite> Output<'w, W> {
     /// Adds a text: `Memory` where the buffer can't grow, `Write` where the writer fails. Then a beginning of it was added.
     pub fn push_text(&mut self, alloc: Global, text: &str) -> Result<()>
@@ -27,20 +38,49 @@ impl<'w, W: CountedWrite> Output<'w, W> {
             (sink_of W.contents W.failure_count self.new) }
         ensures same_writer { self.new.writer.ghost_name ≡ self.old.writer.ghost_name }
     {
+        match self.put(text) {
+            Put::All => Ok(()),
+            Put::NoMemory => Err(Error::from(AllocError)),
+            Put::NotWritten => Err(not_written(alloc)),
+        }
+    }
+
+    /// `push_text`, with an answer that takes little room.
+    #[inline(never)]
+    fn put(&mut self, text: &str) -> Put
+        ensures puts { Puts result text.now
+            (sink_of W.contents W.failure_count self.old)
+            (sink_of W.contents W.failure_count self.new) }
+        ensures same_writer { self.new.writer.ghost_name ≡ self.old.writer.ghost_name }
+    {
         match &mut self.buffer {
-            Some(buffer) => {
-                buffer.push_str(text)?;
-                Ok(())
-            }
+            Some(buffer) => match buffer.push_str(text) {
+                Ok(()) => Put::All,
+                Err(_) => Put::NoMemory,
+            },
             None => match write_all(self.writer, text.as_bytes()) {
-                Ok(()) => Ok(()),
-                Err(_) => Err(Error::new(
-                    alloc,
-                    ErrorKind::Write,
-                    "the writer failed, or took nothing of what was left to write",
-                )),
+                Ok(()) => Put::All,
+                Err(_) => Put::NotWritten,
             },
         }
+    }
+
+    /// Asks the writer whether the run may go on: `Write` where it refuses.
+    pub fn turn(&mut self, alloc: Global) -> Result<()>
+        ensures goes_on { OnOk result (sink_of W.contents W.failure_count self.new ≡ sink_of W.contents W.failure_count self.old) }
+        ensures refused { OnErr result (Cut result []
+            (sink_of W.contents W.failure_count self.old)
+            (sink_of W.contents W.failure_count self.new)) }
+        ensures same_writer { self.new.writer.ghost_name ≡ self.old.writer.ghost_name }
+    {
+        if self.writer.turn() {
+            return Ok(());
+        }
+        Err(Error::new(
+            alloc,
+            ErrorKind::Write,
+            "the writer let the run go on no further",
+        ))
     }
 
     /// Opens a buffer, and gives the one that was innermost, for `close`. It takes no memory.
@@ -61,4 +101,16 @@ impl<'w, W: CountedWrite> Output<'w, W> {
     {
         mem::replace(&mut self.buffer, outer).unwrap()
     }
+}
+
+/// The fault of a writer that failed.
+#[inline(never)]
+fn not_written(alloc: Global) -> Error
+    ensures { IsKindOrMemory Write result.kind }
+{
+    Error::new(
+        alloc,
+        ErrorKind::Write,
+        "the writer failed, or took nothing of what was left to write",
+    )
 }

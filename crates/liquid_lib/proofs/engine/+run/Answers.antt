@@ -59,76 +59,85 @@ use Rattle.liquid_lib.specs.inside.LoopRuns.{StartsAt, behind, cells_meant, conf
 use Rattle.liquid_lib.specs.inside.LoopTurns.{AreRows, IsFor, IsRow, cells_asked, cells_of, items_asked, turn_items, turns_of}
 use Rattle.std.specs.Prelude.{IfOk, IfSome}
 use Rattle.liquid_meaning.specs.Loops.{cell_end}
+use Rattle.liquid_lib.proofs.Turns.{performs_from, may_not_begin}
 use Rattle.liquid_lib.proofs.Turning.{TurnsLead, CellsLead, advanced_behind, at_goes_on, at_kept, at_next, at_off, at_pushed, at_start, cell_fault, cell_faulted, cell_on, cell_ran, cell_unopened, cells_end, cells_start, for_within, from_behind, row_within, kept_cell, kept_from_behind, kept_turn, turn_break, turn_fault, turn_faulted, turn_on, turn_ran, turns_end, turns_start}
 use Rattle.liquid_lib.proofs.LoopMeanings.{for_none, for_refused, for_some, row_none, row_refused, row_some}
 use Rattle.liquid_lib.proofs.engine.+run.Goals as goal
 
+pub run_range-returns-in_err-turn-clause-performs : goal.run_range-returns-in_err-turn-clause-performs
+run_range-returns-in_err-turn-clause-performs g t c f stood =
+    let p = err_from_is_err_and c.from_residual.result c.from_residual.ensures.1 in
+    rw (p.1, p.2) (may_not_begin c.in_err-turn.field-0.0 (nodes_meant (setting_of g.H.NamedFilters.named c.args.context.now) c.args.context.now.depth (nodes_of f)) _ _ (environment_of c.args.state.now) (environment_of c.args.state.now) c.in_err-turn.ensures.refused)
+
+pub run_range-returns-in_err-turn-clause-kept : goal.run_range-returns-in_err-turn-clause-kept
+run_range-returns-in_err-turn-clause-kept g t c f stood N names inside = kept_same N (layers_of c.args.state.now) (layers_of c.args.state.now) refl
+
 pub run_range-run_node-requires : goal.run_range-run_node-requires
 run_range-run_node-requires g t c κs within =
     let place = configuration_of g.W.CountedWrite.contents g.W.CountedWrite.failure_count in
-    (let lt : 4 * (c.args.to - c.loop-at.at) + reserve c.args.context.now.depth c.args.context.now.partials.now < t = omega arith in lt, (within.0, (within.1, going_node (setting_of g.H.NamedFilters.named c.args.context.now) c.args.context.now.depth c.args.nodes.now c.args.from c.loop-at.at c.args.to (place c.args.out.now c.args.state.now) (place c.loop-at.out c.loop-at.state) c.requires c.loop-at.invariant.going c.loop-at-test.true)))
+    (let lt : 4 * (c.args.to - c.loop-at.at) + reserve c.args.context.now.depth c.args.context.now.partials.now < t = omega arith in lt, (within.0, (within.1, going_node (setting_of g.H.NamedFilters.named c.args.context.now) c.args.context.now.depth c.args.nodes.now c.args.from c.loop-at.at c.args.to (place c.turn.new.self c.args.state.now) (place c.loop-at.out c.loop-at.state) c.requires c.loop-at.invariant.going c.loop-at-test.true)))
 
 pub run_range-returns-in-Err-clause-performs : goal.run_range-returns-in-Err-clause-performs
-run_range-returns-in-Err-clause-performs g t c =
+run_range-returns-in-Err-clause-performs g t c f stood =
     let place = configuration_of g.W.CountedWrite.contents g.W.CountedWrite.failure_count in
-    going_fault (setting_of g.H.NamedFilters.named c.args.context.now) c.args.context.now.depth c.args.nodes.now c.args.from c.loop-at.at c.args.to _ (place c.args.out.now c.args.state.now) (place c.loop-at.out c.loop-at.state) (place c.run_node.new.out c.run_node.new.state) c.loop-at.invariant.going c.loop-at-test.true (λ n next there. fault_again c.in-Err.fault c.located.result c.located.ensures (c.in-Err.ensures.performs n next there))
+    performs_from _ (nodes_meant (setting_of g.H.NamedFilters.named c.args.context.now) c.args.context.now.depth (nodes_of f)) _ _ (environment_of c.args.state.now) _ c.in_ok-turn.ensures.goes_on ((going_fault (setting_of g.H.NamedFilters.named c.args.context.now) c.args.context.now.depth c.args.nodes.now c.args.from c.loop-at.at c.args.to _ (place c.turn.new.self c.args.state.now) (place c.loop-at.out c.loop-at.state) (place c.run_node.new.out c.run_node.new.state) c.loop-at.invariant.going c.loop-at-test.true (λ n next there. fault_again c.in-Err.fault c.located.result c.located.ensures (c.in-Err.ensures.performs n next there))) f stood)
 
 pub run_range-returns-in-Err-clause-alone : goal.run_range-returns-in-Err-clause-alone
 run_range-returns-in-Err-clause-alone g t c f stood =
     let place = configuration_of g.W.CountedWrite.contents g.W.CountedWrite.failure_count in
-    alone_step (setting_of g.H.NamedFilters.named c.args.context.now) c.args.context.now.depth c.args.nodes.now c.args.from c.loop-at.at c.args.to (place c.args.out.now c.args.state.now) (place c.loop-at.out c.loop-at.state) c.args.state.now c.loop-at.state c.run_node.new.state f stood c.loop-at.invariant.going c.loop-at-test.true c.run_node.ensures.alone (c.loop-at.invariant.alone f stood)
+    alone_step (setting_of g.H.NamedFilters.named c.args.context.now) c.args.context.now.depth c.args.nodes.now c.args.from c.loop-at.at c.args.to (place c.turn.new.self c.args.state.now) (place c.loop-at.out c.loop-at.state) c.args.state.now c.loop-at.state c.run_node.new.state f stood c.loop-at.invariant.going c.loop-at-test.true c.run_node.ensures.alone (c.loop-at.invariant.alone f stood)
 
 pub run_range-returns-in-Err-clause-kept : goal.run_range-returns-in-Err-clause-kept
 run_range-returns-in-Err-clause-kept g t c f stood =
     let place = configuration_of g.W.CountedWrite.contents g.W.CountedWrite.failure_count in
-    kept_step (setting_of g.H.NamedFilters.named c.args.context.now) c.args.context.now.depth c.args.nodes.now c.args.from c.loop-at.at c.args.to (place c.args.out.now c.args.state.now) (place c.loop-at.out c.loop-at.state) c.args.state.now c.loop-at.state c.run_node.new.state f stood c.loop-at.invariant.going c.loop-at-test.true c.run_node.ensures.kept (c.loop-at.invariant.kept f stood)
+    kept_step (setting_of g.H.NamedFilters.named c.args.context.now) c.args.context.now.depth c.args.nodes.now c.args.from c.loop-at.at c.args.to (place c.turn.new.self c.args.state.now) (place c.loop-at.out c.loop-at.state) c.args.state.now c.loop-at.state c.run_node.new.state f stood c.loop-at.invariant.going c.loop-at-test.true c.run_node.ensures.kept (c.loop-at.invariant.kept f stood)
 
 pub run_range-returns-then-is_some-clause-performs : goal.run_range-returns-then-is_some-clause-performs
-run_range-returns-then-is_some-clause-performs g t c =
+run_range-returns-then-is_some-clause-performs g t c f stood =
     let place = configuration_of g.W.CountedWrite.contents g.W.CountedWrite.failure_count in
     let some = some_of c.run_node.new.state.interrupt (search rules) in
-    going_halt (setting_of g.H.NamedFilters.named c.args.context.now) c.args.context.now.depth c.args.nodes.now c.args.from c.loop-at.at c.args.to _ _ some.0 (place c.args.out.now c.args.state.now) (place c.loop-at.out c.loop-at.state) (place c.run_node.new.out c.run_node.new.state) c.loop-at.invariant.going c.loop-at-test.true c.in_default.ensures.performs (interrupt_of c.run_node.new.state _ some.1)
+    performs_from _ (nodes_meant (setting_of g.H.NamedFilters.named c.args.context.now) c.args.context.now.depth (nodes_of f)) _ _ (environment_of c.args.state.now) _ c.in_ok-turn.ensures.goes_on ((going_halt (setting_of g.H.NamedFilters.named c.args.context.now) c.args.context.now.depth c.args.nodes.now c.args.from c.loop-at.at c.args.to _ _ some.0 (place c.turn.new.self c.args.state.now) (place c.loop-at.out c.loop-at.state) (place c.run_node.new.out c.run_node.new.state) c.loop-at.invariant.going c.loop-at-test.true c.in_default.ensures.performs (interrupt_of c.run_node.new.state _ some.1)) f stood)
 
 pub run_range-returns-then-is_some-clause-alone : goal.run_range-returns-then-is_some-clause-alone
 run_range-returns-then-is_some-clause-alone g t c f stood =
     let place = configuration_of g.W.CountedWrite.contents g.W.CountedWrite.failure_count in
-    alone_step (setting_of g.H.NamedFilters.named c.args.context.now) c.args.context.now.depth c.args.nodes.now c.args.from c.loop-at.at c.args.to (place c.args.out.now c.args.state.now) (place c.loop-at.out c.loop-at.state) c.args.state.now c.loop-at.state c.run_node.new.state f stood c.loop-at.invariant.going c.loop-at-test.true c.run_node.ensures.alone (c.loop-at.invariant.alone f stood)
+    alone_step (setting_of g.H.NamedFilters.named c.args.context.now) c.args.context.now.depth c.args.nodes.now c.args.from c.loop-at.at c.args.to (place c.turn.new.self c.args.state.now) (place c.loop-at.out c.loop-at.state) c.args.state.now c.loop-at.state c.run_node.new.state f stood c.loop-at.invariant.going c.loop-at-test.true c.run_node.ensures.alone (c.loop-at.invariant.alone f stood)
 
 pub run_range-returns-then-is_some-clause-kept : goal.run_range-returns-then-is_some-clause-kept
 run_range-returns-then-is_some-clause-kept g t c f stood =
     let place = configuration_of g.W.CountedWrite.contents g.W.CountedWrite.failure_count in
-    kept_step (setting_of g.H.NamedFilters.named c.args.context.now) c.args.context.now.depth c.args.nodes.now c.args.from c.loop-at.at c.args.to (place c.args.out.now c.args.state.now) (place c.loop-at.out c.loop-at.state) c.args.state.now c.loop-at.state c.run_node.new.state f stood c.loop-at.invariant.going c.loop-at-test.true c.run_node.ensures.kept (c.loop-at.invariant.kept f stood)
+    kept_step (setting_of g.H.NamedFilters.named c.args.context.now) c.args.context.now.depth c.args.nodes.now c.args.from c.loop-at.at c.args.to (place c.turn.new.self c.args.state.now) (place c.loop-at.out c.loop-at.state) c.args.state.now c.loop-at.state c.run_node.new.state f stood c.loop-at.invariant.going c.loop-at-test.true c.run_node.ensures.kept (c.loop-at.invariant.kept f stood)
 
 pub run_range-next_after-at-requires : goal.run_range-next_after-at-requires
 run_range-next_after-at-requires g t c =
     let place = configuration_of g.W.CountedWrite.contents g.W.CountedWrite.failure_count in
-    going_node (setting_of g.H.NamedFilters.named c.args.context.now) c.args.context.now.depth c.args.nodes.now c.args.from c.loop-at.at c.args.to (place c.args.out.now c.args.state.now) (place c.loop-at.out c.loop-at.state) c.requires c.loop-at.invariant.going c.loop-at-test.true
+    going_node (setting_of g.H.NamedFilters.named c.args.context.now) c.args.context.now.depth c.args.nodes.now c.args.from c.loop-at.at c.args.to (place c.turn.new.self c.args.state.now) (place c.loop-at.out c.loop-at.state) c.requires c.loop-at.invariant.going c.loop-at-test.true
 
 pub run_range-loop-at-smaller : goal.run_range-loop-at-smaller
 run_range-loop-at-smaller g t c =
     let place = configuration_of g.W.CountedWrite.contents g.W.CountedWrite.failure_count in
-    let past = going_past (setting_of g.H.NamedFilters.named c.args.context.now) c.args.context.now.depth c.args.nodes.now c.args.from c.loop-at.at c.args.to c.next_after-at.result (place c.args.out.now c.args.state.now) (place c.loop-at.out c.loop-at.state) c.requires c.loop-at.invariant.going c.loop-at-test.true c.next_after-at.ensures in
+    let past = going_past (setting_of g.H.NamedFilters.named c.args.context.now) c.args.context.now.depth c.args.nodes.now c.args.from c.loop-at.at c.args.to c.next_after-at.result (place c.turn.new.self c.args.state.now) (place c.loop-at.out c.loop-at.state) c.requires c.loop-at.invariant.going c.loop-at-test.true c.next_after-at.ensures in
     let lt : c.args.to - c.next_after-at.result < c.args.to - c.loop-at.at = omega arith in
     lt
 
 pub run_range-loop-at-preserved : goal.run_range-loop-at-preserved
 run_range-loop-at-preserved g t c =
     let place = configuration_of g.W.CountedWrite.contents g.W.CountedWrite.failure_count in
-    let past = going_past (setting_of g.H.NamedFilters.named c.args.context.now) c.args.context.now.depth c.args.nodes.now c.args.from c.loop-at.at c.args.to c.next_after-at.result (place c.args.out.now c.args.state.now) (place c.loop-at.out c.loop-at.state) c.requires c.loop-at.invariant.going c.loop-at-test.true c.next_after-at.ensures in
+    let past = going_past (setting_of g.H.NamedFilters.named c.args.context.now) c.args.context.now.depth c.args.nodes.now c.args.from c.loop-at.at c.args.to c.next_after-at.result (place c.turn.new.self c.args.state.now) (place c.loop-at.out c.loop-at.state) c.requires c.loop-at.invariant.going c.loop-at-test.true c.next_after-at.ensures in
     let none = none_of c.run_node.new.state.interrupt (search rules) in
     record {
       ordered = omega arith;
-      going = going_on (setting_of g.H.NamedFilters.named c.args.context.now) c.args.context.now.depth c.args.nodes.now c.args.from c.loop-at.at c.args.to c.next_after-at.result _ (place c.args.out.now c.args.state.now) (place c.loop-at.out c.loop-at.state) (place c.run_node.new.out c.run_node.new.state) c.loop-at.invariant.going c.loop-at-test.true c.in_default.ensures.performs (interrupt_of c.run_node.new.state _ none) c.next_after-at.ensures;
-      kept = λ f stood. kept_step (setting_of g.H.NamedFilters.named c.args.context.now) c.args.context.now.depth c.args.nodes.now c.args.from c.loop-at.at c.args.to (place c.args.out.now c.args.state.now) (place c.loop-at.out c.loop-at.state) c.args.state.now c.loop-at.state c.run_node.new.state f stood c.loop-at.invariant.going c.loop-at-test.true c.run_node.ensures.kept (c.loop-at.invariant.kept f stood);
-      alone = λ f stood. alone_step (setting_of g.H.NamedFilters.named c.args.context.now) c.args.context.now.depth c.args.nodes.now c.args.from c.loop-at.at c.args.to (place c.args.out.now c.args.state.now) (place c.loop-at.out c.loop-at.state) c.args.state.now c.loop-at.state c.run_node.new.state f stood c.loop-at.invariant.going c.loop-at-test.true c.run_node.ensures.alone (c.loop-at.invariant.alone f stood);
+      going = going_on (setting_of g.H.NamedFilters.named c.args.context.now) c.args.context.now.depth c.args.nodes.now c.args.from c.loop-at.at c.args.to c.next_after-at.result _ (place c.turn.new.self c.args.state.now) (place c.loop-at.out c.loop-at.state) (place c.run_node.new.out c.run_node.new.state) c.loop-at.invariant.going c.loop-at-test.true c.in_default.ensures.performs (interrupt_of c.run_node.new.state _ none) c.next_after-at.ensures;
+      kept = λ f stood. kept_step (setting_of g.H.NamedFilters.named c.args.context.now) c.args.context.now.depth c.args.nodes.now c.args.from c.loop-at.at c.args.to (place c.turn.new.self c.args.state.now) (place c.loop-at.out c.loop-at.state) c.args.state.now c.loop-at.state c.run_node.new.state f stood c.loop-at.invariant.going c.loop-at-test.true c.run_node.ensures.kept (c.loop-at.invariant.kept f stood);
+      alone = λ f stood. alone_step (setting_of g.H.NamedFilters.named c.args.context.now) c.args.context.now.depth c.args.nodes.now c.args.from c.loop-at.at c.args.to (place c.turn.new.self c.args.state.now) (place c.loop-at.out c.loop-at.state) c.args.state.now c.loop-at.state c.run_node.new.state f stood c.loop-at.invariant.going c.loop-at-test.true c.run_node.ensures.alone (c.loop-at.invariant.alone f stood);
       loops = c.run_node.ensures.loops ∙ c.loop-at.invariant.loops;
       same_writer = c.run_node.ensures.same_writer ∙ c.loop-at.invariant.same_writer;
     }
 
 pub run_range-returns-clause-performs : goal.run_range-returns-clause-performs
-run_range-returns-clause-performs g t c =
+run_range-returns-clause-performs g t c f stood =
     let place = configuration_of g.W.CountedWrite.contents g.W.CountedWrite.failure_count in
-    going_end (setting_of g.H.NamedFilters.named c.args.context.now) c.args.context.now.depth c.args.nodes.now c.args.from c.loop-at.at c.args.to _ (place c.args.out.now c.args.state.now) (place c.loop-at.out c.loop-at.state) c.loop-at.invariant.going c.loop-at-test.false
+    performs_from _ (nodes_meant (setting_of g.H.NamedFilters.named c.args.context.now) c.args.context.now.depth (nodes_of f)) _ _ (environment_of c.args.state.now) _ c.in_ok-turn.ensures.goes_on ((going_end (setting_of g.H.NamedFilters.named c.args.context.now) c.args.context.now.depth c.args.nodes.now c.args.from c.loop-at.at c.args.to _ (place c.turn.new.self c.args.state.now) (place c.loop-at.out c.loop-at.state) c.loop-at.invariant.going c.loop-at-test.false) f stood)
 
 pub run_node-returns-in-Text-clause-performs : goal.run_node-returns-in-Text-clause-performs
 run_node-returns-in-Text-clause-performs g t c =
