@@ -46,10 +46,21 @@ doc: `doc` isn't known; write `{% comment %}text{% endcomment %}`
 highlight: `highlight` is of Jekyll, and isn't known
 link: `link` is of Jekyll, and isn't known; write the address itself
 post_url: `post_url` is of Jekyll, and isn't known; write the address itself
+seo: `seo` is of a plugin of Jekyll, and isn't known; write the `<meta>` tags yourself
+feed_meta: `feed_meta` is of a plugin of Jekyll, and isn't known; write the `<link>` yourself
+gist: `gist` is of a plugin of Jekyll, and isn't known; let the data bring the HTML
 do: `do` isn't known; `assign` sets a name
 then: a condition ends without `then`
 next: `next` is written `continue`
 fi: an end is written as `{% endif %}`
+done: an end is written as `{% endfor %}`
+end: an end names its block, as `{% endif %}`
+range: a loop is written `{% for i in list %}`
+elsunless: `elsunless` isn't known; write `{% elsif a == false %}`
+yield: `yield` isn't known; `{{ content }}` shows what the data brings
+slot: `slot` isn't known; `capture` keeps a text, and a partial can show it
+trans: `trans` isn't known; let the data bring the translated text
+now: `now` isn't known; let the data bring the date
 ";
 
 /// The name of a filter, and the one that does here what it does elsewhere.
@@ -95,6 +106,35 @@ default_if_none: default
 sort_by: sort
 concatenate: append
 ceiling: ceil
+handleize: slugify
+handle: slugify
+parameterize: slugify
+dasherize: slugify
+urlize: slugify
+squish: strip
+to_upper: upcase
+to_lower: downcase
+touppercase: upcase
+tolowercase: downcase
+toUpperCase: upcase
+toLowerCase: downcase
+replace_all: replace
+cut: remove
+truncatechars: truncate
+truncate_words: truncatewords
+array_to_sentence: array_to_sentence_string
+to_sentence: array_to_sentence_string
+xml_escape: escape
+htmlescape: escape
+forceescape: escape
+force_escape: escape
+cgi_escape: url_encode
+uri_escape: url_encode
+linebreaksbr: newline_to_br
+linebreaks: newline_to_br
+contact: concat
+merge: concat
+remove_all: remove
 ";
 
 /// The name of a filter that has no like here, and what is told of it.
@@ -103,15 +143,80 @@ json: a `for` shows a list or a map piece by piece
 to_json: a `for` shows a list or a map piece by piece
 tojson: a `for` shows a list or a map piece by piece
 jsonify: a `for` shows a list or a map piece by piece
-money: it is of Shopify's themes
-t: it is of Shopify's themes
-img_url: it is of Shopify's themes
-asset_url: it is of Shopify's themes
-markdownify: it is of Jekyll
-relative_url: it is of Jekyll
-absolute_url: it is of Jekyll
-group_by: it is of Jekyll
-where_exp: it is of Jekyll
+money: it is of Shopify's themes; `divided_by: 100` and `modulo: 100` show cents
+money_with_currency: it is of Shopify's themes; `divided_by: 100` and `modulo: 100` show cents
+money_without_currency: it is of Shopify's themes; `divided_by: 100` and `modulo: 100` show cents
+money_without_trailing_zeros: it is of Shopify's themes; `divided_by: 100` shows whole units
+t: it is of Shopify's themes; let the data bring the translated text
+translate: it is of Shopify's themes; let the data bring the translated text
+img_url: it is of Shopify's themes; write the address itself
+image_url: it is of Shopify's themes; write the address itself
+asset_img_url: it is of Shopify's themes; write the address itself
+asset_url: it is of Shopify's themes; write the address itself
+file_url: it is of Shopify's themes; write the address itself
+image_tag: it is of Shopify's themes; write the `<img>` itself
+img_tag: it is of Shopify's themes; write the `<img>` itself
+script_tag: it is of Shopify's themes; write the `<script>` itself
+stylesheet_tag: it is of Shopify's themes; write the `<link>` itself
+link_to: it is of Shopify's themes; write the `<a>` itself
+within: it is of Shopify's themes; write the address itself
+color_to_rgb: it is of Shopify's themes
+payment_type_svg_tag: it is of Shopify's themes
+placeholder_svg_tag: it is of Shopify's themes
+structured_data: it is of Shopify's themes
+weight_with_unit: it is of Shopify's themes; write the unit after the number
+camelize: it is of Shopify's themes
+camelcase: it is of Shopify's themes
+find: write `where: 'name', value | first`
+find_index: a `for` with `forloop.index0` finds a place
+has: write `where: 'name', value | size`
+any: write `where: 'name', value | size`
+every: a `for` with an `if` asks each item
+reject: a `for` with `unless` leaves items out
+filter: write `where: 'name', value`
+remove_last: `split` and `join` take a text apart and put it together
+replace_last: `split` and `join` take a text apart and put it together
+raw: nothing is escaped by itself, so leave `| raw` out
+safe: nothing is escaped by itself, so leave `| safe` out
+html_safe: nothing is escaped by itself, so leave `| html_safe` out
+unescape: nothing is escaped by itself; let the data bring the plain text
+format: `append` and `prepend` join texts
+printf: `append` and `prepend` join texts
+sprintf: `append` and `prepend` join texts
+number_format: let the data bring the formatted number
+toFixed: let the data bring the formatted number
+number_with_delimiter: let the data bring the formatted number
+humanize: let the data bring the text as it should be
+timeago: let the data bring the text
+trans: let the data bring the translated text
+dump: a `for` shows a list or a map piece by piece
+debug: a `for` shows a list or a map piece by piece
+keys: a `for` over a map gives pairs, and `pair[0]` is the key
+values: a `for` over a map gives pairs, and `pair[1]` is the value
+items: a `for` over a map gives pairs, as `pair[0]` and `pair[1]`
+dictsort: a `for` over a map gives its pairs in the order of their keys
+batch: a `tablerow` with `cols` makes rows
+in_groups_of: a `tablerow` with `cols` makes rows
+random: chance isn't known; let the data bring the choice
+sample: it is of Jekyll; chance isn't known, so let the data bring the choice
+shuffle: chance isn't known; let the data bring the order
+md5: let the data bring the digest
+sha1: let the data bring the digest
+sha256: let the data bring the digest
+hmac_sha1: let the data bring the digest
+hmac_sha256: let the data bring the digest
+markdownify: it is of Jekyll; let the data bring the HTML
+smartify: it is of Jekyll; let the data bring the text as it should be
+relative_url: it is of Jekyll; write the address itself
+absolute_url: it is of Jekyll; write the address itself
+group_by: it is of Jekyll; a `for` with an `if` picks the items of a group
+group_by_exp: it is of Jekyll; a `for` with an `if` picks the items of a group
+where_exp: it is of Jekyll; write `where: 'name', value`, or an `if` in a `for`
+find_exp: it is of Jekyll; write `where: 'name', value | first`
+number_of_words: it is of Jekyll; write `split: ' ' | size`
+normalize_whitespace: it is of Jekyll; write `strip`
+to_integer: it is of Jekyll; a text of digits counts as a number, as in `plus: 0`
+inspect: a `for` shows a list or a map piece by piece
 date_to_string: write `date: '%d %b %Y'`
 date_to_long_string: write `date: '%d %B %Y'`
 sum: add in a `for`, by `assign` and `plus`

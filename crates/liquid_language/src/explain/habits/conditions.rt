@@ -21,7 +21,12 @@ not¦¦`not` isn't known; write `{% unless a %}` or `a == false`
 ¦>¦`>` stands between two values; comparisons are joined by `and`
 ¦=¦`=` doesn't compare; write `==`
 ¦in¦`in` is written the other way round, `list contains item`
-¦is¦`is` is written `==`
+¦is¦`is` is written `==`; `is defined` is written `{% if a %}`
+¦contain¦did you mean `contains`?
+¦constains¦did you mean `contains`?
+¦includes¦`includes` is written `contains`
+¦include¦`include` is written `contains`
+¦has¦`has` is written `contains`
 ¦eq¦`eq` is written `==`
 ¦equals¦`equals` is written `==`
 ¦ne¦`ne` is written `!=`

@@ -2,11 +2,25 @@
 
 /// In an output.
 pub static OUTPUT: &str = "\
-^¦#¦`{{#if a}}` is written `{% if a %}`
+^¦#each¦`{{#each list}}` is written `{% for item in list %}`
+^¦#unless¦`{{#unless a}}` is written `{% unless a %}`
+^¦#if¦`{{#if a}}` is written `{% if a %}`
+^¦#¦`{{#a}}` is written `{% if a %}`, and over a list `{% for item in a %}`
+^¦/each¦`{{/each}}` is written `{% endfor %}`
+^¦/unless¦`{{/unless}}` is written `{% endunless %}`
 ^¦/¦`{{/if}}` is written `{% endif %}`
 ^¦>¦`{{> name}}` is written `{% render 'name' %}`
 ^¦^¦`{{^a}}` is written `{% unless a %}`
-^¦!¦a comment is written `{% comment %}text{% endcomment %}`
+^¦!--¦a comment is written `{% comment %}text{% endcomment %}`
+^¦! ¦a comment is written `{% comment %}text{% endcomment %}`
+^¦!¦`!` isn't known; `{% unless a %}` asks for the opposite, and a comment is a `{% comment %}`
+^¦&¦nothing is escaped by itself: write `{{ a }}`
+^¦=¦`{{= a }}` is written `{{ a }}`
+^¦../¦`../` isn't known; a name of an outer body is seen everywhere
+^¦@index¦`@index` is written `forloop.index0`
+^¦@first¦`@first` is written `forloop.first`
+^¦@last¦`@last` is written `forloop.last`
+^¦@key¦`@key` isn't known; a `for` over a map gives pairs, and `pair[0]` is the key
 ^¦~¦white space is stripped by `{{-` and `-}}`
 ^¦%¦a tag begins with `{%`, with one brace
 ¦{{¦the output before this `{{` has no `}}`
@@ -16,6 +30,9 @@ pub static OUTPUT: &str = "\
 ¦-%}¦an output ends with `-}}`, and not with `-%}`
 ¦}¦an output ends with `}}`
 ^¦-¦a name has no sign; write `a | times: -1`
+range¦.¦`{{ range .list }}` is written `{% for item in list %}`
+if¦.¦`{{ if .a }}` is written `{% if a %}`
+with¦.¦`{{ with .a }}` isn't known; write `a.b` for a part of `a`
 ¦=>¦`=>` isn't known; arguments have a `,` between them, as `'a', 'b'`
 ¦=¦an output sets no name; write `{% assign a = b %}`
 ¦,¦an output shows one value; write `{{ a }}{{ b }}`

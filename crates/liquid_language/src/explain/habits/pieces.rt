@@ -16,8 +16,19 @@ pub static ANYWHERE: &str = "\
 ¦&lt;¦`&lt;` is written `<`
 ¦&amp;¦`&amp;` is an escape of HTML; in a condition write `and`
 ¦&¦`&` isn't known; in a condition write `and`
+¦\u{2002}¦a space of another kind stands here; write a plain one
+¦\u{2003}¦a space of another kind stands here; write a plain one
+¦\u{2009}¦a space of another kind stands here; write a plain one
+¦\u{202f}¦a space of another kind stands here; write a plain one
+¦\u{3000}¦a space of another kind stands here; write a plain one
+¦\u{200b}¦a space without width stands here; leave it out
+¦\u{feff}¦a byte order mark stands here; leave it out
 ¦??¦`??` isn't known; `| default: 'text'` stands in for a missing value
+¦?.¦`?.` is written `.`
+¦? }}¦a name has no `?`; ask in a condition, as `{% if a == nil %}`
+¦?}}¦a name has no `?`; ask in a condition, as `{% if a == nil %}`
 ¦?¦a choice is written `{% if a %}b{% else %}c{% endif %}`
+¦~¦texts are joined by a filter, as `a | append: 'text'`
 ¦+¦`+` is written as a filter, `a | plus: b`
 ¦-¦`-` is written as a filter, `a | minus: b`
 ¦*¦`*` is written as a filter, `a | times: b`

@@ -40,8 +40,11 @@ pub static ASSIGN: &str = "\
 /// In `for` and `tablerow`.
 pub static LOOP: &str = "\
 ¦of¦`of` is written `in`
+¦as¦a loop is written `{% for item in list %}`
+¦to¦numbers are counted by a range, as `{% for i in (1..5) %}`
+¦;¦a loop is written `{% for i in list %}`, and over numbers `{% for i in (1..5) %}`
 ¦|¦a loop has no filters; `assign` the filtered list before it
-¦,¦a loop has one name, and no `,` before its parts
+¦,¦a loop has one name, and no `,` before its parts; a pair of a map is `pair[0]` and `pair[1]`
 each¦¦`for each` is written `for`
 reversed¦:¦`reversed` has no value: write it alone
 :¦%}¦a value is wanted behind `:`, as `limit: 2`
@@ -61,6 +64,7 @@ pub static PARTIAL: &str = "\
 :¦-%}¦a value is wanted behind `:`, as `name: value`
 ¦,¦no `,` stands here; an `include` has none behind the partial's name
 ¦=¦a value stands behind a `:`, as `name: value`
+ignore¦¦a partial that is missing is a fault; leave `ignore missing` out
 with¦¦`with` is written `{% render 'name' with value as name %}`
 for¦¦`for` is written `{% render 'name' for list as name %}`
 ";
