@@ -1,6 +1,7 @@
 //! The line of a text in which a fault stands, as it is shown behind the fault: with its number, and a mark under the column.
 use liquid_core::Location;
 use std::fmt;
+use unicode_width::UnicodeWidthChar;
 
 /// How many characters of a line are shown at most.
 const SHOWN: usize = 100;
@@ -39,7 +40,7 @@ impl fmt::Display for Excerpt<'_> {
             0
         };
         let front = if hidden > 0 { ".." } else { "" };
-        let mark = Blank(before.saturating_sub(hidden).saturating_add(front.len()));
+        let mark = Blank(columns(self.text, hidden, before).saturating_add(front.len()));
         let margin = Blank(digits(self.line));
         let shown = Shown {
             text: self.text,
@@ -81,6 +82,23 @@ impl fmt::Display for Shown<'_> {
         }
         Ok(())
     }
+}
+
+/// How many columns of a terminal stand before a place, from the first character that is shown on. A letter of Chinese takes two,
+/// a combining mark none. Past the end of the line each character counts as one.
+fn columns(text: &str, hidden: usize, before: usize) -> usize {
+    let mut columns: usize = 0;
+    let mut left = before.saturating_sub(hidden);
+    for c in text.chars().take(before).skip(hidden) {
+        columns = columns.saturating_add(width(c));
+        left = left.saturating_sub(1);
+    }
+    columns.saturating_add(left)
+}
+
+/// How many columns a character takes, as it is shown.
+fn width(c: char) -> usize {
+    if is_visible(c) { c.width().unwrap_or(1) } else { 1 }
 }
 
 fn is_visible(c: char) -> bool {

@@ -5,11 +5,13 @@ mod buffered;
 mod excerpt;
 mod outcome;
 mod page;
+mod unreadable;
 mod words;
 
 use crate::excerpt::Excerpt;
 use crate::outcome::Outcome;
 use crate::page::{ReadTexts, Texts, Unreadable, page};
+use crate::unreadable::Reason;
 pub use liquid_site::{data_from_json, run};
 use std::alloc::AllocError;
 use std::process::ExitCode;
@@ -19,23 +21,39 @@ use std::{env, fs, io};
 #[derive(Drop)]
 struct Files<'r> {
     rt: &'r HostRuntime,
+    /// Why the last file that has no text has none.
+    reason: Option<Reason>,
 }
 
 impl<'r> Texts for Files<'r> {
     fn text_at(&mut self, path: &str) -> Result<String, Unreadable> {
-        match fs::read_to_string(self.rt, path) {
-            Ok(text) => Ok(text),
-            Err(refused) if refused.kind() == io::ErrorKind::OutOfMemory => Err(Unreadable::Memory),
-            Err(_) => Err(Unreadable::File),
-        }
+        let reason = match fs::read(self.rt, path) {
+            Ok(bytes) => match String::from_utf8(bytes) {
+                Ok(text) => return Ok(text),
+                Err(refused) => Reason::of_bytes(&refused),
+            },
+            Err(refused) if refused.kind() == io::ErrorKind::OutOfMemory => {
+                return Err(Unreadable::Memory);
+            }
+            Err(refused) => Reason::from(refused.kind()),
+        };
+        self.reason = Some(reason);
+        Err(Unreadable::File)
     }
 }
 
 fn main(rt: HostRuntime) -> ExitCode {
-    let (outcome, read) = outcome_of(&rt);
+    let mut files = Files {
+        rt: &rt,
+        reason: None,
+    };
+    let (outcome, read) = outcome_of(&rt, &mut files);
     let status = outcome.status();
     if status != 0 {
         let _ = eprintln!(rt; "{outcome}");
+    }
+    if let (Outcome::Unread(_), Some(reason)) = (&outcome, files.reason) {
+        let _ = eprintln!(rt; "  {reason}");
     }
     if let Some(excerpt) = excerpt_of(&outcome, &read) {
         let _ = eprintln!(rt; "{excerpt}");
@@ -44,13 +62,12 @@ fn main(rt: HostRuntime) -> ExitCode {
 }
 
 /// How the call ended, and the texts that it read.
-fn outcome_of(rt: &HostRuntime) -> (Outcome, Option<ReadTexts>) {
+fn outcome_of(rt: &HostRuntime, files: &mut Files<'_>) -> (Outcome, Option<ReadTexts>) {
     let words = match words_given(rt) {
         Ok(words) => words,
         Err(outcome) => return (outcome, None),
     };
-    let mut files = Files { rt };
-    let (_, outcome, read) = page(rt.alloc(), &words, &mut files, io::writer(rt));
+    let (_, outcome, read) = page(rt.alloc(), &words, files, io::writer(rt));
     (outcome, read)
 }
 
