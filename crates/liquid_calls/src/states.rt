@@ -1,6 +1,6 @@
 //! States: calls in their order, each with its answer.
 use crate::faults::no_call;
-use liquid_core::{ErrorKind, Object, Result, State, Value};
+use liquid_core::{ErrorKind, Items, LoopFrame, LoopKind, Object, Result, State, Value};
 use liquid_refusals::{
     Change, Told, change_of, found, items, items_member, kind_of, nil, optional, owned, text_member,
 };
@@ -21,7 +21,7 @@ pub(crate) fn made_in_turn<R: Print>(
 }
 
 /// Makes the call of the step. One that was refused memory is made again, so that those behind it find what it does.
-fn step_made<R: Print>(told: &Told<'_, R>, state: &mut State<'_>, step: &Value) {
+fn step_made<'d, R: Print>(told: &Told<'_, R>, state: &mut State<'d>, step: &'d Value) {
     told.begin();
     let answer = called(told.alloc, state, step);
     told.end();
@@ -31,11 +31,29 @@ fn step_made<R: Print>(told: &Told<'_, R>, state: &mut State<'_>, step: &Value) 
     }
 }
 
-fn called(alloc: Global, state: &mut State<'_>, step: &Value) -> Result<Value> {
+fn called<'d>(alloc: Global, state: &mut State<'d>, step: &'d Value) -> Result<Value> {
     match change_of(alloc, step)? {
         Some(change) => changed(state, change),
+        None if text_member(step, 0) == "push_frame" => looped(alloc, state, step),
         None => looked_up(alloc, state, step),
     }
+}
+
+/// Begins a loop of the step's name over the items of its list, at the first of them.
+fn looped<'d>(alloc: Global, state: &mut State<'d>, step: &'d Value) -> Result<Value> {
+    let source = items_member(step, 2);
+    if source.is_empty() {
+        return no_call(alloc);
+    }
+    nil(state.push_frame(LoopFrame {
+        name: text_member(step, 1),
+        items: Items::Lent(source),
+        from: 0,
+        count: source.len(),
+        reversed: false,
+        at: 0,
+        kind: LoopKind::Render,
+    }))
 }
 
 fn changed(state: &mut State<'_>, change: Change) -> Result<Value> {
