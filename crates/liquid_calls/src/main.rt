@@ -15,7 +15,8 @@
 //!   `sort` is the standard one.
 //! - `apply_filters`: the call of it without any filter, over `on`.
 //! - `Accepts::NAME`: whether that filter accepts the numbers of arguments from `on` to `with`, and no others, up to four.
-//! - `argument::NAME`: the reader of arguments of that name, over `on`.
+//! - `argument::NAME`: the reader of arguments of that name, over `on`. `date` and `is_date` call
+//!   `read_date`.
 //! - `Value::NAME` and `Test::NAME`: the method of the value `on`. `Order::NAME`: that of `on` beside the value `with`.
 //! - `Error::NAME`: a fault with the message `source`, as it is told.
 //! - `State`: calls of the state, one after another, as `src/states.rt` tells. `Site`: changes of a site, as `src/sites.rt` tells.
