@@ -24,11 +24,13 @@ returns-in_err-apply_one-clause-value g c =
 
 pub loop-call-preserved : goal.loop-call-preserved
 loop-call-preserved g c =
-    let f : FilterCall g.row.F.Denot → Call = λ call. call_of (g.F.Filter.answer call.filter) call.args.now in
-    (calls_more f _ (environment_of c.args.state.now) c.args.calls.now c.loop-call.call-index c.call-item.result (cow_view c.loop-call.value) (view c.in_ok-apply_one.field-0)
-    c.loop-call-test.true c.call-item.is
-    (if_answered (g.F.Filter.within c.call-item.result.filter) view c.in_ok-apply_one.field-0 _ (rw c.as_value.ensures at c.in_ok-apply_one.ensures))
-    c.loop-call.invariant.0, λ none. absurd (omega (arith, ap length none, c.loop-call-test.true)))
+    let f : FilterCall g.row.F.Denot → Call = λ call. call_of (g.F.Filter.answer call.filter) call.args.now in (
+      calls_more f _ (environment_of c.args.state.now) c.args.calls.now c.loop-call.call-index c.call-item.result (cow_view c.loop-call.value) (view c.in_ok-apply_one.field-0)
+          c.loop-call-test.true c.call-item.is
+          (if_answered (g.F.Filter.within c.call-item.result.filter) view c.in_ok-apply_one.field-0 _ (rw c.as_value.ensures at c.in_ok-apply_one.ensures))
+          c.loop-call.invariant.0,
+      λ none. absurd (omega (arith, ap length none, c.loop-call-test.true)),
+    )
 
 pub returns-clause-value : goal.returns-clause-value
 returns-clause-value g c =
