@@ -1,5 +1,5 @@
 //! Faults: what kind one is, and a message for who reads it.
-ghost use Rattle.std.specs.Prelude.{◌≡◌, ◌⊎◌, ◌||◌, true, false, Some, IfSome, is_some};
+ghost use Rattle.std.specs.Prelude.{◌≡◌, ◌⊎◌, ◌||◌, true, false, Some, IfSome, IsSomeAnd, is_some};
 ghost use Rattle.std.specs.Option.{option_map};
 ghost use Rattle.liquid_model.specs.ErrorKinds.{IsKindOrMemory, is_memory, number_of, name_of};
 ghost use Rattle.liquid_model.specs.declared.error.ErrorKind.TheVariants.{Memory};
@@ -216,7 +216,8 @@ impl Error {
     /// there is no room for the location.
     pub fn located(self, alloc: Global, location: Location) -> Error
         ensures told { IsKindOrMemory self.kind result.kind }
-        ensures whole { is_memory result.kind ≡ false → (result.message ≡ self.message) × IfSome result.location (λ told. (self.location ≡ Some told) ⊎ (told.value ≡ location)) }
+        ensures whole { is_memory result.kind ≡ false → (result.message ≡ self.message)
+            × IsSomeAnd result.location (λ told. (self.location ≡ Some told) ⊎ (told.value ≡ location)) }
         ensures kept { IfSome self.location (λ known. result ≡ self) }
     {
         if self.location.is_some() {
