@@ -39,6 +39,9 @@ before_late : (d : Date) → d.year ≤ℤ pos 9998 → epoch_day d <ℤ epoch_d
 unfolding late
 before_late d high = epoch_day-lt d late (inl (omega (arith, signed_arith)))
 
+pub days_inside : (d : Date) → pos 1 ≤ℤ d.year → d.year ≤ℤ pos 9998 → (neg_ℤ (pos 4_371_557) <ℤ epoch_day d) × (epoch_day d <ℤ pos 2_932_866)
+days_inside d low high = (omega (arith, signed_arith, after_early d low, early_day), omega (arith, signed_arith, before_late d high, late_day))
+
 -- such a datetime is an instant at any offset
 pub in_range : (dt : DateTime) (o : Offset) → pos 1 ≤ℤ dt.date.year → dt.date.year ≤ℤ pos 9998 → IsTimestampNanos (civil_nanos dt -ℤ nanos_of_seconds o.seconds)
 in_range dt o low high =
