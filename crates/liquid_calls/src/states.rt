@@ -34,22 +34,18 @@ fn step_made<'d, R: Print>(told: &Told<'_, R>, state: &mut State<'d>, step: &'d 
 fn called<'d>(alloc: Global, state: &mut State<'d>, step: &'d Value) -> Result<Value> {
     match change_of(alloc, step)? {
         Some(change) => changed(state, change),
-        None if text_member(step, 0) == "push_frame" => looped(alloc, state, step),
+        None if text_member(step, 0) == "push_frame" => looped(state, step),
         None => looked_up(alloc, state, step),
     }
 }
 
-/// Begins a loop of the step's name over the items of its list, at the first of them.
-fn looped<'d>(alloc: Global, state: &mut State<'d>, step: &'d Value) -> Result<Value> {
-    let source = items_member(step, 2);
-    if source.is_empty() {
-        return no_call(alloc);
-    }
+/// Begins a loop by the step's name over the first item of its list.
+fn looped<'d>(state: &mut State<'d>, step: &'d Value) -> Result<Value> {
     nil(state.push_frame(LoopFrame {
         name: text_member(step, 1),
-        items: Items::Lent(source),
+        items: Items::Lent(items_member(step, 2)),
         from: 0,
-        count: source.len(),
+        count: 1,
         reversed: false,
         at: 0,
         kind: LoopKind::Render,
