@@ -91,6 +91,18 @@ fn in_a_chain(
     apply_filters(alloc, input, &[FilterCall { filter, args }], &state)
 }
 
+/// Makes the call of `apply_filters` without any filter, over the row's value.
+pub(crate) fn no_filter_made<R: Print>(told: &Told<'_, R>, line: &str, row: &Row) -> Result<()> {
+    let entry = row.on.copy(told.alloc)?;
+    let state = State::new(told.alloc, Object::new(told.alloc));
+    let calls: &[FilterCall<'_, FilterKind>] = &[];
+    told.begin();
+    let answer = apply_filters(told.alloc, entry, calls, &state);
+    told.end();
+    told.answered(line, row, &answer);
+    Ok(())
+}
+
 /// Copies of the arguments as literals.
 fn literals(alloc: Global, args: &[Value]) -> Result<Vec<Expression>> {
     let mut literals = Vec::new(alloc);

@@ -13,8 +13,10 @@
 //! - `Filter::NAME`: the filter with the input `on` and the arguments of the list `with`. It is called alone, and then by a chain
 //!   of this one filter, which takes memory of its own for two arguments or more. Jekyll's `sort` is `jekyll sort` in rows, for
 //!   `sort` is the standard one.
+//! - `apply_filters`: the call of it without any filter, over `on`.
 //! - `Accepts::NAME`: whether that filter accepts the numbers of arguments from `on` to `with`, and no others, up to four.
-//! - `argument::NAME`: the reader of arguments of that name, over `on`.
+//! - `argument::NAME`: the reader of arguments of that name, over `on`. `date` and `is_date` call
+//!   `read_date`.
 //! - `Value::NAME` and `Test::NAME`: the method of the value `on`. `Order::NAME`: that of `on` beside the value `with`.
 //! - `Error::NAME`: a fault with the message `source`, as it is told.
 //! - `State`: calls of the state, one after another, as `src/states.rt` tells. `Site`: changes of a site, as `src/sites.rt` tells.
@@ -45,7 +47,7 @@ mod values;
 use crate::arguments::argument_call;
 use crate::expressions::{condition_call, part_call};
 use crate::faults::{fault_call, no_call};
-use crate::filters::{accepts_call, each_is_called, filter_made};
+use crate::filters::{accepts_call, each_is_called, filter_made, no_filter_made};
 use crate::loops::loop_call;
 use crate::site_example::shop;
 use crate::sites::site_made;
@@ -101,6 +103,7 @@ fn row_made<R: Print>(
     let (row, data) = read_row(told.alloc, line)?;
     match row.kind() {
         "Filter" => filter_made(told, called_filters, line, &row),
+        "apply_filters" => no_filter_made(told, line, &row),
         "Site" => site_made(told, &row),
         "State" => made_in_turn(told, &row.with, data),
         "Value" | "Test" | "Order" | "Error" | "argument" | "Accepts" | "Example" => {

@@ -1,6 +1,6 @@
 //! States: calls in their order, each with its answer.
 use crate::faults::no_call;
-use liquid_core::{ErrorKind, Object, Result, State, Value};
+use liquid_core::{ErrorKind, Items, LoopFrame, LoopKind, Object, Result, State, Value};
 use liquid_refusals::{
     Change, Told, change_of, found, items, items_member, kind_of, nil, optional, owned, text_member,
 };
@@ -21,7 +21,7 @@ pub(crate) fn made_in_turn<R: Print>(
 }
 
 /// Makes the call of the step. One that was refused memory is made again, so that those behind it find what it does.
-fn step_made<R: Print>(told: &Told<'_, R>, state: &mut State<'_>, step: &Value) {
+fn step_made<'d, R: Print>(told: &Told<'_, R>, state: &mut State<'d>, step: &'d Value) {
     told.begin();
     let answer = called(told.alloc, state, step);
     told.end();
@@ -31,11 +31,25 @@ fn step_made<R: Print>(told: &Told<'_, R>, state: &mut State<'_>, step: &Value) 
     }
 }
 
-fn called(alloc: Global, state: &mut State<'_>, step: &Value) -> Result<Value> {
+fn called<'d>(alloc: Global, state: &mut State<'d>, step: &'d Value) -> Result<Value> {
     match change_of(alloc, step)? {
         Some(change) => changed(state, change),
+        None if text_member(step, 0) == "push_frame" => looped(state, step),
         None => looked_up(alloc, state, step),
     }
+}
+
+/// Begins a loop by the step's name over the first item of its list.
+fn looped<'d>(state: &mut State<'d>, step: &'d Value) -> Result<Value> {
+    nil(state.push_frame(LoopFrame {
+        name: text_member(step, 1),
+        items: Items::Lent(items_member(step, 2)),
+        from: 0,
+        count: 1,
+        reversed: false,
+        at: 0,
+        kind: LoopKind::Render,
+    }))
 }
 
 fn changed(state: &mut State<'_>, change: Change) -> Result<Value> {

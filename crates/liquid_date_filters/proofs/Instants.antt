@@ -39,6 +39,9 @@ before_late : (d : Date) → d.year ≤ℤ pos 9998 → epoch_day d <ℤ epoch_d
 unfolding late
 before_late d high = epoch_day-lt d late (inl (omega (arith, signed_arith)))
 
+pub days_inside : (d : Date) → pos 1 ≤ℤ d.year → d.year ≤ℤ pos 9998 → (neg_ℤ (pos 4_371_557) <ℤ epoch_day d) × (epoch_day d <ℤ pos 2_932_866)
+days_inside d low high = (omega (arith, signed_arith, after_early d low, early_day), omega (arith, signed_arith, before_late d high, late_day))
+
 -- such a datetime is an instant at any offset
 pub in_range : (dt : DateTime) (o : Offset) → pos 1 ≤ℤ dt.date.year → dt.date.year ≤ℤ pos 9998 → IsTimestampNanos (civil_nanos dt -ℤ nanos_of_seconds o.seconds)
 in_range dt o low high =
@@ -60,9 +63,13 @@ fixed_by o n false e = rw e refl
 pub fixed_offset : (o : Offset) (n : ℤ) → offset_at (fixed_zone o) n ≡ o.seconds
 fixed_offset o n = fixed_by o n (int_eq o.seconds (pos 0)) refl
 
+-- the offset that an instant is shown at in the zone of a fixed offset
+pub at_fixed : (z : Plain) (o : Offset) → z.time_zone ≡ fixed_zone o → z.offset.seconds ≡ o.seconds
+at_fixed z o zone = z.offset_is ∙ ap (λ t. offset_at t z.timestamp.nanosecond) zone ∙ fixed_offset o z.timestamp.nanosecond
+
 -- the clock of an instant in the zone of a fixed offset
 pub shows_at : (z : Plain) (dt : DateTime) (o : Offset) → z.time_zone ≡ fixed_zone o → z.timestamp.nanosecond ≡ civil_nanos dt -ℤ nanos_of_seconds o.seconds
     → clock_of z.datetime z.offset.seconds ≡ clock_of dt o.seconds
 shows_at z dt o zone at =
-    let same : z.offset.seconds ≡ o.seconds = z.offset_is ∙ ap (λ t. offset_at t z.timestamp.nanosecond) zone ∙ fixed_offset o z.timestamp.nanosecond in
+    let same : z.offset.seconds ≡ o.seconds = at_fixed z o zone in
     same_clock z.datetime dt z.offset.seconds o.seconds (omega (arith, signed_arith, z.shows, at, same)) same

@@ -1,3 +1,6 @@
+pub mod Clocks
+pub mod Dated
+pub mod Days
 pub mod Faults
 pub mod Instants
 pub mod Moves

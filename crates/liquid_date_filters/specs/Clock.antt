@@ -1,10 +1,10 @@
 -- What a clock shows, and the parts of it that a pattern can print.
-use Rattle.std.specs.Prelude.{ℕ, ℤ, pos, ◌+◌, ◌-◌, ◌*◌, ◌/◌, ◌%◌, ◌+ℤ◌, ◌-ℤ◌, ◌*ℤ◌, int_le, int_lt, unsigned_abs, List, Option, Some, None, codes, if◌then◌else◌}
+use Rattle.std.specs.Prelude.{ℕ, ℤ, pos, ◌<◌, ◌+◌, ◌-◌, ◌*◌, ◌/◌, ◌%◌, ◌+ℤ◌, ◌-ℤ◌, ◌*ℤ◌, int_le, int_lt, unsigned_abs, List, Option, Some, None, codes, if◌then◌else◌}
 use Rattle.std.specs.Ordering.{int_eq}
-use Rattle.jiff_core.specs.Calendar.{days_from_civil, day_of_year, weekday_number, iso_year_start}
+use Rattle.jiff_core.specs.Calendar.{days_from_civil, day_of_year, days_in_month, weekday_number, iso_year_start, IsYear}
 use Rattle.jiff_core.specs.Timestamp.{nanos_of_seconds}
 use Rattle.jiff_core.specs.declared.civil.datetime.DateTime.{DateTime}
-use Rattle.std.specs.Int.{int_div_euclid}
+use Rattle.std.specs.Int.{int_div_euclid, IsInRange}
 use Rattle.jiff_strtime.specs.Text.{Parts, from_hour}
 use Rattle.jiff_tz.specs.Abbreviation.{offset_text}
 
@@ -55,6 +55,16 @@ instant c = clock_nanos c -ℤ nanos_of_seconds c.offset
 -- whole seconds of that
 abbrev pub unix_second : Clock → ℤ
 unix_second c = int_div_euclid (instant c) (pos 1_000_000_000)
+
+-- the clock shows a day that the calendar has, in the years from -9999 to 9999, and a time of day
+pub record IsClock (c : Clock) : Type 0 where
+  pub year : IsYear c.year
+  pub month : IsInRange 1 12 c.month
+  pub day : IsInRange 1 (days_in_month c.year c.month) c.day
+  pub hour : c.hour < 24
+  pub minute : c.minute < 60
+  pub second : c.second < 60
+  pub nanosecond : c.nanosecond < 1_000_000_000
 
 -- what a datetime is at an offset
 abbrev pub clock_of : DateTime → ℤ → Clock

@@ -1,5 +1,5 @@
 -- How a date is written, and what a text that is a date says.
-use Rattle.std.specs.Prelude.{ℕ, ℤ, pos, neg_ℤ, ◌+◌, ◌-◌, ◌*◌, ◌==◌, ◌&&◌, nat_le, Bool, true, false, List, [], ◌∷◌, Option, Some, None, if◌then◌else◌}
+use Rattle.std.specs.Prelude.{◌≡◌, ℕ, ℤ, pos, neg_ℤ, ◌+◌, ◌-◌, ◌*◌, ◌==◌, ◌&&◌, nat_le, Bool, true, false, List, [], ◌∷◌, Option, Some, None, if◌then◌else◌}
 use Rattle.std.specs.Char.{is_ascii_digit}
 use denote.Bor.{Bor}
 use Rattle.liquid_date_filters.specs.declared.spelling.Day.{Day as CodeDay}
@@ -9,7 +9,8 @@ use Rattle.liquid_date_filters.specs.declared.spelling.Spelled.{Spelled as CodeS
 use Rattle.std.specs.Prelude.{◌<◌}
 use Rattle.jiff_core.specs.Calendar.{days_in_month}
 use Rattle.liquid_date_filters.specs.Clock.{Clock, clock_of}
-use Rattle.jiff.specs.Words.{plain_zoned}
+use Rattle.jiff.specs.Words.{plain_zoned, fixed_zone}
+use Rattle.jiff_core.specs.declared.offset.Offset.{Offset as FixedOffset}
 use Rattle.jiff.specs.declared.zoned.Zoned.{Zoned}
 
 abbrev pub ◌>>=◌ : {A B : Type 0} → Option A → (A → Option B) → Option B
@@ -233,6 +234,12 @@ IsTimed t = (t.hour < 100) × (t.minute < 100) × (t.second < 100)
 
 abbrev pub IsOffset : CodeOffset → Type 0
 IsOffset o = (o.hours < 100) × (o.minutes < 100)
+
+-- the zone is that of one offset at every instant, and the clock shows this offset
+abbrev pub IsAtFixedOffset : Zoned → Type 0
+IsAtFixedOffset z =
+    (offset : FixedOffset) × (offset.seconds ≡ (plain_zoned z).offset.seconds)
+    × ((plain_zoned z).time_zone ≡ fixed_zone offset)
 
 -- what the clock of an instant in a zone shows
 abbrev pub zoned_clock : Zoned → Clock

@@ -1,5 +1,5 @@
 //! What is proved of dates beyond the filters' answers: each law is the contract of a function without a body.
-ghost use Rattle.liquid_date_filters.specs.Laws.{NamedIsRead, PlainIsRead, ReadIsWritten, ShortIsRead};
+ghost use Rattle.liquid_date_filters.specs.Laws.{ClockOfInstant, DateInTzIsOne, DateIsOne, InstantOfClock, NamedIsRead, PlainIsRead, ReadIsWritten, ShortIsRead};
 ghost use Rattle.liquid_date_filters.specs.Own.{ShowsOwn};
 
 use jiff_core::Offset;
@@ -29,4 +29,25 @@ pub fn read_is_written()
 #[tactic(auto, using(crate::proofs::Own::own_is))]
 pub fn shows_own(datetime: DateTime, offset: Offset, pattern: &str)
     ensures { ShowsOwn datetime offset.seconds pattern.now }
+{}
+
+/// At an offset no two clocks show the same instant: the clock of a clock's instant is that clock.
+pub fn clock_of_instant()
+    ensures { ClockOfInstant }
+{}
+
+/// At each offset and each instant of the calendar's years there is a clock that shows the instant.
+pub fn instant_of_clock()
+    ensures { InstantOfClock }
+{}
+
+/// `date`: the clock of the date that the input writes, printed by the pattern.
+pub fn date_is_one()
+    ensures { DateIsOne }
+{}
+
+/// `date_in_tz`: the clock that shows the date's instant at an offset of so many hours, printed by
+/// the pattern.
+pub fn date_in_tz_is_one()
+    ensures { DateInTzIsOne }
 {}

@@ -1,5 +1,5 @@
 //! The reader of dates.
-ghost use Rattle.std.specs.Prelude.{◌≡◌, ◌≤◌, ◌≤ℤ◌, true, pos, option_map, IsOk, IfOk};
+ghost use Rattle.std.specs.Prelude.{◌≡◌, ◌≤◌, ◌≤ℤ◌, true, pos, option_map, IsOk, IfOk, IfSome};
 ghost use Rattle.jiff_core.specs.Calendar.{days_in_month};
 ghost use Rattle.liquid_model.specs.View.{view};
 ghost use Rattle.liquid_date_filters.specs.Clock.{clock_of};
@@ -14,9 +14,11 @@ use liquid_core::{Result, Value};
 
 /// The date that a text is, or none where it is no date: the whole text in one of the two spellings, as
 /// `13 Jun 2016 02:30:00 +0300` or `2016-06-13 02:30:00 +0300`, in the years 0001 to 9998, at offsets up to 23 hours
-/// and 59 minutes, and a day that the calendar has. It takes no memory and is never refused.
+/// and 59 minutes, and a day that the calendar has. It is in the zone that has this offset at every
+/// instant, which for an offset of 0 is UTC. It takes no memory and is never refused.
 pub fn read_date(text: &str) -> Result<Option<Zoned<'static>>>
     ensures value { IfOk result (λ o. option_map spec.zoned_clock o ≡ spec.read text.now) }
+    ensures zone { IfOk result (λ o. IfSome o spec.IsAtFixedOffset) }
     ensures no_memory { IsOk result }
 {
     Ok(found(text.as_bytes()))
@@ -34,7 +36,8 @@ pub(crate) fn date_of(value: &Value) -> Option<Zoned<'static>>
 
 #[tactic(auto, unfolding(crate::specs::Spelling::read))]
 fn found(text: &[u8]) -> Option<Zoned<'static>>
-    ensures { option_map spec.zoned_clock result ≡ spec.read text.now }
+    ensures value { option_map spec.zoned_clock result ≡ spec.read text.now }
+    ensures zone { IfSome result spec.IsAtFixedOffset }
 {
     let spelled = read_spelled(text)?;
     if exists(spelled) {
@@ -64,7 +67,8 @@ fn exists(x: Spelled) -> bool
 /// The instant that a clock at the offset shows so.
 fn zoned_of(x: Spelled) -> Zoned<'static>
     requires { spec.exists (spec.whole_view x) ≡ true }
-    ensures { spec.zoned_clock result ≡ spec.clock (spec.whole_view x) }
+    ensures value { spec.zoned_clock result ≡ spec.clock (spec.whole_view x) }
+    ensures zone { spec.IsAtFixedOffset result }
 {
     let datetime = civil::DateTime {
         date: civil_date(x.date),
@@ -112,7 +116,8 @@ fn civil_offset(x: Offset) -> jiff_core::Offset
 /// The instant at which a clock with this offset shows the datetime.
 fn instant_at(datetime: civil::DateTime, offset: jiff_core::Offset) -> Zoned<'static>
     requires { (pos 1 ≤ℤ datetime.date.year) × (datetime.date.year ≤ℤ pos 9998) }
-    ensures { spec.zoned_clock result ≡ clock_of datetime offset.seconds }
+    ensures value { spec.zoned_clock result ≡ clock_of datetime offset.seconds }
+    ensures zone { spec.IsAtFixedOffset result }
 {
     let timestamp = offset.to_timestamp(datetime).unwrap();
     Timestamp::from_plain(timestamp).to_zoned(TimeZone::fixed(FixedOffset::from_plain(offset)))

@@ -91,6 +91,8 @@ kind_counts (Slugify f) n = nat_le n 1
 kind_counts (Pluralize f) n = nat_eq n 2
 kind_counts (DateInTz f) n = nat_eq n 2
 
+-- these are functions to be computed; what a filter does is said by its relation, in the laws of
+-- its crate, of which it is proved that it holds of this answer and of no other
 abbrev pub kind_answer : FilterKind → Datum → List Datum → Answer
 kind_answer (Join f) = join_answer
 kind_answer (Sort f) = sort_answer

@@ -33,6 +33,7 @@ use Rattle.liquid_jekyll_filters.specs.declared.jekyll.slugify.Mode.{Mode}
 use Rattle.liquid_jekyll_filters.specs.declared.jekyll.slugify.Mode.TheVariants.{Default}
 use Rattle.liquid_jekyll_filters.proofs.Ends.{last_lost, less_one}
 use Rattle.liquid_jekyll_filters.proofs.Hyphens.{hyphens_one, cuts_one}
+use Rattle.liquid_jekyll_filters.proofs.PathLaws.{path_one}
 
 abbrev answer : Datum → Answer
 answer d = Ok d
@@ -144,7 +145,7 @@ pub items_sort : (ds args : List Datum) → IsTheOne (SortsItems ds args) (sort_
 items_sort ds [] = lists_one _ _ (sort_one (found_key First []) ds)
 items_sort ds (name ∷ args) =
     either_one (all_maps ds) _ _ _ _
-    (read_one (nils_given (first_of args)) _ _ (λ nils. read_one (path_given (text_of name)) _ _ (λ p. lists_one _ _ (sort_one (found_key nils p) ds))))
+    (read_one (nils_given (first_of args)) _ _ (λ nils. path_one (text_of name) _ _ (λ p. lists_one _ _ (sort_one (found_key nils p) ds))))
     (same_one (Err InvalidInput))
 
 pub sort_is_one : SortIsOne

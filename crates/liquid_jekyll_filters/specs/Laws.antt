@@ -1,10 +1,11 @@
 -- What each filter's answer is, told without the filter: the relation that holds of it and of nothing else.
-use Rattle.std.specs.Prelude.{◌≡◌, ◌==◌, ◌⊎◌, MatchBool, List, [], ◌∷◌, ◌++◌, length, map, codes, Result, Ok, Err}
+use Rattle.std.specs.Prelude.{◌≡◌, ◌↔◌, ◌==◌, ◌⊎◌, MatchBool, ℤ, pos, List, [], ◌∷◌, ◌++◌, length, map, codes, Some, None, Result, Ok, Err}
 use Rattle.liquid_model.specs.Answer.{IsTheOne}
 use Rattle.liquid_model.specs.Data.{Datum, text, text_of}
 use Rattle.liquid_model.specs.Texts.{Text}
+use Rattle.liquid_model.specs.Whole.{whole}
 use Rattle.liquid_model.specs.declared.error.ErrorKind.{ErrorKind}
-use Rattle.liquid_model.specs.declared.error.ErrorKind.TheVariants.{InvalidInput}
+use Rattle.liquid_model.specs.declared.error.ErrorKind.TheVariants.{InvalidInput, InvalidArgument}
 use Rattle.liquid_filter_base.specs.Arguments.{Answer, first_of, text_or}
 use Rattle.liquid_filter_base.specs.Text.{Texts}
 use Rattle.liquid_list_filters.specs.Laws.{Lists, OfList, OfMaps}
@@ -15,7 +16,10 @@ use Rattle.liquid_jekyll_filters.specs.Ends.{pop_answer, push_answer, shift_answ
 use Rattle.liquid_jekyll_filters.specs.Runs.{IsSlug, IsSlugOf}
 use Rattle.liquid_jekyll_filters.specs.Sentence.{array_to_sentence_string_answer}
 use Rattle.liquid_jekyll_filters.specs.Slugs.{mode_named, slugify_answer}
-use Rattle.liquid_jekyll_filters.specs.Sorting.{found_key, nils_given, path_given, sort_answer}
+use Rattle.liquid_jekyll_filters.specs.Sorting.{found_key, nils_given, sort_answer}
+use Rattle.liquid_jekyll_filters.specs.Path.{path}
+use Rattle.liquid_jekyll_filters.specs.Pluralize.{pluralize_answer}
+use Rattle.liquid_jekyll_filters.specs.Written.{IsPath}
 use Rattle.liquid_jekyll_filters.specs.declared.jekyll.array.sort.Nils.TheVariants.{First}
 use Rattle.liquid_jekyll_filters.specs.declared.jekyll.slugify.Mode.{Mode}
 use Rattle.liquid_jekyll_filters.specs.declared.jekyll.slugify.Mode.TheVariants.{Default}
@@ -24,6 +28,20 @@ use Rattle.liquid_jekyll_filters.specs.declared.jekyll.slugify.Mode.TheVariants.
 abbrev pub Reads : {X : Type 0} → Result X ErrorKind → (X → Answer → Type 0) → Answer → Type 0
 Reads (Ok x) R a = R x a
 Reads (Err kind) R a = a ≡ Err kind
+
+-- ---- numbers
+
+-- the singular where the input's whole number is 1, the plural where it is another
+abbrev pub Pluralizes : Datum → Datum → Datum → Answer → Type 0
+Pluralizes d singular plural a =
+    ((whole d ≡ Some (pos 1)) × (a ≡ Ok singular))
+    ⊎ (((z : ℤ) × (whole d ≡ Some z) × (z ≡ pos 1 → ⊥) × (a ≡ Ok plural))
+    ⊎ ((whole d ≡ None) × (a ≡ Err InvalidInput)))
+
+abbrev pub PluralizeIsOne : Type 0
+PluralizeIsOne =
+    (d singular plural : Datum) (args : List Datum)
+    → IsTheOne (Pluralizes d singular plural) (pluralize_answer d (singular ∷ plural ∷ args))
 
 -- ---- ends
 abbrev pub Pushes : Datum → Datum → Answer → Type 0
@@ -76,11 +94,26 @@ MakesSentence connector = OfList (λ ds. Texts (IsSentence connector (map text_o
 abbrev pub SentenceIsOne : Type 0
 SentenceIsOne = (d : Datum) (args : List Datum) → IsTheOne (MakesSentence (text_or (codes "and") args) d) (array_to_sentence_string_answer d args)
 
+-- ---- paths
+
+-- what is read as a path is written as one, and the other way round
+abbrev pub PathIsRead : Type 0
+PathIsRead = (s : Text) (p : List Datum) → IsPath p s ↔ (path s ≡ Some p)
+
+-- where the text is a path R holds of it and the answer, else the fault is the answer
+abbrev pub AtPath : Text → (List Datum → Answer → Type 0) → Answer → Type 0
+AtPath s R a =
+    ((p : List Datum) × IsPath p s × R p a)
+    ⊎ (((p : List Datum) → IsPath p s → ⊥) × (a ≡ Err InvalidArgument))
+
 -- ---- sorts
 abbrev pub SortsItems : List Datum → List Datum → Answer → Type 0
 SortsItems ds [] = Lists (IsSort (found_key First []) ds)
 SortsItems ds (name ∷ args) =
-    OfMaps ds (Reads (nils_given (first_of args)) (λ nils. Reads (path_given (text_of name)) (λ p. Lists (IsSort (found_key nils p) ds)))) (λ a. a ≡ Err InvalidInput)
+    OfMaps ds
+    (Reads (nils_given (first_of args))
+    (λ nils. AtPath (text_of name) (λ p. Lists (IsSort (found_key nils p) ds))))
+    (λ a. a ≡ Err InvalidInput)
 
 abbrev pub Sorts : Datum → List Datum → Answer → Type 0
 Sorts d args a = MatchBool (length (sequence d) == 0) (a ≡ Err InvalidInput) (SortsItems (sequence d) args a)

@@ -6,4 +6,5 @@ pub mod Runs
 pub mod Sentence
 pub mod Slugs
 pub mod Sorting
+pub mod Written
 pub mod inside

@@ -1,7 +1,7 @@
 //! What is proved of these filters beyond their answers: each law is the contract of a function without a body.
 //!
 //! `NAME_is_one` says what the filter's answer is without the filter's own steps, and that nothing else is.
-ghost use Rattle.liquid_jekyll_filters.specs.Laws.{PushIsOne, UnshiftIsOne, PopIsOne, ShiftIsOne, PopUndoesPush, ShiftUndoesUnshift, SentenceIsOne, SortIsOne, SortTwiceIsOnce, SlugifyIsOne, AsciiSlugs};
+ghost use Rattle.liquid_jekyll_filters.specs.Laws.{PushIsOne, UnshiftIsOne, PopIsOne, ShiftIsOne, PopUndoesPush, ShiftUndoesUnshift, SentenceIsOne, PathIsRead, PluralizeIsOne, SortIsOne, SortTwiceIsOnce, SlugifyIsOne, AsciiSlugs};
 
 /// `push`: the list, and then the argument.
 pub fn push_is_one()
@@ -36,6 +36,18 @@ pub fn shift_undoes_unshift()
 /// `array_to_sentence_string`: the first text, `, ` before each other, and the connector before the last of them.
 pub fn sentence_is_one()
     ensures { SentenceIsOne }
+{}
+
+/// A text is read as a path exactly where it is written as one: a word, followed by any of `.word`
+/// and `[literal]`.
+pub fn path_is_read()
+    ensures { PathIsRead }
+{}
+
+/// `pluralize`: the first argument where the input's whole number is 1, the second where it is
+/// another.
+pub fn pluralize_is_one()
+    ensures { PluralizeIsOne }
 {}
 
 /// `sort`: what is found along the path never falls along the answer, and items alike keep their order.

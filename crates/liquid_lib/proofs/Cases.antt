@@ -14,6 +14,7 @@ use Rattle.liquid_syntax.specs.declared.node.Node.{Node}
 use Rattle.liquid_syntax.proofs.Places.{one_body}
 use Rattle.liquid_lib.specs.inside.Choices.{CaseStands, IsCase}
 use Rattle.liquid_lib.specs.inside.Engine.{node_meant}
+use Rattle.liquid_lib.specs.Silent.{IsSilent}
 use Rattle.liquid_lib.specs.Kept.{Keeps, IsRender}
 use Rattle.liquid_lib.specs.Performs.{Configuration, Performs}
 use Rattle.liquid_meaning.specs.Meaning.{Setting}
@@ -67,3 +68,8 @@ module _ (ns : List Node) (at : ℕ) (target : Expression) (arms : List Arm) (la
   case_other s u n next there h =
       let (ws, o, stands, is, ends) = known_case n next there in
       absurd (subst (λ y. IsRender y) is h)
+
+  pub case_loud : (n : tree.Node) (next : ℕ) → NodeAt ns at n next → IsSilent n → ⊥
+  case_loud n next there silent =
+      let (ws, o, stands, is, ends) = known_case n next there in
+      subst (λ y. IsSilent y) is silent

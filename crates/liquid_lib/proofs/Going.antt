@@ -171,7 +171,7 @@ alone_step setting depth ns from at to start here s t u f stood going lt leaves 
 
 -- ---- by kind
 
-leaf_is : (ns : List Node) (at to : ℕ) (r m : Node) (x : tree.Node) → IsNode ns at to → r ≡ get_or ns at r → r ≡ m → flat_of m ≡ leaf x → (n : tree.Node) (next : ℕ) → NodeAt ns at n next → n ≡ x
+pub leaf_is : (ns : List Node) (at to : ℕ) (r m : Node) (x : tree.Node) → IsNode ns at to → r ≡ get_or ns at r → r ≡ m → flat_of m ≡ leaf x → (n : tree.Node) (next : ℕ) → NodeAt ns at n next → n ≡ x
 leaf_is ns at to r m x req read same form n next there =
     let (bs, inner, made, ends) = known ns at r m n next there (node_within ns at to req) read same in
     made ∙ ap (λ y. y.head (bodies_of bs)) form

@@ -22,6 +22,7 @@ pub mod RenderEach
 pub mod RenderKinds
 pub mod Renderings
 pub mod Retold
+pub mod Silent
 pub mod Sinks
 pub mod SourceRuns
 pub mod Turning

@@ -8,6 +8,7 @@ pub mod Pages
 pub mod Performs
 pub mod Rendered
 pub mod RuntimeView
+pub mod Silent
 pub mod Sinks
 pub mod Standard
 pub mod inside

@@ -2,7 +2,7 @@
 //!
 //! A node in blocks in partials stands as deep in these calls as it is nested. So that a level takes little of the stack, what a
 //! node does beside calling on is kept out of the frames of [run_range], [run_node] and [run_chosen], by `#[inline(never)]`.
-ghost use Rattle.std.specs.Prelude.{◌≡◌, ℕ, ◌+◌, ◌<◌, ◌≤◌, IfOk};
+ghost use Rattle.std.specs.Prelude.{◌≡◌, ℕ, ◌+◌, ◌<◌, ◌≤◌, IfOk, IsOk};
 ghost use Rattle.liquid_core.specs.ExpressionView.{expression_view};
 ghost use Rattle.liquid_core.specs.States.{environment_of, layers_of, loops_of};
 ghost use Rattle.liquid_syntax.specs.Flats.{Maker, StandsAt, IsRange, NodeAt, IsNode, bindings_view, nodes_of};
@@ -13,6 +13,8 @@ ghost use Rattle.liquid_lib.specs.inside.Choices.{NodeComesTo};
 ghost use Rattle.liquid_lib.specs.inside.Engine.{setting_of, node_in, nodes_in};
 ghost use Rattle.liquid_lib.specs.Kept.{Keeps, IsRender, AreRenders};
 ghost use Rattle.liquid_lib.specs.Performs.{Performs, configuration_of};
+ghost use Rattle.liquid_lib.specs.Silent.{AreSilent, IsDoneOrStopped, IsSilent};
+ghost use Rattle.liquid_lib.specs.Sinks.{sink_of};
 
 mod loops;
 mod renders;
@@ -53,6 +55,10 @@ pub(crate) fn run_range<'d, W: CountedWrite, H: NamedFilters>(
     ensures same_writer { out.new.writer.ghost_name ≡ out.old.writer.ghost_name }
     ensures kept { (f : Forest Maker) → StandsAt nodes.now from f to → Keeps (nodes_names (nodes_of f)) (setting_of H.named context.now) state.old state.new }
     ensures alone { (f : Forest Maker) → StandsAt nodes.now from f to → AreRenders (nodes_of f) → layers_of state.new ≡ layers_of state.old }
+    ensures silent { (f : Forest Maker) → StandsAt nodes.now from f to → AreSilent (nodes_of f) →
+        IsDoneOrStopped result
+        (sink_of W.contents W.failure_count out.old).failures
+        (sink_of W.contents W.failure_count out.new).failures }
     ensures loops { loops_of state.new ≡ loops_of state.old }
 {
     out.turn(alloc)?;
@@ -88,6 +94,8 @@ fn run_node<'d, W: CountedWrite, H: NamedFilters>(
     ensures same_writer { out.new.writer.ghost_name ≡ out.old.writer.ghost_name }
     ensures kept { (n : tree.Node) (next : ℕ) → NodeAt nodes.now at n next → Keeps (node_names n) (setting_of H.named context.now) state.old state.new }
     ensures alone { (n : tree.Node) (next : ℕ) → NodeAt nodes.now at n next → IsRender n → layers_of state.new ≡ layers_of state.old }
+    ensures silent { (n : tree.Node) (next : ℕ) → NodeAt nodes.now at n next →
+        IsSilent n → IsOk result }
     ensures loops { loops_of state.new ≡ loops_of state.old }
 {
     match &nodes[at] {

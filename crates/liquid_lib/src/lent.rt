@@ -8,6 +8,8 @@ ghost use Rattle.liquid_lib.specs.Kept.{Keeps, LayersKept, AreRenders};
 ghost use Rattle.liquid_lib.specs.Performs.{Performs, configuration_of};
 ghost use Rattle.liquid_lib.specs.Rendered.{run_in, names_in};
 ghost use Rattle.liquid_lib.specs.RuntimeView.{SettingKept, layers_in};
+ghost use Rattle.liquid_lib.specs.Silent.{AreSilent, IsDoneOrStopped};
+ghost use Rattle.liquid_lib.specs.Sinks.{sink_of};
 
 use crate::context::RunContext;
 use crate::counted::CountedWrite;
@@ -33,6 +35,10 @@ pub(crate) fn run_template<W: CountedWrite>(
     ensures same_writer { out.new.writer.ghost_name ≡ out.old.writer.ghost_name }
     ensures kept { LayersKept (names_in runtime.old (tree_of template.now)) (layers_in runtime.old) (layers_in runtime.new) }
     ensures alone { AreRenders (tree_of template.now) → layers_in runtime.new ≡ layers_in runtime.old }
+    ensures silent { AreSilent (tree_of template.now) →
+        IsDoneOrStopped result
+        (sink_of W.contents W.failure_count out.old).failures
+        (sink_of W.contents W.failure_count out.new).failures }
     ensures same { SettingKept runtime.old runtime.new }
 {
     let none = Partials::new(alloc);
@@ -61,6 +67,10 @@ fn run_lent<W: CountedWrite, H: NamedFilters>(
     ensures same_writer { out.new.writer.ghost_name ≡ out.old.writer.ghost_name }
     ensures kept { Keeps (nodes_names (tree_of template.now)) (setting_of H.named context.now) state.old state.new }
     ensures alone { AreRenders (tree_of template.now) → layers_of state.new ≡ layers_of state.old }
+    ensures silent { AreSilent (tree_of template.now) →
+        IsDoneOrStopped result
+        (sink_of W.contents W.failure_count out.old).failures
+        (sink_of W.contents W.failure_count out.new).failures }
     ensures plain { length (loops_of state.new) ≡ 0 }
 {
     let empty = State::new(alloc, BTreeMap::new(alloc));

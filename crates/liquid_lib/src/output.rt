@@ -2,6 +2,7 @@
 ghost use Rattle.std.specs.Prelude.{◌≡◌, [], Some, IsSome, OnOk, OnErr};
 ghost use Rattle.std.specs.Option.{option_map};
 ghost use Rattle.std.specs.String.{string_bytes};
+ghost use Rattle.liquid_lib.specs.Failures.{OneFailed};
 ghost use Rattle.liquid_lib.specs.Performs.{Cut, Writes};
 ghost use Rattle.liquid_lib.specs.inside.Puts.{Puts};
 ghost use Rattle.liquid_lib.specs.Sinks.{sink_of};
@@ -71,6 +72,9 @@ impl<'w, W: CountedWrite> Output<'w, W> {
         ensures refused { OnErr result (Cut result []
             (sink_of W.contents W.failure_count self.old)
             (sink_of W.contents W.failure_count self.new)) }
+        ensures stopped { OnErr result (OneFailed
+            (sink_of W.contents W.failure_count self.old).failures
+            (sink_of W.contents W.failure_count self.new).failures) }
         ensures same_writer { self.new.writer.ghost_name ≡ self.old.writer.ghost_name }
     {
         if self.writer.turn() {

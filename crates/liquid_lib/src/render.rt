@@ -1,5 +1,5 @@
 //! Whole renderings.
-ghost use Rattle.std.specs.Prelude.{◌≡◌, ◌<◌, ◌⊎◌, T, [], false, IfErr, IsErrAnd, string_bytes};
+ghost use Rattle.std.specs.Prelude.{◌≡◌, ◌<◌, ◌⊎◌, T, [], false, IfErr, IsErrAnd, IsOk, string_bytes};
 ghost use Rattle.std.specs.Io.KnownBytes.{Appends};
 ghost use Rattle.liquid_model.specs.Answer.{Answers};
 ghost use Rattle.liquid_core.specs.Environment.{cut};
@@ -14,6 +14,7 @@ ghost use Rattle.liquid_lib.specs.Performs.{Performs, answer_of, is_refused, uni
 ghost use Rattle.liquid_lib.specs.Rendered.{PerformsForCut, run_in, outcome_in, names_in, at_writer, is_rendering_kind};
 ghost use Rattle.liquid_meaning.specs.Runs.{ended_with};
 ghost use Rattle.liquid_lib.specs.RuntimeView.{SettingKept, layers_in, environment_in};
+ghost use Rattle.liquid_lib.specs.Silent.{AreSilent, IsDoneOrStopped};
 
 use crate::counted::{CountedWrite, NoWriter};
 use crate::lent::run_template;
@@ -63,6 +64,10 @@ pub trait Renderable {
         ensures kept { LayersKept (names_in runtime.old (nodes self.now)) (layers_in runtime.old) (layers_in runtime.new) }
         // nodes that are each a `render` leave the scopes, the variables, the counters, the data and the registers
         ensures alone { AreRenders (nodes self.now) → layers_in runtime.new ≡ layers_in runtime.old }
+        // a `break`, a `continue` and a comment take no memory: where each node is one, only the
+        // writer can stop the run
+        ensures no_memory { AreSilent (nodes self.now) →
+            IsDoneOrStopped result (W.failure_count writer.old) (W.failure_count writer.new) }
         ensures same { SettingKept runtime.old runtime.new }
         ensures kinds { IfErr result (λ e. T (is_rendering_kind e.kind)) }
         ensures write { IfErr result (λ e. e.kind ≡ ErrorKind.Write →
@@ -90,6 +95,8 @@ pub trait Renderable {
         ensures kept { LayersKept (names_in runtime.old (nodes self.now)) (layers_in runtime.old) (layers_in runtime.new) }
         // nodes that are each a `render` leave the scopes, the variables, the counters, the data and the registers
         ensures alone { AreRenders (nodes self.now) → layers_in runtime.new ≡ layers_in runtime.old }
+        // a `break`, a `continue` and a comment take no memory
+        ensures no_memory { AreSilent (nodes self.now) → IsOk result }
         ensures same { SettingKept runtime.old runtime.new }
         ensures kinds { IfErr result (λ e. T (is_rendering_kind e.kind)) };
 }
@@ -136,6 +143,7 @@ pub(crate) fn text_of_run(
         (in_buffer (string_bytes result.0) (environment_in runtime.new)) }
     ensures kept { LayersKept (names_in runtime.old (tree_of template.now)) (layers_in runtime.old) (layers_in runtime.new) }
     ensures alone { AreRenders (tree_of template.now) → layers_in runtime.new ≡ layers_in runtime.old }
+    ensures silent { AreSilent (tree_of template.now) → IsOk result.1 }
     ensures same { SettingKept runtime.old runtime.new }
 {
     let mut writer = NoWriter;

@@ -1,7 +1,6 @@
 //! Faults: what kind one is, and a message for who reads it.
-ghost use Rattle.std.specs.Prelude.{◌≡◌, ◌⊎◌, false, Some, IfSome};
+ghost use Rattle.std.specs.Prelude.{◌≡◌, ◌⊎◌, ◌||◌, true, false, Some, IfSome, IsSomeAnd, is_some};
 ghost use Rattle.std.specs.Option.{option_map};
-ghost use Rattle.liquid_model.specs.Errors.{HasMessageUnlessMemory, error_text, location_text, partial_location_text};
 ghost use Rattle.liquid_model.specs.ErrorKinds.{IsKindOrMemory, is_memory, number_of, name_of};
 ghost use Rattle.liquid_model.specs.declared.error.ErrorKind.TheVariants.{Memory};
 
@@ -151,14 +150,16 @@ impl ErrorKind {
     }
 }
 
-/// A fault: its kind, a message that says what was found and what is wanted (none for `Memory` alone), and where it stands,
-/// where that is known.
+/// A fault: its kind, a message that says what was found and what is wanted, and where it stands,
+/// where that is known. `Memory` alone may lack a message.
 #[derive(Debug)]
 pub struct Error {
     pub kind: ErrorKind,
     pub message: Option<String>,
     /// In a box, since most answers are no faults and shouldn't be larger for it.
     pub location: Option<Box<Location>>,
+    // There is a message unless the kind is `Memory`.
+    pub ghost has_message: { (is_memory kind || is_some message) ≡ true },
 }
 
 /// Drops the fields. By hand, so that a way out of a function that owns one is one call to prove.
@@ -173,6 +174,9 @@ impl Drop for Error {
 }
 
 impl Error {
+    ghost use Rattle.liquid_model.specs.Errors.{HasMessageUnlessMemory, location_text};
+    ghost use Rattle.liquid_model.specs.Errors.{partial_location_text};
+
     /// A fault of this kind with this message, or `Memory` where there is no room for the message.
     pub fn new(alloc: Global, kind: ErrorKind, message: &str) -> Error
         ensures told { IsKindOrMemory kind result.kind }
@@ -212,7 +216,8 @@ impl Error {
     /// there is no room for the location.
     pub fn located(self, alloc: Global, location: Location) -> Error
         ensures told { IsKindOrMemory self.kind result.kind }
-        ensures whole { is_memory result.kind ≡ false → (result.message ≡ self.message) × IfSome result.location (λ told. (self.location ≡ Some told) ⊎ (told.value ≡ location)) }
+        ensures whole { is_memory result.kind ≡ false → (result.message ≡ self.message)
+            × IsSomeAnd result.location (λ told. (self.location ≡ Some told) ⊎ (told.value ≡ location)) }
         ensures kept { IfSome self.location (λ known. result ≡ self) }
     {
         if self.location.is_some() {
@@ -278,6 +283,8 @@ impl fmt::Display for ErrorKind {
 
 /// `KIND: LOCATION: MESSAGE`, without the parts that the fault doesn't have.
 impl fmt::Display for Error {
+    ghost use Rattle.liquid_model.specs.Errors.{error_text};
+
     ghost output = { λ e. Some (error_text e) };
 
     fn fmt<W: fmt::Write>(&self, f: &mut fmt::Formatter<W>) -> fmt::Result {

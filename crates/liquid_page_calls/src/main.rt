@@ -4,8 +4,9 @@
 //! A row is a line of JSON on standard input: `call`, and of a page its `source`, its `data`, and `on`, with `partials`, `tags` that
 //! are registered beside the standard ones, `host` (names that stand for filters of a host), the `depth`, the `writes` that its
 //! writer takes, of at most so many bytes each, and what is rendered `then` on the same runtime; its page as `answer`, and the
-//! kind of its `fault`. The `source` of an `example` is its name. Of all other calls `with` is a list of steps. With a word each
-//! call stands between marks, for `tests/refusals/run`, and how it ended behind them.
+//! kind of its `fault`. A `rendering` is a page whose template is parsed before its calls. The
+//! `source` of an `example` is its name. Of all other calls `with` is a list of steps. With a word
+//! each call stands between marks, for `tests/refusals/run`, and how it ended behind them.
 #![tactic(auto)]
 
 mod examples;
@@ -19,7 +20,7 @@ mod writers;
 
 use crate::examples::example;
 use crate::hosts::hosted;
-use crate::pages::pages_made;
+use crate::pages::{pages_made, rendering_made};
 use crate::registers::{forloop, has_filter, registered};
 use crate::runtimes::runtime_made;
 use liquid_core::{Object, Result, Value};
@@ -61,6 +62,7 @@ fn row_read<R: Print>(told: &Told<'_, R>, line: &str) -> Result<()> {
 fn row_made<R: Print>(told: &Told<'_, R>, line: &str, row: &Row, data: Object) -> Result<()> {
     match row.call.as_str() {
         "page" => pages_made(told, row, data, None),
+        "rendering" => rendering_made(told, row, data),
         "hosted page" | "filters" => hosted(told, row),
         "runtime" => runtime_made(told, row, data),
         "registers" => registered(told, row),

@@ -55,6 +55,24 @@ fn pages_in<R: Print>(
     }
 }
 
+/// The page of the row by the calls that render a template. It is parsed before them, so that
+/// nothing but they stands between marks.
+pub(crate) fn rendering_made<R: Print>(told: &Told<'_, R>, row: &Row, data: Object) -> Result<()> {
+    let language = language_with(told.alloc, &row.on)?;
+    let partials = partials_of(told.alloc, &row.on, &language)?;
+    let template = parse(told.alloc, row.source.as_str(), &language)?;
+    let given = Given {
+        row,
+        language: &language,
+        partials: &partials,
+        template: &template,
+        data: &Value::Object(data),
+        host: None,
+    };
+    rendered_by(told, &given, "render_to")?;
+    rendered_by(told, &given, "render")
+}
+
 /// The template, parsed again where memory was refused, or none where the row's source is refused by its fault.
 fn parsed<R: Print>(told: &Told<'_, R>, row: &Row, language: &Language) -> Option<Template> {
     let source = row.source.as_str();

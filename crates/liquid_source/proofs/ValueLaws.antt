@@ -179,7 +179,7 @@ number_no_word n bs rest h =
     let r = numeric (get_or bs 0 0) (number_front n bs rest h) in
     let e : is_letter (get_or bs 0 0) ≡ false = false_from_ne_true _ (λ l. omega (arith, r.0, r.1, letter_high (get_or bs 0 0) l)) in rw e
 
-number_no_quote : (n : ℤ) (bs rest : List ℕ) → Number n bs rest → quoted_at bs ≡ None
+pub number_no_quote : (n : ℤ) (bs rest : List ℕ) → Number n bs rest → quoted_at bs ≡ None
 unfolding quoted_at
 number_no_quote n [] rest h = refl
 number_no_quote n (b ∷ bs) rest h =

@@ -6,7 +6,9 @@ ghost use Rattle.liquid_tree.specs.StoredFilters.{stored_counts};
 use crate::any_filter::AnyFilter;
 use crate::filter_call::{FilterCall, apply_to};
 use crate::stored_filter::StoredFilter;
-use liquid_core::{Error, Expression, HostFilters, NamedFilters, Near, Result, State, Value, ValueCow};
+use liquid_core::{
+    Error, Expression, HostFilters, NamedFilters, Near, Result, State, Value, ValueCow,
+};
 use std::alloc::Global;
 
 /// One filter of a chain with its arguments, of which it accepts the number.

@@ -1,5 +1,5 @@
 //! Filters in order, for filters of any type.
-ghost use Rattle.std.specs.Prelude.{[], ◌∷◌, length, map, All, IsTrue};
+ghost use Rattle.std.specs.Prelude.{◌≡◌, [], ◌∷◌, length, map, All, IsTrue, IsOk, Ok};
 ghost use Rattle.std.specs.List.{list_all};
 ghost use Rattle.liquid_model.specs.Cow.{cow_view};
 ghost use Rattle.liquid_core.specs.FilterAnswers.{AnswersIf};
@@ -21,7 +21,8 @@ pub struct FilterCall<'c, F> {
 /// The value that the entry becomes through the filters, in order. The arguments of each are taken from left to right.
 ///
 /// A missing argument is `UnknownVariable`, and a filter's fault ends the chain. `Memory` where a growth was refused.
-/// Each filter has to accept the number of its arguments. Without calls the answer is the entry.
+/// Each filter has to accept the number of its arguments. Without calls the answer is the entry,
+/// which takes no memory.
 pub fn apply_filters<F: Filter>(
     alloc: Global,
     entry: Value,
@@ -29,13 +30,14 @@ pub fn apply_filters<F: Filter>(
     state: &State<'_>,
 ) -> Result<Value>
     requires { All (λ c. IsTrue (F.counts c.filter (length c.args.now))) calls.now }
-    ensures { AnswersIf (list_all (λ c. F.within c.filter) calls.now) view result
+    ensures value { AnswersIf (list_all (λ c. F.within c.filter) calls.now) view result
         (applied (map (λ c. call_of (F.answer c.filter) c.args.now) calls.now) (view entry) (environment_of state.now)) }
+    ensures no_memory { calls.now ≡ [] → IsOk result }
 {
     apply_to(alloc, ValueCow::Owned(entry), calls, state)?.into_owned(alloc)
 }
 
-/// `apply_filters` over an entry that may be lent, which without calls is answered as it was lent.
+/// `apply_filters` over an entry that may be lent, which without calls is answered as it was.
 pub fn apply_to<'v, F: Filter>(
     alloc: Global,
     entry: ValueCow<'v>,
@@ -43,8 +45,9 @@ pub fn apply_to<'v, F: Filter>(
     state: &State<'_>,
 ) -> Result<ValueCow<'v>>
     requires { All (λ c. IsTrue (F.counts c.filter (length c.args.now))) calls.now }
-    ensures { AnswersIf (list_all (λ c. F.within c.filter) calls.now) cow_view result
+    ensures value { AnswersIf (list_all (λ c. F.within c.filter) calls.now) cow_view result
         (applied (map (λ c. call_of (F.answer c.filter) c.args.now) calls.now) (cow_view entry.entry) (environment_of state.now)) }
+    ensures lent { calls.now ≡ [] → result ≡ Ok entry.entry }
 {
     let mut value = entry;
     for call in calls {

@@ -1,6 +1,7 @@
-use Rattle.std.proofs.Common.{Result, rules, arith, ℕ, ◌≡◌, ◌+◌, ◌-◌, ◌*◌, ◌<◌, ◌≤◌, ◌∙◌, length, map, true, refl, sym, ap, subst, string_bytes, Option, Some, None, Ok, Err, List, []}
+use Rattle.std.proofs.Common.{Result, rules, arith, inl, inr, ℕ, ◌≡◌, ◌+◌, ◌-◌, ◌*◌, ◌<◌, ◌≤◌, ◌∙◌, length, map, true, refl, sym, ap, subst, string_bytes, Option, Some, None, Ok, Err, List, []}
 use Rattle.std.specs.Option.{option_map}
 use Rattle.std.proofs.lemmas.Result.{err_from_is_err_and}
+use Rattle.std.proofs.lemmas.Bool.{false≢true}
 use Rattle.liquid_model.specs.Answer.{IsValueOrMemory}
 use Rattle.std.specs.Prelude.{codes, get_or}
 use Rattle.liquid_model.specs.Data.{Datum, nil, text}
@@ -38,7 +39,7 @@ use Rattle.liquid_meaning.specs.Within.{Within}
 use Rattle.liquid_tree.specs.Names.{partials_names}
 use Rattle.liquid_lib.specs.Performs.{Meets, Performs, configuration_of, unit, Writes}
 use Rattle.liquid_lib.specs.Sinks.{sink_of}
-use Rattle.liquid_lib.proofs.Cases.{the_case, case_performs, case_keeps, case_other}
+use Rattle.liquid_lib.proofs.Cases.{the_case, case_performs, case_keeps, case_other, case_loud}
 use Rattle.liquid_lib.proofs.Choices.{chosen_inside, chosen_performs, refused_performs}
 use Rattle.liquid_lib.proofs.Going.{leaf_performs, leaf_keeps, leaf_other, one, one_performs, one_keeps, one_other, two, two_performs, two_keeps, two_other, going_fault, going_halt, going_node, going_on, going_end, going_past, kept_step, alone_step, node_before}
 use Rattle.liquid_lib.proofs.Interrupts.{interrupt_of, some_of, none_of}
@@ -48,6 +49,7 @@ use Rattle.liquid_lib.proofs.PartialRuns.{reserve, reserve_left, same_setting, i
 use Rattle.liquid_lib.proofs.ItemRuns.{items_left, item_on, item_breaks, item_faulted, items_end}
 use Rattle.liquid_lib.proofs.RenderEach.{item_run, name_refused, items_refused, items_met}
 use Rattle.liquid_lib.proofs.Retold.{fault_again, met_again}
+use Rattle.liquid_lib.proofs.Silent.{leaf_loud, one_loud, two_loud, silent_done, silent_next}
 use Rattle.liquid_lib.proofs.Sinks.{Around}
 use Rattle.liquid_lib.proofs.Whole.{stood_in}
 use Rattle.liquid_syntax.specs.declared.loop_nodes.For as heads_For
@@ -130,6 +132,7 @@ run_range-loop-at-preserved g t c =
       going = going_on (setting_of g.H.NamedFilters.named c.args.context.now) c.args.context.now.depth c.args.nodes.now c.args.from c.loop-at.at c.args.to c.next_after-at.result _ (place c.turn.new.self c.args.state.now) (place c.loop-at.out c.loop-at.state) (place c.run_node.new.out c.run_node.new.state) c.loop-at.invariant.going c.loop-at-test.true c.in_default.ensures.performs (interrupt_of c.run_node.new.state _ none) c.next_after-at.ensures;
       kept = λ f stood. kept_step (setting_of g.H.NamedFilters.named c.args.context.now) c.args.context.now.depth c.args.nodes.now c.args.from c.loop-at.at c.args.to (place c.turn.new.self c.args.state.now) (place c.loop-at.out c.loop-at.state) c.args.state.now c.loop-at.state c.run_node.new.state f stood c.loop-at.invariant.going c.loop-at-test.true c.run_node.ensures.kept (c.loop-at.invariant.kept f stood);
       alone = λ f stood. alone_step (setting_of g.H.NamedFilters.named c.args.context.now) c.args.context.now.depth c.args.nodes.now c.args.from c.loop-at.at c.args.to (place c.turn.new.self c.args.state.now) (place c.loop-at.out c.loop-at.state) c.args.state.now c.loop-at.state c.run_node.new.state f stood c.loop-at.invariant.going c.loop-at-test.true c.run_node.ensures.alone (c.loop-at.invariant.alone f stood);
+      silent = silent_next c.args.nodes.now c.args.from c.loop-at.at c.args.to c.next_after-at.result c.loop-at.invariant.silent c.loop-at-test.true c.next_after-at.ensures;
       loops = c.run_node.ensures.loops ∙ c.loop-at.invariant.loops;
       same_writer = c.run_node.ensures.same_writer ∙ c.loop-at.invariant.same_writer;
     }
@@ -1318,3 +1321,81 @@ run_chosen-returns-in-Ok-clause-kept g t c n comes N names inside =
     let x : Chosen c.args.nodes.now (environment_of c.args.state.now) (node_names n) (λ setting deeper. node_meaning setting deeper n) c.in-Ok.range.0 c.in-Ok.range.1 =
     subst (λ r. NodeComesTo c.args.nodes.now (environment_of c.args.state.now) n r) c.in-Ok.is comes in
     c.run_range.ensures.kept x.nodes x.stands N (x.within N names) inside
+
+-- ---- nodes for which a run takes no memory
+
+pub run_node-returns-in-Text-clause-silent : goal.run_node-returns-in-Text-clause-silent
+run_node-returns-in-Text-clause-silent g t c n next there silent = absurd (leaf_loud c.args.nodes.now c.args.at c.args.to c.index-nodes-at.result _ (tree.plain (string_bytes c.in-Text.text)) c.requires c.index-nodes-at.is c.in-Text.is refl (λ no. absurd no) n next there silent)
+
+pub run_node-returns-in-Output-clause-silent : goal.run_node-returns-in-Output-clause-silent
+run_node-returns-in-Output-clause-silent g t c n next there silent = absurd (leaf_loud c.args.nodes.now c.args.at c.args.to c.index-nodes-at.result _ (tree.output (chain_view c.in-Output.chain)) c.requires c.index-nodes-at.is c.in-Output.is refl (λ no. absurd no) n next there silent)
+
+pub run_node-returns-in-Assign-clause-silent : goal.run_node-returns-in-Assign-clause-silent
+run_node-returns-in-Assign-clause-silent g t c n next there silent = absurd (leaf_loud c.args.nodes.now c.args.at c.args.to c.index-nodes-at.result _ (tree.assign (string_bytes c.in-Assign.name) (chain_view c.in-Assign.chain)) c.requires c.index-nodes-at.is c.in-Assign.is refl (λ no. absurd no) n next there silent)
+
+pub run_node-returns-in-Raw-clause-silent : goal.run_node-returns-in-Raw-clause-silent
+run_node-returns-in-Raw-clause-silent g t c n next there silent = absurd (leaf_loud c.args.nodes.now c.args.at c.args.to c.index-nodes-at.result _ (tree.raw (string_bytes c.in-Raw.text)) c.requires c.index-nodes-at.is c.in-Raw.is refl (λ no. absurd no) n next there silent)
+
+pub run_node-returns-in-Capture-clause-silent : goal.run_node-returns-in-Capture-clause-silent
+run_node-returns-in-Capture-clause-silent g t c n next there silent = absurd (one_loud c.args.nodes.now c.args.at c.in-Capture.end c.args.to c.index-nodes-at.result _ (tree.capture (string_bytes c.in-Capture.name)) c.requires c.index-nodes-at.is c.in-Capture.is refl (λ b no. absurd no) n next there silent)
+
+pub run_node-returns-in-Include-clause-silent : goal.run_node-returns-in-Include-clause-silent
+run_node-returns-in-Include-clause-silent g t c n next there silent = absurd (leaf_loud c.args.nodes.now c.args.at c.args.to c.index-nodes-at.result _ (tree.include (expression_view c.in-Include.name) (bindings_view c.in-Include.bindings.items)) c.requires c.index-nodes-at.is c.in-Include.is refl (λ no. absurd no) n next there silent)
+
+pub run_node-returns-in-JekyllInclude-clause-silent : goal.run_node-returns-in-JekyllInclude-clause-silent
+run_node-returns-in-JekyllInclude-clause-silent g t c n next there silent = absurd (leaf_loud c.args.nodes.now c.args.at c.args.to c.index-nodes-at.result _ (tree.jekyll_include (string_bytes c.in-JekyllInclude.name) (bindings_view c.in-JekyllInclude.bindings.items)) c.requires c.index-nodes-at.is c.in-JekyllInclude.is refl (λ no. absurd no) n next there silent)
+
+pub run_node-returns-in-Increment-clause-silent : goal.run_node-returns-in-Increment-clause-silent
+run_node-returns-in-Increment-clause-silent g t c n next there silent = absurd (leaf_loud c.args.nodes.now c.args.at c.args.to c.index-nodes-at.result _ (tree.increment (string_bytes c.in-Increment.name)) c.requires c.index-nodes-at.is c.in-Increment.is refl (λ no. absurd no) n next there silent)
+
+pub run_node-returns-in-Decrement-clause-silent : goal.run_node-returns-in-Decrement-clause-silent
+run_node-returns-in-Decrement-clause-silent g t c n next there silent = absurd (leaf_loud c.args.nodes.now c.args.at c.args.to c.index-nodes-at.result _ (tree.decrement (string_bytes c.in-Decrement.name)) c.requires c.index-nodes-at.is c.in-Decrement.is refl (λ no. absurd no) n next there silent)
+
+pub run_node-returns-in-Cycle-clause-silent : goal.run_node-returns-in-Cycle-clause-silent
+run_node-returns-in-Cycle-clause-silent g t c n next there silent = absurd (leaf_loud c.args.nodes.now c.args.at c.args.to c.index-nodes-at.result _ (tree.cycle (string_bytes c.in-Cycle.group) (map expression_view c.in-Cycle.values.items)) c.requires c.index-nodes-at.is c.in-Cycle.is refl (λ no. absurd no) n next there silent)
+
+pub run_node-returns-in-IfChanged-clause-silent : goal.run_node-returns-in-IfChanged-clause-silent
+run_node-returns-in-IfChanged-clause-silent g t c n next there silent = absurd (one_loud c.args.nodes.now c.args.at c.in-IfChanged.end c.args.to c.index-nodes-at.result _ tree.ifchanged c.requires c.index-nodes-at.is c.in-IfChanged.is refl (λ b no. absurd no) n next there silent)
+
+pub run_node-returns-in-For-clause-silent : goal.run_node-returns-in-For-clause-silent
+run_node-returns-in-For-clause-silent g t c n next there silent = absurd (two_loud c.args.nodes.now c.args.at c.in-For.bodies.first_end c.in-For.bodies.last_end c.args.to c.index-nodes-at.result _ (tree.for_each (string_bytes c.in-For.head.value.variable) (source_view c.in-For.head.value.source) (window_view c.in-For.head.value.window)) c.requires c.index-nodes-at.is c.in-For.is refl (λ b d no. absurd no) n next there silent)
+
+pub run_node-returns-in-TableRow-clause-silent : goal.run_node-returns-in-TableRow-clause-silent
+run_node-returns-in-TableRow-clause-silent g t c n next there silent = absurd (one_loud c.args.nodes.now c.args.at c.in-TableRow.end c.args.to c.index-nodes-at.result _ (tree.tablerow (string_bytes c.in-TableRow.head.value.variable) (source_view c.in-TableRow.head.value.source) (window_view c.in-TableRow.head.value.window) (option_map expression_view c.in-TableRow.head.value.cols)) c.requires c.index-nodes-at.is c.in-TableRow.is refl (λ b no. absurd no) n next there silent)
+
+pub run_node-returns-in-If-clause-silent : goal.run_node-returns-in-If-clause-silent
+run_node-returns-in-If-clause-silent g t c n next there silent = absurd (two_loud c.args.nodes.now c.args.at c.in-If.bodies.first_end c.in-If.bodies.last_end c.args.to c.index-nodes-at.result _ (tree.if_true (condition_view c.in-If.condition)) c.requires c.index-nodes-at.is c.in-If.is refl (λ b d no. absurd no) n next there silent)
+
+pub run_node-returns-in-Unless-clause-silent : goal.run_node-returns-in-Unless-clause-silent
+run_node-returns-in-Unless-clause-silent g t c n next there silent = absurd (two_loud c.args.nodes.now c.args.at c.in-Unless.bodies.first_end c.in-Unless.bodies.last_end c.args.to c.index-nodes-at.result _ (tree.unless (condition_view c.in-Unless.condition)) c.requires c.index-nodes-at.is c.in-Unless.is refl (λ b d no. absurd no) n next there silent)
+
+pub run_node-returns-in-Case-clause-silent : goal.run_node-returns-in-Case-clause-silent
+run_node-returns-in-Case-clause-silent g t c n next there silent = absurd (case_loud c.args.nodes.now c.args.at (expression_view c.in-Case.target) c.in-Case.arms.items c.in-Case.last c.args.to c.index-nodes-at.result _ c.requires c.index-nodes-at.is c.in-Case.is refl n next there silent)
+
+pub run_node-returns-in-Render-clause-silent : goal.run_node-returns-in-Render-clause-silent
+run_node-returns-in-Render-clause-silent g t c n next there silent = absurd (leaf_loud c.args.nodes.now c.args.at c.args.to c.index-nodes-at.result _ (tree.render (expression_view c.in-Render.name) None (bindings_view c.in-Render.bindings.items)) c.requires c.index-nodes-at.is c.in-Render.is refl (λ no. absurd no) n next there silent)
+
+pub run_node-returns-in-RenderEach-clause-silent : goal.run_node-returns-in-RenderEach-clause-silent
+run_node-returns-in-RenderEach-clause-silent g t c n next there silent = absurd (leaf_loud c.args.nodes.now c.args.at c.args.to c.index-nodes-at.result _ (tree.render (expression_view c.in-RenderEach.name) (Some (each_view c.in-RenderEach.each)) (bindings_view c.in-RenderEach.bindings.items)) c.requires c.index-nodes-at.is c.in-RenderEach.is refl (λ no. absurd no) n next there silent)
+
+pub run_node-returns-in-Comment-clause-silent : goal.run_node-returns-in-Comment-clause-silent
+run_node-returns-in-Comment-clause-silent g t c n next there silent = refl
+
+pub run_node-returns-in-Break-clause-silent : goal.run_node-returns-in-Break-clause-silent
+run_node-returns-in-Break-clause-silent g t c n next there silent = refl
+
+pub run_node-returns-in-Continue-clause-silent : goal.run_node-returns-in-Continue-clause-silent
+run_node-returns-in-Continue-clause-silent g t c n next there silent = refl
+
+pub run_range-returns-in_err-turn-clause-silent : goal.run_range-returns-in_err-turn-clause-silent
+run_range-returns-in_err-turn-clause-silent g t c f stood are = inr c.in_err-turn.ensures.stopped
+
+pub run_range-returns-in-Err-clause-silent : goal.run_range-returns-in-Err-clause-silent
+run_range-returns-in-Err-clause-silent g t c f stood are =
+    absurd (false≢true (silent_done c.args.nodes.now c.args.from c.loop-at.at c.args.to (Err c.in-Err.fault) f stood are c.loop-at.invariant.silent c.loop-at-test.true c.in-Err.ensures.silent))
+
+pub run_range-returns-then-is_some-clause-silent : goal.run_range-returns-then-is_some-clause-silent
+run_range-returns-then-is_some-clause-silent g t c f stood are = inl refl
+
+pub run_range-returns-clause-silent : goal.run_range-returns-clause-silent
+run_range-returns-clause-silent g t c f stood are = inl refl

@@ -7,6 +7,7 @@ use Rattle.liquid_lib.specs.Kept.{Keeps, AreRenders}
 use Rattle.liquid_lib.specs.Performs.{configuration_of}
 use Rattle.liquid_core.specs.States.{layers_of, loops_of, scopes_behind}
 use Rattle.liquid_lib.proofs.Going.{Going}
+use Rattle.liquid_lib.proofs.Silent.{SilentOn}
 use Rattle.liquid_lib.proofs.PartialRuns.{reserve}
 use Rattle.std.specs.Prelude.{string_bytes}
 use Rattle.liquid_core.specs.ExpressionView.{expression_view}
@@ -59,6 +60,7 @@ invariant-run_range-loop-at g l =
       going : Going (setting_of g.H.NamedFilters.named l.context) l.context.depth l.nodes l.from l.at l.to (place l.initial.out l.initial.state) (place l.out l.state);
       kept : (f : Forest Maker) → StandsAt l.nodes l.from f l.to → Keeps (nodes_names (nodes_of f)) (setting_of g.H.NamedFilters.named l.context) l.initial.state l.state;
       alone : (f : Forest Maker) → StandsAt l.nodes l.from f l.to → AreRenders (nodes_of f) → layers_of l.state ≡ layers_of l.initial.state;
+      silent : SilentOn l.nodes l.from l.at l.to;
       loops : loops_of l.state ≡ loops_of l.initial.state;
       same_writer : l.out.writer.ghost_name ≡ l.initial.out.writer.ghost_name;
     }

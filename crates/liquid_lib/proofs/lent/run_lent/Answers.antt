@@ -50,3 +50,8 @@ returns-clause-alone g c = λ are.
     let last = lent_last (layers_of c.from_parts-lent.result) (layers_of c.run_range-answer.new.state) (layers_of c.from_parts.result) c.into_parts-parts.result.0 c.into_parts-parts-2.result.0 (data_held c.into_parts-parts.result.1) (held c.object.result.now) (data_held c.into_parts-parts-2.result.1)
     c.from_parts-lent.ensures.layers c.object.ensures left (c.into_parts-parts-2.ensures (c.run_range-answer.ensures.loops ∙ c.from_parts-lent.ensures.loops)) c.from_parts.ensures.layers in
     last ∙ c.run_range-answer.ensures.alone (forest_of c.args.template.now) stood are ∙ first
+
+pub returns-clause-silent : goal.returns-clause-silent
+unfolding tree_of
+returns-clause-silent g c = λ are.
+    c.run_range-answer.ensures.silent (forest_of c.args.template.now) (stood_in c.args.template.now c.nodes-nodes.result.now c.nodes-nodes.ensures) are

@@ -3,5 +3,8 @@ use Rattle.liquid_lib.specs.Sinks.{sink_of}
 use Rattle.liquid_lib.proofs.Turns.{refused_cut}
 use Rattle.liquid_lib.proofs.output.Output.turn.Goals as goal
 
+pub returns-clause-stopped : goal.returns-clause-stopped
+returns-clause-stopped g c = c.if-turn.ensures.refused refl
+
 pub returns-clause-refused : goal.returns-clause-refused
 returns-clause-refused g c = refused_cut c.new.result _ _ c.new.ensures.told (c.if-turn.ensures.refused refl) refl c.if-turn.ensures.same
