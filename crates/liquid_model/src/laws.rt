@@ -2,7 +2,9 @@
 ghost use Rattle.liquid_model.specs.Laws.{EqualityIsAnEquivalence, EqualValuesHashAlike, OrderIsTotal, KindsAreRanked, ScalarsAreOrdered, FirstUnequalPlaceDecides, MapsGoPairByPair, ComparePairByPair, CompareAgreesWithEquality, CompareWithoutAnswer, CompareByFirstUnequalPlace, ListTextIsItemTexts, NumberTextIsRead, FindGoesOn, ScalarsAloneFind, ItemsByIndex, TextsIndexToo, ItemsByName, OwnKeysWin, PutIsFound};
 ghost use Rattle.liquid_model.specs.Projected.{ProjectedAlike};
 ghost use Rattle.liquid_model.specs.Uses.{IncludedAlike, JoinedAlike};
-ghost use Rattle.liquid_model.specs.Skipping.{ListWithAllItems, ListWithoutItems, MapWithAllKeys, MapWithSomeKeys, PutAtSameKey, PutInBoth, PutInOne};
+ghost use Rattle.liquid_model.specs.Skipping.{ListWithAllItems, ListWithoutItems};
+ghost use Rattle.liquid_model.specs.Skipping.{MapWithAllKeys, MapWithSomeKeys};
+ghost use Rattle.liquid_model.specs.Skipping.{PutAtSameKey, PutInBoth, PutInOne};
 
 /// Equality of values is an equivalence.
 pub fn equality_is_an_equivalence()
@@ -104,15 +106,16 @@ pub fn put_is_found()
     ensures { PutIsFound }
 {}
 
-/// Laws of uses: what is alike in a use is alike in each that it includes, and what is alike in two together in both; and a
-/// value is alike with what is left of it.
+/// Laws of uses: what is alike in a use is alike in each that it includes, and what is alike in two
+/// together in both; and a value is alike with what is left of it.
 pub fn use_laws()
     ensures included { IncludedAlike }
     ensures joined { JoinedAlike }
     ensures projected { ProjectedAlike }
 {}
 
-/// Laws for a reader of data that skips what nobody asks for: what it keeps of maps and of lists is alike with all of them.
+/// Laws for a reader of data that skips what nobody asks for: what it keeps of maps and of lists is
+/// alike with all of them.
 pub fn skipping_laws()
     ensures both { PutInBoth }
     ensures one { PutInOne }

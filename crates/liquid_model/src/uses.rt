@@ -1,6 +1,7 @@
 //! Which parts of values are asked for.
 ghost use Rattle.std.specs.Prelude.{◌≡◌, MatchOption};
-ghost use Rattle.liquid_model.specs.Uses.{nothing, includes, includes_fields, includes_items, parts, no_fields, uncounted, use_in};
+ghost use Rattle.liquid_model.specs.Uses.{includes, includes_fields, includes_items};
+ghost use Rattle.liquid_model.specs.Uses.{no_fields, nothing, parts, uncounted, use_in};
 ghost use Rattle.liquid_model.specs.UseViews.{use_view, members_view, turns_view};
 
 use std::collections::BTreeMap;
@@ -14,9 +15,11 @@ pub enum Use {
     Everything,
     /// Whether there is a value, its kind, a scalar whole, and these parts.
     Parts {
-        /// What is asked of the members, each by the text of the step that finds it: a key, an index, `first`, `last` or `size`.
+        /// What is asked of the members, each by the text of the step that finds it: a key, an
+        /// index, `first`, `last` or `size`.
         members: Uses,
-        /// What is asked of each item that a loop goes over; without it, not even how many items there are.
+        /// What is asked of each item that a loop goes over; without it, not even how many
+        /// items there are.
         items: Option<Box<Use>>,
     },
 }
@@ -53,7 +56,9 @@ fn included(asked: &Use, held: &Use) -> bool
 
 #[cycle(included)]
 fn included_members(asked: &Uses, held: &Uses) -> bool
-    ensures { result ≡ includes_fields (parts (members_view held.now.entries) uncounted) (members_view asked.now.entries) }
+    ensures { result
+        ≡ includes_fields (parts (members_view held.now.entries) uncounted)
+        (members_view asked.now.entries) }
 {
     for (name, member) in asked.iter() {
         let holds = match member_of(held, name.as_str()) {
@@ -69,7 +74,8 @@ fn included_members(asked: &Uses, held: &Uses) -> bool
 
 #[cycle(included)]
 fn included_items(asked: &Option<Box<Use>>, held: &Option<Box<Use>>) -> bool
-    ensures { result ≡ includes_items (parts no_fields (turns_view held.now)) (turns_view asked.now) }
+    ensures { result
+        ≡ includes_items (parts no_fields (turns_view held.now)) (turns_view asked.now) }
 {
     match asked {
         None => true,
