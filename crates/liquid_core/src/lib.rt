@@ -19,8 +19,8 @@ pub use frame::{Columns, Items, LoopFrame, LoopKind, Scope};
 pub use host_filters::{HostFilters, NamedFilters};
 pub use interrupt::Interrupt;
 pub use liquid_model::{
-    Error, ErrorKind, Found, Location, Object, Origin, Result, Value, ValueCow, copy_items,
-    look_up, store, whole_of,
+    Error, ErrorKind, Found, Location, Object, Origin, Result, Use, Uses, Value, ValueCow,
+    copy_items, look_up, member_of, store, whole_of,
 };
 pub use resolved::{Near, Resolved, Scopes};
 pub use state::{Data, Parts, State};

@@ -1,5 +1,5 @@
 mod After
 mod Members
 mod Plain
-mod PlainPlans
+mod PlainUses
 mod Turns

@@ -1,3 +1,3 @@
 pub mod Json
-pub mod Plans
+pub mod PlainUses
 pub mod inside

@@ -3,13 +3,11 @@
 
 mod data;
 mod place;
-mod plan;
 mod planned;
 mod skip;
 mod tokens;
 mod whole;
 
 pub use data::data_from_json;
-pub use plan::{Plan, member_of};
 pub use planned::read_planned;
 pub use skip::skipped;

@@ -1,41 +1,41 @@
-//! Values from the tokens of a text of JSON, without what a plan leaves out.
+//! Values from the tokens of a text of JSON, without what nobody asks for.
 ghost use Rattle.std.specs.Prelude.{◌<◌, length, IfOk, OnOk, IsTrue};
 ghost use Rattle.liquid_model.specs.View.{view, items_view, pairs_view};
-ghost use Rattle.liquid_meaning.specs.Uses.{parts, uncounted};
-ghost use Rattle.liquid_json.specs.Plans.{plan_view, members_view, turns_view, plain, plain_fields, plain_turns};
+ghost use Rattle.liquid_model.specs.Uses.{parts, uncounted};
+ghost use Rattle.liquid_model.specs.UseViews.{use_view, members_view, turns_view};
+ghost use Rattle.liquid_json.specs.PlainUses.{plain, plain_fields, plain_turns};
 ghost use Rattle.liquid_json.specs.inside.Planned.{IsPlanned, ArePlanned, PairsPlanned};
 
-use crate::plan::{Plan, member_of};
 use crate::skip::{skip_items, skipped};
 use crate::tokens::{Stop, read, read_pairs};
 use crate::whole::integer_of;
 use json::{Reader, Token};
-use liquid_core::{Object, Value};
+use liquid_core::{Object, Use, Uses, Value, member_of};
 use std::alloc::Global;
 use std::collections::BTreeMap;
 
-/// The value at the front of the tokens, as far as the plan builds it.
+/// The value at the front of the tokens, as far as it is asked for.
 #[cycle(planned)]
 pub fn read_planned(
     alloc: Global,
     reader: &mut Reader<'_>,
     depth: usize,
-    plan: &Plan,
+    asked: &Use,
 ) -> Result<Value, Stop>
-    requires plain { IsTrue (plain (plan_view plan.now)) }
-    ensures ok { IfOk result (λ v. IsPlanned (plan_view plan.now) depth reader.old (view v) reader.new) }
+    requires plain { IsTrue (plain (use_view asked.now)) }
+    ensures ok { IfOk result (λ v. IsPlanned (use_view asked.now) depth reader.old (view v) reader.new) }
     ensures shorter { OnOk result (length reader.new < length reader.old) }
 {
-    match plan {
-        Plan::Skipped => {
+    match asked {
+        Use::Nothing => {
             skipped(reader, depth)?;
             Ok(Value::Nil)
         }
-        Plan::Whole => {
+        Use::Everything => {
             let value = read(alloc, reader, depth)?;
             Ok(value)
         }
-        Plan::Parts(items, members) => {
+        Use::Parts { members, items } => {
             let value = read_parts(alloc, reader, depth, items, members)?;
             Ok(value)
         }
@@ -47,12 +47,12 @@ fn read_parts(
     alloc: Global,
     reader: &mut Reader<'_>,
     depth: usize,
-    items: &[Plan],
-    members: &[(String, Plan)],
+    items: &Option<Box<Use>>,
+    members: &Uses,
 ) -> Result<Value, Stop>
-    requires plain_members { IsTrue (plain_fields (members_view members.now)) }
+    requires plain_members { IsTrue (plain_fields (members_view members.now.entries)) }
     requires plain_items { IsTrue (plain_turns (turns_view items.now)) }
-    ensures ok { IfOk result (λ v. IsPlanned (parts (members_view members.now) (turns_view items.now)) depth reader.old (view v) reader.new) }
+    ensures ok { IfOk result (λ v. IsPlanned (parts (members_view members.now.entries) (turns_view items.now)) depth reader.old (view v) reader.new) }
     ensures shorter { OnOk result (length reader.new < length reader.old) }
 {
     let token = reader.next().ok_or(Stop::Other)?;
@@ -69,22 +69,21 @@ fn read_parts(
             if depth == 0 {
                 return Err(Stop::Other);
             }
-            match items.first() {
+            match items {
                 None => {
                     skip_items(reader, depth - 1)?;
                     Ok(Value::Array(Vec::new(alloc)))
                 }
-                Some(plan) => Ok(Value::Array(planned_items(alloc, reader, depth - 1, plan)?)),
+                Some(asked) => Ok(Value::Array(planned_items(alloc, reader, depth - 1, asked)?)),
             }
         }
         Token::BeginObject => {
             if depth == 0 {
                 return Err(Stop::Other);
             }
-            if items.is_empty() {
-                Ok(Value::Object(planned_pairs(alloc, reader, depth - 1, members)?))
-            } else {
-                Ok(Value::Object(read_pairs(alloc, reader, depth - 1)?))
+            match items {
+                None => Ok(Value::Object(planned_pairs(alloc, reader, depth - 1, members)?)),
+                Some(_asked) => Ok(Value::Object(read_pairs(alloc, reader, depth - 1)?)),
             }
         }
     }
@@ -96,15 +95,15 @@ fn planned_items(
     alloc: Global,
     reader: &mut Reader<'_>,
     depth: usize,
-    plan: &Plan,
+    asked: &Use,
 ) -> Result<Vec<Value>, Stop>
-    requires plain { IsTrue (plain (plan_view plan.now)) }
-    ensures ok { IfOk result (λ v. ArePlanned (plan_view plan.now) depth reader.old (items_view v.items) reader.new) }
+    requires plain { IsTrue (plain (use_view asked.now)) }
+    ensures ok { IfOk result (λ v. ArePlanned (use_view asked.now) depth reader.old (items_view v.items) reader.new) }
     ensures shorter { OnOk result (length reader.new < length reader.old) }
 {
     let mut found = Vec::new(alloc);
     'items: while !reader.take_end_array() {
-        let item = read_planned(alloc, reader, depth, plan)?;
+        let item = read_planned(alloc, reader, depth, asked)?;
         found.push(item)?;
     }
     Ok(found)
@@ -116,18 +115,18 @@ fn planned_pairs(
     alloc: Global,
     reader: &mut Reader<'_>,
     depth: usize,
-    members: &[(String, Plan)],
+    members: &Uses,
 ) -> Result<Object, Stop>
-    requires plain { IsTrue (plain_fields (members_view members.now)) }
-    ensures ok { IfOk result (λ m. PairsPlanned (members_view members.now) depth reader.old (pairs_view m.entries) reader.new) }
+    requires plain { IsTrue (plain_fields (members_view members.now.entries)) }
+    ensures ok { IfOk result (λ m. PairsPlanned (members_view members.now.entries) depth reader.old (pairs_view m.entries) reader.new) }
     ensures shorter { OnOk result (length reader.new < length reader.old) }
 {
     let mut found: Object = BTreeMap::new(alloc);
     'pairs: while let Some(name) = reader.next_key()? {
         match member_of(members, name) {
-            Some(plan) => {
+            Some(asked) => {
                 let key = String::from_str(alloc, name)?;
-                let member = read_planned(alloc, reader, depth, plan)?;
+                let member = read_planned(alloc, reader, depth, asked)?;
                 drop(found.insert(key, member)?);
             }
             None => skipped(reader, depth)?,

@@ -37,7 +37,9 @@ pub use liquid_core::{
     Error, ErrorKind, Filter, HostFilters, Location, Object, Origin, Result, State, Value, ValueCow,
 };
 pub use liquid_filters::FilterKind;
-pub use liquid_meaning::{isolation_laws, loop_laws, run_laws, worked_names, worked_runs};
+pub use liquid_meaning::{
+    isolation_laws, loop_laws, reading_laws, run_laws, worked_names, worked_runs, worked_uses,
+};
 pub use liquid_syntax::{Language, Partials, Template, parse};
 pub use liquid_tags::{BlockReflection, TagReflection};
 pub use page::{Page, render_page};

@@ -29,12 +29,12 @@ use Rattle.liquid_list_filters.specs.Keeping.{is_wanted, where_of, where_by, whe
 use Rattle.liquid_list_filters.specs.Rows.{reverse_answer, after_list, concat_by, concat_answer}
 use Rattle.liquid_list_filters.specs.Sorting.{insert_in_order, sorted, Key, key_order, sort_by, given, key_of, lower_case, natural_key_of, sort_named, sort_answer, sort_natural_answer}
 use Rattle.liquid_text_filters.specs.Size.{size_of}
-use Rattle.liquid_meaning.specs.Uses.{Use, nothing, everything, parts, ItemUse, uncounted, every, shape_of, member, Pairwise, Alike, AlikeItems, present, use_of_each, join, items_wanted}
+use Rattle.liquid_model.specs.Uses.{Use, nothing, everything, parts, ItemUse, uncounted, every, shape_of, member, Pairwise, Alike, AlikeItems, present, use_of_each, join, items_wanted}
 use Rattle.liquid_meaning.specs.Reads.{Both}
 use Rattle.liquid_meaning.specs.FilterNeeds.{filter_needs, items_each, with_field, items_or_itself, one_field, named_by, by_property, kind_needs, KnownRespected}
-use Rattle.liquid_meaning.proofs.Uses.{pairwise_same, pairwise_more, alike_same, alike_shape, alike_present, present_asks, join_left, join_right}
-use Rattle.liquid_meaning.proofs.Lists.{list_lengths, items_alike}
-use Rattle.liquid_meaning.proofs.Seen.{both_equal, AlikeLists, pairwise_length, pairwise_reverse}
+use Rattle.liquid_model.proofs.Alike.{pairwise_same, pairwise_more, alike_same, alike_shape, alike_present, present_asks, join_left, join_right, AlikeLists, pairwise_length}
+use Rattle.liquid_model.proofs.AlikeLists.{list_lengths, items_alike}
+use Rattle.liquid_meaning.proofs.Seen.{both_equal, pairwise_reverse}
 
 abbrev AlikeAs : Use → Datum → Datum → Type 0
 AlikeAs u c d = Alike u (Some c) (Some d)

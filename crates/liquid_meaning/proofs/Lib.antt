@@ -1,3 +1,4 @@
+pub mod AlikeMaps
 pub mod Apart
 pub mod Assigning
 pub mod Cells
@@ -9,19 +10,16 @@ pub mod FilterNeeds
 pub mod Further
 pub mod Items
 pub mod Law
-pub mod Lists
 pub mod Maps
 pub mod Nodes
-pub mod Projected
+pub mod ProjectedRuns
 pub mod Reading
 pub mod Rules
 pub mod RunKinds
 pub mod Runs
 pub mod Seen
-pub mod Skipping
 pub mod Stays
 pub mod Steps
 pub mod Tied
-pub mod Uses
 pub mod Values
 pub mod Within

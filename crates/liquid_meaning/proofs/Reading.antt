@@ -20,11 +20,12 @@ use Rattle.liquid_meaning.specs.Runs.{Nothing, Run, read, evaluate, change, writ
 use Rattle.liquid_meaning.specs.Effects.{assigned_to, counted_to, interrupted_by, counter_number, value_or_nil, take_interrupt, if_none, unless_interrupted, is_last_text}
 use Rattle.liquid_meaning.specs.Loops.{if_empty, columns_of, needs_columns, cell_start, cell_end, loop, rows}
 use Rattle.liquid_meaning.specs.Meaning.{Setting, write_item, cycle_meaning, has_equal, within_i64, named, name_of, found, pairs_scope, include_scope, render_apart, node_meaning, nodes_meaning, whens_meaning, deeper_meaning, meaning}
-use Rattle.liquid_meaning.specs.Uses.{Use, nothing, everything, parts, shape_of, Pairwise, Alike, asks_whether, present}
+use Rattle.liquid_model.specs.Uses.{Use, nothing, everything, parts, shape_of, Pairwise, Alike, asks_whether, present}
 use Rattle.liquid_meaning.specs.Reading.{Uses, Needs, grants, grants_all, grants_optional, grants_condition, grants_source, grants_window, grants_bindings, grants_chain, bound_use, all_of, is_flat, grants_node, grants_nodes, grants_whens, grants_partials}
 use Rattle.liquid_meaning.specs.Reads.{AlikeMaps, AlikeIn, Both, Respects, ReadsAlone}
-use Rattle.liquid_meaning.proofs.Uses.{both_left, both_right, alike_same, alike_shape, alike_present, present_asks, alike_empty, alike_insert, alike_merged}
-use Rattle.liquid_meaning.proofs.Seen.{Same, equal_both, AlikeLists, pairwise_length, lookup_alike, required_equal, chain_alike, truth_equal, source_alike, amount_equal, asked_alike, bound_alike}
+use Rattle.liquid_model.proofs.Alike.{both_left, both_right, alike_same, alike_shape, alike_present, present_asks, AlikeLists, pairwise_length}
+use Rattle.liquid_meaning.proofs.AlikeMaps.{alike_empty, alike_insert, alike_merged}
+use Rattle.liquid_meaning.proofs.Seen.{Same, equal_both, lookup_alike, required_equal, chain_alike, truth_equal, source_alike, amount_equal, asked_alike, bound_alike}
 use Rattle.liquid_meaning.proofs.Tied.{TiedOutcomes, Tied, tied_done, tied_fault, tied_write, tied_read, tied_evaluate, tied_value, tied_change, tied_bind, tied_then, tied_cond, tied_with_scope, tied_buffered, tied_apart, tied_for_all, tied_until_break}
 
 module _ (U : Uses) where

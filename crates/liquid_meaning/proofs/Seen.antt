@@ -19,10 +19,10 @@ use Rattle.liquid_model.specs.Fallible.{◌>>=◌}
 use Rattle.liquid_tree.specs.Calls.{applied}
 use Rattle.liquid_tree.specs.Tree.{FilterCall, Chain, Atom, bare, compared, Condition, Source, each_of, counted, Window, Bindings}
 use Rattle.liquid_tree.specs.Evaluation.{FilterAnswers, entry_value, calls_by, chain_value, bare_truth, atom_truth, all_true, truth_of, value_items, most_items, not_too_long, source_items, amount, skipped, wanted, items_at, window_items, asked_for, bound_values}
-use Rattle.liquid_meaning.specs.Uses.{Use, everything, parts, no_fields, every, there, shape_of, member, items, Pairwise, Alike, use_at, is_everything, asks_whether}
+use Rattle.liquid_model.specs.Uses.{Use, everything, parts, no_fields, every, there, shape_of, member, loop_items, Pairwise, Alike, use_at, is_everything, asks_whether}
 use Rattle.liquid_meaning.specs.Reading.{Uses, key_of, key, by_key, grants, grants_along, grants_all, grants_optional, grants_filters, Needs, use_before, grants_chain, grants_atom, grants_atoms, grants_condition, grants_source, grants_window, grants_bindings}
 use Rattle.liquid_meaning.specs.Reads.{AlikeIn, Both, Respects}
-use Rattle.liquid_meaning.proofs.Uses.{both_left, both_right, pairwise_same, alike_same, alike_shape, alike_at, alike_included, alike_everything, present_asks, alike_present, alike_else}
+use Rattle.liquid_model.proofs.Alike.{AlikeLists, pairwise_length, both_left, both_right, pairwise_same, alike_same, alike_shape, alike_at, alike_included, alike_everything, present_asks, alike_present, alike_else}
 
 -- ---- results
 
@@ -263,12 +263,6 @@ then_both S x y k l e g = subst (λ z. Both S (x >>= k) (z >>= l)) e (at x)
     at (Err kind) = refl
 
 module _ {A : Type 0} (R : A → A → Type 0) where
-  pub pairwise_length : (xs ys : List A) → Pairwise R xs ys → length xs ≡ length ys
-  pairwise_length [] [] h = refl
-  pairwise_length [] (y ∷ ys) h = absurd h
-  pairwise_length (x ∷ xs) [] h = absurd h
-  pairwise_length (x ∷ xs) (y ∷ ys) h = ap suc (pairwise_length xs ys h.1)
-
   pairwise_get : (z : A) → R z z → (xs ys : List A) (i : ℕ) → Pairwise R xs ys → R (get_or xs i z) (get_or ys i z)
   pairwise_get z r [] [] i h = r
   pairwise_get z r [] (y ∷ ys) i h = absurd h
@@ -292,7 +286,7 @@ goes (Some (array ds)) = true
 goes (Some (object ps)) = true
 goes _ = false
 
-by_kind : (d : Datum) → value_items d ≡ cond (goes (shape_of (Some d))) (Ok (items d)) (Err UnexpectedValue)
+by_kind : (d : Datum) → value_items d ≡ cond (goes (shape_of (Some d))) (Ok (loop_items d)) (Err UnexpectedValue)
 unfolding goes
 by_kind nil = refl
 by_kind (truth b) = refl
@@ -302,24 +296,21 @@ by_kind (array ds) = refl
 by_kind (object ps) = refl
 
 module _ (u : Use) where
-  abbrev pub AlikeLists : List Datum → List Datum → Type 0
-  AlikeLists ds es = Pairwise (λ c d. Alike u (Some c) (Some d)) ds es
-
-  not_too_long_alike : (n m : ℕ) (ds es : List Datum) → n ≡ m → AlikeLists ds es → Both AlikeLists (not_too_long n ds) (not_too_long m es)
-  not_too_long_alike n m ds es e h = subst (λ k. Both AlikeLists (not_too_long n ds) (not_too_long k es)) e (at (nat_le n most_items))
+  not_too_long_alike : (n m : ℕ) (ds es : List Datum) → n ≡ m → AlikeLists u ds es → Both (AlikeLists u) (not_too_long n ds) (not_too_long m es)
+  not_too_long_alike n m ds es e h = subst (λ k. Both (AlikeLists u) (not_too_long n ds) (not_too_long k es)) e (at (nat_le n most_items))
     where
-      at : (b : Bool) → Both AlikeLists (cond b (Ok ds) (Err RangeTooLong)) (cond b (Ok es) (Err RangeTooLong))
+      at : (b : Bool) → Both (AlikeLists u) (cond b (Ok ds) (Err RangeTooLong)) (cond b (Ok es) (Err RangeTooLong))
       at true = h
       at false = refl
 
-  value_items_alike : (c d : Datum) → shape_of (Some c) ≡ shape_of (Some d) → AlikeLists (items c) (items d) → Both AlikeLists (value_items c) (value_items d)
-  value_items_alike c d e h = subst₂ (Both AlikeLists) (sym (by_kind c)) (sym (by_kind d)) (subst (λ b. Both AlikeLists (cond (goes (shape_of (Some c))) (Ok (items c)) (Err UnexpectedValue)) (cond b (Ok (items d)) (Err UnexpectedValue))) (ap goes e) (at (goes (shape_of (Some c)))))
+  value_items_alike : (c d : Datum) → shape_of (Some c) ≡ shape_of (Some d) → AlikeLists u (loop_items c) (loop_items d) → Both (AlikeLists u) (value_items c) (value_items d)
+  value_items_alike c d e h = subst₂ (Both (AlikeLists u)) (sym (by_kind c)) (sym (by_kind d)) (subst (λ b. Both (AlikeLists u) (cond (goes (shape_of (Some c))) (Ok (loop_items c)) (Err UnexpectedValue)) (cond b (Ok (loop_items d)) (Err UnexpectedValue))) (ap goes e) (at (goes (shape_of (Some c)))))
     where
-      at : (b : Bool) → Both AlikeLists (cond b (Ok (items c)) (Err UnexpectedValue)) (cond b (Ok (items d)) (Err UnexpectedValue))
+      at : (b : Bool) → Both (AlikeLists u) (cond b (Ok (loop_items c)) (Err UnexpectedValue)) (cond b (Ok (loop_items d)) (Err UnexpectedValue))
       at true = h
       at false = refl
 
-  items_at_alike : (ds es : List Datum) (o m : ℕ) → AlikeLists ds es → AlikeLists (items_at ds o m) (items_at es o m)
+  items_at_alike : (ds es : List Datum) (o m : ℕ) → AlikeLists u ds es → AlikeLists u (items_at ds o m) (items_at es o m)
   items_at_alike ds es o zero h = tt
   items_at_alike ds es o (suc m) h = (pairwise_get _ nil (alike_same u (Some nil)) ds es o h, items_at_alike ds es (suc o) m h)
 
@@ -327,15 +318,15 @@ module _ (u : Use) where
   abbrev within : Option ℤ → Option ℤ → ℕ → List Datum → List Datum
   within limit offset n ds = items_at ds (skipped n offset) (wanted n (skipped n offset) limit)
 
-  window_alike : (ds es : List Datum) (limit offset : Option ℤ) (reversed : Bool) → AlikeLists ds es → AlikeLists (window_items ds limit offset reversed) (window_items es limit offset reversed)
+  window_alike : (ds es : List Datum) (limit offset : Option ℤ) (reversed : Bool) → AlikeLists u ds es → AlikeLists u (window_items ds limit offset reversed) (window_items es limit offset reversed)
   window_alike ds es limit offset reversed h = at (length ds) (length es) (pairwise_length _ ds es h)
     where
-      turned : (xs ys : List Datum) (b : Bool) → AlikeLists xs ys → AlikeLists (cond b (reverse xs) xs) (cond b (reverse ys) ys)
+      turned : (xs ys : List Datum) (b : Bool) → AlikeLists u xs ys → AlikeLists u (cond b (reverse xs) xs) (cond b (reverse ys) ys)
       turned xs ys true k = pairwise_reverse _ xs ys k
       turned xs ys false k = k
 
-      at : (n m : ℕ) → n ≡ m → AlikeLists (cond reversed (reverse (within limit offset n ds)) (within limit offset n ds)) (cond reversed (reverse (within limit offset m es)) (within limit offset m es))
-      at n m e = subst (λ m. AlikeLists (cond reversed (reverse (within limit offset n ds)) (within limit offset n ds)) (cond reversed (reverse (within limit offset m es)) (within limit offset m es))) e (turned (within limit offset n ds) (within limit offset n es) reversed (items_at_alike ds es (skipped n offset) (wanted n (skipped n offset) limit) h))
+      at : (n m : ℕ) → n ≡ m → AlikeLists u (cond reversed (reverse (within limit offset n ds)) (within limit offset n ds)) (cond reversed (reverse (within limit offset m es)) (within limit offset m es))
+      at n m e = subst (λ m. AlikeLists u (cond reversed (reverse (within limit offset n ds)) (within limit offset n ds)) (cond reversed (reverse (within limit offset m es)) (within limit offset m es))) e (turned (within limit offset n ds) (within limit offset n es) reversed (items_at_alike ds es (skipped n offset) (wanted n (skipped n offset) limit) h))
 
 module _ (U : Uses) (e f : Environment) (agree : AlikeIn U e f) where
   pub source_alike : (name : Text) (source : Source) → T (grants_source U name source) → Both (AlikeLists (U name)) (source_items source e) (source_items source f)

@@ -10,11 +10,12 @@ use Rattle.liquid_core.specs.declared.interrupt.Interrupt.{Interrupt}
 use Rattle.liquid_meaning.specs.Runs.{Nothing, Outcome, Run, done, read, evaluate, fault, change, write, go_on, ◌>>=◌, with_scope, ended_with, buffered, apart}
 use Rattle.liquid_meaning.specs.Effects.{is_break}
 use Rattle.liquid_meaning.specs.Loops.{until_break, for_all}
-use Rattle.liquid_meaning.specs.Uses.{Use, Alike}
+use Rattle.liquid_model.specs.Uses.{Use, Alike}
 use Rattle.liquid_meaning.specs.Reading.{Uses}
 use Rattle.liquid_meaning.specs.Reads.{AlikeMaps, AlikeIn, Both}
-use Rattle.liquid_meaning.proofs.Uses.{alike_empty, alike_merged}
-use Rattle.liquid_meaning.proofs.Seen.{Same, both_equal, AlikeLists}
+use Rattle.liquid_meaning.proofs.AlikeMaps.{alike_empty, alike_merged}
+use Rattle.liquid_meaning.proofs.Seen.{Same, both_equal}
+use Rattle.liquid_model.proofs.Alike.{AlikeLists}
 
 pub record TiedOutcomes {A : Type 0} (U : Uses) (R : A → A → Type 0) (o p : Outcome A) : Type 0 where
   pub text : o.text ≡ p.text

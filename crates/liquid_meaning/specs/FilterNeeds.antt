@@ -10,7 +10,7 @@ use Rattle.liquid_filters.specs.declared.kind.FilterKind.TheVariants.{Sort, Sort
 use Rattle.liquid_tree.specs.Tree.{Filter, existing, hosted}
 use Rattle.liquid_tree.specs.Evaluation.{answers_with}
 use Rattle.liquid_core.specs.FilterAnswers.{FilterAnswer}
-use Rattle.liquid_meaning.specs.Uses.{Use, nothing, everything, parts, no_fields, field, uncounted, every, present, use_of_each, join, items_wanted}
+use Rattle.liquid_model.specs.Uses.{Use, nothing, everything, parts, no_fields, field, uncounted, every, present, use_of_each, join, items_wanted}
 use Rattle.liquid_meaning.specs.Reading.{Needs}
 use Rattle.liquid_meaning.specs.Reads.{Respects}
 

@@ -6,12 +6,10 @@ pub mod Laws
 pub mod LoopLaws
 pub mod Loops
 pub mod Meaning
-pub mod Projected
+pub mod ProjectedRuns
 pub mod Reading
 pub mod Reads
 pub mod Runs
-pub mod Skipping
-pub mod Uses
 pub mod Within
 pub mod Worked
 pub mod WorkedLoops

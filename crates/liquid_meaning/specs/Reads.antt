@@ -13,7 +13,7 @@ use Rattle.liquid_tree.specs.Evaluation.{FilterAnswers}
 use Rattle.liquid_meaning.specs.Isolation.{names_of_run}
 use Rattle.liquid_meaning.specs.Runs.{Outcome}
 use Rattle.liquid_meaning.specs.Meaning.{Setting, meaning}
-use Rattle.liquid_meaning.specs.Uses.{Use, nothing, everything, Alike}
+use Rattle.liquid_model.specs.Uses.{Use, nothing, everything, Alike}
 use Rattle.liquid_meaning.specs.Reading.{Uses, Needs, covers}
 
 abbrev pub AlikeMaps : Uses → Map Datum → Map Datum → Type 0

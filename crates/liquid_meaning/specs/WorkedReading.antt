@@ -6,10 +6,10 @@ use Rattle.liquid_model.specs.Data.{Datum, nil, number, text, array, object, no_
 use Rattle.liquid_core.specs.Expression.{variable, no_steps, step}
 use Rattle.liquid_tree.specs.declared.comparison.ComparisonOperator.TheVariants.{Equals}
 use Rattle.liquid_tree.specs.Tree.{each_of, Node, assign, bare, if_true, increment, Nodes, no_nodes, render}
-use Rattle.liquid_meaning.specs.Uses.{Use, everything, parts, Fields, no_fields, field, uncounted, every, there, use_in}
+use Rattle.liquid_model.specs.Uses.{Use, everything, parts, Fields, no_fields, field, uncounted, every, there, use_in}
 use Rattle.liquid_meaning.specs.Reading.{Uses, covers}
 use Rattle.liquid_meaning.specs.Reads.{needs_all}
-use Rattle.liquid_meaning.specs.Projected.{projected}
+use Rattle.liquid_model.specs.Projected.{projected}
 use Rattle.liquid_meaning.specs.Worked.{name, property, quoted, integer, alone, show, tree, if_compared, for_in, no_filters}
 
 -- of these names these uses

@@ -5,9 +5,8 @@ ghost use Rattle.liquid_meaning.specs.FilterNeeds.{KnownRespected};
 ghost use Rattle.liquid_meaning.specs.Isolation.{Isolation, AgreeingRuns, OthersKept, RenderLeavesAll, RenderSeesItsValues, Headline};
 ghost use Rattle.liquid_tree.specs.Laws.{CountedWindow};
 ghost use Rattle.liquid_meaning.specs.LoopLaws.{RangeLaw, RowLaw, WindowLaw};
-ghost use Rattle.liquid_meaning.specs.Projected.{ProjectedAlike, ProjectedRun, SameSight};
+ghost use Rattle.liquid_meaning.specs.ProjectedRuns.{ProjectedRun, SameSight};
 ghost use Rattle.liquid_meaning.specs.Reads.{AllRespect, NamesCover, ReadsAlone};
-ghost use Rattle.liquid_meaning.specs.Skipping.{ListWithAllItems, ListWithoutItems, MapWithAllKeys, MapWithSomeKeys, PutAtSameKey, PutInBoth, PutInOne};
 ghost use Rattle.liquid_meaning.specs.Laws.{AssignedInLoop, AssignedStay, ForloopCountsItems, KindsOfOwnRuns, KindsOfRuns, KindsWithHost, TextIsItself};
 
 /// The laws of isolation: a run depends on the names that its template or a partial mentions, and leaves all others alone.
@@ -48,18 +47,6 @@ pub fn reading_laws()
     ensures all { AllRespect }
     ensures known { KnownRespected }
     ensures names { NamesCover }
-    ensures projected { ProjectedAlike }
     ensures projected_run { ProjectedRun }
     ensures same_sight { SameSight }
-{}
-
-/// Laws for a reader of data that skips what nobody asks for: what it keeps of maps and of lists is alike with all of them.
-pub fn skipping_laws()
-    ensures both { PutInBoth }
-    ensures one { PutInOne }
-    ensures same_key { PutAtSameKey }
-    ensures all_keys { MapWithAllKeys }
-    ensures some_keys { MapWithSomeKeys }
-    ensures all_items { ListWithAllItems }
-    ensures no_items { ListWithoutItems }
 {}

@@ -4,5 +4,5 @@
 mod laws;
 mod worked;
 
-pub use laws::{isolation_laws, loop_laws, reading_laws, run_laws, skipping_laws};
+pub use laws::{isolation_laws, loop_laws, reading_laws, run_laws};
 pub use worked::{worked_names, worked_runs, worked_uses};

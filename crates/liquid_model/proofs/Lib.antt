@@ -1,7 +1,12 @@
+pub mod Alike
+pub mod AlikeLists
 pub mod Appending
 pub mod Compares
 pub mod Lawful
 pub mod Maps
+pub mod Projected
 pub mod Sizes
+pub mod Skipping
+pub mod UseViews
 pub mod Utf8
 pub mod Views

@@ -1,9 +1,10 @@
 -- What was put at a key is found there, and the other keys keep theirs.
-use Rattle.std.proofs.Common.{◌≡◌, ℕ, List, Ordering, Less, Equal, Greater, Bool, true, false, Some, bytes_eq, is_eq, cond, nat_cmp, refl, sym, ap, ◌∙◌}
+use Rattle.std.proofs.Common.{◌≡◌, ℕ, List, Ordering, Less, Equal, Greater, Bool, true, false, Some, bytes_eq, is_eq, cond, T, nat_cmp, refl, sym, ap, ◌∙◌}
 use Rattle.std.proofs.lemmas.Map.Text.{is_eq-slice_cmp}
 use Rattle.std.proofs.lemmas.Slice.Eq.{bytes_eq-Decides}
-use Rattle.std.specs.Cmp.Lexicographic.{slice_cmp}
+use Rattle.std.specs.Cmp.Lexicographic.{slice_cmp, bytes_decides}
 use Rattle.std.specs.Ordering.{match_ordering}
+use Rattle.liquid_model.specs.Texts.{Text, same_text}
 use Rattle.liquid_model.specs.Data.{Datum, Pairs, no_pairs, pair, put}
 use Rattle.liquid_model.specs.Find.{value_at}
 
@@ -39,3 +40,10 @@ at_put_other Greater q k l d e ms is other later = ap (cond (bytes_eq q l) (Some
 pub value_at_put_other : (q k : List ℕ) (d : Datum) (ms : Pairs) → (q ≡ k → ⊥) → value_at q (put k d ms) ≡ value_at q ms
 value_at_put_other q k d no_pairs other = rw (other_key q k other) refl
 value_at_put_other q k d (pair l e ms) other = at_put_other _ q k l d e ms refl other (value_at_put_other q k d ms other)
+
+pub same_text_equal : (s t : Text) → T (same_text s t) → s ≡ t
+same_text_equal s t h = (bytes_decides s t).0 (is_true _ h)
+  where
+    is_true : (b : Bool) → T b → b ≡ true
+    is_true true k = refl
+    is_true false k = absurd k

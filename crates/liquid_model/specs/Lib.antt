@@ -14,6 +14,10 @@ pub mod Lists
 pub mod Maps
 pub mod Order
 pub mod OrderLaws
+pub mod Projected
+pub mod Skipping
 pub mod Texts
+pub mod UseViews
+pub mod Uses
 pub mod View
 pub mod Whole

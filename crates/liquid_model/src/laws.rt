@@ -1,5 +1,10 @@
 //! Laws of values and of finding along a path: each function's contract is the law.
 ghost use Rattle.liquid_model.specs.Laws.{EqualityIsAnEquivalence, EqualValuesHashAlike, OrderIsTotal, KindsAreRanked, ScalarsAreOrdered, FirstUnequalPlaceDecides, MapsGoPairByPair, ComparePairByPair, CompareAgreesWithEquality, CompareWithoutAnswer, CompareByFirstUnequalPlace, ListTextIsItemTexts, NumberTextIsRead, FindGoesOn, ScalarsAloneFind, ItemsByIndex, TextsIndexToo, ItemsByName, OwnKeysWin, PutIsFound};
+ghost use Rattle.liquid_model.specs.Projected.{ProjectedAlike};
+ghost use Rattle.liquid_model.specs.Uses.{IncludedAlike, JoinedAlike};
+ghost use Rattle.liquid_model.specs.Skipping.{ListWithAllItems, ListWithoutItems};
+ghost use Rattle.liquid_model.specs.Skipping.{MapWithAllKeys, MapWithSomeKeys};
+ghost use Rattle.liquid_model.specs.Skipping.{PutAtSameKey, PutInBoth, PutInOne};
 
 /// Equality of values is an equivalence.
 pub fn equality_is_an_equivalence()
@@ -99,4 +104,24 @@ pub fn own_keys_win()
 /// What was put at a key of a map is found there, and the other keys keep their values.
 pub fn put_is_found()
     ensures { PutIsFound }
+{}
+
+/// Laws of uses: what is alike in a use is alike in each that it includes, and what is alike in two
+/// together in both; and a value is alike with what is left of it.
+pub fn use_laws()
+    ensures included { IncludedAlike }
+    ensures joined { JoinedAlike }
+    ensures projected { ProjectedAlike }
+{}
+
+/// Laws for a reader of data that skips what nobody asks for: what it keeps of maps and of lists is
+/// alike with all of them.
+pub fn skipping_laws()
+    ensures both { PutInBoth }
+    ensures one { PutInOne }
+    ensures same_key { PutAtSameKey }
+    ensures all_keys { MapWithAllKeys }
+    ensures some_keys { MapWithSomeKeys }
+    ensures all_items { ListWithAllItems }
+    ensures no_items { ListWithoutItems }
 {}

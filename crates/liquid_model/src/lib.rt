@@ -12,6 +12,7 @@ mod location;
 mod object;
 mod order;
 mod text;
+mod uses;
 mod value;
 mod whole;
 
@@ -22,5 +23,6 @@ pub use find::Found;
 pub use location::{Location, Origin};
 pub use object::{look_up, store};
 pub use text::write_text;
+pub use uses::{Use, Uses, member_of};
 pub use value::{Object, Value, copy_items};
 pub use whole::whole_of;

@@ -11,7 +11,7 @@ use Rattle.liquid_model.specs.Maps.{Map, listed}
 use Rattle.liquid_tree.specs.Tree.{Nodes}
 use Rattle.liquid_language.specs.Entries.{put, without}
 use Rattle.liquid_syntax.proofs.Held.{apart}
-use Rattle.liquid_meaning.proofs.Maps.{same_text_equal}
+use Rattle.liquid_model.proofs.Maps.{same_text_equal}
 use Rattle.liquid_lib.specs.Pages.{Shown, page_over}
 use Rattle.liquid_sites.specs.Contents.{Trees, Contents, page_of, all_pages, pages_from_scratch, mentions}
 use Rattle.liquid_sites.specs.Steps.{Step, set_page, remove_page, set_partial, remove_partial, set_value, remove_value, with_fact, no_contents, stepped, refreshed, KeptIsFromScratch, all_stepped, all_kept, PagesKept}

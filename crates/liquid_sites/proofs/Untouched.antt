@@ -8,7 +8,8 @@ use Rattle.liquid_core.specs.Environment.{Names, cut_map}
 use Rattle.liquid_tree.specs.Tree.{Nodes}
 use Rattle.liquid_tree.specs.Names.{run_names, mentioned}
 use Rattle.liquid_meaning.specs.Isolation.{Agree}
-use Rattle.liquid_meaning.proofs.Maps.{AgreeAt, same_cut, same_text_equal}
+use Rattle.liquid_meaning.proofs.Maps.{AgreeAt, same_cut}
+use Rattle.liquid_model.proofs.Maps.{same_text_equal}
 use Rattle.liquid_meaning.proofs.Changes.{agreeing_runs}
 use Rattle.liquid_lib.specs.Pages.{fault_of, fresh, setting_over, page_over}
 use Rattle.liquid_sites.specs.Contents.{Trees}

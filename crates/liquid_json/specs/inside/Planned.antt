@@ -3,9 +3,9 @@ use Rattle.std.specs.Prelude.{◌≡◌, ℕ, List, length, Some}
 use Rattle.json.specs.Token.{Token}
 use Rattle.liquid_model.specs.Data.{Datum, Items, Pairs, no_pairs}
 use Rattle.liquid_model.specs.Lists.{list_of}
-use Rattle.liquid_meaning.specs.Uses.{Use, Fields, uncounted, Alike, Pairwise}
-use Rattle.liquid_meaning.specs.Projected.{pairs_wanted}
-use Rattle.liquid_meaning.specs.Skipping.{AlikeKeys}
+use Rattle.liquid_model.specs.Uses.{Use, Fields, uncounted, Alike, Pairwise}
+use Rattle.liquid_model.specs.Projected.{pairs_wanted}
+use Rattle.liquid_model.specs.Skipping.{AlikeKeys}
 use Rattle.liquid_json.specs.inside.Tokens.{datum_at, items_at, pairs_at}
 
 -- d is alike with the value that stands in front of the rest

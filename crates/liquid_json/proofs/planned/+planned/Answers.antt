@@ -1,4 +1,4 @@
-use Rattle.std.proofs.Common.{nat_eq, true, [], slice_get, Vec, String, Global, ◌≡◌, ◌-◌, ◌<◌, ◌∷◌, List, length, Some, None, option_map, string_bytes, w64, refl, sym, ap, ◌∙◌, arith, rules}
+use Rattle.std.proofs.Common.{true, ◌≡◌, ◌-◌, ◌<◌, ◌∷◌, List, length, Some, None, option_map, string_bytes, w64, refl, sym, ap, ◌∙◌, arith, rules}
 use mathlib.Core.Path.{subst}
 use mir.Val.{to_z, of_z}
 use Rattle.json.specs.Token.{Token}
@@ -9,61 +9,44 @@ use Rattle.serde_json.specs.Read.{converted}
 use Rattle.liquid_model.specs.Data.{Datum, truth, nil, number, text, array, object, no_pairs, item, no_items, Items, Pairs, put}
 use Rattle.liquid_model.specs.View.{view, items_view, pairs_view}
 use Rattle.liquid_model.specs.declared.value.Value.{Text, Integer, Bool, Nil, Array, Object, the_lemmas}
-use Rattle.liquid_json.specs.declared.plan.Plan.{Plan, Parts}
-use Rattle.liquid_json.specs.declared.plan.Plan as plans
-use Rattle.std.specs.Option.{unwrap_or}
 use Rattle.liquid_model.specs.Find.{value_at}
-use Rattle.liquid_meaning.specs.Skipping.{AlikeKeys}
+use Rattle.liquid_model.specs.Skipping.{AlikeKeys}
 use Rattle.liquid_json.specs.inside.Planned.{IsPlanned}
+use Rattle.liquid_model.proofs.UseViews.{view-Parts}
 use Rattle.liquid_model.proofs.Views.{view-Array, view-Object, pairs_view-insert_entry}
-use Rattle.liquid_meaning.specs.Uses.{Use, parts, uncounted, every, Alike, use_in}
-use Rattle.liquid_meaning.specs.Projected.{pairs_wanted}
-use Rattle.liquid_meaning.proofs.Uses.{alike_same, alike_equal}
-use Rattle.liquid_meaning.proofs.Skipping.{put_in_both, put_in_one}
-use Rattle.liquid_json.specs.Plans.{plan_view, members_view, turns_view, plain}
+use Rattle.liquid_model.specs.Uses.{Use, parts, uncounted, every, Alike, use_in}
+use Rattle.liquid_model.specs.Projected.{pairs_wanted}
+use Rattle.liquid_model.proofs.Alike.{alike_same, alike_equal, AlikeLists}
+use Rattle.liquid_model.proofs.Skipping.{put_in_both, put_in_one}
+use Rattle.liquid_model.specs.UseViews.{use_view, members_view, turns_view}
+use Rattle.liquid_json.specs.PlainUses.{plain}
 use Rattle.liquid_json.specs.inside.Tokens.{datum_of, pairs_of, items_at}
-use Rattle.liquid_meaning.proofs.Seen.{AlikeLists}
 use Rattle.liquid_model.specs.Lists.{list_of}
 use Rattle.liquid_json.proofs.After.{after, after_none, after_next}
 use Rattle.liquid_json.proofs.Turns.{converted-array, converted-object, item_read, items_over, pair_read, pairs_over}
-use Rattle.liquid_json.proofs.PlainPlans.{list_planned, list_skipped, map_planned, seen, unseen, plain_in}
+use Rattle.liquid_json.proofs.PlainUses.{list_read, list_skipped, map_read, seen, unseen, plain_in}
 use Rattle.liquid_json.proofs.planned.+planned.Goals as goal
-
-no_turn : (ps : List Plan) → slice_get ps 0 ≡ None → turns_view ps ≡ uncounted
-no_turn [] h = refl
-no_turn (p ∷ ps) h = absurd cc
-
-first_turn : (ps : List Plan) (p : Plan) → slice_get ps 0 ≡ Some p → turns_view ps ≡ every (plan_view p)
-first_turn [] p h = absurd cc
-first_turn (q ∷ ps) p h = ap (λ o. every (plan_view (unwrap_or o q))) h
-
-empty_turn : (ps : List Plan) → nat_eq (length ps) 0 ≡ true → turns_view ps ≡ uncounted
-empty_turn [] h = refl
-empty_turn (p ∷ ps) h = absurd (search rules)
-
-view-Parts : (is : Vec Plan Global) (ms : Vec (String Global × Plan) Global) → plan_view (Parts is ms) ≡ parts (members_view ms.items) (turns_view is.items)
-view-Parts is ms = search (rules, plans.the_lemmas)
 
 pub read_parts-returns-in_ok-from_str-in-String-clause-ok : goal.read_parts-returns-in_ok-from_str-in-String-clause-ok
 read_parts-returns-in_ok-from_str-in-String-clause-ok t c =
     let first : c.args.reader.now ≡ token_of c.in_ok-token.token ∷ c.next.new.self = grind arith in
     let is : c.args.reader.now ≡ Token.string c.in-String.text.now ∷ c.next.new.self = grind (arith, first) in
     let seen : view (Text c.in_ok-from_str-in-String.field-0) ≡ text c.in-String.text.now = search (rules, the_lemmas) in
-    (text c.in-String.text.now, ap (converted datum_of) (ap (value c.args.depth) is ∙ value_is c.args.depth _), alike_equal (parts (members_view c.args.members.now) (turns_view c.args.items.now)) _ _ (ap Some (sym seen)))
+    (text c.in-String.text.now, ap (converted datum_of) (ap (value c.args.depth) is ∙ value_is c.args.depth _), alike_equal (parts (members_view c.args.members.now.entries) (turns_view c.args.items.now)) _ _ (ap Some (sym seen)))
 
 pub read_parts-returns-in-Bool-clause-ok : goal.read_parts-returns-in-Bool-clause-ok
 read_parts-returns-in-Bool-clause-ok t c =
     let first : c.args.reader.now ≡ token_of c.in_ok-token.token ∷ c.next.new.self = grind arith in
     let is : c.args.reader.now ≡ Token.boolean c.in-Bool.b ∷ c.next.new.self = grind (arith, first) in
     let seen : view (Bool c.in-Bool.b) ≡ truth c.in-Bool.b = search (rules, the_lemmas) in
-    (truth c.in-Bool.b, ap (converted datum_of) (ap (value c.args.depth) is ∙ value_is c.args.depth _), alike_equal (parts (members_view c.args.members.now) (turns_view c.args.items.now)) _ _ (ap Some (sym seen)))
+    (truth c.in-Bool.b, ap (converted datum_of) (ap (value c.args.depth) is ∙ value_is c.args.depth _), alike_equal (parts (members_view c.args.members.now.entries) (turns_view c.args.items.now)) _ _ (ap Some (sym seen)))
 
 pub read_parts-returns-in-Null-clause-ok : goal.read_parts-returns-in-Null-clause-ok
 read_parts-returns-in-Null-clause-ok t c =
     let first : c.args.reader.now ≡ token_of c.in_ok-token.token ∷ c.next.new.self = grind arith in
     let is : c.args.reader.now ≡ Token.null ∷ c.next.new.self = grind (arith, first) in
     let seen : view Nil ≡ nil = search (rules, the_lemmas) in
-    (nil, ap (converted datum_of) (ap (value c.args.depth) is ∙ value_is c.args.depth _), alike_equal (parts (members_view c.args.members.now) (turns_view c.args.items.now)) _ _ (ap Some (sym seen)))
+    (nil, ap (converted datum_of) (ap (value c.args.depth) is ∙ value_is c.args.depth _), alike_equal (parts (members_view c.args.members.now.entries) (turns_view c.args.items.now)) _ _ (ap Some (sym seen)))
 
 pub read_parts-returns-in-Some-clause-ok : goal.read_parts-returns-in-Some-clause-ok
 read_parts-returns-in-Some-clause-ok t c =
@@ -75,63 +58,62 @@ read_parts-returns-in-Some-clause-ok t c =
       number c.in-Some.n,
       ap (converted datum_of) (ap (value c.args.depth) is ∙ value_is c.args.depth _)
           ∙ ap (λ o. option_map (λ b. (b, c.next.new.self)) (option_map number o)) c.in-Some.ensures,
-      alike_equal (parts (members_view c.args.members.now) (turns_view c.args.items.now)) _ _ (ap Some (sym (seen ∙ ap number same))),
+      alike_equal (parts (members_view c.args.members.now.entries) (turns_view c.args.items.now)) _ _ (ap Some (sym (seen ∙ ap number same))),
     )
 
-pub read_parts-returns-in_ok-skip_items-in-None-first-clause-ok : goal.read_parts-returns-in_ok-skip_items-in-None-first-clause-ok
-read_parts-returns-in_ok-skip_items-in-None-first-clause-ok t c =
+pub read_parts-returns-in_ok-skip_items-in-None-items-clause-ok : goal.read_parts-returns-in_ok-skip_items-in-None-items-clause-ok
+read_parts-returns-in_ok-skip_items-in-None-items-clause-ok t c =
     let first : c.args.reader.now ≡ token_of c.in_ok-token.token ∷ c.next.new.self = grind arith in
     let opened = ap (converted datum_of) (ap (value c.args.depth) (first ∙ ap (λ k. token_of k ∷ c.next.new.self) c.in-BeginArray.is) ∙ value-begin_array c.args.depth c.next.new.self (omega arith)) ∙ converted-array (items (value (c.args.depth - 1)) (length c.next.new.self) c.next.new.self) in
-    let M = members_view c.args.members.now in
-    let none : slice_get c.args.items.now 0 ≡ None = search rules in
-    let found = c.in_ok-skip_items-in-None-first.ensures.ok in (
+    let M = members_view c.args.members.now.entries in
+    let found = c.in_ok-skip_items-in-None-items.ensures.ok in (
       array found.0,
       opened ∙ ap (parse_map array) found.1,
-      subst (λ u. Alike (parts M u) (Some (array found.0)) (Some (view (Array c.new.result)))) (sym (no_turn c.args.items.now none))
+      subst (λ u. Alike (parts M u) (Some (array found.0)) (Some (view (Array c.new.result)))) (sym (ap turns_view c.in-None-items.is))
           (subst (λ d. Alike (parts M uncounted) (Some (array found.0)) (Some d)) (sym (view-Array c.new.result ∙ ap (λ vs. array (items_view vs)) c.new.ensures.items)) (list_skipped M found.0 c.requires.plain_members)),
     )
 
-pub read_parts-returns-in_ok-planned_items-in-Some-first-clause-ok : goal.read_parts-returns-in_ok-planned_items-in-Some-first-clause-ok
-read_parts-returns-in_ok-planned_items-in-Some-first-clause-ok t c =
+pub read_parts-returns-in_ok-planned_items-in-Some-items-clause-ok : goal.read_parts-returns-in_ok-planned_items-in-Some-items-clause-ok
+read_parts-returns-in_ok-planned_items-in-Some-items-clause-ok t c =
     let first : c.args.reader.now ≡ token_of c.in_ok-token.token ∷ c.next.new.self = grind arith in
     let opened = ap (converted datum_of) (ap (value c.args.depth) (first ∙ ap (λ k. token_of k ∷ c.next.new.self) c.in-BeginArray.is) ∙ value-begin_array c.args.depth c.next.new.self (omega arith)) ∙ converted-array (items (value (c.args.depth - 1)) (length c.next.new.self) c.next.new.self) in
-    let M = members_view c.args.members.now in
-    let some : slice_get c.args.items.now 0 ≡ Some c.in-Some-first.plan.now = search rules in
-    let built = c.in_ok-planned_items-in-Some-first in
+    let M = members_view c.args.members.now.entries in
+    let same : c.deref.result.now ≡ c.in-Some-items.asked.value = search rules in
+    let u = use_view c.deref.result.now in
+    let built = c.in_ok-planned_items-in-Some-items in
     let found = built.ensures.ok in (
       array found.0,
       opened ∙ ap (parse_map array) found.1,
-      subst (λ u. Alike (parts M u) (Some (array found.0)) (Some (view (Array built.field-0)))) (sym (first_turn c.args.items.now c.in-Some-first.plan.now some))
-          (subst (λ d. Alike (parts M (every (plan_view c.in-Some-first.plan.now))) (Some (array found.0)) (Some d)) (sym (view-Array built.field-0))
-          (list_planned M (plan_view c.in-Some-first.plan.now) found.0 (items_view built.field-0.items) c.requires.plain_members found.2)),
+      subst (λ u. Alike (parts M u) (Some (array found.0)) (Some (view (Array built.field-0)))) (sym (ap turns_view c.in-Some-items.is ∙ ap (λ x. every (use_view x)) (sym same)))
+          (subst (λ d. Alike (parts M (every u)) (Some (array found.0)) (Some d)) (sym (view-Array built.field-0))
+          (list_read M u found.0 (items_view built.field-0.items) c.requires.plain_members found.2)),
     )
 
-pub read_parts-returns-in_ok-planned_pairs-in-BeginObject-clause-ok : goal.read_parts-returns-in_ok-planned_pairs-in-BeginObject-clause-ok
-read_parts-returns-in_ok-planned_pairs-in-BeginObject-clause-ok t c =
+pub read_parts-returns-in_ok-planned_pairs-in-None-items-2-clause-ok : goal.read_parts-returns-in_ok-planned_pairs-in-None-items-2-clause-ok
+read_parts-returns-in_ok-planned_pairs-in-None-items-2-clause-ok t c =
     let first : c.args.reader.now ≡ token_of c.in_ok-token.token ∷ c.next.new.self = grind arith in
     let opened = ap (converted datum_of) (ap (value c.args.depth) (first ∙ ap (λ k. token_of k ∷ c.next.new.self) c.in-BeginObject.is) ∙ value-begin_object c.args.depth c.next.new.self (omega arith)) ∙ converted-object (members (value (c.args.depth - 1)) (length c.next.new.self) c.next.new.self) in
-    let M = members_view c.args.members.now in
-    let none : nat_eq (length c.args.items.now) 0 ≡ true = search rules in
-    let built = c.in_ok-planned_pairs-in-BeginObject in
+    let M = members_view c.args.members.now.entries in
+    let built = c.in_ok-planned_pairs-in-None-items-2 in
     let found = built.ensures.ok in (
       object found.0,
       opened ∙ ap (parse_map object) found.1,
-      subst (λ u. Alike (parts M u) (Some (object found.0)) (Some (view (Object built.field-0)))) (sym (empty_turn c.args.items.now none))
-          (subst (λ d. Alike (parts M uncounted) (Some (object found.0)) (Some d)) (sym (view-Object built.field-0)) (map_planned M found.0 (pairs_view built.field-0.entries) c.requires.plain_members found.2)),
+      subst (λ u. Alike (parts M u) (Some (object found.0)) (Some (view (Object built.field-0)))) (sym (ap turns_view c.in-None-items-2.is))
+          (subst (λ d. Alike (parts M uncounted) (Some (object found.0)) (Some d)) (sym (view-Object built.field-0)) (map_read M found.0 (pairs_view built.field-0.entries) c.requires.plain_members found.2)),
     )
 
-pub read_parts-returns-in_ok-read_pairs-in-BeginObject-clause-ok : goal.read_parts-returns-in_ok-read_pairs-in-BeginObject-clause-ok
-read_parts-returns-in_ok-read_pairs-in-BeginObject-clause-ok t c =
+pub read_parts-returns-in_ok-read_pairs-in-Some-items-2-clause-ok : goal.read_parts-returns-in_ok-read_pairs-in-Some-items-2-clause-ok
+read_parts-returns-in_ok-read_pairs-in-Some-items-2-clause-ok t c =
     let first : c.args.reader.now ≡ token_of c.in_ok-token.token ∷ c.next.new.self = grind arith in
     let opened = ap (converted datum_of) (ap (value c.args.depth) (first ∙ ap (λ k. token_of k ∷ c.next.new.self) c.in-BeginObject.is) ∙ value-begin_object c.args.depth c.next.new.self (omega arith)) ∙ converted-object (members (value (c.args.depth - 1)) (length c.next.new.self) c.next.new.self) in
-    let found = c.in_ok-read_pairs-in-BeginObject in
-    (object (pairs_view found.field-0.entries), opened ∙ ap (parse_map object) found.ensures.ok, alike_equal (parts (members_view c.args.members.now) (turns_view c.args.items.now)) _ _ (ap Some (sym (view-Object found.field-0))))
+    let found = c.in_ok-read_pairs-in-Some-items-2 in
+    (object (pairs_view found.field-0.entries), opened ∙ ap (parse_map object) found.ensures.ok, alike_equal (parts (members_view c.args.members.now.entries) (turns_view c.args.items.now)) _ _ (ap Some (sym (view-Object found.field-0))))
 
 pub planned_items-items-init : goal.planned_items-items-init
 planned_items-items-init t c = (
   length c.args.reader.now,
   omega arith,
-  (λ cs ds r e a. (cs, e, subst (λ xs. AlikeLists (plan_view c.args.plan.now) (list_of cs) (list_of (after xs ds))) (sym c.new-found.ensures.items) a)),
+  (λ cs ds r e a. (cs, e, subst (λ xs. AlikeLists (use_view c.args.asked.now) (list_of cs) (list_of (after xs ds))) (sym c.new-found.ensures.items) a)),
   omega arith,
 )
 
@@ -150,7 +132,7 @@ planned_items-items-preserved t c =
       omega (arith, l.invariant.1),
       (λ cs ds s e a.
           let before = l.invariant.2 (item done.ok.0 cs) (item (view v) ds) s (turn ∙ ap (parse_map (item done.ok.0)) e) (done.ok.2, a) in
-          (before.0, before.1, subst (λ xs. AlikeLists (plan_view c.args.plan.now) (list_of before.0) (list_of xs)) (after_next l.found.items v ds ∙ ap (λ vs. after vs ds) (sym c.in_ok-push.ensures.items)) before.2)),
+          (before.0, before.1, subst (λ xs. AlikeLists (use_view c.args.asked.now) (list_of before.0) (list_of xs)) (after_next l.found.items v ds ∙ ap (λ vs. after vs ds) (sym c.in_ok-push.ensures.items)) before.2)),
       omega (arith, l.invariant.3),
     )
 
@@ -161,21 +143,21 @@ planned_items-returns-clause-ok t c =
     let n = l.invariant.0 in
     let r = c.take_end_array.new.self in
     let all = l.invariant.2 no_items no_items r (items_over p n l.reader r l.invariant.1 (grind arith)) tt in
-    (all.0, all.1, subst (λ xs. AlikeLists (plan_view c.args.plan.now) (list_of all.0) (list_of xs)) (after_none l.found.items) all.2)
+    (all.0, all.1, subst (λ xs. AlikeLists (use_view c.args.asked.now) (list_of all.0) (list_of xs)) (after_none l.found.items) all.2)
 
 pub planned_pairs-pairs-init : goal.planned_pairs-pairs-init
-planned_pairs-pairs-init t c = (length c.args.reader.now, omega arith, (no_pairs, refl, (λ key. alike_equal (pairs_wanted (members_view c.args.members.now) uncounted key) None _ (ap (λ es. value_at key (pairs_view es)) (sym c.new-found.ensures.empty)))), omega arith)
+planned_pairs-pairs-init t c = (length c.args.reader.now, omega arith, (no_pairs, refl, (λ key. alike_equal (pairs_wanted (members_view c.args.members.now.entries) uncounted key) None _ (ap (λ es. value_at key (pairs_view es)) (sym c.new-found.ensures.empty)))), omega arith)
 
 pub planned_pairs-read_planned-requires : goal.planned_pairs-read_planned-requires
 planned_pairs-read_planned-requires t c =
-    (omega arith, subst (λ u. plain u ≡ true) c.in-Some-member_of.ensures (plain_in (members_view c.args.members.now) c.in-Some.name.now c.requires.plain))
+    (omega arith, subst (λ u. plain u ≡ true) c.in-Some-member_of.ensures (plain_in (members_view c.args.members.now.entries) c.in-Some.name.now c.requires.plain))
 
 pub planned_pairs-pairs-preserved-in-Some-member_of : goal.planned_pairs-pairs-preserved-in-Some-member_of
 planned_pairs-pairs-preserved-in-Some-member_of t c =
     let p = value c.args.depth in
     let l = c.pairs in
     let n = l.invariant.0 in
-    let M = members_view c.args.members.now in
+    let M = members_view c.args.members.now.entries in
     let now = l.invariant.2 in
     let k = c.in-Some.name.now in
     let s = c.next_key.new.self in
@@ -205,7 +187,7 @@ planned_pairs-pairs-preserved t c =
     let p = value c.args.depth in
     let l = c.pairs in
     let n = l.invariant.0 in
-    let M = members_view c.args.members.now in
+    let M = members_view c.args.members.now.entries in
     let now = l.invariant.2 in
     let k = c.in-Some.name.now in
     let s = c.next_key.new.self in
@@ -234,8 +216,6 @@ planned_pairs-returns-clause-ok t c =
 
 pub read_planned-returns-in_ok-value-in-Parts-clause-ok : goal.read_planned-returns-in_ok-value-in-Parts-clause-ok
 read_planned-returns-in_ok-value-in-Parts-clause-ok t c =
-    let members_same : c.deref-in-Parts.result.now ≡ c.in-Parts.members.items = search rules in
-    let items_same : c.deref.result.now ≡ c.in-Parts.items.items = search rules in
-    let same : plan_view c.args.plan.now ≡ parts (members_view c.deref-in-Parts.result.now) (turns_view c.deref.result.now) =
-    ap plan_view c.in-Parts.is ∙ view-Parts c.in-Parts.items c.in-Parts.members ∙ (λ i. parts (members_view (sym members_same i)) (turns_view (sym items_same i))) in
+    let same : use_view c.args.asked.now ≡ parts (members_view c.in-Parts.members.entries) (turns_view c.in-Parts.items) =
+    ap use_view c.in-Parts.is ∙ view-Parts c.in-Parts.members c.in-Parts.items in
     subst (λ u. IsPlanned u c.args.depth c.args.reader.now (view c.in_ok-value-in-Parts.value) c.read_parts.new.reader) (sym same) c.in_ok-value-in-Parts.ensures.ok

@@ -3,11 +3,11 @@ use Rattle.json.specs.Token.{Token}
 use Rattle.liquid_model.specs.Data.{Items, Pairs, no_pairs}
 use Rattle.liquid_model.specs.Lists.{list_of}
 use Rattle.liquid_model.specs.View.{pairs_view}
-use Rattle.liquid_meaning.specs.Uses.{Alike, Pairwise, uncounted}
-use Rattle.liquid_meaning.specs.Projected.{pairs_wanted}
-use Rattle.liquid_meaning.specs.Skipping.{AlikeKeys}
-use Rattle.liquid_meaning.proofs.Seen.{AlikeLists}
-use Rattle.liquid_json.specs.Plans.{plan_view, members_view}
+use Rattle.liquid_model.specs.Uses.{Alike, Pairwise, uncounted}
+use Rattle.liquid_model.specs.Projected.{pairs_wanted}
+use Rattle.liquid_model.specs.Skipping.{AlikeKeys}
+use Rattle.liquid_model.proofs.Alike.{AlikeLists}
+use Rattle.liquid_model.specs.UseViews.{use_view, members_view}
 use Rattle.liquid_json.specs.inside.Tokens.{items_at, pairs_at}
 use Rattle.liquid_json.proofs.After.{after}
 use Rattle.liquid_json.proofs.planned.+planned.Given as goal
@@ -28,8 +28,8 @@ decreases-planned_pairs l = 3 * l.depth + 2
 abbrev pub invariant-planned_items-items : goal.invariant-planned_items-items
 invariant-planned_items-items l =
     (n : ℕ) × (length l.reader ≤ n)
-    × ((cs ds : Items) (r : List Token) → items_at l.depth n l.reader ≡ Some (cs, r) → AlikeLists (plan_view l.plan) (list_of cs) (list_of ds)
-    → (all : Items) × (items_at l.depth (length l.initial.reader) l.initial.reader ≡ Some (all, r)) × AlikeLists (plan_view l.plan) (list_of all) (list_of (after l.found.items ds)))
+    × ((cs ds : Items) (r : List Token) → items_at l.depth n l.reader ≡ Some (cs, r) → AlikeLists (use_view l.asked) (list_of cs) (list_of ds)
+    → (all : Items) × (items_at l.depth (length l.initial.reader) l.initial.reader ≡ Some (all, r)) × AlikeLists (use_view l.asked) (list_of all) (list_of (after l.found.items ds)))
     × (length l.reader ≤ length l.initial.reader)
 
 abbrev pub decreases-planned_items-items : goal.decreases-planned_items-items
@@ -38,7 +38,7 @@ decreases-planned_items-items l = length l.reader
 abbrev pub invariant-planned_pairs-pairs : goal.invariant-planned_pairs-pairs
 invariant-planned_pairs-pairs l =
     (n : ℕ) × (length l.reader ≤ n)
-    × ((now : Pairs) × (pairs_at l.depth no_pairs (length l.initial.reader) l.initial.reader ≡ pairs_at l.depth now n l.reader) × AlikeKeys (pairs_wanted (members_view l.members) uncounted) now (pairs_view l.found.entries))
+    × ((now : Pairs) × (pairs_at l.depth no_pairs (length l.initial.reader) l.initial.reader ≡ pairs_at l.depth now n l.reader) × AlikeKeys (pairs_wanted (members_view l.members.entries) uncounted) now (pairs_view l.found.entries))
     × (length l.reader ≤ length l.initial.reader)
 
 abbrev pub decreases-planned_pairs-pairs : goal.decreases-planned_pairs-pairs

@@ -1,6 +1,6 @@
 use Rattle.liquid_meaning.proofs.laws.reading_laws.Goals as goal
 use Rattle.liquid_meaning.proofs.Reading.{reads_alone}
-use Rattle.liquid_meaning.proofs.Projected.{projected_alike, projected_run, same_sight}
+use Rattle.liquid_meaning.proofs.ProjectedRuns.{projected_run, same_sight}
 use Rattle.liquid_meaning.proofs.FilterNeeds.{known_respected}
 use Rattle.liquid_meaning.proofs.Covering.{all_respect, names_cover}
 
@@ -12,9 +12,6 @@ returns-clause-all c = all_respect
 
 pub returns-clause-names : goal.returns-clause-names
 returns-clause-names c = names_cover
-
-pub returns-clause-projected : goal.returns-clause-projected
-returns-clause-projected c = projected_alike
 
 pub returns-clause-projected_run : goal.returns-clause-projected_run
 returns-clause-projected_run c = projected_run

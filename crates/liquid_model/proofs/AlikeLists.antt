@@ -8,9 +8,8 @@ use Rattle.liquid_model.specs.Digest.{items_len}
 use Rattle.liquid_model.specs.Find.{counted, item_at, item_back, item_from, item_step}
 use Rattle.liquid_model.specs.Lists.{list_of}
 use Rattle.liquid_model.specs.Whole.{whole_text}
-use Rattle.liquid_meaning.specs.Uses.{Use, nothing, everything, parts, Fields, no_fields, field, ItemUse, uncounted, every, member, Alike, AlikeFields, AlikeItems, use_of_each, join, is_place, of_places, items_wanted}
-use Rattle.liquid_meaning.proofs.Uses.{alike_same, alike_equal, join_left, join_right, pairwise_more}
-use Rattle.liquid_meaning.proofs.Seen.{AlikeLists, pairwise_length}
+use Rattle.liquid_model.specs.Uses.{Use, nothing, everything, parts, Fields, no_fields, field, ItemUse, uncounted, every, member, Alike, AlikeFields, AlikeItems, use_of_each, join, is_place, of_places, items_wanted}
+use Rattle.liquid_model.proofs.Alike.{alike_same, alike_equal, join_left, join_right, pairwise_more, AlikeLists, pairwise_length}
 
 pub list_lengths : (ds : Items) → length (list_of ds) ≡ items_len ds
 list_lengths no_items = refl

@@ -1,5 +1,5 @@
-use Rattle.liquid_meaning.proofs.laws.skipping_laws.Goals as goal
-use Rattle.liquid_meaning.proofs.Skipping.{put_in_both, put_in_one, put_at_same_key, map_with_all_keys, map_with_some_keys, list_with_all_items, list_without_items}
+use Rattle.liquid_model.proofs.laws.skipping_laws.Goals as goal
+use Rattle.liquid_model.proofs.Skipping.{put_in_both, put_in_one, put_at_same_key, map_with_all_keys, map_with_some_keys, list_with_all_items, list_without_items}
 
 pub returns-clause-both : goal.returns-clause-both
 returns-clause-both c = put_in_both

@@ -4,7 +4,8 @@
 --     use_at key u, use_of_items u      what u asks of a member, and of each item
 --     includes u v      u asks for all that v asks for;   join u v      all that both ask for
 --     items_wanted u      all that is asked of an item of a list of which u is asked
-use Rattle.std.specs.Prelude.{◌≡◌, Bool, true, false, cond, ◌&&◌, ◌||◌, is_some, codes, List, [], ◌∷◌, Option, Some, None}
+--     IncludedAlike, JoinedAlike      the laws of `includes` and `join`
+use Rattle.std.specs.Prelude.{◌≡◌, T, Bool, true, false, cond, ◌&&◌, ◌||◌, is_some, codes, List, [], ◌∷◌, Option, Some, None}
 use Rattle.std.specs.Option.{option_and_then}
 use Rattle.liquid_model.specs.Texts.{Text, same_text}
 use Rattle.liquid_model.specs.Data.{Datum, text, array, object, no_items, no_pairs}
@@ -51,14 +52,14 @@ abbrev pub member : Text → Option Datum → Option Datum
 member key o = option_and_then (λ d. step d (text key)) o
 
 -- the items that a loop goes over
-abbrev pub items : Datum → List Datum
-items (array ds) = list_of ds
-items (object ps) = pair_lists ps
-items _ = []
+abbrev pub loop_items : Datum → List Datum
+loop_items (array ds) = list_of ds
+loop_items (object ps) = pair_lists ps
+loop_items _ = []
 
-abbrev pub items_of : Option Datum → List Datum
-items_of None = []
-items_of (Some d) = items d
+abbrev pub loop_items_of : Option Datum → List Datum
+loop_items_of None = []
+loop_items_of (Some d) = loop_items d
 
 -- ---- alike
 
@@ -81,7 +82,7 @@ abbrev mutual
 
   pub AlikeItems : ItemUse → Option Datum → Option Datum → Type 0
   AlikeItems uncounted o p = Unit {0}
-  AlikeItems (every u) o p = Pairwise (λ d e. Alike u (Some d) (Some e)) (items_of o) (items_of p)
+  AlikeItems (every u) o p = Pairwise (λ d e. Alike u (Some d) (Some e)) (loop_items_of o) (loop_items_of p)
 
 -- ---- what a use asks for
 
@@ -177,3 +178,13 @@ abbrev pub items_wanted : Use → Use
 items_wanted nothing = nothing
 items_wanted everything = everything
 items_wanted (parts members turns) = join (use_of_each turns) (of_places members)
+
+-- ---- laws
+
+-- what is alike in a use is alike in each that it includes
+abbrev pub IncludedAlike : Type 0
+IncludedAlike = (u v : Use) (o p : Option Datum) → T (includes u v) → Alike u o p → Alike v o p
+
+-- what is alike in two uses together is alike in both
+abbrev pub JoinedAlike : Type 0
+JoinedAlike = (u v : Use) (o p : Option Datum) → Alike (join u v) o p → Alike u o p × Alike v o p

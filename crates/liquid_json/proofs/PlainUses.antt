@@ -1,17 +1,17 @@
--- Plans that name members alone, each once.
+-- Uses that name members alone, each once.
 use Rattle.std.proofs.Common.{◌≡◌, Bool, true, false, cond, not, ◌&&◌, ◌||◌, List, Option, Some, None, refl, sym, ap, ◌∙◌, codes}
 use mathlib.Core.Path.{subst}
 use Rattle.std.specs.Cmp.Lexicographic.{bytes_decides}
 use Rattle.liquid_model.specs.Texts.{Text, same_text}
 use Rattle.liquid_model.specs.Data.{Datum, array, object, Items, no_items, Pairs}
 use Rattle.liquid_model.specs.Lists.{list_of}
-use Rattle.liquid_meaning.specs.Uses.{Use, nothing, everything, parts, Fields, no_fields, field, ItemUse, uncounted, every, Alike, use_in, asks_whether, join, is_place}
-use Rattle.liquid_meaning.specs.Projected.{use_of_key, asks_length, asks_of_list, pairs_wanted}
-use Rattle.liquid_meaning.specs.Skipping.{AlikeKeys}
-use Rattle.liquid_meaning.proofs.Seen.{AlikeLists}
-use Rattle.liquid_meaning.proofs.Projected.{fields_unseen}
-use Rattle.liquid_meaning.proofs.Skipping.{map_with_some_keys, list_without_items}
-use Rattle.liquid_json.specs.Plans.{plain, plain_fields, plain_turns}
+use Rattle.liquid_model.specs.Uses.{Use, nothing, everything, parts, Fields, no_fields, field, ItemUse, uncounted, every, Alike, use_in, asks_whether, join, is_place}
+use Rattle.liquid_model.specs.Projected.{use_of_key, asks_length, asks_of_list, pairs_wanted}
+use Rattle.liquid_model.specs.Skipping.{AlikeKeys}
+use Rattle.liquid_model.proofs.Alike.{AlikeLists}
+use Rattle.liquid_model.proofs.Projected.{fields_unseen}
+use Rattle.liquid_model.proofs.Skipping.{map_with_some_keys, list_without_items}
+use Rattle.liquid_json.specs.PlainUses.{plain, plain_fields, plain_turns}
 
 pub first_true : (a b : Bool) → a && b ≡ true → a ≡ true
 first_true true b e = refl
@@ -105,11 +105,11 @@ plain_in (field k u more) key h =
     at true e f = e
     at false e f = f
 
-pub list_planned : (ms : Fields) (u : Use) (cs ds : Items) → plain_fields ms ≡ true → AlikeLists u (list_of cs) (list_of ds) → Alike (parts ms (every u)) (Some (array cs)) (Some (array ds))
-list_planned ms u cs ds h a = (refl, (fields_unseen cs ds ms (unlisted ms h), a))
+pub list_read : (ms : Fields) (u : Use) (cs ds : Items) → plain_fields ms ≡ true → AlikeLists u (list_of cs) (list_of ds) → Alike (parts ms (every u)) (Some (array cs)) (Some (array ds))
+list_read ms u cs ds h a = (refl, (fields_unseen cs ds ms (unlisted ms h), a))
 
 pub list_skipped : (ms : Fields) (cs : Items) → plain_fields ms ≡ true → Alike (parts ms uncounted) (Some (array cs)) (Some (array no_items))
 list_skipped ms cs h = list_without_items ms cs (unlisted ms h)
 
-pub map_planned : (ms : Fields) (qs ps : Pairs) → plain_fields ms ≡ true → AlikeKeys (pairs_wanted ms uncounted) qs ps → Alike (parts ms uncounted) (Some (object qs)) (Some (object ps))
-map_planned ms qs ps h a = map_with_some_keys ms uncounted qs ps (unsized ms h) a
+pub map_read : (ms : Fields) (qs ps : Pairs) → plain_fields ms ≡ true → AlikeKeys (pairs_wanted ms uncounted) qs ps → Alike (parts ms uncounted) (Some (object qs)) (Some (object ps))
+map_read ms qs ps h a = map_with_some_keys ms uncounted qs ps (unsized ms h) a

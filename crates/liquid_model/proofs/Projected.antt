@@ -9,14 +9,11 @@ use Rattle.liquid_model.specs.Digest.{items_len, pairs_len}
 use Rattle.liquid_model.specs.Find.{counted, value_at, item_at, item_back, item_step, or_size}
 use Rattle.liquid_model.specs.Lists.{list_of, pair_lists}
 use Rattle.liquid_model.specs.Whole.{whole_text}
-use Rattle.liquid_meaning.specs.Uses.{Use, nothing, everything, parts, Fields, no_fields, field, ItemUse, uncounted, every, member, Pairwise, Alike, AlikeFields, AlikeItems, asks_whether, use_of_each, has_every, join, is_place, items_wanted}
-use Rattle.liquid_meaning.specs.Projected.{use_of_key, asks_length, asks_of_list, finds_key, of_seconds, second_wanted, values_wanted, pairs_wanted, projected, projected_items, projected_pairs, ProjectedAlike, ProjectedRun, SameSight, over_data}
-use Rattle.liquid_meaning.specs.Meaning.{meaning}
-use Rattle.liquid_meaning.proofs.Uses.{alike_same, alike_equal, alike_shape, alike_empty, join_left, join_right}
-use Rattle.liquid_meaning.proofs.Lists.{array_alike, step_alike}
-use Rattle.liquid_meaning.proofs.Seen.{AlikeLists}
-use Rattle.liquid_meaning.proofs.Maps.{same_text_equal}
-use Rattle.liquid_meaning.proofs.Reading.{reads_alone}
+use Rattle.liquid_model.specs.Uses.{Use, nothing, everything, parts, Fields, no_fields, field, ItemUse, uncounted, every, member, Pairwise, Alike, AlikeFields, AlikeItems, asks_whether, use_of_each, has_every, join, is_place, items_wanted}
+use Rattle.liquid_model.specs.Projected.{use_of_key, asks_length, asks_of_list, finds_key, of_seconds, second_wanted, values_wanted, pairs_wanted, projected, projected_items, projected_pairs, ProjectedAlike}
+use Rattle.liquid_model.proofs.Alike.{alike_same, alike_equal, alike_shape, join_left, join_right, AlikeLists}
+use Rattle.liquid_model.proofs.AlikeLists.{array_alike, step_alike}
+use Rattle.liquid_model.proofs.Maps.{same_text_equal}
 
 -- ---- tests
 
@@ -255,7 +252,7 @@ mutual
   list_projected no_items u = tt
   list_projected (item d ds) u = (alike_projected d u, list_projected ds u)
 
-  pairs_projected : (ps : Pairs) (W : Text → Use) (keep : Bool) (key : Text) → Alike (W key) (value_at key ps) (value_at key (projected_pairs W keep ps))
+  pub pairs_projected : (ps : Pairs) (W : Text → Use) (keep : Bool) (key : Text) → Alike (W key) (value_at key ps) (value_at key (projected_pairs W keep ps))
   pairs_projected no_pairs W keep key = alike_same (W key) None
   pairs_projected (pair l d ps) W keep key = key_alike W keep l d ps key (alike_projected d (W l)) (pairs_projected ps W keep key)
 
@@ -270,15 +267,3 @@ mutual
 
 pub projected_alike : ProjectedAlike
 projected_alike u d = alike_projected d u
-
-pub projected_run : ProjectedRun
-projected_run needs U setting depth nodes ps respects h =
-    let r = reads_alone needs U setting depth nodes respects h (over_data ps) (over_data (projected_pairs U false ps))
-    (record { local = alike_empty U; assigned = alike_empty U; counters = alike_empty U; globals = pairs_projected ps U false; registers = refl }) in
-    (r.text, r.end)
-
-pub same_sight : SameSight
-same_sight needs U setting depth nodes ps qs respects h e =
-    let r = projected_run needs U setting depth nodes ps respects h in
-    let s = projected_run needs U setting depth nodes qs respects h in
-    (r.0 ∙ (ap (λ x. (meaning setting depth nodes (over_data x)).text) e ∙ sym s.0), r.1 ∙ (ap (λ x. (meaning setting depth nodes (over_data x)).end) e ∙ sym s.1))

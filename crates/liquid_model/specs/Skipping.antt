@@ -6,8 +6,8 @@ use Rattle.liquid_model.specs.Texts.{Text}
 use Rattle.liquid_model.specs.Data.{Datum, array, object, Items, no_items, Pairs, no_pairs, pair, put}
 use Rattle.liquid_model.specs.Find.{value_at}
 use Rattle.liquid_model.specs.Lists.{list_of}
-use Rattle.liquid_meaning.specs.Uses.{Use, parts, Fields, ItemUse, uncounted, Pairwise, Alike, asks_whether, has_every, items_wanted}
-use Rattle.liquid_meaning.specs.Projected.{asks_length, asks_of_list, pairs_wanted}
+use Rattle.liquid_model.specs.Uses.{Use, parts, Fields, ItemUse, uncounted, Pairwise, Alike, asks_whether, has_every, items_wanted}
+use Rattle.liquid_model.specs.Projected.{asks_length, asks_of_list, pairs_wanted}
 
 abbrev pub AlikeKeys : (Text → Use) → Pairs → Pairs → Type 0
 AlikeKeys W ps qs = (key : Text) → Alike (W key) (value_at key ps) (value_at key qs)

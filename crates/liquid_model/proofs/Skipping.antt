@@ -11,12 +11,12 @@ use Rattle.liquid_model.specs.Data.{array, object, no_items, item, Pairs, no_pai
 use Rattle.liquid_model.specs.Digest.{pairs_len}
 use Rattle.liquid_model.specs.Find.{value_at}
 use Rattle.liquid_model.proofs.Maps.{value_at_put, value_at_put_other}
-use Rattle.liquid_meaning.specs.Uses.{Use, Fields, ItemUse, uncounted, every, Alike, AlikeItems, asks_whether}
-use Rattle.liquid_meaning.specs.Projected.{use_of_key, second_wanted, values_wanted, pairs_wanted, asks_length}
-use Rattle.liquid_meaning.specs.Skipping.{AlikeKeys, SameKeys, PutInBoth, PutInOne, PutAtSameKey, MapWithAllKeys, MapWithSomeKeys, ListWithAllItems, ListWithoutItems}
-use Rattle.liquid_meaning.proofs.Uses.{alike_same, join_left, join_right}
-use Rattle.liquid_meaning.proofs.Lists.{items_alike}
-use Rattle.liquid_meaning.proofs.Projected.{unasked, fields_of_maps, fields_unseen, pair_alike}
+use Rattle.liquid_model.specs.Uses.{Use, Fields, ItemUse, uncounted, every, Alike, AlikeItems, asks_whether}
+use Rattle.liquid_model.specs.Projected.{use_of_key, second_wanted, values_wanted, pairs_wanted, asks_length}
+use Rattle.liquid_model.specs.Skipping.{AlikeKeys, SameKeys, PutInBoth, PutInOne, PutAtSameKey, MapWithAllKeys, MapWithSomeKeys, ListWithAllItems, ListWithoutItems}
+use Rattle.liquid_model.proofs.Alike.{alike_same, join_left, join_right}
+use Rattle.liquid_model.proofs.AlikeLists.{items_alike}
+use Rattle.liquid_model.proofs.Projected.{unasked, fields_of_maps, fields_unseen, pair_alike}
 
 pub put_in_both : PutInBoth
 put_in_both W ps qs k c d a h key = at (bytes_eq key k) refl

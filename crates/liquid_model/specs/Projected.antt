@@ -1,17 +1,9 @@
 -- What is left of a value where only some of it is asked for.
 --     projected u d      d without what u doesn't ask for;   projected_pairs W keep ps      of the pairs those that W asks for
---     ProjectedRun      a run over the data is a run over what is left of it;   SameSight      and so are the runs over data of which the same is left
-use Rattle.std.specs.Prelude.{◌≡◌, ℕ, T, Bool, false, cond, not, ◌&&◌, ◌||◌, Some, codes}
+use Rattle.std.specs.Prelude.{ℕ, Bool, false, cond, not, ◌&&◌, ◌||◌, Some, codes}
 use Rattle.liquid_model.specs.Texts.{Text, same_text}
 use Rattle.liquid_model.specs.Data.{Datum, nil, truth, number, text, array, object, Items, no_items, item, Pairs, no_pairs, pair}
-use Rattle.liquid_model.specs.Find.{value_at}
-use Rattle.liquid_model.specs.Maps.{empty}
-use Rattle.liquid_core.specs.Environment.{Environment, new_environment}
-use Rattle.liquid_tree.specs.Tree.{Nodes}
-use Rattle.liquid_meaning.specs.Meaning.{Setting, meaning}
-use Rattle.liquid_meaning.specs.Uses.{Use, nothing, everything, parts, Fields, no_fields, field, ItemUse, uncounted, every, Alike, asks_whether, use_of_each, has_every, join, is_place, items_wanted}
-use Rattle.liquid_meaning.specs.Reading.{Uses, Needs, covers}
-use Rattle.liquid_meaning.specs.Reads.{Respects}
+use Rattle.liquid_model.specs.Uses.{Use, nothing, everything, parts, Fields, no_fields, field, ItemUse, uncounted, every, Alike, asks_whether, use_of_each, has_every, join, is_place, items_wanted}
 
 -- what is asked of a member, by all fields of its name
 abbrev pub use_of_key : Text → Fields → Use
@@ -73,22 +65,3 @@ abbrev mutual
 -- a value is alike with what is left of it
 abbrev pub ProjectedAlike : Type 0
 ProjectedAlike = (u : Use) (d : Datum) → Alike u (Some d) (Some (projected u d))
-
--- a new environment with these pairs as data
-abbrev pub over_data : Pairs → Environment
-over_data ps = record (new_environment empty) { globals = λ name. value_at name ps }
-
--- the text and the end of a run over data are those of a run over what is left of the data
-abbrev pub ProjectedRun : Type 0
-ProjectedRun = (needs : Needs) (U : Uses) (setting : Setting) (depth : ℕ) (nodes : Nodes) (ps : Pairs) → Respects setting.answers needs → T (covers needs U setting nodes)
-    → (let o = meaning setting depth nodes (over_data ps) in
-    let p = meaning setting depth nodes (over_data (projected_pairs U false ps)) in
-    (o.text ≡ p.text) × (o.end ≡ p.end))
-
--- so data of which the same is left give the same page: a page need be made again only where that changes
-abbrev pub SameSight : Type 0
-SameSight = (needs : Needs) (U : Uses) (setting : Setting) (depth : ℕ) (nodes : Nodes) (ps qs : Pairs) → Respects setting.answers needs → T (covers needs U setting nodes)
-    → projected_pairs U false ps ≡ projected_pairs U false qs
-    → (let o = meaning setting depth nodes (over_data ps) in
-    let p = meaning setting depth nodes (over_data qs) in
-    (o.text ≡ p.text) × (o.end ≡ p.end))

@@ -1,13 +1,10 @@
 -- Values that are alike: with themselves, in what a use includes, member by member and item by item.
-use Rattle.std.specs.Prelude.{◌≡◌, Bool, true, false, cond, ◌&&◌, T, List, [], ◌∷◌, Option, Some, None}
+use Rattle.std.specs.Prelude.{◌≡◌, suc, Bool, true, false, cond, ◌&&◌, T, length, List, [], ◌∷◌, Option, Some, None}
 use mathlib.Core.Path.{refl, ap, subst}
 use Rattle.liquid_model.specs.Texts.{Text, same_text, ◌else◌}
 use Rattle.liquid_model.specs.Data.{Datum}
-use Rattle.liquid_model.specs.Maps.{Map, empty, insert, merged}
-use Rattle.liquid_meaning.specs.Uses.{Use, nothing, everything, parts, Fields, no_fields, field, ItemUse, uncounted, every, shape_of, member, items_of, Pairwise, Alike, AlikeFields, AlikeItems, use_in, use_at, use_of_items, is_everything, asks_whether, asks_items, present, includes, includes_fields, includes_items, joined_fields, join, join_turns}
-use Rattle.liquid_meaning.specs.Reading.{Uses}
-use Rattle.liquid_meaning.specs.Reads.{AlikeMaps}
-use Rattle.liquid_meaning.proofs.Maps.{same_text_equal}
+use Rattle.liquid_model.specs.Uses.{Use, nothing, everything, parts, Fields, no_fields, field, ItemUse, uncounted, every, shape_of, member, loop_items_of, Pairwise, Alike, AlikeFields, AlikeItems, use_in, use_at, use_of_items, is_everything, asks_whether, asks_items, present, includes, includes_fields, includes_items, joined_fields, join, join_turns, IncludedAlike, JoinedAlike}
+use Rattle.liquid_model.proofs.Maps.{same_text_equal}
 
 -- ---- tests
 
@@ -31,6 +28,15 @@ pairwise_more R S k [] (y ∷ ys) h = absurd h
 pairwise_more R S k (x ∷ xs) [] h = absurd h
 pairwise_more R S k (x ∷ xs) (y ∷ ys) h = (k x y h.0, pairwise_more R S k xs ys h.1)
 
+pub pairwise_length : {A : Type 0} (R : A → A → Type 0) → (xs ys : List A) → Pairwise R xs ys → length xs ≡ length ys
+pairwise_length R [] [] h = refl
+pairwise_length R [] (y ∷ ys) h = absurd h
+pairwise_length R (x ∷ xs) [] h = absurd h
+pairwise_length R (x ∷ xs) (y ∷ ys) h = ap suc (pairwise_length R xs ys h.1)
+
+abbrev pub AlikeLists : Use → List Datum → List Datum → Type 0
+AlikeLists u = Pairwise (λ c d. Alike u (Some c) (Some d))
+
 -- ---- the same value
 
 mutual
@@ -45,7 +51,7 @@ mutual
 
   alike_same_items : (turns : ItemUse) (o : Option Datum) → AlikeItems turns o o
   alike_same_items uncounted o = tt
-  alike_same_items (every u) o = pairwise_same _ (λ d. alike_same u (Some d)) (items_of o)
+  alike_same_items (every u) o = pairwise_same _ (λ d. alike_same u (Some d)) (loop_items_of o)
 
 pub alike_equal : (u : Use) (o p : Option Datum) → o ≡ p → Alike u o p
 alike_equal u o p e = subst (λ q. Alike u o q) e (alike_same u o)
@@ -70,9 +76,9 @@ alike_at key nothing o p a = tt
 alike_at key everything o p a = ap (member key) a
 alike_at key (parts members turns) o p a = alike_in key members o p a.1.0
 
-pub alike_items : (u : Use) (o p : Option Datum) → T (asks_items u) → Alike u o p → Pairwise (λ d e. Alike (use_of_items u) (Some d) (Some e)) (items_of o) (items_of p)
+pub alike_items : (u : Use) (o p : Option Datum) → T (asks_items u) → Alike u o p → Pairwise (λ d e. Alike (use_of_items u) (Some d) (Some e)) (loop_items_of o) (loop_items_of p)
 alike_items nothing o p h a = absurd h
-alike_items everything o p h a = subst (λ q. Pairwise (λ d e. Some d ≡ Some e) (items_of o) (items_of q)) a (pairwise_same _ (λ d. refl) (items_of o))
+alike_items everything o p h a = subst (λ q. Pairwise (λ d e. Some d ≡ Some e) (loop_items_of o) (loop_items_of q)) a (pairwise_same _ (λ d. refl) (loop_items_of o))
 alike_items (parts members uncounted) o p h a = absurd h
 alike_items (parts members (every u)) o p h a = a.1.1
 
@@ -97,7 +103,7 @@ mutual
   included_items : (turns : ItemUse) (u : Use) (o p : Option Datum) → T (includes_items u turns) → Alike u o p → AlikeItems turns o p
   included_items uncounted u o p h a = tt
   included_items (every v) u o p h a =
-      pairwise_more _ _ (λ d e k. alike_included v (use_of_items u) (Some d) (Some e) (both_right (asks_items u) _ h) k) (items_of o) (items_of p) (alike_items u o p (both_left (asks_items u) _ h) a)
+      pairwise_more _ _ (λ d e k. alike_included v (use_of_items u) (Some d) (Some e) (both_right (asks_items u) _ h) k) (loop_items_of o) (loop_items_of p) (alike_items u o p (both_left (asks_items u) _ h) a)
 
 -- ---- uses together
 
@@ -120,7 +126,7 @@ mutual
   turns_left : (turns more : ItemUse) (o p : Option Datum) → AlikeItems (join_turns turns more) o p → AlikeItems turns o p
   turns_left uncounted more o p a = tt
   turns_left (every u) uncounted o p a = a
-  turns_left (every u) (every v) o p a = pairwise_more _ _ (λ d e k. join_left u v (Some d) (Some e) k) (items_of o) (items_of p) a
+  turns_left (every u) (every v) o p a = pairwise_more _ _ (λ d e k. join_left u v (Some d) (Some e) k) (loop_items_of o) (loop_items_of p) a
 
 mutual
   pub join_right : (u v : Use) (o p : Option Datum) → Alike (join u v) o p → Alike v o p
@@ -133,7 +139,13 @@ mutual
   turns_right : (turns more : ItemUse) (o p : Option Datum) → AlikeItems (join_turns turns more) o p → AlikeItems more o p
   turns_right uncounted more o p a = a
   turns_right (every u) uncounted o p a = tt
-  turns_right (every u) (every v) o p a = pairwise_more _ _ (λ d e k. join_right u v (Some d) (Some e) k) (items_of o) (items_of p) a
+  turns_right (every u) (every v) o p a = pairwise_more _ _ (λ d e k. join_right u v (Some d) (Some e) k) (loop_items_of o) (loop_items_of p) a
+
+pub included_alike : IncludedAlike
+included_alike u v o p h a = alike_included v u o p h a
+
+pub joined_alike : JoinedAlike
+joined_alike u v o p a = (join_left u v o p a, join_right u v o p a)
 
 -- ---- present
 
@@ -159,21 +171,3 @@ pub alike_else : (u : Use) (o p q r : Option Datum) → Alike u o p → Alike u 
 alike_else nothing o p q r a b = tt
 alike_else everything o p q r a b = shape_else everything o p q r (ap shape_of a) a b
 alike_else (parts members turns) o p q r a b = shape_else (parts members turns) o p q r a.0 a b
-
--- ---- maps
-
-module _ (U : Uses) where
-  pub alike_empty : AlikeMaps U empty empty
-  alike_empty name = alike_same (U name) _
-
-  pub alike_insert : (m n : Map Datum) (name : Text) (d e : Datum) → AlikeMaps U m n → Alike (U name) (Some d) (Some e) → AlikeMaps U (insert m name d) (insert n name e)
-  unfolding insert
-  alike_insert m n name d e h a q = at (same_text name q) (same_text_equal name q)
-    where
-      at : (b : Bool) → (T b → name ≡ q) → Alike (U q) (cond b (Some d) (m q)) (cond b (Some e) (n q))
-      at true is = subst (λ x. Alike (U x) (Some d) (Some e)) (is tt) a
-      at false is = h q
-
-  pub alike_merged : (s t m n : Map Datum) → AlikeMaps U s t → AlikeMaps U m n → AlikeMaps U (merged s m) (merged t n)
-  unfolding merged
-  alike_merged s t m n a b name = alike_else (U name) _ _ _ _ (a name) (b name)

@@ -1,0 +1,95 @@
+//! Which parts of values are asked for.
+ghost use Rattle.std.specs.Prelude.{◌≡◌, MatchOption};
+ghost use Rattle.liquid_model.specs.Uses.{includes, includes_fields, includes_items};
+ghost use Rattle.liquid_model.specs.Uses.{no_fields, nothing, parts, uncounted, use_in};
+ghost use Rattle.liquid_model.specs.UseViews.{use_view, members_view, turns_view};
+
+use std::collections::BTreeMap;
+
+/// What is asked of a value: the parts of it that somebody looks at.
+#[derive(Drop)]
+pub enum Use {
+    /// Nothing, not even whether there is a value.
+    Nothing,
+    /// The whole value.
+    Everything,
+    /// Whether there is a value, its kind, a scalar whole, and these parts.
+    Parts {
+        /// What is asked of the members, each by the text of the step that finds it: a key, an
+        /// index, `first`, `last` or `size`.
+        members: Uses,
+        /// What is asked of each item that a loop goes over; without it, not even how many
+        /// items there are.
+        items: Option<Box<Use>>,
+    },
+}
+
+/// What is asked of values by their names. Of a value that isn't named here nothing is asked.
+pub type Uses = BTreeMap<String, Use>;
+
+impl Use {
+    /// Whether all that the other use asks for is asked for here. It takes no memory.
+    pub fn includes(&self, other: &Use) -> bool
+        ensures { result ≡ includes (use_view self.now) (use_view other.now) }
+    {
+        included(other, self)
+    }
+}
+
+#[cycle(included)]
+fn included(asked: &Use, held: &Use) -> bool
+    ensures { result ≡ includes (use_view held.now) (use_view asked.now) }
+{
+    match asked {
+        Use::Nothing => true,
+        Use::Everything => matches!(held, Use::Everything),
+        Use::Parts { members, items } => match held {
+            Use::Nothing => false,
+            Use::Everything => true,
+            Use::Parts {
+                members: held_members,
+                items: held_items,
+            } => included_members(members, held_members) && included_items(items, held_items),
+        },
+    }
+}
+
+#[cycle(included)]
+fn included_members(asked: &Uses, held: &Uses) -> bool
+    ensures { result
+        ≡ includes_fields (parts (members_view held.now.entries) uncounted)
+        (members_view asked.now.entries) }
+{
+    for (name, member) in asked.iter() {
+        let holds = match member_of(held, name.as_str()) {
+            Some(found) => included(member, found),
+            None => matches!(member, Use::Nothing),
+        };
+        if !holds {
+            return false;
+        }
+    }
+    true
+}
+
+#[cycle(included)]
+fn included_items(asked: &Option<Box<Use>>, held: &Option<Box<Use>>) -> bool
+    ensures { result
+        ≡ includes_items (parts no_fields (turns_view held.now)) (turns_view asked.now) }
+{
+    match asked {
+        None => true,
+        Some(item) => match held {
+            Some(found) => included(item, found),
+            None => false,
+        },
+    }
+}
+
+/// What is asked of the value of that name, where the uses name it.
+pub fn member_of<'u>(members: &'u Uses, name: &str) -> Option<&'u Use>
+    ensures { MatchOption result (use_in name.now (members_view members.now.entries) ≡ nothing)
+        (λ u. use_in name.now (members_view members.now.entries) ≡ use_view u.now) }
+{
+    members.get(name)
+}
