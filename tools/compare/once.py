@@ -1,8 +1,8 @@
 """Runs a program once: python3 -I -S once.py FILE PROGRAM [WORD ..]
 
-What the program prints goes to the file. Told are its seconds of the processor, and the most memory that it held, in pieces of
-1024 bytes. Till it runs its program a process holds a copy of the one before it, and that counts too; so this one is small, and
-is another one than that which makes the data.
+What the program prints goes to the file. The line that is printed has its seconds of the processor, and the most memory that it
+held, in pieces of 1024 bytes. Till it runs its program a process holds a copy of the one before it, and that counts too; so this
+one is small, and is another one than that which makes the data.
 """
 import os
 import sys

@@ -65,9 +65,10 @@ impl<W: Write> Buffered<W> {
         answer
     }
 
-    /// `write` where the buffer has no room for the bytes, or a write failed. Apart, since most writes are short.
+    /// `write` where the buffer has no room for the bytes, or a write failed. It is never inlined, so that
+    /// the usual way through `write` stays short.
     #[inline(never)]
-    fn write_over(&mut self, bytes: &[u8]) -> io::Result<usize>
+    fn write_cold(&mut self, bytes: &[u8]) -> io::Result<usize>
         ensures bound { WritesAtMost result bytes.now }
         ensures bytes { WriteAppends (behind W.contents self.old) (behind W.contents self.new) result bytes.now }
         ensures stopped { self.old.failed ≡ true → self.new ≡ self.old }
@@ -108,7 +109,7 @@ impl<W: Write> Write for Buffered<W> {
         ensures stopped { self.old.failed ≡ true → self.new ≡ self.old }
     {
         if self.failed || bytes.len() > ROOM.saturating_sub(self.held.len()) {
-            return self.write_over(bytes);
+            return self.write_cold(bytes);
         }
         self.held.extend_from_slice(bytes)?;
         Ok(bytes.len())

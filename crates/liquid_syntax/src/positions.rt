@@ -10,8 +10,8 @@ pub struct Position {
 }
 
 impl Position {
-    /// The place behind a text that begins here. A character is a byte that begins one.
-    fn behind(self, text: &str) -> Position {
+    /// The place after a text that begins here. Each byte is a character but those that only continue one.
+    fn after(self, text: &str) -> Position {
         let mut lines: usize = 0;
         let mut characters: usize = 0;
         for byte in text.bytes() {
@@ -58,7 +58,7 @@ impl<'s> Positions<'s> {
     pub(crate) fn mark(&mut self, left: usize, count: usize) -> Result<(), AllocError> {
         let passed = self.rest.len().saturating_sub(left);
         if let Some((before, rest)) = self.rest.split_at_checked(passed) {
-            self.reached = self.reached.behind(before);
+            self.reached = self.reached.after(before);
             self.rest = rest;
         }
         self.nodes.resize(count, self.reached)
