@@ -6,7 +6,7 @@ it isn't there or is older than the sources. Words that make no call, and files 
 import os
 import sys
 
-from programs import TOP, Program, Stopped
+from programs import TOP, Program, Stopped, kit
 from prove import prove
 from running import started_by
 from unproved import Refused, build, page_by_try, say
@@ -74,6 +74,7 @@ def start_unproved(program, words, why):
     """Builds the unproved program where that is to be done, says that nothing is proved, and starts it."""
     name, made = program.name, program.unproved
     if not made.is_current:
+        kit()
         older = f"the unproved program is {made.older_than()}; " if made.is_there else ""
         say(name, f"{why}; {older}building the program without its proofs, once, {TAKES}")
         if not build(program):
