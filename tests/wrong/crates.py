@@ -166,12 +166,13 @@ class Prover:
         os.makedirs(room, exist_ok=True)
 
     def check_beside(self, texts, only=(), proved=()):
-        """The same, over a copy of what is kept, which others may read meanwhile."""
-        with tempfile.TemporaryDirectory(dir=self.room) as room:
-            if os.path.isdir(f"{self.room}/kept"):
-                shutil.copytree(f"{self.room}/kept", f"{room}/kept")
-            beside = Prover(self.crate, self.at, room)
-            said = beside.check(texts, only, proved)
+        """The same, over a copy of what is kept, which others may read meanwhile. The checked copy of the crate stays."""
+        room = tempfile.mkdtemp(dir=self.room)
+        if os.path.isdir(f"{self.room}/kept"):
+            shutil.copytree(f"{self.room}/kept", f"{room}/kept")
+        beside = Prover(self.crate, self.at, room)
+        said = beside.check(texts, only, proved)
+        shutil.rmtree(f"{room}/kept", ignore_errors=True)
         with self.lock:
             self.seconds += said.seconds
         return said

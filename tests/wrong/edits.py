@@ -20,12 +20,14 @@ class Unfit(Exception):
 @dataclass(frozen=True)
 class Edit:
     """An edit: its file, its pairs, each as the path of a file of the crate, the text there, and what takes its place, and what it
-    tells of a goal's name, and of the function that refuses it."""
+    tells of a goal's name, and of the function that refuses it. Answers by hand that are tried under other names: each by its proof file,
+    its name, and the goal that is given it, or none where it goes."""
 
     file: str
     pairs: tuple
     goal: str = ""
     by: str = ""
+    answers: tuple = ()
 
     @property
     def name(self):
@@ -73,7 +75,22 @@ def applied(edit, folder, texts, function=None):
         if found != 1:
             raise Unfit(f"an old: text stands {found} times in {path}, and not once: {old[:60]}")
         texts[path] = texts[path][:start] + texts[path][start:end].replace(old, new) + texts[path][end:]
+    for path, answer, goal in edit.answers:
+        own = texts.setdefault(path, text_of(f"{folder}/{path}"))
+        lines = answer_lines(text_of(f"{folder}/{path}"), answer)
+        texts[path] = own + "\n" + renamed(lines, answer, goal) if goal else own.replace(lines, "")
     return texts
+
+
+def answer_lines(text, answer):
+    """The lines of an answer by hand: from its type to the next definition or comment."""
+    lines = text[text.index(f"pub {answer} : ") :].split("\n")
+    ends = (at for at, line in enumerate(lines) if at and re.match(r"\S", line) and not line.startswith((f"{answer} ", "unfolding ")))
+    return "\n".join(lines[: next(ends, len(lines))])
+
+
+def renamed(lines, answer, goal):
+    return re.sub(rf"(?<![\w-]){re.escape(answer)}(?![\w-])", lambda _: goal, lines)
 
 
 def span_of(text, path, name):

@@ -1,5 +1,6 @@
 """A test of the script, over a small crate that it writes: an edit that changes nothing is reported, tried with others and alone, and
-so are one that doesn't apply and one that stops the compiler."""
+so are one that doesn't apply and one that stops the compiler. So is one that changes nothing and adds a way out to a function whose
+proof has answers by hand: its goals are open for want of one."""
 import os
 import tempfile
 from dataclasses import dataclass
@@ -11,8 +12,9 @@ ROOT = """//! A crate of one module.
 
 pub mod numbers;
 """
-SOURCE = """//! Three functions, of which each gets edits.
+SOURCE = """//! Functions, of which each gets edits.
 ghost use Rattle.std.specs.Prelude.{◌≡◌};
+ghost use Rattle.small.specs.Same.{IsSame};
 
 /// The number itself.
 pub fn itself(number: u8) -> u8
@@ -35,6 +37,29 @@ pub fn seven() -> u8
 {
     7
 }
+
+/// The number once more.
+pub fn again(given: u8) -> u8
+    ensures { IsSame result given }
+{
+    given
+}
+"""
+LIB = """pub mod Same
+"""
+SAME = """-- A number and the same one, which no search opens.
+use Rattle.std.specs.Prelude.{◌≡◌, ℕ}
+
+unfoldable pub IsSame : ℕ → ℕ → Type 0
+IsSame a b = a ≡ b
+"""
+ANSWERS = """use Rattle.std.proofs.Common.{refl}
+use Rattle.small.specs.Same.{IsSame}
+use Rattle.small.proofs.numbers.again.Goals as goal
+
+pub returns : goal.returns
+unfolding IsSame
+returns c = refl
 """
 EDITS = {
     "harmless.edit": ("let same = number;", "let same = number; let _nothing = true;"),
@@ -42,8 +67,10 @@ EDITS = {
     "broken.edit": ("    7", "    let = 7;"),
     "lost.edit": ("    8", "    9"),
     "wrong.edit": ("    1", "    2"),
+    "way_out.edit": ("    given", "    if given == 0 { return given; } given"),
+    "wrong_way_out.edit": ("    given", "    if given == 0 { return 1; } given"),
 }
-REPORTED = ["broken.edit", "harmless.edit", "lost.edit", "spaces.edit"]
+REPORTED = ["broken.edit", "harmless.edit", "lost.edit", "spaces.edit", "way_out.edit"]
 
 
 @dataclass
@@ -59,7 +86,7 @@ class Small(Crate):
 
 def selftest(run, tell):
     with tempfile.TemporaryDirectory(prefix="wrong-") as folder:
-        for path, text in [("src/lib.rt", ROOT), ("src/numbers.rt", SOURCE), ("specs/Lib.antt", "")]:
+        for path, text in [("src/lib.rt", ROOT), ("src/numbers.rt", SOURCE), ("specs/Lib.antt", LIB), ("specs/Same.antt", SAME), ("proofs/numbers/again/Answers.antt", ANSWERS)]:
             written(f"{folder}/{path}", text)
         files = [written(f"{folder}/wrong/{name}", f"file: src/numbers.rt\nold: {old}\nnew: {new}\n") for name, (old, new) in EDITS.items()]
         (trial,) = run([(Small("small", [], [], at=folder), files)], 1, tell)

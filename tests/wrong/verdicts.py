@@ -1,13 +1,10 @@
 """What a check's words come to: whether a function was refused by a goal of its own, and why an edit wasn't refused."""
 import re
 
-from edits import sources, span_of, text_of
+from answers import ERROR, LOST_NAME, by_hand, handed_on, proves, renames, unread_answers, wants_answer
+from edits import function_of, sources, span_of, text_of
 from functions import first_line
 
-# an error, with the line that goes on with it where it is long
-ERROR = re.compile(r"^(?:note: )?(?:\./)?(\S+?):(\d+):\d+: (?:error: )?(.*(?:\n  \S.*)?)$", re.M)
-# a proof file that names what an edit took away, which says nothing of the contract
-LOST_NAME = re.compile(r"has no field|is not in scope|has no `|was not admitted")
 # what the prover can't even read
 UNREAD = re.compile(r"is not in scope|has no field|is no name|operand is missing|expected the end|cannot continue")
 # what the prover says of a function that it doesn't judge at all, and of the one of its cycle of calls for which it doesn't
@@ -16,9 +13,29 @@ GOALS = re.compile(r"did not prove ((?:`[^`]+`(?:, | and )?)+)")
 LEFT = re.compile(r"^note: (?:\./)?(src/\S+?):(\d+):\d+: it is not proved that .*\(`([^`]+)`\)", re.M)
 
 
-def refused_by(crate, function, said, part=""):
-    """Whether the check names a goal of this very function, or of a closure in it, that isn't proved and has the part in its name."""
-    return any(has_open_goal(name, function, verdict, said, part) for name, verdict in verdicts_of(crate, function, said))
+def refused_by(crate, edit, function, said):
+    """Whether the check names a goal of this very function, or of a closure in it, that isn't proved and has in its name what the edit
+    tells. A goal that may be open for want of an answer by hand doesn't count."""
+    answers, unread = answered_of(crate, function, said)
+
+    def counts(goal):
+        return not (renames(edit, function, unread) and wants_answer(goal, function, answers, unread))
+
+    return any(has_open_goal(name, function, verdict, said, edit.goal, counts) for name, verdict in verdicts_of(crate, function, said))
+
+
+def answered_of(crate, function, said):
+    """The answers by hand of the function, and those that the check couldn't read."""
+    names = [name for name, _ in verdicts_of(crate, function, said)]
+    return by_hand(names, function, said.folder), unread_answers(names, function, said)
+
+
+def answers_for(crate, function, said):
+    """Which answers by hand have to go under other names, for the goals of the function that want one."""
+    goals = goals_left(function, said)
+    for _, (_, why) in verdicts_of(crate, function, said):
+        goals += named_goals(why)
+    return handed_on(function, *answered_of(crate, function, said), sorted(set(goals)))
 
 
 def is_left(crate, function, said):
@@ -33,7 +50,18 @@ def verdicts_of(crate, function, said):
     return [(name, it) for name, it in said.verdicts.items() if name.startswith(crate + "::") and (name.endswith(ends) or inside in name)]
 
 
-def has_open_goal(name, function, verdict, said, part):
+def unanswered(crate, edit, said):
+    """Why a check that refuses the edit says nothing of the contract, where it is open for want of an answer by hand alone."""
+    function = None if edit.by else function_of(edit, crate.folder)
+    if not function or refused_by(crate.name, edit, function, said):
+        return None
+    answered = answered_of(crate.name, function, said)
+    if any(wants_answer(goal, function, *answered) for goal in goals_left(function, said)) or answered[1]:
+        return "NOT REFUSED by more than an answer by hand that names what the edit took away: an edit keeps what those name"
+    return None
+
+
+def has_open_goal(name, function, verdict, said, part, counts):
     kind, why = verdict
     own = re.compile(rf"(?:\w+::)*{re.escape(function.name.split('::')[-1])}-")
     has_others = bool(function.cycle) and not is_alone(function, said)
@@ -42,12 +70,17 @@ def has_open_goal(name, function, verdict, said, part):
         # of a cycle all goals stand together, each under the name of its function, with its module where the cycle has several
         return part in goal and (bool(own.match(goal)) or not has_others)
 
-    if kind == "no proof" and any(fits(goal) for goals in GOALS.findall(why) for goal in re.findall(r"`([^`]+)`", goals)):
+    if kind == "no proof" and any(fits(goal) and counts(goal) for goal in named_goals(why)):
         return True
     if kind not in ("no proof", "not proved"):
         return False
     refused = any(stands_in(name, function, path, what, fits) for path, _, what in ERROR.findall(said.text) if not LOST_NAME.search(what))
-    return refused or any(fits(goal) for goal in goals_left(function, said))
+    return refused or any(fits(goal) and counts(goal) for goal in goals_left(function, said))
+
+
+def named_goals(why):
+    """The goals that the words of a verdict name."""
+    return [goal for goals in GOALS.findall(why) for goal in re.findall(r"`([^`]+)`", goals)]
 
 
 def is_alone(function, said):
@@ -75,10 +108,8 @@ def stands_in(name, function, path, what, fits):
     """Whether an error of a proof file is one of this function's, at a goal that fits."""
     goal = re.match(r"`([^`]+)`", what)
     if function.cycle:
-        return f"/+{function.cycle}/" in path and bool(goal) and fits(goal[1])
-    folder, _, own = f"proofs/{name.split('::', 1)[1].replace('::', '/')}/".rstrip("/").rpartition("/")
-    # a function that calls itself is a cycle of its own
-    return path.startswith((f"{folder}/{own}/", f"{folder}/+{own}/")) and (not goal or fits(goal[1]))
+        return proves(name, function, path) and bool(goal) and fits(goal[1])
+    return proves(name, function, path) and (not goal or fits(goal[1]))
 
 
 def refused_alone(texts, said):

@@ -3,7 +3,6 @@ use crate::changes::{all_files, changed_by};
 use crate::files::Files;
 use crate::stop::Stop;
 use crate::tell::tell_round;
-use liquid_core::{Error, ErrorKind};
 use liquid_folders::{Changed, Disk, DiskFault, Folder, Site, round, site_of};
 use std::alloc::AllocError;
 use std::fs;
@@ -34,7 +33,7 @@ impl<'r> Rounds<'r> {
     }
 
     /// What a line of standard input asks for: a round where it is empty, or to look at the file of this path in the next one. Whether
-    /// it names a file of the site, and in a round no file was refused and no page ends by a fault.
+    /// it names a file of the site, and what `one_round` answers of a round.
     pub fn take_line(&mut self, line: &str) -> Result<bool, Stop> {
         if line.is_empty() {
             return self.one_round();
@@ -55,7 +54,7 @@ impl<'r> Rounds<'r> {
         self.one_round()
     }
 
-    /// One round, with what is told of it. Whether no file was refused and no page ends by a fault.
+    /// One round, with what is told of it. Whether no file was refused, no page ends by a fault, and each page's file was written.
     pub fn one_round(&mut self) -> Result<bool, Stop> {
         let before = self.site.rendered();
         let done = round(
@@ -66,13 +65,8 @@ impl<'r> Rounds<'r> {
             &mut self.files,
         );
         self.changes.clear();
-        match done {
-            Ok(done) => {
-                let rendered = self.site.rendered().saturating_sub(before);
-                Ok(tell_round(self.rt, &self.site, self.folder, &done, rendered)?)
-            }
-            Err(error) => unwritten(self.rt, error),
-        }
+        let rendered = self.site.rendered().saturating_sub(before);
+        tell_round(self.rt, &self.site, self.folder, done?, rendered)
     }
 }
 
@@ -92,16 +86,5 @@ fn first_site(rt: &HostRuntime, folder: &Folder, files: &Files<'_>) -> Result<Si
             Err(Stop::unread(rt.alloc(), folder.facts.as_str()))
         }
         Err(DiskFault::Memory) => Err(Stop::from(AllocError)),
-    }
-}
-
-/// A page's file that isn't written is told, and the next round writes it; any other fault ends the program.
-fn unwritten(rt: &HostRuntime, error: Error) -> Result<bool, Stop> {
-    match error.kind {
-        ErrorKind::Write => {
-            eprintln!(rt; "error: {error}")?;
-            Ok(false)
-        }
-        _ => Err(Stop::Fault(error)),
     }
 }

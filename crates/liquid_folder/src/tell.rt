@@ -1,22 +1,36 @@
 //! What is told of a round.
+use crate::stop::Stop;
+use liquid_core::ErrorKind;
 use liquid_folders::{Folder, Refusal, RoundOutcome, Site, Why};
 use std::io;
 
-/// Tells each refused file and each page's fault on standard error, and how many pages were rendered and written on standard
-/// output. Whether there was none of the former.
+/// Tells each refused file, each page's fault and a page's file that can't be written on standard error, and how many pages were
+/// rendered and written on standard output. Whether there was none of the former. Memory that ran out ends the program.
 pub fn tell_round(
     rt: &HostRuntime,
     site: &Site,
     folder: &Folder,
-    done: &RoundOutcome,
+    done: RoundOutcome,
     rendered: u64,
-) -> io::Result<bool> {
-    for refusal in &done.refusals {
+) -> Result<bool, Stop> {
+    let RoundOutcome { refusals, written } = done;
+    for refusal in &refusals {
         tell_refusal(rt, refusal)?;
     }
     let faultless = tell_faults(rt, site, folder)?;
-    println!(rt; "rendered {rendered}, written {}", done.written)?;
-    Ok(faultless && done.refusals.is_empty())
+    match written {
+        Ok(written) => {
+            println!(rt; "rendered {rendered}, written {written}")?;
+            Ok(faultless && refusals.is_empty())
+        }
+        Err(fault) => match fault.kind {
+            ErrorKind::Write => {
+                eprintln!(rt; "error: {fault}")?;
+                Ok(false)
+            }
+            _ => Err(Stop::Fault(fault)),
+        },
+    }
 }
 
 fn tell_refusal(rt: &HostRuntime, refusal: &Refusal) -> io::Result<()> {

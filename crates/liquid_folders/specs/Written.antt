@@ -15,11 +15,6 @@ use Rattle.liquid_folders.specs.Files.{Files, ChangesAt, holds, with_file, is_he
 abbrev pub IsStop : ErrorKind → Type 0
 IsStop kind = (kind ≡ Memory) ⊎ (kind ≡ Write)
 
--- a fact that holds unless memory ran out
-abbrev pub UnlessMemory : {X : Type 0} → Result X Error → Type 0 → Type 0
-UnlessMemory (Ok x) fact = fact
-UnlessMemory (Err e) fact = MatchBool (is_memory e.kind) ⊤ fact
-
 -- the files with each page's text in the page's file, and all others as they were
 abbrev pub all_written : Text → Pages → Files → Files
 all_written out [] files = files

@@ -4,7 +4,7 @@ ghost use Rattle.liquid_sites.specs.Contents.{pages_from_scratch};
 ghost use Rattle.liquid_sites.specs.SiteViews.{contents_of, language_of};
 ghost use Rattle.liquid_folders.specs.Refusals.{AreRefusals};
 ghost use Rattle.liquid_folders.specs.Taken.{AreTaken};
-ghost use Rattle.liquid_folders.specs.Written.{IsStop, all_written, count_from, KeepsOthers, TellsUnwritten, UnlessMemory};
+ghost use Rattle.liquid_folders.specs.Written.{IsStop, all_written, count_from, KeepsOthers, TellsUnwritten};
 
 use crate::disk::Disk;
 use crate::folder::{Changed, Folder};
@@ -19,17 +19,17 @@ use std::alloc::Global;
 pub struct RoundOutcome {
     /// The files that were refused, in the order of the changes.
     pub refusals: Vec<Refusal>,
-    /// How many pages were written.
-    pub written: u64,
+    /// How many pages were written, up to the greatest value; or the fault that ended the writing: `Write`, whose message names the
+    /// page's file that can't be written, or `Memory`. The pages in front of that one are written.
+    pub written: Result<u64>,
 }
 
 /// Takes the files that changed, one after another, and then writes each page whose file holds another text.
 ///
 /// A file that is gone takes its page or its partial with it. A file whose text is no template or no data, or which can't be
 /// read, is refused and changes nothing, and so is the data's file where it is gone. The file of a page that is gone stays.
-/// The answer is `Memory` or, where a page's file isn't written, `Write`, which tells this file and no refusals. At `Write` all
-/// changes are taken and the pages in front of this one are written; at `Memory` some of either may be. The next round writes
-/// the others.
+/// Where a page's file can't be written, the outcome has that fault beside the refusals; the next round writes the others. The
+/// answer is `Memory` where memory ran out before all changes were taken: some of them may be, and no file is written.
 pub fn round<D: Disk>(
     alloc: Global,
     site: &mut Site,
@@ -37,17 +37,29 @@ pub fn round<D: Disk>(
     changes: &[Changed],
     disk: &mut D,
 ) -> Result<RoundOutcome>
-    ensures taken { IfSome (D.files disk.old) (λ f. UnlessMemory result (AreTaken (language_of site.old) folder.now f changes.now (contents_of site.old) (contents_of site.new))) }
-    ensures refusals { IfSome (D.files disk.old) (λ f. IfOk result (λ outcome. AreRefusals (language_of site.old) folder.now f changes.now outcome.refusals.items)) }
-    ensures written { IfSome (D.files disk.old) (λ f. OnOk result (D.files disk.new ≡ Some (all_written (string_bytes folder.now.out) (pages_from_scratch (contents_of site.new)) f))) }
-    ensures count { IfSome (D.files disk.old) (λ f. IfOk result (λ outcome. outcome.written ≡ count_from 0 (string_bytes folder.now.out) (pages_from_scratch (contents_of site.new)) f)) }
-    ensures others { IfSome (D.files disk.old) (λ f. KeepsOthers (string_bytes folder.now.out) (pages_from_scratch (contents_of site.new)) f (D.files disk.new)) }
-    ensures unwritten { IfSome (D.files disk.old) (λ f. IfErr result (TellsUnwritten (string_bytes folder.now.out) (pages_from_scratch (contents_of site.new)) f (D.files disk.new))) }
+    ensures taken { IfSome (D.files disk.old) (λ f. OnOk result
+        (AreTaken (language_of site.old) folder.now f changes.now
+        (contents_of site.old) (contents_of site.new))) }
+    ensures refusals { IfSome (D.files disk.old) (λ f. IfOk result (λ outcome.
+        AreRefusals (language_of site.old) folder.now f changes.now outcome.refusals.items)) }
+    ensures written { IfSome (D.files disk.old) (λ f. IfOk result (λ outcome. OnOk outcome.written
+        (D.files disk.new ≡ Some (all_written (string_bytes folder.now.out)
+        (pages_from_scratch (contents_of site.new)) f)))) }
+    ensures count { IfSome (D.files disk.old) (λ f. IfOk result (λ outcome. IfOk outcome.written
+        (λ n. n ≡ count_from 0 (string_bytes folder.now.out)
+        (pages_from_scratch (contents_of site.new)) f))) }
+    ensures unwritten { IfSome (D.files disk.old) (λ f. IfOk result (λ outcome.
+        IfErr outcome.written (TellsUnwritten (string_bytes folder.now.out)
+        (pages_from_scratch (contents_of site.new)) f (D.files disk.new)))) }
+    ensures stop { IfOk result (λ outcome. IfErr outcome.written (λ e. IsStop e.kind)) }
+    ensures others { IfSome (D.files disk.old) (λ f. KeepsOthers (string_bytes folder.now.out)
+        (pages_from_scratch (contents_of site.new)) f (D.files disk.new)) }
     ensures language { language_of site.new ≡ language_of site.old }
-    ensures stop { IfErr result (λ e. IsStop e.kind) }
+    ensures memory { IfErr result (λ e. e.kind ≡ ErrorKind.Memory) }
+    ensures untouched { IfErr result (λ e. D.files disk.new ≡ D.files disk.old) }
 {
     let refusals = take_all(alloc, site, folder, changes, disk)?;
-    let written = write_pages(alloc, site.pages(), folder.out.as_str(), disk)?;
+    let written = write_pages(alloc, site.pages(), folder.out.as_str(), disk);
     Ok(RoundOutcome { refusals, written })
 }
 

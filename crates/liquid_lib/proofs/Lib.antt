@@ -17,7 +17,6 @@ pub mod LoopMeanings
 pub mod Pages
 pub mod PartialRuns
 pub mod Pieces
-pub mod Registered
 pub mod RenderEach
 pub mod RenderKinds
 pub mod Renderings

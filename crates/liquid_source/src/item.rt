@@ -48,7 +48,7 @@ fn read_range(alloc: Global, text: &str) -> Result<(Item, &str), ParseError>
         return Err(ParseError::Fault(unexpected(rest, "`..`")));
     };
     let Some(after) = past_byte(dot, b'.') else {
-        return Err(ParseError::Fault(unexpected(dot, "the second `.` of `..`")));
+        return Err(ParseError::Fault(unexpected(rest, "`..`")));
     };
     let (last, rest) = read_value(alloc, past_white(after), MAX_BRACKETS)?;
     let rest = past_white(rest);

@@ -122,9 +122,9 @@ class Reader:
         return Range(first, last)
 
     def want(self, text):
-        """The text stands here, or the source ends in a beginning of it."""
+        """The text stands here, whole."""
         if not self.skip(text):
-            raise Fault("Unclosed" if text.startswith(self.source[self.at :]) else "BadItem")
+            raise Fault("Unclosed" if self.is_over() else "BadItem")
 
     def value(self, depth):
         """A literal or a variable, inside of so many brackets."""
