@@ -12,6 +12,7 @@ pub mod ItemRuns
 pub mod Joined
 pub mod Kept
 pub mod LentData
+pub mod LimitedPages
 pub mod LoopItems
 pub mod LoopMeanings
 pub mod Pages
@@ -24,6 +25,7 @@ pub mod Retold
 pub mod Silent
 pub mod Sinks
 pub mod SourceRuns
+pub mod Taken
 pub mod Turning
 pub mod Turns
 pub mod ValueTexts

@@ -13,15 +13,15 @@ use Rattle.liquid_lib.proofs.Joined.{memory_of}
 use Rattle.liquid_lib.proofs.Sinks.{AddsPart-longer, Adds-same, part-of_none}
 use Rattle.liquid_meaning.specs.Runs.{Nothing, Run}
 
-pub refused_cut : (e : Error) (s u : Sink) → IsKindOrMemory Write e.kind → OneFailed s.failures u.failures → u.buffer ≡ s.buffer → u.contents ≡ s.contents → Cut {V = Unit {0}} (Err e) [] s u
-refused_cut e s u told failed buffer contents = record { cause = on (is_memory e.kind) refl told; adds = part-of_none s u [] (Adds-same s u buffer contents) }
+pub refused_cut : {V : Type 0} (e : Error) (s u : Sink) → IsKindOrMemory Write e.kind → OneFailed s.failures u.failures → u.buffer ≡ s.buffer → u.contents ≡ s.contents → Cut {V = V} (Err e) [] s u
+refused_cut {V} e s u told failed buffer contents = record { cause = on (is_memory e.kind) refl told; adds = part-of_none s u [] (Adds-same s u buffer contents) }
   where
-    on : (b : Bool) → is_memory e.kind ≡ b → MatchBool b ⊤ (Write ≡ e.kind) → IsCut {V = Unit {0}} (Err e) s.failures u.failures
+    on : (b : Bool) → is_memory e.kind ≡ b → MatchBool b ⊤ (Write ≡ e.kind) → IsCut {V = V} (Err e) s.failures u.failures
     on true is k = inl (memory_of e.kind is, inr failed)
     on false is k = inr (sym k, failed)
 
 -- a run that may not begin has written a beginning of its text: nothing
-pub may_not_begin : (e : Error) (m : Run Nothing) (s u : Sink) (before after : Environment) → Cut {V = Unit {0}} (Err e) [] s u → Performs (Err e) m (record { sink = s; environment = before }) (record { sink = u; environment = after })
+pub may_not_begin : {V : Type 0} (e : Error) (m : Run Nothing) (s u : Sink) (before after : Environment) → Cut {V = V} (Err e) [] s u → Performs (Err e) m (record { sink = s; environment = before }) (record { sink = u; environment = after })
 may_not_begin e m s u before after h = inr (record { cause = h.cause; adds = AddsPart-longer s u [] (m before).text h.adds })
 
 -- a run from where it was asked

@@ -1,6 +1,6 @@
 -- What a run with no buffer open says of the caller's writer, and one into a buffer of its text.
 use Rattle.std.proofs.lemmas.Bool.{true≢false}
-use Rattle.std.proofs.Common.{arith, ◌≡◌, ℕ, [], Bool, true, false, Option, Some, None, IsSome, is_some, Result, Ok, Err, ◌⊎◌, inl, inr, refl, sym, ap, subst, ◌∙◌, String, Global, string_bytes, option_map}
+use Rattle.std.proofs.Common.{arith, ◌≡◌, ℕ, [], Bool, true, false, Option, Some, None, is_some, Result, Ok, Err, ◌⊎◌, inl, inr, refl, sym, ap, subst, ◌∙◌, String, Global, string_bytes}
 use Rattle.liquid_model.specs.Texts.{Text}
 use Rattle.liquid_model.specs.ErrorKinds.{is_memory, is_refusal}
 use Rattle.liquid_core.specs.Environment.{Names, Environment}
@@ -24,16 +24,6 @@ is_none-same a (Some x) e none = absurd (true≢false (e ∙ ap is_some none))
 place : {V A : Type 0} (view : V → A) (r : Result V Error) (o : Outcome A) (s t : Sink) (g : Environment) → MeetsAt view r o s t g → is_some t.buffer ≡ is_some s.buffer
 place view r o s t g (inl p) = p.adds.same_place
 place view r o s t g (inr p) = p.adds.adds.same_place
-
-is_some-string : (o : Option (String Global)) → is_some (option_map string_bytes o) ≡ true → is_some o ≡ true
-is_some-string None h = h
-is_some-string (Some s) h = refl
-
--- a buffer that was open is open still
-pub still_open : {V A : Type 0} (view : V → A) (r : Result V Error) (o : Outcome A) (s t : Sink) (g : Environment) (buffer : Option (String Global)) (text : Text)
-    → MeetsAt view r o s t g → s.buffer ≡ Some text → t.buffer ≡ option_map string_bytes buffer → IsSome buffer
-still_open view r o s t g buffer text h was is =
-    is_some-string buffer (ap is_some (sym is) ∙ place view r o s t g h ∙ ap is_some was)
 
 -- a run with no buffer open, seen at the caller's writer, which ends as the output left it
 pub at_caller : {V A W : Type 0} (contents : W → Option Text) (failure_count : W → ℕ) (view : V → A) (r : Result V Error) (o : Outcome A) (before after end : W) (buffer : Option Text) (g : Environment)
@@ -81,14 +71,6 @@ no_memory kind within = on (is_memory kind) refl
     on : (b : Bool) → is_memory kind ≡ b → is_memory kind ≡ false
     on false is = is
     on true is = absurd (true≢false (sym (ap is_refusal (memory_of kind is)) ∙ within))
-
--- a buffer that was empty before a run, and holds this text after it
-pub in_its_buffer : (answer : Result (Unit {0}) Error) (m : Run Nothing) (e g : Environment) (old : Text) (now : Option (String Global)) (text : String Global) → old ≡ [] → now ≡ Some text
-    → Performs answer m (in_buffer old e) (record { sink = record { buffer = option_map string_bytes now; contents = None; failures = 0 }; environment = g })
-    → Performs answer m (in_buffer [] e) (in_buffer (string_bytes text) g)
-in_its_buffer answer m e g old now text empty is h =
-    subst (λ b. Performs answer m (in_buffer [] e) (record { sink = record { buffer = option_map string_bytes b; contents = None; failures = 0 }; environment = g })) is
-    (subst (λ t. Performs answer m (in_buffer t e) (record { sink = record { buffer = option_map string_bytes now; contents = None; failures = 0 }; environment = g })) empty h)
 
 -- the text of a run into a buffer
 pub text_answered : (answer : Result (Unit {0}) Error) (value : Unit {0}) (text : String Global) (m : Run Nothing) (e g : Environment) → answer ≡ Ok value

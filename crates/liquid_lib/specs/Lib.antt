@@ -4,6 +4,9 @@ pub mod Failures
 pub mod Forloop
 pub mod Headline
 pub mod Kept
+pub mod LimitedPages
+pub mod LimitedParts
+pub mod Limits
 pub mod Pages
 pub mod Performs
 pub mod Rendered

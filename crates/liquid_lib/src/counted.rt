@@ -3,17 +3,24 @@ ghost use Rattle.std.specs.Prelude.{◌≡◌, ℕ, List, Option, None, true, fa
 ghost use Rattle.std.specs.Io.{WritesAtMost};
 ghost use Rattle.std.specs.Io.KnownBytes.{WriteAppends};
 ghost use Rattle.liquid_lib.specs.Failures.{failures_after, OneFailed};
+ghost use Rattle.liquid_lib.specs.Limits.{TakesBytes, TakesTurn, WriteTakes, unlimited};
+ghost use Rattle.liquid_lib.specs.declared.limits.Limits.{Limits};
 
 use std::io;
 use std::io::Write;
 
-/// The one way in which a run writes.
+/// The one way in which a run writes, and what it asks before it goes on.
+///
+/// A refusal, of a turn or of room, is a failed write of no bytes.
 pub trait CountedWrite {
     // The bytes that the writer holds, where it tells them.
     ghost contents: { Self → Option (List ℕ) };
 
     // How many writes failed.
     ghost failure_count: { Self → ℕ };
+
+    // How many bytes and turns the writer still grants, where it has limits.
+    ghost left: { Self → Limits } = { λ _. unlimited };
 
     /// Writes a beginning of the bytes and answers how many it took, as `Write::write` does.
     ///
@@ -22,20 +29,33 @@ pub trait CountedWrite {
     fn write(&mut self, bytes: &[u8]) -> io::Result<usize>
         ensures bound { WritesAtMost result bytes.now }
         ensures bytes { WriteAppends (contents self.old) (contents self.new) result bytes.now }
-        ensures counted { failure_count self.new ≡ failures_after result bytes.now (failure_count self.old) };
+        ensures counted { failure_count self.new
+            ≡ failures_after result bytes.now (failure_count self.old) }
+        ensures takes { WriteTakes result (left self.old) (left self.new) };
 
     /// The count of failures.
     fn failures(&self) -> u64
         ensures { result ≡ failure_count self.now };
 
-    /// Whether a run may go on, which it asks before each body and each partial. A refusal is a write that failed.
+    /// Whether a run may go on, which it asks before each list of nodes: the template's own, and
+    /// each body, cell, branch, capture and partial each time that it runs.
     fn turn(&mut self) -> bool
         ensures same { contents self.new ≡ contents self.old }
         ensures goes_on { result ≡ true → failure_count self.new ≡ failure_count self.old }
-        ensures refused { result ≡ false → OneFailed (failure_count self.old) (failure_count self.new) }
-    {
-        true
-    }
+        ensures takes { result ≡ true → TakesTurn (left self.old) (left self.new) }
+        ensures refused { result ≡ false →
+            OneFailed (failure_count self.old) (failure_count self.new) }
+        ensures kept { result ≡ false → left self.new ≡ left self.old };
+
+    /// Whether a run may add so many bytes to a text that it holds in a buffer, as the body of a
+    /// `capture` or an `ifchanged`, which it asks before it adds them.
+    fn room(&mut self, bytes: usize) -> bool
+        ensures same { contents self.new ≡ contents self.old }
+        ensures goes_on { result ≡ true → failure_count self.new ≡ failure_count self.old }
+        ensures takes { result ≡ true → TakesBytes bytes (left self.old) (left self.new) }
+        ensures refused { result ≡ false →
+            OneFailed (failure_count self.old) (failure_count self.new) }
+        ensures kept { result ≡ false → left self.new ≡ left self.old };
 }
 
 /// Any writer, with a count of its failures. Its bytes are that writer's.
@@ -94,86 +114,13 @@ impl<W: Write> CountedWrite for Counted<W> {
     fn failures(&self) -> u64 {
         self.failures
     }
-}
 
-/// A writer that lets a run go on for so many bodies and partials, and then refuses.
-#[derive(Drop)]
-pub struct Limited<W> {
-    writer: W,
-    left: u64,
-    failures: u64,
-}
-
-impl<W: CountedWrite> Limited<W> {
-    ghost use Rattle.liquid_lib.specs.CountedParts.{limited_inner, limited_left, limited_count};
-
-    /// The writer, for so many bodies and partials.
-    pub fn new(writer: W, turns: u64) -> Self
-        ensures writer { limited_inner result ≡ writer }
-        ensures left { limited_left result ≡ turns }
-    {
-        let failures = writer.failures();
-        Limited {
-            writer,
-            left: turns,
-            failures,
-        }
+    fn turn(&mut self) -> bool {
+        true
     }
 
-    /// The writer itself.
-    pub fn into_inner(self) -> W
-        ensures { result ≡ limited_inner self }
-    {
-        let Limited {
-            writer,
-            left: _,
-            failures: _,
-        } = self;
-        writer
-    }
-}
-
-impl<W: CountedWrite> CountedWrite for Limited<W> {
-    ghost use Rattle.std.specs.Prelude.{◌+◌, true, false};
-    ghost use Rattle.liquid_lib.specs.CountedParts.{limited_inner, limited_left, limited_count};
-
-    ghost contents = { λ c. W.contents (limited_inner c) };
-
-    ghost failure_count = { λ c. limited_count c };
-
-    fn write(&mut self, bytes: &[u8]) -> io::Result<usize> {
-        let answer = self.writer.write(bytes);
-        let failed = match &answer {
-            Ok(0) => !bytes.is_empty(),
-            Ok(_) => false,
-            Err(_) => true,
-        };
-        if failed && self.failures < u64::MAX {
-            self.failures += 1;
-        }
-        answer
-    }
-
-    fn failures(&self) -> u64 {
-        self.failures
-    }
-
-    fn turn(&mut self) -> bool
-        ensures same { W.contents (limited_inner self.new) ≡ W.contents (limited_inner self.old) }
-        ensures goes_on { result ≡ true → limited_count self.new ≡ limited_count self.old }
-        ensures refused { result ≡ false → OneFailed (limited_count self.old) (limited_count self.new) }
-        // each turn that is granted takes one of those that are left
-        ensures taken { result ≡ true → limited_left self.old ≡ limited_left self.new + 1 }
-        ensures spent { result ≡ false → (limited_left self.old ≡ 0) × (limited_left self.new ≡ 0) }
-    {
-        if self.left > 0 {
-            self.left -= 1;
-            return true;
-        }
-        if self.failures < u64::MAX {
-            self.failures += 1;
-        }
-        false
+    fn room(&mut self, _: usize) -> bool {
+        true
     }
 }
 
@@ -192,5 +139,13 @@ impl CountedWrite for NoWriter {
 
     fn failures(&self) -> u64 {
         0
+    }
+
+    fn turn(&mut self) -> bool {
+        true
+    }
+
+    fn room(&mut self, _: usize) -> bool {
+        true
     }
 }

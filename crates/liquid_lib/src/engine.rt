@@ -28,7 +28,7 @@ use crate::fault_location::{in_partial, located};
 use crate::ifchanged::show_if_changed;
 use crate::leaves::{run_assign, run_output, run_raw, run_text};
 use crate::nodes::next_after;
-use crate::output::Output;
+use crate::output::{Output, Turn};
 use crate::partial::{enter_include, enter_jekyll_include};
 use liquid_core::{Expression, Interrupt, NamedFilters, Result, State, Value};
 use liquid_syntax::{Binding, Node};
@@ -61,10 +61,10 @@ pub(crate) fn run_range<'d, W: CountedWrite, H: NamedFilters>(
         (sink_of W.contents W.failure_count out.new).failures }
     ensures loops { loops_of state.new ≡ loops_of state.old }
 {
-    out.turn(alloc)?;
+    let turn = out.turn(alloc)?;
     let mut at = from;
     while at < to {
-        if let Err(fault) = run_node(alloc, context, nodes, at, to, out, state) {
+        if let Err(fault) = run_node(alloc, context, nodes, at, to, turn, out, state) {
             return Err(located(alloc, context.positions, at, fault));
         }
         if state.interrupt.is_some() {
@@ -75,7 +75,7 @@ pub(crate) fn run_range<'d, W: CountedWrite, H: NamedFilters>(
     Ok(())
 }
 
-/// Runs one node.
+/// Runs one node, in the turn that was granted to its list.
 #[cycle(run)]
 fn run_node<'d, W: CountedWrite, H: NamedFilters>(
     alloc: Global,
@@ -83,6 +83,7 @@ fn run_node<'d, W: CountedWrite, H: NamedFilters>(
     nodes: &'d [Node],
     at: usize,
     to: usize,
+    _: Turn,
     out: &mut Output<'_, W>,
     state: &mut State<'d>,
 ) -> Result<()>

@@ -16,6 +16,7 @@ mod ifchanged;
 pub mod jekyll;
 mod leaves;
 mod lent;
+mod limits;
 mod loop_turns;
 mod nodes;
 mod output;
@@ -32,7 +33,8 @@ mod standard;
 pub mod stdlib;
 mod write_all;
 
-pub use counted::{Counted, CountedWrite, Limited};
+pub use counted::{Counted, CountedWrite};
+pub use limits::{LimitReached, Limited, Limits};
 pub use liquid_core::{
     Error, ErrorKind, Filter, HostFilters, Location, Object, Origin, Result, State, Value, ValueCow,
 };
@@ -42,7 +44,7 @@ pub use liquid_meaning::{
 };
 pub use liquid_syntax::{Language, Partials, Template, parse};
 pub use liquid_tags::{BlockReflection, TagReflection};
-pub use page::{Page, render_page};
+pub use page::{LimitedPage, Page, render_page, render_page_within};
 pub use render::Renderable;
 pub use runtime::{Runtime, RuntimeBuilder};
 pub use source::render_source;

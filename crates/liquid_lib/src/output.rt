@@ -1,11 +1,13 @@
 //! The caller's writer, behind open buffers.
-ghost use Rattle.std.specs.Prelude.{◌≡◌, [], Some, IsSome, OnOk, OnErr};
+ghost use Rattle.std.specs.Prelude.{◌≡◌, [], length, Some, IsSome, OnOk, OnErr};
 ghost use Rattle.std.specs.Option.{option_map};
 ghost use Rattle.std.specs.String.{string_bytes};
 ghost use Rattle.liquid_lib.specs.Failures.{OneFailed};
 ghost use Rattle.liquid_lib.specs.Performs.{Cut, Writes};
+ghost use Rattle.liquid_lib.specs.Limits.{TakesBytes, TakesTurn};
 ghost use Rattle.liquid_lib.specs.inside.Puts.{Puts};
 ghost use Rattle.liquid_lib.specs.Sinks.{sink_of};
+ghost use Rattle.liquid_lib.specs.declared.output.Put.TheVariants.{All};
 ghost use Rattle.liquid_model.specs.ErrorKinds.{IsKindOrMemory};
 ghost use Rattle.liquid_model.specs.declared.error.ErrorKind.TheVariants.{Write};
 
@@ -23,7 +25,15 @@ pub struct Output<'w, W> {
     pub buffer: Option<String>,
 }
 
-/// How a text was added: all of it, or a beginning, since the buffer can't grow or the writer failed.
+/// A turn that the writer granted, in which the nodes of one list run. Only [Output::turn] makes
+/// one.
+#[derive(Clone, Copy, Drop)]
+pub struct Turn {
+    granted: (),
+}
+
+/// How a text was added: all of it, or a beginning, since the buffer can't grow, or the writer
+/// failed or refused it.
 #[derive(Clone, Copy, Drop)]
 enum Put {
     All,
@@ -52,13 +62,21 @@ impl<'w, W: CountedWrite> Output<'w, W> {
         ensures puts { Puts result text.now
             (sink_of W.contents W.failure_count self.old)
             (sink_of W.contents W.failure_count self.new) }
+        // of a writer with a limit it takes what it adds, in a buffer too
+        ensures takes { result ≡ All → TakesBytes (length text.now)
+            (W.left self.old.writer.now) (W.left self.new.writer.now) }
         ensures same_writer { self.new.writer.ghost_name ≡ self.old.writer.ghost_name }
     {
         match &mut self.buffer {
-            Some(buffer) => match buffer.push_str(text) {
-                Ok(()) => Put::All,
-                Err(_) => Put::NoMemory,
-            },
+            Some(buffer) => {
+                if !self.writer.room(text.len()) {
+                    return Put::NotWritten;
+                }
+                match buffer.push_str(text) {
+                    Ok(()) => Put::All,
+                    Err(_) => Put::NoMemory,
+                }
+            }
             None => match write_all(self.writer, text.as_bytes()) {
                 Ok(()) => Put::All,
                 Err(_) => Put::NotWritten,
@@ -67,8 +85,11 @@ impl<'w, W: CountedWrite> Output<'w, W> {
     }
 
     /// Asks the writer whether the run may go on: `Write` where it refuses.
-    pub fn turn(&mut self, alloc: Global) -> Result<()>
+    pub fn turn(&mut self, alloc: Global) -> Result<Turn>
         ensures goes_on { OnOk result (sink_of W.contents W.failure_count self.new ≡ sink_of W.contents W.failure_count self.old) }
+        // of a writer with a limit it takes one of the turns that are left
+        ensures takes { OnOk result
+            (TakesTurn (W.left self.old.writer.now) (W.left self.new.writer.now)) }
         ensures refused { OnErr result (Cut result []
             (sink_of W.contents W.failure_count self.old)
             (sink_of W.contents W.failure_count self.new)) }
@@ -78,13 +99,9 @@ impl<'w, W: CountedWrite> Output<'w, W> {
         ensures same_writer { self.new.writer.ghost_name ≡ self.old.writer.ghost_name }
     {
         if self.writer.turn() {
-            return Ok(());
+            return Ok(Turn { granted: () });
         }
-        Err(Error::new(
-            alloc,
-            ErrorKind::Write,
-            "the writer let the run go on no further",
-        ))
+        Err(refused_turn(alloc))
     }
 
     /// Opens a buffer, and gives the one that was innermost, for `close`. It takes no memory.
@@ -116,5 +133,17 @@ fn not_written(alloc: Global) -> Error
         alloc,
         ErrorKind::Write,
         "the writer failed, or took nothing of what was left to write",
+    )
+}
+
+/// The fault of a writer that grants no turn.
+#[inline(never)]
+fn refused_turn(alloc: Global) -> Error
+    ensures { IsKindOrMemory Write result.kind }
+{
+    Error::new(
+        alloc,
+        ErrorKind::Write,
+        "the writer let the run go on no further",
     )
 }

@@ -5,9 +5,12 @@ ghost use Rattle.liquid_model.specs.ErrorKinds.{is_memory};
 ghost use Rattle.liquid_core.specs.Held.{held};
 ghost use Rattle.liquid_core.specs.States.{layers_of, loops_of, new_layers};
 ghost use Rattle.liquid_syntax.specs.Templates.{partials_of, tree_of};
+ghost use Rattle.liquid_lib.specs.LimitedPages.{PageWithin};
 ghost use Rattle.liquid_lib.specs.Pages.{ended_page, page_over, page_view};
 
-use crate::render::text_of_run;
+use crate::counted::NoWriter;
+use crate::limits::{LimitReached, Limited, Limits};
+use crate::render::{text_beside, text_of_run};
 use crate::runtime::Runtime;
 use liquid_core::{Data, Error, ErrorKind, Object, Result, State};
 use liquid_syntax::{Partials, Template};
@@ -45,6 +48,45 @@ pub fn render_page(
     };
     let (text, answer) = text_of_run(alloc, template, &mut runtime);
     page_of_end(text, answer)
+}
+
+/// What a template shows within limits.
+#[derive(Drop)]
+pub struct LimitedPage {
+    /// The page. Where a limit ended it, it has the text up to there, and its fault is of the kind
+    /// `Write`.
+    pub page: Page,
+    /// The limit that ended it, where one did.
+    pub limit: Option<LimitReached>,
+}
+
+/// The page of a template as of [render_page], within limits.
+///
+/// Where no limit is reached it is the whole page. Else it has a beginning of its text, and tells
+/// which limit ended it. The answer is `Memory` where a growth was refused, and no other kind.
+pub fn render_page_within(
+    alloc: Global,
+    template: &Template,
+    partials: &Partials,
+    depth: u32,
+    facts: &Object,
+    limits: Limits,
+) -> Result<LimitedPage>
+    ensures page { IfOk result (λ p. PageWithin
+        (page_over depth (partials_of partials.now) (held facts.now) (tree_of template.now)) p) }
+    ensures memory { IfErr result (λ e. e.kind ≡ ErrorKind.Memory) }
+{
+    let mut runtime = Runtime {
+        state: state_over(alloc, facts),
+        partials: Some(partials),
+        host: None,
+        depth,
+    };
+    let mut writer = Limited::new(NoWriter, limits);
+    let (text, answer) = text_beside(alloc, template, &mut writer, &mut runtime);
+    let limit = writer.ended_by();
+    let page = page_of_end(text, answer)?;
+    Ok(LimitedPage { page, limit })
 }
 
 /// A new state over data that is lent. It takes no memory.

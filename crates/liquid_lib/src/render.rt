@@ -6,7 +6,7 @@ ghost use Rattle.liquid_core.specs.Environment.{cut};
 ghost use Rattle.liquid_syntax.specs.Templates.{tree_of};
 ghost use Rattle.liquid_tree.specs.Tree.{Nodes};
 ghost use Rattle.liquid_lib.specs.Added.{AppendsPart};
-ghost use Rattle.liquid_lib.specs.inside.Engine.{in_buffer};
+ghost use Rattle.liquid_lib.specs.inside.Engine.{in_buffer, beside};
 ghost use Rattle.liquid_lib.specs.Failures.{OneFailed, AtMostOneFailed};
 ghost use Rattle.liquid_meaning.specs.Isolation.{changes};
 ghost use Rattle.liquid_lib.specs.Kept.{LayersKept, AreRenders};
@@ -146,11 +146,39 @@ pub(crate) fn text_of_run(
     ensures silent { AreSilent (tree_of template.now) → IsOk result.1 }
     ensures same { SettingKept runtime.old runtime.new }
 {
-    let mut writer = NoWriter;
+    text_beside(alloc, template, &mut NoWriter, runtime)
+}
+
+/// Runs the nodes of a template into a buffer, while the writer grants it. The text, up to the first
+/// fault or refusal, and how the run ended.
+pub(crate) fn text_beside<W: CountedWrite>(
+    alloc: Global,
+    template: &Template,
+    writer: &mut W,
+    runtime: &mut Runtime<'_>,
+) -> (String, Result<()>)
+    ensures performs { Performs result.1 (run_in counts answer runtime.old (tree_of template.now))
+        (beside W.contents W.failure_count writer.old [] (environment_in runtime.old))
+        (beside W.contents W.failure_count writer.new (string_bytes result.0)
+        (environment_in runtime.new)) }
+    ensures kept { LayersKept (names_in runtime.old (tree_of template.now))
+        (layers_in runtime.old) (layers_in runtime.new) }
+    ensures alone { AreRenders (tree_of template.now) →
+        layers_in runtime.new ≡ layers_in runtime.old }
+    ensures same { SettingKept runtime.old runtime.new }
+{
     let mut out = Output {
-        writer: &mut writer,
+        writer,
         buffer: Some(String::new(alloc)),
     };
     let answer = run_template(alloc, template, &mut out, runtime);
-    (out.close(None), answer)
+    let text = out.close(None);
+    let Output {
+        writer: left,
+        buffer,
+    } = out;
+    drop(buffer);
+    // No effect at run time. The proof reads what the writer is from this use.
+    let _ = &*left;
+    (text, answer)
 }

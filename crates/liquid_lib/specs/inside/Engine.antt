@@ -1,5 +1,5 @@
 -- What the functions of a run do.
-use Rattle.std.specs.Prelude.{ℕ, Some, None}
+use Rattle.std.specs.Prelude.{ℕ, List, Option, Some, None}
 use Rattle.liquid_model.specs.Texts.{Text}
 use Rattle.liquid_core.specs.Environment.{Environment}
 use Rattle.liquid_core.specs.FilterAnswers.{FilterAnswer}
@@ -32,3 +32,15 @@ nodes_in named context nodes = nodes_meant (setting_of named context) context.de
 -- a run into a buffer that holds this text, which no writer sees
 abbrev pub in_buffer : Text → Environment → Configuration
 in_buffer text environment = record { sink = record { buffer = Some text; contents = None; failures = 0 }; environment = environment }
+
+-- a run into a buffer that holds this text, beside a writer
+module _ {W : Type 0} (contents : W → Option (List ℕ)) (failure_count : W → ℕ) where
+  abbrev pub beside : W → Text → Environment → Configuration
+  beside writer text environment = record {
+    sink = record {
+      buffer = Some text;
+      contents = contents writer;
+      failures = failure_count writer;
+    };
+    environment = environment;
+  }

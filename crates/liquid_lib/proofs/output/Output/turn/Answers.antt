@@ -7,4 +7,4 @@ pub returns-clause-stopped : goal.returns-clause-stopped
 returns-clause-stopped g c = c.if-turn.ensures.refused refl
 
 pub returns-clause-refused : goal.returns-clause-refused
-returns-clause-refused g c = refused_cut c.new.result _ _ c.new.ensures.told (c.if-turn.ensures.refused refl) refl c.if-turn.ensures.same
+returns-clause-refused g c = refused_cut c.refused_turn.result _ _ c.refused_turn.ensures (c.if-turn.ensures.refused refl) refl c.if-turn.ensures.same

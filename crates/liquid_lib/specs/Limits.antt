@@ -1,0 +1,31 @@
+-- What a writer still grants a run: bytes of text, and turns.
+--     Takes n old new      n of those left were taken; where there is no limit, there still is none
+--     fits n left      so many are left, or there is no limit
+use Rattle.std.specs.Prelude.{◌≡◌, ℕ, ◌-◌, ◌≤◌, nat_le, Bool, true}
+use Rattle.std.specs.Prelude.{Option, Some, None, Result, Ok, Err}
+use Rattle.liquid_lib.specs.declared.limits.Limits.{Limits}
+
+-- no limit at all
+abbrev pub unlimited : Limits
+unlimited = record { bytes = None; turns = None }
+
+abbrev pub fits : ℕ → Option ℕ → Bool
+fits n None = true
+fits n (Some left) = nat_le n left
+
+abbrev pub Takes : ℕ → Option ℕ → Option ℕ → Type 0
+Takes n None new = new ≡ None
+Takes n (Some left) new = (n ≤ left) × (new ≡ Some (left - n))
+
+-- one turn was taken, and no byte
+abbrev pub TakesTurn : Limits → Limits → Type 0
+TakesTurn old new = Takes 1 old.turns new.turns × (new.bytes ≡ old.bytes)
+
+-- so many bytes were taken, and no turn
+abbrev pub TakesBytes : ℕ → Limits → Limits → Type 0
+TakesBytes n old new = Takes n old.bytes new.bytes × (new.turns ≡ old.turns)
+
+-- a write takes the bytes that it answers, and none where it fails
+abbrev pub WriteTakes : {E : Type 0} → Result ℕ E → Limits → Limits → Type 0
+WriteTakes (Ok n) old new = TakesBytes n old new
+WriteTakes (Err e) old new = new ≡ old
