@@ -1,18 +1,21 @@
 //! Makes calls of languages, runtimes, pages and filters of a host as rows tell them, and those of the README's examples, and tells
 //! each that doesn't end as its row says.
 //!
-//! A row is a line of JSON on standard input: `call`, and of a page its `source`, its `data`, and `on`, with `partials`, `tags` that
-//! are registered beside the standard ones, `host` (names that stand for filters of a host), the `depth`, the `writes` that its
-//! writer takes, of at most so many bytes each, and what is rendered `then` on the same runtime; its page as `answer`, and the
-//! kind of its `fault`. A `rendering` is a page whose template is parsed before its calls. The
-//! `source` of an `example` is its name. Of all other calls `with` is a list of steps. With a word
-//! each call stands between marks, for `tests/refusals/run`, and how it ended behind them.
+//! A row is a line of JSON on standard input: `call`, and of a page its `source`, its `data`, and
+//! `on`, with `partials`, `tags` that are registered beside the standard ones, `host` (names that stand
+//! for filters of a host), the `depth`, the `writes` that its writer takes, of at most so many bytes
+//! each, and what is rendered `then` on the same runtime; its page as `answer`, and the kind of its
+//! `fault`. A `rendering` is a page whose template is parsed before its calls. A `limited page` also has
+//! the `bytes` and the `turns` of its limits, and the limit that it is `ended_by`. The `source` of an
+//! `example` is its name. Of all other calls `with` is a list of steps. With a word each call stands
+//! between marks, for `tests/refusals/run`, and how it ended after them.
 #![tactic(auto)]
 
 mod examples;
 mod filters;
 mod given;
 mod hosts;
+mod limits;
 mod pages;
 mod registers;
 mod runtimes;
@@ -20,6 +23,7 @@ mod writers;
 
 use crate::examples::example;
 use crate::hosts::hosted;
+use crate::limits::limited_made;
 use crate::pages::{pages_made, rendering_made};
 use crate::registers::{forloop, has_filter, registered};
 use crate::runtimes::runtime_made;
@@ -64,6 +68,7 @@ fn row_made<R: Print>(told: &Told<'_, R>, line: &str, row: &Row, data: Object) -
         "page" => pages_made(told, row, data, None),
         "rendering" => rendering_made(told, row, data),
         "hosted page" | "filters" => hosted(told, row),
+        "limited page" => limited_made(told, row, data),
         "runtime" => runtime_made(told, row, data),
         "registers" => registered(told, row),
         _ => {

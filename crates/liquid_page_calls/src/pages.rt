@@ -1,6 +1,6 @@
 //! A page by each call that makes it.
 use crate::given::{copied, depth, language_with, option, partials_of};
-use crate::writers::{Limited, kind_ending, page_ending, page_of, writer};
+use crate::writers::{FailingWriter, kind_ending, page_ending, page_of, writer};
 use liquid_core::{ErrorKind, HostFilters, Object, Result, Value};
 use liquid_lib::{
     Counted, Language, Page, Partials, Renderable, Runtime, RuntimeBuilder, Template, parse,
@@ -124,7 +124,7 @@ fn rendered_over<R: Print>(
     given: &Given<'_>,
     call: &str,
     data: Object,
-    mut written: Counted<Limited>,
+    mut written: Counted<FailingWriter>,
 ) -> Result<()> {
     let (alloc, source) = (told.alloc, given.row.source.as_str());
     let builder = RuntimeBuilder::new(alloc)

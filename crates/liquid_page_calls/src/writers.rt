@@ -9,13 +9,13 @@ use std::io::Write;
 
 /// Takes at most so many bytes at each write, and fails once no write is left.
 #[derive(Drop)]
-pub(crate) struct Limited {
+pub(crate) struct FailingWriter {
     pub(crate) bytes: Vec<u8>,
     pub(crate) most: usize,
     pub(crate) writes_left: usize,
 }
 
-impl Write for Limited {
+impl Write for FailingWriter {
     fn write(&mut self, buf: &[u8]) -> io::Result<usize> {
         if self.writes_left == 0 {
             return Err(io::Error::from(io::ErrorKind::BrokenPipe));
@@ -32,10 +32,10 @@ impl Write for Limited {
 }
 
 /// The writer of the row, with room for its page, so that it asks for none.
-pub(crate) fn writer(alloc: Global, row: &Row) -> Result<Limited> {
+pub(crate) fn writer(alloc: Global, row: &Row) -> Result<FailingWriter> {
     let most = number_option(&row.on, "most", 4096);
     let writes_left = number_option(&row.on, "writes", 4096);
-    Ok(Limited {
+    Ok(FailingWriter {
         bytes: Vec::with_capacity(alloc, page_of(row).len())?,
         most,
         writes_left,
@@ -51,7 +51,7 @@ pub(crate) fn page_of(row: &Row) -> &str {
 pub(crate) fn page_ending(
     row: &Row,
     kind: Option<ErrorKind>,
-    written: Counted<Limited>,
+    written: Counted<FailingWriter>,
 ) -> &'static str {
     let failures = written.failures();
     let bytes = written.into_inner().bytes;
