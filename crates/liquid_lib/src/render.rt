@@ -165,6 +165,8 @@ pub(crate) fn text_beside<W: CountedWrite>(
         (layers_in runtime.old) (layers_in runtime.new) }
     ensures alone { AreRenders (tree_of template.now) →
         layers_in runtime.new ≡ layers_in runtime.old }
+    ensures silent { AreSilent (tree_of template.now) →
+        IsDoneOrStopped result.1 (W.failure_count writer.old) (W.failure_count writer.new) }
     ensures same { SettingKept runtime.old runtime.new }
 {
     let mut out = Output {
