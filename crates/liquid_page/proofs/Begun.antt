@@ -1,6 +1,6 @@
--- What a page leaves at its writer, from what was written through a buffer.
-use Rattle.std.proofs.Common.{◌≡◌, ℕ, List, [], ◌++◌, Option, Some, None, Ok, Result, IfSome, inl, inr, refl, sym, ap, ◌∙◌, subst, append_assoc}
-use Rattle.std.specs.Prelude.{◌⊎◌}
+-- What a page leaves at its writer, from what was written through a buffer, and how its call ends.
+use Rattle.std.proofs.Common.{◌≡◌, ℕ, Bool, true, false, List, [], ◌++◌, Option, Some, None, Ok, Err, Result, IfSome, inl, inr, refl, sym, ap, ◌∙◌, subst, append_assoc}
+use Rattle.std.specs.Prelude.{◌⊎◌, MatchBool, MatchResult, ⊤}
 use Rattle.std.specs.Io.KnownBytes.{Keeps, append_known}
 use Rattle.std.proofs.KnownBytes.{Appends-nil, Appends-kept}
 use Rattle.liquid_model.specs.declared.error.Error.{Error}
@@ -8,8 +8,12 @@ use Rattle.liquid_model.specs.Texts.{Text}
 use Rattle.liquid_lib.specs.Added.{AppendsPart}
 use Rattle.liquid_site.specs.Page.{Sources, Texts}
 use Rattle.liquid_site.specs.Shown.{RanOut, ShowsStandard}
-use Rattle.liquid_page.specs.Files.{Stop, Files, Leaves}
-use Rattle.liquid_page.specs.Written.{HoldsBeginning, IsBegun, a_page, no_page}
+use Rattle.liquid_lib.specs.Performs.{is_refused}
+use Rattle.liquid_model.specs.ErrorKinds.{is_refusal}
+use Rattle.liquid_page.specs.declared.outcome.Outcome.{Outcome}
+use Rattle.liquid_page.specs.declared.outcome.Outcome.TheVariants.{Done, Fault}
+use Rattle.liquid_page.specs.Files.{Stop, Files, Leaves, Ends}
+use Rattle.liquid_page.specs.Written.{HoldsBeginning, IsBegun, IsWritten, a_page, no_page}
 
 -- of a text's beginning behind what was there, the writer has what isn't held back
 holds_front : (before start after now : Option (List ℕ)) (held text : List ℕ) → Keeps before start → AppendsPart start after text → Keeps after (append_known now held) → HoldsBeginning before now text
@@ -43,3 +47,29 @@ lent_begun known wanted read t d ps old new ts ds pss is begun = left_begun know
     (subst (λ x. IsBegun (record { template = x; facts = read.facts; partials = read.partials }) old new) ts
     (subst (λ x. IsBegun (record { template = t; facts = x; partials = read.partials }) old new) ds
     (subst (λ x. IsBegun (record { template = t; facts = d; partials = x }) old new) pss begun)))
+
+-- ---- how the call ends, by the answer of writing the page
+
+ended_by : (texts : Texts) (r : Result (Unit {0}) Error) (o : Outcome) (wanted : Result Texts Stop) (old new : Option (List ℕ))
+    → wanted ≡ Ok texts → (is_refused r ≡ false → IsWritten texts r old new) → MatchResult r (λ u. o ≡ Done) (λ e. o ≡ Fault e) → Ends wanted o old new
+ended_by texts (Ok tt) o wanted old new is written told = subst (λ x. Ends wanted x old new) (sym told) (texts, (is, written refl))
+ended_by texts (Err e) o wanted old new is written told = subst (λ x. Ends wanted x old new) (sym told) (fault_of (is_refusal e.kind) refl)
+  where
+    fault_of : (b : Bool) → is_refusal e.kind ≡ b → MatchBool b ⊤ ((t : Texts) × (wanted ≡ Ok t) × IsWritten t (Err e) old new)
+    fault_of true q = tt
+    fault_of false q = (texts, (is, written q))
+
+left_ended : (known : Option Files) (wanted : Files → Result Texts Stop) (texts : Texts) (r : Result (Unit {0}) Error) (o : Outcome) (old new : Option (List ℕ))
+    → IfSome known (λ files. wanted files ≡ Ok texts) → (is_refused r ≡ false → IsWritten texts r old new) → MatchResult r (λ u. o ≡ Done) (λ e. o ≡ Fault e) → IfSome known (λ files. Ends (wanted files) o old new)
+left_ended None wanted texts r o old new read written told = tt
+left_ended (Some files) wanted texts r o old new read written told = ended_by texts r o (wanted files) old new read written told
+
+-- the same of texts that are lent
+pub lent_ended : (known : Option Files) (wanted : Files → Result Texts Stop) (read : Texts) (t d : Text) (ps : Sources) (r : Result (Unit {0}) Error) (o : Outcome) (old new : Option (List ℕ))
+    → t ≡ read.template → d ≡ read.facts → ps ≡ read.partials
+    → IfSome known (λ files. wanted files ≡ Ok read) → (is_refused r ≡ false → IsWritten (record { template = t; facts = d; partials = ps }) r old new)
+    → MatchResult r (λ u. o ≡ Done) (λ e. o ≡ Fault e) → IfSome known (λ files. Ends (wanted files) o old new)
+lent_ended known wanted read t d ps r o old new ts ds pss is written told = left_ended known wanted read r o old new is (λ q.
+    (subst (λ x. IsWritten (record { template = x; facts = read.facts; partials = read.partials }) r old new) ts
+    (subst (λ x. IsWritten (record { template = t; facts = x; partials = read.partials }) r old new) ds
+    (subst (λ x. IsWritten (record { template = t; facts = d; partials = x }) r old new) pss (written q))))) told

@@ -1,9 +1,9 @@
 //! How a call of the program ends.
-ghost use Rattle.std.specs.Prelude.{◌≡◌, Some};
+ghost use Rattle.std.specs.Prelude.{◌≡◌, Some, MatchResult};
 ghost use Rattle.liquid_page.specs.Outcomes.{IsMemory, status_of, told};
-ghost use Rattle.liquid_page.specs.declared.outcome.Outcome.TheVariants.{Fault};
+ghost use Rattle.liquid_page.specs.declared.outcome.Outcome.TheVariants.{Done, Fault};
 
-use liquid_core::Error;
+use liquid_core::{Error, Result};
 use std::alloc::{AllocError, AllocFailed};
 use std::fmt;
 
@@ -43,6 +43,18 @@ impl fmt::Display for Outcome {
             Outcome::Usage => f.write_str("usage: liquid_page TEMPLATE DATA [NAME=FILE ..]"),
             Outcome::Unread(file) => write!(f, "error: Read: {file}"),
             Outcome::Fault(fault) => write!(f, "error: {fault}"),
+        }
+    }
+}
+
+/// How a call ended whose page was written, or ended by a fault.
+impl From<Result<()>> for Outcome {
+    ghost from_gives = { λ answer outcome. MatchResult answer (λ _. outcome ≡ Done) (λ fault. outcome ≡ Fault fault) };
+
+    fn from(answer: Result<()>) -> Outcome {
+        match answer {
+            Ok(()) => Outcome::Done,
+            Err(fault) => Outcome::Fault(fault),
         }
     }
 }

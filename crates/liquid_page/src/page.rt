@@ -91,11 +91,7 @@ pub fn page<T: Texts, W: Write + Drop>(
                 &read.partials,
                 writer,
             );
-            let outcome = match answer {
-                Ok(()) => Outcome::Done,
-                Err(fault) => Outcome::Fault(fault),
-            };
-            (writer, outcome, Some(read))
+            (writer, Outcome::from(answer), Some(read))
         }
         Err(outcome) => (writer, outcome, None),
     }
