@@ -66,7 +66,7 @@ fn row_read<R: Print>(told: &Told<'_, R>, line: &str) -> Result<()> {
 fn row_made<R: Print>(told: &Told<'_, R>, line: &str, row: &Row, data: Object) -> Result<()> {
     match row.call.as_str() {
         "page" => pages_made(told, row, data, None),
-        "rendering" => rendering_made(told, row, data),
+        "rendering" => rendering_made(told, row, data, None),
         "hosted page" | "filters" => hosted(told, row),
         "limited page" => limited_made(told, row, data),
         "runtime" => runtime_made(told, row, data),

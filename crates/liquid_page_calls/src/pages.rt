@@ -55,22 +55,45 @@ fn pages_in<R: Print>(
     }
 }
 
-/// The page of the row by the calls that render a template. It is parsed before them, so that
-/// nothing but they stands between marks.
-pub(crate) fn rendering_made<R: Print>(told: &Told<'_, R>, row: &Row, data: Object) -> Result<()> {
+/// The page of the row by the calls that render a template, with these filters of a host or without
+/// any. It is parsed before them, so that nothing but they stands between marks.
+pub(crate) fn rendering_made<R: Print>(
+    told: &Told<'_, R>,
+    row: &Row,
+    data: Object,
+    host: Option<&HostFilters>,
+) -> Result<()> {
     let language = language_with(told.alloc, &row.on)?;
-    let partials = partials_of(told.alloc, &row.on, &language)?;
-    let template = parse(told.alloc, row.source.as_str(), &language)?;
-    let given = Given {
-        row,
-        language: &language,
-        partials: &partials,
-        template: &template,
-        data: &Value::Object(data),
-        host: None,
-    };
-    rendered_by(told, &given, "render_to")?;
-    rendered_by(told, &given, "render")
+    rendering_in(told, row, &Value::Object(data), host, &language)
+}
+
+/// The same in the language.
+fn rendering_in<R: Print>(
+    told: &Told<'_, R>,
+    row: &Row,
+    data: &Value,
+    host: Option<&HostFilters>,
+    language: &Language,
+) -> Result<()> {
+    let partials = &partials_of(told.alloc, &row.on, language)?;
+    let template = &parse(told.alloc, row.source.as_str(), language)?;
+    rendered_twice(
+        told,
+        &Given {
+            row,
+            language,
+            partials,
+            template,
+            data,
+            host,
+        },
+    )
+}
+
+/// To a writer, and as a text.
+fn rendered_twice<R: Print>(told: &Told<'_, R>, given: &Given<'_>) -> Result<()> {
+    rendered_by(told, given, "render_to")?;
+    rendered_by(told, given, "render")
 }
 
 /// The template, parsed again where memory was refused, or none where the row's source is refused by its fault.
