@@ -1,5 +1,6 @@
 mod After
 mod Members
 mod Plain
+mod PlainCopies
 mod PlainUses
 mod Turns

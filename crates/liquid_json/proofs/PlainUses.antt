@@ -1,17 +1,17 @@
 -- Uses that name members alone, each once.
-use Rattle.std.proofs.Common.{◌≡◌, Bool, true, false, cond, not, ◌&&◌, ◌||◌, List, Option, Some, None, refl, sym, ap, ◌∙◌, codes}
+use Rattle.std.proofs.Common.{◌≡◌, Bool, true, false, cond, not, ◌&&◌, ◌||◌, Option, Some, refl, ap, ◌∙◌, codes}
 use mathlib.Core.Path.{subst}
 use Rattle.std.specs.Cmp.Lexicographic.{bytes_decides}
 use Rattle.liquid_model.specs.Texts.{Text, same_text}
 use Rattle.liquid_model.specs.Data.{Datum, array, object, Items, no_items, Pairs}
 use Rattle.liquid_model.specs.Lists.{list_of}
-use Rattle.liquid_model.specs.Uses.{Use, nothing, everything, parts, Fields, no_fields, field, ItemUse, uncounted, every, Alike, use_in, asks_whether, join, is_place}
+use Rattle.liquid_model.specs.Uses.{Use, nothing, everything, parts, Fields, no_fields, field, uncounted, every, Alike, use_in, asks_whether, join, is_place}
 use Rattle.liquid_model.specs.Projected.{use_of_key, asks_length, asks_of_list, pairs_wanted}
 use Rattle.liquid_model.specs.Skipping.{AlikeKeys}
 use Rattle.liquid_model.proofs.Alike.{AlikeLists}
 use Rattle.liquid_model.proofs.Projected.{fields_unseen}
 use Rattle.liquid_model.proofs.Skipping.{map_with_some_keys, list_without_items}
-use Rattle.liquid_json.specs.PlainUses.{plain, plain_fields, plain_turns}
+use Rattle.liquid_json.specs.PlainUses.{plain, plain_fields}
 
 pub first_true : (a b : Bool) → a && b ≡ true → a ≡ true
 first_true true b e = refl

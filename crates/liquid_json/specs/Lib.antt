@@ -1,3 +1,4 @@
+pub mod Asked
 pub mod Json
 pub mod PlainUses
 pub mod inside

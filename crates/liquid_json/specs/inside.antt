@@ -1,3 +1,4 @@
+pub mod Copies
 pub mod Planned
 pub mod Skipped
 pub mod Tokens

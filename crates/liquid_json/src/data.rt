@@ -1,12 +1,17 @@
 //! Data from JSON.
+ghost use Rattle.std.specs.Prelude.{◌≡◌, IfOk, IfErr, IfSome};
 ghost use Rattle.liquid_model.specs.Answer.{Answers};
 ghost use Rattle.liquid_model.specs.View.{view, items_view, pairs_view};
+ghost use Rattle.liquid_model.specs.UseViews.{uses_view};
+ghost use Rattle.liquid_json.specs.Asked.{AnswersAlike, IsAlikeData};
 ghost use Rattle.liquid_json.specs.Json.{datum_of, items_of, pairs_of, object_of, data_of};
 ghost use Rattle.serde_json.specs.View.{view as json_view, items_view as json_items, members_view as json_members};
 
+use crate::copies::{any_by_place, plain_uses};
 use crate::place::{bytes_left, no_json, with_place};
-use crate::tokens::data_from_tokens;
-use liquid_core::{Error, ErrorKind, Object, Result, Value};
+use crate::planned::data_from_planned;
+use crate::tokens::{MAX_DEPTH, data_from_tokens};
+use liquid_core::{Error, ErrorKind, Object, Result, Uses, Value};
 use serde_json::Map;
 use std::alloc::{AllocError, Global};
 use std::collections::BTreeMap;
@@ -19,6 +24,38 @@ pub fn data_from_json(alloc: Global, text: &str) -> Result<Object>
         return Ok(data);
     }
     data_from_tree(alloc, text)
+}
+
+/// The data that a text of JSON gives, as far as these uses ask for it: under each name stands a value
+/// that is alike with the text's in all that is asked of it, so whoever looks at no more can't tell
+/// the two apart. What nobody asks for is read over and mostly not built, so it may be missing.
+///
+/// The text is refused exactly where `data_from_json` refuses it, by the same kind of fault, also for
+/// what nobody asks for: `InvalidInput` where it is no JSON or no object, `Float` where a number isn't
+/// whole or is past 64 bits. `Memory` where a growth was refused.
+#[tactic(auto, using(crate::proofs::PlainCopies::whole_answers))]
+pub fn data_for(alloc: Global, text: &str, uses: &Uses) -> Result<Object>
+    ensures { AnswersAlike (λ m. pairs_view m.entries) (uses_view uses.now) result
+        (data_of text.now) }
+{
+    if let Some(data) = data_if_plain(alloc, text, uses)? {
+        return Ok(data);
+    }
+    data_from_json(alloc, text)
+}
+
+/// The same by the tokens, where the uses can be followed and the text is plain.
+fn data_if_plain(alloc: Global, text: &str, uses: &Uses) -> Result<Option<Object>>
+    ensures alike { IfOk result (λ o. IfSome o (λ m.
+        IsAlikeData (uses_view uses.now) (data_of text.now) (pairs_view m.entries))) }
+    ensures memory { IfErr result (λ e. e.kind ≡ ErrorKind.Memory) }
+{
+    if any_by_place(uses) {
+        return Ok(None);
+    }
+    let plain = plain_uses(alloc, uses, MAX_DEPTH)?;
+    let data = data_from_planned(alloc, text, &plain)?;
+    Ok(data)
 }
 
 /// The same by the tree of the whole text, which tells each fault.

@@ -1,6 +1,7 @@
 //! Data from JSON: a text read as an object of Liquid's values, and where a text that isn't one has its fault.
 #![tactic(auto)]
 
+mod copies;
 mod data;
 mod place;
 mod planned;
@@ -8,6 +9,4 @@ mod skip;
 mod tokens;
 mod whole;
 
-pub use data::data_from_json;
-pub use planned::read_planned;
-pub use skip::skipped;
+pub use data::{data_for, data_from_json};

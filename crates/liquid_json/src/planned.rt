@@ -1,22 +1,52 @@
 //! Values from the tokens of a text of JSON, without what nobody asks for.
-ghost use Rattle.std.specs.Prelude.{◌<◌, length, IfOk, OnOk, IsTrue};
+ghost use Rattle.std.specs.Prelude.{◌<◌, length, IfOk, IfSome, OnOk, IsTrue};
 ghost use Rattle.liquid_model.specs.View.{view, items_view, pairs_view};
 ghost use Rattle.liquid_model.specs.Uses.{parts, uncounted};
-ghost use Rattle.liquid_model.specs.UseViews.{use_view, members_view, turns_view};
+ghost use Rattle.liquid_model.specs.UseViews.{use_view, members_view, turns_view, uses_view};
+ghost use Rattle.liquid_json.specs.Asked.{IsAlikeData};
+ghost use Rattle.liquid_json.specs.Json.{data_of};
 ghost use Rattle.liquid_json.specs.PlainUses.{plain, plain_fields, plain_turns};
 ghost use Rattle.liquid_json.specs.inside.Planned.{IsPlanned, ArePlanned, PairsPlanned};
 
 use crate::skip::{skip_items, skipped};
-use crate::tokens::{Stop, read, read_pairs};
+use crate::tokens::{MAX_DEPTH, Stop, read, read_pairs};
 use crate::whole::integer_of;
-use json::{Reader, Token};
+use json::{Reader, Scratch, Token};
 use liquid_core::{Object, Use, Uses, Value, member_of};
-use std::alloc::Global;
+use std::alloc::{AllocError, Global};
 use std::collections::BTreeMap;
+
+/// The data of a text as far as these uses ask for it, or none where the text isn't plain: it is no
+/// JSON or no object, or has a number that isn't whole.
+pub fn data_from_planned(
+    alloc: Global,
+    text: &str,
+    uses: &Uses,
+) -> Result<Option<Object>, AllocError>
+    requires plain { IsTrue (plain_fields (members_view uses.now.entries)) }
+    ensures { IfOk result (λ o. IfSome o (λ m.
+        IsAlikeData (uses_view uses.now) (data_of text.now) (pairs_view m.entries))) }
+{
+    let mut scratch = Scratch::new(alloc);
+    let mut reader = Reader::new(text, &mut scratch)?;
+    let items = None;
+    let value = match read_parts(alloc, &mut reader, MAX_DEPTH, &items, uses) {
+        Ok(value) => value,
+        Err(Stop::Memory) => return Err(AllocError),
+        Err(Stop::Other) => return Ok(None),
+    };
+    if reader.next().is_some() {
+        return Ok(None);
+    }
+    match value {
+        Value::Object(data) => Ok(Some(data)),
+        _ => Ok(None),
+    }
+}
 
 /// The value at the front of the tokens, as far as it is asked for.
 #[cycle(planned)]
-pub fn read_planned(
+fn read_planned(
     alloc: Global,
     reader: &mut Reader<'_>,
     depth: usize,

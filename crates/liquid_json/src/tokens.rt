@@ -13,7 +13,7 @@ use std::alloc::{AllocError, AllocFailed, Global};
 use std::collections::BTreeMap;
 
 /// How deep lists and maps may stand in one another, as where the whole text is read to a tree.
-const MAX_DEPTH: usize = 127;
+pub const MAX_DEPTH: usize = 127;
 
 /// Why the tokens gave no data: memory was refused, or they have what only the tree tells.
 #[derive(Clone, Copy, Drop)]

@@ -1,4 +1,4 @@
-use Rattle.std.proofs.Common.{true, ◌≡◌, ◌-◌, ◌<◌, ◌∷◌, List, length, Some, None, option_map, string_bytes, w64, refl, sym, ap, ◌∙◌, arith, rules}
+use Rattle.std.proofs.Common.{true, ◌≡◌, ◌-◌, ◌<◌, ◌∷◌, length, Some, None, option_map, string_bytes, w64, refl, sym, ap, ◌∙◌, arith, rules}
 use mathlib.Core.Path.{subst}
 use mir.Val.{to_z, of_z}
 use Rattle.json.specs.Token.{Token}
@@ -6,7 +6,7 @@ use Rattle.json.specs.Json.{parse_map, after_end_array, read_key, items, members
 use Rattle.json.specs.Reads.{token_of}
 use Rattle.json.proofs.Grammar.{value_is, value-begin_array, value-begin_object, read_key-shorter}
 use Rattle.serde_json.specs.Read.{converted}
-use Rattle.liquid_model.specs.Data.{Datum, truth, nil, number, text, array, object, no_pairs, item, no_items, Items, Pairs, put}
+use Rattle.liquid_model.specs.Data.{truth, nil, number, text, array, object, no_pairs, item, no_items, put}
 use Rattle.liquid_model.specs.View.{view, items_view, pairs_view}
 use Rattle.liquid_model.specs.declared.value.Value.{Text, Integer, Bool, Nil, Array, Object, the_lemmas}
 use Rattle.liquid_model.specs.Find.{value_at}
@@ -14,13 +14,13 @@ use Rattle.liquid_model.specs.Skipping.{AlikeKeys}
 use Rattle.liquid_json.specs.inside.Planned.{IsPlanned}
 use Rattle.liquid_model.proofs.UseViews.{view-Parts}
 use Rattle.liquid_model.proofs.Views.{view-Array, view-Object, pairs_view-insert_entry}
-use Rattle.liquid_model.specs.Uses.{Use, parts, uncounted, every, Alike, use_in}
+use Rattle.liquid_model.specs.Uses.{parts, uncounted, every, Alike}
 use Rattle.liquid_model.specs.Projected.{pairs_wanted}
-use Rattle.liquid_model.proofs.Alike.{alike_same, alike_equal, AlikeLists}
+use Rattle.liquid_model.proofs.Alike.{alike_equal, AlikeLists}
 use Rattle.liquid_model.proofs.Skipping.{put_in_both, put_in_one}
 use Rattle.liquid_model.specs.UseViews.{use_view, members_view, turns_view}
 use Rattle.liquid_json.specs.PlainUses.{plain}
-use Rattle.liquid_json.specs.inside.Tokens.{datum_of, pairs_of, items_at}
+use Rattle.liquid_json.specs.inside.Tokens.{datum_of}
 use Rattle.liquid_model.specs.Lists.{list_of}
 use Rattle.liquid_json.proofs.After.{after, after_none, after_next}
 use Rattle.liquid_json.proofs.Turns.{converted-array, converted-object, item_read, items_over, pair_read, pairs_over}

@@ -3,7 +3,7 @@ use Rattle.json.specs.Token.{Token}
 use Rattle.liquid_model.specs.Data.{Items, Pairs, no_pairs}
 use Rattle.liquid_model.specs.Lists.{list_of}
 use Rattle.liquid_model.specs.View.{pairs_view}
-use Rattle.liquid_model.specs.Uses.{Alike, Pairwise, uncounted}
+use Rattle.liquid_model.specs.Uses.{uncounted}
 use Rattle.liquid_model.specs.Projected.{pairs_wanted}
 use Rattle.liquid_model.specs.Skipping.{AlikeKeys}
 use Rattle.liquid_model.proofs.Alike.{AlikeLists}

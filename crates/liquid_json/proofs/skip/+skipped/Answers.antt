@@ -1,13 +1,12 @@
-use Rattle.std.proofs.Common.{◌≡◌, ◌-◌, ◌<◌, ◌∷◌, List, length, Some, None, option_map, w64, refl, sym, ap, ◌∙◌, arith, rules}
+use Rattle.std.proofs.Common.{◌≡◌, ◌-◌, ◌<◌, ◌∷◌, length, Some, None, option_map, refl, ap, ◌∙◌, arith}
 use Rattle.std.specs.Prelude.{Result, Ok, Err, IfOk}
-use mir.Val.{to_z, of_z}
 use Rattle.json.specs.Token.{Token}
 use Rattle.json.specs.Json.{parse_map, after_end_array, read_key, items, members, value}
 use Rattle.json.specs.Reads.{token_of}
 use Rattle.json.proofs.Grammar.{value_is, value-begin_array, value-begin_object, read_key-shorter}
 use Rattle.serde_json.specs.Read.{converted}
-use Rattle.liquid_model.specs.Data.{Datum, truth, nil, number, text, array, object, no_pairs, item, no_items, Items, Pairs, put}
-use Rattle.liquid_json.specs.inside.Tokens.{datum_of, pairs_of, items_at}
+use Rattle.liquid_model.specs.Data.{truth, nil, number, text, array, object, no_pairs, item, no_items, put}
+use Rattle.liquid_json.specs.inside.Tokens.{datum_of}
 use Rattle.liquid_json.proofs.Turns.{converted-array, converted-object, item_read, items_over, pair_read, pairs_over}
 use Rattle.liquid_json.proofs.skip.+skipped.Goals as goal
 
