@@ -2,13 +2,16 @@
 //! each that doesn't end as its row says.
 //!
 //! A row is a line of JSON on standard input: `call`, and of a page its `source`, its `data`, and
-//! `on`, with `partials`, `tags` that are registered beside the standard ones, `host` (names that stand
-//! for filters of a host), the `depth`, the `writes` that its writer takes, of at most so many bytes
-//! each, and what is rendered `then` on the same runtime; its page as `answer`, and the kind of its
-//! `fault`. A `rendering` is a page whose template is parsed before its calls. A `limited page` also has
-//! the `bytes` and the `turns` of its limits, and the limit that it is `ended_by`. The `source` of an
-//! `example` is its name. Of all other calls `with` is a list of steps. With a word each call stands
-//! between marks, for `tests/refusals/run`, and how it ended after them.
+//! `on`, with `partials`, `tags` that are registered beside the standard ones, `host` (names that
+//! stand for filters of a host), the `depth`, the `writes` that its writer takes, of at most so
+//! many bytes each (`most`) and so many in all (`room`), what is rendered `first` on the same
+//! runtime, and what is rendered `then`; its page as `answer`, and the kind of its `fault`. Where
+//! a rendering of it is refused memory, `written` is what it has written, and `refused` what is
+//! rendered in place of `then`, each with all that it may show. A `rendering` is a page whose
+//! template is parsed before its calls. A `limited page` also has the `bytes` and the `turns` of
+//! its limits, and the limit that it is `ended_by`. The `source` of an `example` is its name. Of
+//! all other calls `with` is a list of steps. With a word each call stands between marks, for
+//! `tests/refusals/run`, and how it ended after them.
 #![tactic(auto)]
 
 mod examples;

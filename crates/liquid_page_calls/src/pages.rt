@@ -6,7 +6,7 @@ use liquid_lib::{
     Counted, Language, Page, Partials, Renderable, Runtime, RuntimeBuilder, Template, parse,
     render_page, render_source,
 };
-use liquid_refusals::{Row, Told, items, kind_of, text_member};
+use liquid_refusals::{Row, Told, items, kind_of, text_member, text_of};
 
 /// What the pages of a row are made of.
 #[derive(Drop)]
@@ -158,6 +158,7 @@ fn rendered_over<R: Print>(
         Some(host) => builder.set_host_filters(host).build(alloc),
         None => builder.build(alloc),
     };
+    rendered_first(told, given, &mut runtime)?;
     if call == "render" {
         rendered(told, given, &mut runtime);
         return Ok(());
@@ -168,12 +169,23 @@ fn rendered_over<R: Print>(
         _ => render_source(alloc, source, given.language, &mut written, &mut runtime),
     };
     told.end();
-    told.ended(
-        call,
-        source,
-        page_ending(given.row, kind_of(&answer), written),
-    );
-    rendered_then(told, given, &mut runtime)
+    let kind = kind_of(&answer);
+    told.ended(call, source, page_ending(given.row, kind, written));
+    rendered_then(told, given, &mut runtime, kind)
+}
+
+/// Renders the row's `first` source on the same runtime, where it has one, outside of marks, so
+/// that no memory is refused to it.
+fn rendered_first<R: Print>(
+    told: &Told<'_, R>,
+    given: &Given<'_>,
+    runtime: &mut Runtime<'_>,
+) -> Result<()> {
+    if let Some(Value::Text(source)) = option(&given.row.on, "first") {
+        let template = parse(told.alloc, source.as_str(), given.language)?;
+        drop(template.render(told.alloc, runtime)?);
+    }
+    Ok(())
 }
 
 fn rendered<R: Print>(told: &Told<'_, R>, given: &Given<'_>, runtime: &mut Runtime<'_>) {
@@ -187,22 +199,36 @@ fn rendered<R: Print>(told: &Told<'_, R>, given: &Given<'_>, runtime: &mut Runti
     told.ended("render", given.row.source.as_str(), end);
 }
 
-/// Renders the row's further sources on what the runtime now is, each with its page and the kind of its fault. Nothing is looked
-/// at where calls stand between marks, for then the runtime is what a rendering that was refused memory left.
+/// Renders the row's further sources on what the runtime now is, each with what it shows.
 fn rendered_then<R: Print>(
     told: &Told<'_, R>,
     given: &Given<'_>,
     runtime: &mut Runtime<'_>,
+    kind: Option<ErrorKind>,
 ) -> Result<()> {
-    if told.marked {
-        return Ok(());
-    }
-    for step in items(option(&given.row.on, "then").unwrap_or(&Value::Nil)) {
+    for step in further(told, given.row, kind) {
         step_rendered(told, given.language, runtime, step)?;
     }
     Ok(())
 }
 
+/// The further sources: those of `refused` after a rendering that was refused memory, and else
+/// those of `then`, which are as many. Where calls stand between marks and the row has no
+/// `refused` there are none, since each run makes the same calls.
+fn further<'r, R: Print>(told: &Told<'_, R>, row: &'r Row, kind: Option<ErrorKind>) -> &'r [Value] {
+    let refused = option(&row.on, "refused");
+    let steps = match kind {
+        Some(ErrorKind::Memory) => refused,
+        _ if told.marked && refused.is_none() => None,
+        _ => option(&row.on, "then"),
+    };
+    match steps {
+        Some(steps) => items(steps),
+        None => &[],
+    }
+}
+
+/// Renders the source of a step, outside of marks, so that no memory is refused to it.
 fn step_rendered<R: Print>(
     told: &Told<'_, R>,
     language: &Language,
@@ -212,22 +238,25 @@ fn step_rendered<R: Print>(
     let source = text_member(step, 0);
     let template = parse(told.alloc, source, language)?;
     let answer = template.render(told.alloc, runtime);
-    told.ended(
-        "render then",
-        source,
-        then_ending(&answer, text_member(step, 1)),
-    );
+    told.begin();
+    told.end();
+    told.ended("render then", source, then_ending(&answer, step));
     Ok(())
 }
 
-/// `done` where the answer is the wanted text, or a fault of a kind of that name.
-fn then_ending(answer: &Result<String>, wanted: &str) -> &'static str {
-    match answer {
-        Ok(text) if text.as_str() == wanted => "done",
-        Ok(_) => "another_answer",
-        Err(fault) if fault.kind.name() == wanted => "done",
-        Err(fault) => fault.kind.name(),
+/// `done` where the answer is one of the texts after the step's source, or a fault of a kind of
+/// such a name.
+fn then_ending(answer: &Result<String>, step: &Value) -> &'static str {
+    let (shown, otherwise) = match answer {
+        Ok(text) => (text.as_str(), "another_answer"),
+        Err(fault) => (fault.kind.name(), fault.kind.name()),
+    };
+    for wanted in items(step).get(1..).unwrap_or(&[]) {
+        if text_of(wanted) == shown {
+            return "done";
+        }
     }
+    otherwise
 }
 
 /// The page over lent data, with its fault beside its text.

@@ -1,5 +1,5 @@
 //! A writer that takes little, and fails; and how a page ended that was written to it.
-use crate::given::number_option;
+use crate::given::{number_option, option};
 use liquid_core::{ErrorKind, Result};
 use liquid_lib::{Counted, CountedWrite};
 use liquid_refusals::{Row, name_of, text_of};
@@ -7,11 +7,13 @@ use std::alloc::Global;
 use std::io;
 use std::io::Write;
 
-/// Takes at most so many bytes at each write, and fails once no write is left.
+/// Takes at most so many bytes at each write, and nothing once it holds as many as it has room
+/// for, and fails once no write is left.
 #[derive(Drop)]
 pub(crate) struct FailingWriter {
     pub(crate) bytes: Vec<u8>,
     pub(crate) most: usize,
+    pub(crate) room: usize,
     pub(crate) writes_left: usize,
 }
 
@@ -21,7 +23,8 @@ impl Write for FailingWriter {
             return Err(io::Error::from(io::ErrorKind::BrokenPipe));
         }
         self.writes_left -= 1;
-        let taken = buf.len().min(self.most);
+        let left = self.room.saturating_sub(self.bytes.len());
+        let taken = buf.len().min(self.most).min(left);
         self.bytes.extend_from_slice(&buf[..taken])?;
         Ok(taken)
     }
@@ -34,10 +37,12 @@ impl Write for FailingWriter {
 /// The writer of the row, with room for its page, so that it asks for none.
 pub(crate) fn writer(alloc: Global, row: &Row) -> Result<FailingWriter> {
     let most = number_option(&row.on, "most", 4096);
+    let room = number_option(&row.on, "room", usize::MAX);
     let writes_left = number_option(&row.on, "writes", 4096);
     Ok(FailingWriter {
         bytes: Vec::with_capacity(alloc, page_of(row).len())?,
         most,
+        room,
         writes_left,
     })
 }
@@ -47,7 +52,8 @@ pub(crate) fn page_of(row: &Row) -> &str {
     text_of(&row.answer)
 }
 
-/// `done` where the page was written and ended by the kind, as the row says. After refused memory it is a beginning of it.
+/// `done` where the page was written and ended by the kind, as the row says. After refused memory
+/// what was written may be left.
 pub(crate) fn page_ending(
     row: &Row,
     kind: Option<ErrorKind>,
@@ -57,11 +63,20 @@ pub(crate) fn page_ending(
     let bytes = written.into_inner().bytes;
     let page = page_of(row).as_bytes();
     match kind {
-        Some(ErrorKind::Memory) if page.starts_with(&bytes) => "Memory",
+        Some(ErrorKind::Memory) if may_be_left(row, &bytes) => "Memory",
         Some(ErrorKind::Memory) => "another_beginning",
         _ if page != bytes.as_slice() => "another_page",
         _ if failures != failed_writes(kind) => "another_number_of_failed_writes",
         _ => kind_ending(row, kind),
+    }
+}
+
+/// Whether a rendering that was refused memory may have written this: a beginning of the page, or
+/// what the row says as `written`.
+fn may_be_left(row: &Row, bytes: &[u8]) -> bool {
+    match option(&row.on, "written") {
+        Some(text) => text_of(text).as_bytes() == bytes,
+        None => page_of(row).as_bytes().starts_with(bytes),
     }
 }
 
