@@ -52,12 +52,12 @@ lent_begun known wanted read t d ps old new ts ds pss is begun = left_begun know
 
 ended_by : (texts : Texts) (r : Result (Unit {0}) Error) (o : Outcome) (wanted : Result Texts Stop) (old new : Option (List ℕ))
     → wanted ≡ Ok texts → (is_refused r ≡ false → IsWritten texts r old new) → MatchResult r (λ u. o ≡ Done) (λ e. o ≡ Fault e) → Ends wanted o old new
-ended_by texts (Ok tt) o wanted old new is written told = subst (λ x. Ends wanted x old new) (sym told) (texts, (is, written refl))
+ended_by texts (Ok u) o wanted old new is written told = subst (λ x. Ends wanted x old new) (sym told) (texts, is, written refl)
 ended_by texts (Err e) o wanted old new is written told = subst (λ x. Ends wanted x old new) (sym told) (fault_of (is_refusal e.kind) refl)
   where
     fault_of : (b : Bool) → is_refusal e.kind ≡ b → MatchBool b ⊤ ((t : Texts) × (wanted ≡ Ok t) × IsWritten t (Err e) old new)
     fault_of true q = tt
-    fault_of false q = (texts, (is, written q))
+    fault_of false q = (texts, is, written q)
 
 left_ended : (known : Option Files) (wanted : Files → Result Texts Stop) (texts : Texts) (r : Result (Unit {0}) Error) (o : Outcome) (old new : Option (List ℕ))
     → IfSome known (λ files. wanted files ≡ Ok texts) → (is_refused r ≡ false → IsWritten texts r old new) → MatchResult r (λ u. o ≡ Done) (λ e. o ≡ Fault e) → IfSome known (λ files. Ends (wanted files) o old new)
