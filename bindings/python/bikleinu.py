@@ -5,7 +5,8 @@
     'Hello Ada!'
 
 A Template is parsed once and renders many times, and Data is read once for many templates. What can't be done raises a
-LiquidError. Each object may be used in any thread; calls that share one wait for one another, and others run side by side.
+LiquidError. Each object may be used in any thread; calls that share one wait for one another, and others run side by side. None
+of them can be copied or pickled: share it, or make another.
 
 The library stands beside this file, as libbikleinu.so, or where bindings/build puts it, or where the variable BIKLEINU_LIBRARY says.
 """
@@ -13,22 +14,29 @@ from __future__ import annotations
 
 import ctypes
 import json
+import operator
 import os
 import threading
 from collections.abc import Iterator, Mapping
 from contextlib import ExitStack, contextmanager
 from dataclasses import dataclass
-from typing import Any
+from typing import Any, NoReturn
 
 __all__ = ["Data", "Language", "LiquidError", "Page", "Partials", "Place", "Template", "render"]
 
 MEMORY = 17
 NO_TEXT = 101
 OTHER_HANDLE = 102
+MOST = 2**32 - 1
 
 _TEXT, _MESSAGE, _NAME, _PARTIAL = range(4)
 _ORIGINS = {1: "template", 2: "partial", 3: "data"}
 _NAMES = {MEMORY: "Memory", NO_TEXT: "NoText", OTHER_HANDLE: "OtherHandle"}
+_MESSAGES = {
+    MEMORY: "no memory was to be had",
+    NO_TEXT: "the text holds half of a surrogate pair, so it can't be written as UTF-8",
+    OTHER_HANDLE: "an object of another kind than the call needs, as Data where a Language is wanted",
+}
 
 
 class _Handle(ctypes.Structure):
@@ -90,7 +98,17 @@ class LiquidError(Exception):
 
 def _bytes(text: str) -> bytes:
     """The text as UTF-8. Half a pair of UTF-16, which Python's texts may hold, stays as bytes that the library refuses."""
+    if not isinstance(text, str):
+        raise TypeError(f"a str is wanted, not {type(text).__name__}")
     return text.encode("utf-8", "surrogatepass")
+
+
+def _number(name: str, value: int) -> int:
+    """The value, which is a whole number of 32 bits: TypeError or ValueError where it isn't."""
+    number = operator.index(value)
+    if not 0 <= number <= MOST:
+        raise ValueError(f"{name} is {number}, and 0 to {MOST} is wanted")
+    return number
 
 
 class _Owner:
@@ -103,6 +121,9 @@ class _Owner:
     def __del__(self, free: Any = _library.bikleinu_free) -> None:
         if hasattr(self, "_handle"):
             free(self._handle)
+
+    def __reduce_ex__(self, protocol: Any) -> NoReturn:
+        raise TypeError(f"a {type(self).__name__} can't be copied or pickled: share it, or make another")
 
     def _part(self, part: int) -> str:
         length = _library.bikleinu_length(self._handle, part)
@@ -124,11 +145,18 @@ class _Owner:
     def _error(self, number: int, partial: str | None = None, text: str | None = None) -> LiquidError:
         """The error of a call that answered the number and put its fault here."""
         name = self._part(_NAME) or _NAMES.get(number, str(number))
-        return LiquidError(number, name, self._part(_MESSAGE) or None, self._place(partial), text)
+        return LiquidError(number, name, self._part(_MESSAGE) or _MESSAGES.get(number), self._place(partial), text)
 
     def _need(self, number: int, partial: str | None = None) -> None:
         if number:
             raise self._error(number, partial)
+
+
+def _checked(value: Any, wanted: str) -> Any:
+    """The value, which is one of this module's objects."""
+    if not isinstance(value, _Owner):
+        raise TypeError(f"{wanted} wanted, not {type(value).__name__}")
+    return value
 
 
 @contextmanager
@@ -153,7 +181,7 @@ class Template(_Owner):
 
     def __init__(self, source: str, language: Language | None = None) -> None:
         super().__init__()
-        self._parse(source, language or _standard())
+        self._parse(source, _standard() if language is None else _checked(language, "a Language is"))
 
     def _parse(self, source: str, language: Language, partial: str | None = None) -> None:
         text = _bytes(source)
@@ -168,18 +196,30 @@ class Template(_Owner):
         made._parse(source, language, name)
         return made
 
-    def page(self, data: Data | Mapping[str, Any] | str | None = None, partials: Partials | None = None, depth: int = 32) -> Page:
-        """The page, with the fault that it ended by, where there is one. Only refused memory raises an error."""
-        facts, others, page = _data(data), partials or _Owner(), _Owner()
+    def page(
+        self,
+        data: Data | Mapping[str, Any] | str | None = None,
+        partials: Partials | Mapping[str, str] | None = None,
+        depth: int = 32,
+    ) -> Page:
+        """The page, with the fault that it ended by, where there is one. At most depth partials may stand in one another, up to
+        4,294,967,295. Only refused memory raises an error."""
+        depth = _number("depth", depth)
+        facts, others, page = _data(data), _partials(partials), _Owner()
         with _locked(self, facts, others):
             answer = _library.bikleinu_render(self._handle, facts._handle, others._handle, depth, page._handle)
-        if answer in (MEMORY, OTHER_HANDLE):
+        if answer in _MESSAGES:
             raise page._error(answer)
         text = page._part(_TEXT)
         return Page(text, page._error(answer, text=text) if answer else None)
 
-    def render(self, data: Data | Mapping[str, Any] | str | None = None, partials: Partials | None = None, depth: int = 32) -> str:
-        """The page's text, or the fault that it ended by as an error."""
+    def render(
+        self,
+        data: Data | Mapping[str, Any] | str | None = None,
+        partials: Partials | Mapping[str, str] | None = None,
+        depth: int = 32,
+    ) -> str:
+        """The page's text, or the fault that it ended by as an error. The rest is as of page."""
         page = self.page(data, partials, depth)
         if page.fault:
             raise page.fault
@@ -208,7 +248,7 @@ class Partials(_Owner):
 
     def __init__(self, sources: Mapping[str, str] | None = None, language: Language | None = None) -> None:
         super().__init__()
-        self._language = language
+        self._language = None if language is None else _checked(language, "a Language is")
         self._need(_library.bikleinu_partials(self._handle))
         for name, source in (sources or {}).items():
             self.insert(name, source)
@@ -220,7 +260,7 @@ class Partials(_Owner):
         with _locked(self):
             answer = _library.bikleinu_insert(self._handle, text, len(text), template._handle)
         if answer:
-            raise LiquidError(answer, _NAMES.get(answer, str(answer)))
+            raise LiquidError(answer, _NAMES.get(answer, str(answer)), _MESSAGES.get(answer))
 
 
 class _Shared(threading.local):
@@ -244,7 +284,18 @@ def _data(data: Data | Mapping[str, Any] | str | None) -> _Owner:
     return Data(data)
 
 
-def render(source: str, data: Data | Mapping[str, Any] | str | None = None, partials: Mapping[str, str] | None = None, depth: int = 32) -> str:
+def _partials(partials: Partials | Mapping[str, str] | None) -> _Owner:
+    """The partials, where a handle that holds nothing stands for none."""
+    if partials is None:
+        return _Owner()
+    return Partials(partials) if isinstance(partials, Mapping) else _checked(partials, "Partials or a mapping are")
+
+
+def render(
+    source: str,
+    data: Data | Mapping[str, Any] | str | None = None,
+    partials: Partials | Mapping[str, str] | None = None,
+    depth: int = 32,
+) -> str:
     """The page of a source that is rendered once."""
-    template = Template(source)
-    return template.render(data, Partials(partials) if partials else None, depth)
+    return Template(source).render(data, partials, depth)

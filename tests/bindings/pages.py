@@ -1,5 +1,7 @@
 """Calls the library from Python: the worked rows, calls that can't be, and two threads."""
+import copy
 import os
+import pickle
 import sys
 import threading
 
@@ -53,8 +55,20 @@ def fails(call, number):
     try:
         call()
     except LiquidError as fault:
-        return None if fault.number == number else f"{fault.number}, and {number} is wanted"
+        return None if fault.number == number and fault.message else f"{fault.number}: {fault.message}, and {number} with a message is wanted"
     return f"no fault, and {number} is wanted"
+
+
+def raises(call, kind):
+    try:
+        call()
+    except kind as error:
+        return None if str(error) else "no message"
+    return f"no error, and {kind.__name__} is wanted"
+
+
+def first(checks):
+    return next(filter(None, checks), None)
 
 
 def places():
@@ -99,7 +113,34 @@ def as_data(template):
     return data
 
 
+def uncopied():
+    """An object of the library's can't be copied, and stays as it was."""
+    data, partials, template = Data({"n": 1}), Partials({"p": "{{ n }}"}), Template("{% include 'p' %}")
+    for it in (data, partials, template, LANGUAGE):
+        for call in (copy.copy, copy.deepcopy, pickle.dumps):
+            wrong = raises(lambda: call(it), TypeError)
+            if wrong:
+                return wrong
+    return None if template.render(data, partials) == "1" else "another page"
+
+
+def numbers():
+    template = Template("")
+    return first(
+        [
+            *(raises(lambda: template.page({}, None, depth), ValueError) for depth in (-1, 2**32, 2**70)),
+            *(raises(lambda: template.page({}, None, depth), TypeError) for depth in (1.5, "3", None)),
+        ]
+    )
+
+
 CHECKS = {
+    "copies": uncopied,
+    "numbers out of their bounds": numbers,
+    "partials as a mapping": lambda: None if Template("{% render 'p' %}").render({}, {"p": "2"}) == "2" else "another page",
+    "partials of another kind": lambda: raises(lambda: Template("").page({}, ["p"]), TypeError),
+    "a language of another kind": lambda: raises(lambda: Template("", "liquid"), TypeError),
+    "a source that is no text": lambda: raises(lambda: Template(b"x"), TypeError),
     "bytes that are no UTF-8": lambda: fails(lambda: Template("\ud800"), bikleinu.NO_TEXT),
     "data that are no UTF-8": lambda: fails(lambda: Data('{"a":"\ud800"}'), bikleinu.NO_TEXT),
     "a name that is no UTF-8": lambda: fails(lambda: Partials({"\ud800": ""}), bikleinu.NO_TEXT),
