@@ -75,8 +75,13 @@ enum {
     BIKLEINU_TOO_NESTED = 31,
 
     /* of a call that can't be: it changed nothing but the handle for what it makes, which then holds nothing */
-    BIKLEINU_NO_TEXT = 101,     /* bytes that are no UTF-8 */
-    BIKLEINU_OTHER_HANDLE = 102 /* a handle that holds another kind of thing than the call needs, or nothing */
+    BIKLEINU_NO_TEXT = 101,        /* bytes that are no UTF-8 */
+    BIKLEINU_OTHER_HANDLE = 102,   /* a handle that holds another kind of thing than the call needs, or nothing */
+    BIKLEINU_TOO_MANY_LEVELS = 103, /* a run that could reach more levels than are allowed (below) */
+
+    /* of a page that a limit of the caller's ended: it holds the text up to there, and a fault of the kind Write (18) */
+    BIKLEINU_BYTES_REACHED = 104,
+    BIKLEINU_TURNS_REACHED = 105
 };
 
 /* Makes the standard language. */
@@ -96,8 +101,33 @@ uint32_t bikleinu_partials(bikleinu_handle *made);
 uint32_t bikleinu_insert(bikleinu_handle *partials, const uint8_t *name, size_t length, bikleinu_handle *template_);
 
 /* Renders a template over data and with partials, of which at most depth may be nested. A handle that holds nothing stands for
- * empty data, or for no partials. All three can be used again. The answer is how the page ended. */
+ * empty data, or for no partials. All three can be used again. The answer is how the page ended.
+ *
+ * A run takes stack of the thread that it runs in. A page is one level; each block in it, and each partial that runs in it, is one
+ * more, up to the deepest that could stand in one another. A level takes at most BIKLEINU_LEVEL_STACK bytes (as measured, a block
+ * 704 to 1,632 and a partial 1,296 to 2,496), and what stands at the end of the deepest one at most BIKLEINU_REST_STACK. bikleinu_render
+ * begins no run that could reach more than BIKLEINU_LEVELS levels: it answers BIKLEINU_TOO_MANY_LEVELS. So with a depth of up to 200 it
+ * stays within a stack of 1 MiB, and with any depth within 1.25 MiB. What a run could reach is known before it begins:
+ *
+ *   - Every body counts, whether it would run or not. An elsif is no level of its own.
+ *   - A tag that runs a partial counts as if it could name any of the partials, since names may be values of the data. With no
+ *     such tag, no partials or a depth of 0 the template's own blocks count alone. Else the deepest such tag of the template
+ *     counts once, the deepest one of the partials depth - 1 times, and then the deepest blocks of a partial.
+ *   - Of the partials behind a handle all count that were ever put there. */
 uint32_t bikleinu_render(bikleinu_handle *template_, bikleinu_handle *data, bikleinu_handle *partials, uint32_t depth, bikleinu_handle *page);
+
+enum { BIKLEINU_LEVELS = 400, BIKLEINU_LEVEL_STACK = 2560, BIKLEINU_REST_STACK = 131072 };
+
+/* What a caller allows a run. A number that is 0 stands for what is usual: so many levels, and any number of bytes and turns. */
+typedef struct {
+    uint32_t levels; /* how many levels it may reach: fewer on a smaller stack, and more on a larger one */
+    uint64_t bytes;  /* how many bytes it may write, to the page and into the bodies of capture and ifchanged */
+    uint64_t turns;  /* how many lists of nodes it may run: the template's, and each body and each partial each time that it runs */
+} bikleinu_limits;
+
+/* The same within limits of the caller's. A text that is longer than the bytes left isn't written, and no part of it. */
+uint32_t bikleinu_render_within(bikleinu_handle *template_, bikleinu_handle *data, bikleinu_handle *partials, uint32_t depth,
+                                const bikleinu_limits *limits, bikleinu_handle *page);
 
 /* Parts of what a handle holds, each as UTF-8. */
 enum {

@@ -8,6 +8,11 @@ A Template is parsed once and renders many times, and Data is read once for many
 LiquidError. Each object may be used in any thread; calls that share one wait for one another, and others run side by side. None
 of them can be copied or pickled: share it, or make another.
 
+A run takes stack of its thread: at most 2.5 KiB for each level, where a page is one and each block and each partial in it is one
+more, and 128 KiB for what stands in the deepest. A run that could reach more than 400 levels isn't begun, so a stack of 1 MiB is enough
+for a depth of up to 200, and one of 1.25 MiB for any;
+levels= asks for more on a larger stack (threading.stack_size), or for fewer on a smaller one.
+
 The library stands beside this file, as libbikleinu.so, or where bindings/build puts it, or where the variable BIKLEINU_LIBRARY says.
 """
 from __future__ import annotations
@@ -22,25 +27,38 @@ from contextlib import ExitStack, contextmanager
 from dataclasses import dataclass
 from typing import Any, NoReturn
 
-__all__ = ["Data", "Language", "LiquidError", "Page", "Partials", "Place", "Template", "render"]
+__all__ = ["Data", "Language", "LimitError", "LiquidError", "Page", "Partials", "Place", "Template", "render"]
 
 MEMORY = 17
 NO_TEXT = 101
 OTHER_HANDLE = 102
+TOO_MANY_LEVELS = 103
+BYTES_REACHED = 104
+TURNS_REACHED = 105
 MOST = 2**32 - 1
 
 _TEXT, _MESSAGE, _NAME, _PARTIAL = range(4)
 _ORIGINS = {1: "template", 2: "partial", 3: "data"}
-_NAMES = {MEMORY: "Memory", NO_TEXT: "NoText", OTHER_HANDLE: "OtherHandle"}
+_NAMES = {MEMORY: "Memory", NO_TEXT: "NoText", OTHER_HANDLE: "OtherHandle", TOO_MANY_LEVELS: "TooManyLevels"}
+_LIMITS = {
+    BYTES_REACHED: ("BytesReached", "the page is longer than max_bytes"),
+    TURNS_REACHED: ("TurnsReached", "the page ran more lists of nodes than max_turns"),
+}
 _MESSAGES = {
     MEMORY: "no memory was to be had",
     NO_TEXT: "the text holds half of a surrogate pair, so it can't be written as UTF-8",
     OTHER_HANDLE: "an object of another kind than the call needs, as Data where a Language is wanted",
+    TOO_MANY_LEVELS: "blocks and partials could stand in one another deeper than levels= allows; allow fewer partials by depth=, "
+    "or more levels on a thread with a larger stack",
 }
 
 
 class _Handle(ctypes.Structure):
     _fields_ = [("there", ctypes.c_bool), ("at", ctypes.c_void_p)]
+
+
+class _Limits(ctypes.Structure):
+    _fields_ = [("levels", ctypes.c_uint32), ("bytes", ctypes.c_uint64), ("turns", ctypes.c_uint64)]
 
 
 def _loaded() -> ctypes.CDLL:
@@ -55,7 +73,7 @@ def _loaded() -> ctypes.CDLL:
         "data": ([text, size, handle], number),
         "partials": ([handle], number),
         "insert": ([handle, text, size, handle], number),
-        "render": ([handle, handle, handle, number, handle], number),
+        "render_within": ([handle, handle, handle, number, ctypes.POINTER(_Limits), handle], number),
         "length": ([handle, number], size),
         "copy": ([handle, number, text, size], size),
         "location": ([handle, ctypes.POINTER(size), ctypes.POINTER(size)], number),
@@ -96,6 +114,10 @@ class LiquidError(Exception):
         return ": ".join([*told, *([self.message] if self.message else [])])
 
 
+class LimitError(LiquidError):
+    """The page was ended by max_bytes or max_turns, as number and name say; text has what it wrote up to there."""
+
+
 def _bytes(text: str) -> bytes:
     """The text as UTF-8. Half a pair of UTF-16, which Python's texts may hold, stays as bytes that the library refuses."""
     if not isinstance(text, str):
@@ -103,11 +125,11 @@ def _bytes(text: str) -> bytes:
     return text.encode("utf-8", "surrogatepass")
 
 
-def _number(name: str, value: int) -> int:
-    """The value, which is a whole number of 32 bits: TypeError or ValueError where it isn't."""
+def _number(name: str, value: int, least: int = 0, most: int = MOST) -> int:
+    """The value, which is a whole number in these bounds: TypeError or ValueError where it isn't."""
     number = operator.index(value)
-    if not 0 <= number <= MOST:
-        raise ValueError(f"{name} is {number}, and 0 to {MOST} is wanted")
+    if not least <= number <= most:
+        raise ValueError(f"{name} is {number}, and {least} to {most} is wanted")
     return number
 
 
@@ -144,12 +166,22 @@ class _Owner:
 
     def _error(self, number: int, partial: str | None = None, text: str | None = None) -> LiquidError:
         """The error of a call that answered the number and put its fault here."""
+        if number in _LIMITS:
+            return LimitError(number, *_LIMITS[number], self._place(partial), text)
         name = self._part(_NAME) or _NAMES.get(number, str(number))
         return LiquidError(number, name, self._part(_MESSAGE) or _MESSAGES.get(number), self._place(partial), text)
 
     def _need(self, number: int, partial: str | None = None) -> None:
         if number:
             raise self._error(number, partial)
+
+
+def _limits(levels: int | None, max_bytes: int | None, max_turns: int | None) -> _Limits:
+    return _Limits(
+        0 if levels is None else _number("levels", levels, 1),
+        0 if max_bytes is None else _number("max_bytes", max_bytes, 1, 2**64 - 1),
+        0 if max_turns is None else _number("max_turns", max_turns, 1, 2**64 - 1),
+    )
 
 
 def _checked(value: Any, wanted: str) -> Any:
@@ -201,13 +233,22 @@ class Template(_Owner):
         data: Data | Mapping[str, Any] | str | None = None,
         partials: Partials | Mapping[str, str] | None = None,
         depth: int = 32,
+        *,
+        levels: int | None = None,
+        max_bytes: int | None = None,
+        max_turns: int | None = None,
     ) -> Page:
         """The page, with the fault that it ended by, where there is one. At most depth partials may stand in one another, up to
-        4,294,967,295. Only refused memory raises an error."""
-        depth = _number("depth", depth)
+        4,294,967,295. An error is raised for refused memory, and where the run could reach more levels than are allowed: 400, or
+        as many as levels says.
+
+        With max_bytes the page may write so many bytes of UTF-8, captured texts too; with max_turns it may run so many lists of
+        nodes: the template's, and each body and each partial each time that it runs. The fault of a page that one of them ended
+        is a LimitError."""
+        depth, limits = _number("depth", depth), _limits(levels, max_bytes, max_turns)
         facts, others, page = _data(data), _partials(partials), _Owner()
         with _locked(self, facts, others):
-            answer = _library.bikleinu_render(self._handle, facts._handle, others._handle, depth, page._handle)
+            answer = _library.bikleinu_render_within(self._handle, facts._handle, others._handle, depth, limits, page._handle)
         if answer in _MESSAGES:
             raise page._error(answer)
         text = page._part(_TEXT)
@@ -218,9 +259,13 @@ class Template(_Owner):
         data: Data | Mapping[str, Any] | str | None = None,
         partials: Partials | Mapping[str, str] | None = None,
         depth: int = 32,
+        *,
+        levels: int | None = None,
+        max_bytes: int | None = None,
+        max_turns: int | None = None,
     ) -> str:
         """The page's text, or the fault that it ended by as an error. The rest is as of page."""
-        page = self.page(data, partials, depth)
+        page = self.page(data, partials, depth, levels=levels, max_bytes=max_bytes, max_turns=max_turns)
         if page.fault:
             raise page.fault
         return page.text
@@ -296,6 +341,10 @@ def render(
     data: Data | Mapping[str, Any] | str | None = None,
     partials: Partials | Mapping[str, str] | None = None,
     depth: int = 32,
+    *,
+    levels: int | None = None,
+    max_bytes: int | None = None,
+    max_turns: int | None = None,
 ) -> str:
     """The page of a source that is rendered once."""
-    return Template(source).render(data, partials, depth)
+    return Template(source).render(data, partials, depth, levels=levels, max_bytes=max_bytes, max_turns=max_turns)

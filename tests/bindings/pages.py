@@ -1,4 +1,4 @@
-"""Calls the library from Python: the worked rows, calls that can't be, and two threads."""
+"""Calls the library from Python: the worked rows, calls that can't be, how deep a run may go, and two threads."""
 import copy
 import os
 import pickle
@@ -11,7 +11,7 @@ sys.dont_write_bytecode = True
 sys.path[:0] = [HERE, f"{TOP}/bindings/python"]
 
 import bikleinu
-from bikleinu import Data, Language, LiquidError, Partials, Template
+from bikleinu import Data, Language, LimitError, LiquidError, Partials, Template
 from texts import rows, whole
 
 LANGUAGE = Language()
@@ -113,6 +113,94 @@ def as_data(template):
     return data
 
 
+def nested(count, inside=""):
+    return "{% if true %}" * count + inside + "{% endif %}" * count
+
+
+# A template, its partials, the depth, and how many levels a run could reach.
+LEVELS = [
+    ("", {}, 32, 1),
+    ("{{ 1 }}{% raw %}{% if %}{% endraw %}{% comment %}{% if %}{% endcomment %}", {}, 32, 1),
+    (nested(1), {}, 32, 2),
+    (nested(199), {}, 32, 200),
+    (nested(3) + nested(5) + nested(4), {}, 32, 6),
+    ("{% if a %}{% elsif b %}{% elsif c %}{% else %}{% endif %}", {}, 32, 2),
+    ("{% if false %}" + "{% elsif false %}" * 3000 + "{% else %}x{% endif %}", {}, 32, 2),
+    ("{% if false %}{% else %}{% if true %}{% endif %}{% endif %}", {}, 32, 2),
+    ("{% if false %}{% else %}{% if true %}{% endif %}x{% endif %}", {}, 32, 3),
+    ("{% if false %}{% else %}x{% if true %}{% endif %}{% endif %}", {}, 32, 3),
+    ("{% if false %}{% if true %}{% endif %}{% else %}x{% endif %}", {}, 32, 3),
+    ("{% unless true %}{% else %}{% if true %}{% endif %}{% endunless %}", {}, 32, 3),
+    ("{% case 1 %}{% when 1 %}{% for i in (1..2) %}{% endfor %}{% when 2 %}{% endcase %}{% capture x %}{% endcapture %}", {}, 32, 3),
+    ("{% for i in (1..2) %}{% else %}{% tablerow i in (1..2) %}{% ifchanged %}{% endifchanged %}{% endtablerow %}{% endfor %}", {}, 32, 4),
+    ("x", {"p": nested(9, "{% render 'p' %}")}, 32, 1),
+    (nested(1, "{% render 'p' %}"), {}, 32, 2),
+    ("{% render 'p' %}", {"p": ""}, 32, 2),
+    ("{% render 'p' %}", {"p": nested(1)}, 32, 3),
+    ("{% render 'p' %}", {"p": nested(1)}, 0, 1),
+    (nested(1, "{% include 'p' %}"), {"p": nested(1)}, 2**32 - 1, 4),
+    ("{% render 'p' for (1..2) as i %}" + nested(3), {"p": nested(1)}, 32, 4),
+    ("{% render 'p' %}", {"p": nested(1, "{% render 'p' %}")}, 5, 11),
+    ("{% render 'p' %}", {"p": nested(1, "{% render 'p' %}") + nested(4)}, 5, 14),
+    ("{% render 'q' %}", {"p": nested(1), "q": "{% include 'p' %}"}, 32, 34),
+]
+
+
+def levels():
+    """A run isn't begun just where it could reach more levels than the bound."""
+    for source, partials, depth, reached in LEVELS:
+        template, partials = Template(source), Partials(partials)
+        if template.page({}, partials, depth, levels=reached).text is None:
+            return "no page"
+        wrong = reached > 1 and fails(lambda: template.page({}, partials, depth, levels=reached - 1), bikleinu.TOO_MANY_LEVELS)
+        if wrong:
+            return f"{source[:60]!r} of {reached} levels: {wrong}"
+    return None
+
+
+def deep_threads():
+    """Partials that run themselves, in threads of a small stack."""
+    told = []
+
+    def run():
+        for source, depth in ((nested(100, "{% render 'a' %}"), 32), ("{% render 'a' %}", 2**32 - 1), ("{% include 'a' %}", 5000)):
+            template, partials = Template(source), Partials({"a": source})
+            told.append(fails(lambda: template.page({}, partials, depth), bikleinu.TOO_MANY_LEVELS))
+
+    before = threading.stack_size(1 << 20)
+    thread = threading.Thread(target=run)
+    thread.start()
+    thread.join()
+    threading.stack_size(before)
+    return first(told) if len(told) == 3 else f"{len(told)} calls, and 3 are wanted"
+
+
+# A template, its limits, the text up to where it ends, and the number that it ends by, 0 where it is whole. A list of nodes is a turn.
+FOREVER = "(1..9223372036854775807)"
+LIMITS = [
+    ("{{ 'abc' }}{{ 'def' }}", {"max_bytes": 6}, "abcdef", 0),
+    ("{{ 'abc' }}{{ 'def' }}", {"max_bytes": 5}, "abc", bikleinu.BYTES_REACHED),
+    ("{% for i in " + FOREVER + " %}x{% endfor %}", {"max_bytes": 4}, "xxxx", bikleinu.BYTES_REACHED),
+    ("{% capture c %}abcd{% endcapture %}x", {"max_bytes": 4}, "", bikleinu.BYTES_REACHED),
+    ("x", {"max_turns": 1}, "x", 0),
+    ("a{% if true %}b{% endif %}", {"max_turns": 1}, "a", bikleinu.TURNS_REACHED),
+    ("a{% if true %}b{% endif %}", {"max_turns": 2}, "ab", 0),
+    ("{% for i in " + FOREVER + " %}{{ i }}{% endfor %}", {"max_turns": 4}, "123", bikleinu.TURNS_REACHED),
+    ("{% for i in " + FOREVER + " %}{% endfor %}", {"max_turns": 100000}, "", bikleinu.TURNS_REACHED),
+    ("{{ nothing }}", {"max_turns": 100, "max_bytes": 100}, "", 1),
+]
+
+
+def limits():
+    """What ends a page, and its text up to there; a page within its limits is whole."""
+    for source, given, text, number in LIMITS:
+        page = Template(source).page(None, **given)
+        told = page.text, page.fault.number if page.fault else 0
+        if told != (text, number) or isinstance(page.fault, LimitError) != (number > 100):
+            return f"{source[:60]!r}, {given}: {told}, and {(text, number)} is wanted"
+    return None
+
+
 def uncopied():
     """An object of the library's can't be copied, and stays as it was."""
     data, partials, template = Data({"n": 1}), Partials({"p": "{{ n }}"}), Template("{% include 'p' %}")
@@ -130,11 +218,18 @@ def numbers():
         [
             *(raises(lambda: template.page({}, None, depth), ValueError) for depth in (-1, 2**32, 2**70)),
             *(raises(lambda: template.page({}, None, depth), TypeError) for depth in (1.5, "3", None)),
+            *(raises(lambda: template.page(levels=levels), ValueError) for levels in (0, -1, 2**32)),
+            *(raises(lambda: template.page(max_turns=turns), ValueError) for turns in (0, -1, 2**64)),
+            *(raises(lambda: template.page(max_bytes=count), ValueError) for count in (0, -1, 2**64)),
+            raises(lambda: template.page(levels="4"), TypeError),
         ]
     )
 
 
 CHECKS = {
+    "how many levels a run could reach": levels,
+    "partials that run themselves": deep_threads,
+    "limits on bytes and turns": limits,
     "copies": uncopied,
     "numbers out of their bounds": numbers,
     "partials as a mapping": lambda: None if Template("{% render 'p' %}").render({}, {"p": "2"}) == "2" else "another page",

@@ -12,6 +12,10 @@
 //! ```
 //!
 //! A call uses what it is given for itself alone, so it takes `&mut`. Each of these may be sent to another thread.
+//!
+//! A run takes stack of its thread: at most 2.5 KiB for each level, where a page is one and each block and each partial in it is one
+//! more, and 128 KiB for what stands in the deepest. [Template::render] begins no run that could reach more than 400 levels, so a
+//! stack of 1 MiB is enough for a depth of up to 200, and one of 1.25 MiB for any: a thread of [std::thread::spawn] has 2. [Template::render_within] takes another bound.
 
 use std::ffi::c_void;
 use std::fmt;
@@ -28,7 +32,14 @@ extern "C" {
     fn bikleinu_data(json: *const u8, length: usize, made: *mut Handle) -> u32;
     fn bikleinu_partials(made: *mut Handle) -> u32;
     fn bikleinu_insert(partials: *mut Handle, name: *const u8, length: usize, template: *mut Handle) -> u32;
-    fn bikleinu_render(template: *mut Handle, data: *mut Handle, partials: *mut Handle, depth: u32, page: *mut Handle) -> u32;
+    fn bikleinu_render_within(
+        template: *mut Handle,
+        data: *mut Handle,
+        partials: *mut Handle,
+        depth: u32,
+        limits: *const Limits,
+        page: *mut Handle,
+    ) -> u32;
     fn bikleinu_length(handle: *mut Handle, part: u32) -> usize;
     fn bikleinu_copy(handle: *mut Handle, part: u32, into: *mut u8, room: usize) -> usize;
     fn bikleinu_location(handle: *mut Handle, line: *mut usize, column: *mut usize) -> u32;
@@ -40,6 +51,11 @@ const MESSAGE: u32 = 1;
 const NAME: u32 = 2;
 const PARTIAL: u32 = 3;
 const MEMORY: u32 = 17;
+const NO_TEXT: u32 = 101;
+const OTHER_HANDLE: u32 = 102;
+const TOO_MANY_LEVELS: u32 = 103;
+const BYTES_REACHED: u32 = 104;
+const TURNS_REACHED: u32 = 105;
 
 /// What lies behind a handle, which is freed with it.
 struct Owner(Handle);
@@ -80,8 +96,19 @@ impl Owner {
         Some(Location { origin, line, column })
     }
 
+    fn name(&mut self, number: u32) -> String {
+        match number {
+            BYTES_REACHED => "BytesReached".to_owned(),
+            TURNS_REACHED => "TurnsReached".to_owned(),
+            _ => self.part(NAME),
+        }
+    }
+
     fn fault(&mut self, number: u32) -> LiquidError {
-        LiquidError { number, name: self.part(NAME), message: self.part(MESSAGE), location: self.location() }
+        match call_refused(number) {
+            Some(refused) => refused,
+            None => LiquidError { number, name: self.name(number), message: self.part(MESSAGE), location: self.location() },
+        }
     }
 
     /// The same, where the call that made it answered that all is well.
@@ -98,6 +125,17 @@ impl Drop for Owner {
         // SAFETY: the handle is this owner's, and is never used again.
         unsafe { bikleinu_free(self.at()) }
     }
+}
+
+/// The error of a call that can't be, which no fault tells of.
+fn call_refused(number: u32) -> Option<LiquidError> {
+    let (name, message) = match number {
+        NO_TEXT => ("NoText", "the bytes are no UTF-8"),
+        OTHER_HANDLE => ("OtherHandle", "an object of another kind than the call needs"),
+        TOO_MANY_LEVELS => ("TooManyLevels", "blocks and partials could stand in one another deeper than is allowed"),
+        _ => return None,
+    };
+    Some(LiquidError { number, name: name.to_owned(), message: message.to_owned(), location: None })
 }
 
 /// Which text a fault stands in.
@@ -133,6 +171,16 @@ impl LiquidError {
     /// Whether no memory was to be had.
     pub fn is_memory(&self) -> bool {
         self.number == MEMORY
+    }
+
+    /// Whether a limit on bytes or turns ended the page.
+    pub fn is_limit(&self) -> bool {
+        matches!(self.number, BYTES_REACHED | TURNS_REACHED)
+    }
+
+    /// Whether the run wasn't begun, since it could reach more levels than are allowed.
+    pub fn is_too_many_levels(&self) -> bool {
+        self.number == TOO_MANY_LEVELS
     }
 }
 
@@ -199,8 +247,42 @@ impl Partials {
         // SAFETY: both handles are owners', two of them, and the bytes are a text's.
         match unsafe { bikleinu_insert(self.0.at(), name.as_ptr(), name.len(), template.0.at()) } {
             0 => Ok(()),
-            number => Err(LiquidError { number, name: String::new(), message: String::new(), location: None }),
+            number => Err(call_refused(number).unwrap_or(LiquidError {
+                number,
+                name: String::new(),
+                message: String::new(),
+                location: None,
+            })),
         }
+    }
+}
+
+/// What a run is allowed. By default it is what is usual: 400 levels, and any number of bytes and turns.
+#[repr(C)]
+#[derive(Clone, Copy, Debug, Default, PartialEq, Eq)]
+pub struct Limits {
+    levels: u32,
+    bytes: u64,
+    turns: u64,
+}
+
+impl Limits {
+    /// At most so many levels; 0 for what is usual.
+    #[must_use]
+    pub fn levels(self, levels: u32) -> Limits {
+        Limits { levels, ..self }
+    }
+
+    /// At most so many bytes, to the page and into the bodies of `capture` and `ifchanged`; 0 for any number.
+    #[must_use]
+    pub fn max_bytes(self, bytes: u64) -> Limits {
+        Limits { bytes, ..self }
+    }
+
+    /// At most so many lists of nodes: the template's, and each body and each partial each time that it runs; 0 for any number.
+    #[must_use]
+    pub fn max_turns(self, turns: u64) -> Limits {
+        Limits { turns, ..self }
     }
 }
 
@@ -215,14 +297,32 @@ pub struct Page {
 pub struct Template(Owner);
 
 impl Template {
-    /// The page of the template over this data, with these partials, of which at most `depth` may be nested. The error is one of
-    /// memory alone: any other fault is the page's.
+    /// The page of the template over this data, with these partials, of which at most `depth` may be nested.
+    ///
+    /// # Errors
+    ///
+    /// Refused memory, and a run that could reach more than 400 levels. Any other fault is the page's.
     pub fn render(&mut self, data: &mut Data, partials: &mut Partials, depth: u32) -> Result<Page, LiquidError> {
+        self.render_within(data, partials, depth, Limits::default())
+    }
+
+    /// The same within limits: fewer levels for a smaller stack, or more for a larger one.
+    ///
+    /// # Errors
+    ///
+    /// Refused memory, and a run that could reach more levels than are allowed. Any other fault is the page's.
+    pub fn render_within(
+        &mut self,
+        data: &mut Data,
+        partials: &mut Partials,
+        depth: u32,
+        limits: Limits,
+    ) -> Result<Page, LiquidError> {
         let mut page = Owner::new();
-        // SAFETY: the handles are owners', four of them.
-        let number = unsafe { bikleinu_render(self.0.at(), data.0.at(), partials.0.at(), depth, page.at()) };
+        // SAFETY: the handles are owners', four of them, and the limits are there for as long as the call.
+        let number = unsafe { bikleinu_render_within(self.0.at(), data.0.at(), partials.0.at(), depth, &limits, page.at()) };
         match number {
-            MEMORY => Err(page.fault(number)),
+            MEMORY | NO_TEXT..=TOO_MANY_LEVELS => Err(page.fault(number)),
             0 => Ok(Page { text: page.part(TEXT), fault: None }),
             _ => Ok(Page { text: page.part(TEXT), fault: Some(page.fault(number)) }),
         }

@@ -1,5 +1,6 @@
 -- What calls make of what lies behind their handles.
-use Rattle.std.specs.Prelude.{◌≡◌, ◌⊎◌, ℕ, List, [], Option, Some, None, Result, Ok, Err, MatchBool, ⊤}
+use Rattle.std.specs.Prelude.{◌≡◌, ◌⊎◌, ℕ, List, [], Option, Some, None, Result, Ok, Err}
+use Rattle.std.specs.Prelude.{Bool, not, ◌&&◌, MatchBool, ⊤, if◌then◌else◌, nat_eq, nat_lt}
 use Rattle.std.specs.Str.{IsUtf8}
 use Rattle.liquid_model.specs.Answer.{Faulted}
 use Rattle.liquid_model.specs.Data.{Datum}
@@ -7,22 +8,26 @@ use Rattle.liquid_model.specs.Maps.{Map, empty}
 use Rattle.liquid_model.specs.Texts.{Text}
 use Rattle.liquid_model.specs.ErrorKinds.{is_memory, number_of}
 use Rattle.liquid_model.specs.View.{pairs_view}
-use Rattle.liquid_model.specs.declared.error.ErrorKind.TheVariants.{Memory}
+use Rattle.liquid_model.specs.declared.error.ErrorKind.TheVariants.{Memory, Write}
 use Rattle.liquid_core.specs.Held.{held as map_held}
 use Rattle.liquid_tree.specs.Tree.{Nodes}
 use Rattle.liquid_language.specs.Entries.{put}
 use Rattle.liquid_syntax.specs.Parsing.{IsOnlyTree, HasNoTree, MayRefuse}
-use Rattle.liquid_syntax.specs.Templates.{tree_of, partials_of}
+use Rattle.liquid_syntax.specs.Templates.{list_of, tree_of, partials_of}
 use Rattle.liquid_language.specs.declared.language.Language.{Language}
 use Rattle.liquid_syntax.specs.declared.partials.Partials.{Partials}
+use Rattle.liquid_syntax.specs.declared.template.Template.{Template}
+use Rattle.liquid_lib.specs.LimitedPages.{Begins}
 use Rattle.liquid_lib.specs.Pages.{page_over, page_view}
 use Rattle.liquid_lib.specs.Standard.{IsStandard}
 use Rattle.liquid_json.specs.Json.{data_of}
+use Rattle.liquid_c.specs.Levels.{levels_in, no_levels, greater_of, most_levels}
 use Rattle.liquid_c.specs.Numbers.{number_of_refusal}
 use Rattle.liquid_c.specs.declared.held.Held.{Held}
 use Rattle.liquid_c.specs.declared.held.Held.TheVariants as held
+use Rattle.liquid_c.specs.declared.levels.Levels.{Levels}
 use Rattle.liquid_c.specs.declared.refusal.Refusal.{Refusal}
-use Rattle.liquid_c.specs.declared.refusal.Refusal.TheVariants.{NoText, OtherHandle}
+use Rattle.liquid_c.specs.declared.refusal.Refusal.TheVariants.{NoText, OtherHandle, TooManyLevels}
 
 -- the standard language, or memory ran out
 abbrev pub IsLanguage : Result Held Refusal → Type 0
@@ -31,16 +36,18 @@ IsLanguage (Ok (held.Fault e)) = e.kind ≡ Memory
 IsLanguage _ = ⊥
 
 abbrev pub AreNoPartials : Result Held Refusal → Type 0
-AreNoPartials (Ok (held.Partials p)) = partials_of p ≡ []
+AreNoPartials (Ok (held.Partials p levels)) = (partials_of p ≡ []) × (levels ≡ no_levels)
 AreNoPartials _ = ⊥
 
 -- R holds where the bytes are a text, and else the call can't be
 abbrev pub OfText : List ℕ → (Result Held Refusal → Type 0) → Result Held Refusal → Type 0
 OfText bytes R answer = (IsUtf8 bytes × R answer) ⊎ ((IsUtf8 bytes → ⊥) × (answer ≡ Err NoText))
 
--- the template that the source is, or why it is none: by a kind of a source, or since memory ran out
+-- the template that the source is, with the levels that it reaches; or why it is none: by a kind of
+-- a source, or since memory ran out
 abbrev pub Parses : Language → Text → Result Held Refusal → Type 0
-Parses l source (Ok (held.Template t)) = IsOnlyTree l (tree_of t) source
+Parses l source (Ok (held.Template t levels)) =
+    IsOnlyTree l (tree_of t) source × (levels ≡ levels_in (list_of t))
 Parses l source (Ok (held.Fault e)) = MayRefuse e.kind × MatchBool (is_memory e.kind) ⊤ (HasNoTree l source)
 Parses l source _ = ⊥
 
@@ -66,34 +73,79 @@ facts_behind (Some _) = None
 -- likewise the partials
 abbrev pub partials_behind : Option Held → Option (List (Text × Nodes))
 partials_behind None = Some []
-partials_behind (Some (held.Partials p)) = Some (partials_of p)
+partials_behind (Some (held.Partials p levels)) = Some (partials_of p)
 partials_behind (Some _) = None
 
--- the page of these nodes, unless memory ran out
-abbrev pub Shows : Nodes → Option (Map Datum) → Option (List (Text × Nodes)) → ℕ → Result Held Refusal → Type 0
-Shows nodes (Some facts) (Some partials) depth (Ok (held.Page p)) = page_view p ≡ page_over depth partials facts nodes
-Shows nodes (Some facts) (Some partials) depth (Ok (held.Fault e)) = e.kind ≡ Memory
-Shows nodes (Some facts) (Some partials) depth _ = ⊥
-Shows nodes None _ depth answer = answer ≡ Err OtherHandle
-Shows nodes (Some facts) None depth answer = answer ≡ Err OtherHandle
+-- the most levels that one of them reaches by itself
+abbrev pub levels_behind : Option Held → Levels
+levels_behind (Some (held.Partials p levels)) = levels
+levels_behind _ = no_levels
 
-abbrev pub IsRendering : Option Held → Option Held → Option Held → ℕ → Result Held Refusal → Type 0
-IsRendering (Some (held.Template t)) facts partials depth answer = Shows (tree_of t) (facts_behind facts) (partials_behind partials) depth answer
-IsRendering _ facts partials depth answer = answer ≡ Err OtherHandle
+-- the page of these nodes, unless memory ran out
+abbrev pub Shows : Nodes → ℕ → Map Datum → List (Text × Nodes)
+    → Result Held Refusal → Type 0
+Shows nodes depth facts partials (Ok (held.Page p)) =
+    page_view p ≡ page_over depth partials facts nodes
+Shows nodes depth facts partials (Ok (held.Fault e)) = e.kind ≡ Memory
+Shows nodes depth facts partials _ = ⊥
+
+-- the same, or a beginning of its text where a limit ended it
+abbrev pub ShowsWithin : Nodes → ℕ → Map Datum → List (Text × Nodes)
+    → Result Held Refusal → Type 0
+ShowsWithin nodes depth facts partials (Ok (held.Ended p limit)) =
+    ((page_view p).fault ≡ Some Write)
+    × Begins (page_view p).text (page_over depth partials facts nodes).text
+ShowsWithin nodes depth facts partials answer = Shows nodes depth facts partials answer
+
+-- R holds where data and partials are there, and else the call can't be
+abbrev pub OfBoth : Option (Map Datum) → Option (List (Text × Nodes))
+    → (Map Datum → List (Text × Nodes) → Result Held Refusal → Type 0) → Result Held Refusal → Type 0
+OfBoth (Some facts) (Some partials) R answer = R facts partials answer
+OfBoth None _ R answer = answer ≡ Err OtherHandle
+OfBoth (Some facts) None R answer = answer ≡ Err OtherHandle
+
+-- a run that could reach too many levels isn't begun, and any other shows its page
+abbrev pub ShowsUnless : Bool → Bool → Nodes → ℕ → Map Datum → List (Text × Nodes)
+    → Result Held Refusal → Type 0
+ShowsUnless is_deep is_limited nodes depth facts partials answer =
+    MatchBool is_deep (answer ≡ Err TooManyLevels)
+    (MatchBool is_limited
+    (ShowsWithin nodes depth facts partials answer)
+    (Shows nodes depth facts partials answer))
+
+-- a number other than 0 is a limit
+abbrev pub has_limit : ℕ → ℕ → Bool
+has_limit bytes turns = not (nat_eq bytes 0 && nat_eq turns 0)
+
+abbrev pub IsRendering : ℕ → Bool → Option Held → Option Held → Option Held → ℕ
+    → Result Held Refusal → Type 0
+IsRendering bound is_limited (Some (held.Template t levels)) facts partials depth answer =
+    OfBoth (facts_behind facts) (partials_behind partials)
+    (ShowsUnless (nat_lt bound (most_levels depth levels (levels_behind partials)))
+    is_limited (tree_of t) depth)
+    answer
+IsRendering bound is_limited _ facts partials depth answer = answer ≡ Err OtherHandle
+
+-- the bound where a caller sets none
+abbrev pub usual_levels : ℕ
+usual_levels = 400
+
+abbrev pub bound_of : ℕ → ℕ
+bound_of asked = if nat_eq asked 0 then usual_levels else asked
 
 -- ---- a partial put in
 
--- the handle holds these partials
-abbrev pub Holds : Option Held → List (Text × Nodes) → Type 0
-Holds (Some (held.Partials p)) trees = partials_of p ≡ trees
-Holds _ trees = ⊥
+-- the handle holds these partials, of which one reaches so many levels
+abbrev pub Holds : Option Held → List (Text × Nodes) → Levels → Type 0
+Holds (Some (held.Partials p most)) trees levels = (partials_of p ≡ trees) × (most ≡ levels)
+Holds _ trees levels = ⊥
 
 -- the template now stands among the partials, and its handle holds nothing;  memory ran out, and nothing changed;  the name is no text
-pub data Puts (old : Partials) (name : List ℕ) (nodes : Nodes) (number : ℕ) (partials template was : Option Held) : Type 0 where
-  done : IsUtf8 name → number ≡ 0 → Holds partials (put name nodes (partials_of old)) → template ≡ None → Puts old name nodes number partials template was
-  refused : IsUtf8 name → number ≡ number_of Memory → Holds partials (partials_of old) → template ≡ was → Puts old name nodes number partials template was
-  no_text : (IsUtf8 name → ⊥) → number ≡ number_of_refusal NoText → Holds partials (partials_of old) → template ≡ was → Puts old name nodes number partials template was
+pub data Puts (old : Partials) (most : Levels) (name : List ℕ) (t : Template) (levels : Levels) (number : ℕ) (partials template was : Option Held) : Type 0 where
+  done : IsUtf8 name → number ≡ 0 → Holds partials (put name (tree_of t) (partials_of old)) (greater_of most levels) → template ≡ None → Puts old most name t levels number partials template was
+  refused : IsUtf8 name → number ≡ number_of Memory → Holds partials (partials_of old) most → template ≡ was → Puts old most name t levels number partials template was
+  no_text : (IsUtf8 name → ⊥) → number ≡ number_of_refusal NoText → Holds partials (partials_of old) most → template ≡ was → Puts old most name t levels number partials template was
 
 abbrev pub IsPut : Option Held → List ℕ → Option Held → ℕ → Option Held → Option Held → Type 0
-IsPut (Some (held.Partials p)) name (Some (held.Template t)) number partials template = Puts p name (tree_of t) number partials template (Some (held.Template t))
+IsPut (Some (held.Partials p most)) name (Some (held.Template t levels)) number partials template = Puts p most name t levels number partials template (Some (held.Template t levels))
 IsPut old name was number partials template = (number ≡ number_of_refusal OtherHandle) × (partials ≡ old) × (template ≡ was)

@@ -1,4 +1,5 @@
 pub mod Calls
+pub mod Levels
 pub mod Numbers
 pub mod Owned
 pub mod Parts

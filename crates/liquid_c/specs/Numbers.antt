@@ -3,14 +3,17 @@ use Rattle.std.specs.Prelude.{ℕ, Option, Some, None, [], string_bytes}
 use Rattle.liquid_model.specs.Texts.{Text}
 use Rattle.liquid_model.specs.ErrorKinds.{number_of}
 use Rattle.liquid_model.specs.declared.error.Error.{Error}
+use Rattle.liquid_lib.specs.declared.limits.LimitReached.{LimitReached}
+use Rattle.liquid_lib.specs.declared.limits.LimitReached.TheVariants.{Bytes, Turns}
 use Rattle.liquid_c.specs.declared.held.Held.{Held}
 use Rattle.liquid_c.specs.declared.held.Held.TheVariants as held
 use Rattle.liquid_c.specs.declared.refusal.Refusal.{Refusal}
-use Rattle.liquid_c.specs.declared.refusal.Refusal.TheVariants.{NoText, OtherHandle}
+use Rattle.liquid_c.specs.declared.refusal.Refusal.TheVariants.{NoText, OtherHandle, TooManyLevels}
 
 -- the fault, also that of a page
 abbrev pub fault_behind : Held → Option Error
 fault_behind (held.Page p) = p.fault
+fault_behind (held.Ended p limit) = p.fault
 fault_behind (held.Fault e) = Some e
 fault_behind _ = None
 
@@ -18,16 +21,24 @@ abbrev pub number_of_fault : Option Error → ℕ
 number_of_fault None = 0
 number_of_fault (Some e) = number_of e.kind
 
--- 0, or the number of the fault's kind
+abbrev pub number_of_limit : LimitReached → ℕ
+number_of_limit Bytes = 104
+number_of_limit Turns = 105
+
+-- 0, or the number of the limit that ended a page, or of the fault's kind
 abbrev pub number_of_held : Held → ℕ
+number_of_held (held.Ended p limit) = number_of_limit limit
 number_of_held h = number_of_fault (fault_behind h)
 
 -- the text of a page
 abbrev pub text_behind : Held → Text
 text_behind (held.Page p) = string_bytes p.text
+text_behind (held.Ended p limit) = string_bytes p.text
 text_behind _ = []
 
--- a call that can't be: bytes that are no UTF-8, and a handle of another kind
+-- a call that can't be: bytes that are no UTF-8, a handle of another kind, and a run that could
+-- reach too many levels
 abbrev pub number_of_refusal : Refusal → ℕ
 number_of_refusal NoText = 101
 number_of_refusal OtherHandle = 102
+number_of_refusal TooManyLevels = 103

@@ -1,27 +1,36 @@
 //! What lies behind a handle.
 ghost use Rattle.std.specs.Prelude.{◌≡◌, option_map};
-ghost use Rattle.liquid_c.specs.Numbers.{number_of_held, text_behind, fault_behind};
+ghost use Rattle.liquid_c.specs.Numbers.{fault_behind, text_behind};
+ghost use Rattle.liquid_c.specs.Numbers.{number_of_held, number_of_limit};
 
+use crate::levels::Levels;
 use liquid_core::{Error, Object};
-use liquid_lib::{Language, Page, Partials, Template};
+use liquid_lib::{Language, LimitReached, Page, Partials, Template};
 
 /// What lies behind a handle.
 #[derive(Drop)]
 pub enum Held {
     Language(Language),
-    Template(Template),
-    Partials(Partials),
+    /// With the levels that it reaches by itself.
+    Template(Template, Levels),
+    /// With the most that the templates reach which were ever put among them.
+    Partials(Partials, Levels),
     Data(Object),
     Page(Page),
+    /// A page that a limit of the caller's ended.
+    Ended(Page, LimitReached),
     /// Why there is none of these.
     Fault(Error),
 }
 
 impl Held {
-    /// 0, or the number of the fault's kind.
+    /// 0, or the number of the limit that ended a page, or of the fault's kind.
     pub(crate) fn number(&self) -> u32
         ensures { result ≡ number_of_held self.now }
     {
+        if let Held::Ended(_, limit) = self {
+            return limit_number(*limit);
+        }
         match self.fault() {
             Some(fault) => u32::from(fault.kind.number()),
             None => 0,
@@ -34,6 +43,7 @@ impl Held {
     {
         match self {
             Held::Page(page) => page.text.as_str(),
+            Held::Ended(page, _) => page.text.as_str(),
             _ => "",
         }
     }
@@ -44,9 +54,19 @@ impl Held {
     {
         match self {
             Held::Page(page) => page.fault.as_ref(),
+            Held::Ended(page, _) => page.fault.as_ref(),
             Held::Fault(fault) => Some(fault),
             _ => None,
         }
+    }
+}
+
+fn limit_number(limit: LimitReached) -> u32
+    ensures { result ≡ number_of_limit limit }
+{
+    match limit {
+        LimitReached::Bytes => 104,
+        LimitReached::Turns => 105,
     }
 }
 

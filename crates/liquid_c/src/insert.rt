@@ -7,6 +7,7 @@ ghost use Rattle.liquid_c.specs.Calls.{IsPut};
 
 use crate::handle::Handle;
 use crate::held::Held;
+use crate::levels::Levels;
 use crate::refusal::Refusal;
 use liquid_core::ErrorKind;
 use liquid_lib::Partials;
@@ -44,7 +45,9 @@ fn put(
     };
     match partials {
         Some(held) => match &mut **held {
-            Held::Partials(partials) => put_template(alloc, partials, name, template),
+            Held::Partials(partials, levels) => {
+                put_template(alloc, partials, levels, name, template)
+            }
             _ => (Refusal::OtherHandle.number(), Some(template)),
         },
         None => (Refusal::OtherHandle.number(), Some(template)),
@@ -65,12 +68,15 @@ fn is_reserved(alloc: Global, partials: &mut Partials, name: &str) -> bool
 fn put_template(
     alloc: Global,
     partials: &mut Partials,
+    most: &mut Levels,
     name: &[u8],
     template: Box<Held>,
 ) -> (u32, Option<Box<Held>>)
-    ensures { IsPut (Some (held.Partials partials.old)) name.now (Some template.value) result.0 (Some (held.Partials partials.new)) (option_map (λ b. b.value) result.1) }
+    ensures { IsPut (Some (held.Partials partials.old most.old)) name.now (Some template.value)
+        result.0 (Some (held.Partials partials.new most.new))
+        (option_map (λ b. b.value) result.1) }
 {
-    if !matches!(&*template, Held::Template(_)) {
+    if !matches!(&*template, Held::Template(_, _)) {
         return (Refusal::OtherHandle.number(), Some(template));
     }
     let Ok(name) = str::from_utf8(name) else {
@@ -80,8 +86,9 @@ fn put_template(
         return (u32::from(ErrorKind::Memory.number()), Some(template));
     }
     match Box::into_inner(template) {
-        Held::Template(template) => {
+        Held::Template(template, levels) => {
             drop(partials.exchange(name, Some(template)));
+            *most = most.greater_of(levels);
             (0, None)
         }
         held => {

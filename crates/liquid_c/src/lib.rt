@@ -8,6 +8,7 @@ mod handle;
 mod held;
 mod insert;
 mod kept;
+mod levels;
 mod make;
 mod parse;
 mod read;

@@ -5,6 +5,7 @@ ghost use Rattle.liquid_c.specs.Settled.{Settled};
 
 use crate::handle::Handle;
 use crate::held::Held;
+use crate::levels::Levels;
 use crate::refusal::{Refusal, settle};
 use liquid_json::data_from_json;
 use liquid_lib::{Partials, language};
@@ -38,7 +39,7 @@ pub extern "C" fn bikleinu_partials(alloc: Global, made: &mut Handle) -> u32
 fn no_partials(alloc: Global) -> Result<Held, Refusal>
     ensures { AreNoPartials result }
 {
-    Ok(Held::Partials(Partials::new(alloc)))
+    Ok(Held::Partials(Partials::new(alloc), Levels::none()))
 }
 
 /// Reads data from a text of JSON. 0, or the number of the fault that `made` then has: `InvalidInput`, `Float` or `Memory`.

@@ -1,12 +1,13 @@
 //! Templates from their sources.
-ghost use Rattle.std.specs.Prelude.{◌≡◌, option_map};
-ghost use Rattle.liquid_c.specs.Calls.{IsParse};
+ghost use Rattle.std.specs.Prelude.{◌≡◌, Ok, option_map};
+ghost use Rattle.liquid_c.specs.Calls.{IsParse, Parses};
 ghost use Rattle.liquid_c.specs.Settled.{Settled};
 
 use crate::handle::Handle;
 use crate::held::{Held, seen};
+use crate::levels::levels_in;
 use crate::refusal::{Refusal, settle};
-use liquid_lib::parse;
+use liquid_lib::{Language, parse};
 use std::alloc::Global;
 
 /// Parses a source in a language. 0, or the number of the fault that `made` then has: a kind of a source, or `Memory`.
@@ -31,12 +32,22 @@ fn template(alloc: Global, language: Option<&Held>, source: &[u8]) -> Result<Hel
 {
     match language {
         Some(Held::Language(language)) => match str::from_utf8(source) {
-            Ok(source) => match parse(alloc, source, language) {
-                Ok(template) => Ok(Held::Template(template)),
-                Err(fault) => Ok(Held::Fault(fault)),
-            },
+            Ok(source) => Ok(parsed(alloc, source, language)),
             Err(_) => Err(Refusal::NoText),
         },
         _ => Err(Refusal::OtherHandle),
+    }
+}
+
+/// The template that a source is, with the levels that it reaches, or the fault.
+fn parsed(alloc: Global, source: &str, language: &Language) -> Held
+    ensures { Parses language.now source.now (Ok result) }
+{
+    match parse(alloc, source, language) {
+        Ok(template) => match levels_in(alloc, template.nodes()) {
+            Ok(levels) => Held::Template(template, levels),
+            Err(refused) => Held::Fault(refused),
+        },
+        Err(fault) => Held::Fault(fault),
     }
 }

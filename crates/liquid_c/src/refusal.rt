@@ -15,6 +15,8 @@ pub enum Refusal {
     NoText,
     /// A handle holds another kind of thing than the call needs, or nothing.
     OtherHandle,
+    /// A run could reach more levels than the caller allows.
+    TooManyLevels,
 }
 
 impl Refusal {
@@ -25,6 +27,7 @@ impl Refusal {
         match self {
             Refusal::NoText => 101,
             Refusal::OtherHandle => 102,
+            Refusal::TooManyLevels => 103,
         }
     }
 }

@@ -1,24 +1,58 @@
 //! Renderings.
-ghost use Rattle.std.specs.Prelude.{◌≡◌, [], Some, option_map};
+ghost use Rattle.std.specs.Prelude.{◌≡◌, [], Ok, Some, false, option_map};
 ghost use Rattle.liquid_model.specs.Maps.{empty};
 ghost use Rattle.liquid_core.specs.Held.{held as map_held};
 ghost use Rattle.liquid_syntax.specs.Templates.{partials_of, tree_of};
-ghost use Rattle.liquid_c.specs.Calls.{IsRendering, Shows, facts_behind, partials_behind};
+ghost use Rattle.liquid_c.specs.Calls.{IsRendering, OfBoth, Shows, ShowsUnless, ShowsWithin};
+ghost use Rattle.liquid_c.specs.Calls.{bound_of, facts_behind, has_limit, levels_behind};
+ghost use Rattle.liquid_c.specs.Calls.{partials_behind, usual_levels};
 ghost use Rattle.liquid_c.specs.Settled.{Settled};
 
 use crate::handle::Handle;
 use crate::held::{Held, seen};
+use crate::levels::Levels;
 use crate::refusal::{Refusal, settle};
 use liquid_core::Object;
-use liquid_lib::{Partials, Template, render_page};
+use liquid_lib::{LimitedPage, Partials, Template, render_page, render_page_within};
 use std::alloc::Global;
 use std::collections::BTreeMap;
 
-/// Renders a template in a run of its own, over data and with partials, of which so many may be nested. A handle that holds
-/// nothing stands for empty data, or for no partials.
+/// How many levels a run may reach where its caller says nothing. They stay within a stack of 1
+/// MiB, with partials of up to a depth of 200.
+const USUAL_LEVELS: u32 = 400;
+
+/// What a caller allows a run. A number that is 0 stands for what is usual: so many levels, and any
+/// number of bytes and turns.
+#[repr(C)]
+#[derive(Clone, Copy, Drop)]
+pub struct Limits {
+    /// How many levels it may reach.
+    levels: u32,
+    /// How many bytes it may write.
+    bytes: u64,
+    /// How many lists of nodes it may run.
+    turns: u64,
+}
+
+/// What a run may do.
+#[derive(Clone, Copy, Drop)]
+struct Allowed {
+    /// How many partials it may nest.
+    depth: u32,
+    /// How many levels it may reach.
+    levels: u32,
+    /// How many bytes it may write; 0 for any number.
+    bytes: u64,
+    /// How many lists of nodes it may run; 0 for any number.
+    turns: u64,
+}
+
+/// Renders a template in a run of its own, over data and with partials, of which so many may be
+/// nested. A handle that holds nothing stands for empty data, or for no partials.
 ///
-/// `made` then holds the page. 0, or the number of the fault that the page ended by: its text goes up to the fault. After `Memory`
-/// there is no page.
+/// `made` then holds the page. 0, or the number of the fault that the page ended by: its text goes
+/// up to the fault. After `Memory` there is no page. A run that could reach more levels than is
+/// usual isn't begun: then the call answers 103, and there is no page either.
 #[unsafe(no_mangle)]
 pub extern "C" fn bikleinu_render(
     alloc: Global,
@@ -28,7 +62,69 @@ pub extern "C" fn bikleinu_render(
     depth: u32,
     made: &mut Handle,
 ) -> u32
-    ensures rendered { Settled (IsRendering template.old.held facts.old.held partials.old.held depth) result made.new.held }
+    ensures rendered { Settled
+        (IsRendering usual_levels false template.old.held facts.old.held partials.old.held depth)
+        result made.new.held }
+    ensures template { template.new.held ≡ template.old.held }
+    ensures facts { facts.new.held ≡ facts.old.held }
+    ensures partials { partials.new.held ≡ partials.old.held }
+{
+    let allowed = Allowed {
+        depth,
+        levels: USUAL_LEVELS,
+        bytes: 0,
+        turns: 0,
+    };
+    let answer = rendered(alloc, template, facts, partials, allowed);
+    settle(alloc, answer, made)
+}
+
+/// The same, within limits of the caller's. A page that the limit on bytes ended answers 104, and
+/// one that the limit on turns ended 105: its text goes up to there.
+#[unsafe(no_mangle)]
+pub extern "C" fn bikleinu_render_within(
+    alloc: Global,
+    template: &mut Handle,
+    facts: &mut Handle,
+    partials: &mut Handle,
+    depth: u32,
+    limits: &Limits,
+    made: &mut Handle,
+) -> u32
+    ensures rendered { Settled
+        (IsRendering (bound_of limits.now.levels) (has_limit limits.now.bytes limits.now.turns)
+        template.old.held facts.old.held partials.old.held depth)
+        result made.new.held }
+    ensures template { template.new.held ≡ template.old.held }
+    ensures facts { facts.new.held ≡ facts.old.held }
+    ensures partials { partials.new.held ≡ partials.old.held }
+{
+    let allowed = Allowed {
+        depth,
+        levels: bound_of(limits.levels),
+        bytes: limits.bytes,
+        turns: limits.turns,
+    };
+    let answer = rendered(alloc, template, facts, partials, allowed);
+    settle(alloc, answer, made)
+}
+
+fn bound_of(asked: u32) -> u32
+    ensures { result ≡ bound_of asked }
+{
+    if asked == 0 { USUAL_LEVELS } else { asked }
+}
+
+/// What rendering comes to with what lies behind the handles, which hold it again.
+fn rendered(
+    alloc: Global,
+    template: &mut Handle,
+    facts: &mut Handle,
+    partials: &mut Handle,
+    allowed: Allowed,
+) -> Result<Held, Refusal>
+    ensures rendered { IsRendering allowed.levels (has_limit allowed.bytes allowed.turns)
+        template.old.held facts.old.held partials.old.held allowed.depth result }
     ensures template { template.new.held ≡ template.old.held }
     ensures facts { facts.new.held ≡ facts.old.held }
     ensures partials { partials.new.held ≡ partials.old.held }
@@ -41,12 +137,12 @@ pub extern "C" fn bikleinu_render(
         seen(&held_template),
         seen(&held_facts),
         seen(&held_partials),
-        depth,
+        allowed,
     );
     template.put(alloc, held_template);
     facts.put(alloc, held_facts);
     partials.put(alloc, held_partials);
-    settle(alloc, answer, made)
+    answer
 }
 
 fn page(
@@ -54,33 +150,45 @@ fn page(
     template: Option<&Held>,
     facts: Option<&Held>,
     partials: Option<&Held>,
-    depth: u32,
+    allowed: Allowed,
 ) -> Result<Held, Refusal>
-    ensures { IsRendering (option_map (λ h. h.now) template.entry) (option_map (λ h. h.now) facts.entry) (option_map (λ h. h.now) partials.entry) depth result }
+    ensures { IsRendering allowed.levels (has_limit allowed.bytes allowed.turns)
+        (option_map (λ h. h.now) template.entry)
+        (option_map (λ h. h.now) facts.entry)
+        (option_map (λ h. h.now) partials.entry)
+        allowed.depth result }
 {
-    let Some(Held::Template(template)) = template else {
+    let Some(Held::Template(template, levels)) = template else {
         return Err(Refusal::OtherHandle);
     };
     let no_facts = empty_facts(alloc);
     let no_partials = Partials::new(alloc);
+    let is_deep = levels.pass(levels_held(partials), allowed.depth, allowed.levels);
     shown(
         alloc,
         template,
+        is_deep,
         facts_held(facts, &no_facts),
         partials_held(partials, &no_partials),
-        depth,
+        allowed,
     )
 }
 
-/// The page of a template over data and with partials, where both are there.
+/// The page of a template over data and with partials, where both are there and it isn't too deep.
 fn shown(
     alloc: Global,
     template: &Template,
+    is_deep: bool,
     facts: Option<&Object>,
     partials: Option<&Partials>,
-    depth: u32,
+    allowed: Allowed,
 ) -> Result<Held, Refusal>
-    ensures { Shows (tree_of template.now) (option_map (λ d. map_held d.now) facts.entry) (option_map (λ p. partials_of p.now) partials.entry) depth result }
+    ensures { OfBoth
+        (option_map (λ d. map_held d.now) facts.entry)
+        (option_map (λ p. partials_of p.now) partials.entry)
+        (ShowsUnless is_deep (has_limit allowed.bytes allowed.turns)
+        (tree_of template.now) allowed.depth)
+        result }
 {
     let Some(facts) = facts else {
         return Err(Refusal::OtherHandle);
@@ -88,10 +196,58 @@ fn shown(
     let Some(partials) = partials else {
         return Err(Refusal::OtherHandle);
     };
-    match render_page(alloc, template, partials, depth, facts) {
-        Ok(page) => Ok(Held::Page(page)),
-        Err(fault) => Ok(Held::Fault(fault)),
+    if is_deep {
+        return Err(Refusal::TooManyLevels);
     }
+    if allowed.bytes == 0 && allowed.turns == 0 {
+        return Ok(whole(alloc, template, partials, allowed.depth, facts));
+    }
+    Ok(limited(alloc, template, partials, allowed, facts))
+}
+
+/// The whole page.
+fn whole(
+    alloc: Global,
+    template: &Template,
+    partials: &Partials,
+    depth: u32,
+    facts: &Object,
+) -> Held
+    ensures { Shows (tree_of template.now) depth
+        (map_held facts.now) (partials_of partials.now) (Ok result) }
+{
+    match render_page(alloc, template, partials, depth, facts) {
+        Ok(page) => Held::Page(page),
+        Err(fault) => Held::Fault(fault),
+    }
+}
+
+/// The page within limits on its bytes and turns.
+fn limited(
+    alloc: Global,
+    template: &Template,
+    partials: &Partials,
+    allowed: Allowed,
+    facts: &Object,
+) -> Held
+    ensures { ShowsWithin (tree_of template.now) allowed.depth
+        (map_held facts.now) (partials_of partials.now) (Ok result) }
+{
+    let limits = liquid_lib::Limits {
+        bytes: limit_of(allowed.bytes),
+        turns: limit_of(allowed.turns),
+    };
+    match render_page_within(alloc, template, partials, allowed.depth, facts, limits) {
+        Ok(LimitedPage { page, limit }) => match limit {
+            None => Held::Page(page),
+            Some(limit) => Held::Ended(page, limit),
+        },
+        Err(fault) => Held::Fault(fault),
+    }
+}
+
+fn limit_of(asked: u64) -> Option<u64> {
+    if asked == 0 { None } else { Some(asked) }
 }
 
 fn empty_facts(alloc: Global) -> Object
@@ -119,7 +275,17 @@ fn partials_held<'a>(held: Option<&'a Held>, none: &'a Partials) -> Option<&'a P
 {
     match held {
         None => Some(none),
-        Some(Held::Partials(partials)) => Some(partials),
+        Some(Held::Partials(partials, _)) => Some(partials),
         Some(_) => None,
+    }
+}
+
+/// The most levels that one of the partials behind a handle reaches by itself.
+fn levels_held(held: Option<&Held>) -> Levels
+    ensures { result ≡ levels_behind (option_map (λ h. h.now) held.entry) }
+{
+    match held {
+        Some(Held::Partials(_, levels)) => *levels,
+        _ => Levels::none(),
     }
 }

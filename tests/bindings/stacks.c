@@ -1,0 +1,156 @@
+/* Runs templates in threads of small and large stacks, each at the most levels that the header says its stack holds: blocks of one
+ * kind round a tag that runs a partial of the same blocks, which runs itself, with work at each level that takes stack too. Such a run
+ * has to end by the depth, and one with one more partial must be refused before it begins; so must the deepest that numbers can say.
+ * With an argument it measures instead: how many bytes of stack a level takes for each kind of block and tag, and how many the rest.
+ * A line tells each thing that isn't well, and the last one "runs: N". */
+#define _GNU_SOURCE
+#include <pthread.h>
+#include <stdio.h>
+#include <stdlib.h>
+#include <string.h>
+
+#include "bikleinu.h"
+
+enum { BLOCKS = 9, LISTS = 127, MOST = 1 << 16 };
+
+static const char *const kinds[][2] = {
+    {"{% if true %}", "{% endif %}"},
+    {"{% if false %}{% elsif true %}", "{% endif %}"},
+    {"{% unless false %}", "{% endunless %}"},
+    {"{% case 1 %}{% when 1 %}", "{% endcase %}"},
+    {"{% for i in (1..1) %}", "{% endfor %}"},
+    {"{% for i in (1..0) %}{% else %}", "{% endfor %}"},
+    {"{% tablerow i in (1..1) %}", "{% endtablerow %}"},
+    {"{% capture c %}", "{% endcapture %}"},
+    {"{% ifchanged %}", "{% endifchanged %}"},
+};
+static const char *const calls[] = {
+    "{% render 'p', d: d, w: w %}", "{% render 'p' for (1..1) as i, d: d, w: w %}", "{% include 'p' %}", "{% include 'p' d: d, w: w %}"};
+static const char work[] = "{{ d }}{% assign x = w | sort | join: ',' | date: '%Y' | split: ',' | reverse | last %}";
+
+typedef struct {
+    const char *open, *close, *call;
+    size_t blocks;
+    uint32_t depth, levels, answer;
+    bool works;
+} run;
+
+static size_t runs, wrong;
+
+static void need(uint32_t answer) {
+    if (answer != BIKLEINU_DONE) abort();
+}
+
+static const uint8_t *bytes(const char *text) { return (const uint8_t *)text; }
+
+/* The source of the template, and of its partial. */
+static void write_source(const run *it, char *into) {
+    *into = 0;
+    for (size_t at = 0; at < it->blocks; at++) strcat(into, it->open);
+    if (it->works) strcat(into, work);
+    strcat(into, it->call);
+    for (size_t at = 0; at < it->blocks; at++) strcat(into, it->close);
+}
+
+/* Data with lists in one another, and words. */
+static void write_data(char *into) {
+    strcpy(into, "{\"w\":[\"b\",\"a\",\"2024-01-02\"],\"d\":");
+    for (int at = 1; at < LISTS - 1; at++) strcat(into, "[");
+    for (int at = 1; at < LISTS - 1; at++) strcat(into, "]");
+    strcat(into, "}");
+}
+
+static void *render(void *given) {
+    run *it = given;
+    static _Thread_local char *source, *json;
+    source = malloc(MOST), json = malloc(MOST);
+    if (!source || !json) abort();
+    bikleinu_handle language = BIKLEINU_NONE, template_ = BIKLEINU_NONE, partial = BIKLEINU_NONE, partials = BIKLEINU_NONE;
+    bikleinu_handle data = BIKLEINU_NONE, page = BIKLEINU_NONE;
+    write_source(it, source), write_data(json);
+    need(bikleinu_language(&language));
+    need(bikleinu_parse(&language, bytes(source), strlen(source), &template_));
+    need(bikleinu_parse(&language, bytes(source), strlen(source), &partial));
+    need(bikleinu_partials(&partials));
+    need(bikleinu_insert(&partials, bytes("p"), 1, &partial));
+    need(bikleinu_data(bytes(json), strlen(json), &data));
+    bikleinu_limits limits = {.levels = it->levels};
+    it->answer = it->levels ? bikleinu_render_within(&template_, &data, &partials, it->depth, &limits, &page)
+                            : bikleinu_render(&template_, &data, &partials, it->depth, &page);
+    bikleinu_free(&page), bikleinu_free(&data), bikleinu_free(&partials), bikleinu_free(&template_), bikleinu_free(&language);
+    free(source), free(json);
+    return NULL;
+}
+
+static void in_thread(run *it, void *stack, size_t size) {
+    pthread_t thread;
+    pthread_attr_t how;
+    pthread_attr_init(&how);
+    if (stack ? pthread_attr_setstack(&how, stack, size) : pthread_attr_setstacksize(&how, size)) abort();
+    if (pthread_create(&thread, &how, render, it) || pthread_join(thread, NULL)) abort();
+    pthread_attr_destroy(&how);
+    runs++;
+}
+
+static void wants(run it, size_t size, uint32_t answer) {
+    in_thread(&it, NULL, size);
+    if (it.answer == answer) return;
+    wrong++;
+    printf("%s %s, depth %u, levels %u, stack %zu: %u, and %u is wanted\n", it.open, it.call, (unsigned)it.depth, (unsigned)it.levels, size, (unsigned)it.answer, (unsigned)answer);
+}
+
+/* How much of a stack that was filled with a mark has another byte now. */
+static size_t used(const run *asked) {
+    static const size_t size = 64 << 20;
+    run it = *asked;
+    uint8_t *stack = aligned_alloc(4096, size);
+    if (!stack) abort();
+    memset(stack, 0xA5, size);
+    in_thread(&it, stack, size);
+    size_t clean = 0;
+    while (clean < size && stack[clean] == 0xA5) clean++;
+    free(stack);
+    return size - clean;
+}
+
+static void measure(run it) {
+    it.levels = UINT32_MAX, it.works = true;
+    it.blocks = 0, it.depth = 100;
+    size_t few = used(&it);
+    it.depth = 200;
+    size_t call = (used(&it) - few) / 100;
+    it.blocks = BLOCKS;
+    size_t many = used(&it);
+    it.depth = 100;
+    size_t level = (many - used(&it)) / 100;
+    it.depth = 0;
+    printf("%-34s %-46s a partial %5zu, a block %5zu, the rest %6zu\n", it.open, it.call, call, (level - call) / BLOCKS, used(&it));
+}
+
+int main(int count, char **words) {
+    static const size_t sizes[] = {256 << 10, 1 << 20, 2 << 20, 8 << 20};
+    (void)words;
+    for (size_t kind = 0; kind < sizeof kinds / sizeof *kinds; kind++) {
+        for (size_t call = 0; call < sizeof calls / sizeof *calls; call++) {
+            run it = {.open = kinds[kind][0], .close = kinds[kind][1], .call = calls[call], .blocks = BLOCKS, .works = true};
+            if (count > 1) {
+                measure(it);
+                continue;
+            }
+            for (size_t at = 0; at < 2 * sizeof sizes / sizeof *sizes; at++) {
+                size_t size = sizes[at / 2];
+                it.blocks = at % 2 ? BLOCKS : 0;
+                uint32_t fit = (size - BIKLEINU_REST_STACK) / BIKLEINU_LEVEL_STACK / (it.blocks + 1);
+                it.levels = fit * (it.blocks + 1);
+                it.depth = fit - 1, wants(it, size, BIKLEINU_TOO_DEEP);
+                it.depth = fit, wants(it, size, BIKLEINU_TOO_MANY_LEVELS);
+                it.depth = UINT32_MAX, wants(it, size, BIKLEINU_TOO_MANY_LEVELS);
+            }
+            it.levels = 0;
+            it.depth = BIKLEINU_LEVELS / (BLOCKS + 1) - 1, wants(it, 1 << 20, BIKLEINU_TOO_DEEP);
+            it.depth++, wants(it, 1 << 20, BIKLEINU_TOO_MANY_LEVELS);
+        }
+    }
+    printf("runs: %zu\n", runs);
+    return wrong != 0;
+}
