@@ -5,6 +5,8 @@ from answers import ERROR, LOST_NAME, by_hand, handed_on, proves, renames, unrea
 from edits import function_of, sources, span_of, text_of
 from functions import first_line
 
+# whether a goal that may be open for want of an answer by hand counts for nothing (--strict)
+strict = {"is_on": False}
 # what the prover can't even read
 UNREAD = re.compile(r"is not in scope|has no field|is no name|operand is missing|expected the end|cannot continue")
 # what the prover says of a function that it doesn't judge at all, and of the one of its cycle of calls for which it doesn't
@@ -19,7 +21,7 @@ def refused_by(crate, edit, function, said):
     answers, unread = answered_of(crate, function, said)
 
     def counts(goal):
-        return not (renames(edit, function, unread) and wants_answer(goal, function, answers, unread))
+        return not strict["is_on"] or not (renames(edit, function, unread) and wants_answer(goal, function, answers, unread))
 
     return any(has_open_goal(name, function, verdict, said, edit.goal, counts) for name, verdict in verdicts_of(crate, function, said))
 
@@ -32,6 +34,8 @@ def answered_of(crate, function, said):
 
 def answers_for(crate, function, said):
     """Which answers by hand have to go under other names, for the goals of the function that want one."""
+    if not strict["is_on"]:
+        return ()
     goals = goals_left(function, said)
     for _, (_, why) in verdicts_of(crate, function, said):
         goals += named_goals(why)
@@ -52,7 +56,7 @@ def verdicts_of(crate, function, said):
 
 def unanswered(crate, edit, said):
     """Why a check that refuses the edit says nothing of the contract, where it is open for want of an answer by hand alone."""
-    function = None if edit.by else function_of(edit, crate.folder)
+    function = None if edit.by or not strict["is_on"] else function_of(edit, crate.folder)
     if not function or refused_by(crate.name, edit, function, said):
         return None
     answered = answered_of(crate.name, function, said)
