@@ -11,6 +11,7 @@ HERE = os.path.dirname(os.path.abspath(__file__))
 TOP = os.path.dirname(os.path.dirname(HERE))
 PROGRAM = f"{TOP}/crates/liquid_page/out/liquid_page"
 STANDARD = f"{TOP}/crates/liquid_lib/specs/Standard.antt"
+KINDS = f"{TOP}/crates/liquid_filters/specs/Kinds.antt"
 
 # what an entry and its parts must hold, and what they may hold besides
 ENTRY = {"name", "kind", "set", "form", "summary", "arguments", "examples", "mistakes"}, {"title", "notes"}
@@ -219,8 +220,16 @@ def standard_names():
     with open(STANDARD, encoding="utf-8") as file:
         text = file.read()
     parts = re.split(r"^(standard_\w+) =$", text, flags=re.M)[1:]
-    named = {name: re.findall(r'codes "(\w+)"', body.split("\n\n")[0]) for name, body in zip(parts[::2], parts[1::2])}
-    return {"tag": named["standard_tags"], "block": named["standard_blocks"], "filter": named["standard_filters"]}
+    bodies = {name: body.split("\n\n")[0] for name, body in zip(parts[::2], parts[1::2])}
+    tags, blocks = (re.findall(r'codes "(\w+)"', bodies[name]) for name in ("standard_tags", "standard_blocks"))
+    names = names_of_filters()
+    return {"tag": tags, "block": blocks, "filter": [names[kind] for kind in re.findall(r"(\w+) \(record", bodies["standard_filters"])]}
+
+
+def names_of_filters():
+    """The name of each kind of filter, as its definition has it."""
+    with open(KINDS, encoding="utf-8") as file:
+        return dict(re.findall(r'^kind_name \((\w+) \w+\) = codes "(\w+)"$', file.read(), flags=re.M))
 
 
 def kinds_of_faults():
