@@ -11,7 +11,7 @@ HERE = os.path.dirname(os.path.abspath(__file__))
 TOP = os.path.dirname(os.path.dirname(HERE))
 PROGRAM = f"{TOP}/crates/liquid_page/out/liquid_page"
 STANDARD = f"{TOP}/crates/liquid_lib/specs/Standard.antt"
-KINDS = f"{TOP}/crates/liquid_filters/specs/Kinds.antt"
+FILTER_KINDS = f"{TOP}/crates/liquid_filters/specs/Kinds.antt"
 
 # what an entry and its parts must hold, and what they may hold besides
 ENTRY = {"name", "kind", "set", "form", "summary", "arguments", "examples", "mistakes"}, {"title", "notes"}
@@ -228,7 +228,7 @@ def standard_names():
 
 def names_of_filters():
     """The name of each kind of filter, as its definition has it."""
-    with open(KINDS, encoding="utf-8") as file:
+    with open(FILTER_KINDS, encoding="utf-8") as file:
         return dict(re.findall(r'^kind_name \((\w+) \w+\) = codes "(\w+)"$', file.read(), flags=re.M))
 
 
