@@ -8,8 +8,8 @@ from dataclasses import dataclass
 
 TOP = os.path.dirname(os.path.dirname(os.path.dirname(os.path.abspath(__file__))))
 PROGRAM = f"{TOP}/crates/liquid_page/out/liquid_page"
-# the lines behind a fault that says where it stands
-SHOWN = re.compile(r" +\|\n\d+ \| [^\n]*\n +\| *\^\n\Z")
+# the lines after a fault: the one in which it stands, with its mark, or why a file has no text
+SHOWN = re.compile(r" +\|\n\d+ \| [^\n]*\n +\| *\^\n\Z|(?<=\n)  [a-z][^\n]*\n\Z")
 # what a call is refused, and what is answered, as refuse.c reads and writes them
 ASKED, ANSWERED = struct.Struct("4L"), struct.Struct("3l")
 NO_END = 2**64 - 1
