@@ -54,7 +54,6 @@ then: a condition ends without `then`
 next: `next` is written `continue`
 fi: an end is written as `{% endif %}`
 done: an end is written as `{% endfor %}`
-end: an end names its block, as `{% endif %}`
 range: a loop is written `{% for i in list %}`
 elsunless: `elsunless` isn't known; write `{% elsif a == false %}`
 yield: `yield` isn't known; `{{ content }}` shows what the data brings
