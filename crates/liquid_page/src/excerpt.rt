@@ -98,7 +98,11 @@ fn columns(text: &str, hidden: usize, before: usize) -> usize {
 
 /// How many columns a character takes, as it is shown.
 fn width(c: char) -> usize {
-    if is_visible(c) { c.width().unwrap_or(1) } else { 1 }
+    if is_visible(c) {
+        c.width().unwrap_or(1)
+    } else {
+        1
+    }
 }
 
 fn is_visible(c: char) -> bool {

@@ -9,10 +9,7 @@ pub enum Reason {
     Folder,
     NoRight,
     /// A byte that is no part of UTF-8, at this line and column, in characters and from 1.
-    NotUtf8 {
-        line: usize,
-        column: usize,
-    },
+    NotUtf8 { line: usize, column: usize },
     Other(io::ErrorKind),
 }
 
