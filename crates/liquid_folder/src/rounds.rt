@@ -54,7 +54,8 @@ impl<'r> Rounds<'r> {
         self.one_round()
     }
 
-    /// One round, with what is told of it. Whether no file was refused, no page ends by a fault, and each page's file was written.
+    /// Runs one round and reports it. Whether no file was refused, no page ended by a fault, and each
+    /// page's file was written.
     pub fn one_round(&mut self) -> Result<bool, Stop> {
         let before = self.site.rendered();
         let done = round(
