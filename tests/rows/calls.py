@@ -6,7 +6,7 @@ import re
 import subprocess
 
 TOP = os.path.dirname(os.path.dirname(os.path.dirname(os.path.abspath(__file__))))
-PROGRAM = f"{TOP}/crates/liquid_page_calls/out/liquid_page_calls"
+PROGRAM = f"{TOP}/crates/liquid_test_page_calls/out/liquid_test_page_calls"
 # what the program says of a row whose partials can't be read: such a row makes no call, and the page program tells its first fault
 NO_ROW = re.compile(r"no row, by (\w+): (.*)")
 

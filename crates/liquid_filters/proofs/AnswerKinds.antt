@@ -16,12 +16,12 @@ use Rattle.liquid_date_filters.specs.Clock.{Clock}
 use Rattle.liquid_date_filters.specs.Dates.{date_of, as_text, or_input, dated, is_zone, in_zone, date_in_tz_answer}
 use Rattle.liquid_date_filters.specs.Printed.{printed}
 use Rattle.liquid_date_filters.proofs.PrintedKinds.{printed_kind}
-use Rattle.liquid_jekyll_filters.specs.Ends.{push_answer, unshift_answer, without_last}
-use Rattle.liquid_jekyll_filters.specs.Path.{path}
-use Rattle.liquid_jekyll_filters.specs.Pluralize.{numbered, pluralize_answer}
-use Rattle.liquid_jekyll_filters.specs.Sentence.{sentence_by}
-use Rattle.liquid_jekyll_filters.specs.Slugs.{mode_named, slugify_answer}
-use Rattle.liquid_jekyll_filters.specs.Sorting.{nils_given, or_no_path, sort_items}
+use Rattle.liquid_jekyll_shopify_filters.specs.Ends.{push_answer, unshift_answer, without_last}
+use Rattle.liquid_jekyll_shopify_filters.specs.Path.{path}
+use Rattle.liquid_jekyll_shopify_filters.specs.Pluralize.{numbered, pluralize_answer}
+use Rattle.liquid_jekyll_shopify_filters.specs.Sentence.{sentence_by}
+use Rattle.liquid_jekyll_shopify_filters.specs.Slugs.{mode_named, slugify_answer}
+use Rattle.liquid_jekyll_shopify_filters.specs.Sorting.{nils_given, or_no_path, sort_items}
 use Rattle.liquid_list_filters.specs.Ends.{first_answer, last_answer}
 use Rattle.liquid_list_filters.specs.Joined.{join_by}
 use Rattle.liquid_list_filters.specs.Keeping.{compact, compact_by, compact_answer, where_by, where_answer, map_of, map_answer, uniq}

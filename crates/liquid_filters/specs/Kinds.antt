@@ -4,11 +4,11 @@ use Rattle.liquid_model.specs.Data.{Datum}
 use Rattle.liquid_model.specs.Texts.{Text}
 use Rattle.liquid_filter_base.specs.Arguments.{Answer}
 use Rattle.liquid_date_filters.specs.Dates.{date_answer, date_in_tz_answer}
-use Rattle.liquid_jekyll_filters.specs.Ends.{pop_answer, push_answer, shift_answer, unshift_answer}
-use Rattle.liquid_jekyll_filters.specs.Pluralize.{pluralize_answer}
-use Rattle.liquid_jekyll_filters.specs.Sentence.{array_to_sentence_string_answer}
-use Rattle.liquid_jekyll_filters.specs.Slugs.{slugify_answer}
-use Rattle.liquid_jekyll_filters.specs.Sorting as jekyll
+use Rattle.liquid_jekyll_shopify_filters.specs.Ends.{pop_answer, push_answer, shift_answer, unshift_answer}
+use Rattle.liquid_jekyll_shopify_filters.specs.Pluralize.{pluralize_answer}
+use Rattle.liquid_jekyll_shopify_filters.specs.Sentence.{array_to_sentence_string_answer}
+use Rattle.liquid_jekyll_shopify_filters.specs.Slugs.{slugify_answer}
+use Rattle.liquid_jekyll_shopify_filters.specs.Sorting as jekyll
 use Rattle.liquid_list_filters.specs.Ends.{first_answer, last_answer}
 use Rattle.liquid_list_filters.specs.Joined.{join_answer}
 use Rattle.liquid_list_filters.specs.Keeping.{compact_answer, map_answer, uniq_answer, where_answer}

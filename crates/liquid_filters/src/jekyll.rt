@@ -1,4 +1,4 @@
 //! The filter set of Jekyll.
-pub use liquid_jekyll_filters::jekyll::{
+pub use liquid_jekyll_shopify_filters::jekyll::{
     ArrayToSentenceString, Pop, Push, Shift, Slugify, Sort, Unshift,
 };

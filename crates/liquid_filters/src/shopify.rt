@@ -1,2 +1,2 @@
 //! The filter set of Shopify.
-pub use liquid_jekyll_filters::shopify::Pluralize;
+pub use liquid_jekyll_shopify_filters::shopify::Pluralize;

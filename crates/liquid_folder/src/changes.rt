@@ -1,7 +1,7 @@
 //! The files of a site: all of them, and the one that a line names.
 use crate::stop::Stop;
 use liquid_core::Result;
-use liquid_folders::{Changed, Folder};
+use liquid_site_files::{Changed, Folder};
 use std::alloc::Global;
 use std::{fs, io};
 

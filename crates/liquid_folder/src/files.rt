@@ -1,5 +1,5 @@
 //! The files of the system.
-use liquid_folders::{Disk, DiskFault};
+use liquid_site_files::{Disk, DiskFault};
 use std::{fs, io};
 
 /// The files of the system. That they are what reading them says, and hold what was written to them, is trusted.

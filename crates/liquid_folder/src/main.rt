@@ -10,7 +10,7 @@ mod tell;
 use crate::changes::folder_of;
 use crate::rounds::Rounds;
 use crate::stop::Stop;
-use liquid_folders::Folder;
+use liquid_site_files::Folder;
 use std::alloc::AllocError;
 use std::process::ExitCode;
 use std::{env, io};

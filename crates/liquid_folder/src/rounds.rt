@@ -3,7 +3,7 @@ use crate::changes::{all_files, changed_by};
 use crate::files::Files;
 use crate::stop::Stop;
 use crate::tell::tell_round;
-use liquid_folders::{Changed, Disk, DiskFault, Folder, Site, round, site_of};
+use liquid_site_files::{Changed, Disk, DiskFault, Folder, Site, round, site_of};
 use std::alloc::AllocError;
 use std::fs;
 

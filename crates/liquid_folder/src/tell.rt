@@ -1,7 +1,7 @@
 //! What is told of a round.
 use crate::stop::Stop;
 use liquid_core::ErrorKind;
-use liquid_folders::{Folder, Refusal, RoundOutcome, Site, Why};
+use liquid_site_files::{Folder, Refusal, RoundOutcome, Site, Why};
 use std::io;
 
 /// Tells each refused file, each page's fault and a page's file that can't be written on standard error, and how many pages were

@@ -3,7 +3,7 @@
 ghost use Rattle.liquid_model.specs.ErrorKinds.{IsKindOrMemory};
 
 use liquid_core::{Error, ErrorKind, Location, Origin, whole_of};
-use liquid_source::excerpt;
+use liquid_lexer::excerpt;
 use std::alloc::{AllocError, Global};
 
 /// The fault of a text that is no JSON from the place on with so many bytes left.

@@ -4,8 +4,8 @@
 use Rattle.std.specs.Prelude.{cond, bytes_eq, Option, Some, None, option_map}
 use Rattle.liquid_model.specs.Maps.{listed}
 use Rattle.liquid_model.specs.Texts.{Text}
-use Rattle.liquid_source.specs.declared.piece.Body.{Body}
-use Rattle.liquid_source.specs.declared.piece.Body.TheVariants as bodies
+use Rattle.liquid_lexer.specs.declared.piece.Body.{Body}
+use Rattle.liquid_lexer.specs.declared.piece.Body.TheVariants as bodies
 use Rattle.liquid_language.specs.Controls.{end_word, control_of}
 use Rattle.liquid_language.specs.Languages.{kinds_of}
 use Rattle.liquid_language.specs.declared.block.Control.{Control}

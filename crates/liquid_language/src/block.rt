@@ -2,11 +2,11 @@
 ghost use Rattle.std.specs.Prelude.{◌≡◌};
 ghost use Rattle.liquid_language.specs.Controls.{control_of, end_word};
 ghost use Rattle.liquid_language.specs.Roles.{body_behind, registered, role_of, unread_body};
-ghost use Rattle.liquid_source.specs.PieceView.{piece_view};
-ghost use Rattle.liquid_source.specs.SourceReading.{wanted_body};
+ghost use Rattle.liquid_lexer.specs.PieceView.{piece_view};
+ghost use Rattle.liquid_lexer.specs.SourceReading.{wanted_body};
 
 use crate::language::{BlockKind, Language, TagKind};
-use liquid_source::{Body, Piece, bare_name};
+use liquid_lexer::{Body, Piece, bare_name};
 
 /// A block with bodies of its own.
 #[derive(Clone, Copy, Debug, PartialEq, Eq)]

@@ -15,7 +15,7 @@ use crate::language::Language;
 use blocks::{missing_end, unknown_tag};
 use filters::{miscounted, unknown_filter};
 use items::misplaced;
-use liquid_source::{Fault, FaultKind, PlacedPiece, placed_piece};
+use liquid_lexer::{Fault, FaultKind, PlacedPiece, placed_piece};
 use outline::{Outline, outline_at};
 use std::alloc::{AllocError, Global};
 use told::{Told, message_of};

@@ -18,10 +18,10 @@ use Rattle.liquid_core.specs.Expression as core
 use Rattle.liquid_core.specs.Expressions.{required}
 use Rattle.liquid_core.specs.Held.{held, map_of}
 use Rattle.liquid_core.proofs.States.{map_of_put}
-use Rattle.liquid_tree.specs.Evaluation.{bound_values}
+use Rattle.liquid_evaluation.specs.Evaluation.{bound_values}
 use Rattle.liquid_meaning.specs.Meaning.{include_scope, pairs_scope}
 use Rattle.liquid_lib.specs.inside.Partials.{bound_include, bound_object}
-use Rattle.liquid_tree.proofs.Calls.{faulted_as, faulted_then}
+use Rattle.liquid_evaluation.proofs.Calls.{faulted_as, faulted_then}
 
 abbrev Pair : Type 0
 Pair = Text × Datum

@@ -13,9 +13,9 @@ use Rattle.liquid_model.specs.declared.error.ErrorKind.{ErrorKind}
 use Rattle.liquid_core.specs.Environment.{Environment, Names}
 use Rattle.liquid_core.specs.Expression.{Expression}
 use Rattle.liquid_core.specs.Expressions.{required}
-use Rattle.liquid_tree.specs.Names.{all_names, expression_names, node_names, nodes_names, whens_names}
-use Rattle.liquid_tree.specs.Tree as tree
-use Rattle.liquid_tree.proofs.Calls.{faulted_as, faulted_then}
+use Rattle.liquid_evaluation.specs.Names.{all_names, expression_names, node_names, nodes_names, whens_names}
+use Rattle.liquid_evaluation.specs.Tree as tree
+use Rattle.liquid_evaluation.proofs.Calls.{faulted_as, faulted_then}
 use Rattle.liquid_syntax.specs.Flats.{Maker, StandsAt, flats, nodes_of, values_in}
 use Rattle.liquid_syntax.specs.Forest.{Forest}
 use Rattle.liquid_syntax.specs.declared.node.Arm.{Arm}

@@ -3,9 +3,9 @@ use Rattle.std.proofs.Common.{◌≡◌, ℕ, ◌+◌, ◌<◌, ◌≤◌, List,
 use Rattle.liquid_model.specs.declared.error.Error.{Error}
 use Rattle.liquid_core.specs.Expression.{Expression}
 use Rattle.liquid_core.specs.declared.state.State.{State}
-use Rattle.liquid_tree.specs.Names.{node_names}
-use Rattle.liquid_tree.specs.Tree as tree
-use Rattle.liquid_tree.specs.Tree.{Whens, Nodes, no_whens, when, case_of}
+use Rattle.liquid_evaluation.specs.Names.{node_names}
+use Rattle.liquid_evaluation.specs.Tree as tree
+use Rattle.liquid_evaluation.specs.Tree.{Whens, Nodes, no_whens, when, case_of}
 use Rattle.liquid_syntax.specs.Flats.{Maker, arm_ends, arm_values, bodies_of, case_flat, flat_of, flats, nodes_of, values_in, with_arms, NodeAt, IsNode}
 use Rattle.liquid_syntax.specs.Forest.{Bodies, no_bodies, body}
 use Rattle.liquid_syntax.specs.Laid.{Stands, StandBodies, last_end}

@@ -8,13 +8,13 @@ use Rattle.liquid_model.specs.declared.error.ErrorKind.{ErrorKind}
 use Rattle.liquid_model.specs.Answer.{Answers}
 use Rattle.liquid_model.specs.ErrorKinds.{is_memory, is_refusal}
 use Rattle.liquid_core.specs.Environment.{Environment, Names}
-use Rattle.liquid_tree.specs.ConditionView.{condition_view}
-use Rattle.liquid_tree.specs.Evaluation.{truth_of}
+use Rattle.liquid_evaluation.specs.ConditionView.{condition_view}
+use Rattle.liquid_evaluation.specs.Evaluation.{truth_of}
 use Rattle.liquid_syntax.specs.Flats.{IsRange, Maker, with_two, flat_of, flats, nodes_of, StandsAt}
 use Rattle.liquid_syntax.specs.Forest.{Forest, empty}
-use Rattle.liquid_tree.specs.Names.{node_names, nodes_names, condition_names}
-use Rattle.liquid_tree.specs.Tree as tree
-use Rattle.liquid_tree.specs.declared.condition.Condition.{Condition}
+use Rattle.liquid_evaluation.specs.Names.{node_names, nodes_names, condition_names}
+use Rattle.liquid_evaluation.specs.Tree as tree
+use Rattle.liquid_evaluation.specs.declared.condition.Condition.{Condition}
 use Rattle.liquid_syntax.specs.declared.node.Node.{Node}
 use Rattle.liquid_syntax.specs.declared.node.Node.TheVariants.{If}
 use Rattle.liquid_syntax.specs.declared.node.TwoBodies.{TwoBodies}

@@ -9,8 +9,8 @@ use Rattle.liquid_core.specs.Environment.{Names}
 use Rattle.liquid_model.specs.declared.error.Error.{Error}
 use Rattle.liquid_core.specs.declared.interrupt.Interrupt.{Interrupt}
 use Rattle.liquid_core.specs.declared.state.State.{State}
-use Rattle.liquid_tree.specs.Tree as tree
-use Rattle.liquid_tree.specs.Names.{node_names, nodes_names}
+use Rattle.liquid_evaluation.specs.Tree as tree
+use Rattle.liquid_evaluation.specs.Names.{node_names, nodes_names}
 use Rattle.liquid_syntax.specs.Forest.{Forest, Bodies, empty, node}
 use Rattle.liquid_syntax.specs.Laid.{Flat, StandBodies, last_end}
 use Rattle.liquid_syntax.specs.Flats.{Maker, leaf, with_one, with_two, flat_of, flats, nodes_of, bodies_of, StandsAt, IsRange, NodeAt, IsNode}

@@ -12,7 +12,7 @@ use Rattle.liquid_model.specs.ErrorKinds.{IsKindOrMemory, is_memory, is_refusal}
 use Rattle.liquid_model.specs.Answer.{Answers, IsValueOrMemory}
 use Rattle.liquid_core.specs.Environment.{Environment}
 use Rattle.liquid_core.specs.States.{Layers, merged_layers}
-use Rattle.liquid_tree.specs.Tree.{Node, Nodes, no_nodes, node}
+use Rattle.liquid_evaluation.specs.Tree.{Node, Nodes, no_nodes, node}
 use Rattle.liquid_lib.specs.Sinks.{Sink, AddsPart}
 use Rattle.liquid_meaning.specs.Runs.{Nothing, Outcome, Run, done, read, evaluate, fault, change, write, after_text, go_on, ◌>>=◌, with_scope, buffered, ended_with}
 use Rattle.liquid_meaning.specs.Effects.{if_none, unless_interrupted}

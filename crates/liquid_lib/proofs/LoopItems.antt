@@ -18,12 +18,12 @@ use Rattle.liquid_core.specs.Loops.{forloop_object, loop_scope}
 use Rattle.liquid_core.specs.declared.frame.Items.{Items}
 use Rattle.liquid_core.specs.declared.frame.LoopFrame.{LoopFrame}
 use Rattle.liquid_core.specs.declared.frame.LoopKind.TheVariants.{For}
-use Rattle.liquid_tree.specs.Evaluation.{amount, asked_for, skipped, source_items, wanted, window_items}
-use Rattle.liquid_tree.specs.ItemLists.{all_items}
-use Rattle.liquid_tree.specs.Tree.{Source, Window}
-use Rattle.liquid_tree.proofs.Calls.{faulted_as, faulted_then}
-use Rattle.liquid_tree.proofs.ItemPlaces.{item_by_place}
-use Rattle.liquid_tree.proofs.Windows.{window_by_place}
+use Rattle.liquid_evaluation.specs.Evaluation.{amount, asked_for, skipped, source_items, wanted, window_items}
+use Rattle.liquid_evaluation.specs.ItemLists.{all_items}
+use Rattle.liquid_evaluation.specs.Tree.{Source, Window}
+use Rattle.liquid_evaluation.proofs.Calls.{faulted_as, faulted_then}
+use Rattle.liquid_evaluation.proofs.ItemPlaces.{item_by_place}
+use Rattle.liquid_evaluation.proofs.Windows.{window_by_place}
 use Rattle.liquid_lib.specs.inside.LoopTurns.{IsFor, cells_asked, each_from, in_columns, items_asked, placed, some_columns}
 use Rattle.liquid_meaning.specs.Effects.{value_or_nil}
 use Rattle.liquid_meaning.specs.Loops.{columns_of}

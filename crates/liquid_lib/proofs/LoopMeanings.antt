@@ -15,8 +15,8 @@ use Rattle.liquid_core.specs.Loops.{loop_scope, forloop_object, tablerow_object}
 use Rattle.liquid_core.specs.LoopFrames.{frame_item_at, frame_map_at}
 use Rattle.liquid_core.specs.declared.interrupt.Interrupt.{Interrupt}
 use Rattle.liquid_core.specs.declared.frame.LoopFrame.{LoopFrame}
-use Rattle.liquid_tree.specs.Evaluation.{amount, asked_for, source_items}
-use Rattle.liquid_tree.specs.Tree as tree
+use Rattle.liquid_evaluation.specs.Evaluation.{amount, asked_for, source_items}
+use Rattle.liquid_evaluation.specs.Tree as tree
 use Rattle.liquid_meaning.specs.Effects.{is_break, take_interrupt, value_or_nil}
 use Rattle.liquid_meaning.specs.Loops.{cell_end, cell_start, columns_of, for_all, if_empty, loop, rows, until_break}
 use Rattle.liquid_meaning.specs.Meaning.{Setting, node_meaning, nodes_meaning}

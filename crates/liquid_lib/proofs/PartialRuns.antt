@@ -15,9 +15,9 @@ use Rattle.liquid_core.specs.Environment.{Environment, Names, local_of, new_envi
 use Rattle.liquid_core.specs.Expression.{Expression}
 use Rattle.liquid_core.specs.States.{Layers, merged_layers, scopes_behind, with_scope_popped, with_scope_pushed}
 use Rattle.liquid_core.specs.declared.interrupt.Interrupt.{Interrupt}
-use Rattle.liquid_tree.specs.Evaluation.{bound_values}
-use Rattle.liquid_tree.specs.Tree as tree
-use Rattle.liquid_tree.proofs.Calls.{faulted_as, faulted_then}
+use Rattle.liquid_evaluation.specs.Evaluation.{bound_values}
+use Rattle.liquid_evaluation.specs.Tree as tree
+use Rattle.liquid_evaluation.proofs.Calls.{faulted_as, faulted_then}
 use Rattle.liquid_syntax.specs.Templates.{list_of, most_of, node_count_of, partials_of}
 use Rattle.liquid_syntax.specs.declared.template.Template.{Template}
 use Rattle.liquid_syntax.proofs.TreeCounts.{template_count}
@@ -28,7 +28,7 @@ use Rattle.liquid_meaning.specs.Runs.{Nothing, Outcome, Run, apart, done, evalua
 use Rattle.liquid_meaning.specs.Within.{Within}
 use Rattle.liquid_meaning.proofs.Rules.{include_rule, jekyll_rule, render_rule}
 use Rattle.liquid_core.specs.FilterAnswers.{FilterAnswer}
-use Rattle.liquid_tree.specs.Evaluation.{answers_with}
+use Rattle.liquid_evaluation.specs.Evaluation.{answers_with}
 use Rattle.liquid_lib.specs.declared.context.RunContext.{RunContext}
 use Rattle.liquid_lib.specs.inside.Engine.{nodes_meant, setting_of}
 use Rattle.liquid_lib.specs.Kept.{LayersKept}

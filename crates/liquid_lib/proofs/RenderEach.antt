@@ -8,8 +8,8 @@ use Rattle.liquid_model.specs.declared.error.Error.{Error}
 use Rattle.liquid_core.specs.Expression.{Expression}
 use Rattle.liquid_core.specs.Loops.{loop_scope, forloop_object}
 use Rattle.liquid_core.specs.declared.interrupt.Interrupt.{Interrupt}
-use Rattle.liquid_tree.specs.Evaluation.{source_items}
-use Rattle.liquid_tree.specs.Tree as tree
+use Rattle.liquid_evaluation.specs.Evaluation.{source_items}
+use Rattle.liquid_evaluation.specs.Tree as tree
 use Rattle.liquid_meaning.specs.Loops.{until_break}
 use Rattle.liquid_meaning.specs.Meaning.{Setting, name_of, node_meaning, render_apart}
 use Rattle.liquid_meaning.specs.Runs as runs

@@ -13,8 +13,8 @@ use Rattle.liquid_model.specs.declared.error.ErrorKind.TheVariants.{InvalidInput
 use Rattle.liquid_core.specs.FilterAnswers.{FilterAnswer}
 use Rattle.liquid_core.specs.Hosts.{as_of_run, host_answer, last_named, named_by, of_host}
 use Rattle.liquid_core.specs.declared.host_filters.HostFilters.{HostFilters}
-use Rattle.liquid_tree.specs.Evaluation.{answers_with}
-use Rattle.liquid_tree.specs.Tree.{Nodes}
+use Rattle.liquid_evaluation.specs.Evaluation.{answers_with}
+use Rattle.liquid_evaluation.specs.Tree.{Nodes}
 use Rattle.liquid_meaning.specs.Laws.{EndsWithHost}
 use Rattle.liquid_meaning.specs.Meaning.{meaning}
 use Rattle.liquid_meaning.specs.Runs.{Nothing, Run, ended_with}

@@ -8,8 +8,8 @@ use Rattle.liquid_model.specs.Maps.{empty}
 use Rattle.liquid_model.specs.View.{pairs_view}
 use Rattle.liquid_model.specs.declared.value.Value.{Value}
 use Rattle.liquid_model.specs.declared.error.Error.{Error}
-use Rattle.liquid_tree.specs.Evaluation.{FilterAnswers}
-use Rattle.liquid_tree.specs.Tree.{Nodes}
+use Rattle.liquid_evaluation.specs.Evaluation.{FilterAnswers}
+use Rattle.liquid_evaluation.specs.Tree.{Nodes}
 use Rattle.liquid_syntax.specs.Templates.{partials_of}
 use Rattle.liquid_syntax.specs.declared.partials.Partials.{Partials}
 use Rattle.liquid_meaning.specs.Meaning.{Setting, meaning}

@@ -2,7 +2,7 @@
 use Rattle.std.proofs.Common.{◌≡◌, ℕ, ◌<◌, List, [], ◌∷◌, get_or, Result, sym, subst}
 use Rattle.std.specs.Prelude.{IsOk}
 use Rattle.liquid_model.specs.declared.error.Error.{Error}
-use Rattle.liquid_tree.specs.Tree as tree
+use Rattle.liquid_evaluation.specs.Tree as tree
 use Rattle.liquid_syntax.specs.Forest.{Forest}
 use Rattle.liquid_syntax.specs.Flats.{Maker, leaf, with_one, with_two, flat_of, nodes_of, StandsAt, NodeAt, IsNode}
 use Rattle.liquid_syntax.specs.declared.node.Node.{Node}

@@ -17,8 +17,8 @@ use Rattle.liquid_core.specs.declared.frame.LoopFrame.{LoopFrame}
 use Rattle.liquid_core.proofs.States.{standing_last, turn_off}
 use Rattle.liquid_core.specs.Expression.{Expression}
 use Rattle.liquid_model.specs.Texts.{Text}
-use Rattle.liquid_tree.specs.Names.{node_names, nodes_names, optional_names, source_names, window_names}
-use Rattle.liquid_tree.specs.Tree.{Nodes, Source, Window, for_each, tablerow}
+use Rattle.liquid_evaluation.specs.Names.{node_names, nodes_names, optional_names, source_names, window_names}
+use Rattle.liquid_evaluation.specs.Tree.{Nodes, Source, Window, for_each, tablerow}
 use Rattle.liquid_meaning.specs.Within.{Within}
 use Rattle.liquid_meaning.proofs.Within.{left, right}
 use Rattle.liquid_lib.specs.Kept.{LayersKept}

@@ -4,8 +4,8 @@ use Rattle.liquid_model.specs.Texts.{Text}
 use Rattle.liquid_core.specs.Environment.{Names}
 use Rattle.liquid_core.specs.States.{Layers, layers_of}
 use Rattle.liquid_core.specs.declared.state.State.{State}
-use Rattle.liquid_tree.specs.Names.{partials_names}
-use Rattle.liquid_tree.specs.Tree.{Node, render, Nodes, no_nodes, node}
+use Rattle.liquid_evaluation.specs.Names.{partials_names}
+use Rattle.liquid_evaluation.specs.Tree.{Node, render, Nodes, no_nodes, node}
 use Rattle.liquid_meaning.specs.Isolation.{HoldsOutside}
 use Rattle.liquid_meaning.specs.Meaning.{Setting}
 use Rattle.liquid_meaning.specs.Within.{Within}

@@ -10,8 +10,8 @@ use Rattle.liquid_model.specs.declared.error.ErrorKind.{ErrorKind}
 use Rattle.liquid_core.specs.Environment.{Environment}
 use Rattle.liquid_core.specs.Hosts.{no_host}
 use Rattle.liquid_core.specs.States.{merged_layers, new_layers}
-use Rattle.liquid_tree.specs.Evaluation.{answers_with}
-use Rattle.liquid_tree.specs.Tree.{Nodes}
+use Rattle.liquid_evaluation.specs.Evaluation.{answers_with}
+use Rattle.liquid_evaluation.specs.Tree.{Nodes}
 use Rattle.liquid_meaning.specs.Runs.{Nothing, Outcome}
 use Rattle.liquid_meaning.specs.Meaning.{Setting, meaning}
 use Rattle.liquid_lib.specs.Performs.{answer_of, unit}

@@ -5,8 +5,8 @@ use Rattle.liquid_model.specs.declared.error.Error.{Error}
 use Rattle.liquid_model.specs.declared.error.ErrorKind.{ErrorKind}
 use Rattle.liquid_core.specs.Environment.{Names, Environment, cut}
 use Rattle.liquid_core.specs.FilterAnswers.{FilterAnswer}
-use Rattle.liquid_tree.specs.Names.{run_names, mentioned}
-use Rattle.liquid_tree.specs.Tree.{Nodes}
+use Rattle.liquid_evaluation.specs.Names.{run_names, mentioned}
+use Rattle.liquid_evaluation.specs.Tree.{Nodes}
 use Rattle.liquid_lib.specs.Sinks.{Adds}
 use Rattle.liquid_meaning.specs.Runs.{Nothing, Outcome, Run}
 use Rattle.liquid_meaning.specs.Meaning.{meaning}

@@ -12,8 +12,8 @@ use Rattle.liquid_core.specs.FilterAnswers.{FilterAnswer}
 use Rattle.liquid_core.specs.Hosts.{named_by}
 use Rattle.liquid_core.specs.Held.{held}
 use Rattle.liquid_core.specs.States.{Layers, layers_of, environment_of}
-use Rattle.liquid_tree.specs.Tree.{Nodes}
-use Rattle.liquid_tree.specs.Evaluation.{answers_with}
+use Rattle.liquid_evaluation.specs.Tree.{Nodes}
+use Rattle.liquid_evaluation.specs.Evaluation.{answers_with}
 use Rattle.liquid_syntax.specs.Templates.{partials_of}
 use Rattle.liquid_syntax.specs.declared.partials.Partials.{Partials}
 use Rattle.liquid_meaning.specs.Meaning.{Setting}

@@ -5,11 +5,11 @@ ghost use Rattle.liquid_model.specs.Texts.{Text};
 ghost use Rattle.liquid_model.specs.View.{view};
 ghost use Rattle.liquid_core.specs.ExpressionView.{expression_view};
 ghost use Rattle.liquid_core.specs.States.{environment_of};
-ghost use Rattle.liquid_tree.specs.ConditionView.{condition_view};
-ghost use Rattle.liquid_tree.specs.Evaluation.{truth_of};
+ghost use Rattle.liquid_evaluation.specs.ConditionView.{condition_view};
+ghost use Rattle.liquid_evaluation.specs.Evaluation.{truth_of};
 ghost use Rattle.liquid_syntax.specs.Flats.{Maker, StandsAt, IsRange, nodes_of};
 ghost use Rattle.liquid_syntax.specs.Forest.{Forest};
-ghost use Rattle.liquid_tree.specs.Tree as tree;
+ghost use Rattle.liquid_evaluation.specs.Tree as tree;
 ghost use Rattle.liquid_lib.specs.inside.Choices.{Meant, ComesTo, NodeComesTo, ListComesTo, CaseStands, IsCase, CaseLeft, equal_among};
 
 use crate::fault_location::located;

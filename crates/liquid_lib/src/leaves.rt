@@ -1,9 +1,9 @@
 //! Runs of text, outputs and `assign`.
 ghost use Rattle.std.specs.Prelude.{◌≡◌};
 ghost use Rattle.liquid_core.specs.States.{loops_of};
-ghost use Rattle.liquid_tree.specs.ChainView.{chain_view};
-ghost use Rattle.liquid_tree.specs.Names.{node_names};
-ghost use Rattle.liquid_tree.specs.Tree as tree;
+ghost use Rattle.liquid_evaluation.specs.ChainView.{chain_view};
+ghost use Rattle.liquid_evaluation.specs.Names.{node_names};
+ghost use Rattle.liquid_evaluation.specs.Tree as tree;
 ghost use Rattle.liquid_lib.specs.inside.Engine.{setting_of, node_in};
 ghost use Rattle.liquid_lib.specs.Kept.{Keeps};
 ghost use Rattle.liquid_lib.specs.Performs.{Performs, configuration_of};

@@ -2,7 +2,7 @@
 ghost use Rattle.std.specs.Prelude.{◌≡◌, length};
 ghost use Rattle.liquid_core.specs.States.{layers_of, loops_of};
 ghost use Rattle.liquid_syntax.specs.Templates.{tree_of};
-ghost use Rattle.liquid_tree.specs.Names.{nodes_names};
+ghost use Rattle.liquid_evaluation.specs.Names.{nodes_names};
 ghost use Rattle.liquid_lib.specs.inside.Engine.{setting_of, nodes_in};
 ghost use Rattle.liquid_lib.specs.Kept.{Keeps, LayersKept, AreRenders};
 ghost use Rattle.liquid_lib.specs.Performs.{Performs, configuration_of};

@@ -1,7 +1,7 @@
 //! Where nodes end.
 ghost use Rattle.std.specs.Prelude.{◌≡◌, ℕ};
 ghost use Rattle.liquid_syntax.specs.Flats.{NodeAt, IsNode};
-ghost use Rattle.liquid_tree.specs.Tree as tree;
+ghost use Rattle.liquid_evaluation.specs.Tree as tree;
 
 use liquid_syntax::Node;
 

@@ -15,8 +15,8 @@ ghost use Rattle.liquid_lib.specs.inside.Partials.{IsWithin, item_entry, item_sc
 use crate::context::RunContext;
 use crate::partial::{Entered, pairs_scope, partial_name, partial_rendered};
 use liquid_core::{Expression, Interrupt, Items, LoopFrame, LoopKind, Object, Result, State};
+use liquid_evaluation::LoopItems;
 use liquid_syntax::{Binding, Each};
-use liquid_tree::LoopItems;
 use std::alloc::Global;
 use std::collections::BTreeMap;
 

@@ -4,7 +4,7 @@ ghost use Rattle.std.specs.Io.KnownBytes.{Appends};
 ghost use Rattle.liquid_model.specs.Answer.{Answers};
 ghost use Rattle.liquid_core.specs.Environment.{cut};
 ghost use Rattle.liquid_syntax.specs.Templates.{tree_of};
-ghost use Rattle.liquid_tree.specs.Tree.{Nodes};
+ghost use Rattle.liquid_evaluation.specs.Tree.{Nodes};
 ghost use Rattle.liquid_lib.specs.Added.{AppendsPart};
 ghost use Rattle.liquid_lib.specs.inside.Engine.{in_buffer, beside};
 ghost use Rattle.liquid_lib.specs.Failures.{OneFailed, AtMostOneFailed};

@@ -12,7 +12,7 @@ ghost use Rattle.liquid_model.specs.View.{view};
 ghost use Rattle.liquid_model.specs.declared.error.ErrorKind.TheVariants.{UnknownVariable};
 ghost use Rattle.liquid_syntax.specs.Templates.{partials_of};
 ghost use Rattle.liquid_core.specs.Hosts.{named_by, no_host};
-ghost use Rattle.liquid_tree.specs.Evaluation.{answers_with};
+ghost use Rattle.liquid_evaluation.specs.Evaluation.{answers_with};
 ghost use Rattle.liquid_lib.specs.RuntimeView.{SettingKept, layers_in, environment_in, setting_in, partials_in, depth_in, globals_for, partials_for, depth_for, named_for};
 
 use crate::runtime::{Runtime, RuntimeBuilder};

@@ -5,7 +5,7 @@ use Rattle.liquid_model.specs.Texts.{Text}
 use Rattle.liquid_model.specs.Data.{Datum}
 use Rattle.liquid_model.specs.declared.error.ErrorKind.{ErrorKind}
 use Rattle.liquid_core.specs.Expression.{Expression}
-use Rattle.liquid_tree.specs.Tree.{Source, Bindings, Nodes, render}
+use Rattle.liquid_evaluation.specs.Tree.{Source, Bindings, Nodes, render}
 use Rattle.liquid_model.specs.Maps.{Map}
 use Rattle.liquid_core.specs.Environment.{Environment}
 use Rattle.liquid_core.specs.declared.interrupt.Interrupt.{Interrupt}
@@ -15,7 +15,7 @@ use Rattle.liquid_meaning.specs.Loops.{until_break}
 use Rattle.liquid_meaning.specs.Meaning.{Setting, name_of, render_apart, node_meaning, nodes_meaning, deeper_meaning, meaning}
 use Rattle.liquid_meaning.specs.Isolation.{RenderLeavesAll, RenderSeesItsValues, items_of_render}
 use Rattle.liquid_meaning.proofs.Steps.{alone}
-use Rattle.liquid_tree.specs.Evaluation.{bound_values}
+use Rattle.liquid_evaluation.specs.Evaluation.{bound_values}
 
 record LeavesAll {A : Type 0} (m : Run A) : Type 0 where
   leaves : (e : Environment) → (m e).environment ≡ e

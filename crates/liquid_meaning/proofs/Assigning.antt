@@ -9,7 +9,7 @@ use Rattle.liquid_model.specs.declared.error.ErrorKind.TheVariants.{ZeroColumns}
 use Rattle.liquid_model.proofs.Maps.{same_key}
 use Rattle.liquid_core.specs.Environment.{Environment}
 use Rattle.liquid_core.specs.declared.interrupt.Interrupt.{Interrupt}
-use Rattle.liquid_tree.specs.Tree.{Node, Nodes}
+use Rattle.liquid_evaluation.specs.Tree.{Node, Nodes}
 use Rattle.liquid_meaning.specs.Runs.{Nothing, Run, done, fault, read, evaluate, change, write, go_on, ◌>>=◌, with_scope, buffered}
 use Rattle.liquid_meaning.specs.Effects.{assigned_to, is_break, if_none, unless_interrupted}
 use Rattle.liquid_meaning.specs.Loops.{until_break, for_all, needs_columns, loop, rows, columns_of}

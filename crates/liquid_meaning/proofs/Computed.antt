@@ -4,10 +4,10 @@ use mathlib.Core.Path.{refl}
 use Rattle.std.specs.Fmt.{digits}
 use Rattle.liquid_model.specs.Maps.{empty, insert, retain_keys, merged, listed}
 use Rattle.liquid_core.specs.Expressions.{value_of, path_of, all_required, needed_whole}
-use Rattle.liquid_tree.specs.Calls.{applied}
-use Rattle.liquid_tree.specs.Tree.{Nodes}
-use Rattle.liquid_tree.specs.Evaluation.{chain_value, comparison_truth, atom_truth, all_true, truth_of, source_items, amount, asked_for, bound_values}
-use Rattle.liquid_tree.specs.Names.{expression_names, all_names, optional_names, filters_names, chain_names, atom_names, atoms_names, condition_names, source_names, window_names, bound_names, target_names, include_name, node_names, nodes_names, whens_names, partials_names}
+use Rattle.liquid_evaluation.specs.Calls.{applied}
+use Rattle.liquid_evaluation.specs.Tree.{Nodes}
+use Rattle.liquid_evaluation.specs.Evaluation.{chain_value, comparison_truth, atom_truth, all_true, truth_of, source_items, amount, asked_for, bound_values}
+use Rattle.liquid_evaluation.specs.Names.{expression_names, all_names, optional_names, filters_names, chain_names, atom_names, atoms_names, condition_names, source_names, window_names, bound_names, target_names, include_name, node_names, nodes_names, whens_names, partials_names}
 use Rattle.liquid_meaning.specs.Runs.{Nothing, Run, done, read, evaluate, fault, change, write, go_on, ◌>>=◌, with_scope, buffered, apart}
 use Rattle.liquid_meaning.specs.Effects.{unless_interrupted}
 use Rattle.liquid_meaning.specs.Loops.{until_break, for_all, loop, rows}

@@ -6,8 +6,8 @@ use Rattle.liquid_model.specs.Texts.{Text}
 use Rattle.liquid_model.specs.Data.{nil}
 use Rattle.liquid_core.specs.Expression.{Expression, literal, variable, Steps, no_steps, step}
 use Rattle.liquid_core.specs.Environment.{Names}
-use Rattle.liquid_tree.specs.Tree.{FilterCall, Chain, Atom, bare, compared, Condition, Source, each_of, counted, Window, Bindings, Node, plain, raw, comment, output, assign, increment, decrement, break_loop, continue_loop, cycle, if_true, unless, case_of, for_each, tablerow, capture, ifchanged, include, jekyll_include, render, Nodes, no_nodes, node, Whens, no_whens, when}
-use Rattle.liquid_tree.specs.Names.{expression_names, steps_names, all_names, optional_names, filters_names, chain_names, atom_names, atoms_names, condition_names, source_names, window_names, bound_names, target_names, include_name, node_names, nodes_names, whens_names, partials_names, run_names, mentioned}
+use Rattle.liquid_evaluation.specs.Tree.{FilterCall, Chain, Atom, bare, compared, Condition, Source, each_of, counted, Window, Bindings, Node, plain, raw, comment, output, assign, increment, decrement, break_loop, continue_loop, cycle, if_true, unless, case_of, for_each, tablerow, capture, ifchanged, include, jekyll_include, render, Nodes, no_nodes, node, Whens, no_whens, when}
+use Rattle.liquid_evaluation.specs.Names.{expression_names, steps_names, all_names, optional_names, filters_names, chain_names, atom_names, atoms_names, condition_names, source_names, window_names, bound_names, target_names, include_name, node_names, nodes_names, whens_names, partials_names, run_names, mentioned}
 use Rattle.liquid_meaning.specs.Within.{Within}
 use Rattle.liquid_model.specs.Uses.{Use, Alike, nothing, everything, parts, Fields, no_fields, field, ItemUse, uncounted, every, asks_whether, includes, includes_fields, includes_items}
 use Rattle.liquid_meaning.specs.Reading.{Uses, Needs, key, by_key, grants, grants_along, grants_all, grants_optional, grants_filters, grants_chain, grants_atom, grants_atoms, grants_condition, grants_source, grants_window, grants_bindings, is_flat, grants_node, grants_nodes, grants_whens, grants_partials}

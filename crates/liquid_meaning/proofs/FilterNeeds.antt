@@ -20,8 +20,8 @@ use Rattle.liquid_core.specs.FilterAnswers.{FilterAnswer}
 use Rattle.liquid_filters.specs.Kinds.{kind_answer}
 use Rattle.liquid_filters.specs.declared.kind.FilterKind.{FilterKind}
 use Rattle.liquid_filters.specs.declared.kind.FilterKind.TheVariants.{Sort, SortNatural, Where, Reverse, Map, Concat, First, Last, Size}
-use Rattle.liquid_tree.specs.Tree.{Filter, existing, hosted}
-use Rattle.liquid_tree.specs.Evaluation.{answers_with}
+use Rattle.liquid_evaluation.specs.Tree.{Filter, existing, hosted}
+use Rattle.liquid_evaluation.specs.Evaluation.{answers_with}
 use Rattle.liquid_core.specs.Expressions.{value_of, all_required}
 use Rattle.liquid_list_filters.specs.Sequences.{list, sequence, is_map, all_maps, property, of_list}
 use Rattle.liquid_list_filters.specs.Ends.{or_nil, first_answer, last_answer}

@@ -9,8 +9,8 @@ use Rattle.liquid_core.specs.declared.interrupt.Interrupt.{Interrupt}
 use Rattle.liquid_model.specs.Maps.{Map, insert, merged}
 use Rattle.liquid_model.proofs.Maps.{same_key}
 use Rattle.liquid_core.specs.Environment.{Environment}
-use Rattle.liquid_tree.specs.Tree.{Chain, Source, Window, Nodes, node, assign, plain, for_each}
-use Rattle.liquid_tree.specs.Evaluation.{source_items, asked_for}
+use Rattle.liquid_evaluation.specs.Tree.{Chain, Source, Window, Nodes, node, assign, plain, for_each}
+use Rattle.liquid_evaluation.specs.Evaluation.{source_items, asked_for}
 use Rattle.liquid_meaning.specs.Runs.{Nothing, Run, evaluate, change, write, go_on, ◌>>=◌, with_scope}
 use Rattle.liquid_meaning.specs.Effects.{assigned_to}
 use Rattle.liquid_meaning.specs.Loops.{until_break, loop}

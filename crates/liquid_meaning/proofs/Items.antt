@@ -3,9 +3,9 @@ use Rattle.std.specs.Prelude.{◌≡◌, suc, ◌<◌, ℤ, pos, ◌+ℤ◌, ◌
 use mathlib.Core.Path.{refl, ap, subst, ◌∙◌}
 use native.Mathlib.Omega.{arith}
 use Rattle.std.proofs.lemmas.Int.{ints}
-use Rattle.liquid_tree.specs.Evaluation.{count_to, numbers_from}
-use Rattle.liquid_tree.proofs.Ranges.{numbers_count, numbers_place}
-use Rattle.liquid_tree.proofs.Windows.{items_count, items_place}
+use Rattle.liquid_evaluation.specs.Evaluation.{count_to, numbers_from}
+use Rattle.liquid_evaluation.proofs.Ranges.{numbers_count, numbers_place}
+use Rattle.liquid_evaluation.proofs.Windows.{items_count, items_place}
 use Rattle.liquid_meaning.specs.LoopLaws.{WindowLaw, RangeLaw}
 
 pub window_law : WindowLaw

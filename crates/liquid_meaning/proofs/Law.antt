@@ -5,11 +5,11 @@ use native.Mathlib.Omega.{arith}
 use Rattle.std.specs.Option.{unwrap_or}
 use Rattle.liquid_model.specs.Maps.{listed}
 use Rattle.liquid_model.specs.Texts.{Text, same_text}
-use Rattle.liquid_tree.specs.Tree.{Nodes}
+use Rattle.liquid_evaluation.specs.Tree.{Nodes}
 use Rattle.liquid_core.specs.Environment.{Names, Environment, cut, put_back}
 use Rattle.liquid_meaning.specs.Runs.{Run}
 use Rattle.liquid_meaning.specs.Meaning.{Setting, deeper_meaning, meaning}
-use Rattle.liquid_tree.specs.Names.{nodes_names, partials_names, run_names, mentioned}
+use Rattle.liquid_evaluation.specs.Names.{nodes_names, partials_names, run_names, mentioned}
 use Rattle.liquid_meaning.specs.Isolation.{Agree, KeepsOthers, IsIsolated, names_of_run, Isolation, OthersKept}
 use Rattle.liquid_meaning.proofs.Maps.{agree_cut, agree_of_cut, same_cut, put_back_same}
 use Rattle.liquid_meaning.proofs.Runs.{AgreeOn, Isolated, isolated_fault}

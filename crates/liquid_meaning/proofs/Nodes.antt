@@ -9,16 +9,16 @@ use Rattle.liquid_model.specs.Texts.{Text}
 use Rattle.liquid_model.specs.Data.{Datum, nil}
 use Rattle.liquid_model.specs.Whole.{whole}
 use Rattle.liquid_core.specs.Expression.{Expression}
-use Rattle.liquid_tree.specs.Tree.{Bindings, Node, plain, raw, comment, output, assign, increment, decrement, break_loop, continue_loop, cycle, if_true, unless, case_of, for_each, tablerow, capture, ifchanged, include, jekyll_include, render, Nodes, no_nodes, node, Whens, no_whens, when}
+use Rattle.liquid_evaluation.specs.Tree.{Bindings, Node, plain, raw, comment, output, assign, increment, decrement, break_loop, continue_loop, cycle, if_true, unless, case_of, for_each, tablerow, capture, ifchanged, include, jekyll_include, render, Nodes, no_nodes, node, Whens, no_whens, when}
 use Rattle.liquid_core.specs.Environment.{Names, Environment, Registers}
 use Rattle.liquid_core.specs.declared.interrupt.Interrupt.{Interrupt}
 use Rattle.liquid_core.specs.Expressions.{required}
-use Rattle.liquid_tree.specs.Evaluation.{bound_values}
+use Rattle.liquid_evaluation.specs.Evaluation.{bound_values}
 use Rattle.liquid_meaning.specs.Runs.{Nothing, Run, read, evaluate, change, ◌>>=◌}
 use Rattle.liquid_meaning.specs.Effects.{assigned_to, counted_to, interrupted_by, counter_number, take_interrupt, if_none, unless_interrupted}
 use Rattle.liquid_meaning.specs.Loops.{if_empty, columns_of, needs_columns, loop, rows}
 use Rattle.liquid_meaning.specs.Meaning.{Setting, write_item, cycle_meaning, has_equal, within_i64, named, name_of, found, render_apart, node_meaning, nodes_meaning, whens_meaning}
-use Rattle.liquid_tree.specs.Names.{expression_names, all_names, optional_names, condition_names, source_names, window_names, bound_names, target_names, include_name, node_names, nodes_names, whens_names}
+use Rattle.liquid_evaluation.specs.Names.{expression_names, all_names, optional_names, condition_names, source_names, window_names, bound_names, target_names, include_name, node_names, nodes_names, whens_names}
 use Rattle.liquid_meaning.specs.Isolation.{KeepsOthers}
 use Rattle.liquid_meaning.proofs.Maps.{agree_insert, outside_insert}
 use Rattle.liquid_meaning.proofs.Runs.{AgreeOn, Alike, Isolated, kept_here, isolated_done, isolated_fault, isolated_write, isolated_read, isolated_evaluate, isolated_change, isolated_bind, isolated_cond, isolated_with_scope, isolated_buffered, isolated_apart, isolated_for_all, isolated_until_break}

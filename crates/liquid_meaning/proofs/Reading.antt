@@ -11,11 +11,11 @@ use Rattle.liquid_model.specs.Whole.{whole}
 use Rattle.liquid_model.specs.declared.error.ErrorKind.{ErrorKind}
 use Rattle.liquid_core.specs.Expression.{Expression}
 use Rattle.liquid_core.specs.Loops.{loop_scope, forloop_object, tablerow_object}
-use Rattle.liquid_tree.specs.Tree.{Chain, Bindings, Node, plain, raw, comment, output, assign, increment, decrement, break_loop, continue_loop, cycle, if_true, unless, case_of, for_each, tablerow, capture, ifchanged, include, jekyll_include, render, Nodes, no_nodes, node, Whens, no_whens, when}
+use Rattle.liquid_evaluation.specs.Tree.{Chain, Bindings, Node, plain, raw, comment, output, assign, increment, decrement, break_loop, continue_loop, cycle, if_true, unless, case_of, for_each, tablerow, capture, ifchanged, include, jekyll_include, render, Nodes, no_nodes, node, Whens, no_whens, when}
 use Rattle.liquid_core.specs.Environment.{Environment, Registers, bind_each, lookup}
 use Rattle.liquid_core.specs.declared.interrupt.Interrupt.{Interrupt}
 use Rattle.liquid_core.specs.Expressions.{required}
-use Rattle.liquid_tree.specs.Evaluation.{chain_value, bound_values}
+use Rattle.liquid_evaluation.specs.Evaluation.{chain_value, bound_values}
 use Rattle.liquid_meaning.specs.Runs.{Nothing, Run, read, evaluate, change, write, ◌>>=◌}
 use Rattle.liquid_meaning.specs.Effects.{assigned_to, counted_to, interrupted_by, counter_number, value_or_nil, take_interrupt, if_none, unless_interrupted, is_last_text}
 use Rattle.liquid_meaning.specs.Loops.{if_empty, columns_of, needs_columns, cell_start, cell_end, loop, rows}

@@ -13,8 +13,8 @@ use Rattle.liquid_core.specs.Expressions.{required}
 use Rattle.liquid_core.specs.Loops.{loop_scope, forloop_object}
 use Rattle.liquid_core.specs.declared.interrupt.Interrupt.{Interrupt}
 use Rattle.liquid_core.specs.declared.interrupt.Interrupt.TheVariants.{Break, Continue}
-use Rattle.liquid_tree.specs.Tree.{Bindings, Chain, Condition, Nodes, Source, Whens, Window, no_whens, when, plain, raw, comment, output, assign, increment, decrement, break_loop, continue_loop, cycle, if_true, unless, case_of, for_each, tablerow, capture, ifchanged, include, jekyll_include, render}
-use Rattle.liquid_tree.specs.Evaluation.{chain_value, truth_of, source_items, amount, asked_for, bound_values}
+use Rattle.liquid_evaluation.specs.Tree.{Bindings, Chain, Condition, Nodes, Source, Whens, Window, no_whens, when, plain, raw, comment, output, assign, increment, decrement, break_loop, continue_loop, cycle, if_true, unless, case_of, for_each, tablerow, capture, ifchanged, include, jekyll_include, render}
+use Rattle.liquid_evaluation.specs.Evaluation.{chain_value, truth_of, source_items, amount, asked_for, bound_values}
 use Rattle.liquid_meaning.specs.Runs.{Nothing, Run, done, read, evaluate, change, write, go_on, ◌>>=◌, with_scope, buffered, apart}
 use Rattle.liquid_meaning.specs.Effects.{assigned_to, counted_to, interrupted_by, changed_to, counter_number, is_break, is_last_text, value_or_nil}
 use Rattle.liquid_meaning.specs.Loops.{columns_of, for_all, if_empty, loop, rows, until_break}

@@ -10,11 +10,11 @@ use Rattle.liquid_core.specs.Expression.{Expression}
 use Rattle.liquid_core.specs.Expressions.{required, all_required, needed_whole, value_of}
 use Rattle.liquid_model.specs.Maps.{Map, merged}
 use Rattle.liquid_core.specs.Environment.{Environment}
-use Rattle.liquid_tree.specs.declared.comparison.ComparisonOperator.{ComparisonOperator}
-use Rattle.liquid_tree.specs.declared.comparison.ComparisonOperator.TheVariants.{Equals, NotEquals, LessThan, GreaterThan, LessThanEquals, GreaterThanEquals, Contains}
-use Rattle.liquid_tree.specs.Calls.{applied}
-use Rattle.liquid_tree.specs.Tree.{Filter, FilterCall, Chain, Atom, bare, compared, Condition, Source, each_of, counted, Window, Bindings, Node, plain, raw, comment, output, assign, increment, decrement, break_loop, continue_loop, cycle, if_true, unless, case_of, for_each, tablerow, capture, ifchanged, include, jekyll_include, render, Nodes, no_nodes, node, Whens, no_whens, when}
-use Rattle.liquid_tree.specs.Evaluation.{FilterAnswers, entry_value, calls_by, chain_value, contains, comparison_truth, atom_truth, all_true, truth_of, value_items, not_too_long, source_items, amount, asked_for, bound_values}
+use Rattle.liquid_evaluation.specs.declared.comparison.ComparisonOperator.{ComparisonOperator}
+use Rattle.liquid_evaluation.specs.declared.comparison.ComparisonOperator.TheVariants.{Equals, NotEquals, LessThan, GreaterThan, LessThanEquals, GreaterThanEquals, Contains}
+use Rattle.liquid_evaluation.specs.Calls.{applied}
+use Rattle.liquid_evaluation.specs.Tree.{Filter, FilterCall, Chain, Atom, bare, compared, Condition, Source, each_of, counted, Window, Bindings, Node, plain, raw, comment, output, assign, increment, decrement, break_loop, continue_loop, cycle, if_true, unless, case_of, for_each, tablerow, capture, ifchanged, include, jekyll_include, render, Nodes, no_nodes, node, Whens, no_whens, when}
+use Rattle.liquid_evaluation.specs.Evaluation.{FilterAnswers, entry_value, calls_by, chain_value, contains, comparison_truth, atom_truth, all_true, truth_of, value_items, not_too_long, source_items, amount, asked_for, bound_values}
 use Rattle.liquid_meaning.specs.Runs.{Nothing, Run, done, read, evaluate, fault, change, write, go_on, ◌>>=◌, with_scope, ended_with, buffered, apart}
 use Rattle.liquid_meaning.specs.Effects.{take_interrupt, if_none, unless_interrupted}
 use Rattle.liquid_meaning.specs.Loops.{until_break, for_all, if_empty, needs_columns, loop, rows}
@@ -28,8 +28,8 @@ use Rattle.liquid_filters.proofs.Ended.{kind_in}
 use Rattle.liquid_model.specs.Fallible as fallible
 use Rattle.liquid_model.specs.ErrorKinds.{number_of}
 use Rattle.liquid_core.specs.Hosts.{no_host}
-use Rattle.liquid_tree.specs.Evaluation.{answers_with}
-use Rattle.liquid_tree.specs.Tree.{existing, hosted}
+use Rattle.liquid_evaluation.specs.Evaluation.{answers_with}
+use Rattle.liquid_evaluation.specs.Tree.{existing, hosted}
 use Rattle.liquid_core.specs.FilterAnswers.{FilterAnswer}
 use Rattle.liquid_meaning.specs.Laws.{EndsWithHost, KindsOfRuns, KindsOfOwnRuns, KindsWithHost}
 

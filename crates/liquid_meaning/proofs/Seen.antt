@@ -16,9 +16,9 @@ use Rattle.liquid_core.specs.Expression.{Expression, literal, variable, Steps, n
 use Rattle.liquid_core.specs.Environment.{Environment, lookup}
 use Rattle.liquid_core.specs.Expressions.{value_of, path_of, required, all_required, needed_whole}
 use Rattle.liquid_model.specs.Fallible.{◌>>=◌}
-use Rattle.liquid_tree.specs.Calls.{applied}
-use Rattle.liquid_tree.specs.Tree.{FilterCall, Chain, Atom, bare, compared, Condition, Source, each_of, counted, Window, Bindings}
-use Rattle.liquid_tree.specs.Evaluation.{FilterAnswers, entry_value, calls_by, chain_value, bare_truth, atom_truth, all_true, truth_of, value_items, most_items, not_too_long, source_items, amount, skipped, wanted, items_at, window_items, asked_for, bound_values}
+use Rattle.liquid_evaluation.specs.Calls.{applied}
+use Rattle.liquid_evaluation.specs.Tree.{FilterCall, Chain, Atom, bare, compared, Condition, Source, each_of, counted, Window, Bindings}
+use Rattle.liquid_evaluation.specs.Evaluation.{FilterAnswers, entry_value, calls_by, chain_value, bare_truth, atom_truth, all_true, truth_of, value_items, most_items, not_too_long, source_items, amount, skipped, wanted, items_at, window_items, asked_for, bound_values}
 use Rattle.liquid_model.specs.Uses.{Use, everything, parts, no_fields, every, there, shape_of, member, loop_items, Pairwise, Alike, use_at, is_everything, asks_whether}
 use Rattle.liquid_meaning.specs.Reading.{Uses, key_of, key, by_key, grants, grants_along, grants_all, grants_optional, grants_filters, Needs, use_before, grants_chain, grants_atom, grants_atoms, grants_condition, grants_source, grants_window, grants_bindings}
 use Rattle.liquid_meaning.specs.Reads.{AlikeIn, Both, Respects}

@@ -8,7 +8,7 @@ use Rattle.liquid_core.specs.declared.interrupt.Interrupt.{Interrupt}
 use Rattle.liquid_core.specs.Expression.{Expression}
 use Rattle.liquid_model.specs.Maps.{Map, insert, merged}
 use Rattle.liquid_core.specs.Environment.{Environment}
-use Rattle.liquid_tree.specs.Tree.{Bindings, Node, plain, raw, comment, output, assign, increment, decrement, break_loop, continue_loop, cycle, if_true, unless, case_of, for_each, tablerow, capture, ifchanged, include, jekyll_include, render, Nodes, no_nodes, node, Whens, no_whens, when}
+use Rattle.liquid_evaluation.specs.Tree.{Bindings, Node, plain, raw, comment, output, assign, increment, decrement, break_loop, continue_loop, cycle, if_true, unless, case_of, for_each, tablerow, capture, ifchanged, include, jekyll_include, render, Nodes, no_nodes, node, Whens, no_whens, when}
 use Rattle.liquid_meaning.specs.Runs.{Nothing, Run, done, read, evaluate, fault, change, write, go_on, ◌>>=◌, with_scope, buffered, apart}
 use Rattle.liquid_meaning.specs.Effects.{assigned_to, counted_to, take_interrupt, if_none, unless_interrupted}
 use Rattle.liquid_meaning.specs.Loops.{until_break, for_all, if_empty, needs_columns, loop, rows}

@@ -4,7 +4,7 @@ use mathlib.Core.Path.{refl, ap, ◌∙◌}
 use Rattle.std.proofs.Common.{append-nil}
 use Rattle.liquid_model.specs.Texts.{Text}
 use Rattle.liquid_model.specs.declared.error.ErrorKind.{ErrorKind}
-use Rattle.liquid_tree.specs.Tree.{Node, Nodes, no_nodes, node}
+use Rattle.liquid_evaluation.specs.Tree.{Node, Nodes, no_nodes, node}
 use Rattle.liquid_core.specs.Environment.{Environment}
 use Rattle.liquid_core.specs.declared.interrupt.Interrupt.{Interrupt}
 use Rattle.liquid_meaning.specs.Runs.{Nothing, Outcome, Run, done, after_text, go_on, ◌>>=◌}

@@ -5,7 +5,7 @@ use Rattle.liquid_model.specs.Texts.{Text, same_text}
 use Rattle.liquid_model.proofs.Maps.{same_key}
 use Rattle.liquid_meaning.specs.Within.{Within}
 use Rattle.liquid_core.specs.Environment.{Names}
-use Rattle.liquid_tree.specs.Names.{mentioned}
+use Rattle.liquid_evaluation.specs.Names.{mentioned}
 
 pub left : (N : Names) (xs ys : List Text) → Within N (xs ++ ys) → Within N xs
 left N [] ys h = tt

@@ -7,8 +7,8 @@ use Rattle.liquid_model.specs.Maps.{Map, merged}
 use Rattle.liquid_core.specs.Expression.{Expression}
 use Rattle.liquid_core.specs.Environment.{Environment}
 use Rattle.liquid_core.specs.declared.interrupt.Interrupt.{Interrupt}
-use Rattle.liquid_tree.specs.Tree.{Chain, Condition, Source, Window, Node, assign, if_true, unless, for_each, tablerow, capture, ifchanged, Nodes, node}
-use Rattle.liquid_tree.specs.Evaluation.{chain_value, truth_of, source_items, amount, asked_for}
+use Rattle.liquid_evaluation.specs.Tree.{Chain, Condition, Source, Window, Node, assign, if_true, unless, for_each, tablerow, capture, ifchanged, Nodes, node}
+use Rattle.liquid_evaluation.specs.Evaluation.{chain_value, truth_of, source_items, amount, asked_for}
 use Rattle.liquid_meaning.specs.Runs.{Nothing, Run, write, ◌>>◌, with_scope}
 use Rattle.liquid_meaning.specs.Effects.{is_break, take_interrupt, value_or_nil}
 use Rattle.liquid_core.specs.Loops.{loop_scope, forloop_object, tablerow_object}

@@ -7,8 +7,8 @@ use Rattle.liquid_model.specs.Data.{text_of}
 use Rattle.liquid_core.specs.Expression.{Expression, literal}
 use Rattle.liquid_filters.specs.declared.kind.FilterKind.{FilterKind}
 use Rattle.liquid_filters.specs.declared.kind.FilterKind.TheVariants.{Sort, SortNatural, Where, Reverse, Map, Concat, First, Last, Size}
-use Rattle.liquid_tree.specs.Tree.{Filter, existing, hosted}
-use Rattle.liquid_tree.specs.Evaluation.{answers_with}
+use Rattle.liquid_evaluation.specs.Tree.{Filter, existing, hosted}
+use Rattle.liquid_evaluation.specs.Evaluation.{answers_with}
 use Rattle.liquid_core.specs.FilterAnswers.{FilterAnswer}
 use Rattle.liquid_model.specs.Uses.{Use, nothing, everything, parts, no_fields, field, uncounted, every, present, use_of_each, join, items_wanted}
 use Rattle.liquid_meaning.specs.Reading.{Needs}

@@ -12,9 +12,9 @@ use Rattle.liquid_model.specs.declared.error.ErrorKind.{ErrorKind}
 use Rattle.liquid_core.specs.Expression.{Expression}
 use Rattle.liquid_model.specs.Maps.{Map, retain_keys}
 use Rattle.liquid_core.specs.Environment.{Names, Environment, Registers, cut, put_back}
-use Rattle.liquid_tree.specs.Tree.{Source, Bindings, Nodes, no_nodes, node, render}
-use Rattle.liquid_tree.specs.Names.{run_names, mentioned}
-use Rattle.liquid_tree.specs.Evaluation.{source_items, bound_values}
+use Rattle.liquid_evaluation.specs.Tree.{Source, Bindings, Nodes, no_nodes, node, render}
+use Rattle.liquid_evaluation.specs.Names.{run_names, mentioned}
+use Rattle.liquid_evaluation.specs.Evaluation.{source_items, bound_values}
 use Rattle.liquid_meaning.specs.Runs.{Outcome, Run}
 use Rattle.liquid_meaning.specs.Meaning.{Setting, name_of, meaning}
 

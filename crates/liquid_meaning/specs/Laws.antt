@@ -9,8 +9,8 @@ use Rattle.liquid_core.specs.Environment.{Environment}
 use Rattle.liquid_core.specs.FilterAnswers.{FilterAnswer}
 use Rattle.liquid_core.specs.Hosts.{no_host}
 use Rattle.liquid_filters.specs.RunKinds.{EndsAsRun}
-use Rattle.liquid_tree.specs.Tree.{Filter, Chain, Source, Window, Nodes, no_nodes, node, plain, assign, for_each}
-use Rattle.liquid_tree.specs.Evaluation.{answers_with, source_items, asked_for}
+use Rattle.liquid_evaluation.specs.Tree.{Filter, Chain, Source, Window, Nodes, no_nodes, node, plain, assign, for_each}
+use Rattle.liquid_evaluation.specs.Evaluation.{answers_with, source_items, asked_for}
 use Rattle.liquid_core.specs.Loops.{forloop_object}
 use Rattle.liquid_meaning.specs.Meaning.{Setting, meaning}
 

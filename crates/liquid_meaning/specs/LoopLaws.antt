@@ -1,7 +1,7 @@
 -- Laws of a loop's items.
 use Rattle.std.specs.Prelude.{◌≡◌, ℕ, ◌+◌, ◌%◌, ◌==◌, ◌<◌, ℤ, pos, ◌+ℤ◌, ◌≤ℤ◌, ◌<ℤ◌, true, false, List, [], length, reverse, get_or, slice_get, Option, Some}
 use Rattle.liquid_model.specs.Data.{Datum, nil, number}
-use Rattle.liquid_tree.specs.Evaluation.{count_to, numbers_from, skipped, wanted, window_items}
+use Rattle.liquid_evaluation.specs.Evaluation.{count_to, numbers_from, skipped, wanted, window_items}
 use Rattle.liquid_core.specs.Loops.{is_last_column}
 
 -- o of the items are left out and m are asked for: item k of the m is source item o + k, or nil where there is none; `reversed` turns these m round

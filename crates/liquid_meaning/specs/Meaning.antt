@@ -19,8 +19,8 @@ use Rattle.liquid_model.specs.Maps.{Map, empty, insert, merged, listed}
 use Rattle.liquid_core.specs.Environment.{bind_each, Environment}
 use Rattle.liquid_core.specs.declared.interrupt.Interrupt.{Interrupt}
 use Rattle.liquid_core.specs.declared.interrupt.Interrupt.TheVariants.{Break, Continue}
-use Rattle.liquid_tree.specs.Tree.{Bindings, Node, plain, raw, comment, output, assign, increment, decrement, break_loop, continue_loop, cycle, if_true, unless, case_of, for_each, tablerow, capture, ifchanged, include, jekyll_include, render, Nodes, no_nodes, node, Whens, no_whens, when}
-use Rattle.liquid_tree.specs.Evaluation.{FilterAnswers, chain_value, truth_of, source_items, amount, asked_for, bound_values}
+use Rattle.liquid_evaluation.specs.Tree.{Bindings, Node, plain, raw, comment, output, assign, increment, decrement, break_loop, continue_loop, cycle, if_true, unless, case_of, for_each, tablerow, capture, ifchanged, include, jekyll_include, render, Nodes, no_nodes, node, Whens, no_whens, when}
+use Rattle.liquid_evaluation.specs.Evaluation.{FilterAnswers, chain_value, truth_of, source_items, amount, asked_for, bound_values}
 use Rattle.liquid_meaning.specs.Runs.{Nothing, Run, done, read, evaluate, fault, change, write, ◌>>=◌, ◌>>◌, with_scope, buffered, apart}
 use Rattle.liquid_meaning.specs.Effects.{assigned_to, counted_to, interrupted_by, cycled_to, changed_to, counter_number, cycle_index, value_or_nil, is_last_text, unless_interrupted}
 use Rattle.liquid_core.specs.Loops.{loop_scope, forloop_object}

@@ -6,7 +6,7 @@ use Rattle.liquid_model.specs.Find.{value_at}
 use Rattle.liquid_model.specs.Maps.{empty}
 use Rattle.liquid_model.specs.Projected.{projected_pairs}
 use Rattle.liquid_core.specs.Environment.{Environment, new_environment}
-use Rattle.liquid_tree.specs.Tree.{Nodes}
+use Rattle.liquid_evaluation.specs.Tree.{Nodes}
 use Rattle.liquid_meaning.specs.Meaning.{Setting, meaning}
 use Rattle.liquid_meaning.specs.Reading.{Uses, Needs, covers}
 use Rattle.liquid_meaning.specs.Reads.{Respects}

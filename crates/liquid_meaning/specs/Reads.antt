@@ -8,8 +8,8 @@ use Rattle.liquid_model.specs.Data.{Datum}
 use Rattle.liquid_model.specs.Maps.{Map}
 use Rattle.liquid_core.specs.Environment.{Names, Environment}
 use Rattle.liquid_core.specs.Expressions.{all_required}
-use Rattle.liquid_tree.specs.Tree.{FilterCall, Nodes}
-use Rattle.liquid_tree.specs.Evaluation.{FilterAnswers}
+use Rattle.liquid_evaluation.specs.Tree.{FilterCall, Nodes}
+use Rattle.liquid_evaluation.specs.Evaluation.{FilterAnswers}
 use Rattle.liquid_meaning.specs.Isolation.{names_of_run}
 use Rattle.liquid_meaning.specs.Runs.{Outcome}
 use Rattle.liquid_meaning.specs.Meaning.{Setting, meaning}

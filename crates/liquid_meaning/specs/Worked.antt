@@ -9,9 +9,9 @@ use Rattle.liquid_core.specs.declared.interrupt.Interrupt.{Interrupt}
 use Rattle.liquid_core.specs.Expression.{Expression, literal, variable, no_steps, step}
 use Rattle.liquid_model.specs.Maps.{empty, listed}
 use Rattle.liquid_core.specs.Environment.{Environment, new_environment}
-use Rattle.liquid_tree.specs.declared.comparison.ComparisonOperator.{ComparisonOperator}
-use Rattle.liquid_tree.specs.Tree.{Chain, compared, Source, counted, Window, Node, output, if_true, for_each, Nodes, no_nodes, node}
-use Rattle.liquid_tree.specs.Evaluation.{FilterAnswers}
+use Rattle.liquid_evaluation.specs.declared.comparison.ComparisonOperator.{ComparisonOperator}
+use Rattle.liquid_evaluation.specs.Tree.{Chain, compared, Source, counted, Window, Node, output, if_true, for_each, Nodes, no_nodes, node}
+use Rattle.liquid_evaluation.specs.Evaluation.{FilterAnswers}
 use Rattle.liquid_meaning.specs.Runs.{Nothing, Outcome}
 use Rattle.liquid_meaning.specs.Meaning.{meaning}
 

@@ -5,9 +5,9 @@ use Rattle.liquid_model.specs.Data.{Datum, nil, truth, number, object, pair, no_
 use Rattle.liquid_model.specs.declared.error.ErrorKind.TheVariants.{UnknownVariable, UnexpectedValue, ZeroColumns}
 use Rattle.liquid_core.specs.declared.interrupt.Interrupt.TheVariants.{Break}
 use Rattle.liquid_core.specs.Expression.{literal, variable, no_steps, step}
-use Rattle.liquid_tree.specs.declared.comparison.ComparisonOperator.TheVariants.{Equals, LessThan, LessThanEquals, Contains}
-use Rattle.liquid_tree.specs.Tree.{Filter, Node, bare, compared, each_of, Window, plain, output, assign, break_loop, continue_loop, if_true, unless, case_of, for_each, tablerow, no_whens, when, no_nodes, counted}
-use Rattle.liquid_tree.specs.Evaluation.{FilterAnswers}
+use Rattle.liquid_evaluation.specs.declared.comparison.ComparisonOperator.TheVariants.{Equals, LessThan, LessThanEquals, Contains}
+use Rattle.liquid_evaluation.specs.Tree.{Filter, Node, bare, compared, each_of, Window, plain, output, assign, break_loop, continue_loop, if_true, unless, case_of, for_each, tablerow, no_whens, when, no_nodes, counted}
+use Rattle.liquid_evaluation.specs.Evaluation.{FilterAnswers}
 use Rattle.liquid_meaning.specs.Effects.{interrupted_by}
 use Rattle.liquid_meaning.specs.Runs.{Nothing, Outcome}
 use Rattle.liquid_meaning.specs.Meaning.{meaning}

@@ -2,10 +2,10 @@
 use Rattle.std.specs.Prelude.{false, List, [], ◌∷◌, Some, None, codes}
 use Rattle.liquid_model.specs.Texts.{Text}
 use Rattle.liquid_core.specs.Expression.{variable, no_steps, step}
-use Rattle.liquid_tree.specs.declared.comparison.ComparisonOperator.TheVariants.{Equals}
-use Rattle.liquid_tree.specs.Tree.{Filter, each_of, counted, Node, comment, raw, assign, increment, cycle, case_of, tablerow, include, jekyll_include, render, Nodes, no_nodes, no_whens, when, bare, compared, Condition, Window, Chain, output, decrement, if_true, unless, for_each, capture, ifchanged}
-use Rattle.liquid_tree.specs.Groups.{group_of}
-use Rattle.liquid_tree.specs.Names.{run_names, mentioned}
+use Rattle.liquid_evaluation.specs.declared.comparison.ComparisonOperator.TheVariants.{Equals}
+use Rattle.liquid_evaluation.specs.Tree.{Filter, each_of, counted, Node, comment, raw, assign, increment, cycle, case_of, tablerow, include, jekyll_include, render, Nodes, no_nodes, no_whens, when, bare, compared, Condition, Window, Chain, output, decrement, if_true, unless, for_each, capture, ifchanged}
+use Rattle.liquid_evaluation.specs.Groups.{group_of}
+use Rattle.liquid_evaluation.specs.Names.{run_names, mentioned}
 use Rattle.liquid_meaning.specs.Within.{Within}
 use Rattle.liquid_meaning.specs.Worked.{name, property, quoted, integer, alone, show, tree, all_items, for_in}
 

@@ -3,8 +3,8 @@ use Prim.Native.String.{String}
 use Rattle.std.specs.Prelude.{◌≡◌, pos, List, [], ◌∷◌, Some, None, codes}
 use Rattle.liquid_model.specs.Data.{number, array, no_items}
 use Rattle.liquid_model.specs.declared.error.ErrorKind.TheVariants.{UnknownVariable, UnknownPartial, PartialName, TooDeep}
-use Rattle.liquid_tree.specs.declared.comparison.ComparisonOperator.TheVariants.{Equals}
-use Rattle.liquid_tree.specs.Tree.{Node, plain, assign, increment, break_loop, include, jekyll_include, render, continue_loop}
+use Rattle.liquid_evaluation.specs.declared.comparison.ComparisonOperator.TheVariants.{Equals}
+use Rattle.liquid_evaluation.specs.Tree.{Node, plain, assign, increment, break_loop, include, jekyll_include, render, continue_loop}
 use Rattle.liquid_meaning.specs.Worked.{name, property, quoted, integer, alone, show, tree, if_compared, from_to, with_data, ran, page, page_with, Writes, WritesThen, counter_after}
 
 -- {% render 's' %} and {% include 's' %}

@@ -4,8 +4,8 @@ use Rattle.std.specs.Prelude.{◌≡◌, Bool, true, false, pos, List, [], ◌�
 use Rattle.liquid_model.specs.Texts.{Text}
 use Rattle.liquid_model.specs.Data.{Datum, nil, number, text, array, object, no_items, item, no_pairs, pair}
 use Rattle.liquid_core.specs.Expression.{variable, no_steps, step}
-use Rattle.liquid_tree.specs.declared.comparison.ComparisonOperator.TheVariants.{Equals}
-use Rattle.liquid_tree.specs.Tree.{each_of, Node, assign, bare, if_true, increment, Nodes, no_nodes, render}
+use Rattle.liquid_evaluation.specs.declared.comparison.ComparisonOperator.TheVariants.{Equals}
+use Rattle.liquid_evaluation.specs.Tree.{each_of, Node, assign, bare, if_true, increment, Nodes, no_nodes, render}
 use Rattle.liquid_model.specs.Uses.{Use, everything, parts, Fields, no_fields, field, uncounted, every, there, use_in}
 use Rattle.liquid_meaning.specs.Reading.{Uses, covers}
 use Rattle.liquid_meaning.specs.Reads.{needs_all}

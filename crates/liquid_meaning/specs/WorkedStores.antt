@@ -7,9 +7,9 @@ use Rattle.liquid_core.specs.declared.interrupt.Interrupt.TheVariants.{Break}
 use Rattle.liquid_core.specs.Expression.{Expression, variable, no_steps, step}
 use Rattle.liquid_model.specs.Maps.{empty, listed}
 use Rattle.liquid_core.specs.Environment.{Environment, new_environment}
-use Rattle.liquid_tree.specs.declared.comparison.ComparisonOperator.TheVariants.{GreaterThan}
-use Rattle.liquid_tree.specs.Tree.{Node, plain, assign, increment, decrement, break_loop, cycle, capture, ifchanged}
-use Rattle.liquid_tree.specs.Groups.{group_of}
+use Rattle.liquid_evaluation.specs.declared.comparison.ComparisonOperator.TheVariants.{GreaterThan}
+use Rattle.liquid_evaluation.specs.Tree.{Node, plain, assign, increment, decrement, break_loop, cycle, capture, ifchanged}
+use Rattle.liquid_evaluation.specs.Groups.{group_of}
 use Rattle.liquid_meaning.specs.Runs.{Nothing, Outcome}
 use Rattle.liquid_meaning.specs.Worked.{name, property, quoted, integer, alone, show, tree, if_compared, from_to, for_in, with_data, ran, page, Writes, WritesThen, assigned_after, counter_after, group_after, interrupt_after}
 

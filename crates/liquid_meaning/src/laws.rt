@@ -3,7 +3,7 @@
 ghost use Rattle.liquid_meaning.specs.Assigning.{AssignedAnywhere};
 ghost use Rattle.liquid_meaning.specs.FilterNeeds.{KnownRespected};
 ghost use Rattle.liquid_meaning.specs.Isolation.{Isolation, AgreeingRuns, OthersKept, RenderLeavesAll, RenderSeesItsValues, Headline};
-ghost use Rattle.liquid_tree.specs.Laws.{CountedWindow};
+ghost use Rattle.liquid_evaluation.specs.Laws.{CountedWindow};
 ghost use Rattle.liquid_meaning.specs.LoopLaws.{RangeLaw, RowLaw, WindowLaw};
 ghost use Rattle.liquid_meaning.specs.ProjectedRuns.{ProjectedRun, SameSight};
 ghost use Rattle.liquid_meaning.specs.Reads.{AllRespect, NamesCover, ReadsAlone};

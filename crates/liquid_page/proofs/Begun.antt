@@ -6,8 +6,8 @@ use Rattle.std.proofs.KnownBytes.{Appends-nil, Appends-kept}
 use Rattle.liquid_model.specs.declared.error.Error.{Error}
 use Rattle.liquid_model.specs.Texts.{Text}
 use Rattle.liquid_lib.specs.Added.{AppendsPart}
-use Rattle.liquid_site.specs.Page.{Sources, Texts}
-use Rattle.liquid_site.specs.Shown.{RanOut, ShowsStandard}
+use Rattle.liquid_page_texts.specs.Page.{Sources, Texts}
+use Rattle.liquid_page_texts.specs.Shown.{RanOut, ShowsStandard}
 use Rattle.liquid_lib.specs.Performs.{is_refused}
 use Rattle.liquid_model.specs.ErrorKinds.{is_refusal}
 use Rattle.liquid_page.specs.declared.outcome.Outcome.{Outcome}

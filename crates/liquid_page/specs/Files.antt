@@ -9,7 +9,7 @@ use Rattle.liquid_page.specs.Words.{Named, NamedFiles, call_of}
 use Rattle.liquid_page.specs.Written.{IsBegun, IsWritten}
 use Rattle.liquid_page.specs.declared.outcome.Outcome.{Outcome}
 use Rattle.liquid_page.specs.declared.outcome.Outcome.TheVariants.{Done, Usage, Unread, Fault}
-use Rattle.liquid_site.specs.Page.{Sources, Texts}
+use Rattle.liquid_page_texts.specs.Page.{Sources, Texts}
 
 -- the text of the file at each path, where it can be read
 abbrev pub Files : Type 0

@@ -2,7 +2,7 @@
 use Rattle.std.specs.Prelude.{◌≡◌, Option, Some, None, Result, Ok, Err, ⊤, String, string_bytes}
 use Rattle.std.specs.declared.alloc.Global.{Global}
 use Rattle.liquid_model.specs.Texts.{Text}
-use Rattle.liquid_site.specs.Page.{Texts, sources_of}
+use Rattle.liquid_page_texts.specs.Page.{Texts, sources_of}
 use Rattle.liquid_page.specs.declared.page.ReadTexts.{ReadTexts}
 use Rattle.liquid_page.specs.declared.page.Unreadable.{Unreadable}
 use Rattle.liquid_page.specs.declared.page.Unreadable.TheVariants.{Memory, File}

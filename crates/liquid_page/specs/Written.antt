@@ -4,7 +4,7 @@ use Rattle.std.specs.Io.KnownBytes.{Appends}
 use Rattle.liquid_model.specs.Texts.{Text}
 use Rattle.liquid_model.specs.declared.error.Error.{Error}
 use Rattle.liquid_lib.specs.Performs.{answer_of, unit}
-use Rattle.liquid_site.specs.Page.{Texts, IsStandardPage, IsStandardText}
+use Rattle.liquid_page_texts.specs.Page.{Texts, IsStandardPage, IsStandardText}
 
 -- the page of these texts was written, all of it, and the answer is its end
 pub record IsWritten (texts : Texts) (r : Result (Unit {0}) Error) (old new : Option (List ℕ)) : Type 0 where

@@ -12,7 +12,7 @@ use crate::excerpt::Excerpt;
 use crate::outcome::Outcome;
 use crate::page::{ReadTexts, Texts, Unreadable, page};
 use crate::unreadable::Reason;
-pub use liquid_site::{data_from_json, run};
+pub use liquid_page_texts::{data_from_json, run};
 use std::alloc::AllocError;
 use std::process::ExitCode;
 use std::{env, fs, io};

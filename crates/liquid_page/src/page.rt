@@ -5,14 +5,14 @@ ghost use Rattle.liquid_page.specs.Files.{Files, Ends, Finds, Leaves, sources_fr
 ghost use Rattle.liquid_page.specs.Read.{IsTextOf, read_view};
 ghost use Rattle.liquid_page.specs.Words.{call_view, lent};
 ghost use Rattle.liquid_page.specs.Written.{IsBegun, IsWritten};
-ghost use Rattle.liquid_site.specs.Page.{sources_of};
+ghost use Rattle.liquid_page_texts.specs.Page.{sources_of};
 
 use crate::buffered::Buffered;
 use crate::outcome::Outcome;
 use crate::words::{Call, call_of};
 use liquid_core::{Error, ErrorKind, Origin, Result};
 use liquid_lib::Counted;
-use liquid_site::run_last;
+use liquid_page_texts::run_last;
 use std::alloc::{AllocError, Global};
 use std::io::Write;
 

@@ -1,3 +1,7 @@
-pub mod Page
-pub mod PageLaw
-pub mod Shown
+pub mod Applied
+pub mod Contents
+pub mod Faults
+pub mod Parts
+pub mod SiteViews
+pub mod Steps
+pub mod inside

@@ -1,7 +1,11 @@
-//! What is proved of all pages.
-ghost use Rattle.liquid_site.specs.PageLaw.{KindsOfPages};
+//! Laws of sites: each clause is a law, and the body does nothing.
 
-/// A page that ends by a fault ends by a kind of a run or of a source: `Memory` and `Write` are no end of a page.
-pub fn page_law()
-    ensures { KindsOfPages }
+ghost use Rattle.liquid_site.specs.Steps.{UntouchedPages, KeptIsFromScratch, PagesKept};
+
+/// A value under a name that neither a page's template nor a partial mentions changes nothing of that page. So rendering
+/// again what each change touches gives, after any list of changes, what rendering all pages from scratch gives.
+pub fn site_laws()
+    ensures untouched { UntouchedPages }
+    ensures step { KeptIsFromScratch }
+    ensures kept { PagesKept }
 {}

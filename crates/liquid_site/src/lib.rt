@@ -1,9 +1,13 @@
-//! Pages from texts: a page of its template, its data in JSON and its partials.
+//! Sites: pages that are rendered again where something that they can see changed, and no others.
 #![tactic(auto)]
 
+mod change;
+mod facts;
 mod laws;
-mod page;
+mod refresh;
+mod site;
 
-pub use laws::page_law;
-pub use liquid_json::data_from_json;
-pub use page::{run, run_last};
+pub use change::Change;
+pub use laws::site_laws;
+pub use liquid_lib::Page;
+pub use site::Site;

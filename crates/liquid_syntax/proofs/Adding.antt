@@ -1,9 +1,9 @@
 -- The next piece, on the code's stack of open blocks.
 use Rattle.std.proofs.Common.{◌≡◌, ◌<◌, ℕ, nat_le, arith, List, [], ◌∷◌, Bool, true, false, cond, Option, Some, None, Result, Ok, Err, OnOk, sym, ap, ◌∙◌}
 use Rattle.std.proofs.lemmas.Bool.Decides.{nat_tests}
-use Rattle.liquid_source.specs.declared.fault.ParseError.{ParseError}
-use Rattle.liquid_source.specs.declared.fault.ParseError.TheVariants as errors
-use Rattle.liquid_tree.specs.Tree.{Nodes, no_nodes}
+use Rattle.liquid_lexer.specs.declared.fault.ParseError.{ParseError}
+use Rattle.liquid_lexer.specs.declared.fault.ParseError.TheVariants as errors
+use Rattle.liquid_evaluation.specs.Tree.{Nodes, no_nodes}
 use Rattle.liquid_syntax.specs.Nesting.{Opening}
 use Rattle.liquid_syntax.specs.OpenBlocks.{State, begun, ended, Level, level, depth, deeper, with_node, close, to_begin}
 use Rattle.liquid_syntax.specs.inside.Building.{Begins, Steps, IsBuilding, IsMemory, IsStack, Closes, opening}

@@ -3,16 +3,16 @@ use Rattle.std.proofs.Common.{◌≡◌, List, [], ◌∷◌, Bool, true, false,
 use Rattle.std.specs.Option.{option_and_then, option_map}
 use Rattle.liquid_core.specs.Expression.{Expression}
 use Rattle.liquid_model.specs.Texts.{Text}
-use Rattle.liquid_source.specs.Tokens.{Token, value, word, value_first, word_first}
+use Rattle.liquid_lexer.specs.Tokens.{Token, value, word, value_first, word_first}
 use Rattle.liquid_syntax.specs.Classification.{alone, word_alone, value_alone}
 use Rattle.liquid_syntax.specs.Loops.{is_nothing}
 use Rattle.std.specs.Prelude.{Err}
-use Rattle.liquid_source.specs.Readers.{IsOfKind}
-use Rattle.liquid_source.specs.declared.fault.FaultKind.TheVariants.{Expected}
-use Rattle.liquid_source.specs.declared.fault.ParseError.{ParseError}
-use Rattle.liquid_source.specs.declared.fault.ParseError.TheVariants as errors
-use Rattle.liquid_source.proofs.WordLaws.{bind_some, from_some}
-use Rattle.liquid_tree.specs.Tree.{case_of}
+use Rattle.liquid_lexer.specs.Readers.{IsOfKind}
+use Rattle.liquid_lexer.specs.declared.fault.FaultKind.TheVariants.{Expected}
+use Rattle.liquid_lexer.specs.declared.fault.ParseError.{ParseError}
+use Rattle.liquid_lexer.specs.declared.fault.ParseError.TheVariants as errors
+use Rattle.liquid_lexer.proofs.WordLaws.{bind_some, from_some}
+use Rattle.liquid_evaluation.specs.Tree.{case_of}
 use Rattle.liquid_syntax.specs.inside.Classifies.{ReadsBlock}
 use Rattle.liquid_syntax.specs.Classification.{case_for, many_or}
 use Rattle.liquid_language.specs.declared.block.Block.TheVariants.{Case}

@@ -7,8 +7,8 @@ use Rattle.liquid_core.specs.ExpressionView.{expression_view}
 use Rattle.liquid_syntax.specs.inside.Building.{IsAdded, last_ended, set_before_last}
 use Rattle.liquid_syntax.specs.Flats.{Maker, arm_ends, arm_values, values_in, case_flat, flat_of, with_arms, with_one, with_two}
 use Rattle.liquid_syntax.specs.Laid.{Flat}
-use Rattle.liquid_tree.specs.Tree as tree
-use Rattle.liquid_tree.specs.Tree.{Nodes, no_nodes, Whens, no_whens, when, case_of}
+use Rattle.liquid_evaluation.specs.Tree as tree
+use Rattle.liquid_evaluation.specs.Tree.{Nodes, no_nodes, Whens, no_whens, when, case_of}
 use Rattle.liquid_syntax.specs.declared.node.Arm.{Arm}
 use Rattle.liquid_syntax.specs.declared.node.Node.{Node}
 use Rattle.liquid_syntax.specs.declared.node.Node.TheVariants.{Text as Plain, Output, Assign, Raw, Comment, If, Unless, Capture, Case, For, TableRow, Break, Continue, Increment, Decrement, Cycle, IfChanged, Include, JekyllInclude, Render, RenderEach}

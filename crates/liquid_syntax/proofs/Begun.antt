@@ -1,9 +1,9 @@
 -- The statement of a block that begins, by the node that was read.
 use Rattle.std.proofs.Common.{◌≡◌, ℕ, Option, ap, sym, subst}
 use Rattle.std.specs.Prelude.{Result, Ok, Err}
-use Rattle.liquid_source.specs.declared.fault.FaultKind.{FaultKind}
-use Rattle.liquid_source.specs.declared.fault.ParseError.{ParseError}
-use Rattle.liquid_source.specs.declared.fault.ParseError.TheVariants as errors
+use Rattle.liquid_lexer.specs.declared.fault.FaultKind.{FaultKind}
+use Rattle.liquid_lexer.specs.declared.fault.ParseError.{ParseError}
+use Rattle.liquid_lexer.specs.declared.fault.ParseError.TheVariants as errors
 use Rattle.liquid_language.specs.declared.block.Block.{Block}
 use Rattle.liquid_syntax.specs.Classification.{two_or}
 use Rattle.liquid_syntax.specs.Faults.{FaultsAs, FaultsAt}
@@ -13,7 +13,7 @@ use Rattle.liquid_syntax.specs.declared.build.Stage.TheVariants.{First}
 use Rattle.liquid_syntax.specs.declared.build.Statement.{Statement}
 use Rattle.liquid_syntax.specs.declared.node.Node as code
 use Rattle.liquid_syntax.specs.inside.Classifies.{begins, Classifies, ReadsBlock, ReadsTwo}
-use Rattle.liquid_tree.specs.Tree.{Node, Nodes}
+use Rattle.liquid_evaluation.specs.Tree.{Node, Nodes}
 
 -- a node with two bodies is a block's that begins with the first of them
 pub two_read : (b : Block) (o : Option (Nodes → Nodes → Node)) (r : Result code.Node ParseError) → ReadsTwo o r → ReadsBlock b First (two_or b o) r

@@ -5,18 +5,18 @@ use Rattle.std.specs.Option.{option_and_then, option_map}
 use Rattle.liquid_model.specs.Texts.{Text}
 use Rattle.liquid_model.specs.Maps.{listed}
 use Rattle.liquid_core.specs.Expression.{Expression, literal, variable, no_steps, step}
-use Rattle.liquid_tree.specs.Tree.{FilterCall}
-use Rattle.liquid_tree.specs.ChainView.{chain_filter_view}
-use Rattle.liquid_tree.specs.declared.chain.ChainFilter.{ChainFilter}
+use Rattle.liquid_evaluation.specs.Tree.{FilterCall}
+use Rattle.liquid_evaluation.specs.ChainView.{chain_filter_view}
+use Rattle.liquid_evaluation.specs.declared.chain.ChainFilter.{ChainFilter}
 use Rattle.liquid_syntax.specs.inside.Called.{TakesFilter}
-use Rattle.liquid_source.specs.Readers.{Fails, Parses}
-use Rattle.liquid_source.specs.Tokens.{Token, value, range, symbol, tokens_view, value_first, word_first, is_symbol, past}
+use Rattle.liquid_lexer.specs.Readers.{Fails, Parses}
+use Rattle.liquid_lexer.specs.Tokens.{Token, value, range, symbol, tokens_view, value_first, word_first, is_symbol, past}
 use Rattle.liquid_syntax.specs.Chains.{Filters}
 use Rattle.liquid_syntax.specs.ChainReading.{Called, accepted_call, call_with, filters_of, call_of, called_of, arguments_of, further_of, no_arguments, one_argument}
-use Rattle.liquid_source.specs.declared.item.Item.{Item}
-use Rattle.liquid_source.specs.declared.symbol.Symbol.TheVariants.{Colon, Comma, Bar}
-use Rattle.liquid_source.specs.declared.fault.ParseError.{ParseError}
-use Rattle.liquid_source.specs.declared.fault.ParseError.TheVariants as errors
+use Rattle.liquid_lexer.specs.declared.item.Item.{Item}
+use Rattle.liquid_lexer.specs.declared.symbol.Symbol.TheVariants.{Colon, Comma, Bar}
+use Rattle.liquid_lexer.specs.declared.fault.ParseError.{ParseError}
+use Rattle.liquid_lexer.specs.declared.fault.ParseError.TheVariants as errors
 
 -- ---- what is left of a list of items
 

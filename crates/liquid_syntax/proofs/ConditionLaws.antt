@@ -7,13 +7,13 @@ use Rattle.liquid_model.specs.Texts.{Text}
 use Rattle.liquid_core.specs.Expression.{Expression, literal, variable, Steps, no_steps, step}
 use Rattle.liquid_syntax.specs.Conditions.{and_word, or_word, IsOperator, equals, not_equals, less_or_greater, less, greater, less_or_equal, greater_or_equal, contains, IsAtom, bare_value, comparison, IsConjunction, one_atom, and_more, IsCondition, one_conjunction, or_more}
 use Rattle.liquid_syntax.specs.ConditionReading.{operator_of, symbol_operator, with_atom, joined, compared_or, condition_of, behind_value, behind_operator, behind_atom}
-use Rattle.liquid_source.specs.Tokens.{Token, value, range, symbol, word, is_word}
-use Rattle.liquid_tree.specs.Tree.{Atom, bare, compared, Condition}
-use Rattle.liquid_tree.specs.declared.comparison.ComparisonOperator.{ComparisonOperator}
-use Rattle.liquid_source.specs.declared.symbol.Symbol.{Symbol}
-use Rattle.liquid_source.specs.declared.symbol.Symbol.TheVariants.{Equals, NotEquals, LessOrGreater, LessThanEquals, GreaterThanEquals, LessThan, GreaterThan, Assign, Colon, Comma, Bar}
-use Rattle.liquid_source.proofs.WordLaws.{from_some, map_some}
-use Rattle.liquid_tree.specs.declared.comparison.ComparisonOperator.TheVariants as operators
+use Rattle.liquid_lexer.specs.Tokens.{Token, value, range, symbol, word, is_word}
+use Rattle.liquid_evaluation.specs.Tree.{Atom, bare, compared, Condition}
+use Rattle.liquid_evaluation.specs.declared.comparison.ComparisonOperator.{ComparisonOperator}
+use Rattle.liquid_lexer.specs.declared.symbol.Symbol.{Symbol}
+use Rattle.liquid_lexer.specs.declared.symbol.Symbol.TheVariants.{Equals, NotEquals, LessOrGreater, LessThanEquals, GreaterThanEquals, LessThan, GreaterThan, Assign, Colon, Comma, Bar}
+use Rattle.liquid_lexer.proofs.WordLaws.{from_some, map_some}
+use Rattle.liquid_evaluation.specs.declared.comparison.ComparisonOperator.TheVariants as operators
 
 -- ---- what is written is read
 

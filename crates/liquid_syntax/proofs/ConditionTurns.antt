@@ -5,10 +5,10 @@ use Rattle.std.specs.Option.{option_and_then, option_map}
 use Rattle.liquid_core.specs.Expression.{Expression}
 use Rattle.liquid_syntax.specs.inside.ConditionAnswers.{operator_before, operator_first, before_alternatives}
 use Rattle.liquid_syntax.specs.ConditionReading.{operator_of, with_atom, joined, compared_or, condition_of, behind_value, behind_operator, behind_atom, alternatives_of}
-use Rattle.liquid_source.specs.Tokens.{Token, value, range, symbol, value_first, is_word, past_word}
-use Rattle.liquid_source.proofs.WordLaws.{from_some}
-use Rattle.liquid_tree.specs.Tree.{Atom, bare, compared, Condition}
-use Rattle.liquid_tree.specs.declared.comparison.ComparisonOperator.{ComparisonOperator}
+use Rattle.liquid_lexer.specs.Tokens.{Token, value, range, symbol, value_first, is_word, past_word}
+use Rattle.liquid_lexer.proofs.WordLaws.{from_some}
+use Rattle.liquid_evaluation.specs.Tree.{Atom, bare, compared, Condition}
+use Rattle.liquid_evaluation.specs.declared.comparison.ComparisonOperator.{ComparisonOperator}
 
 -- ---- an atom
 

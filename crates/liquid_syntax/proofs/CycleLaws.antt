@@ -7,10 +7,10 @@ use Rattle.liquid_core.specs.declared.expression.Expression.{Variable, the_lemma
 use Rattle.liquid_core.specs.declared.expression.Expression as code
 use Rattle.liquid_core.specs.declared.expression.Variable as declared
 use Rattle.liquid_model.specs.Texts.{Text}
-use Rattle.liquid_source.specs.Tokens.{Token, value, symbol, value_first, past}
-use Rattle.liquid_source.specs.declared.symbol.Symbol.TheVariants.{Colon}
-use Rattle.liquid_source.proofs.WordLaws.{bind_some, map_some, from_some, guard_opt}
-use Rattle.liquid_tree.specs.Groups.{values_group}
+use Rattle.liquid_lexer.specs.Tokens.{Token, value, symbol, value_first, past}
+use Rattle.liquid_lexer.specs.declared.symbol.Symbol.TheVariants.{Colon}
+use Rattle.liquid_lexer.proofs.WordLaws.{bind_some, map_some, from_some, guard_opt}
+use Rattle.liquid_evaluation.specs.Groups.{values_group}
 use Rattle.liquid_syntax.specs.Cycles.{Cycle, with_group, grouped_of, IsName, an_identifier, a_literal, IsCycle, without_name, with_name, name_alone, is_name, has_no_steps, any_values_of, named_of, behind_first, cycle_of}
 use Rattle.liquid_syntax.specs.Repeated.{AreRepeated, no_more, one_more}
 use Rattle.liquid_syntax.specs.ValueLists.{a_comma, IsFurther, a_further, IsValuesEnd, no_value, a_last_comma, AreValues, some_values, further_of}

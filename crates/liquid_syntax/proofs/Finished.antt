@@ -10,7 +10,7 @@ use Rattle.liquid_syntax.specs.Nested.{AreNested, ends_in}
 use Rattle.liquid_syntax.proofs.Round.{tree_of-laid}
 use Rattle.liquid_syntax.specs.OpenBlocks.{Level, at_end}
 use Rattle.liquid_syntax.specs.Templates.{tree_of}
-use Rattle.liquid_tree.specs.Tree.{Nodes}
+use Rattle.liquid_evaluation.specs.Tree.{Nodes}
 use Rattle.liquid_syntax.specs.inside.Building.{Builds}
 use Rattle.liquid_syntax.specs.declared.build.Open.{Open}
 use Rattle.liquid_syntax.specs.declared.node.Node as code

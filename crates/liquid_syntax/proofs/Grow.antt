@@ -10,8 +10,8 @@ use Rattle.liquid_syntax.specs.Laid.{Flat, ends_of, laid, laid_bodies}
 use Rattle.liquid_syntax.proofs.Round as round
 use Rattle.liquid_syntax.proofs.Round.{length-laid, length-laid_bodies}
 use Rattle.liquid_syntax.specs.OpenBlocks.{append, Reading, last, first, unkept, armed, begun, to_when, context_in, ended, Level, level, context_of, depth, State, with_node, to_else}
-use Rattle.liquid_tree.specs.Tree as tree
-use Rattle.liquid_tree.specs.Tree.{Nodes, no_nodes, Whens, no_whens, when}
+use Rattle.liquid_evaluation.specs.Tree as tree
+use Rattle.liquid_evaluation.specs.Tree.{Nodes, no_nodes, Whens, no_whens, when}
 use Rattle.liquid_syntax.specs.Flats.{case_flat, flat_of, flats, with_arms}
 use Rattle.liquid_core.specs.Expression.{Expression}
 use Rattle.std.specs.Prelude.{take, true, false}

@@ -4,13 +4,13 @@ use Rattle.std.specs.Option.{option_and_then, option_map}
 use Rattle.std.proofs.lemmas.Option.{cond_some}
 use Rattle.liquid_core.specs.Expression.{Expression}
 use Rattle.liquid_model.specs.Texts.{Text}
-use Rattle.liquid_source.specs.Tokens.{Token, value, range, symbol, word, value_first, word_first, past, past_word, is_symbol, is_word}
-use Rattle.liquid_source.specs.Tokens.{tokens_view}
-use Rattle.liquid_source.specs.declared.item.Item.{Item}
-use Rattle.liquid_source.specs.declared.symbol.Symbol.{Symbol}
-use Rattle.liquid_source.specs.declared.symbol.Symbol.TheVariants.{Colon, Comma}
-use Rattle.liquid_source.proofs.WordLaws.{bind_some, map_some, from_some}
-use Rattle.liquid_tree.specs.Tree.{Bindings, Source, each_of, counted}
+use Rattle.liquid_lexer.specs.Tokens.{Token, value, range, symbol, word, value_first, word_first, past, past_word, is_symbol, is_word}
+use Rattle.liquid_lexer.specs.Tokens.{tokens_view}
+use Rattle.liquid_lexer.specs.declared.item.Item.{Item}
+use Rattle.liquid_lexer.specs.declared.symbol.Symbol.{Symbol}
+use Rattle.liquid_lexer.specs.declared.symbol.Symbol.TheVariants.{Colon, Comma}
+use Rattle.liquid_lexer.proofs.WordLaws.{bind_some, map_some, from_some}
+use Rattle.liquid_evaluation.specs.Tree.{Bindings, Source, each_of, counted}
 use Rattle.liquid_syntax.specs.Bound.{ArePairs, IsOneOf, IsPair, IsPairsEnd, a_pair, any_item, behind_comma, ends_pairs, is_separated, last_comma, mark_of, no_item, one_first, pair_first, pairs_of, past_comma, unseparated}
 use Rattle.liquid_syntax.specs.Loops.{source_token, source_of, source_first, Part, limit_is, offset_is, cols_is, is_reversed, IsPart, a_limit, an_offset, a_reversal, a_width, Parts, no_parts, settled, with_part, IsNothing, is_nothing, Head, head_with, IsLoop, a_loop, part_value, or_else, own_part, part_first, parts_of, settled_of, loop_of}
 use Rattle.liquid_syntax.specs.Repeated.{AreRepeated}

@@ -2,7 +2,7 @@
 use Rattle.std.proofs.Common.{◌≡◌, ℕ, suc, ◌+◌, ◌-◌, ◌<◌, ◌≤◌, List, [], ◌∷◌, Bool, true, false, cond, nat_lt, Option, Some, None, option_map, refl, sym, ap, ◌∙◌, subst, arith}
 use Rattle.std.proofs.lemmas.Bool.Decides.{nat_tests}
 use Rattle.liquid_core.specs.Expression.{Expression}
-use Rattle.liquid_tree.specs.Tree.{Node, Nodes, no_nodes, node, Whens, no_whens, when}
+use Rattle.liquid_evaluation.specs.Tree.{Node, Nodes, no_nodes, node, Whens, no_whens, when}
 use Rattle.liquid_syntax.specs.Nesting.{Opening, of_one, of_two, of_many, Statement, leaf, closed, begins, elsif, arm, otherwise, ends, refused, AreNodes, none, is_leaf, is_closed, is_block, IsBlock, one, two, many, IsLast, no_else, is_else, IsElse, is_last, is_elsif, AreWhens, no_more, is_when}
 use Rattle.liquid_syntax.specs.OpenBlocks.{append, with_node, Reading, last, first, unkept, armed, begun, context_in, ended, else_of, when_of, elsif_of, Level, level, context_of, deeper, depth, close, step, to_closed, to_begin, go, read}
 use Rattle.liquid_language.specs.declared.block.Block.{Block}

@@ -8,8 +8,8 @@ use Rattle.liquid_syntax.specs.inside.Building.{IsBuilding, Finishes, text_added
 use Rattle.liquid_syntax.specs.inside.Classifies.{Classifies}
 use Rattle.liquid_syntax.specs.Classification.{if_of, unless_of, bare, capture_of, case_for, for_of, rows_of, one_or, many_or, two_or, tag_statement, raw_statement, comment_statement, reads, is_start, opens}
 use Rattle.liquid_language.specs.Roles.{role_of, unread_body}
-use Rattle.liquid_source.specs.Items.{Item}
-use Rattle.liquid_source.specs.Tokens.{Token, tokens_of}
+use Rattle.liquid_lexer.specs.Items.{Item}
+use Rattle.liquid_lexer.specs.Tokens.{Token, tokens_of}
 use Rattle.liquid_language.specs.declared.block.Block.{Block}
 use Rattle.liquid_language.specs.declared.block.Block.TheVariants.{If, Unless, Capture, Case, For, TableRow}
 use Rattle.liquid_language.specs.declared.block.BlockContext.{BlockContext}
@@ -20,21 +20,21 @@ use Rattle.liquid_syntax.specs.Nesting.{Opening, Statement, leaf, closed, begins
 use Rattle.liquid_syntax.specs.OpenBlocks.{Level, level, State, begun, depth, context_of, step, at_end, with_node}
 use Rattle.liquid_syntax.specs.Parsing.{ReadsTo}
 use Rattle.liquid_syntax.specs.inside.TemplateReading.{begun_with, body_of, piece_step, template_at, whole_at}
-use Rattle.liquid_source.specs.Pieces as pieces
-use Rattle.liquid_source.specs.Pieces.{Piece, stripped}
-use Rattle.liquid_source.specs.Readers.{Fails}
-use Rattle.liquid_source.specs.SourceReading.{Markup, markup_at, text_step, source_at}
+use Rattle.liquid_lexer.specs.Pieces as pieces
+use Rattle.liquid_lexer.specs.Pieces.{Piece, stripped}
+use Rattle.liquid_lexer.specs.Readers.{Fails}
+use Rattle.liquid_lexer.specs.SourceReading.{Markup, markup_at, text_step, source_at}
 use Rattle.liquid_syntax.specs.Templates.{tree_of}
-use Rattle.liquid_tree.specs.Tree.{Node, Nodes, no_nodes, Whens}
-use Rattle.liquid_source.specs.ValueReading.{past_byte, text_at}
+use Rattle.liquid_evaluation.specs.Tree.{Node, Nodes, no_nodes, Whens}
+use Rattle.liquid_lexer.specs.ValueReading.{past_byte, text_at}
 use Rattle.liquid_syntax.specs.declared.build.Builder.{Builder}
-use Rattle.liquid_source.specs.declared.fault.ParseError.{ParseError}
-use Rattle.liquid_source.specs.declared.fault.ParseError.TheVariants as errors
+use Rattle.liquid_lexer.specs.declared.fault.ParseError.{ParseError}
+use Rattle.liquid_lexer.specs.declared.fault.ParseError.TheVariants as errors
 use Rattle.liquid_language.specs.declared.language.Language.{Language}
-use Rattle.liquid_source.specs.declared.piece.Body.{Body}
-use Rattle.liquid_source.specs.declared.piece.Body.TheVariants as bodies
+use Rattle.liquid_lexer.specs.declared.piece.Body.{Body}
+use Rattle.liquid_lexer.specs.declared.piece.Body.TheVariants as bodies
 use Rattle.liquid_syntax.specs.declared.template.Template.{Template}
-use Rattle.liquid_source.proofs.SourceTurns.{last_turn, no_markup, no_body, no_step, next_turn, turn_shorter}
+use Rattle.liquid_lexer.proofs.SourceTurns.{last_turn, no_markup, no_body, no_step, next_turn, turn_shorter}
 use Rattle.liquid_syntax.proofs.TemplateLaws.{only_tree, no_tree}
 
 pub fails_by : {X Y : Type 0} (e : ParseError) (o : Option X) (p : Option Y) → (o ≡ None → p ≡ None) → Fails e o → Fails e p

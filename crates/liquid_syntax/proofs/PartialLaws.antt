@@ -3,11 +3,11 @@ use Rattle.std.proofs.Common.{◌≡◌, List, [], ◌∷◌, Option, Some, refl
 use Rattle.std.specs.Option.{option_map}
 use Rattle.liquid_core.specs.Expression.{Expression}
 use Rattle.liquid_model.specs.Texts.{Text}
-use Rattle.liquid_source.specs.Items as items
-use Rattle.liquid_source.specs.Tokens.{Token, tokens_of, value, value_first}
-use Rattle.liquid_source.specs.declared.symbol.Symbol.TheVariants.{Colon}
-use Rattle.liquid_source.proofs.WordLaws.{bind_some, map_some, from_some}
-use Rattle.liquid_tree.specs.Tree.{Bindings}
+use Rattle.liquid_lexer.specs.Items as items
+use Rattle.liquid_lexer.specs.Tokens.{Token, tokens_of, value, value_first}
+use Rattle.liquid_lexer.specs.declared.symbol.Symbol.TheVariants.{Colon}
+use Rattle.liquid_lexer.proofs.WordLaws.{bind_some, map_some, from_some}
+use Rattle.liquid_evaluation.specs.Tree.{Bindings}
 use Rattle.liquid_syntax.specs.Bound.{a_pair, pair_first, pairs_of}
 use Rattle.liquid_syntax.specs.PartialItems.{IsInclude, IsJekyllInclude, include_of, included_pairs, jekyll_name, jekyll_of, name_alone, name_and_pairs, spelled_name}
 use Rattle.liquid_syntax.specs.declared.pair_items.PairStyle.TheVariants.{Include, JekyllInclude}

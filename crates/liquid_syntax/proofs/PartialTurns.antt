@@ -5,15 +5,15 @@ use Rattle.std.specs.Option.{option_map}
 use Rattle.liquid_core.specs.Expression.{Expression}
 use Rattle.liquid_core.specs.ExpressionView.{expression_view}
 use Rattle.liquid_model.specs.Texts.{Text}
-use Rattle.liquid_source.specs.Readers.{Fails}
-use Rattle.liquid_source.specs.Tokens.{Token, tokens_view, value_first}
-use Rattle.liquid_source.specs.PieceView.{items_view}
-use Rattle.liquid_source.proofs.Seen.{seen_tokens}
-use Rattle.liquid_source.specs.declared.item.Item.{Item}
-use Rattle.liquid_source.specs.declared.item.Item.TheVariants.{Value, Range, Symbol}
-use Rattle.liquid_source.specs.declared.fault.ParseError.{ParseError}
-use Rattle.liquid_source.specs.declared.fault.ParseError.TheVariants as errors
-use Rattle.liquid_tree.specs.Tree.{Bindings, Node}
+use Rattle.liquid_lexer.specs.Readers.{Fails}
+use Rattle.liquid_lexer.specs.Tokens.{Token, tokens_view, value_first}
+use Rattle.liquid_lexer.specs.PieceView.{items_view}
+use Rattle.liquid_lexer.proofs.Seen.{seen_tokens}
+use Rattle.liquid_lexer.specs.declared.item.Item.{Item}
+use Rattle.liquid_lexer.specs.declared.item.Item.TheVariants.{Value, Range, Symbol}
+use Rattle.liquid_lexer.specs.declared.fault.ParseError.{ParseError}
+use Rattle.liquid_lexer.specs.declared.fault.ParseError.TheVariants as errors
+use Rattle.liquid_evaluation.specs.Tree.{Bindings, Node}
 use Rattle.liquid_syntax.specs.Bound.{pairs_of}
 use Rattle.liquid_syntax.specs.inside.Classifies.{Classifies}
 use Rattle.liquid_syntax.specs.inside.PartialAnswers.{first_spelling}

@@ -9,13 +9,13 @@ use Rattle.liquid_language.specs.Registered.{registered_counts}
 use Rattle.liquid_language.specs.declared.registered_filter.RegisteredFilter.{RegisteredFilter}
 use Rattle.liquid_syntax.specs.ChainReading.{accepted_call, call_with, filters_of, call_of, called_of, arguments_of, further_of, chain_of}
 use Rattle.liquid_syntax.specs.Chains.{Filters, further_arguments, arguments, AreFilters, none, filter, IsChain, IsAssign, called_as}
-use Rattle.liquid_source.specs.Tokens.{Token, value, range, symbol, word, word_of, word_first, past, is_symbol}
+use Rattle.liquid_lexer.specs.Tokens.{Token, value, range, symbol, word, word_of, word_first, past, is_symbol}
 use Rattle.liquid_syntax.specs.Classification.{assign_of}
 use Rattle.liquid_language.specs.Registered.{registered_in}
-use Rattle.liquid_tree.specs.Tree.{FilterCall, Chain, assign}
+use Rattle.liquid_evaluation.specs.Tree.{FilterCall, Chain, assign}
 use Rattle.liquid_language.specs.declared.language.Language.{Language}
-use Rattle.liquid_source.specs.declared.symbol.Symbol.TheVariants.{Equals, NotEquals, LessOrGreater, LessThanEquals, GreaterThanEquals, LessThan, GreaterThan, Assign, Colon, Comma, Bar}
-use Rattle.liquid_source.proofs.WordLaws.{bind_some, map_some, from_some}
+use Rattle.liquid_lexer.specs.declared.symbol.Symbol.TheVariants.{Equals, NotEquals, LessOrGreater, LessThanEquals, GreaterThanEquals, LessThan, GreaterThan, Assign, Colon, Comma, Bar}
+use Rattle.liquid_lexer.proofs.WordLaws.{bind_some, map_some, from_some}
 
 -- ---- options
 

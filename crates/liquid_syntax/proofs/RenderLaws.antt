@@ -3,9 +3,9 @@ use Rattle.std.proofs.Common.{◌≡◌, List, ◌∷◌, codes, Option, Some, N
 use Rattle.std.specs.Option.{option_and_then, option_map}
 use Rattle.liquid_core.specs.Expression.{Expression}
 use Rattle.liquid_model.specs.Texts.{Text}
-use Rattle.liquid_source.specs.Tokens.{Token, value, word, value_first, word_first, past_word}
-use Rattle.liquid_source.proofs.WordLaws.{bind_some, map_some}
-use Rattle.liquid_tree.specs.Tree.{Bindings, Source, each_of, counted}
+use Rattle.liquid_lexer.specs.Tokens.{Token, value, word, value_first, word_first, past_word}
+use Rattle.liquid_lexer.proofs.WordLaws.{bind_some, map_some}
+use Rattle.liquid_evaluation.specs.Tree.{Bindings, Source, each_of, counted}
 use Rattle.liquid_syntax.specs.Bound.{ArePairs, behind_comma, last_comma, no_item, pairs_of, unseparated}
 use Rattle.liquid_syntax.specs.Loops.{or_else, source_first, source_token}
 use Rattle.liquid_syntax.specs.PartialItems.{IsRender, Rendered, each_first, for_each_of, render_of, rendered_each, rendered_of, rendered_once, rendered_with, with_first, with_one, without}

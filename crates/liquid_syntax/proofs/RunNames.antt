@@ -9,7 +9,7 @@ use Rattle.std.specs.Ordering.{nat_cmp}
 use Rattle.std.specs.declared.alloc.Global.{Global}
 use mathlib.Core.Path.{refl, sym, ap, ◌∙◌, fun_ext}
 use Rattle.liquid_model.specs.Texts.{Text}
-use Rattle.liquid_tree.specs.Names.{mentioned, nodes_names, partials_names, run_names}
+use Rattle.liquid_evaluation.specs.Names.{mentioned, nodes_names, partials_names, run_names}
 use Rattle.liquid_language.specs.Entries.{seen}
 use Rattle.liquid_syntax.specs.Slots.{filled, with_held}
 use Rattle.liquid_syntax.specs.inside.Mentions.{held_names, list_names, partials_list_names}

@@ -1,14 +1,14 @@
 -- A piece is read as just what the written grammar says that it is.
 use Rattle.std.proofs.Common.{◌≡◌, List, [], ◌∷◌, Option, Some, None, option_map, refl, sym, ap, subst, ◌∙◌}
 use Rattle.liquid_model.specs.Texts.{Text}
-use Rattle.liquid_source.specs.Pieces as pieces
-use Rattle.liquid_source.specs.Pieces.{Piece}
-use Rattle.liquid_source.specs.Items.{Item}
-use Rattle.liquid_source.specs.Tokens.{Token, tokens_of, word_first, past}
-use Rattle.liquid_source.specs.declared.piece.Body.{Body}
-use Rattle.liquid_source.specs.declared.piece.Body.TheVariants as bodies
-use Rattle.liquid_source.specs.declared.symbol.Symbol.TheVariants.{Assign}
-use Rattle.liquid_source.proofs.WordLaws.{bind_some, map_some}
+use Rattle.liquid_lexer.specs.Pieces as pieces
+use Rattle.liquid_lexer.specs.Pieces.{Piece}
+use Rattle.liquid_lexer.specs.Items.{Item}
+use Rattle.liquid_lexer.specs.Tokens.{Token, tokens_of, word_first, past}
+use Rattle.liquid_lexer.specs.declared.piece.Body.{Body}
+use Rattle.liquid_lexer.specs.declared.piece.Body.TheVariants as bodies
+use Rattle.liquid_lexer.specs.declared.symbol.Symbol.TheVariants.{Assign}
+use Rattle.liquid_lexer.proofs.WordLaws.{bind_some, map_some}
 use Rattle.liquid_syntax.specs.ChainReading.{chain_of}
 use Rattle.liquid_syntax.specs.ConditionReading.{condition_of}
 use Rattle.liquid_syntax.specs.Classification.{leaf_or, assign_of, if_node, unless_node, bare, word_alone, value_alone, one_or, many_or, arm_or, capture_of, case_for, two_or, elsif_or, ends_or, tag_statement, raw_statement, comment_statement, reads}
@@ -19,7 +19,7 @@ use Rattle.liquid_language.specs.Registered.{registered_in}
 use Rattle.liquid_syntax.specs.Cycles.{Cycle, cycle_node, cycle_of, with_group}
 use Rattle.liquid_syntax.specs.Nesting.{of_one, Statement, leaf, closed, begins, elsif, arm, otherwise, ends, refused}
 use Rattle.liquid_language.specs.Roles.{role_of, unread_body}
-use Rattle.liquid_tree.specs.Tree.{Bindings, Node, Chain, Condition, output, assign, capture, case_of, ifchanged, break_loop, continue_loop, increment, decrement}
+use Rattle.liquid_evaluation.specs.Tree.{Bindings, Node, Chain, Condition, output, assign, capture, case_of, ifchanged, break_loop, continue_loop, increment, decrement}
 use Rattle.liquid_language.specs.declared.block.Block.TheVariants.{If, Unless, Capture, Case, IfChanged, For, TableRow}
 use Rattle.liquid_language.specs.declared.block.Control.TheVariants.{Elsif, Else, BareElse, When}
 use Rattle.liquid_language.specs.declared.block.BlockContext.{BlockContext}

@@ -7,20 +7,20 @@ use Rattle.liquid_language.specs.Roles.{role_of, unread_body}
 use Rattle.liquid_language.specs.declared.block.Role.{Role}
 use Rattle.liquid_language.specs.declared.block.Role.TheVariants.{End, Control as Word, Tag, Block as Start}
 use Rattle.liquid_language.specs.declared.language.BlockKind.TheVariants as blocks
-use Rattle.liquid_source.specs.declared.piece.Body.{Body}
-use Rattle.liquid_source.specs.declared.piece.Body.TheVariants as bodies
+use Rattle.liquid_lexer.specs.declared.piece.Body.{Body}
+use Rattle.liquid_lexer.specs.declared.piece.Body.TheVariants as bodies
 use Rattle.liquid_syntax.specs.OpenBlocks.{Level, State, context_of, step, at_end, go, read}
-use Rattle.liquid_source.specs.Pieces.{Piece, text, output, tag, raw, comment}
-use Rattle.liquid_source.specs.SourceReading.{all_steps, source_at, TakesWanted}
+use Rattle.liquid_lexer.specs.Pieces.{Piece, text, output, tag, raw, comment}
+use Rattle.liquid_lexer.specs.SourceReading.{all_steps, source_at, TakesWanted}
 use Rattle.liquid_syntax.specs.Parsing.{IsTemplate, IsOnlyTree, HasNoTree}
 use Rattle.liquid_syntax.specs.inside.TemplateReading.{body_of, piece_step, begun_with, template_at}
-use Rattle.liquid_tree.specs.Tree.{Nodes, no_nodes}
+use Rattle.liquid_evaluation.specs.Tree.{Nodes, no_nodes}
 use Rattle.liquid_language.specs.declared.language.Language.{Language}
 use Rattle.liquid_syntax.specs.Statements.{IsStatement}
 use Rattle.liquid_syntax.proofs.StatementLaws.{statement_says, statement_stands}
 use Rattle.liquid_syntax.proofs.NestingLaws.{tree_takes, tree_again}
-use Rattle.liquid_source.proofs.SourceLaws.{source_takes, source_again}
-use Rattle.liquid_source.proofs.WordLaws.{bind_some, from_some}
+use Rattle.liquid_lexer.proofs.SourceLaws.{source_takes, source_again}
+use Rattle.liquid_lexer.proofs.WordLaws.{bind_some, from_some}
 
 module _ (l : Language) where
   bare_tag : (role : Option Role) (s next : State) → step (tag_statement l [] [] role) s.0 s.1 ≡ Some next → unread_body role ≡ None

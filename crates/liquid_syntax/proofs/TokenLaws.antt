@@ -5,10 +5,10 @@ use Rattle.std.proofs.Common.{length-append}
 use Rattle.std.proofs.lemmas.Option.{cond_some}
 use Rattle.liquid_core.specs.Expression.{Expression}
 use Rattle.liquid_model.specs.Texts.{Text}
-use Rattle.liquid_source.specs.Tokens.{Token, value, range, symbol, word, number_of, is_symbol, past, past_word, is_word, value_first}
-use Rattle.liquid_source.specs.declared.symbol.Symbol.{Symbol}
-use Rattle.liquid_source.specs.declared.symbol.Symbol.TheVariants.{Equals, NotEquals, LessOrGreater, LessThanEquals, GreaterThanEquals, LessThan, GreaterThan, Assign, Colon, Comma, Bar}
-use Rattle.liquid_source.proofs.WordLaws.{from_some}
+use Rattle.liquid_lexer.specs.Tokens.{Token, value, range, symbol, word, number_of, is_symbol, past, past_word, is_word, value_first}
+use Rattle.liquid_lexer.specs.declared.symbol.Symbol.{Symbol}
+use Rattle.liquid_lexer.specs.declared.symbol.Symbol.TheVariants.{Equals, NotEquals, LessOrGreater, LessThanEquals, GreaterThanEquals, LessThan, GreaterThan, Assign, Colon, Comma, Bar}
+use Rattle.liquid_lexer.proofs.WordLaws.{from_some}
 use Rattle.liquid_syntax.proofs.ConditionLaws.{word_is}
 
 -- the symbol at a place

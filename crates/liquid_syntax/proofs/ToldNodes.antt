@@ -1,8 +1,8 @@
 -- The names of nodes, part after part.
 use Rattle.std.proofs.Common.{◌≡◌, List, [], ◌∷◌, length, map, string_bytes, codes, refl}
 use Rattle.liquid_core.specs.ExpressionView.{expression_view}
-use Rattle.liquid_tree.specs.Names.{all_names, bound_names, expression_names, include_name, target_names}
-use Rattle.liquid_tree.proofs.Telling.{IsEach}
+use Rattle.liquid_evaluation.specs.Names.{all_names, bound_names, expression_names, include_name, target_names}
+use Rattle.liquid_evaluation.proofs.Telling.{IsEach}
 use Rattle.liquid_syntax.specs.Flats.{arm_values, bindings_view}
 use Rattle.liquid_syntax.specs.inside.Mentions.{arms_names, held_names, list_names, own_names, partials_list_names}
 use Rattle.liquid_syntax.specs.declared.node.Arm.{Arm}

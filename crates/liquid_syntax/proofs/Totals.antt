@@ -4,7 +4,7 @@ use Rattle.std.specs.List.{AllByRecursion}
 use Rattle.std.proofs.Common.{refl, sym, ap, subst, ◌∙◌}
 use Rattle.std.proofs.lemmas.List.{length-map}
 use Rattle.liquid_core.specs.Expression.{Expression}
-use Rattle.liquid_tree.specs.Tree as tree
+use Rattle.liquid_evaluation.specs.Tree as tree
 use Rattle.liquid_syntax.specs.Forest.{Forest, Bodies, empty, node, no_bodies, body, size, sizes}
 use Rattle.liquid_syntax.specs.Laid.{Flat, laid, laid_bodies, ends_of}
 use Rattle.liquid_syntax.specs.Flats.{Maker, leaf, one_body, two_bodies, case_flat, with_arms, values_in, arm_values, arm_ends, flat_of, flats, nodes_of, bodies_of}

@@ -2,11 +2,11 @@
 use Rattle.std.proofs.Common.{◌≡◌, ℕ, ◌+◌, List, [], ◌∷◌, length, map, string_bytes, Some, None, option_map, refl, ap, subst, ◌∙◌, arith}
 use Rattle.liquid_core.specs.Expression.{Expression}
 use Rattle.liquid_core.specs.ExpressionView.{expression_view}
-use Rattle.liquid_tree.specs.ChainView.{chain_view}
-use Rattle.liquid_tree.specs.ConditionView.{condition_view}
-use Rattle.liquid_tree.specs.Counts.{count_of_node, count_of_nodes, count_of_whens}
-use Rattle.liquid_tree.specs.SourceView.{source_view}
-use Rattle.liquid_tree.specs.Tree as tree
+use Rattle.liquid_evaluation.specs.ChainView.{chain_view}
+use Rattle.liquid_evaluation.specs.ConditionView.{condition_view}
+use Rattle.liquid_evaluation.specs.Counts.{count_of_node, count_of_nodes, count_of_whens}
+use Rattle.liquid_evaluation.specs.SourceView.{source_view}
+use Rattle.liquid_evaluation.specs.Tree as tree
 use Rattle.liquid_syntax.specs.Flats.{arm_values, bindings_view, each_view, flat_of, leaf, window_view}
 use Rattle.liquid_syntax.specs.Templates.{list_of, tree_of}
 use Rattle.liquid_syntax.specs.declared.node.Node.{Node}

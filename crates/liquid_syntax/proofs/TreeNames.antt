@@ -6,11 +6,11 @@ use Rattle.std.proofs.Math.Bool.{or_comm}
 use Rattle.liquid_core.specs.Expression.{Expression}
 use Rattle.liquid_core.specs.ExpressionView.{expression_view}
 use Rattle.liquid_model.specs.Texts.{Text}
-use Rattle.liquid_tree.specs.ChainView.{chain_view}
-use Rattle.liquid_tree.specs.ConditionView.{condition_view}
-use Rattle.liquid_tree.specs.Names.{mentioned, all_names, condition_names, expression_names, node_names, nodes_names, optional_names, source_names, whens_names, window_names}
-use Rattle.liquid_tree.specs.SourceView.{source_view}
-use Rattle.liquid_tree.specs.Tree as tree
+use Rattle.liquid_evaluation.specs.ChainView.{chain_view}
+use Rattle.liquid_evaluation.specs.ConditionView.{condition_view}
+use Rattle.liquid_evaluation.specs.Names.{mentioned, all_names, condition_names, expression_names, node_names, nodes_names, optional_names, source_names, whens_names, window_names}
+use Rattle.liquid_evaluation.specs.SourceView.{source_view}
+use Rattle.liquid_evaluation.specs.Tree as tree
 use Rattle.liquid_syntax.specs.Flats.{arm_values, bindings_view, each_view, flat_of, leaf, window_view}
 use Rattle.liquid_syntax.specs.inside.Mentions.{arms_names, each_names, for_names, head_names, jekyll_names, list_names, own_names, pairs_names, row_names}
 use Rattle.liquid_syntax.specs.Templates.{list_of, tree_of}

@@ -3,10 +3,10 @@ use Rattle.std.specs.Prelude.{◌≡◌, List, [], ◌∷◌, Bool, true, false,
 use Rattle.std.specs.Option.{option_and_then, option_map}
 use Rattle.liquid_core.specs.Expression.{Expression}
 use Rattle.liquid_model.specs.Texts.{Text}
-use Rattle.liquid_source.specs.Tokens.{Token, value, symbol, word, value_first, word_first, past, is_symbol}
-use Rattle.liquid_source.specs.declared.symbol.Symbol.{Symbol}
-use Rattle.liquid_source.specs.declared.symbol.Symbol.TheVariants.{Assign, Colon, Comma}
-use Rattle.liquid_tree.specs.Tree.{Bindings}
+use Rattle.liquid_lexer.specs.Tokens.{Token, value, symbol, word, value_first, word_first, past, is_symbol}
+use Rattle.liquid_lexer.specs.declared.symbol.Symbol.{Symbol}
+use Rattle.liquid_lexer.specs.declared.symbol.Symbol.TheVariants.{Assign, Colon, Comma}
+use Rattle.liquid_evaluation.specs.Tree.{Bindings}
 use Rattle.liquid_syntax.specs.Repeated.{AreRepeated, repeated_of}
 use Rattle.liquid_syntax.specs.declared.pair_items.PairStyle.{PairStyle}
 use Rattle.liquid_syntax.specs.declared.pair_items.PairStyle.TheVariants.{Include, JekyllInclude, Render}

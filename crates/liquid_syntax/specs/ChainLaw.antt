@@ -5,8 +5,8 @@ use Rattle.liquid_syntax.specs.ChainReading.{chain_of}
 use Rattle.liquid_syntax.specs.Chains.{Filters, IsChain, IsAssign}
 use Rattle.liquid_syntax.specs.Classification.{assign_of}
 use Rattle.liquid_language.specs.Registered.{registered_in}
-use Rattle.liquid_source.specs.Tokens.{Token}
-use Rattle.liquid_tree.specs.Tree.{Chain, assign}
+use Rattle.liquid_lexer.specs.Tokens.{Token}
+use Rattle.liquid_evaluation.specs.Tree.{Chain, assign}
 use Rattle.liquid_language.specs.declared.language.Language.{Language}
 
 -- tokens are read as a chain exactly where the grammar says that they are it

@@ -4,14 +4,14 @@ use Rattle.std.specs.Option.{option_and_then, option_map}
 use Rattle.liquid_model.specs.Texts.{Text}
 use Rattle.liquid_model.specs.Maps.{listed}
 use Rattle.liquid_core.specs.Expression.{Expression}
-use Rattle.liquid_tree.specs.Tree.{FilterCall, Chain}
-use Rattle.liquid_source.specs.Tokens.{Token, if_value, word_of, is_symbol}
+use Rattle.liquid_evaluation.specs.Tree.{FilterCall, Chain}
+use Rattle.liquid_lexer.specs.Tokens.{Token, if_value, word_of, is_symbol}
 use Rattle.liquid_syntax.specs.Chains.{Filters, called_as}
 use Rattle.liquid_language.specs.Registered.{registered_counts}
 use Rattle.liquid_language.specs.declared.registered_filter.RegisteredFilter.{RegisteredFilter}
-use Rattle.liquid_source.specs.declared.fault.FaultKind.{FaultKind}
-use Rattle.liquid_source.specs.declared.fault.FaultKind.TheVariants.{UnknownFilter, FilterArguments}
-use Rattle.liquid_source.specs.declared.symbol.Symbol.TheVariants.{Colon, Comma, Bar}
+use Rattle.liquid_lexer.specs.declared.fault.FaultKind.{FaultKind}
+use Rattle.liquid_lexer.specs.declared.fault.FaultKind.TheVariants.{UnknownFilter, FilterArguments}
+use Rattle.liquid_lexer.specs.declared.symbol.Symbol.TheVariants.{Colon, Comma, Bar}
 
 -- arguments, and the filters behind them
 abbrev pub Called : Type 0

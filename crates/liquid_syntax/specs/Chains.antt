@@ -3,12 +3,12 @@ use Rattle.std.specs.Prelude.{◌≡◌, List, [], ◌∷◌, ◌++◌, length, 
 use Rattle.liquid_model.specs.Texts.{Text}
 use Rattle.liquid_model.specs.Maps.{listed}
 use Rattle.liquid_core.specs.Expression.{Expression}
-use Rattle.liquid_tree.specs.Tree.{Filter, FilterCall, Chain, existing, hosted}
-use Rattle.liquid_source.specs.Tokens.{Token, value, symbol, word}
+use Rattle.liquid_evaluation.specs.Tree.{Filter, FilterCall, Chain, existing, hosted}
+use Rattle.liquid_lexer.specs.Tokens.{Token, value, symbol, word}
 use Rattle.liquid_language.specs.Registered.{registered_counts}
 use Rattle.liquid_language.specs.declared.registered_filter.RegisteredFilter.{RegisteredFilter}
 use Rattle.liquid_language.specs.declared.registered_filter.RegisteredFilter.TheVariants.{Kind, Host}
-use Rattle.liquid_source.specs.declared.symbol.Symbol.TheVariants.{Assign, Colon, Comma, Bar}
+use Rattle.liquid_lexer.specs.declared.symbol.Symbol.TheVariants.{Assign, Colon, Comma, Bar}
 
 -- the filters that are registered, by name
 abbrev pub Filters : Type 0

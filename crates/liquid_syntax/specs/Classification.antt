@@ -1,12 +1,12 @@
 -- What a piece is, where it stands, by the names that a language has and by its items.
 use Rattle.std.specs.Prelude.{List, [], ◌∷◌, Bool, true, false, Option, Some, None, option_and_then, option_map}
 use Rattle.liquid_model.specs.Texts.{Text}
-use Rattle.liquid_source.specs.Items.{Item}
-use Rattle.liquid_source.specs.Pieces as pieces
-use Rattle.liquid_source.specs.Tokens.{Token, tokens_of, word_first, value_first, past}
-use Rattle.liquid_source.specs.declared.piece.Body.{Body}
-use Rattle.liquid_source.specs.declared.piece.Body.TheVariants as bodies
-use Rattle.liquid_source.specs.declared.symbol.Symbol.TheVariants as symbols
+use Rattle.liquid_lexer.specs.Items.{Item}
+use Rattle.liquid_lexer.specs.Pieces as pieces
+use Rattle.liquid_lexer.specs.Tokens.{Token, tokens_of, word_first, value_first, past}
+use Rattle.liquid_lexer.specs.declared.piece.Body.{Body}
+use Rattle.liquid_lexer.specs.declared.piece.Body.TheVariants as bodies
+use Rattle.liquid_lexer.specs.declared.symbol.Symbol.TheVariants as symbols
 use Rattle.liquid_syntax.specs.ChainReading.{chain_of}
 use Rattle.liquid_syntax.specs.ConditionReading.{condition_of}
 use Rattle.liquid_syntax.specs.Loops.{for_node, loop_of, row_node}
@@ -14,9 +14,9 @@ use Rattle.liquid_syntax.specs.PartialItems.{include_node, include_of, jekyll_no
 use Rattle.liquid_language.specs.Registered.{registered_in}
 use Rattle.liquid_syntax.specs.Nesting.{of_one, of_two, of_many, Statement, leaf, closed, begins, elsif, arm, otherwise, ends, refused}
 use Rattle.liquid_language.specs.Roles.{role_of, unread_body}
-use Rattle.liquid_tree.specs.Tree.{Condition, Node, Nodes, plain, raw, comment, output, assign, if_true, unless, capture, case_of, ifchanged, break_loop, continue_loop, increment, decrement}
+use Rattle.liquid_evaluation.specs.Tree.{Condition, Node, Nodes, plain, raw, comment, output, assign, if_true, unless, capture, case_of, ifchanged, break_loop, continue_loop, increment, decrement}
 use Rattle.liquid_core.specs.Expression.{Expression}
-use Rattle.liquid_tree.specs.Tree.{Whens}
+use Rattle.liquid_evaluation.specs.Tree.{Whens}
 use Rattle.liquid_syntax.specs.Cycles.{cycle_node, grouped_of}
 use Rattle.liquid_syntax.specs.ValueLists.{values_of}
 use Rattle.liquid_syntax.specs.declared.value_items.Separators.TheVariants.{CommasOr}

@@ -2,8 +2,8 @@
 use Rattle.std.specs.Prelude.{◌≡◌, ◌↔◌, List, Some}
 use Rattle.liquid_syntax.specs.ConditionReading.{condition_of}
 use Rattle.liquid_syntax.specs.Conditions.{IsCondition}
-use Rattle.liquid_source.specs.Tokens.{Token}
-use Rattle.liquid_tree.specs.Tree.{Condition}
+use Rattle.liquid_lexer.specs.Tokens.{Token}
+use Rattle.liquid_evaluation.specs.Tree.{Condition}
 
 -- tokens are read as a condition exactly where the grammar says that they are it
 abbrev pub ReadsConditions : Type 0

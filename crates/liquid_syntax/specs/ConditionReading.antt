@@ -2,12 +2,12 @@
 use Rattle.std.specs.Prelude.{List, [], ◌∷◌, codes, cond, Option, Some, None}
 use Rattle.std.specs.Option.{option_map}
 use Rattle.liquid_core.specs.Expression.{Expression}
-use Rattle.liquid_source.specs.Tokens.{Token, value, range, symbol, if_value, is_word}
-use Rattle.liquid_tree.specs.Tree.{Atom, bare, compared, Condition}
-use Rattle.liquid_tree.specs.declared.comparison.ComparisonOperator.{ComparisonOperator}
-use Rattle.liquid_tree.specs.declared.comparison.ComparisonOperator.TheVariants as operators
-use Rattle.liquid_source.specs.declared.symbol.Symbol.{Symbol}
-use Rattle.liquid_source.specs.declared.symbol.Symbol.TheVariants as symbols
+use Rattle.liquid_lexer.specs.Tokens.{Token, value, range, symbol, if_value, is_word}
+use Rattle.liquid_evaluation.specs.Tree.{Atom, bare, compared, Condition}
+use Rattle.liquid_evaluation.specs.declared.comparison.ComparisonOperator.{ComparisonOperator}
+use Rattle.liquid_evaluation.specs.declared.comparison.ComparisonOperator.TheVariants as operators
+use Rattle.liquid_lexer.specs.declared.symbol.Symbol.{Symbol}
+use Rattle.liquid_lexer.specs.declared.symbol.Symbol.TheVariants as symbols
 
 -- the operator that a symbol is
 abbrev pub symbol_operator : Symbol → Option ComparisonOperator

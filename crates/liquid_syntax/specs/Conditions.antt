@@ -1,11 +1,11 @@
 -- The written grammar of conditions: which tokens a condition is.
 use Rattle.std.specs.Prelude.{List, [], ◌∷◌, ◌++◌, codes}
 use Rattle.liquid_core.specs.Expression.{Expression}
-use Rattle.liquid_source.specs.Tokens.{Token, value, symbol, word}
-use Rattle.liquid_tree.specs.Tree.{Atom, bare, compared, Condition}
-use Rattle.liquid_tree.specs.declared.comparison.ComparisonOperator.{ComparisonOperator}
-use Rattle.liquid_tree.specs.declared.comparison.ComparisonOperator.TheVariants as operators
-use Rattle.liquid_source.specs.declared.symbol.Symbol.TheVariants as symbols
+use Rattle.liquid_lexer.specs.Tokens.{Token, value, symbol, word}
+use Rattle.liquid_evaluation.specs.Tree.{Atom, bare, compared, Condition}
+use Rattle.liquid_evaluation.specs.declared.comparison.ComparisonOperator.{ComparisonOperator}
+use Rattle.liquid_evaluation.specs.declared.comparison.ComparisonOperator.TheVariants as operators
+use Rattle.liquid_lexer.specs.declared.symbol.Symbol.TheVariants as symbols
 
 -- the words of conditions
 abbrev pub and_word : Token

@@ -7,10 +7,10 @@ use Rattle.liquid_core.specs.ExpressionView.{expression_view}
 use Rattle.liquid_core.specs.declared.expression.Expression as code
 use Rattle.liquid_model.specs.Data.{Datum}
 use Rattle.liquid_model.specs.Texts.{Text}
-use Rattle.liquid_source.specs.Tokens.{Token, value, symbol, value_first, past}
-use Rattle.liquid_source.specs.declared.symbol.Symbol.TheVariants.{Colon}
-use Rattle.liquid_tree.specs.Groups.{group_of}
-use Rattle.liquid_tree.specs.Tree.{Node, cycle}
+use Rattle.liquid_lexer.specs.Tokens.{Token, value, symbol, value_first, past}
+use Rattle.liquid_lexer.specs.declared.symbol.Symbol.TheVariants.{Colon}
+use Rattle.liquid_evaluation.specs.Groups.{group_of}
+use Rattle.liquid_evaluation.specs.Tree.{Node, cycle}
 use Rattle.liquid_syntax.specs.ValueLists.{AreValues, further_of, values_of}
 use Rattle.liquid_syntax.specs.declared.value_items.Separators.TheVariants.{Commas}
 

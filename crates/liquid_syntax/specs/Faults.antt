@@ -1,8 +1,8 @@
 -- What a fault of a piece says: where it stands, and of which kind it is. Want of memory is no fault of a piece.
 use Rattle.std.specs.Prelude.{◌≡◌, ℕ, Result, Ok, Err}
-use Rattle.liquid_source.specs.declared.fault.FaultKind.{FaultKind}
-use Rattle.liquid_source.specs.declared.fault.ParseError.{ParseError}
-use Rattle.liquid_source.specs.declared.fault.ParseError.TheVariants as errors
+use Rattle.liquid_lexer.specs.declared.fault.FaultKind.{FaultKind}
+use Rattle.liquid_lexer.specs.declared.fault.ParseError.{ParseError}
+use Rattle.liquid_lexer.specs.declared.fault.ParseError.TheVariants as errors
 
 -- a fault stands at the place with so many bytes of the source left
 abbrev pub FaultsAt : {X : Type 0} → ℕ → Result X ParseError → Type 0

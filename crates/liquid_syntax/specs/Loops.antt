@@ -4,10 +4,10 @@ use Rattle.std.specs.Option.{option_and_then, option_map}
 use Rattle.liquid_core.specs.Expression.{Expression}
 use Rattle.liquid_core.specs.ExpressionView.{expression_view}
 use Rattle.liquid_model.specs.Texts.{Text}
-use Rattle.liquid_source.specs.Tokens.{Token, value, range, symbol, word, value_first, word_first, past, past_word}
-use Rattle.liquid_source.specs.declared.symbol.Symbol.TheVariants.{Colon}
-use Rattle.liquid_tree.specs.SourceView.{source_view}
-use Rattle.liquid_tree.specs.Tree.{Source, each_of, counted, Window, Nodes, Node, for_each, tablerow}
+use Rattle.liquid_lexer.specs.Tokens.{Token, value, range, symbol, word, value_first, word_first, past, past_word}
+use Rattle.liquid_lexer.specs.declared.symbol.Symbol.TheVariants.{Colon}
+use Rattle.liquid_evaluation.specs.SourceView.{source_view}
+use Rattle.liquid_evaluation.specs.Tree.{Source, each_of, counted, Window, Nodes, Node, for_each, tablerow}
 use Rattle.liquid_syntax.specs.Repeated.{AreRepeated, repeated_of}
 use Rattle.liquid_syntax.specs.declared.loop_items.LoopKind.{LoopKind}
 use Rattle.liquid_syntax.specs.declared.loop_items.LoopKind.TheVariants.{Each, Rows}

@@ -5,7 +5,7 @@ use Rattle.std.specs.BTreeSet.{BTreeSet, contains_text}
 use Rattle.std.specs.declared.alloc.Global.{Global}
 use Rattle.liquid_core.specs.Environment.{Names}
 use Rattle.liquid_model.specs.Texts.{Text}
-use Rattle.liquid_tree.specs.Names.{mentioned}
+use Rattle.liquid_evaluation.specs.Names.{mentioned}
 
 -- whether a set has a name
 unfoldable pub held : BTreeSet (String Global) → Names

@@ -1,7 +1,7 @@
 -- The written grammar of blocks: which nodes a list of pieces is. What a single piece is, where it stands, is told by `Is`.
 use Rattle.std.specs.Prelude.{ℕ, suc, List, ◌∷◌}
 use Rattle.liquid_core.specs.Expression.{Expression}
-use Rattle.liquid_tree.specs.Tree.{Node, Nodes, no_nodes, node, Whens, no_whens, when}
+use Rattle.liquid_evaluation.specs.Tree.{Node, Nodes, no_nodes, node, Whens, no_whens, when}
 use Rattle.liquid_language.specs.declared.block.Block.{Block}
 use Rattle.liquid_language.specs.declared.block.BlockContext.{BlockContext}
 use Rattle.liquid_language.specs.declared.block.BlockContext.TheVariants.{InBody, InLast}

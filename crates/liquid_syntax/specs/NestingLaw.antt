@@ -1,6 +1,6 @@
 -- Laws of the grammar of blocks.
 use Rattle.std.specs.Prelude.{◌≡◌, ◌↔◌, ℕ, List, [], Some}
-use Rattle.liquid_tree.specs.Tree.{Nodes, no_nodes}
+use Rattle.liquid_evaluation.specs.Tree.{Nodes, no_nodes}
 use Rattle.liquid_syntax.specs.Nesting.{Statement, AreNodes}
 use Rattle.liquid_syntax.specs.OpenBlocks.{read}
 use Rattle.liquid_language.specs.declared.block.BlockContext.{BlockContext}

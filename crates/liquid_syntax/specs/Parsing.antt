@@ -8,14 +8,14 @@ use Rattle.liquid_model.specs.declared.error.Error.{Error}
 use Rattle.liquid_model.specs.declared.error.ErrorKind.{ErrorKind}
 use Rattle.liquid_syntax.specs.Statements.{IsStatement}
 use Rattle.liquid_syntax.specs.Nesting.{AreNodes}
-use Rattle.liquid_source.specs.Pieces.{Piece, IsSource}
+use Rattle.liquid_lexer.specs.Pieces.{Piece, IsSource}
 use Rattle.liquid_syntax.specs.Templates.{tree_of}
-use Rattle.liquid_tree.specs.Tree.{Nodes}
+use Rattle.liquid_evaluation.specs.Tree.{Nodes}
 use Rattle.liquid_language.specs.declared.block.BlockContext.TheVariants.{Outside}
 use Rattle.liquid_language.specs.declared.language.Language.{Language}
 use Rattle.liquid_syntax.specs.declared.template.Template.{Template}
-use Rattle.liquid_source.specs.declared.fault.ParseError.{ParseError}
-use Rattle.liquid_source.specs.declared.fault.ParseError.TheVariants as errors
+use Rattle.liquid_lexer.specs.declared.fault.ParseError.{ParseError}
+use Rattle.liquid_lexer.specs.declared.fault.ParseError.TheVariants as errors
 
 -- The source is pieces, and they are the nodes, of which blocks nest at most 200 deep.
 unfoldable pub IsTemplate : Language → Nodes → Text → Type 0

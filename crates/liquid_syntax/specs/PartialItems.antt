@@ -4,10 +4,10 @@ use Rattle.std.specs.Option.{option_and_then, option_map}
 use Rattle.liquid_core.specs.Expression.{Expression, literal, variable}
 use Rattle.liquid_model.specs.Data.{Datum, text}
 use Rattle.liquid_model.specs.Texts.{Text}
-use Rattle.liquid_source.specs.Items as items
-use Rattle.liquid_source.specs.Tokens.{Token, tokens_of, value, word, value_first, word_first, past_word}
-use Rattle.liquid_source.specs.declared.symbol.Symbol.TheVariants.{Colon}
-use Rattle.liquid_tree.specs.Tree.{Bindings, Node, Source, include, jekyll_include, render}
+use Rattle.liquid_lexer.specs.Items as items
+use Rattle.liquid_lexer.specs.Tokens.{Token, tokens_of, value, word, value_first, word_first, past_word}
+use Rattle.liquid_lexer.specs.declared.symbol.Symbol.TheVariants.{Colon}
+use Rattle.liquid_evaluation.specs.Tree.{Bindings, Node, Source, include, jekyll_include, render}
 use Rattle.liquid_syntax.specs.Bound.{IsPair, ArePairs, pair_first, pairs_of}
 use Rattle.liquid_syntax.specs.Loops.{or_else, source_first, source_token}
 use Rattle.liquid_syntax.specs.declared.pair_items.PairStyle.TheVariants.{Include, JekyllInclude, Render}

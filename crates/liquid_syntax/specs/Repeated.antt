@@ -1,7 +1,7 @@
 -- What may stand any number of times, one after another, up to the end of a tag's items.
 use Rattle.std.specs.Prelude.{ℕ, zero, suc, List, [], ◌∷◌, ◌++◌, length, Bool, cond, Option, Some, None}
 use Rattle.std.specs.Option.{option_and_then, option_map}
-use Rattle.liquid_source.specs.Tokens.{Token}
+use Rattle.liquid_lexer.specs.Tokens.{Token}
 
 -- the tokens are these, one after another, and an end behind them
 module _ {A : Type 0} (One : A → List Token → Type 0) (End : List Token → Type 0) where

@@ -1,8 +1,8 @@
 -- The laws of items that may stand any number of times.
 use Rattle.std.specs.Prelude.{◌≡◌, ◌↔◌, List, Some}
 use Rattle.liquid_core.specs.Expression.{Expression}
-use Rattle.liquid_source.specs.Tokens.{Token}
-use Rattle.liquid_tree.specs.Tree.{Bindings}
+use Rattle.liquid_lexer.specs.Tokens.{Token}
+use Rattle.liquid_evaluation.specs.Tree.{Bindings}
 use Rattle.liquid_syntax.specs.Bound.{ArePairs, pairs_of}
 use Rattle.liquid_syntax.specs.Loops.{Head, IsLoop, loop_of}
 use Rattle.liquid_syntax.specs.ValueLists.{AreValues, values_of}

@@ -1,6 +1,6 @@
 -- The law of single pieces.
 use Rattle.std.specs.Prelude.{◌≡◌, ◌↔◌}
-use Rattle.liquid_source.specs.Pieces.{Piece}
+use Rattle.liquid_lexer.specs.Pieces.{Piece}
 use Rattle.liquid_syntax.specs.Classification.{reads}
 use Rattle.liquid_syntax.specs.Statements.{IsStatement}
 use Rattle.liquid_syntax.specs.Nesting.{Statement, refused}

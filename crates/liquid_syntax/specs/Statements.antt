@@ -1,10 +1,10 @@
 -- The written grammar of a single piece: what it is, where it stands.
 use Rattle.std.specs.Prelude.{◌≡◌, List, [], ◌∷◌, Option, Some}
 use Rattle.liquid_model.specs.Texts.{Text}
-use Rattle.liquid_source.specs.Items.{Item}
-use Rattle.liquid_source.specs.Pieces as pieces
-use Rattle.liquid_source.specs.Tokens.{tokens_of, value, word}
-use Rattle.liquid_source.specs.declared.piece.Body.TheVariants.{Raw, Comment}
+use Rattle.liquid_lexer.specs.Items.{Item}
+use Rattle.liquid_lexer.specs.Pieces as pieces
+use Rattle.liquid_lexer.specs.Tokens.{tokens_of, value, word}
+use Rattle.liquid_lexer.specs.declared.piece.Body.TheVariants.{Raw, Comment}
 use Rattle.liquid_syntax.specs.Chains.{IsChain, IsAssign}
 use Rattle.liquid_syntax.specs.Conditions.{IsCondition}
 use Rattle.liquid_syntax.specs.Cycles.{IsCycle}
@@ -13,8 +13,8 @@ use Rattle.liquid_language.specs.Registered.{registered_in}
 use Rattle.liquid_syntax.specs.Nesting.{of_one, of_two, of_many, Statement, leaf, closed, begins, elsif, arm, otherwise, ends}
 use Rattle.liquid_syntax.specs.PartialItems.{IsInclude, IsJekyllInclude, IsRender}
 use Rattle.liquid_language.specs.Roles.{role_of, unread_body}
-use Rattle.liquid_tree.specs.Tree.{Bindings, Chain, Condition, Source, plain, raw, comment, output, assign, if_true, unless, capture, case_of, ifchanged, break_loop, continue_loop, increment, decrement, cycle, include, jekyll_include, render}
-use Rattle.liquid_tree.specs.Groups.{group_of}
+use Rattle.liquid_evaluation.specs.Tree.{Bindings, Chain, Condition, Source, plain, raw, comment, output, assign, if_true, unless, capture, case_of, ifchanged, break_loop, continue_loop, increment, decrement, cycle, include, jekyll_include, render}
+use Rattle.liquid_evaluation.specs.Groups.{group_of}
 use Rattle.liquid_core.specs.Expression.{Expression}
 use Rattle.liquid_syntax.specs.ValueLists.{AreValues}
 use Rattle.liquid_syntax.specs.declared.value_items.Separators.TheVariants.{CommasOr}

@@ -1,12 +1,12 @@
 -- Laws of whole sources.
 use Rattle.std.specs.Prelude.{◌≡◌, [], ◌∷◌, ◌++◌}
 use Rattle.liquid_model.specs.Texts.{Text}
-use Rattle.liquid_source.specs.Bytes.{open_brace}
-use Rattle.liquid_source.specs.Openers.{opener}
-use Rattle.liquid_source.specs.declared.item.Delimiter.{Delimiter}
+use Rattle.liquid_lexer.specs.Bytes.{open_brace}
+use Rattle.liquid_lexer.specs.Openers.{opener}
+use Rattle.liquid_lexer.specs.declared.item.Delimiter.{Delimiter}
 use Rattle.liquid_syntax.specs.Parsing.{IsTemplate}
 use Rattle.liquid_language.specs.declared.language.Language.{Language}
-use Rattle.liquid_tree.specs.Tree.{Nodes, no_nodes, node, plain}
+use Rattle.liquid_evaluation.specs.Tree.{Nodes, no_nodes, node, plain}
 
 -- `{{` and `{%` stand nowhere in the text
 abbrev pub HasNoOpener : Text → Type 0

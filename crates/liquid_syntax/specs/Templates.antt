@@ -7,8 +7,8 @@ use Rattle.std.specs.declared.alloc.Global.{Global}
 use Rattle.liquid_model.specs.Texts.{Text}
 use Rattle.liquid_language.specs.Entries.{seen}
 use Rattle.liquid_syntax.specs.Slots.{filled}
-use Rattle.liquid_tree.specs.Counts.{count_of_nodes}
-use Rattle.liquid_tree.specs.Tree as tree
+use Rattle.liquid_evaluation.specs.Counts.{count_of_nodes}
+use Rattle.liquid_evaluation.specs.Tree as tree
 use Rattle.liquid_syntax.specs.Forest.{Forest}
 use Rattle.liquid_syntax.specs.Laid as laid
 use Rattle.liquid_syntax.specs.Flats.{Maker, flats, nodes_of}

@@ -2,8 +2,8 @@
 use Rattle.std.specs.Prelude.{List, [], ◌∷◌, Bool, true, false, cond, Option, Some, None}
 use Rattle.std.specs.Option.{option_and_then, option_map}
 use Rattle.liquid_core.specs.Expression.{Expression}
-use Rattle.liquid_source.specs.Tokens.{Token, value, symbol, value_first, is_symbol, is_word}
-use Rattle.liquid_source.specs.declared.symbol.Symbol.TheVariants.{Comma}
+use Rattle.liquid_lexer.specs.Tokens.{Token, value, symbol, value_first, is_symbol, is_word}
+use Rattle.liquid_lexer.specs.declared.symbol.Symbol.TheVariants.{Comma}
 use Rattle.liquid_syntax.specs.Conditions.{or_word}
 use Rattle.liquid_syntax.specs.Repeated.{AreRepeated, repeated_of}
 use Rattle.std.specs.Prelude.{codes}

@@ -7,7 +7,7 @@ ghost use Rattle.liquid_core.specs.ExpressionView.{expression_view};
 
 use crate::node::{Arm, Node};
 use liquid_core::Expression;
-use liquid_source::ParseError;
+use liquid_lexer::ParseError;
 
 /// Writes where the body before the last ends.
 pub(crate) fn end_before_last(node: &mut Node, end: usize)

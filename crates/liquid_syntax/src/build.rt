@@ -6,7 +6,7 @@ ghost use Rattle.liquid_syntax.specs.Faults.{FaultsAt};
 ghost use Rattle.liquid_syntax.specs.Flats.{flat_of, flats};
 ghost use Rattle.liquid_core.specs.ExpressionView.{expression_view};
 ghost use Rattle.liquid_syntax.specs.OpenBlocks.{Level, at_end, close, step, to_begin, to_closed, to_else, to_elsif, to_when, with_node};
-ghost use Rattle.liquid_tree.specs.Tree.{Nodes, no_nodes};
+ghost use Rattle.liquid_evaluation.specs.Tree.{Nodes, no_nodes};
 ghost use Rattle.liquid_syntax.specs.declared.build.Stage.TheVariants as stages;
 
 use crate::body_ends::{add_arm, end_before_last, end_last};
@@ -16,7 +16,7 @@ use crate::positions::Position;
 use crate::template::Template;
 use liquid_core::Expression;
 use liquid_language::{Block, BlockContext};
-use liquid_source::ParseError;
+use liquid_lexer::ParseError;
 use std::alloc::Global;
 
 /// Which body of a block is being read.

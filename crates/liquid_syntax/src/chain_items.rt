@@ -6,17 +6,17 @@ ghost use Rattle.liquid_syntax.specs.inside.Called.{Calls, TakesFilter};
 ghost use Rattle.liquid_syntax.specs.ChainReading.{accepted_call, call_fault, filters_of, chain_of};
 ghost use Rattle.liquid_syntax.specs.Chains.{Filters};
 ghost use Rattle.liquid_syntax.specs.Faults.{FaultsAs, FaultsAt};
-ghost use Rattle.liquid_tree.specs.ChainView.{chain_view, chain_filter_view};
+ghost use Rattle.liquid_evaluation.specs.ChainView.{chain_view, chain_filter_view};
 ghost use Rattle.liquid_language.specs.Registered.{registered_in};
-ghost use Rattle.liquid_source.specs.Readers.{Parses, IsOfKind, IsAt};
-ghost use Rattle.liquid_source.specs.Tokens.{tokens_view};
+ghost use Rattle.liquid_lexer.specs.Readers.{Parses, IsOfKind, IsAt};
+ghost use Rattle.liquid_lexer.specs.Tokens.{tokens_view};
 
 use liquid_core::Expression;
+use liquid_evaluation::{ChainFilter, FilterChain, StoredFilter};
 use liquid_language::{FilterRegistry, RegisteredFilter};
-use liquid_source::{
+use liquid_lexer::{
     Fault, FaultKind, Item, ParseError, Symbol, is_over, next_value, next_word, skip,
 };
-use liquid_tree::{ChainFilter, FilterChain, StoredFilter};
 use std::alloc::Global;
 use std::collections::VecDeque;
 

@@ -1,8 +1,8 @@
 //! What a piece is, where it stands: the statement of an output or a tag, by the language and by its items.
 ghost use Rattle.std.specs.Prelude.{◌≡◌, length};
-ghost use Rattle.liquid_source.specs.PieceView.{items_view, piece_view};
-ghost use Rattle.liquid_source.specs.Readers.{IsAt, IsOfKind};
-ghost use Rattle.liquid_source.specs.Tokens.{tokens_view};
+ghost use Rattle.liquid_lexer.specs.PieceView.{items_view, piece_view};
+ghost use Rattle.liquid_lexer.specs.Readers.{IsAt, IsOfKind};
+ghost use Rattle.liquid_lexer.specs.Tokens.{tokens_view};
 ghost use Rattle.liquid_syntax.specs.Faults.{FaultsAs, FaultsAt};
 ghost use Rattle.liquid_syntax.specs.inside.Classifies.{Classifies};
 ghost use Rattle.liquid_syntax.specs.Classification.{comment_statement, ends_or, opens, raw_statement, reads, tag_statement};
@@ -18,7 +18,7 @@ use crate::node::Node;
 use blocks::{read_block, read_control};
 use leaves::read_leaf;
 use liquid_language::{BlockContext, Language, Role, role_of, unread_body};
-use liquid_source::{Body, Fault, FaultKind, Item, ParseError, Piece};
+use liquid_lexer::{Body, Fault, FaultKind, Item, ParseError, Piece};
 use std::alloc::Global;
 use std::collections::VecDeque;
 
@@ -35,7 +35,7 @@ pub fn opens(language: &Language, context: BlockContext, piece: &Piece<'_>) -> b
 }
 
 /// The statement that a piece is in its context. `at` is the source from the piece on.
-#[tactic(auto, using(liquid_source::proofs::Seen::seen_tokens))]
+#[tactic(auto, using(liquid_lexer::proofs::Seen::seen_tokens))]
 pub fn classify(
     alloc: Global,
     language: &Language,

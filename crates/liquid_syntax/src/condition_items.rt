@@ -2,15 +2,15 @@
 ghost use Rattle.std.specs.Prelude.{◌≡◌, ◌≤◌, length};
 ghost use Rattle.liquid_syntax.specs.inside.ConditionAnswers.{TakesOperator, TakesAtom, TakesConjunction};
 ghost use Rattle.liquid_syntax.specs.ConditionReading.{symbol_operator, operator_of, condition_of};
-ghost use Rattle.liquid_tree.specs.ConditionView.{condition_view};
+ghost use Rattle.liquid_evaluation.specs.ConditionView.{condition_view};
 ghost use Rattle.liquid_syntax.specs.Faults.{FaultsAs, FaultsAt};
-ghost use Rattle.liquid_source.specs.PieceView.{item_view};
-ghost use Rattle.liquid_source.specs.Readers.{Parses};
-ghost use Rattle.liquid_source.specs.Tokens.{tokens_view, token_of};
+ghost use Rattle.liquid_lexer.specs.PieceView.{item_view};
+ghost use Rattle.liquid_lexer.specs.Readers.{Parses};
+ghost use Rattle.liquid_lexer.specs.Tokens.{tokens_view, token_of};
 
 use crate::chain_items::{expected, expected_before};
-use liquid_source::{FaultKind, Item, ParseError, Symbol, is_over, is_word, next_value, skip_word};
-use liquid_tree::{Atom, ComparisonOperator, Condition};
+use liquid_evaluation::{Atom, ComparisonOperator, Condition};
+use liquid_lexer::{FaultKind, Item, ParseError, Symbol, is_over, is_word, next_value, skip_word};
 use std::alloc::Global;
 use std::collections::VecDeque;
 

@@ -2,8 +2,8 @@
 ghost use Rattle.std.specs.Prelude.{◌≡◌, length, map};
 ghost use Rattle.std.specs.Option.{option_map};
 ghost use Rattle.liquid_core.specs.ExpressionView.{expression_view};
-ghost use Rattle.liquid_source.specs.Readers.{Parses};
-ghost use Rattle.liquid_source.specs.Tokens.{tokens_view};
+ghost use Rattle.liquid_lexer.specs.Readers.{Parses};
+ghost use Rattle.liquid_lexer.specs.Tokens.{tokens_view};
 ghost use Rattle.liquid_syntax.specs.Cycles.{any_values_of, grouped_of, grouped_view, is_name, named_of, with_group};
 ghost use Rattle.liquid_syntax.specs.Faults.{FaultsAs, FaultsAt};
 
@@ -11,7 +11,7 @@ use crate::chain_items::{expected, expected_before};
 use crate::group::{named_group, values_group};
 use crate::value_items::{Separators, read_further, read_values};
 use liquid_core::Expression;
-use liquid_source::{FaultKind, Item, ParseError, Symbol, next_value, skip};
+use liquid_lexer::{FaultKind, Item, ParseError, Symbol, next_value, skip};
 use std::alloc::Global;
 use std::collections::VecDeque;
 

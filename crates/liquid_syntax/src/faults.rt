@@ -1,10 +1,10 @@
 //! The faults of blocks: of an end that isn't one, of one that is missing, and of blocks that nest too deep.
 ghost use Rattle.std.specs.Prelude.{◌≡◌};
-ghost use Rattle.liquid_source.specs.Readers.{IsAt, IsOfKind};
+ghost use Rattle.liquid_lexer.specs.Readers.{IsAt, IsOfKind};
 ghost use Rattle.liquid_language.specs.Controls.{end_word};
 
 use liquid_language::{Block, end_tag};
-use liquid_source::{Fault, FaultKind, ParseError};
+use liquid_lexer::{Fault, FaultKind, ParseError};
 
 /// The fault of an end, an `else` or an `elsif` that stands where no body is to end; so many bytes of the source are left
 /// from it on.

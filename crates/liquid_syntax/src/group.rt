@@ -2,7 +2,7 @@
 ghost use Rattle.std.specs.Prelude.{◌≡◌, ◌++◌, IfOk, OnOk, Some, codes, map, string_bytes};
 ghost use Rattle.liquid_core.specs.ExpressionView.{expression_view};
 ghost use Rattle.liquid_core.specs.Written.{written_form};
-ghost use Rattle.liquid_tree.specs.Groups.{group_of, name_text, values_group};
+ghost use Rattle.liquid_evaluation.specs.Groups.{group_of, name_text, values_group};
 
 use liquid_core::Expression;
 use std::alloc::{AllocError, Global};

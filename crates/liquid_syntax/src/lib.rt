@@ -26,17 +26,17 @@ mod visit_nodes;
 pub use laws::{
     chain_laws, condition_law, item_list_laws, nesting_laws, statement_law, template_laws,
 };
+pub use liquid_evaluation::{
+    AnyFilter, Atom, ChainFilter, ComparisonOperator, Condition, FilterCall, FilterChain, Range,
+    RangeExpression, StoredFilter, Window, apply_filters, evaluate_amount,
+};
 pub use liquid_language::{
     Block, BlockContext, BlockKind, Control, FilterRegistry, Language, RegisteredFilter, Registry,
     TagKind,
 };
-pub use liquid_source::{
+pub use liquid_lexer::{
     Body, Delimiter, Fault, FaultKind, Item, Mark, Markup, ParseError, Piece, Symbol, item_laws,
     source_laws, value_laws, verbatim_laws,
-};
-pub use liquid_tree::{
-    AnyFilter, Atom, ChainFilter, ComparisonOperator, Condition, FilterCall, FilterChain, Range,
-    RangeExpression, StoredFilter, Window, apply_filters, evaluate_amount,
 };
 pub use loop_items::{Loop, LoopKind, LoopPart, read_loop};
 pub use loop_nodes::{Each, For, TableRow, WindowExpression};

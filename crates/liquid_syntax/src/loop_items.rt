@@ -1,20 +1,20 @@
 //! The items of `for` and `tablerow`, read from those of a piece.
 ghost use Rattle.std.specs.Prelude.{◌≡◌, ◌<◌, ◌≤◌, IfSome, length, option_map};
-ghost use Rattle.liquid_source.specs.Readers.{Parses};
-ghost use Rattle.liquid_source.specs.Tokens.{tokens_view};
+ghost use Rattle.liquid_lexer.specs.Readers.{Parses};
+ghost use Rattle.liquid_lexer.specs.Tokens.{tokens_view};
 ghost use Rattle.liquid_syntax.specs.Faults.{FaultsAs, FaultsAt};
 ghost use Rattle.liquid_core.specs.Expression.{Expression as Meant};
 ghost use Rattle.liquid_core.specs.ExpressionView.{expression_view};
 ghost use Rattle.liquid_syntax.specs.Loops.{head_view, loop_of, own_part, part_first, part_value, part_view, parts_in, settled_of, source_first, with_part, Part};
-ghost use Rattle.liquid_tree.specs.SourceView.{source_view};
+ghost use Rattle.liquid_evaluation.specs.SourceView.{source_view};
 
 use crate::chain_items::expected_before;
 use crate::loop_nodes::WindowExpression;
 use liquid_core::Expression;
-use liquid_source::{
+use liquid_evaluation::RangeExpression;
+use liquid_lexer::{
     FaultKind, Item, ParseError, Symbol, is_over, next_value, next_word, skip, skip_word,
 };
-use liquid_tree::RangeExpression;
 use std::collections::VecDeque;
 
 /// Which parts may stand behind a loop's source.

@@ -1,7 +1,7 @@
 //! What a node of a loop says besides its bodies.
 
 use liquid_core::Expression;
-use liquid_tree::RangeExpression;
+use liquid_evaluation::RangeExpression;
 
 /// Which of a loop's items are asked for.
 pub struct WindowExpression {

@@ -3,7 +3,7 @@ ghost use Rattle.std.specs.Prelude.{◌≡◌, [], ◌∷◌, OnOk};
 ghost use Rattle.liquid_syntax.specs.inside.NameVisitors.{gathers, looks};
 ghost use Rattle.liquid_syntax.specs.NameSets.{Gathers, Looks, added, held};
 
-use liquid_tree::NameVisitor;
+use liquid_evaluation::NameVisitor;
 use std::alloc::{AllocError, Global};
 use std::collections::BTreeSet;
 

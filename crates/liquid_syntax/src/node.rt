@@ -4,7 +4,7 @@ ghost use Rattle.std.specs.Prelude.{◌≡◌};
 
 use crate::loop_nodes::{Each, For, TableRow};
 use liquid_core::Expression;
-use liquid_tree::{Condition, FilterChain};
+use liquid_evaluation::{Condition, FilterChain};
 
 /// A pair of a tag: a name, and what it is bound to.
 pub struct Binding {

@@ -1,7 +1,7 @@
 //! Pairs of a name and a value, read from the items of a piece.
 ghost use Rattle.std.specs.Prelude.{◌≡◌, ◌<◌, ◌++◌, IfSome, length, option_map};
-ghost use Rattle.liquid_source.specs.Readers.{Parses};
-ghost use Rattle.liquid_source.specs.Tokens.{tokens_view};
+ghost use Rattle.liquid_lexer.specs.Readers.{Parses};
+ghost use Rattle.liquid_lexer.specs.Tokens.{tokens_view};
 ghost use Rattle.liquid_syntax.specs.Bound.{ends_pairs, is_separated, mark_of, one_first, pair_first, pairs_of};
 ghost use Rattle.liquid_syntax.specs.Faults.{FaultsAs, FaultsAt};
 ghost use Rattle.liquid_syntax.specs.Flats.{binding_view, bindings_view};
@@ -9,7 +9,7 @@ ghost use Rattle.liquid_syntax.specs.Flats.{binding_view, bindings_view};
 use crate::chain_items::expected_before;
 use crate::node::Binding;
 use crate::value_items::is_last_comma;
-use liquid_source::{FaultKind, Item, ParseError, Symbol, next_value, next_word, skip};
+use liquid_lexer::{FaultKind, Item, ParseError, Symbol, next_value, next_word, skip};
 use std::collections::VecDeque;
 
 /// How the pairs of a tag are written.

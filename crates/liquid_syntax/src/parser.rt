@@ -1,13 +1,13 @@
 //! From a source to its template.
 ghost use Rattle.std.specs.Prelude.{[], IfErr, List, Some, false, length};
-ghost use Rattle.liquid_source.specs.PieceView.{markup_view};
-ghost use Rattle.liquid_source.specs.Readers.{TellsOf};
-ghost use Rattle.liquid_source.specs.SourceReading.{source_at};
+ghost use Rattle.liquid_lexer.specs.PieceView.{markup_view};
+ghost use Rattle.liquid_lexer.specs.Readers.{TellsOf};
+ghost use Rattle.liquid_lexer.specs.SourceReading.{source_at};
 ghost use Rattle.liquid_syntax.specs.OpenBlocks.{Level};
 ghost use Rattle.liquid_syntax.specs.Parsing.{MayRefuse, ParsesTo, ReadsTo};
 ghost use Rattle.liquid_syntax.specs.inside.Building.{IsBuilding, IsBuilt, Steps, text_added};
 ghost use Rattle.liquid_syntax.specs.inside.TemplateReading.{AddsPiece, begun_with, body_of, piece_step};
-ghost use Rattle.liquid_tree.specs.Tree.{Nodes, no_nodes};
+ghost use Rattle.liquid_evaluation.specs.Tree.{Nodes, no_nodes};
 
 use crate::build::Builder;
 use crate::classify::{classify, opens};
@@ -16,7 +16,7 @@ use crate::positions::Positions;
 use crate::template::Template;
 use liquid_core::{Error, Result};
 use liquid_language::{Language, body_behind, explanation_of};
-use liquid_source::{
+use liquid_lexer::{
     Markup, ParseError, location, past_byte, read_body, read_markup, stripped, text_before,
 };
 use std::alloc::{AllocError, Global};

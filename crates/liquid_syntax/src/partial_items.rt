@@ -1,9 +1,9 @@
 //! Tags that run a partial, read from the items of a piece.
 ghost use Rattle.std.specs.Prelude.{◌≡◌, [], ◌∷◌, IfOk, length, option_map, string_bytes};
 ghost use Rattle.liquid_core.specs.ExpressionView.{expression_view};
-ghost use Rattle.liquid_source.specs.PieceView.{item_view, items_view};
-ghost use Rattle.liquid_source.specs.Readers.{Parses};
-ghost use Rattle.liquid_source.specs.Tokens.{tokens_view, value_first};
+ghost use Rattle.liquid_lexer.specs.PieceView.{item_view, items_view};
+ghost use Rattle.liquid_lexer.specs.Readers.{Parses};
+ghost use Rattle.liquid_lexer.specs.Tokens.{tokens_view, value_first};
 ghost use Rattle.liquid_syntax.specs.Faults.{FaultsAs, FaultsAt};
 ghost use Rattle.liquid_syntax.specs.Flats.{binding_view, bindings_view, each_view, flat_of, leaf};
 ghost use Rattle.liquid_syntax.specs.inside.Classifies.{Classifies};
@@ -18,7 +18,7 @@ use crate::loop_nodes::Each;
 use crate::node::{Binding, Node};
 use crate::pair_items::{PairStyle, next_pair, read_pairs};
 use liquid_core::{Expression, Value};
-use liquid_source::{
+use liquid_lexer::{
     FaultKind, Item, ParseError, Symbol, is_over, next_value, next_word, skip_word,
 };
 use std::alloc::{AllocError, Global};

@@ -7,13 +7,13 @@ ghost use Rattle.liquid_language.specs.Entries.{put, placed};
 ghost use Rattle.liquid_syntax.specs.Slots.{reserved, exchanged};
 ghost use Rattle.liquid_syntax.specs.inside.Mentions.{held_names, partials_list_names};
 ghost use Rattle.liquid_syntax.specs.Templates.{most_of, node_count_of, tree_of, partials_of, slots_of};
-ghost use Rattle.liquid_tree.specs.Names.{mentioned, partials_names};
+ghost use Rattle.liquid_evaluation.specs.Names.{mentioned, partials_names};
 
 use crate::names::Search;
 use crate::template::Template;
 use crate::visit_nodes::visit_nodes;
 use liquid_core::{ErrorKind, Result};
-use liquid_tree::NameVisitor;
+use liquid_evaluation::NameVisitor;
 use std::alloc::Global;
 use std::collections::BTreeMap;
 use std::mem;

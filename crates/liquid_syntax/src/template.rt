@@ -36,8 +36,8 @@ impl Template {
     ghost use Rattle.liquid_model.specs.Answer.{IsValueOrMemory};
     ghost use Rattle.liquid_syntax.specs.NameSets.{held};
     ghost use Rattle.liquid_syntax.specs.Templates.{list_of, partials_of, positions_of, tree_of};
-    ghost use Rattle.liquid_tree.specs.Counts.{count_of_nodes};
-    ghost use Rattle.liquid_tree.specs.Names.{mentioned, nodes_names, run_names};
+    ghost use Rattle.liquid_evaluation.specs.Counts.{count_of_nodes};
+    ghost use Rattle.liquid_evaluation.specs.Names.{mentioned, nodes_names, run_names};
 
     /// The nodes, in source order.
     pub fn nodes(&self) -> &[Node]

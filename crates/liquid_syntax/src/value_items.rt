@@ -1,15 +1,15 @@
 //! Values with something between each two, read from the items of a piece.
 ghost use Rattle.std.specs.Prelude.{◌≡◌, ◌<◌, ◌∷◌, IfSome, length, map, option_map};
 ghost use Rattle.liquid_core.specs.ExpressionView.{expression_view};
-ghost use Rattle.liquid_source.specs.Readers.{Parses};
-ghost use Rattle.liquid_source.specs.Tokens.{tokens_view};
+ghost use Rattle.liquid_lexer.specs.Readers.{Parses};
+ghost use Rattle.liquid_lexer.specs.Tokens.{tokens_view};
 ghost use Rattle.liquid_syntax.specs.Faults.{FaultsAs, FaultsAt};
 ghost use Rattle.liquid_syntax.specs.inside.ValueAnswers.{SkipsSeparator};
 ghost use Rattle.liquid_syntax.specs.ValueLists.{ends_values, further_first, further_of, values_of};
 
 use crate::chain_items::expected_before;
 use liquid_core::Expression;
-use liquid_source::{FaultKind, Item, ParseError, Symbol, next_value, skip, skip_word};
+use liquid_lexer::{FaultKind, Item, ParseError, Symbol, next_value, skip, skip_word};
 use std::alloc::Global;
 use std::collections::VecDeque;
 

@@ -3,13 +3,13 @@ ghost use Rattle.std.specs.Prelude.{◌∷◌, ◌++◌, option_map, string_byte
 ghost use Rattle.liquid_core.specs.ExpressionView.{expression_view};
 ghost use Rattle.liquid_syntax.specs.Flats.{arm_values, bindings_view, window_view};
 ghost use Rattle.liquid_syntax.specs.inside.Mentions.{arms_names, each_names, for_names, head_names, jekyll_names, list_names, own_names, pairs_names, row_names};
-ghost use Rattle.liquid_tree.specs.ChainView.{chain_view};
-ghost use Rattle.liquid_tree.specs.Names.{bound_names, chain_names, include_name, optional_names, source_names, target_names, window_names};
-ghost use Rattle.liquid_tree.specs.SourceView.{source_view};
+ghost use Rattle.liquid_evaluation.specs.ChainView.{chain_view};
+ghost use Rattle.liquid_evaluation.specs.Names.{bound_names, chain_names, include_name, optional_names, source_names, target_names, window_names};
+ghost use Rattle.liquid_evaluation.specs.SourceView.{source_view};
 
 use crate::loop_nodes::{Each, For, TableRow, WindowExpression};
 use crate::node::{Arm, Binding, Node};
-use liquid_tree::{
+use liquid_evaluation::{
     FilterChain, NameVisitor, RangeExpression, visit_chain, visit_condition, visit_expression,
     visit_expressions, visit_optional, visit_source,
 };
@@ -134,7 +134,7 @@ fn visit_variable<V: NameVisitor>(
 }
 
 /// The names of what says which items are asked for.
-#[tactic(auto, unfolding(liquid_tree::specs::Names::window_names))]
+#[tactic(auto, unfolding(liquid_evaluation::specs::Names::window_names))]
 fn visit_window<V: NameVisitor>(window: &WindowExpression, visitor: &mut V) -> bool
     ensures { V.tells visitor.old (window_names (window_view window.now)) result visitor.new }
 {

@@ -5,7 +5,7 @@ use super::outline::{Opener, Otherwise, Outline};
 use super::told::Told;
 use crate::block::{Block, end_tag};
 use crate::language::Language;
-use liquid_source::Fault;
+use liquid_lexer::Fault;
 use std::alloc::{AllocError, Global};
 
 /// Of a tag whose name isn't known where it stands: an end or a control word in the wrong place, or a name that no tag has.

@@ -3,7 +3,7 @@ use super::names::{lacking_filter, meant_filter};
 use super::near::nearest;
 use super::told::Told;
 use crate::registered_filter::{FilterRegistry, RegisteredFilter};
-use liquid_source::{Item, PlacedItem, PlacedPiece, Symbol};
+use liquid_lexer::{Item, PlacedItem, PlacedPiece, Symbol};
 use std::alloc::{AllocError, Global};
 
 /// No filter that exists takes more arguments.

@@ -6,7 +6,7 @@ mod tags;
 
 use super::characters::{follows_dot, is_digit, is_in_word, is_letter, is_quote};
 use conditions::CONDITION;
-use liquid_source::{Delimiter, PlacedPiece};
+use liquid_lexer::{Delimiter, PlacedPiece};
 use outputs::{OUTPUT, VALUE};
 use pieces::ANYWHERE;
 use tags::{ASSIGN, ELSE, LOOP, NAME, PARTIAL, SETTING, TAG};

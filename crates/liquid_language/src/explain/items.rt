@@ -3,7 +3,7 @@ use super::characters::begins_value;
 use super::habits::{Site, Spot, advice, site_of};
 use super::told::Told;
 use crate::language::Language;
-use liquid_source::{Delimiter, Fault, PlacedItem, PlacedPiece};
+use liquid_lexer::{Delimiter, Fault, PlacedItem, PlacedPiece};
 
 /// Of an item that isn't allowed, or of a closer before which one is wanted.
 pub fn misplaced<'s>(language: &Language, fault: &Fault, piece: &PlacedPiece<'s>) -> Told<'s> {

@@ -1,7 +1,7 @@
 //! Which blocks are open at a place, and which piece holds it.
 use crate::block::{Block, BlockContext, Control, Role, body_behind, role_of};
 use crate::language::{BlockKind, Language};
-use liquid_source::{ParseError, Piece, past_byte, read_body, read_markup, text_before};
+use liquid_lexer::{ParseError, Piece, past_byte, read_body, read_markup, text_before};
 use std::alloc::{AllocError, Global};
 
 /// The `else` of a block.

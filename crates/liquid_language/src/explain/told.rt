@@ -1,5 +1,5 @@
 //! What is told of a fault, before it is a message: its words, and the texts that stand in them.
-use liquid_source::{excerpt, location};
+use liquid_lexer::{excerpt, location};
 use std::alloc::{AllocError, Global};
 use std::fmt::Write;
 

@@ -4,7 +4,7 @@ use super::habits::{Site, Spot, advice, site_of};
 use super::items::{closer_of, closer_word, front_before, not_wanted, spelling_before};
 use super::outline::Outline;
 use super::told::Told;
-use liquid_source::{Delimiter, Fault, FaultKind, PlacedPiece};
+use liquid_lexer::{Delimiter, Fault, FaultKind, PlacedPiece};
 
 /// The words that are values, and no names.
 static LITERALS: [&str; 4] = ["nil", "null", "true", "false"];

@@ -16,8 +16,8 @@ use Rattle.liquid_core.specs.Expression.{Expression}
 use Rattle.liquid_core.specs.Expressions.{required}
 use Rattle.liquid_syntax.specs.Flats.{Maker, StandsAt, nodes_of, values_in}
 use Rattle.liquid_syntax.specs.Forest.{Forest}
-use Rattle.liquid_tree.specs.Names.{node_names, nodes_names, whens_names}
-use Rattle.liquid_tree.specs.Tree as tree
+use Rattle.liquid_evaluation.specs.Names.{node_names, nodes_names, whens_names}
+use Rattle.liquid_evaluation.specs.Tree as tree
 use Rattle.liquid_syntax.specs.declared.node.Arm.{Arm}
 use Rattle.liquid_syntax.specs.declared.node.Node.{Node}
 use Rattle.liquid_meaning.specs.Meaning.{Setting, node_meaning, nodes_meaning, whens_meaning}

@@ -3,8 +3,8 @@ use Rattle.std.specs.Prelude.{ℕ, List, Option, Some, None}
 use Rattle.liquid_model.specs.Texts.{Text}
 use Rattle.liquid_core.specs.Environment.{Environment}
 use Rattle.liquid_core.specs.FilterAnswers.{FilterAnswer}
-use Rattle.liquid_tree.specs.Evaluation.{answers_with}
-use Rattle.liquid_tree.specs.Tree as tree
+use Rattle.liquid_evaluation.specs.Evaluation.{answers_with}
+use Rattle.liquid_evaluation.specs.Tree as tree
 use Rattle.liquid_syntax.specs.Templates.{partials_of}
 use Rattle.liquid_lib.specs.Performs.{Configuration}
 use Rattle.liquid_lib.specs.declared.context.RunContext.{RunContext}

@@ -17,8 +17,8 @@ use Rattle.liquid_core.specs.Places.{place_of}
 use Rattle.liquid_core.specs.LoopFrames.{frame_item_at, frame_map_at}
 use Rattle.liquid_core.specs.declared.frame.Columns.{Columns}
 use Rattle.liquid_core.specs.declared.frame.LoopFrame.{LoopFrame}
-use Rattle.liquid_tree.specs.Evaluation.{source_items, amount, asked_for}
-use Rattle.liquid_tree.specs.Tree.{Source, Window}
+use Rattle.liquid_evaluation.specs.Evaluation.{source_items, amount, asked_for}
+use Rattle.liquid_evaluation.specs.Tree.{Source, Window}
 use Rattle.liquid_meaning.specs.Effects.{value_or_nil}
 use Rattle.liquid_meaning.specs.Loops.{columns_of}
 

@@ -17,8 +17,8 @@ use Rattle.liquid_core.specs.LoopFrames.{item_of}
 use Rattle.liquid_core.specs.Loops.{loop_scope, forloop_object}
 use Rattle.liquid_core.specs.States.{Layers, with_scope_pushed}
 use Rattle.liquid_core.specs.declared.interrupt.Interrupt.{Interrupt}
-use Rattle.liquid_tree.specs.Evaluation.{bound_values}
-use Rattle.liquid_tree.specs.Tree.{Bindings, Nodes}
+use Rattle.liquid_evaluation.specs.Evaluation.{bound_values}
+use Rattle.liquid_evaluation.specs.Tree.{Bindings, Nodes}
 use Rattle.liquid_syntax.specs.Templates.{list_of, most_of}
 use Rattle.liquid_syntax.specs.declared.template.Template.{Template}
 use Rattle.liquid_lib.specs.declared.context.RunContext.{RunContext}

@@ -2,7 +2,7 @@
 ghost use Rattle.std.specs.Prelude.{◌≡◌, ◌<◌, ◌≤◌, Some, None};
 ghost use Rattle.liquid_core.specs.ExpressionView.{expression_view};
 ghost use Rattle.liquid_syntax.specs.Flats.{bindings_view, each_view};
-ghost use Rattle.liquid_tree.specs.Tree as tree;
+ghost use Rattle.liquid_evaluation.specs.Tree as tree;
 ghost use Rattle.liquid_lib.specs.inside.Engine.{setting_of, node_in};
 ghost use Rattle.liquid_lib.specs.inside.Partials.{item_scope};
 ghost use Rattle.liquid_lib.specs.Performs.{Meets, Performs, configuration_of};

@@ -3,7 +3,7 @@ use Rattle.liquid_language.specs.declared.block.Block.TheVariants.{IfChanged}
 use Rattle.liquid_syntax.specs.Nesting.{of_one, Statement, leaf, begins, otherwise}
 use Rattle.liquid_syntax.specs.declared.classify.tags.BareTag.{BareTag}
 use Rattle.liquid_syntax.specs.declared.classify.tags.BareTag.TheVariants as tags
-use Rattle.liquid_tree.specs.Tree.{break_loop, continue_loop, ifchanged}
+use Rattle.liquid_evaluation.specs.Tree.{break_loop, continue_loop, ifchanged}
 
 abbrev pub bare_view : BareTag → Statement
 bare_view tags.Otherwise = otherwise

@@ -5,9 +5,9 @@ use Rattle.liquid_syntax.specs.Forest.{Forest, Bodies, no_bodies, sizes}
 use Rattle.liquid_syntax.specs.Laid.{Flat, ends_of, laid, laid_bodies}
 use Rattle.liquid_syntax.specs.Nesting as nesting
 use Rattle.liquid_syntax.specs.OpenBlocks.{Reading, last, first, unkept, armed, begun, ended, Level, level, State, depth, to_elsif, with_node}
-use Rattle.liquid_source.specs.Readers.{Fails}
+use Rattle.liquid_lexer.specs.Readers.{Fails}
 use Rattle.liquid_syntax.specs.Templates.{tree_of}
-use Rattle.liquid_tree.specs.Tree.{Node, Nodes, no_nodes, plain}
+use Rattle.liquid_evaluation.specs.Tree.{Node, Nodes, no_nodes, plain}
 use Rattle.liquid_language.specs.declared.block.Block.{Block}
 use Rattle.liquid_language.specs.declared.block.BlockContext.{BlockContext}
 use Rattle.liquid_language.specs.declared.block.BlockContext.TheVariants.{Outside, InBody, InLast}
@@ -19,10 +19,10 @@ use Rattle.liquid_syntax.specs.declared.build.Stage.{Stage}
 use Rattle.liquid_syntax.specs.declared.build.Stage.TheVariants.{First, Last, Unkept, Armed}
 use Rattle.liquid_core.specs.Expression.{Expression}
 use Rattle.liquid_core.specs.ExpressionView.{expression_view}
-use Rattle.liquid_tree.specs.Tree as tree
+use Rattle.liquid_evaluation.specs.Tree as tree
 use Rattle.liquid_syntax.specs.declared.node.Node.TheVariants.{Case}
-use Rattle.liquid_source.specs.declared.fault.ParseError.{ParseError}
-use Rattle.liquid_source.specs.declared.fault.ParseError.TheVariants as errors
+use Rattle.liquid_lexer.specs.declared.fault.ParseError.{ParseError}
+use Rattle.liquid_lexer.specs.declared.fault.ParseError.TheVariants as errors
 use Rattle.liquid_syntax.specs.declared.node.Node as code
 use Rattle.liquid_syntax.specs.declared.template.Template.{Template}
 

@@ -4,13 +4,13 @@ use Rattle.std.specs.Option.{option_map}
 use Rattle.std.specs.declared.alloc.Global.{Global}
 use Rattle.liquid_core.specs.ExpressionView.{expression_view}
 use Rattle.liquid_core.specs.declared.expression.Expression.{Expression}
-use Rattle.liquid_source.specs.Readers.{Fails}
-use Rattle.liquid_source.specs.Tokens.{Token}
+use Rattle.liquid_lexer.specs.Readers.{Fails}
+use Rattle.liquid_lexer.specs.Tokens.{Token}
 use Rattle.liquid_syntax.specs.Chains.{Filters}
 use Rattle.liquid_syntax.specs.ChainReading.{call_of, called_of, filters_of}
-use Rattle.liquid_tree.specs.ChainView.{chain_filter_view}
-use Rattle.liquid_tree.specs.declared.chain.ChainFilter.{ChainFilter}
-use Rattle.liquid_source.specs.declared.fault.ParseError.{ParseError}
+use Rattle.liquid_evaluation.specs.ChainView.{chain_filter_view}
+use Rattle.liquid_evaluation.specs.declared.chain.ChainFilter.{ChainFilter}
+use Rattle.liquid_lexer.specs.declared.fault.ParseError.{ParseError}
 
 -- the arguments behind a filter's name, and the tokens that are left
 abbrev pub Calls : Filters → List Token → List Token → Result (Vec Expression Global) ParseError → Type 0

@@ -1,17 +1,17 @@
 -- What classifying a piece answers.
 use Rattle.std.specs.Prelude.{◌≡◌, Option, Some, Result, Ok, Err}
-use Rattle.liquid_source.specs.Readers.{Fails}
+use Rattle.liquid_lexer.specs.Readers.{Fails}
 use Rattle.liquid_syntax.specs.inside.Building.{statement_view, of_bodies, opening, IsPrepared, IsSound}
 use Rattle.liquid_syntax.specs.Flats.{flat_of}
 use Rattle.liquid_syntax.specs.Nesting as nesting
-use Rattle.liquid_tree.specs.Tree.{Node, Nodes}
+use Rattle.liquid_evaluation.specs.Tree.{Node, Nodes}
 use Rattle.liquid_language.specs.declared.block.Block.{Block}
 use Rattle.liquid_syntax.specs.declared.build.Stage.{Stage}
 use Rattle.liquid_syntax.specs.declared.build.Statement.{Statement}
 use Rattle.liquid_syntax.specs.declared.build.Statement.TheVariants.{Begins}
 use Rattle.liquid_syntax.specs.declared.build.Stage.TheVariants.{First}
-use Rattle.liquid_source.specs.declared.fault.ParseError.{ParseError}
-use Rattle.liquid_source.specs.declared.fault.ParseError.TheVariants as errors
+use Rattle.liquid_lexer.specs.declared.fault.ParseError.{ParseError}
+use Rattle.liquid_lexer.specs.declared.fault.ParseError.TheVariants as errors
 use Rattle.liquid_syntax.specs.declared.node.Node as code
 
 -- The statement that was to come, memory aside. No fault is answered where the piece isn't refused.

@@ -3,14 +3,14 @@ use Rattle.std.specs.Prelude.{◌≡◌, ◌<◌, List, [], ◌∷◌, length, O
 use Rattle.std.specs.Option.{option_map}
 use Rattle.std.specs.declared.alloc.Global.{Global}
 use Rattle.liquid_syntax.specs.ConditionReading.{operator_of, condition_of, behind_atom, alternatives_of}
-use Rattle.liquid_tree.specs.ConditionView.{atom_view, atoms_view}
-use Rattle.liquid_source.specs.Readers.{Fails}
-use Rattle.liquid_source.specs.Tokens.{Token, tokens_view}
-use Rattle.liquid_tree.specs.Tree as tree
-use Rattle.liquid_tree.specs.declared.comparison.ComparisonOperator.{ComparisonOperator}
-use Rattle.liquid_tree.specs.declared.condition.Atom.{Atom}
-use Rattle.liquid_source.specs.declared.fault.ParseError.{ParseError}
-use Rattle.liquid_source.specs.declared.item.Item.{Item}
+use Rattle.liquid_evaluation.specs.ConditionView.{atom_view, atoms_view}
+use Rattle.liquid_lexer.specs.Readers.{Fails}
+use Rattle.liquid_lexer.specs.Tokens.{Token, tokens_view}
+use Rattle.liquid_evaluation.specs.Tree as tree
+use Rattle.liquid_evaluation.specs.declared.comparison.ComparisonOperator.{ComparisonOperator}
+use Rattle.liquid_evaluation.specs.declared.condition.Atom.{Atom}
+use Rattle.liquid_lexer.specs.declared.fault.ParseError.{ParseError}
+use Rattle.liquid_lexer.specs.declared.item.Item.{Item}
 
 abbrev pub operator_before : List Token → Option ComparisonOperator → Option (ComparisonOperator × List Token)
 operator_before ts o = option_map (λ operator. (operator, ts)) o

@@ -5,11 +5,11 @@ use Rattle.std.specs.Prelude.{List, [], ◌∷◌, ◌++◌, map, string_bytes, 
 use Rattle.liquid_core.specs.Expression.{Expression}
 use Rattle.liquid_core.specs.ExpressionView.{expression_view}
 use Rattle.liquid_model.specs.Texts.{Text}
-use Rattle.liquid_tree.specs.ChainView.{chain_view}
-use Rattle.liquid_tree.specs.ConditionView.{condition_view}
-use Rattle.liquid_tree.specs.Names.{all_names, bound_names, chain_names, condition_names, expression_names, include_name, optional_names, source_names, target_names, window_names}
-use Rattle.liquid_tree.specs.SourceView.{source_view}
-use Rattle.liquid_tree.specs.Tree.{Bindings, Source}
+use Rattle.liquid_evaluation.specs.ChainView.{chain_view}
+use Rattle.liquid_evaluation.specs.ConditionView.{condition_view}
+use Rattle.liquid_evaluation.specs.Names.{all_names, bound_names, chain_names, condition_names, expression_names, include_name, optional_names, source_names, target_names, window_names}
+use Rattle.liquid_evaluation.specs.SourceView.{source_view}
+use Rattle.liquid_evaluation.specs.Tree.{Bindings, Source}
 use Rattle.liquid_syntax.specs.Flats.{arm_values, bindings_view, window_view}
 use Rattle.liquid_syntax.specs.Templates.{list_of}
 use Rattle.liquid_syntax.specs.declared.loop_nodes.Each.{Each}

@@ -4,8 +4,8 @@ use Rattle.std.proofs.lemmas.List.Folds.{list_any-append}
 use mathlib.Core.Path.{refl, sym, ap, ◌∙◌, fun_ext}
 use Rattle.liquid_core.specs.Environment.{Names}
 use Rattle.liquid_model.specs.Texts.{Text, same_text}
-use Rattle.liquid_tree.specs.Names.{mentioned}
-use Rattle.liquid_tree.specs.Telling.{IsTelling}
+use Rattle.liquid_evaluation.specs.Names.{mentioned}
+use Rattle.liquid_evaluation.specs.Telling.{IsTelling}
 use Rattle.liquid_syntax.specs.NameSets.{added, Looks, Gathers}
 
 pub mentioned_both : (xs ys : List Text) (name : Text) → mentioned (xs ++ ys) name ≡ (mentioned xs name || mentioned ys name)

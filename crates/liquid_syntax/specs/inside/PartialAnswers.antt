@@ -2,7 +2,7 @@
 use Rattle.std.specs.Prelude.{List, [], ◌∷◌, Option, Some, None}
 use Rattle.std.specs.Option.{option_map}
 use Rattle.liquid_model.specs.Texts.{Text}
-use Rattle.liquid_source.specs.Items as items
+use Rattle.liquid_lexer.specs.Items as items
 use Rattle.liquid_syntax.specs.Flats.{bindings_view, each_view}
 use Rattle.liquid_syntax.specs.PartialItems as partials
 use Rattle.liquid_syntax.specs.declared.partial_items.Rendered.{Rendered}

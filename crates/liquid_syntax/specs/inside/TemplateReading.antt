@@ -3,18 +3,18 @@ use Rattle.std.specs.Prelude.{◌≡◌, [], length, Bool, false, Option, Some, 
 use Rattle.std.specs.Borrow.{Bor}
 use Rattle.std.specs.Option.{option_and_then}
 use Rattle.liquid_model.specs.Texts.{Text}
-use Rattle.liquid_source.specs.Pieces.{Piece}
-use Rattle.liquid_source.specs.Readers.{Fails}
-use Rattle.liquid_source.specs.SourceReading.{Markup, body_at, source_at, wanted_body}
-use Rattle.liquid_source.specs.declared.fault.ParseError.{ParseError}
-use Rattle.liquid_source.specs.declared.piece.Body.{Body}
+use Rattle.liquid_lexer.specs.Pieces.{Piece}
+use Rattle.liquid_lexer.specs.Readers.{Fails}
+use Rattle.liquid_lexer.specs.SourceReading.{Markup, body_at, source_at, wanted_body}
+use Rattle.liquid_lexer.specs.declared.fault.ParseError.{ParseError}
+use Rattle.liquid_lexer.specs.declared.piece.Body.{Body}
 use Rattle.liquid_syntax.specs.Classification.{reads}
 use Rattle.liquid_syntax.specs.OpenBlocks.{State, context_of, step, at_end}
 use Rattle.liquid_syntax.specs.declared.build.Builder.{Builder}
 use Rattle.liquid_syntax.specs.inside.Building.{IsBuilding}
 use Rattle.liquid_language.specs.Roles.{body_behind}
 use Rattle.liquid_language.specs.declared.language.Language.{Language}
-use Rattle.liquid_tree.specs.Tree.{Nodes, no_nodes}
+use Rattle.liquid_evaluation.specs.Tree.{Nodes, no_nodes}
 
 -- the verbatim body behind a tag of the name, where one is to be
 abbrev pub body_of : Language → State → Text → Option Body

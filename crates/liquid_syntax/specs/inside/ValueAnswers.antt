@@ -1,7 +1,7 @@
 -- What reading values answers.
 use Rattle.std.specs.Prelude.{◌≡◌, ◌<◌, Bool, true, false, List, Some, None, length}
-use Rattle.liquid_source.specs.Tokens.{tokens_view}
-use Rattle.liquid_source.specs.declared.item.Item.{Item}
+use Rattle.liquid_lexer.specs.Tokens.{tokens_view}
+use Rattle.liquid_lexer.specs.declared.item.Item.{Item}
 use Rattle.liquid_syntax.specs.ValueLists.{past_separator}
 use Rattle.liquid_syntax.specs.declared.value_items.Separators.{Separators}
 

@@ -1,6 +1,6 @@
 //! The start of a block and the words between its bodies, by their items.
 ghost use Rattle.std.specs.Prelude.{◌≡◌, length};
-ghost use Rattle.liquid_source.specs.Tokens.{tokens_view};
+ghost use Rattle.liquid_lexer.specs.Tokens.{tokens_view};
 ghost use Rattle.liquid_syntax.specs.Faults.{FaultsAs, FaultsAt};
 ghost use Rattle.liquid_language.specs.declared.block.Block.TheVariants as BlockOf;
 ghost use Rattle.liquid_syntax.specs.declared.build.Stage.TheVariants as StageOf;
@@ -16,7 +16,7 @@ use crate::loop_nodes::{For, TableRow};
 use crate::node::{Node, TwoBodies};
 use crate::value_items::{Separators, read_values};
 use liquid_language::{Block, BlockKind, Control};
-use liquid_source::{FaultKind, Item, ParseError, is_over, next_value};
+use liquid_lexer::{FaultKind, Item, ParseError, is_over, next_value};
 use std::alloc::Global;
 use std::collections::VecDeque;
 

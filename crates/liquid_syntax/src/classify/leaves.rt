@@ -1,7 +1,7 @@
 //! Tags that are nodes without bodies, by their items.
 ghost use Rattle.std.specs.Prelude.{length};
-ghost use Rattle.liquid_source.specs.PieceView.{items_view};
-ghost use Rattle.liquid_source.specs.Tokens.{tokens_view};
+ghost use Rattle.liquid_lexer.specs.PieceView.{items_view};
+ghost use Rattle.liquid_lexer.specs.Tokens.{tokens_view};
 ghost use Rattle.liquid_syntax.specs.Faults.{FaultsAt};
 ghost use Rattle.liquid_syntax.specs.inside.Classifies.{Classifies};
 ghost use Rattle.liquid_syntax.specs.Classification.{leaf_statement};
@@ -12,7 +12,7 @@ use crate::cycle_items::read_cycle;
 use crate::node::Node;
 use crate::partial_items::{read_include, read_jekyll_include, read_render};
 use liquid_language::{Language, TagKind};
-use liquid_source::{Item, ParseError};
+use liquid_lexer::{Item, ParseError};
 use std::alloc::Global;
 use std::collections::VecDeque;
 

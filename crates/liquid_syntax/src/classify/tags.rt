@@ -1,7 +1,7 @@
 //! Tags by their items: those without any, one word, and `assign`.
 ghost use Rattle.std.specs.Prelude.{◌≡◌, length, string_bytes};
-ghost use Rattle.liquid_source.specs.Readers.{Parses};
-ghost use Rattle.liquid_source.specs.Tokens.{tokens_view};
+ghost use Rattle.liquid_lexer.specs.Readers.{Parses};
+ghost use Rattle.liquid_lexer.specs.Tokens.{tokens_view};
 ghost use Rattle.liquid_syntax.specs.inside.Building.{statement_view, IsSound};
 ghost use Rattle.liquid_syntax.specs.Faults.{FaultsAs, FaultsAt};
 ghost use Rattle.liquid_syntax.specs.inside.BareTags.{bare_view};
@@ -12,7 +12,7 @@ use crate::build::{Stage, Statement};
 use crate::chain_items::{expected_before, read_chain};
 use crate::node::Node;
 use liquid_language::{Block, Language};
-use liquid_source::{FaultKind, Item, ParseError, Symbol, is_over, next_word, skip};
+use liquid_lexer::{FaultKind, Item, ParseError, Symbol, is_over, next_word, skip};
 use std::alloc::Global;
 use std::collections::VecDeque;
 

@@ -3,8 +3,8 @@ use Rattle.std.proofs.lemmas.Result.{err_from_is_err_and}
 use Rattle.liquid_model.specs.Cow.{cow_view}
 use Rattle.liquid_core.specs.ExpressionView.{expression_view}
 use Rattle.liquid_core.specs.States.{environment_of}
-use Rattle.liquid_tree.specs.Names.{node_names}
-use Rattle.liquid_tree.specs.Tree as tree
+use Rattle.liquid_evaluation.specs.Names.{node_names}
+use Rattle.liquid_evaluation.specs.Tree as tree
 use Rattle.liquid_lib.specs.inside.Choices.{CaseLeft}
 use Rattle.liquid_meaning.specs.Meaning.{node_meaning}
 use Rattle.liquid_lib.proofs.CaseChoices.{case_begins, case_le, case_refused}

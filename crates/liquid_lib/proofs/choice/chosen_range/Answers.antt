@@ -1,7 +1,7 @@
 use Rattle.std.proofs.Common.{rules, arith, ◌≤◌, ◌+◌, Ok}
 use Rattle.std.proofs.lemmas.Result.{err_from_is_err_and}
 use Rattle.liquid_core.specs.States.{environment_of}
-use Rattle.liquid_tree.specs.ConditionView.{condition_view}
+use Rattle.liquid_evaluation.specs.ConditionView.{condition_view}
 use Rattle.liquid_syntax.specs.Flats.{flats, nodes_of}
 use Rattle.liquid_syntax.proofs.Places.{Stands-le}
 use Rattle.liquid_lib.proofs.Choices.{comes_itself, takes_body, takes_else, takes_fault}

@@ -1,7 +1,7 @@
 use Rattle.liquid_core.specs.States.{environment_of}
-use Rattle.liquid_tree.specs.ConditionView.{condition_view}
-use Rattle.liquid_tree.specs.Evaluation.{truth_of}
-use Rattle.liquid_tree.proofs.Calls.{faulted_told}
+use Rattle.liquid_evaluation.specs.ConditionView.{condition_view}
+use Rattle.liquid_evaluation.specs.Evaluation.{truth_of}
+use Rattle.liquid_evaluation.proofs.Calls.{faulted_told}
 use Rattle.liquid_lib.proofs.choice.elsif_holds.Goals as goal
 
 pub returns-in-Err : goal.returns-in-Err

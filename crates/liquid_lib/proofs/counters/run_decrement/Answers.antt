@@ -3,7 +3,7 @@ use Rattle.std.proofs.lemmas.Int.{to_z-of_z}
 use Rattle.std.proofs.lemmas.Result.{err_from_is_err_and}
 use Rattle.std.specs.Prelude.{pos, ◌-ℤ◌}
 use Rattle.liquid_model.specs.Answer.{Faulted}
-use Rattle.liquid_tree.specs.Names.{node_names}
+use Rattle.liquid_evaluation.specs.Names.{node_names}
 use Rattle.liquid_lib.specs.inside.Counters.{in_i64, shown_and_stored}
 use Rattle.liquid_lib.specs.Performs.{Performs, configuration_of}
 use Rattle.liquid_lib.proofs.Counting.{counts, counts_too_far, in_i64_is}

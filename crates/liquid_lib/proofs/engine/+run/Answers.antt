@@ -15,12 +15,12 @@ use Rattle.liquid_core.specs.declared.interrupt.Interrupt.TheVariants as interru
 use Rattle.liquid_core.specs.Loops.{loop_scope, forloop_object}
 use Rattle.liquid_core.specs.LoopFrames.{frame_map, without_innermost}
 use Rattle.liquid_core.proofs.States.{interrupt_set, turn_off}
-use Rattle.liquid_tree.specs.ItemLists.{all_items}
-use Rattle.liquid_tree.proofs.ItemPlaces.{item_by_place}
-use Rattle.liquid_tree.specs.ChainView.{chain_view}
-use Rattle.liquid_tree.specs.ConditionView.{condition_view}
-use Rattle.liquid_tree.specs.Names.{node_names}
-use Rattle.liquid_tree.specs.Tree as tree
+use Rattle.liquid_evaluation.specs.ItemLists.{all_items}
+use Rattle.liquid_evaluation.proofs.ItemPlaces.{item_by_place}
+use Rattle.liquid_evaluation.specs.ChainView.{chain_view}
+use Rattle.liquid_evaluation.specs.ConditionView.{condition_view}
+use Rattle.liquid_evaluation.specs.Names.{node_names}
+use Rattle.liquid_evaluation.specs.Tree as tree
 use Rattle.liquid_syntax.specs.Flats.{Maker, StandsAt, IsRange, bindings_view, each_view, flats, nodes_of, window_view}
 use Rattle.liquid_syntax.specs.Forest.{Forest}
 use Rattle.liquid_syntax.specs.Templates.{forest_of, most_of, partials_of, tree_of}
@@ -36,7 +36,7 @@ use Rattle.liquid_lib.specs.inside.Engine.{setting_of, node_meant, nodes_meant}
 use Rattle.liquid_lib.specs.Kept.{Keeps, LayersKept}
 use Rattle.liquid_lib.specs.inside.Partials.{item_scope}
 use Rattle.liquid_meaning.specs.Within.{Within}
-use Rattle.liquid_tree.specs.Names.{partials_names}
+use Rattle.liquid_evaluation.specs.Names.{partials_names}
 use Rattle.liquid_lib.specs.Performs.{Meets, Performs, configuration_of, unit, Writes}
 use Rattle.liquid_lib.specs.Sinks.{sink_of}
 use Rattle.liquid_lib.proofs.Cases.{the_case, case_performs, case_keeps, case_other, case_loud}
@@ -56,7 +56,7 @@ use Rattle.liquid_syntax.specs.declared.loop_nodes.For as heads_For
 use Rattle.liquid_syntax.specs.declared.loop_nodes.TableRow as heads_TableRow
 use Rattle.liquid_core.specs.declared.frame.Scope.{Scope}
 use Rattle.liquid_core.specs.declared.frame.LoopFrame.{LoopFrame}
-use Rattle.liquid_tree.specs.SourceView.{source_view}
+use Rattle.liquid_evaluation.specs.SourceView.{source_view}
 use Rattle.liquid_lib.specs.inside.LoopRuns.{StartsAt, behind, cells_meant, configuration_behind, turns_meant}
 use Rattle.liquid_lib.specs.inside.LoopTurns.{AreRows, IsFor, IsRow, cells_asked, cells_of, items_asked, turn_items, turns_of}
 use Rattle.std.specs.Prelude.{IfOk, IfSome}

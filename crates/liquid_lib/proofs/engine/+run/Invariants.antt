@@ -1,7 +1,7 @@
 use Rattle.std.proofs.Common.{◌≡◌, ◌+◌, ◌-◌, ◌*◌, ◌≤◌, ◌<◌, List}
 use Rattle.liquid_syntax.specs.Flats.{Maker, StandsAt, nodes_of}
 use Rattle.liquid_syntax.specs.Forest.{Forest}
-use Rattle.liquid_tree.specs.Names.{nodes_names}
+use Rattle.liquid_evaluation.specs.Names.{nodes_names}
 use Rattle.liquid_lib.specs.inside.Engine.{setting_of, nodes_in}
 use Rattle.liquid_lib.specs.Kept.{Keeps, AreRenders}
 use Rattle.liquid_lib.specs.Performs.{configuration_of}
@@ -12,7 +12,7 @@ use Rattle.liquid_lib.proofs.PartialRuns.{reserve}
 use Rattle.std.specs.Prelude.{string_bytes}
 use Rattle.liquid_core.specs.ExpressionView.{expression_view}
 use Rattle.liquid_syntax.specs.Flats.{bindings_view, each_view}
-use Rattle.liquid_tree.specs.ItemLists.{all_items}
+use Rattle.liquid_evaluation.specs.ItemLists.{all_items}
 use Rattle.liquid_meaning.specs.Meaning.{deeper_meaning}
 use Rattle.liquid_lib.proofs.ItemRuns.{items_left}
 use Rattle.liquid_lib.proofs.RenderEach.{item_run}

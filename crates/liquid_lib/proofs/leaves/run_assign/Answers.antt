@@ -4,9 +4,9 @@ use Rattle.liquid_model.specs.Answer.{IsValueOrMemory}
 use Rattle.liquid_model.specs.View.{view}
 use Rattle.liquid_core.specs.States.{environment_of, layers_of, with_assigned}
 use Rattle.liquid_model.specs.declared.value.Value.{Value}
-use Rattle.liquid_tree.specs.ChainView.{chain_view}
-use Rattle.liquid_tree.specs.Evaluation.{answers_with, chain_value}
-use Rattle.liquid_tree.specs.Names.{node_names}
+use Rattle.liquid_evaluation.specs.ChainView.{chain_view}
+use Rattle.liquid_evaluation.specs.Evaluation.{answers_with, chain_value}
+use Rattle.liquid_evaluation.specs.Names.{node_names}
 use Rattle.liquid_meaning.specs.Runs.{change}
 use Rattle.liquid_meaning.specs.Effects.{assigned_to}
 use Rattle.liquid_lib.specs.Performs.{unit, configuration_of}

@@ -4,8 +4,8 @@ use Rattle.liquid_model.specs.Cow.{cow_view}
 use Rattle.liquid_model.specs.Data.{text_of}
 use Rattle.liquid_core.specs.States.{environment_of}
 use Rattle.liquid_model.specs.declared.cow.ValueCow.{ValueCow}
-use Rattle.liquid_tree.specs.ChainView.{chain_view}
-use Rattle.liquid_tree.specs.Evaluation.{answers_with, chain_value}
+use Rattle.liquid_evaluation.specs.ChainView.{chain_view}
+use Rattle.liquid_evaluation.specs.Evaluation.{answers_with, chain_value}
 use Rattle.liquid_meaning.specs.Runs.{write}
 use Rattle.liquid_lib.specs.Performs.{unit, configuration_of}
 use Rattle.liquid_lib.proofs.Joined.{by_rule, write_met, given_met, refused_met}

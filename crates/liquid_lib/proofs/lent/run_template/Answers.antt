@@ -1,5 +1,5 @@
 use Rattle.std.proofs.Common.{subst, sym}
-use Rattle.liquid_tree.specs.Names.{nodes_names, partials_names, run_names}
+use Rattle.liquid_evaluation.specs.Names.{nodes_names, partials_names, run_names}
 use Rattle.liquid_syntax.specs.Templates.{tree_of}
 use Rattle.liquid_meaning.specs.Meaning.{Setting, meaning}
 use Rattle.liquid_meaning.specs.Within.{Within}

@@ -1,7 +1,7 @@
 use Rattle.std.proofs.Common.{Ok, refl, sym, ap, ◌∙◌, string_bytes}
 use Rattle.liquid_core.specs.States.{environment_of}
-use Rattle.liquid_tree.specs.ItemLists.{all_items}
-use Rattle.liquid_tree.specs.SourceView.{source_view}
+use Rattle.liquid_evaluation.specs.ItemLists.{all_items}
+use Rattle.liquid_evaluation.specs.SourceView.{source_view}
 use Rattle.liquid_syntax.specs.Flats.{window_view}
 use Rattle.liquid_lib.specs.inside.LoopTurns.{placed}
 use Rattle.liquid_lib.proofs.LoopItems.{asked_of, begins_for, turn_list}

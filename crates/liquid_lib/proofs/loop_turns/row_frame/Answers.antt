@@ -2,9 +2,9 @@ use Rattle.std.proofs.Common.{◌<◌, Ok, IsOk, Some, sym, ap, ◌∙◌, optio
 use Rattle.std.proofs.lemmas.Result.{err_from_is_err_and}
 use Rattle.liquid_core.specs.ExpressionView.{expression_view}
 use Rattle.liquid_core.specs.States.{environment_of}
-use Rattle.liquid_tree.specs.Evaluation.{amount}
-use Rattle.liquid_tree.specs.ItemLists.{all_items}
-use Rattle.liquid_tree.specs.SourceView.{source_view}
+use Rattle.liquid_evaluation.specs.Evaluation.{amount}
+use Rattle.liquid_evaluation.specs.ItemLists.{all_items}
+use Rattle.liquid_evaluation.specs.SourceView.{source_view}
 use Rattle.liquid_syntax.specs.Flats.{window_view}
 use Rattle.liquid_lib.proofs.LoopItems.{row_cells, row_faulted, rows_window_next, turn_list}
 use Rattle.liquid_lib.proofs.loop_turns.row_frame.Goals as goal

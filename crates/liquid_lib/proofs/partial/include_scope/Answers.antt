@@ -5,7 +5,7 @@ use Rattle.liquid_model.specs.View.{pairs_view}
 use Rattle.liquid_model.proofs.Views.{view-Object}
 use Rattle.liquid_core.specs.Held.{held}
 use Rattle.liquid_core.specs.States.{environment_of}
-use Rattle.liquid_tree.specs.Evaluation.{bound_values}
+use Rattle.liquid_evaluation.specs.Evaluation.{bound_values}
 use Rattle.liquid_syntax.specs.Flats.{binding_view, bindings_view}
 use Rattle.liquid_lib.proofs.Bound.{held_one, include_faulted, no_bindings, some_bindings}
 use Rattle.liquid_lib.proofs.Renderings.{held_none}

@@ -3,7 +3,7 @@ use Rattle.liquid_model.specs.Fallible.{◌>>=◌}
 use Rattle.liquid_model.specs.Lists.{put_each}
 use Rattle.liquid_model.specs.View.{pairs_view}
 use Rattle.liquid_core.specs.States.{environment_of}
-use Rattle.liquid_tree.specs.Evaluation.{bound_values}
+use Rattle.liquid_evaluation.specs.Evaluation.{bound_values}
 use Rattle.liquid_syntax.specs.Flats.{binding_view, bindings_view}
 use Rattle.liquid_lib.specs.inside.Partials.{bound_object}
 use Rattle.liquid_lib.proofs.partial.pairs_object.Given as goal

@@ -1,5 +1,5 @@
 use Rattle.liquid_core.specs.States.{environment_of}
-use Rattle.liquid_tree.specs.Evaluation.{bound_values}
+use Rattle.liquid_evaluation.specs.Evaluation.{bound_values}
 use Rattle.liquid_syntax.specs.Flats.{bindings_view}
 use Rattle.liquid_lib.proofs.Bound.{as_scope}
 use Rattle.liquid_lib.proofs.partial.pairs_scope.Goals as goal

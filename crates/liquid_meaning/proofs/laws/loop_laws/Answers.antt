@@ -1,7 +1,7 @@
 use Rattle.liquid_meaning.proofs.laws.loop_laws.Goals as goal
 use Rattle.liquid_meaning.proofs.Items.{window_law, range_law}
 use Rattle.liquid_meaning.proofs.Cells.{row_law}
-use Rattle.liquid_tree.proofs.Windows.{counted_window}
+use Rattle.liquid_evaluation.proofs.Windows.{counted_window}
 
 pub returns-clause-window : goal.returns-clause-window
 returns-clause-window c = window_law

@@ -1,6 +1,6 @@
 -- A page that is written leaves what `write_page` leaves, of the texts that were read, and its call ends by that answer.
 use Rattle.std.proofs.Common.{ap}
-use Rattle.liquid_site.specs.Page.{sources_of}
+use Rattle.liquid_page_texts.specs.Page.{sources_of}
 use Rattle.liquid_page.specs.Read.{read_view}
 use Rattle.liquid_page.proofs.Begun.{lent_begun, lent_ended}
 use Rattle.liquid_page.proofs.page.page.Goals as goal

@@ -1,7 +1,7 @@
 use Rattle.std.proofs.Common.{◌≡◌, [], drop, map, IfSome}
 use Rattle.liquid_page.specs.Files.{sources_from}
 use Rattle.liquid_page.specs.Words.{lent}
-use Rattle.liquid_site.specs.Page.{sources_of}
+use Rattle.liquid_page_texts.specs.Page.{sources_of}
 use Rattle.liquid_page.proofs.page.read_partials.Given as goal
 
 -- the same files are known, and what is left gives, behind what was read, what the whole gives

@@ -3,7 +3,7 @@ use Rattle.std.proofs.Common.{sym, subst}
 use Rattle.std.specs.Io.KnownBytes.{Keeps}
 use Rattle.liquid_page.specs.Buffering.{behind}
 use Rattle.liquid_page.specs.Written.{IsBegun}
-use Rattle.liquid_site.specs.Page.{Texts, sources_of}
+use Rattle.liquid_page_texts.specs.Page.{Texts, sources_of}
 use Rattle.liquid_page.proofs.Begun.{begun_behind}
 use Rattle.liquid_page.proofs.page.write_page.Goals as goal
 use Rattle.liquid_page.proofs.page.write_page.Goals.{in-Ok-answer, in-Err-answer}

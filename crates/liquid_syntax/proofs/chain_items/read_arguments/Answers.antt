@@ -2,7 +2,7 @@ use Rattle.std.proofs.Common.{[], ◌∷◌, ◌++◌, sym, ap, ◌∙◌, arith
 use Rattle.std.proofs.lemmas.List.{map-append}
 use Rattle.std.specs.Option.{option_map}
 use Rattle.liquid_core.specs.ExpressionView.{expression_view}
-use Rattle.liquid_source.specs.Tokens.{tokens_view}
+use Rattle.liquid_lexer.specs.Tokens.{tokens_view}
 use Rattle.liquid_syntax.specs.ChainReading.{arguments_of, filters_of}
 use Rattle.liquid_syntax.proofs.ChainCalls.{behind, behind_nothing, not_colon, colon, one_argument_more, last_argument, no_value, faulted}
 use Rattle.liquid_syntax.proofs.chain_items.read_arguments.Goals as goal

@@ -1,6 +1,6 @@
 use Rattle.std.proofs.Common.{length, ◌≡◌, ◌≤◌, map}
 use Rattle.liquid_core.specs.ExpressionView.{expression_view}
-use Rattle.liquid_source.specs.Tokens.{tokens_view}
+use Rattle.liquid_lexer.specs.Tokens.{tokens_view}
 use Rattle.liquid_syntax.specs.Chains.{Filters}
 use Rattle.liquid_syntax.specs.ChainReading.{arguments_of}
 use Rattle.liquid_syntax.proofs.ChainCalls.{behind}

@@ -1,7 +1,7 @@
 use Rattle.std.proofs.Common.{sym, map, string_bytes}
 use Rattle.std.proofs.lemmas.Result.{err_from_is_err_and}
 use Rattle.liquid_core.specs.ExpressionView.{expression_view}
-use Rattle.liquid_source.specs.Tokens.{tokens_view}
+use Rattle.liquid_lexer.specs.Tokens.{tokens_view}
 use Rattle.liquid_language.specs.Registered.{registered_in}
 use Rattle.liquid_syntax.proofs.ChainCalls.{no_name, call_refused, call_taken, faulted}
 use Rattle.liquid_syntax.proofs.chain_items.read_filter.Goals as goal

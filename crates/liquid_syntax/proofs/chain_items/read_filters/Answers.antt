@@ -1,8 +1,8 @@
 use Rattle.std.proofs.Common.{sym, ap, ◌∙◌, map}
 use Rattle.std.proofs.lemmas.List.{map-append}
 use Rattle.std.proofs.lemmas.Result.{err_from_is_err_and}
-use Rattle.liquid_source.specs.Tokens.{tokens_view}
-use Rattle.liquid_tree.specs.ChainView.{chain_filter_view}
+use Rattle.liquid_lexer.specs.Tokens.{tokens_view}
+use Rattle.liquid_evaluation.specs.ChainView.{chain_filter_view}
 use Rattle.liquid_language.specs.Registered.{registered_in}
 use Rattle.liquid_syntax.specs.ChainReading.{filters_of}
 use Rattle.liquid_syntax.proofs.ChainCalls.{left_over, none_left, filters_behind, filters_nothing, no_filter, no_bar, filter_refused, one_filter, faulted}

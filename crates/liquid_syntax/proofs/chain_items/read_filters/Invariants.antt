@@ -1,6 +1,6 @@
 use Rattle.std.proofs.Common.{length, ◌≡◌, map}
-use Rattle.liquid_source.specs.Tokens.{tokens_view}
-use Rattle.liquid_tree.specs.ChainView.{chain_filter_view}
+use Rattle.liquid_lexer.specs.Tokens.{tokens_view}
+use Rattle.liquid_evaluation.specs.ChainView.{chain_filter_view}
 use Rattle.liquid_language.specs.Registered.{registered_in}
 use Rattle.liquid_syntax.specs.ChainReading.{filters_of}
 use Rattle.liquid_syntax.proofs.ChainCalls.{filters_behind}

@@ -1,8 +1,8 @@
 use Rattle.std.proofs.Common.{List, sym, subst}
-use Rattle.liquid_source.specs.PieceView.{items_view, piece_view}
-use Rattle.liquid_source.specs.Tokens.{Token}
-use Rattle.liquid_source.specs.declared.piece.Piece.{Piece}
-use Rattle.liquid_source.proofs.Seen.{seen_tokens}
+use Rattle.liquid_lexer.specs.PieceView.{items_view, piece_view}
+use Rattle.liquid_lexer.specs.Tokens.{Token}
+use Rattle.liquid_lexer.specs.declared.piece.Piece.{Piece}
+use Rattle.liquid_lexer.proofs.Seen.{seen_tokens}
 use Rattle.liquid_syntax.specs.inside.Classifies.{Classifies}
 use Rattle.liquid_syntax.specs.Classification.{reads, tag_statement}
 use Rattle.liquid_language.specs.Roles.{role_of}

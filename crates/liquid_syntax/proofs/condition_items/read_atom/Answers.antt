@@ -1,8 +1,8 @@
 use Rattle.std.proofs.Common.{◌≡◌, sym, subst}
 use Rattle.liquid_core.specs.ExpressionView.{expression_view}
 use Rattle.liquid_syntax.specs.ConditionReading.{condition_of, behind_atom}
-use Rattle.liquid_source.specs.Tokens.{tokens_view}
-use Rattle.liquid_tree.specs.Tree.{bare}
+use Rattle.liquid_lexer.specs.Tokens.{tokens_view}
+use Rattle.liquid_evaluation.specs.Tree.{bare}
 use Rattle.liquid_syntax.proofs.ChainCalls.{faulted}
 use Rattle.liquid_syntax.proofs.ConditionTurns.{no_left, bare_atom, no_right, comparison_atom}
 use Rattle.liquid_syntax.proofs.condition_items.read_atom.Goals as goal

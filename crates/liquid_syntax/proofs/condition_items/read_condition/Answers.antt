@@ -1,8 +1,8 @@
 use Rattle.std.proofs.Common.{Some, sym, ap, ◌∙◌, map}
 use Rattle.std.proofs.lemmas.List.{map-append}
 use Rattle.liquid_syntax.specs.ConditionReading.{condition_of}
-use Rattle.liquid_tree.specs.ConditionView.{atoms_view}
-use Rattle.liquid_source.specs.Tokens.{tokens_view}
+use Rattle.liquid_evaluation.specs.ConditionView.{atoms_view}
+use Rattle.liquid_lexer.specs.Tokens.{tokens_view}
 use Rattle.liquid_syntax.proofs.ChainCalls.{left_over, none_left, faulted}
 use Rattle.liquid_syntax.proofs.ConditionTurns.{conjunctions_then, one_conjunction_more, no_or, last_conjunction}
 use Rattle.liquid_syntax.proofs.condition_items.read_condition.Goals as goal

@@ -1,7 +1,7 @@
 use Rattle.std.proofs.Common.{length, ◌≡◌, map}
 use Rattle.liquid_syntax.specs.ConditionReading.{condition_of}
-use Rattle.liquid_tree.specs.ConditionView.{atoms_view}
-use Rattle.liquid_source.specs.Tokens.{tokens_view}
+use Rattle.liquid_evaluation.specs.ConditionView.{atoms_view}
+use Rattle.liquid_lexer.specs.Tokens.{tokens_view}
 use Rattle.liquid_syntax.proofs.ConditionTurns.{conjunctions_then}
 use Rattle.liquid_syntax.proofs.condition_items.read_condition.Given as goal
 

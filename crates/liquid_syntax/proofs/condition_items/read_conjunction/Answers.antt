@@ -2,8 +2,8 @@ use Rattle.std.proofs.Common.{[], ◌∷◌, ◌++◌, sym, ap, ◌∙◌, arith
 use Rattle.std.proofs.lemmas.List.{map-append}
 use Rattle.liquid_syntax.specs.inside.ConditionAnswers.{before_alternatives}
 use Rattle.liquid_syntax.specs.ConditionReading.{condition_of, alternatives_of}
-use Rattle.liquid_tree.specs.ConditionView.{atom_view}
-use Rattle.liquid_source.specs.Tokens.{tokens_view}
+use Rattle.liquid_evaluation.specs.ConditionView.{atom_view}
+use Rattle.liquid_lexer.specs.Tokens.{tokens_view}
 use Rattle.liquid_syntax.proofs.ConditionTurns.{atoms_then, atoms_nothing, one_atom_more, last_atom}
 use Rattle.liquid_syntax.proofs.condition_items.read_conjunction.Goals as goal
 

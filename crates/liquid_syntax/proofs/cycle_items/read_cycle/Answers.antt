@@ -1,7 +1,7 @@
 use Rattle.std.proofs.Common.{map, ap, ◌∙◌, string_bytes}
 use Rattle.liquid_core.specs.ExpressionView.{expression_view}
-use Rattle.liquid_source.specs.Tokens.{tokens_view}
-use Rattle.liquid_tree.specs.Groups.{values_group}
+use Rattle.liquid_lexer.specs.Tokens.{tokens_view}
+use Rattle.liquid_evaluation.specs.Groups.{values_group}
 use Rattle.liquid_syntax.proofs.CycleLaws.{unnamed_read}
 use Rattle.liquid_syntax.proofs.cycle_items.read_cycle.Goals as goal
 

@@ -2,7 +2,7 @@ use Rattle.std.proofs.Common.{◌≡◌, ◌++◌, codes, drop, map, string_byte
 use Rattle.std.specs.List.{flat_map}
 use Rattle.liquid_core.specs.ExpressionView.{expression_view}
 use Rattle.liquid_core.specs.Written.{written_form}
-use Rattle.liquid_tree.specs.Groups.{values_group}
+use Rattle.liquid_evaluation.specs.Groups.{values_group}
 use Rattle.liquid_syntax.proofs.group.values_group.Given as goal
 
 -- what was written and what is left make the whole

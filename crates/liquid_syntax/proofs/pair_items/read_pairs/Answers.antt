@@ -1,6 +1,6 @@
 use Rattle.std.proofs.Common.{sym, ap, ◌∙◌, map, Some}
 use Rattle.std.proofs.lemmas.List.{map-append, append-nil}
-use Rattle.liquid_source.specs.Tokens.{tokens_view}
+use Rattle.liquid_lexer.specs.Tokens.{tokens_view}
 use Rattle.liquid_syntax.specs.Bound.{ends_pairs, one_first, pairs_of}
 use Rattle.liquid_syntax.specs.Flats.{binding_view, bindings_view}
 use Rattle.liquid_syntax.proofs.ChainCalls.{faulted}

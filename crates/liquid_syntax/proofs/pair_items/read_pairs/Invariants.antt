@@ -1,6 +1,6 @@
 use Rattle.std.proofs.Common.{length, ◌≡◌, ◌++◌}
 use Rattle.std.specs.Option.{option_map}
-use Rattle.liquid_source.specs.Tokens.{tokens_view}
+use Rattle.liquid_lexer.specs.Tokens.{tokens_view}
 use Rattle.liquid_syntax.specs.Bound.{pairs_of}
 use Rattle.liquid_syntax.specs.Flats.{bindings_view}
 use Rattle.liquid_syntax.proofs.Repetition.{behind_those}

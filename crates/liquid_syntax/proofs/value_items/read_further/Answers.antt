@@ -1,7 +1,7 @@
 use Rattle.std.proofs.Common.{[], ◌∷◌, ◌++◌, map, sym, ap, ◌∙◌, Some}
 use Rattle.std.proofs.lemmas.List.{map-append, append-nil}
 use Rattle.liquid_core.specs.ExpressionView.{expression_view}
-use Rattle.liquid_source.specs.Tokens.{tokens_view}
+use Rattle.liquid_lexer.specs.Tokens.{tokens_view}
 use Rattle.liquid_syntax.specs.ValueLists.{ends_values, further_first, further_of}
 use Rattle.liquid_syntax.proofs.ChainCalls.{faulted}
 use Rattle.liquid_syntax.proofs.ItemLaws.{further_begin, further_shorter}

@@ -1,7 +1,7 @@
 use Rattle.std.proofs.Common.{length, ◌≡◌, ◌∷◌, map}
 use Rattle.std.specs.Option.{option_map}
 use Rattle.liquid_core.specs.ExpressionView.{expression_view}
-use Rattle.liquid_source.specs.Tokens.{tokens_view}
+use Rattle.liquid_lexer.specs.Tokens.{tokens_view}
 use Rattle.liquid_syntax.specs.ValueLists.{further_of}
 use Rattle.liquid_syntax.proofs.Repetition.{behind_those}
 use Rattle.liquid_syntax.proofs.value_items.read_further.Given as goal

@@ -1,8 +1,8 @@
 use Rattle.std.proofs.Common.{List, Option, map, sym, subst}
 use Rattle.liquid_core.specs.Expression.{Expression}
 use Rattle.liquid_core.specs.ExpressionView.{expression_view}
-use Rattle.liquid_source.specs.Readers.{Parses}
-use Rattle.liquid_source.specs.Tokens.{tokens_view}
+use Rattle.liquid_lexer.specs.Readers.{Parses}
+use Rattle.liquid_lexer.specs.Tokens.{tokens_view}
 use Rattle.liquid_syntax.proofs.ItemLaws.{values_begin}
 use Rattle.liquid_syntax.proofs.value_items.read_values.Goals as goal
 

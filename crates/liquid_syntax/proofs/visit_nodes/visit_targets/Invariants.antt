@@ -1,6 +1,6 @@
 use Rattle.std.proofs.Common.{drop}
 use Rattle.liquid_syntax.specs.Flats.{bindings_view}
-use Rattle.liquid_tree.specs.Names.{target_names}
+use Rattle.liquid_evaluation.specs.Names.{target_names}
 use Rattle.liquid_syntax.proofs.visit_nodes.visit_targets.Given as goal
 
 -- what telling the rest does is what telling all of them does

@@ -1,4 +1,4 @@
-use Rattle.liquid_tree.proofs.Telling.{item_ended, item_told, all_told}
+use Rattle.liquid_evaluation.proofs.Telling.{item_ended, item_told, all_told}
 use Rattle.liquid_syntax.proofs.ToldNodes.{each_value}
 use Rattle.liquid_syntax.proofs.visit_nodes.visit_values.Goals as goal
 

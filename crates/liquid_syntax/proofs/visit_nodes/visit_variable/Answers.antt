@@ -1,7 +1,7 @@
 use Rattle.std.proofs.Common.{◌≡◌, [], ◌∷◌, ◌++◌, string_bytes, sym, ap}
-use Rattle.liquid_tree.specs.Names.{source_names}
-use Rattle.liquid_tree.specs.SourceView.{source_view}
-use Rattle.liquid_tree.proofs.Telling.{ended, went_on}
+use Rattle.liquid_evaluation.specs.Names.{source_names}
+use Rattle.liquid_evaluation.specs.SourceView.{source_view}
+use Rattle.liquid_evaluation.proofs.Telling.{ended, went_on}
 use Rattle.liquid_syntax.proofs.visit_nodes.visit_variable.Goals as goal
 
 pub returns-then-visit : goal.returns-then-visit

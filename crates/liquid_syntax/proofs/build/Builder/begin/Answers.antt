@@ -1,5 +1,5 @@
 use Rattle.std.proofs.Common.{◌∷◌, ◌∙◌, arith, false}
-use Rattle.liquid_tree.specs.Tree.{no_nodes}
+use Rattle.liquid_evaluation.specs.Tree.{no_nodes}
 use Rattle.liquid_syntax.specs.OpenBlocks.{depth, level, begun}
 use Rattle.liquid_syntax.specs.inside.Building.{opening}
 use Rattle.liquid_syntax.proofs.Adding.{begins_step, has_room}

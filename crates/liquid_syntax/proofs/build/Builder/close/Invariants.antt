@@ -1,5 +1,5 @@
 use Rattle.std.proofs.Common.{◌≡◌, List, true, length}
-use Rattle.liquid_tree.specs.Tree.{Nodes}
+use Rattle.liquid_evaluation.specs.Tree.{Nodes}
 use Rattle.liquid_syntax.specs.OpenBlocks.{Level, deeper, depth, close}
 use Rattle.liquid_syntax.specs.inside.Building.{IsStack}
 use Rattle.liquid_syntax.proofs.build.Builder.close.Given as goal

@@ -1,8 +1,8 @@
 use Rattle.std.proofs.Common.{length, subst, sym}
 use Rattle.liquid_language.specs.declared.block.Block.TheVariants as blocks
 use Rattle.liquid_language.specs.declared.language.BlockKind.{BlockKind}
-use Rattle.liquid_source.specs.Tokens.{tokens_view}
-use Rattle.liquid_source.specs.declared.fault.FaultKind.TheVariants.{Expected}
+use Rattle.liquid_lexer.specs.Tokens.{tokens_view}
+use Rattle.liquid_lexer.specs.declared.fault.FaultKind.TheVariants.{Expected}
 use Rattle.liquid_syntax.specs.Classification.{block_statement}
 use Rattle.liquid_syntax.specs.declared.build.Stage.TheVariants.{First, Last, Unkept}
 use Rattle.liquid_syntax.specs.inside.Classifies.{Classifies}

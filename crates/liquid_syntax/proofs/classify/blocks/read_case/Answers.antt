@@ -2,8 +2,8 @@ use Rattle.std.proofs.Common.{sym, ap, ◌∙◌, refl, Option}
 use Rattle.std.specs.Option.{option_map}
 use Rattle.liquid_core.specs.Expression.{Expression}
 use Rattle.liquid_core.specs.ExpressionView.{expression_view}
-use Rattle.liquid_source.specs.Tokens.{tokens_view}
-use Rattle.liquid_tree.specs.Tree.{case_of}
+use Rattle.liquid_lexer.specs.Tokens.{tokens_view}
+use Rattle.liquid_evaluation.specs.Tree.{case_of}
 use Rattle.liquid_syntax.specs.Flats.{arm_ends, arm_values, case_flat}
 use Rattle.liquid_syntax.specs.Classification.{many_or}
 use Rattle.liquid_language.specs.declared.block.Block.TheVariants as blocks

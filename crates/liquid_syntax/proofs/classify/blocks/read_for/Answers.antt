@@ -1,7 +1,7 @@
 use Rattle.std.proofs.Common.{sym, ap, ◌∙◌, refl, Some, string_bytes}
 use Rattle.std.specs.Option.{option_map}
-use Rattle.liquid_tree.specs.SourceView.{source_view}
-use Rattle.liquid_tree.specs.Tree.{Nodes, for_each}
+use Rattle.liquid_evaluation.specs.SourceView.{source_view}
+use Rattle.liquid_evaluation.specs.Tree.{Nodes, for_each}
 use Rattle.liquid_syntax.specs.Flats.{window_view}
 use Rattle.liquid_syntax.specs.Loops.{for_node}
 use Rattle.liquid_syntax.specs.declared.loop_nodes.For.{For}

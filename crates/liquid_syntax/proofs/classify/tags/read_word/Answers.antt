@@ -1,5 +1,5 @@
 use Rattle.std.proofs.Common.{sym, ◌∙◌, string_bytes}
-use Rattle.liquid_source.specs.Tokens.{tokens_view}
+use Rattle.liquid_lexer.specs.Tokens.{tokens_view}
 use Rattle.liquid_syntax.proofs.Alone.{word_done, word_more}
 use Rattle.liquid_syntax.proofs.ChainCalls.{faulted}
 use Rattle.liquid_syntax.proofs.ItemLaws.{nothing_seen}

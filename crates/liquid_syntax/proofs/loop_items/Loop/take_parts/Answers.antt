@@ -1,5 +1,5 @@
 use Rattle.std.proofs.Common.{sym, ap, ◌∙◌}
-use Rattle.liquid_source.specs.Tokens.{tokens_view}
+use Rattle.liquid_lexer.specs.Tokens.{tokens_view}
 use Rattle.liquid_syntax.specs.Loops.{parts_in, part_view, settled_of}
 use Rattle.liquid_syntax.proofs.ChainCalls.{faulted}
 use Rattle.liquid_syntax.proofs.ItemLaws.{no_part_more, no_part_there, nothing_seen, one_part_more}

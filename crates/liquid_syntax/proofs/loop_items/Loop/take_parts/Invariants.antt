@@ -1,5 +1,5 @@
 use Rattle.std.proofs.Common.{length, ◌≡◌}
-use Rattle.liquid_source.specs.Tokens.{tokens_view}
+use Rattle.liquid_lexer.specs.Tokens.{tokens_view}
 use Rattle.liquid_syntax.specs.Loops.{parts_in, settled_of}
 use Rattle.liquid_syntax.proofs.loop_items.Loop.take_parts.Given as goal
 

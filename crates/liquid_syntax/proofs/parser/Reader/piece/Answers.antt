@@ -1,10 +1,10 @@
 use Rattle.std.proofs.Common.{◌≡◌, ℕ, List, sym, ap, ◌∙◌, refl, subst, nat_le, Option}
 use Rattle.std.proofs.lemmas.Result.{err_from_is_err_and}
 use Rattle.std.specs.Prelude.{Err}
-use Rattle.liquid_source.specs.PieceView.{markup_view, piece_view}
-use Rattle.liquid_source.specs.Readers.{Fails}
-use Rattle.liquid_source.specs.SourceReading.{Markup, body_at, wanted_body}
-use Rattle.liquid_source.specs.declared.piece.Body.{Body}
+use Rattle.liquid_lexer.specs.PieceView.{markup_view, piece_view}
+use Rattle.liquid_lexer.specs.Readers.{Fails}
+use Rattle.liquid_lexer.specs.SourceReading.{Markup, body_at, wanted_body}
+use Rattle.liquid_lexer.specs.declared.piece.Body.{Body}
 use Rattle.liquid_syntax.specs.inside.Building.{statement_view}
 use Rattle.liquid_syntax.specs.Flats.{flats}
 use Rattle.liquid_syntax.specs.inside.Classifies.{Classifies}

@@ -1,11 +1,11 @@
 use Rattle.std.proofs.Common.{rules, ◌≡◌, length, ◌-◌, ◌<◌, [], sym, ap, ◌∙◌, arith, refl, subst, Option, Bool, List, ℕ}
 use Rattle.std.proofs.lemmas.Result.{err_from_is_err_and}
-use Rattle.liquid_source.specs.PieceView.{markup_view}
-use Rattle.liquid_source.specs.SourceReading.{source_at}
+use Rattle.liquid_lexer.specs.PieceView.{markup_view}
+use Rattle.liquid_lexer.specs.SourceReading.{source_at}
 use Rattle.liquid_syntax.specs.inside.Building.{Steps, text_added}
 use Rattle.liquid_syntax.specs.inside.TemplateReading.{body_of, piece_step}
 use Rattle.liquid_syntax.specs.OpenBlocks.{State}
-use Rattle.liquid_tree.specs.Tree.{no_nodes}
+use Rattle.liquid_evaluation.specs.Tree.{no_nodes}
 use Rattle.liquid_syntax.proofs.ParseTurns.{all_of, after_text, last_text, markup_refused, piece_refused, taken_fails, went_on, went_shorter}
 use Rattle.liquid_syntax.proofs.parser.Reader.read.Goals as goal
 

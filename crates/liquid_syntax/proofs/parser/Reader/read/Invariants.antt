@@ -4,8 +4,8 @@ use denote.Text.{Utf8}
 use Rattle.liquid_syntax.specs.inside.Building.{IsBuilding}
 use Rattle.liquid_syntax.specs.OpenBlocks.{Level}
 use Rattle.liquid_syntax.specs.inside.TemplateReading.{begun_with, body_of, piece_step}
-use Rattle.liquid_source.specs.SourceReading.{source_at}
-use Rattle.liquid_tree.specs.Tree.{Nodes}
+use Rattle.liquid_lexer.specs.SourceReading.{source_at}
+use Rattle.liquid_evaluation.specs.Tree.{Nodes}
 use Rattle.liquid_syntax.proofs.parser.Reader.read.Given as goal
 
 abbrev pub invariant-pieces : goal.invariant-pieces

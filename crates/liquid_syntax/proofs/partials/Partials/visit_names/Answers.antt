@@ -1,6 +1,6 @@
 use Rattle.std.proofs.Common.{◌≡◌, true, false, [], ◌∷◌, ◌++◌, refl, ap, subst, ◌∙◌, rules}
 use Rattle.std.specs.Map.{values_of}
-use Rattle.liquid_tree.proofs.Telling.{ended, went_on}
+use Rattle.liquid_evaluation.proofs.Telling.{ended, went_on}
 use Rattle.liquid_syntax.specs.inside.Mentions.{held_names, partials_list_names}
 use Rattle.liquid_syntax.proofs.ToldNodes.{each_slot}
 use Rattle.liquid_syntax.proofs.partials.Partials.visit_names.Goals as goal

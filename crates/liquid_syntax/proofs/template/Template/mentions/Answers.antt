@@ -1,5 +1,5 @@
 use Rattle.std.proofs.Common.{sym, ap, ◌∙◌}
-use Rattle.liquid_tree.specs.Names.{mentioned}
+use Rattle.liquid_evaluation.specs.Names.{mentioned}
 use Rattle.liquid_syntax.specs.inside.Mentions.{list_names}
 use Rattle.liquid_syntax.proofs.TreeNames.{template_mentions}
 use Rattle.liquid_syntax.proofs.template.Template.mentions.Goals as goal

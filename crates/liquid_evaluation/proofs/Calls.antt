@@ -1,0 +1,247 @@
+-- Chains of filters, call by call.
+use Rattle.std.proofs.Common.{◌≡◌, ℕ, ◌+◌, ◌<◌, ◌≤◌, List, [], ◌∷◌, ◌++◌, length, drop, map, get_or, Bool, true, false, MatchBool, Option, Some, None, Result, Ok, Err, arith, refl, sym, ap, ◌∙◌, subst, append_assoc, append-nil}
+use Rattle.std.specs.Bool.{⊤}
+use Rattle.std.proofs.lemmas.List.{drop_more, drop_all}
+use Rattle.std.specs.List.{list_all}
+use Rattle.std.proofs.lemmas.List.Sums.{AllPass-from_list_all}
+use Rattle.liquid_model.specs.Answer.{Answers, Faulted}
+use Rattle.liquid_model.specs.ErrorKinds.{IsKindOrMemory, is_memory, is_refusal}
+use Rattle.liquid_model.specs.Data.{Datum, number}
+use Rattle.liquid_model.specs.declared.error.Error.{Error}
+use Rattle.liquid_model.specs.declared.error.ErrorKind.{ErrorKind}
+use Rattle.liquid_model.specs.declared.value.Value.{Value}
+use Rattle.liquid_model.specs.View.{view}
+use Rattle.liquid_model.specs.Fallible.{◌>>=◌}
+use Rattle.liquid_core.specs.Expression as tree
+use Rattle.liquid_core.specs.Environment.{Environment}
+use Rattle.liquid_core.specs.Expressions.{value_of, required, all_required}
+use Rattle.liquid_core.specs.FilterAnswers.{AnswersIf}
+use Rattle.liquid_core.specs.Said.{Says}
+use Rattle.liquid_core.specs.declared.resolved.Near.{Near}
+use Rattle.liquid_core.specs.declared.resolved.Near.TheVariants.{Held, Number, Nothing, Unsaid}
+use Rattle.liquid_evaluation.specs.Calls.{Call, applied}
+use Rattle.liquid_evaluation.specs.Said.{SaysOf}
+use Rattle.liquid_evaluation.specs.Tree.{FilterCall, Chain}
+use Rattle.liquid_evaluation.specs.Evaluation.{FilterAnswers, entry_value, call_by, calls_by, chain_value}
+
+-- a fault met first is the fault of the whole
+pub faulted_then : {A B : Type 0} (kind : ErrorKind) (a : Result A ErrorKind) (f : A → Result B ErrorKind) → Faulted kind a → Faulted kind (a >>= f)
+faulted_then {A} {B} kind a f h = on (is_memory kind) h
+  where
+    on : (b : Bool) → MatchBool b ⊤ ((a ≡ Err kind) × (is_refusal kind ≡ false)) → MatchBool b ⊤ (((a >>= f) ≡ Err kind) × (is_refusal kind ≡ false))
+    on true m = m
+    on false m = (ap (λ r. r >>= f) m.0, m.1)
+
+pub faulted_as : {A : Type 0} (kind : ErrorKind) (a b : Result A ErrorKind) → a ≡ b → Faulted kind b → Faulted kind a
+faulted_as kind a b e h = subst (λ r. Faulted kind r) (sym e) h
+
+-- the same fault, told again
+pub faulted_told : {A : Type 0} (kind told : ErrorKind) (wanted : Result A ErrorKind) → IsKindOrMemory kind told → Faulted kind wanted → Faulted told wanted
+faulted_told kind told wanted h f = on (is_memory told) refl h
+  where
+    on : (b : Bool) → is_memory told ≡ b → MatchBool b ⊤ (kind ≡ told) → MatchBool (is_memory told) ⊤ ((wanted ≡ Err told) × (is_refusal told ≡ false))
+    on true is m = subst (λ b. MatchBool b ⊤ ((wanted ≡ Err told) × (is_refusal told ≡ false))) (sym is) tt
+    on false is m = subst (λ k. Faulted k wanted) m f
+
+-- ---- answers of filters whose kinds need not be the meaning's
+
+pub answers_if : {X Y : Type 0} (within : Bool) (view : X → Y) (r : Result X Error) (wanted : Result Y ErrorKind) → Answers view r wanted → AnswersIf within view r wanted
+answers_if true view r wanted h = h
+answers_if false view (Ok x) wanted h = h
+answers_if false view (Err e) wanted h = on (is_memory e.kind) h
+  where
+    on : (b : Bool) → MatchBool b ⊤ ((wanted ≡ Err e.kind) × (is_refusal e.kind ≡ false)) → MatchBool b ⊤ (wanted ≡ Err e.kind)
+    on true m = m
+    on false m = m.0
+
+pub if_answered : {X Y : Type 0} (within : Bool) (view : X → Y) (x : X) (wanted : Result Y ErrorKind) → AnswersIf within view (Ok x) wanted → wanted ≡ Ok (view x)
+if_answered true view x wanted h = h
+if_answered false view x wanted h = h
+
+-- a fault of one is the fault of all
+pub faulted_if : {V W X Y : Type 0} (v : V → X) (w : W → Y) (one all : Bool) (e x : Error) (a : Result X ErrorKind) (b : Result Y ErrorKind) → (all ≡ true → one ≡ true) → (a ≡ Err e.kind → b ≡ Err e.kind) → x.kind ≡ e.kind
+    → AnswersIf one v (Err e) a → AnswersIf all w (Err x) b
+faulted_if v w true true e x a b i f same h = rw same (on (is_memory e.kind) h)
+  where
+    on : (m : Bool) → MatchBool m ⊤ ((a ≡ Err e.kind) × (is_refusal e.kind ≡ false)) → MatchBool m ⊤ ((b ≡ Err e.kind) × (is_refusal e.kind ≡ false))
+    on true n = n
+    on false n = (f n.0, n.1)
+faulted_if v w true false e x a b i f same h = rw same (on (is_memory e.kind) h)
+  where
+    on : (m : Bool) → MatchBool m ⊤ ((a ≡ Err e.kind) × (is_refusal e.kind ≡ false)) → MatchBool m ⊤ (b ≡ Err e.kind)
+    on true n = n
+    on false n = f n.0
+faulted_if v w false true e x a b i f same h = let u : false ≡ true = i refl in absurd cc
+faulted_if v w false false e x a b i f same h = rw same (on (is_memory e.kind) h)
+  where
+    on : (m : Bool) → MatchBool m ⊤ (a ≡ Err e.kind) → MatchBool m ⊤ (b ≡ Err e.kind)
+    on true n = n
+    on false n = f n
+
+pub all_within : {X : Type 0} (f : X → Bool) (xs : List X) (i : ℕ) (x : X) → i < length xs → x ≡ get_or xs i x → list_all f xs ≡ true → f x ≡ true
+all_within f xs i x h is all = ap f is ∙ AllPass-from_list_all f xs all i x h
+
+-- ---- arguments
+
+-- a value put before what is done with the rest
+cons_then : (r : Result (List Datum) ErrorKind) (done : List Datum) (d : Datum)
+    → ((r >>= (λ ds. Ok (d ∷ ds))) >>= (λ ds. Ok (done ++ ds))) ≡ (r >>= (λ ds. Ok ((done ++ d ∷ []) ++ ds)))
+cons_then (Ok ds) done d = ap Ok (sym (append_assoc done (d ∷ []) ds))
+cons_then (Err kind) done d = refl
+
+next_argument : {X : Type 0} (f : X → tree.Expression) (e : Environment) (xs : List X) (i : ℕ) (x : X) (done : List Datum) → i < length xs → x ≡ get_or xs i x
+    → (all_required (map f (drop i xs)) e >>= (λ ds. Ok (done ++ ds)))
+    ≡ ((required (f x) e >>= (λ d. all_required (map f (drop (i + 1) xs)) e >>= (λ ds. Ok (d ∷ ds)))) >>= (λ ds. Ok (done ++ ds)))
+unfolding all_required
+next_argument f e xs i x done h is =
+    ap (λ y. all_required (map f y) e >>= (λ ds. Ok (done ++ ds))) (drop_more xs i x h ∙ ap (λ y. y ∷ drop (i + 1) xs) (sym is))
+
+pub arguments_more : {X : Type 0} (f : X → tree.Expression) (all : Result (List Datum) ErrorKind) (e : Environment) (xs : List X) (i : ℕ) (x : X) (done : List Datum) (d : Datum)
+    → i < length xs → x ≡ get_or xs i x → required (f x) e ≡ Ok d
+    → all ≡ (all_required (map f (drop i xs)) e >>= (λ ds. Ok (done ++ ds)))
+    → all ≡ (all_required (map f (drop (i + 1) xs)) e >>= (λ ds. Ok ((done ++ d ∷ []) ++ ds)))
+arguments_more f all e xs i x done d h is v so_far =
+    so_far ∙ next_argument f e xs i x done h is
+    ∙ ap (λ r. (r >>= (λ d. all_required (map f (drop (i + 1) xs)) e >>= (λ ds. Ok (d ∷ ds)))) >>= (λ ds. Ok (done ++ ds))) v
+    ∙ cons_then (all_required (map f (drop (i + 1) xs)) e) done d
+
+pub arguments_stop : {X : Type 0} (f : X → tree.Expression) (all : Result (List Datum) ErrorKind) (e : Environment) (xs : List X) (i : ℕ) (x : X) (done : List Datum) (kind : ErrorKind)
+    → i < length xs → x ≡ get_or xs i x → Faulted kind (required (f x) e)
+    → all ≡ (all_required (map f (drop i xs)) e >>= (λ ds. Ok (done ++ ds)))
+    → Faulted kind all
+arguments_stop f all e xs i x done kind h is v so_far =
+    faulted_as kind all _ (so_far ∙ next_argument f e xs i x done h is)
+    (faulted_then kind _ (λ ds. Ok (done ++ ds)) (faulted_then kind (required (f x) e) (λ d. all_required (map f (drop (i + 1) xs)) e >>= (λ ds. Ok (d ∷ ds))) v))
+
+pub arguments_end : {X : Type 0} (f : X → tree.Expression) (all : Result (List Datum) ErrorKind) (e : Environment) (xs : List X) (i : ℕ) (done : List Datum) → length xs ≤ i
+    → all ≡ (all_required (map f (drop i xs)) e >>= (λ ds. Ok (done ++ ds))) → all ≡ Ok done
+unfolding all_required
+arguments_end f all e xs i done h so_far =
+    so_far ∙ ap (λ y. all_required (map f y) e >>= (λ ds. Ok (done ++ ds))) (drop_all i xs h) ∙ ap Ok (append-nil done)
+
+-- nothing is done yet
+none_done : (r : Result (List Datum) ErrorKind) → r ≡ (r >>= (λ ds. Ok ([] ++ ds)))
+none_done (Ok ds) = refl
+none_done (Err kind) = refl
+
+-- a single argument
+pub one_argument : {X : Type 0} (f : X → tree.Expression) (e : Environment) (xs : List X) (x : X) (d : Datum) → 0 < length xs → length xs ≤ 1 → x ≡ get_or xs 0 x
+    → required (f x) e ≡ Ok d → all_required (map f xs) e ≡ Ok (d ∷ [])
+one_argument f e xs x d h l is v =
+    arguments_end f (all_required (map f xs) e) e xs 1 (d ∷ []) l (arguments_more f (all_required (map f xs) e) e xs 0 x [] d h is v (none_done (all_required (map f xs) e)))
+
+pub one_argument_faulted : {X : Type 0} (f : X → tree.Expression) (e : Environment) (xs : List X) (x : X) (kind : ErrorKind) → 0 < length xs → x ≡ get_or xs 0 x
+    → Faulted kind (required (f x) e) → Faulted kind (all_required (map f xs) e)
+one_argument_faulted f e xs x kind h is v = arguments_stop f (all_required (map f xs) e) e xs 0 x [] kind h is v (none_done (all_required (map f xs) e))
+
+-- ---- calls
+
+-- a call whose filter is no more than applied to its arguments, and what is done with the answer
+alone : (r : Result (List Datum) ErrorKind) (answers : Datum → List Datum → Result Datum ErrorKind) (d : Datum) (k : Datum → Result Datum ErrorKind)
+    → (r >>= (λ ds. answers d ds >>= k)) ≡ ((r >>= (λ ds. answers d ds >>= (λ y. Ok y))) >>= k)
+alone (Err kind) answers d k = refl
+alone (Ok ds) answers d k = on (answers d ds)
+  where
+    on : (a : Result Datum ErrorKind) → (a >>= k) ≡ ((a >>= (λ y. Ok y)) >>= k)
+    on (Ok y) = refl
+    on (Err kind) = refl
+
+-- one call, once its arguments have values
+pub one_call : (within : Bool) (call : Call) (e : Environment) (d : Datum) (ds : List Datum) (r : Result Value Error) → all_required call.arguments e ≡ Ok ds
+    → AnswersIf within view r (call.answers d ds) → AnswersIf within view r (applied (call ∷ []) d e)
+unfolding applied
+one_call within call e d ds r values h =
+    subst (λ wanted. AnswersIf within view r wanted) (as_it_is (call.answers d ds) ∙ ap (λ given. given >>= (λ es. call.answers d es >>= (λ y. Ok y))) (sym values)) h
+  where
+    as_it_is : (a : Result Datum ErrorKind) → a ≡ (a >>= (λ y. Ok y))
+    as_it_is (Ok y) = refl
+    as_it_is (Err kind) = refl
+
+-- and where one of them has none
+pub one_call_faulted : (within : Bool) (call : Call) (e : Environment) (d : Datum) (fault : Error) → Faulted fault.kind (all_required call.arguments e)
+    → AnswersIf within view (Err fault) (applied (call ∷ []) d e)
+unfolding applied
+one_call_faulted within call e d fault h =
+    answers_if {X = Value} within view (Err fault) (applied (call ∷ []) d e) (faulted_then fault.kind (all_required call.arguments e) (λ ds. call.answers d ds >>= (λ y. Ok y)) h)
+
+next_call : {X : Type 0} (f : X → Call) (e : Environment) (xs : List X) (i : ℕ) (x : X) (d : Datum) → i < length xs → x ≡ get_or xs i x
+    → applied (map f (drop i xs)) d e ≡ (applied (f x ∷ []) d e >>= (λ y. applied (map f (drop (i + 1) xs)) y e))
+unfolding applied
+next_call f e xs i x d h is =
+    ap (λ y. applied (map f y) d e) (drop_more xs i x h ∙ ap (λ y. y ∷ drop (i + 1) xs) (sym is))
+    ∙ alone (all_required (f x).arguments e) (f x).answers d (λ y. applied (map f (drop (i + 1) xs)) y e)
+
+pub calls_more : {X : Type 0} (f : X → Call) (all : Result Datum ErrorKind) (e : Environment) (xs : List X) (i : ℕ) (x : X) (d answer : Datum)
+    → i < length xs → x ≡ get_or xs i x → applied (f x ∷ []) d e ≡ Ok answer
+    → all ≡ applied (map f (drop i xs)) d e → all ≡ applied (map f (drop (i + 1) xs)) answer e
+calls_more f all e xs i x d answer h is a so_far =
+    so_far ∙ next_call f e xs i x d h is ∙ ap (λ r. r >>= (λ y. applied (map f (drop (i + 1) xs)) y e)) a
+
+-- an argument's fault, or a filter's
+pub calls_stop : {X : Type 0} (f : X → Call) (all : Result Datum ErrorKind) (e : Environment) (xs : List X) (i : ℕ) (x : X) (d : Datum) (kind : ErrorKind)
+    → i < length xs → x ≡ get_or xs i x → all ≡ applied (map f (drop i xs)) d e → applied (f x ∷ []) d e ≡ Err kind → all ≡ Err kind
+calls_stop f all e xs i x d kind h is so_far a =
+    so_far ∙ next_call f e xs i x d h is ∙ ap (λ r. r >>= (λ y. applied (map f (drop (i + 1) xs)) y e)) a
+
+pub calls_end : {X : Type 0} (f : X → Call) (all : Result Datum ErrorKind) (e : Environment) (xs : List X) (i : ℕ) (d : Datum) → length xs ≤ i
+    → all ≡ applied (map f (drop i xs)) d e → all ≡ Ok d
+unfolding applied
+calls_end f all e xs i d h so_far = so_far ∙ ap (λ y. applied (map f y) d e) (drop_all i xs h)
+
+-- ---- a stored chain, of which each filter is applied alone
+
+next_filter : {X : Type 0} (answers : FilterAnswers) (f : X → FilterCall) (e : Environment) (xs : List X) (i : ℕ) (x : X) (d : Datum) → i < length xs → x ≡ get_or xs i x
+    → applied (calls_by answers (map f (drop i xs))) d e ≡ (applied (call_by answers (f x) ∷ []) d e >>= (λ y. applied (calls_by answers (map f (drop (i + 1) xs))) y e))
+unfolding applied
+next_filter answers f e xs i x d h is =
+    ap (λ y. applied (calls_by answers (map f y)) d e) (drop_more xs i x h ∙ ap (λ y. y ∷ drop (i + 1) xs) (sym is))
+    ∙ alone (all_required (f x).arguments e) (answers (f x).filter) d (λ y. applied (calls_by answers (map f (drop (i + 1) xs))) y e)
+
+pub filters_more : {X : Type 0} (answers : FilterAnswers) (f : X → FilterCall) (all : Result Datum ErrorKind) (e : Environment) (xs : List X) (i : ℕ) (x : X) (d answer : Datum)
+    → i < length xs → x ≡ get_or xs i x → applied (call_by answers (f x) ∷ []) d e ≡ Ok answer
+    → all ≡ applied (calls_by answers (map f (drop i xs))) d e → all ≡ applied (calls_by answers (map f (drop (i + 1) xs))) answer e
+filters_more answers f all e xs i x d answer h is a so_far =
+    so_far ∙ next_filter answers f e xs i x d h is ∙ ap (λ r. r >>= (λ y. applied (calls_by answers (map f (drop (i + 1) xs))) y e)) a
+
+pub filters_stop : {X : Type 0} (answers : FilterAnswers) (f : X → FilterCall) (all : Result Datum ErrorKind) (e : Environment) (xs : List X) (i : ℕ) (x : X) (d : Datum) (kind : ErrorKind)
+    → i < length xs → x ≡ get_or xs i x → Faulted kind (applied (call_by answers (f x) ∷ []) d e)
+    → all ≡ applied (calls_by answers (map f (drop i xs))) d e → Faulted kind all
+filters_stop answers f all e xs i x d kind h is a so_far =
+    faulted_as kind all _ (so_far ∙ next_filter answers f e xs i x d h is)
+    (faulted_then kind (applied (call_by answers (f x) ∷ []) d e) (λ y. applied (calls_by answers (map f (drop (i + 1) xs))) y e) a)
+
+pub filters_end : {X : Type 0} (answers : FilterAnswers) (f : X → FilterCall) (all : Result Datum ErrorKind) (e : Environment) (xs : List X) (i : ℕ) (d : Datum) → length xs ≤ i
+    → all ≡ applied (calls_by answers (map f (drop i xs))) d e → all ≡ Ok d
+unfolding applied
+filters_end answers f all e xs i d h so_far = so_far ∙ ap (λ y. applied (calls_by answers (map f y)) d e) (drop_all i xs h)
+
+-- the chain once its entry has a value, and where it has none
+pub chain_from : (answers : FilterAnswers) (chain : Chain) (e : Environment) (d : Datum) → entry_value (value_of chain.entry e) chain.filters ≡ Ok d
+    → chain_value answers chain e ≡ applied (calls_by answers chain.filters) d e
+unfolding chain_value
+chain_from answers chain e d h = ap (λ r. r >>= (λ y. applied (calls_by answers chain.filters) y e)) h
+
+pub chain_faulted : (answers : FilterAnswers) (chain : Chain) (e : Environment) (kind : ErrorKind) → Faulted kind (entry_value (value_of chain.entry e) chain.filters)
+    → Faulted kind (chain_value answers chain e)
+unfolding chain_value
+chain_faulted answers chain e kind h = faulted_then kind (entry_value (value_of chain.entry e) chain.filters) (λ y. applied (calls_by answers chain.filters) y e) h
+
+-- ---- a chain without filters
+
+nothing_applied : (answers : FilterAnswers) (d : Datum) (e : Environment) → applied (calls_by answers []) d e ≡ Ok d
+unfolding applied
+nothing_applied answers d e = refl
+
+its_entry : (answers : FilterAnswers) (chain : Chain) (e : Environment) (d : Datum) → chain.filters ≡ [] → Some d ≡ value_of chain.entry e → chain_value answers chain e ≡ Ok d
+its_entry answers chain e d none h =
+    chain_from answers chain e d (sym (ap (λ o. entry_value o chain.filters) h)) ∙ ap (λ fs. applied (calls_by answers fs) d e) none ∙ nothing_applied answers d e
+
+pub said_of : (n : Near) (chain : Chain) (e : Environment) → chain.filters ≡ [] → Says n (value_of chain.entry e) None → SaysOf n chain e
+said_of (Held v) chain e none h = λ answers. its_entry answers chain e (view v.now) none h
+said_of (Number n) chain e none h = λ answers. its_entry answers chain e (number n) none h
+said_of Nothing chain e none h = tt
+said_of Unsaid chain e none h = tt
+
+pub none_of : {X Y : Type 0} (f : X → Y) (xs : List X) → length xs ≡ 0 → map f xs ≡ []
+none_of f [] h = refl
+none_of f (x ∷ xs) h = absurd (omega (arith, h))

@@ -1,0 +1,199 @@
+-- What chains, conditions and loop sources are in an environment: a value, or a kind.
+--     chain_value      a chain's value;   truth_of      a condition's
+--     source_items, window_items      the items of a loop's source; those of them that are asked for
+use Rattle.std.specs.Prelude.{ℕ, zero, suc, ◌-◌, min, ℤ, pos, negsuc, ◌+ℤ◌, ◌-ℤ◌, nat_abs, int_le, nat_le, nat_eq, Bool, true, false, cond, not, ◌&&◌, ◌||◌, List, [], ◌∷◌, length, map, reverse, get_or, Option, Some, None, Result, Ok, Err, is_some}
+use Rattle.std.specs.declared.cmp.Ordering.{Ordering}
+use Rattle.std.specs.Ordering.{is_lt, is_gt, is_le, is_ge}
+use Rattle.std.specs.List.{starts_with, list_any}
+use Rattle.liquid_model.specs.Texts.{Text}
+use Rattle.liquid_model.specs.Data.{Datum, Pairs, nil, number, array, object, text_of, truthy, scalar}
+use Rattle.liquid_model.specs.Lists.{list_of, pair_lists}
+use Rattle.liquid_model.specs.Order.{same}
+use Rattle.liquid_model.specs.Compare.{compare}
+use Rattle.liquid_model.specs.Find.{value_at}
+use Rattle.liquid_model.specs.declared.error.ErrorKind.{ErrorKind}
+use Rattle.liquid_model.specs.declared.error.ErrorKind.TheVariants.{UnknownVariable, UnexpectedValue, RangeTooLong}
+use Rattle.liquid_model.specs.Fallible.{◌>>=◌}
+use Rattle.liquid_core.specs.Expression.{Expression}
+use Rattle.liquid_core.specs.Environment.{Environment}
+use Rattle.liquid_core.specs.Expressions.{value_of, required, needed_whole}
+use Rattle.liquid_core.specs.FilterAnswers.{FilterAnswer}
+use Rattle.liquid_filters.specs.Kinds.{kind_answer}
+use Rattle.liquid_evaluation.specs.declared.comparison.ComparisonOperator.{ComparisonOperator}
+use Rattle.liquid_evaluation.specs.declared.comparison.ComparisonOperator.TheVariants.{Equals, NotEquals, LessThan, GreaterThan, LessThanEquals, GreaterThanEquals, Contains}
+use Rattle.liquid_evaluation.specs.Calls.{Call, applied}
+use Rattle.liquid_evaluation.specs.Tree.{Filter, existing, hosted, FilterCall, Chain, Atom, bare, compared, Condition, Source, each_of, counted, Window, Bindings}
+
+-- ---- chains
+
+-- what each filter answers to an input and arguments
+abbrev pub FilterAnswers : Type 0
+FilterAnswers = Filter → FilterAnswer
+
+-- the filters that exist, beside those of a host by name
+abbrev pub answers_with : (Text → FilterAnswer) → FilterAnswers
+answers_with named (existing kind) = kind_answer kind
+answers_with named (hosted name) = named name
+
+-- a missing entry is nil before a filter, and UnknownVariable without one
+abbrev pub entry_value : Option Datum → List FilterCall → Result Datum ErrorKind
+entry_value (Some d) calls = Ok d
+entry_value None [] = Err UnknownVariable
+entry_value None (call ∷ calls) = Ok nil
+
+-- a chain's filter with what it answers, and all of them
+abbrev pub call_by : FilterAnswers → FilterCall → Call
+call_by answers call = record { answers = answers call.filter; arguments = call.arguments }
+
+abbrev pub calls_by : FilterAnswers → List FilterCall → List Call
+calls_by answers = map (call_by answers)
+
+-- the entry, then the filters in order
+unfoldable pub chain_value : FilterAnswers → Chain → Environment → Result Datum ErrorKind
+chain_value answers chain e = do
+  entry ← entry_value (value_of chain.entry e) chain.filters
+  applied (calls_by answers chain.filters) entry e
+
+-- ---- conditions
+
+-- where the order of conditions has no answer, each test of it is false
+abbrev pub passes : (Ordering → Bool) → Option Ordering → Bool
+passes test None = false
+passes test (Some o) = test o
+
+-- whether t has s in it
+abbrev pub occurs_in : Text → Text → Bool
+occurs_in s [] = starts_with nat_eq [] s
+occurs_in s (c ∷ t) = starts_with nat_eq (c ∷ t) s || occurs_in s t
+
+-- whether the text of a scalar is a key
+abbrev pub has_key : Pairs → Datum → Bool
+has_key ps d = scalar d && is_some (value_at (text_of d) ps)
+
+-- nil on the left is refused; a list has an equal item; a map has a scalar's text as a key; a scalar's text has the text of d in it
+abbrev pub contains : Datum → Datum → Result Bool ErrorKind
+contains nil d = Err UnexpectedValue
+contains (array ds) d = Ok (list_any (λ item. same item d) (list_of ds))
+contains (object ps) d = Ok (has_key ps d)
+contains c d = Ok (occurs_in (text_of d) (text_of c))
+
+unfoldable pub comparison_truth : ComparisonOperator → Datum → Datum → Result Bool ErrorKind
+comparison_truth Equals l r = Ok (same l r)
+comparison_truth NotEquals l r = Ok (not (same l r))
+comparison_truth LessThan l r = Ok (passes is_lt (compare l r))
+comparison_truth GreaterThan l r = Ok (passes is_gt (compare l r))
+comparison_truth LessThanEquals l r = Ok (passes is_le (compare l r))
+comparison_truth GreaterThanEquals l r = Ok (passes is_ge (compare l r))
+comparison_truth Contains l r = contains l r
+
+-- a missing value is false
+abbrev pub bare_truth : Option Datum → Bool
+bare_truth None = false
+bare_truth (Some d) = truthy d
+
+-- the truth of a value, or a comparison of two, the left one evaluated first
+unfoldable pub atom_truth : Atom → Environment → Result Bool ErrorKind
+atom_truth (bare x) e = Ok (bare_truth (value_of x e))
+atom_truth (compared left comparison right) e = do
+  l ← required left e
+  r ← required right e
+  comparison_truth comparison l r
+
+-- atoms joined by `and`: up to the first that is false
+unfoldable pub all_true : List Atom → Environment → Result Bool ErrorKind
+all_true [] e = Ok true
+all_true (atom ∷ atoms) e = do
+  holds ← atom_truth atom e
+  cond holds (all_true atoms e) (Ok false)
+
+-- conjunctions joined by `or`: up to the first that is true
+unfoldable pub truth_of : Condition → Environment → Result Bool ErrorKind
+truth_of [] e = Ok false
+truth_of (conjunction ∷ conjunctions) e = do
+  holds ← all_true conjunction e
+  cond holds (Ok true) (truth_of conjunctions e)
+
+-- ---- loops
+
+abbrev pub most_items : ℕ
+most_items = 9223372036854775807
+
+-- a list gives its items, a map the two-item lists `[key, value]`, nil none; other values are refused
+abbrev pub value_items : Datum → Result (List Datum) ErrorKind
+value_items nil = Ok []
+value_items (array ds) = Ok (list_of ds)
+value_items (object ps) = Ok (pair_lists ps)
+value_items _ = Err UnexpectedValue
+
+abbrev pub not_too_long : ℕ → List Datum → Result (List Datum) ErrorKind
+not_too_long n ds = cond (nat_le n most_items) (Ok ds) (Err RangeTooLong)
+
+-- how many numbers stand from a to b
+abbrev pub count_to : ℤ → ℤ → ℕ
+count_to a b = cond (int_le a b) (suc (nat_abs (b -ℤ a))) 0
+
+-- n numbers from a on
+abbrev pub numbers_from : ℤ → ℕ → List Datum
+numbers_from a zero = []
+numbers_from a (suc n) = number a ∷ numbers_from (a +ℤ pos 1) n
+
+-- the items of a value, or the numbers of a range, each end of which is evaluated and converted in turn; too many items are refused
+unfoldable pub source_items : Source → Environment → Result (List Datum) ErrorKind
+source_items (each_of x) e = do
+  d ← required x e
+  ds ← value_items d
+  not_too_long (length ds) ds
+source_items (counted first last) e = do
+  a ← needed_whole first e
+  b ← needed_whole last e
+  not_too_long (count_to a b) (numbers_from a (count_to a b))
+
+-- a limit, an offset or a number of columns, where one is given: a whole number
+unfoldable pub amount : Option Expression → Environment → Result (Option ℤ) ErrorKind
+amount None e = Ok None
+amount (Some x) e = do
+  n ← needed_whole x e
+  Ok (Some n)
+
+-- a negative number counts as huge
+abbrev pub at_most : ℕ → ℤ → ℕ
+at_most n (pos k) = min k n
+at_most n (negsuc k) = n
+
+-- of n items, how many are left out, and how many are asked for behind o of them
+abbrev pub skipped : ℕ → Option ℤ → ℕ
+skipped n None = 0
+skipped n (Some offset) = at_most n offset
+
+abbrev pub wanted : ℕ → ℕ → Option ℤ → ℕ
+wanted n o None = n - o
+wanted n o (Some limit) = at_most n limit
+
+-- m items from place o on, each nil where there is none
+abbrev pub items_at : List Datum → ℕ → ℕ → List Datum
+items_at ds o zero = []
+items_at ds o (suc m) = get_or ds o nil ∷ items_at ds (suc o) m
+
+-- of these items, what limit, offset and, last of all, `reversed` ask for
+abbrev pub window_items : List Datum → Option ℤ → Option ℤ → Bool → List Datum
+window_items ds limit offset reversed =
+    let o = skipped (length ds) offset in
+    let items = items_at ds o (wanted (length ds) o limit) in
+    cond reversed (reverse items) items
+
+-- limit and offset are evaluated in this order
+unfoldable pub asked_for : Window → List Datum → Environment → Result (List Datum) ErrorKind
+asked_for window ds e = do
+  limit ← amount window.limit e
+  offset ← amount window.offset e
+  Ok (window_items ds limit offset window.reversed)
+
+-- ---- the pairs of a tag
+
+-- each pair's name and value, evaluated in order; a missing value is UnknownVariable
+unfoldable pub bound_values : Bindings → Environment → Result (List (Text × Datum)) ErrorKind
+bound_values [] e = Ok []
+bound_values (b ∷ bs) e = do
+  d ← required b.1 e
+  ds ← bound_values bs e
+  Ok ((b.0, d) ∷ ds)

@@ -1,0 +1,67 @@
+//! The values of a call's arguments.
+ghost use Rattle.std.specs.Prelude.{◌≡◌, length, map, IfOk};
+ghost use Rattle.liquid_model.specs.Answer.{Answers};
+ghost use Rattle.liquid_model.specs.View.{view};
+ghost use Rattle.liquid_core.specs.Expressions.{all_required};
+ghost use Rattle.liquid_core.specs.ExpressionView.{expression_view};
+ghost use Rattle.liquid_core.specs.States.{environment_of};
+ghost use Rattle.liquid_evaluation.specs.inside.Arguments.{arguments_view};
+
+use liquid_core::{Expression, Result, State, Value, ValueCow};
+use std::alloc::Global;
+use std::slice;
+
+/// The values of a call's arguments: a single one, as it is lent, or a list of copies. Most calls have one argument or none, and
+/// then nothing is copied.
+pub(crate) enum Arguments<'x> {
+    One(ValueCow<'x>),
+    Many(Vec<Value>),
+}
+
+/// Drops what it holds. By hand, so that a way out of a function that owns one is one call to prove.
+impl Drop for Arguments<'_> {
+    fn drop(self) {
+        match self {
+            Arguments::One(_) => {}
+            Arguments::Many(_) => {}
+        }
+    }
+}
+
+impl Arguments<'_> {
+    pub(crate) fn as_slice(&self) -> &[Value]
+        ensures { map view result.now ≡ arguments_view self.now }
+    {
+        match self {
+            Arguments::One(value) => slice::from_ref(value.as_value()),
+            Arguments::Many(values) => values.as_slice(),
+        }
+    }
+}
+
+/// The values of the expressions, from left to right.
+pub(crate) fn evaluate_all<'x>(
+    alloc: Global,
+    expressions: &'x [Expression],
+    state: &'x State<'_>,
+) -> Result<Arguments<'x>>
+    ensures values { Answers arguments_view result (all_required (map expression_view expressions.now) (environment_of state.now)) }
+    ensures count { IfOk result (λ a. length (arguments_view a) ≡ length expressions.now) }
+{
+    match expressions {
+        [expression] => Ok(Arguments::One(expression.evaluate(alloc, state)?)),
+        _ => Ok(Arguments::Many(evaluate_each(alloc, expressions, state)?)),
+    }
+}
+
+/// Copies of the values of the expressions, from left to right.
+fn evaluate_each(alloc: Global, expressions: &[Expression], state: &State<'_>) -> Result<Vec<Value>>
+    ensures values { Answers (λ v. map view v.items) result (all_required (map expression_view expressions.now) (environment_of state.now)) }
+    ensures count { IfOk result (λ v. length v.items ≡ length expressions.now) }
+{
+    let mut values = Vec::with_capacity(alloc, expressions.len())?;
+    for expression in expressions {
+        values.push(expression.evaluate(alloc, state)?.into_owned(alloc)?)?;
+    }
+    Ok(values)
+}

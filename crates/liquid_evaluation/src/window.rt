@@ -1,0 +1,87 @@
+//! Which of a loop's items are asked for.
+ghost use Rattle.std.specs.Prelude.{◌≡◌, ◌≤◌, option_map};
+ghost use Rattle.liquid_model.specs.Answer.{Answers};
+ghost use Rattle.liquid_core.specs.ExpressionView.{expression_view};
+ghost use Rattle.liquid_core.specs.Expressions.{needed_whole};
+ghost use Rattle.liquid_core.specs.States.{environment_of};
+ghost use Rattle.liquid_evaluation.specs.Evaluation.{amount, at_most, skipped, wanted};
+
+use liquid_core::{Error, ErrorKind, Expression, Result, State};
+use std::alloc::Global;
+
+/// The items of a source that are asked for, by how many are left out before them and how many they are.
+#[derive(Clone, Copy, Debug, PartialEq, Eq, Drop)]
+pub struct Window {
+    /// How many of the source's items are left out.
+    pub from: usize,
+    /// How many items there are. They may reach past the source's end: what isn't there is nil.
+    pub count: usize,
+}
+
+impl Window {
+    /// The window of a limit and an offset over a source of `length` items. A negative number counts as huge.
+    pub fn new(length: usize, limit: Option<i64>, offset: Option<i64>) -> Window
+        ensures from { result.from ≡ skipped length offset }
+        ensures count { result.count ≡ wanted length (skipped length offset) limit }
+        ensures within { (result.from ≤ length) × (result.count ≤ length) }
+    {
+        let from = match offset {
+            Some(offset) => at_most(length, offset),
+            None => 0,
+        };
+        let count = match limit {
+            Some(limit) => at_most(length, limit),
+            None => length - from,
+        };
+        Window { from, count }
+    }
+}
+
+/// As many as the number says, and at most all of them; a negative number counts as huge.
+fn at_most(all: usize, number: i64) -> usize
+    ensures value { result ≡ at_most all number }
+    ensures within { result ≤ all }
+{
+    if number < 0 {
+        all
+    } else {
+        all.min(number as usize)
+    }
+}
+
+/// The whole number of a `limit`, an `offset` or a number of columns, where one is given.
+///
+/// `UnknownVariable` where the expression has no value, `UnexpectedValue` where its value has no whole number.
+#[tactic(auto, unfolding(crate::specs::Evaluation::amount))]
+pub fn evaluate_amount(
+    alloc: Global,
+    given: &Option<Expression>,
+    state: &State<'_>,
+) -> Result<Option<i64>>
+    ensures { Answers (λ n. n) result (amount (option_map expression_view given.now) (environment_of state.now)) }
+{
+    match given {
+        Some(expression) => Ok(Some(evaluate_whole(alloc, expression, state)?)),
+        None => Ok(None),
+    }
+}
+
+/// The whole number of the expression's value. The faults are those of `evaluate_amount`.
+#[tactic(auto, unfolding(liquid_core::specs::Expressions::needed_whole))]
+pub(crate) fn evaluate_whole(
+    alloc: Global,
+    expression: &Expression,
+    state: &State<'_>,
+) -> Result<i64>
+    ensures { Answers (λ n. n) result (needed_whole (expression_view expression.now) (environment_of state.now)) }
+{
+    let value = expression.evaluate(alloc, state)?;
+    match value.as_value().to_integer() {
+        Some(number) => Ok(number),
+        None => Err(Error::formatted(
+            alloc,
+            ErrorKind::UnexpectedValue,
+            format_args!("`{expression}` is no whole number"),
+        )),
+    }
+}

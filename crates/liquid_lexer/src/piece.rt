@@ -1,0 +1,184 @@
+//! Outputs and tags, and the bodies behind tags that aren't read.
+ghost use Rattle.std.specs.Prelude.{◌≡◌, [], length};
+ghost use Rattle.std.specs.Option.{option_map};
+ghost use Rattle.liquid_lexer.specs.SourceReading.{opener_at, markup_at, bare_name, tag_name, body_at};
+ghost use Rattle.liquid_lexer.specs.Readers.{Parses};
+ghost use Rattle.liquid_lexer.specs.PieceView.{piece_view, markup_view};
+
+use crate::cut::{past_byte, past_white, stripped, word};
+use crate::fault::{Fault, FaultKind, ParseError};
+use crate::item::{Delimiter, Item, read_items};
+use crate::mark::{dashed, read_comment, read_raw};
+use crate::value::unexpected;
+use std::alloc::Global;
+use std::collections::VecDeque;
+
+/// A part of a source between its texts.
+#[derive(Drop)]
+pub enum Piece<'s> {
+    /// An output and its items.
+    Output(VecDeque<Item<'s>>),
+    /// A tag's name and its items.
+    Tag(&'s str, VecDeque<Item<'s>>),
+    /// A tag's name and the verbatim body behind it, stripped.
+    Raw(&'s str, &'s str),
+    /// The name of a tag behind which a comment was skipped.
+    Comment(&'s str),
+}
+
+/// An output or a tag, and whether it strips the text before it and the text after it.
+#[derive(Drop)]
+pub struct Markup<'s> {
+    pub before: bool,
+    pub piece: Piece<'s>,
+    pub after: bool,
+}
+
+/// A body that isn't read.
+#[derive(Clone, Copy, Debug, PartialEq, Eq)]
+pub enum Body {
+    /// It runs up to the first mark `endraw`, and is kept.
+    Raw,
+    /// It runs up to the mark `endcomment` that closes it, and is dropped.
+    Comment,
+}
+
+pub(crate) fn opener(text: &str) -> Option<(Delimiter, &str)>
+    ensures { option_map (λ x. (x.0, x.1.now)) result ≡ opener_at text.now }
+{
+    if let Some(rest) = past_byte(text, b'{') {
+        return Some((Delimiter::Output, rest));
+    }
+    Some((Delimiter::Tag, past_byte(text, b'%')?))
+}
+
+/// The output or tag behind a `{`, and what follows it.
+#[tactic(auto, unfolding(crate::specs::SourceReading::markup_at))]
+pub fn read_markup<'s>(alloc: Global, text: &'s str) -> Result<(Markup<'s>, &'s str), ParseError>
+    ensures { Parses (λ x. (markup_view x.0, x.1.now)) result (markup_at text.now) }
+{
+    let Some((kind, rest)) = opener(text) else {
+        return Err(ParseError::Fault(unexpected(text, "`{{` or `{%`")));
+    };
+    let (before, inside) = dashed(rest);
+    match kind {
+        Delimiter::Output => {
+            let (items, after, rest) = read_items(alloc, inside, kind)?;
+            let piece = Piece::Output(items);
+            Ok((
+                Markup {
+                    before,
+                    piece,
+                    after,
+                },
+                rest,
+            ))
+        }
+        Delimiter::Tag => {
+            let inside = past_white(inside);
+            let Some((name, rest)) = word(inside) else {
+                return Err(ParseError::Fault(no_name(inside)));
+            };
+            let (items, after, rest) = read_items(alloc, rest, kind)?;
+            let piece = Piece::Tag(name, items);
+            Ok((
+                Markup {
+                    before,
+                    piece,
+                    after,
+                },
+                rest,
+            ))
+        }
+    }
+}
+
+/// The fault of a tag without a name: `Unclosed` where nothing is left, else `Expected`.
+fn no_name(text: &str) -> Fault
+    ensures unclosed { text.now ≡ [] → result.kind ≡ FaultKind.Unclosed }
+    ensures expected { (text.now ≡ [] → ⊥) → result.kind ≡ FaultKind.Expected }
+    ensures place { result.left ≡ length text.now }
+{
+    if text.is_empty() {
+        Fault::new(FaultKind::Unclosed, text, "the name of a tag")
+    } else {
+        Fault::new(FaultKind::Expected, text, "the name of a tag")
+    }
+}
+
+/// The name of a tag without items, behind which alone a body may stand.
+pub fn bare_name<'s>(piece: &Piece<'s>) -> Option<&'s str>
+    ensures { option_map (λ w. w.now) result ≡ bare_name (piece_view piece.now) }
+{
+    match piece {
+        Piece::Tag(name, items) => { if items.is_empty() { Some(*name) } else { None } }
+        Piece::Output(_) => None,
+        Piece::Raw(_, _) => None,
+        Piece::Comment(_) => None,
+    }
+}
+
+/// The name of a tag; other pieces have an empty one.
+fn tag_name<'s>(piece: Piece<'s>) -> &'s str
+    ensures { result.now ≡ tag_name (piece_view piece.entry) }
+{
+    match piece {
+        Piece::Tag(name, _) => name,
+        Piece::Output(_) => "",
+        Piece::Raw(_, _) => "",
+        Piece::Comment(_) => "",
+    }
+}
+
+/// The fault of a body that doesn't end, at the end of the source.
+fn without_end(end: &'static str) -> Fault
+    ensures kind { result.kind ≡ FaultKind.MissingEnd }
+    ensures place { result.left ≡ 0 }
+{
+    Fault::new(FaultKind::MissingEnd, "", end)
+}
+
+/// A tag with the verbatim body behind it, where it is to have one.
+pub fn read_body<'s>(
+    body: Option<Body>,
+    markup: Markup<'s>,
+    text: &'s str,
+) -> Result<(Markup<'s>, &'s str), ParseError>
+    ensures { Parses (λ x. (markup_view x.0, x.1.now)) result (body_at body (markup_view markup.entry) text.now) }
+{
+    let Some(kind) = body else {
+        return Ok((markup, text));
+    };
+    let before = markup.before;
+    match kind {
+        Body::Raw => {
+            let Some((inside, end, rest)) = read_raw(text) else {
+                return Err(ParseError::Fault(without_end("`{% endraw %}`")));
+            };
+            let inside = stripped(markup.after, inside, end.before);
+            let piece = Piece::Raw(tag_name(markup.piece), inside);
+            Ok((
+                Markup {
+                    before,
+                    piece,
+                    after: end.after,
+                },
+                rest,
+            ))
+        }
+        Body::Comment => {
+            let Some((after, rest)) = read_comment(text) else {
+                return Err(ParseError::Fault(without_end("`{% endcomment %}`")));
+            };
+            let piece = Piece::Comment(tag_name(markup.piece));
+            Ok((
+                Markup {
+                    before,
+                    piece,
+                    after,
+                },
+                rest,
+            ))
+        }
+    }
+}

@@ -1,0 +1,3 @@
+pub mod PageKinds
+pub mod PageRuns
+mod Reading

@@ -1,0 +1,95 @@
+-- What is known where the texts of a page are read, and where they are not.
+use Rattle.std.proofs.Common.{◌≡◌, ℕ, ◌≤◌, List, [], Bool, true, false, MatchBool, Option, Ok, Err, Result, inl, inr, refl, ap, subst, ◌∙◌, arith}
+use Rattle.std.specs.Prelude.{⊤, ◌⊎◌}
+use Rattle.std.specs.Io.KnownBytes.{Appends}
+use Rattle.std.proofs.KnownBytes.{Appends-nil, Keeps-refl}
+use Rattle.liquid_model.specs.Answer.{Faulted}
+use Rattle.liquid_model.specs.Data.{Pairs}
+use Rattle.liquid_model.specs.ErrorKinds.{IsKindOrMemory, is_memory, is_refusal}
+use Rattle.liquid_model.specs.declared.error.Error.{Error}
+use Rattle.liquid_model.specs.declared.error.ErrorKind.{ErrorKind}
+use Rattle.liquid_model.specs.declared.error.ErrorKind.TheVariants.{Memory, Write}
+use Rattle.liquid_evaluation.specs.Tree.{Nodes}
+use Rattle.liquid_syntax.specs.Parsing.{IsOnlyTree, HasNoTree, IsOfSource, MayRefuse, ParsesTo}
+use Rattle.liquid_language.specs.declared.language.Language.{Language}
+use Rattle.liquid_lib.specs.Added.{AppendsPart}
+use Rattle.liquid_lib.specs.Performs.{answer_of, is_refused, unit}
+use Rattle.liquid_lib.specs.Standard.{IsStandard}
+use Rattle.liquid_lib.proofs.Joined.{memory_of}
+use Rattle.liquid_json.specs.Json.{data_of}
+use Rattle.liquid_page_texts.specs.Page.{Texts, Sources, HasBadPartial, Read, IsRead, Refused, no_template, no_facts, bad_partial, page, no_page, page_outcome}
+use Rattle.liquid_page_texts.specs.Shown.{Reads, ReadsPartials, Shows, RanOut}
+
+-- memory ran out, or else
+unless_memory : {P R : Type 0} (b : Bool) → MatchBool b ⊤ P → (b ≡ false → P → R) → MatchBool b ⊤ R
+unless_memory true h f = tt
+unless_memory false h f = f refl h
+
+unless_either : {P Q R : Type 0} (b : Bool) → MatchBool b ⊤ P → MatchBool b ⊤ Q → (P → Q → R) → MatchBool b ⊤ R
+unless_either true p q f = tt
+unless_either false p q f = f p q
+
+-- a kind of a source is no refusal
+of_source : (k : ErrorKind) → IsOfSource k → is_refusal k ≡ false
+of_source Memory h = let low : 21 ≤ 17 = h.0 in absurd (omega arith)
+of_source Write h = let low : 21 ≤ 18 = h.0 in absurd (omega arith)
+of_source _ h = refl
+
+pub template_refused : (l : Language) (texts : Texts) (e : Error) → ParsesTo l texts.template (Err e) → MayRefuse e.kind → Reads l texts (Err e)
+template_refused l texts e parses kinds = unless_either (is_memory e.kind) parses kinds (λ none kind. (no_template none kind, of_source e.kind kind))
+
+pub facts_refused : (l : Language) (texts : Texts) (tree : Nodes) (e : Error) → IsOnlyTree l tree texts.template → Faulted e.kind (data_of texts.facts) → Reads l texts (Err e)
+facts_refused l texts tree e only faulted = unless_memory (is_memory e.kind) faulted (λ not h. (no_facts only h.0, h.1))
+
+pub partials_refused : (l : Language) (texts : Texts) (tree : Nodes) (facts : Pairs) (e : Error) → IsOnlyTree l tree texts.template → data_of texts.facts ≡ Ok facts → ReadsPartials l texts.partials [] (Err e) → Reads l texts (Err e)
+partials_refused l texts tree facts e only read bad = unless_memory (is_memory e.kind) bad (λ not h. (bad_partial only read h.0 h.1, of_source e.kind h.1))
+
+pub partial_refused : (l : Language) (sources left : Sources) (source : List ℕ) (e : Error) → ParsesTo l source (Err e) → MayRefuse e.kind → (HasNoTree l source → HasBadPartial l sources) → ReadsPartials l sources [] (Err e)
+partial_refused l sources left source e parses kinds bad = unless_either (is_memory e.kind) parses kinds (λ none kind. (bad none, kind))
+
+-- a fault of the same kind, unless memory ran out for its message
+told_by : (l : Language) (source : List ℕ) (e f : Error) (b : Bool) → is_memory f.kind ≡ b → MatchBool b ⊤ (e.kind ≡ f.kind) → ParsesTo l source (Err e) → MatchBool b ⊤ (HasNoTree l source)
+told_by l source e f true is same h = tt
+told_by l source e f false is same h = subst (λ b. MatchBool b ⊤ (HasNoTree l source)) (ap is_memory same ∙ is) h
+
+pub told_parses : (l : Language) (source : List ℕ) (e f : Error) → IsKindOrMemory e.kind f.kind → ParsesTo l source (Err e) → ParsesTo l source (Err f)
+told_parses l source e f same h = told_by l source e f (is_memory f.kind) refl same h
+
+told_source_by : (e f : Error) (b : Bool) → is_memory f.kind ≡ b → MatchBool b ⊤ (e.kind ≡ f.kind) → MayRefuse e.kind → MatchBool b ⊤ (IsOfSource f.kind)
+told_source_by e f true is same h = tt
+told_source_by e f false is same h = subst (λ b. MatchBool b ⊤ (IsOfSource f.kind)) is (subst MayRefuse same h)
+
+pub told_source : (e f : Error) → IsKindOrMemory e.kind f.kind → MayRefuse e.kind → MayRefuse f.kind
+told_source e f same h = told_source_by e f (is_memory f.kind) refl same h
+
+-- ---- the page
+
+ToldBy : Language → Texts → Result (Unit {0}) Error → Option (List ℕ) → Type 0
+ToldBy l texts r o = RanOut r o o ⊎ ((x : Language) × IsStandard x × Shows x texts r o o)
+
+refused_by : (l : Language) (texts : Texts) (e : Error) (o : Option (List ℕ)) (b : Bool) → IsStandard l → is_memory e.kind ≡ b → MatchBool b ⊤ (Refused l texts e.kind × (is_refusal e.kind ≡ false)) → ToldBy l texts (Err e) o
+unfolding ToldBy
+refused_by l texts e o true standard is h = inl (record { told = memory_of e.kind is; kept = Keeps-refl o })
+refused_by l texts e o false standard is h =
+    inr (
+      l,
+      standard,
+      record {
+        text = [];
+        end = Err e.kind;
+        is_page = no_page h.0;
+        begun = record { front = []; rest = []; whole = refl; appended = Appends-nil o };
+        whole = λ not. Appends-nil o;
+        ended = λ not. refl;
+      },
+    )
+
+pub refused_shown : (l : Language) (texts : Texts) (e : Error) (o : Option (List ℕ)) → IsStandard l → Reads l texts (Err e) → RanOut (Err e) o o ⊎ ((x : Language) × IsStandard x × Shows x texts (Err e) o o)
+unfolding ToldBy
+refused_shown l texts e o standard h = refused_by l texts e o (is_memory e.kind) standard refl h
+
+pub page_shown : (l : Language) (texts : Texts) (read : Read) (r : Result (Unit {0}) Error) (old new : Option (List ℕ)) → IsStandard l → IsRead l texts read
+    → (is_refused r ≡ false → Appends old new (page_outcome read).text) → (is_refused r ≡ false → answer_of unit r ≡ (page_outcome read).end) → AppendsPart old new (page_outcome read).text
+    → RanOut r old new ⊎ ((x : Language) × IsStandard x × Shows x texts r old new)
+page_shown l texts read r old new standard is whole ended begun =
+    inr (l, standard, record { text = (page_outcome read).text; end = (page_outcome read).end; is_page = page read is; begun = begun; whole = whole; ended = ended })

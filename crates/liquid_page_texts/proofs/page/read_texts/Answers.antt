@@ -1,0 +1,24 @@
+use Rattle.std.proofs.lemmas.Result.{err_from_is_err_and}
+use Rattle.liquid_model.specs.View.{pairs_view}
+use Rattle.liquid_syntax.specs.Templates.{tree_of}
+use Rattle.liquid_page_texts.specs.Page.{Texts, sources_of}
+use Rattle.liquid_page_texts.proofs.Reading.{template_refused, facts_refused, partials_refused}
+use Rattle.liquid_page_texts.proofs.page.read_texts.Goals as goal
+
+pub returns-in_err-template : goal.returns-in_err-template
+returns-in_err-template c =
+    let texts : Texts = record { template = c.args.template.now; facts = c.args.«data».now; partials = sources_of c.args.partials.now } in
+    let p = err_from_is_err_and c.from_residual.result c.from_residual.ensures.1 in
+    rw (p.1, p.2) (template_refused c.args.language.now texts c.in_err-template.field-0.0 c.in_err-template.ensures.parses c.in_err-template.ensures.kinds)
+
+pub returns-in_err-data : goal.returns-in_err-data
+returns-in_err-data c =
+    let texts : Texts = record { template = c.args.template.now; facts = c.args.«data».now; partials = sources_of c.args.partials.now } in
+    let p = err_from_is_err_and c.from_residual-in_err-data.result c.from_residual-in_err-data.ensures.1 in
+    rw (p.1, p.2) (facts_refused c.args.language.now texts (tree_of c.in_ok-template.template) c.in_err-data.field-0.0 c.in_ok-template.ensures.parses c.in_err-data.ensures)
+
+pub returns-in_err-partials : goal.returns-in_err-partials
+returns-in_err-partials c =
+    let texts : Texts = record { template = c.args.template.now; facts = c.args.«data».now; partials = sources_of c.args.partials.now } in
+    let p = err_from_is_err_and c.from_residual-in_err-partials.result c.from_residual-in_err-partials.ensures.1 in
+    rw (p.1, p.2) (partials_refused c.args.language.now texts (tree_of c.in_ok-template.template) (pairs_view c.in_ok-data.«data».entries) c.in_err-partials.field-0.0 c.in_ok-template.ensures.parses c.in_ok-data.ensures c.in_err-partials.ensures)

@@ -1,0 +1,79 @@
+-- The page of a template text, a data text and the texts of partials, in a language.
+--     IsPage l texts text end      the page's text, and how it ends
+-- A page whose texts aren't read has no text, and ends by why.
+use Rattle.std.specs.Prelude.{◌≡◌, ◌⊎◌, List, [], ◌∷◌, map, Result, Ok, Err, String, string_bytes}
+use Rattle.std.specs.declared.alloc.Global.{Global}
+use Rattle.liquid_model.specs.Texts.{Text}
+use Rattle.liquid_model.specs.Data.{Pairs}
+use Rattle.liquid_core.specs.Held.{map_of}
+use Rattle.liquid_core.specs.States.{merged_layers, new_layers}
+use Rattle.liquid_model.specs.declared.error.ErrorKind.{ErrorKind}
+use Rattle.liquid_core.specs.Hosts.{no_host}
+use Rattle.liquid_evaluation.specs.Evaluation.{answers_with}
+use Rattle.liquid_evaluation.specs.Tree.{Nodes}
+use Rattle.liquid_syntax.specs.Parsing.{IsOnlyTree, HasNoTree, IsOfSource}
+use Rattle.liquid_language.specs.Entries.{put}
+use Rattle.liquid_language.specs.declared.language.Language.{Language}
+use Rattle.liquid_meaning.specs.Runs.{Nothing, Outcome}
+use Rattle.liquid_meaning.specs.Meaning.{meaning}
+use Rattle.liquid_lib.specs.Standard.{IsStandard}
+use Rattle.liquid_json.specs.Json.{data_of}
+
+-- names and texts of partials, in their order
+abbrev pub Sources : Type 0
+Sources = List (Text × Text)
+
+abbrev pub sources_of : List (String Global × String Global) → Sources
+sources_of ps = map (λ p. (string_bytes p.0, string_bytes p.1)) ps
+
+pub record Texts : Type 0 where
+  pub template : Text
+  pub facts : Text
+  pub partials : Sources
+
+-- partials by name
+abbrev pub Trees : Type 0
+Trees = List (Text × Nodes)
+
+-- the trees of these partials, put in order among those that are there; the later of one name wins
+abbrev pub ArePartials : Language → Sources → Trees → Trees → Type 0
+ArePartials l [] before all = all ≡ before
+ArePartials l (p ∷ ps) before all = (t : Nodes) × IsOnlyTree l t p.1 × ArePartials l ps (put p.0 t before) all
+
+-- the first of these partials that has no tree
+abbrev pub HasBadPartial : Language → Sources → Type 0
+HasBadPartial l [] = ⊥
+HasBadPartial l (p ∷ ps) = HasNoTree l p.1 ⊎ ((t : Nodes) × IsOnlyTree l t p.1 × HasBadPartial l ps)
+
+-- what texts are read as
+pub record Read : Type 0 where
+  pub tree : Nodes
+  pub facts : Pairs
+  pub partials : Trees
+
+pub record IsRead (l : Language) (texts : Texts) (read : Read) : Type 0 where
+  pub tree : IsOnlyTree l read.tree texts.template
+  pub facts : data_of texts.facts ≡ Ok read.facts
+  pub partials : ArePartials l texts.partials [] read.partials
+
+-- why texts are not read: the template, the data and the partials are looked at in this order
+pub data Refused (l : Language) (texts : Texts) : ErrorKind → Type 0 where
+  no_template : {kind : ErrorKind} → HasNoTree l texts.template → IsOfSource kind → Refused l texts kind
+  no_facts : {kind : ErrorKind} {tree : Nodes} → IsOnlyTree l tree texts.template → data_of texts.facts ≡ Err kind → Refused l texts kind
+  bad_partial : {kind : ErrorKind} {tree : Nodes} {facts : Pairs} → IsOnlyTree l tree texts.template → data_of texts.facts ≡ Ok facts → HasBadPartial l texts.partials → IsOfSource kind → Refused l texts kind
+
+-- how deep partials may be nested in a page
+abbrev pub page_outcome : Read → Outcome Nothing
+page_outcome read = meaning (record { answers = answers_with no_host; partials = read.partials }) 32 read.tree (merged_layers (new_layers (map_of read.facts)))
+
+pub data IsPage (l : Language) (texts : Texts) : Text → Result Nothing ErrorKind → Type 0 where
+  page : (read : Read) → IsRead l texts read → IsPage l texts (page_outcome read).text (page_outcome read).end
+  no_page : {kind : ErrorKind} → Refused l texts kind → IsPage l texts [] (Err kind)
+
+-- the page in the standard language
+abbrev pub IsStandardPage : Texts → Text → Result Nothing ErrorKind → Type 0
+IsStandardPage texts text end = (l : Language) × IsStandard l × IsPage l texts text end
+
+-- the text of that page, however it ends
+abbrev pub IsStandardText : Texts → Text → Type 0
+IsStandardText texts text = (end : Result Nothing ErrorKind) × IsStandardPage texts text end

@@ -1,0 +1,9 @@
+//! Pages from texts: a page of its template, its data in JSON and its partials.
+#![tactic(auto)]
+
+mod laws;
+mod page;
+
+pub use laws::page_law;
+pub use liquid_json::data_from_json;
+pub use page::{run, run_last};

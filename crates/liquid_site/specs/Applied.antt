@@ -1,0 +1,46 @@
+-- What a change of a site is, and what an accepted and a refused one do.
+use Rattle.std.specs.Prelude.{◌≡◌, ⊤, MatchBool, string_bytes, Result, Ok, Err}
+use Rattle.liquid_model.specs.ErrorKinds.{is_memory}
+use Rattle.liquid_model.specs.View.{view}
+use Rattle.liquid_model.specs.declared.error.Error.{Error}
+use Rattle.liquid_model.specs.declared.error.ErrorKind.{ErrorKind}
+use Rattle.liquid_evaluation.specs.Tree.{Nodes}
+use Rattle.liquid_syntax.specs.Parsing.{IsOnlyTree, HasNoTree, IsOfSource}
+use Rattle.liquid_language.specs.declared.language.Language.{Language}
+use Rattle.liquid_site.specs.SiteViews.{contents_of, language_of, count_of}
+use Rattle.liquid_site.specs.Steps.{Step, set_page, remove_page, set_partial, remove_partial, set_value, remove_value, stepped, rendered_by, raised}
+use Rattle.liquid_site.specs.declared.change.Change.{Change}
+use Rattle.liquid_site.specs.declared.change.Change.TheVariants.{SetPage, RemovePage, SetPartial, RemovePartial, SetValue, RemoveValue}
+use Rattle.liquid_site.specs.declared.site.Site.{Site}
+
+-- the step that a change is, its source being the only tree that it is
+abbrev pub IsStep : Language → Change → Step → Type 0
+IsStep l (SetPage name source) s = (t : Nodes) × IsOnlyTree l t (string_bytes source) × (s ≡ set_page (string_bytes name) t)
+IsStep l (RemovePage name) s = s ≡ remove_page (string_bytes name)
+IsStep l (SetPartial name source) s = (t : Nodes) × IsOnlyTree l t (string_bytes source) × (s ≡ set_partial (string_bytes name) t)
+IsStep l (RemovePartial name) s = s ≡ remove_partial (string_bytes name)
+IsStep l (SetValue name value) s = s ≡ set_value (string_bytes name) (view value)
+IsStep l (RemoveValue name) s = s ≡ remove_value (string_bytes name)
+
+-- a change whose source is no template
+abbrev pub HasBadSource : Language → Change → Type 0
+HasBadSource l (SetPage name source) = HasNoTree l (string_bytes source)
+HasBadSource l (SetPartial name source) = HasNoTree l (string_bytes source)
+HasBadSource l _ = ⊥
+
+-- the step of the change was taken, and the pages that it renders again are counted
+pub record Accepted (change : Change) (old new : Site) : Type 0 where
+  pub step : Step
+  pub is_step : IsStep (language_of old) change step
+  pub contents : contents_of new ≡ stepped step (contents_of old)
+  pub rendered : count_of new ≡ raised (count_of old) (rendered_by step (contents_of old))
+
+-- nothing changed. Memory ran out, or the source is no template
+pub record Refused (change : Change) (kind : ErrorKind) (old new : Site) : Type 0 where
+  pub contents : contents_of new ≡ contents_of old
+  pub rendered : count_of new ≡ count_of old
+  pub why : MatchBool (is_memory kind) ⊤ (HasBadSource (language_of old) change × IsOfSource kind)
+
+abbrev pub Applies : Change → Result (Unit {0}) Error → Site → Site → Type 0
+Applies change (Ok u) old new = Accepted change old new
+Applies change (Err e) old new = Refused change e.kind old new

@@ -1,0 +1,38 @@
+-- What a site holds, and the pages that rendering all of it from nothing gives.
+--     Contents      page templates, partials and data, and how deep partials may be nested
+--     page_of contents nodes      what a template shows in a new run over these contents
+--     pages_from_scratch contents      that of each page
+--     mentions partials name nodes      whether a page's template or a partial mentions the name
+use Rattle.std.specs.Prelude.{ℕ, Bool, List, map}
+use Rattle.liquid_model.specs.Texts.{Text}
+use Rattle.liquid_model.specs.Data.{Datum}
+use Rattle.liquid_model.specs.Maps.{Map}
+use Rattle.liquid_evaluation.specs.Tree.{Nodes}
+use Rattle.liquid_evaluation.specs.Names.{run_names, mentioned}
+use Rattle.liquid_lib.specs.Pages.{Shown, page_over}
+
+-- templates by name, in the order of the names
+abbrev pub Trees : Type 0
+Trees = List (Text × Nodes)
+
+pub record Contents : Type 0 where
+  pub depth : ℕ
+  pub pages : Trees
+  pub partials : Trees
+  pub facts : Map Datum
+
+abbrev pub page_of : Contents → Nodes → Shown
+page_of contents nodes = page_over contents.depth contents.partials contents.facts nodes
+
+-- pages by name
+abbrev pub Pages : Type 0
+Pages = List (Text × Shown)
+
+abbrev pub all_pages : (Nodes → Shown) → Trees → Pages
+all_pages show pages = map (λ p. (p.0, show p.1)) pages
+
+abbrev pub pages_from_scratch : Contents → Pages
+pages_from_scratch contents = all_pages (page_of contents) contents.pages
+
+abbrev pub mentions : Trees → Text → Nodes → Bool
+mentions partials name nodes = mentioned (run_names partials nodes) name

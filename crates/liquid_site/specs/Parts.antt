@@ -1,0 +1,30 @@
+-- The parts of a site, as contracts see them.
+use Rattle.std.specs.Prelude.{ℕ, List, map, String, string_bytes}
+use Rattle.std.specs.BTreeMap.{BTreeMap}
+use Rattle.std.specs.declared.alloc.Global.{Global}
+use Rattle.liquid_model.specs.Texts.{Text}
+use Rattle.liquid_model.specs.declared.value.Value.{Value}
+use Rattle.liquid_core.specs.Held.{held}
+use Rattle.liquid_language.specs.Entries.{seen}
+use Rattle.liquid_syntax.specs.Templates.{tree_of, partials_of}
+use Rattle.liquid_syntax.specs.declared.partials.Partials.{Partials}
+use Rattle.liquid_syntax.specs.declared.template.Template.{Template}
+use Rattle.liquid_lib.specs.Pages.{Shown, page_view}
+use Rattle.liquid_lib.specs.declared.page.Page.{Page}
+use Rattle.liquid_site.specs.Contents.{Trees, Contents, Pages}
+
+abbrev pub pages_in : BTreeMap (String Global) Page → Pages
+pages_in pages = seen page_view pages.entries
+
+abbrev pub trees_in : BTreeMap (String Global) Template → Trees
+trees_in templates = seen tree_of templates.entries
+
+abbrev pub contents_in : ℕ → BTreeMap (String Global) Template → Partials → BTreeMap (String Global) Value → Contents
+contents_in depth templates partials facts = record { depth = depth; pages = trees_in templates; partials = partials_of partials; facts = held facts }
+
+-- a page under its name, and pages in a list
+abbrev pub named_page : String Global × Page → Text × Shown
+named_page p = (string_bytes p.0, page_view p.1)
+
+abbrev pub listed_pages : List (String Global × Page) → Pages
+listed_pages ps = map named_page ps

@@ -1,0 +1,92 @@
+-- What is taken of a file, by what the site and the data answer.
+use Rattle.std.specs.Prelude.{◌≡◌, ℕ, ◌+◌, ◌<◌, false, MatchBool, ⊤, List, [], ◌∷◌, ◌++◌, Option, Some, None, option_map, option_to_list, Result, Ok, Err, IfOk, OnOk, IfSome, String, string_bytes}
+use Rattle.std.proofs.Common.{inr, drop, suc, length, get_or, add-one, drop-cons, append_assoc, append-nil}
+use Rattle.std.specs.declared.alloc.Global.{Global}
+use mathlib.Core.Path.{refl, sym, ap, subst, ◌∙◌}
+use Rattle.liquid_model.specs.Answer.{Faulted}
+use Rattle.liquid_model.specs.Texts.{Text}
+use Rattle.liquid_model.specs.ErrorKinds.{is_memory, is_refusal}
+use Rattle.liquid_model.specs.declared.error.Error.{Error}
+use Rattle.liquid_model.specs.declared.error.ErrorKind.{ErrorKind}
+use Rattle.liquid_syntax.specs.Parsing.{IsOfSource}
+use Rattle.liquid_language.specs.declared.language.Language.{Language}
+use Rattle.liquid_json.specs.Json.{data_of}
+use Rattle.liquid_site.specs.Applied.{Refused, HasBadSource}
+use Rattle.liquid_site.specs.Contents.{Contents}
+use Rattle.liquid_site.specs.SiteViews.{language_of}
+use Rattle.liquid_site.specs.declared.change.Change.{Change}
+use Rattle.liquid_site.specs.declared.site.Site.{Site}
+use Rattle.liquid_site_files.specs.Files.{Files, found_view}
+use Rattle.liquid_site_files.specs.Paths.{path_of}
+use Rattle.liquid_site_files.specs.Refusals.{Refuses, IsRefusal, AreRefusals}
+use Rattle.liquid_site_files.specs.Taken.{Takes, TakesFacts, AreTaken, with_facts}
+use Rattle.liquid_site_files.specs.inside.Changes.{TakesChange}
+use Rattle.liquid_site_files.specs.declared.folder.Changed.{Changed}
+use Rattle.liquid_site_files.specs.declared.folder.Folder.{Folder}
+use Rattle.liquid_site_files.specs.declared.take.Found.{Found}
+use Rattle.liquid_site_files.specs.declared.take.Found.TheVariants as found
+use Rattle.liquid_site_files.specs.declared.take.Refusal.{Refusal}
+use Rattle.liquid_site_files.specs.declared.take.Why.{Why}
+
+pub refused_change : (r : Result (Option Why) Error) (change : Change) (kind : ErrorKind) (old new : Site) → IfOk r (λ why. is_memory kind ≡ false) → Refused change kind old new → OnOk r (TakesChange change old new)
+refused_change (Ok o) change kind old new h refused = inr ((subst (λ b. MatchBool b ⊤ (HasBadSource (language_of old) change × IsOfSource kind)) h refused.why).0, refused.contents)
+refused_change (Err e) change kind old new h refused = tt
+
+pub refused_facts : (r : Result (Option Why) Error) (kind : ErrorKind) (given : Text) (text : String Global) (f : Found) (c : Contents) → IfOk r (λ why. is_memory kind ≡ false) → Faulted kind (data_of given) → given ≡ string_bytes text → f ≡ found.Text text
+    → OnOk r (TakesFacts (found_view f) c c)
+refused_facts (Err e) kind given text f c h faulted is there = tt
+refused_facts (Ok o) kind given text f c h faulted is there =
+    let none : data_of given ≡ Err kind = (subst (λ b. MatchBool b ⊤ ((data_of given ≡ Err kind) × (is_refusal kind ≡ false))) h faulted).0 in
+    subst (λ x. TakesFacts (found_view x) c c) (sym there) (sym (ap (λ s. with_facts (data_of s) c) (sym is) ∙ ap (λ r. with_facts r c) none))
+
+next_item : {X : Type 0} (xs : List X) (i : ℕ) (x : X) → x ≡ get_or xs i x → i < length xs → drop i xs ≡ x ∷ drop (i + 1) xs
+next_item xs i x is lt = rw add-one (drop-cons xs i x lt ∙ ap (λ y. y ∷ drop (suc i) xs) (sym is))
+
+-- before the first file
+pub taken_first : (o : Option Files) (l : Language) (folder : Folder) (changes : List Changed) (first : Contents) → IfSome o (λ f. (d : Contents) → AreTaken l folder f changes first d → AreTaken l folder f changes first d)
+taken_first None l folder changes first = tt
+taken_first (Some f) l folder changes first = λ d h. h
+
+-- one more file is taken
+pub taken_on : (o : Option Files) (l own : Language) (folder : Folder) (changes : List Changed) (i : ℕ) (changed : Changed) (first now new : Contents) → own ≡ l → changed ≡ get_or changes i changed → i < length changes
+    → IfSome o (λ f. (d : Contents) → AreTaken l folder f (drop i changes) now d → AreTaken l folder f changes first d) → IfSome o (λ f. Takes own changed (f (path_of folder changed)) now new)
+    → IfSome o (λ f. (d : Contents) → AreTaken l folder f (drop (i + 1) changes) new d → AreTaken l folder f changes first d)
+taken_on None l own folder changes i changed first now new same is lt so step = tt
+taken_on (Some f) l own folder changes i changed first now new same is lt so step =
+    let here : Takes l changed (f (path_of folder changed)) now new = subst (λ k. Takes k changed (f (path_of folder changed)) now new) same step in
+    λ d more. so d (subst (λ cs. AreTaken l folder f cs now d) (sym (next_item changes i changed is lt)) (new, here, more))
+
+-- all files are taken
+pub all_taken : (o : Option Files) (l : Language) (folder : Folder) (changes : List Changed) (i : ℕ) (first now : Contents) → drop i changes ≡ []
+    → IfSome o (λ f. (d : Contents) → AreTaken l folder f (drop i changes) now d → AreTaken l folder f changes first d) → IfSome o (λ f. AreTaken l folder f changes first now)
+all_taken None l folder changes i first now none so = tt
+all_taken (Some f) l folder changes i first now none so = so now (subst (λ cs. AreTaken l folder f cs now now) (sym none) refl)
+
+-- ---- what is told
+
+is_refusal_of : (l : Language) (folder : Folder) (files : Files) (changed : Changed) (r : Option Refusal) → Refuses l changed (files (path_of folder changed)) (option_map (λ refusal. refusal.why) r) → IfSome r (λ refusal. string_bytes refusal.path ≡ path_of folder changed)
+    → IsRefusal l folder files changed r
+is_refusal_of l folder files changed None why path = why
+is_refusal_of l folder files changed (Some refusal) why path = (path, why)
+
+-- nothing is told before the first file
+pub told_first : (o : Option Files) (l : Language) (folder : Folder) (changes : List Changed) (told : List Refusal) → told ≡ [] → IfSome o (λ f. (rs : List Refusal) → AreRefusals l folder f changes rs → AreRefusals l folder f changes (told ++ rs))
+told_first None l folder changes told none = tt
+told_first (Some f) l folder changes told none = λ rs h. subst (λ ts. AreRefusals l folder f changes (ts ++ rs)) (sym none) h
+
+-- one more file is told of, or is not refused
+pub told_on : (o : Option Files) (l own : Language) (folder : Folder) (changes : List Changed) (i : ℕ) (changed : Changed) (r : Option Refusal) (before after : List Refusal) → own ≡ l → changed ≡ get_or changes i changed → i < length changes
+    → IfSome o (λ f. (rs : List Refusal) → AreRefusals l folder f (drop i changes) rs → AreRefusals l folder f changes (before ++ rs)) → IfSome o (λ f. Refuses own changed (f (path_of folder changed)) (option_map (λ refusal. refusal.why) r))
+    → IfSome r (λ refusal. string_bytes refusal.path ≡ path_of folder changed) → after ≡ before ++ option_to_list r
+    → IfSome o (λ f. (rs : List Refusal) → AreRefusals l folder f (drop (i + 1) changes) rs → AreRefusals l folder f changes (after ++ rs))
+told_on None l own folder changes i changed r before after same is lt so why path joined = tt
+told_on (Some f) l own folder changes i changed r before after same is lt so why path joined =
+    let here : IsRefusal l folder f changed r = subst (λ k. IsRefusal k folder f changed r) same (is_refusal_of own folder f changed r why path) in
+    λ rs more. subst (λ told. AreRefusals l folder f changes told) (sym (ap (λ told. told ++ rs) joined ∙ append_assoc before (option_to_list r) rs))
+    (so (option_to_list r ++ rs) (subst (λ cs. AreRefusals l folder f cs (option_to_list r ++ rs)) (sym (next_item changes i changed is lt)) (r, rs, here, more, refl)))
+
+-- all files are told of
+pub all_told : (o : Option Files) (l : Language) (folder : Folder) (changes : List Changed) (i : ℕ) (told : List Refusal) → drop i changes ≡ [] → IfSome o (λ f. (rs : List Refusal) → AreRefusals l folder f (drop i changes) rs → AreRefusals l folder f changes (told ++ rs))
+    → IfSome o (λ f. AreRefusals l folder f changes told)
+all_told None l folder changes i told none so = tt
+all_told (Some f) l folder changes i told none so = subst (λ rs. AreRefusals l folder f changes rs) (append-nil told) (so [] (subst (λ cs. AreRefusals l folder f cs []) (sym none) refl))

@@ -1,0 +1,12 @@
+-- A site before its first page.
+use Rattle.std.specs.Prelude.{Result, Ok, Err}
+use Rattle.liquid_model.specs.Data.{Pairs}
+use Rattle.liquid_model.specs.declared.error.ErrorKind.{ErrorKind}
+use Rattle.liquid_core.specs.Held.{map_of}
+use Rattle.liquid_site.specs.Contents.{Contents}
+use Rattle.liquid_site.specs.Steps.{no_contents}
+
+-- the contents with these data alone, or the data's fault
+abbrev pub site_over : Result Pairs ErrorKind → Result Contents ErrorKind
+site_over (Ok facts) = Ok (record (no_contents 32) { facts = map_of facts })
+site_over (Err kind) = Err kind

@@ -1,0 +1,51 @@
+//! The files of a site.
+ghost use Rattle.liquid_model.specs.Answer.{IsValueOrMemory};
+ghost use Rattle.std.specs.Prelude.{◌++◌, string_bytes};
+ghost use Rattle.liquid_site_files.specs.Paths.{path_of};
+
+use liquid_core::Result;
+use std::alloc::Global;
+
+/// A file of a site that may have changed. It may also be new or gone.
+#[derive(Drop)]
+pub enum Changed {
+    /// The template of a page, by the page's name.
+    Page(String),
+    /// The template of a partial, by the partial's name.
+    Partial(String),
+    /// The data.
+    Facts,
+}
+
+/// Where the files of a site are.
+#[derive(Drop)]
+pub struct Folder {
+    /// What stands before the name of a page in the path of its template.
+    pub pages: String,
+    /// What stands before the name of a partial in the path of its template.
+    pub partials: String,
+    /// The path of the data.
+    pub facts: String,
+    /// What stands before the name of a page in the path of the file that the page is written to.
+    pub out: String,
+}
+
+/// The path of a file of the site.
+pub(crate) fn path_of(alloc: Global, folder: &Folder, changed: &Changed) -> Result<String>
+    ensures { IsValueOrMemory string_bytes result (path_of folder.now changed.now) }
+{
+    match changed {
+        Changed::Page(name) => joined(alloc, folder.pages.as_str(), name.as_str()),
+        Changed::Partial(name) => joined(alloc, folder.partials.as_str(), name.as_str()),
+        Changed::Facts => joined(alloc, folder.facts.as_str(), ""),
+    }
+}
+
+/// Both texts as one.
+pub(crate) fn joined(alloc: Global, front: &str, name: &str) -> Result<String>
+    ensures { IsValueOrMemory string_bytes result (front.now ++ name.now) }
+{
+    let mut path = String::from_str(alloc, front)?;
+    path.push_str(name)?;
+    Ok(path)
+}

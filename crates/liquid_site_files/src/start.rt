@@ -1,0 +1,26 @@
+//! The site before its first page.
+ghost use Rattle.std.specs.Prelude.{IfOk};
+ghost use Rattle.liquid_model.specs.Answer.{Answers};
+ghost use Rattle.liquid_lib.specs.Standard.{IsStandard};
+ghost use Rattle.liquid_json.specs.Json.{data_of};
+ghost use Rattle.liquid_site.specs.SiteViews.{contents_of, language_of};
+ghost use Rattle.liquid_site_files.specs.Start.{site_over};
+
+use liquid_core::Result;
+use liquid_json::data_from_json;
+use liquid_lib::language;
+use liquid_site::Site;
+use std::alloc::Global;
+
+/// How deep partials may be nested.
+const DEPTH: u32 = 32;
+
+/// A site in the standard language over the data of a text of JSON, without pages and partials, of at most 32 nested
+/// partials. The answer is the data's fault, `InvalidInput` or `Float`, where the text gives no data, or `Memory`.
+pub fn site_of(alloc: Global, facts: &str) -> Result<Site>
+    ensures contents { Answers contents_of result (site_over (data_of facts.now)) }
+    ensures language { IfOk result (λ site. IsStandard (language_of site)) }
+{
+    let facts = data_from_json(alloc, facts)?;
+    Ok(Site::over(alloc, language(alloc)?, DEPTH, facts))
+}

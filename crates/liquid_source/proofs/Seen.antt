@@ -1,9 +1,0 @@
--- Tokens, seen through the items that specs speak of.
-use Rattle.std.proofs.Common.{◌≡◌, List, [], ◌∷◌, refl, ap}
-use Rattle.liquid_source.specs.PieceView.{items_view, item_view}
-use Rattle.liquid_source.specs.Tokens.{tokens_of, token_of, tokens_view}
-use Rattle.liquid_source.specs.declared.item.Item.{Item}
-
-pub seen_tokens : (is : List Item) → tokens_of (items_view is) ≡ tokens_view is
-seen_tokens [] = refl
-seen_tokens (i ∷ is) = ap (λ ts. token_of (item_view i) ∷ ts) (seen_tokens is)

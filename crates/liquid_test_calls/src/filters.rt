@@ -1,0 +1,153 @@
+//! Filters, by their names in rows: what one answers alone and in a chain, which numbers of arguments it accepts, and which
+//! filters no row calls.
+use crate::faults::{no_call, unknown};
+use liquid_core::{Expression, Filter, Object, Result, State, Value};
+use liquid_filters::{FilterKind, jekyll};
+use liquid_lib::STANDARD_FILTERS;
+use liquid_syntax::{FilterCall, apply_filters};
+use liquid_test_refusals::{Row, Told, items};
+use std::alloc::Global;
+
+/// Jekyll's `sort`, which the standard language lacks: its filter of that name is another.
+const JEKYLL_SORT: FilterKind = FilterKind::JekyllSort(jekyll::Sort);
+
+/// The name of a filter in rows: Liquid's, but for Jekyll's `sort`.
+fn name_in_rows(filter: FilterKind) -> &'static str {
+    match filter {
+        FilterKind::JekyllSort(_) => "jekyll sort",
+        _ => filter.name(),
+    }
+}
+
+/// The filter of the name.
+fn filter_named(alloc: Global, name: &str) -> Result<FilterKind> {
+    for filter in &STANDARD_FILTERS {
+        if name_in_rows(*filter) == name {
+            return Ok(*filter);
+        }
+    }
+    if name_in_rows(JEKYLL_SORT) == name {
+        return Ok(JEKYLL_SORT);
+    }
+    Err(unknown(alloc))
+}
+
+/// Makes the call of a row of a filter, which is noted: by the filter alone, and then by a chain of it.
+pub(crate) fn filter_made<R: Print>(
+    told: &Told<'_, R>,
+    called: &mut Vec<&'static str>,
+    line: &str,
+    row: &Row,
+) -> Result<()> {
+    let filter = filter_named(told.alloc, row.name())?;
+    called.push(name_in_rows(filter))?;
+    made_alone(told, line, filter, row);
+    made_in_a_chain(told, line, filter, row)
+}
+
+fn made_alone<R: Print>(told: &Told<'_, R>, line: &str, filter: FilterKind, row: &Row) {
+    told.begin();
+    let answer = alone(told.alloc, filter, row);
+    told.end();
+    told.answered(line, row, &answer);
+}
+
+/// What the filter answers to the row's value, with the row's list as its arguments.
+fn alone(alloc: Global, filter: FilterKind, row: &Row) -> Result<Value> {
+    let args = items(&row.with);
+    if filter.accepts(args.len()) {
+        return filter.evaluate(alloc, &row.on, args);
+    }
+    no_call(alloc)
+}
+
+/// Makes the same call by a chain of the filter, whose arguments are literals.
+fn made_in_a_chain<R: Print>(
+    told: &Told<'_, R>,
+    line: &str,
+    filter: FilterKind,
+    row: &Row,
+) -> Result<()> {
+    let literals = literals(told.alloc, items(&row.with))?;
+    let input = row.on.copy(told.alloc)?;
+    told.begin();
+    let answer = in_a_chain(told.alloc, filter, input, &literals);
+    told.end();
+    told.answered_by("apply_filters", line, row, &answer);
+    Ok(())
+}
+
+/// What a chain of the filter answers to the input.
+fn in_a_chain(
+    alloc: Global,
+    filter: FilterKind,
+    input: Value,
+    args: &[Expression],
+) -> Result<Value> {
+    if !filter.accepts(args.len()) {
+        return no_call(alloc);
+    }
+    let state = State::new(alloc, Object::new(alloc));
+    apply_filters(alloc, input, &[FilterCall { filter, args }], &state)
+}
+
+/// Makes the call of `apply_filters` without any filter, over the row's value.
+pub(crate) fn no_filter_made<R: Print>(told: &Told<'_, R>, line: &str, row: &Row) -> Result<()> {
+    let entry = row.on.copy(told.alloc)?;
+    let state = State::new(told.alloc, Object::new(told.alloc));
+    let calls: &[FilterCall<'_, FilterKind>] = &[];
+    told.begin();
+    let answer = apply_filters(told.alloc, entry, calls, &state);
+    told.end();
+    told.answered(line, row, &answer);
+    Ok(())
+}
+
+/// Copies of the arguments as literals.
+fn literals(alloc: Global, args: &[Value]) -> Result<Vec<Expression>> {
+    let mut literals = Vec::new(alloc);
+    for argument in args {
+        literals.push(Expression::Literal(argument.copy(alloc)?))?;
+    }
+    Ok(literals)
+}
+
+/// Whether the filter of the name accepts the numbers of arguments from the row's first value to its second one, and no others.
+pub(crate) fn accepts_call(alloc: Global, name: &str, row: &Row) -> Result<Value> {
+    let filter = filter_named(alloc, name)?;
+    match (&row.on, &row.with) {
+        (Value::Integer(least), Value::Integer(most)) => {
+            Ok(Value::Bool(accepts_only(filter, *least, *most)))
+        }
+        _ => no_call(alloc),
+    }
+}
+
+/// Whether the filter accepts the numbers of arguments from the least to the most and no others, up to four.
+fn accepts_only(filter: FilterKind, least: i64, most: i64) -> bool {
+    for count in 0..5u8 {
+        let is_wanted = least <= i64::from(count) && i64::from(count) <= most;
+        if filter.accepts(usize::from(count)) != is_wanted {
+            return false;
+        }
+    }
+    true
+}
+
+/// Tells each filter that isn't among the called ones, unless no row called any: then no row of a filter was given.
+pub(crate) fn each_is_called<R: Print>(told: &Told<'_, R>, called: &[&str]) {
+    if called.is_empty() {
+        return;
+    }
+    for filter in &STANDARD_FILTERS {
+        one_is_called(told, called, name_in_rows(*filter));
+    }
+    one_is_called(told, called, name_in_rows(JEKYLL_SORT));
+}
+
+/// Tells the filter of the name where it isn't among the called ones.
+fn one_is_called<R: Print>(told: &Told<'_, R>, called: &[&str], name: &str) {
+    if !called.contains(&name) {
+        let _ = println!(told.rt; "no row of {name}");
+    }
+}

@@ -1,0 +1,172 @@
+//! Makes calls that rows tell, and tells each that doesn't end as its row says.
+//!
+//! A row is a line of JSON on standard input, with these fields; one that it lacks is nil, or empty:
+//!
+//! - `call`, the type and the name of a call, as `Value::text`;
+//! - what it is made with: `on`, a value; `with`, a second value or a list; `source`, a template's source or another text; and
+//!   `data`, that of the state;
+//! - `answer`, what the call answers; or in its place `fault`, the kind of the fault that it ends by;
+//! - `none`, where the call takes no memory.
+//!
+//! The calls:
+//!
+//! - `Filter::NAME`: the filter with the input `on` and the arguments of the list `with`. It is called alone, and then by a chain
+//!   of this one filter, which takes memory of its own for two arguments or more. Jekyll's `sort` is `jekyll sort` in rows, for
+//!   `sort` is the standard one.
+//! - `apply_filters`: the call of it without any filter, over `on`.
+//! - `Accepts::NAME`: whether that filter accepts the numbers of arguments from `on` to `with`, and no others, up to four.
+//! - `argument::NAME`: the reader of arguments of that name, over `on`. `date` and `is_date` call
+//!   `read_date`.
+//! - `Value::NAME` and `Test::NAME`: the method of the value `on`. `Order::NAME`: that of `on` beside the value `with`.
+//! - `Error::NAME`: a fault with the message `source`, as it is told.
+//! - `State`: calls of the state, one after another, as `src/states.rt` tells. `Site`: changes of a site, as `src/sites.rt` tells.
+//! - `Example::shop`: the README's example of a site.
+//! - `Template::NAME`: the method of the template `source`. That of a part of its first node: `Expression::NAME`,
+//!   `Variable::NAME`, `FilterChain::NAME`, `Condition::NAME`, `RangeExpression::NAME`, `Range::NAME`, `Window::NAME` and
+//!   `Cycle::NAME`.
+//!
+//! With a word each call stands between marks, for `tests/refusals/run`, and how it ended behind them. Where there is a row of a
+//! filter, each standard filter without one is told at the end.
+//!
+//! What rows of `date` and `date_in_tz` print was written by another program, `date` of the GNU core utilities, in the zone of
+//! each date. What directives print which that program lacks or prints in another way (`%C`, `%c`, `%f`, `%.f`, `%N`, `%^P`,
+//! `%Q`, `%r`, `%3u`, `%X`, `%x`, `%Z`) is told by the documentation of jiff.
+#![tactic(auto)]
+
+mod arguments;
+mod expressions;
+mod faults;
+mod filters;
+mod loops;
+mod site_example;
+mod sites;
+mod states;
+mod templates;
+mod values;
+
+use crate::arguments::argument_call;
+use crate::expressions::{condition_call, part_call};
+use crate::faults::{fault_call, no_call};
+use crate::filters::{accepts_call, each_is_called, filter_made, no_filter_made};
+use crate::loops::loop_call;
+use crate::site_example::shop;
+use crate::sites::site_made;
+use crate::states::made_in_turn;
+use crate::templates::{group_call, template_call};
+use crate::values::{order_call, test_call, value_call};
+use liquid_core::{Object, Result, State, Value};
+use liquid_lib::language;
+use liquid_syntax::{Language, Node, Template, parse};
+use liquid_test_refusals::{Row, Told, read_row, text};
+use std::alloc::Global;
+use std::env;
+
+fn main(rt: HostRuntime) -> Result<()> {
+    let told = Told {
+        rt: &rt,
+        alloc: rt.alloc(),
+        marked: env::args(&rt).is_ok_and(|words| words.count() > 1),
+    };
+    let language = language(rt.alloc())?;
+    let mut called_filters = Vec::new(rt.alloc());
+    for line in rt.lines(rt.alloc()) {
+        match line {
+            Ok(line) => line_made(&told, &language, &mut called_filters, line.as_str()),
+            Err(_) => {
+                let _ = println!(rt; "a line that can't be read");
+            }
+        }
+    }
+    each_is_called(&told, &called_filters);
+    Ok(())
+}
+
+/// Makes the call that the line tells.
+fn line_made<R: Print>(
+    told: &Told<'_, R>,
+    language: &Language,
+    called_filters: &mut Vec<&'static str>,
+    line: &str,
+) {
+    if let Err(fault) = row_made(told, language, called_filters, line) {
+        let _ = println!(told.rt; "no row, by {}: {line}", fault.kind.name());
+    }
+}
+
+/// Makes the call of the row. A filter that it calls is noted.
+fn row_made<R: Print>(
+    told: &Told<'_, R>,
+    language: &Language,
+    called_filters: &mut Vec<&'static str>,
+    line: &str,
+) -> Result<()> {
+    let (row, data) = read_row(told.alloc, line)?;
+    match row.kind() {
+        "Filter" => filter_made(told, called_filters, line, &row),
+        "apply_filters" => no_filter_made(told, line, &row),
+        "Site" => site_made(told, &row),
+        "State" => made_in_turn(told, &row.with, data),
+        "Value" | "Test" | "Order" | "Error" | "argument" | "Accepts" | "Example" => {
+            call_made(told, line, &row);
+            Ok(())
+        }
+        _ => template_made(told, language, line, &row, data),
+    }
+}
+
+/// Makes a call that takes no template.
+fn call_made<R: Print>(told: &Told<'_, R>, line: &str, row: &Row) {
+    told.begin();
+    let answer = called(told.alloc, row);
+    told.end();
+    told.answered(line, row, &answer);
+}
+
+fn called(alloc: Global, row: &Row) -> Result<Value> {
+    let name = row.name();
+    match row.kind() {
+        "Value" => value_call(alloc, name, row),
+        "Test" => test_call(alloc, name, &row.on),
+        "Order" => order_call(alloc, name, &row.on, &row.with),
+        "Error" => fault_call(alloc, name, row),
+        "argument" => argument_call(alloc, name, row),
+        "Accepts" => accepts_call(alloc, name, row),
+        _ => text(shop(alloc)),
+    }
+}
+
+/// Makes a call of the row's template, over its state.
+fn template_made<R: Print>(
+    told: &Told<'_, R>,
+    language: &Language,
+    line: &str,
+    row: &Row,
+    data: Object,
+) -> Result<()> {
+    let template = parse(told.alloc, row.source.as_str(), language)?;
+    let state = State::new(told.alloc, data);
+    told.begin();
+    let answer = match row.kind() {
+        "Template" => template_call(told.alloc, row, language, &template),
+        _ => first_node_call(told.alloc, row, &template, &state),
+    };
+    told.end();
+    told.answered(line, row, &answer);
+    Ok(())
+}
+
+/// What the call of a part of the template's first node answers.
+fn first_node_call(
+    alloc: Global,
+    row: &Row,
+    template: &Template,
+    state: &State<'_>,
+) -> Result<Value> {
+    match template.nodes().first() {
+        Some(Node::Output(chain)) => part_call(alloc, row, chain, state),
+        Some(Node::If(condition, _)) => condition_call(alloc, row, condition, state),
+        Some(Node::For(head, _)) => loop_call(alloc, row, head, state),
+        Some(Node::Cycle(group, values)) => group_call(alloc, group, values),
+        _ => no_call(alloc),
+    }
+}

@@ -1,0 +1,144 @@
+//! Sites: one change after another, and what the site shows behind each.
+use liquid_core::{ErrorKind, Object, Result, Value, look_up};
+use liquid_lib::{Page, language};
+use liquid_site::{Change, Site};
+use liquid_test_refusals::{Row, Told, items, kind_of, member, name_of, optional, text_member};
+use std::alloc::Global;
+
+/// Applies the changes of the row. Each is a list: the change, its name, its source or its value, the kind of its fault or an
+/// empty text, what the site shows behind it, and words by which `tests/refusals/run` tells changes that make other requests.
+pub(crate) fn site_made<R: Print>(told: &Told<'_, R>, row: &Row) -> Result<()> {
+    let mut site = Site::new(told.alloc, language(told.alloc)?, 32);
+    applied_in_turn(told, &mut site, items(&row.with))
+}
+
+fn applied_in_turn<R: Print>(told: &Told<'_, R>, site: &mut Site, steps: &[Value]) -> Result<()> {
+    let mut before = None;
+    for step in steps {
+        applied(told, site, step, before)?;
+        before = Some(step);
+    }
+    Ok(())
+}
+
+/// Applies a change. Where memory was refused, the site is as it was behind the step before, and takes the change when it comes
+/// again.
+fn applied<R: Print>(
+    told: &Told<'_, R>,
+    site: &mut Site,
+    step: &Value,
+    before: Option<&Value>,
+) -> Result<()> {
+    let kind = applied_once(told, site, step)?;
+    let end = match kind {
+        Some(ErrorKind::Memory) if shows(site, before) => "Memory",
+        Some(ErrorKind::Memory) => "another_site",
+        _ => applied_end(step, kind),
+    };
+    tell_end(told, step, end)?;
+    if matches!(kind, Some(ErrorKind::Memory)) {
+        drop(site.apply(change_of(told.alloc, step)?));
+    }
+    tell_pages(told, site, step)
+}
+
+/// Applies the step's change. The kind of the fault that it ended by, if it did.
+fn applied_once<R: Print>(
+    told: &Told<'_, R>,
+    site: &mut Site,
+    step: &Value,
+) -> Result<Option<ErrorKind>> {
+    let change = change_of(told.alloc, step)?;
+    told.begin();
+    let kind = kind_of(&site.apply(change));
+    told.end();
+    Ok(kind)
+}
+
+/// Tells how the step's change ended.
+fn tell_end<R: Print>(told: &Told<'_, R>, step: &Value, end: &str) -> Result<()> {
+    let at = named(told.alloc, step)?;
+    told.ended(text_member(step, 0), at.as_str(), end);
+    Ok(())
+}
+
+/// Tells the step where the site shows other pages behind it.
+fn tell_pages<R: Print>(told: &Told<'_, R>, site: &Site, step: &Value) -> Result<()> {
+    if !shows(site, Some(step)) {
+        let at = named(told.alloc, step)?;
+        let _ = println!(told.rt; "the site shows other pages behind {at}");
+    }
+    Ok(())
+}
+
+/// The name, the source and the words of the step.
+fn named(alloc: Global, step: &Value) -> Result<String> {
+    let (name, source) = (text_member(step, 1), text_member(step, 2));
+    Ok(format!(in alloc; "{name} {source} {}", text_member(step, 6))?)
+}
+
+/// `done` where the kind is the one that the step says, or there is none of both.
+fn applied_end(step: &Value, kind: Option<ErrorKind>) -> &'static str {
+    if name_of(kind) == text_member(step, 3) {
+        "done"
+    } else {
+        "another_end"
+    }
+}
+
+fn change_of(alloc: Global, step: &Value) -> Result<Change> {
+    let name = String::from_str(alloc, text_member(step, 1))?;
+    let source = String::from_str(alloc, text_member(step, 2))?;
+    Ok(match text_member(step, 0) {
+        "SetPage" => Change::SetPage(name, source),
+        "RemovePage" => Change::RemovePage(name),
+        "SetPartial" => Change::SetPartial(name, source),
+        "RemovePartial" => Change::RemovePartial(name),
+        "SetValue" => Change::SetValue(name, optional(alloc, member(step, 2))?),
+        _ => Change::RemoveValue(name),
+    })
+}
+
+/// Whether the site shows just what the step says: each page with its text, a `:` and the kind of its fault, and how many were
+/// `rendered`. Without a step, whether it shows no page, and none was rendered.
+fn shows(site: &Site, step: Option<&Value>) -> bool {
+    let Some(step) = step else {
+        return site.pages().is_empty() && site.rendered() == 0;
+    };
+    match member(step, 4) {
+        Some(Value::Object(wanted)) => has_rendered(site, wanted) && has_pages(site, wanted),
+        _ => false,
+    }
+}
+
+/// Whether each page of the site is shown as it is wanted, and none is wanted beside them.
+fn has_pages(site: &Site, wanted: &Object) -> bool {
+    for (name, page) in site.pages().iter() {
+        if !is_shown(page, look_up(wanted, name.as_str())) {
+            return false;
+        }
+    }
+    wanted.len() == site.pages().len() + 1
+}
+
+/// Whether so many pages were rendered as is wanted.
+fn has_rendered(site: &Site, wanted: &Object) -> bool {
+    match look_up(wanted, "rendered") {
+        Some(Value::Integer(count)) => u64::try_from(*count) == Ok(site.rendered()),
+        _ => false,
+    }
+}
+
+fn is_shown(page: &Page, wanted: Option<&Value>) -> bool {
+    let Some(Value::Text(wanted)) = wanted else {
+        return false;
+    };
+    let kind = match &page.fault {
+        Some(fault) => fault.kind.name(),
+        None => "",
+    };
+    match wanted.as_str().rsplit_once(':') {
+        Some((text, end)) => text == page.text.as_str() && end == kind,
+        None => false,
+    }
+}

@@ -1,0 +1,72 @@
+//! Templates: their nodes, the names that they and a partial mention, and the group of a `cycle`.
+use crate::faults::no_call;
+use liquid_core::{Expression, Result, Value};
+use liquid_syntax::{Language, Partials, Template, parse};
+use liquid_test_refusals::{Row, number, text_member};
+use std::alloc::Global;
+
+/// A call of the template. The row has a partial with its name and its source.
+pub(crate) fn template_call(
+    alloc: Global,
+    row: &Row,
+    language: &Language,
+    template: &Template,
+) -> Result<Value> {
+    match row.name() {
+        "node_count" => Ok(node_count(template)),
+        "mentions" => Ok(Value::Bool(template.mentions(text_member(&row.with, 0)))),
+        "names" => names(alloc, template, &partials(alloc, row, language)?),
+        "partial" => Ok(held(row, &partials(alloc, row, language)?)),
+        _ => no_call(alloc),
+    }
+}
+
+fn node_count(template: &Template) -> Value {
+    number(i64::try_from(template.node_count()).ok())
+}
+
+/// The partials of the row.
+fn partials(alloc: Global, row: &Row, language: &Language) -> Result<Partials> {
+    let mut partials = Partials::new(alloc);
+    insert(alloc, row, language, &mut partials)?;
+    Ok(partials)
+}
+
+fn insert(alloc: Global, row: &Row, language: &Language, partials: &mut Partials) -> Result<()> {
+    let name = String::from_str(alloc, text_member(&row.with, 0))?;
+    let template = parse(alloc, text_member(&row.with, 1), language)?;
+    partials.insert(name, template)
+}
+
+/// The names, of which each is mentioned by the template or by a partial.
+fn names(alloc: Global, template: &Template, partials: &Partials) -> Result<Value> {
+    let mut names = Vec::new(alloc);
+    for name in &template.names(alloc, partials)? {
+        if template.mentions(name.as_str()) || partials.mention(name.as_str()) {
+            push_text(alloc, &mut names, name.as_str())?;
+        }
+    }
+    Ok(Value::Array(names))
+}
+
+/// Puts a copy of the text behind the others.
+fn push_text(alloc: Global, texts: &mut Vec<Value>, text: &str) -> Result<()> {
+    texts.push(Value::Text(String::from_str(alloc, text)?))?;
+    Ok(())
+}
+
+/// How many nodes the partial has, and nil where there is none of the name.
+fn held(row: &Row, partials: &Partials) -> Value {
+    match partials.get(text_member(&row.with, 2)) {
+        Some(partial) => node_count(partial),
+        None => Value::Nil,
+    }
+}
+
+/// The group of a `cycle`, with the number of its values.
+pub(crate) fn group_call(alloc: Global, group: &String, values: &Vec<Expression>) -> Result<Value> {
+    let mut both = Vec::new(alloc);
+    push_text(alloc, &mut both, group.as_str())?;
+    both.push(number(i64::try_from(values.len()).ok()))?;
+    Ok(Value::Array(both))
+}

@@ -1,0 +1,146 @@
+//! What a page is given beside its source and its data.
+use liquid_core::{Object, Result, Value, look_up};
+use liquid_lib::{Language, Partials, jekyll, language, parse, stdlib};
+use liquid_syntax::{FilterRegistry, Registry, TagKind};
+use liquid_test_refusals::text_of;
+use std::alloc::Global;
+
+/// A field of the options.
+pub(crate) fn option<'o>(options: &'o Value, name: &str) -> Option<&'o Value> {
+    match options {
+        Value::Object(pairs) => look_up(pairs, name),
+        _ => None,
+    }
+}
+
+/// The map that a field of the options is, if it is one.
+fn map_option<'o>(options: &'o Value, name: &str) -> Option<&'o Object> {
+    match option(options, name) {
+        Some(Value::Object(pairs)) => Some(pairs),
+        _ => None,
+    }
+}
+
+/// The number that a field of the options is, or another one.
+pub(crate) fn number_option(options: &Value, name: &str, other: usize) -> usize {
+    match option(options, name) {
+        Some(value) => number_or(value, other),
+        None => other,
+    }
+}
+
+/// The number that the value is, or another one.
+pub(crate) fn number_or(value: &Value, other: usize) -> usize {
+    match value {
+        Value::Integer(number) => usize::try_from(*number).unwrap_or(other),
+        _ => other,
+    }
+}
+
+/// The depth of the options, or the one that a runtime has by itself.
+pub(crate) fn depth(options: &Value) -> u32 {
+    u32::try_from(number_option(options, "depth", 32)).unwrap_or(32)
+}
+
+/// The standard language with what the options register in it: tags, and names that stand for filters of the host.
+pub(crate) fn language_with(alloc: Global, options: &Value) -> Result<Language> {
+    let mut language = language(alloc)?;
+    register(alloc, &mut language, options)?;
+    Ok(language)
+}
+
+fn register(alloc: Global, language: &mut Language, options: &Value) -> Result<()> {
+    if let Some(kinds) = map_option(options, "tags") {
+        register_tags(alloc, &mut language.tags, kinds)?;
+    }
+    match map_option(options, "host") {
+        Some(names) => register_host(alloc, &mut language.filters, names),
+        None => Ok(()),
+    }
+}
+
+fn register_tags(alloc: Global, tags: &mut Registry<TagKind>, kinds: &Object) -> Result<()> {
+    for (name, kind) in kinds.iter() {
+        register_tag(alloc, tags, name.as_str(), kind)?;
+    }
+    Ok(())
+}
+
+fn register_tag(
+    alloc: Global,
+    tags: &mut Registry<TagKind>,
+    name: &str,
+    kind: &Value,
+) -> Result<()> {
+    let name = String::from_str(alloc, name)?;
+    tags.register(name, tag_kind(kind))
+}
+
+/// The kind of a tag of this name: Jekyll's `include`, the standard one, or else `assign`.
+fn tag_kind(name: &Value) -> TagKind {
+    match text_of(name) {
+        "jekyll" => TagKind::from(jekyll::IncludeTag::new()),
+        "include" => TagKind::from(stdlib::IncludeTag::new()),
+        _ => TagKind::from(stdlib::AssignTag::new()),
+    }
+}
+
+/// Registers each name with the greatest number of arguments that a template may give the filter.
+fn register_host(alloc: Global, filters: &mut FilterRegistry, names: &Object) -> Result<()> {
+    for (name, most) in names.iter() {
+        register_filter(alloc, filters, name.as_str(), number_or(most, 0))?;
+    }
+    Ok(())
+}
+
+fn register_filter(
+    alloc: Global,
+    filters: &mut FilterRegistry,
+    name: &str,
+    most: usize,
+) -> Result<()> {
+    let name = String::from_str(alloc, name)?;
+    filters.register_host(name, 0, most)
+}
+
+/// The partials of the options, parsed.
+pub(crate) fn partials_of(alloc: Global, options: &Value, language: &Language) -> Result<Partials> {
+    let mut partials = Partials::new(alloc);
+    if let Some(sources) = map_option(options, "partials") {
+        insert_each(alloc, &mut partials, sources, language)?;
+    }
+    Ok(partials)
+}
+
+fn insert_each(
+    alloc: Global,
+    partials: &mut Partials,
+    sources: &Object,
+    language: &Language,
+) -> Result<()> {
+    for (name, source) in sources.iter() {
+        if let Value::Text(source) = source {
+            insert(alloc, partials, name.as_str(), source.as_str(), language)?;
+        }
+    }
+    Ok(())
+}
+
+fn insert(
+    alloc: Global,
+    partials: &mut Partials,
+    name: &str,
+    source: &str,
+    language: &Language,
+) -> Result<()> {
+    let name = String::from_str(alloc, name)?;
+    partials.insert(name, parse(alloc, source, language)?)
+}
+
+/// A copy of the data.
+pub(crate) fn copied(alloc: Global, data: &Value) -> Result<Object> {
+    match data.copy(alloc)? {
+        Value::Object(pairs) => Ok(pairs),
+        _ => Ok(Object::new(alloc)),
+    }
+}

@@ -1,0 +1,126 @@
+//! Pages within limits: which text each has, how it ended, and by which limit.
+use crate::given::{depth, language_with, option, partials_of};
+use crate::writers::{FailingWriter, kind_ending, page_of, writer};
+use liquid_core::{Object, Result, Value};
+use liquid_lib::{
+    Counted, LimitReached, Limited, LimitedPage, Limits, Partials, Renderable, RuntimeBuilder,
+    Template, parse, render_page_within,
+};
+use liquid_test_refusals::{Row, Told, kind_of, text_of};
+
+/// The row's page within its `bytes` and its `turns`, into a page and to a writer, each with the
+/// limit that it is `ended_by`.
+pub(crate) fn limited_made<R: Print>(told: &Told<'_, R>, row: &Row, data: Object) -> Result<()> {
+    let language = language_with(told.alloc, &row.on)?;
+    let partials = partials_of(told.alloc, &row.on, &language)?;
+    let template = parse(told.alloc, row.source.as_str(), &language)?;
+    // a page has no writer that fails by itself
+    if option(&row.on, "writes").is_none() {
+        page_limited(told, row, &template, &partials, &data);
+    }
+    writer_limited(told, row, &template, &partials, data)
+}
+
+/// The page as a text.
+fn page_limited<R: Print>(
+    told: &Told<'_, R>,
+    row: &Row,
+    template: &Template,
+    partials: &Partials,
+    data: &Object,
+) {
+    let (depth, limits) = (depth(&row.on), limits_of(row));
+    told.begin();
+    let answer = render_page_within(told.alloc, template, partials, depth, data, limits);
+    told.end();
+    let end = match &answer {
+        Ok(page) => page_limit_ending(row, page),
+        Err(fault) => fault.kind.name(),
+    };
+    told.ended("render_page_within", row.source.as_str(), end);
+}
+
+/// `done` where the page has the text, the fault and the limit that the row says.
+fn page_limit_ending(row: &Row, limited: &LimitedPage) -> &'static str {
+    if limited.page.text.as_str() != page_of(row) {
+        return "another_page";
+    }
+    if limit_name(limited.limit) != ended_by(row) {
+        return "another_limit";
+    }
+    match &limited.page.fault {
+        Some(fault) => kind_ending(row, Some(fault.kind)),
+        None => kind_ending(row, None),
+    }
+}
+
+/// The page to a writer, which by itself takes as many writes as the row says.
+fn writer_limited<R: Print>(
+    told: &Told<'_, R>,
+    row: &Row,
+    template: &Template,
+    partials: &Partials,
+    data: Object,
+) -> Result<()> {
+    let mut runtime = RuntimeBuilder::new(told.alloc)
+        .set_globals(data)
+        .set_partials(partials)
+        .set_depth(depth(&row.on))
+        .build(told.alloc);
+    let counted = Counted::new(writer(told.alloc, row)?);
+    let mut limited = Limited::new(counted, limits_of(row));
+    told.begin();
+    let answer = template.render_to(told.alloc, &mut limited, &mut runtime);
+    told.end();
+    let end = match kind_of(&answer) {
+        Some(kind) if kind.name() == "Memory" => "Memory",
+        kind => match writer_limit_ending(row, limited) {
+            "done" => kind_ending(row, kind),
+            end => end,
+        },
+    };
+    told.ended("render_to within limits", row.source.as_str(), end);
+    Ok(())
+}
+
+/// `done` where the writer took the page and was ended by the limit that the row says.
+fn writer_limit_ending(row: &Row, limited: Limited<Counted<FailingWriter>>) -> &'static str {
+    if limit_name(limited.ended_by()) != ended_by(row) {
+        return "another_limit";
+    }
+    if limited.into_inner().into_inner().bytes.as_slice() != page_of(row).as_bytes() {
+        return "another_page";
+    }
+    "done"
+}
+
+/// The limits of the row: of each a number, or none.
+fn limits_of(row: &Row) -> Limits {
+    Limits {
+        bytes: limit_option(row, "bytes"),
+        turns: limit_option(row, "turns"),
+    }
+}
+
+fn limit_option(row: &Row, name: &str) -> Option<u64> {
+    match option(&row.on, name) {
+        Some(Value::Integer(number)) => u64::try_from(*number).ok(),
+        _ => None,
+    }
+}
+
+/// The limit that is to end the page, by its name, or no name.
+fn ended_by(row: &Row) -> &str {
+    match option(&row.on, "ended_by") {
+        Some(name) => text_of(name),
+        None => "",
+    }
+}
+
+fn limit_name(limit: Option<LimitReached>) -> &'static str {
+    match limit {
+        Some(LimitReached::Bytes) => "bytes",
+        Some(LimitReached::Turns) => "turns",
+        None => "",
+    }
+}

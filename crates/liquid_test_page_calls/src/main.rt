@@ -1,0 +1,98 @@
+//! Makes calls of languages, runtimes, pages and filters of a host as rows tell them, and those of the README's examples, and tells
+//! each that doesn't end as its row says.
+//!
+//! A row is a line of JSON on standard input: `call`, and of a page its `source`, its `data`, and
+//! `on`, with `partials`, `tags` that are registered beside the standard ones, `host` (names that
+//! stand for filters of a host), the `depth`, the `writes` that its writer takes, of at most so
+//! many bytes each (`most`) and so many in all (`room`), what is rendered `first` on the same
+//! runtime, and what is rendered `then`; its page as `answer`, and the kind of its `fault`. Where
+//! a rendering of it is refused memory, `written` is what it has written, and `refused` what is
+//! rendered in place of `then`, each with all that it may show. A `rendering` is a page whose
+//! template is parsed before its calls. A `limited page` also has the `bytes` and the `turns` of
+//! its limits, and the limit that it is `ended_by`. The `source` of an `example` is its name. Of
+//! all other calls `with` is a list of steps. With a word each call stands between marks, for
+//! `tests/refusals/run`, and how it ended after them.
+#![tactic(auto)]
+
+mod examples;
+mod filters;
+mod given;
+mod hosts;
+mod limits;
+mod pages;
+mod registers;
+mod runtimes;
+mod writers;
+
+use crate::examples::example;
+use crate::hosts::hosted;
+use crate::limits::limited_made;
+use crate::pages::{pages_made, rendering_made};
+use crate::registers::{forloop, has_filter, registered};
+use crate::runtimes::runtime_made;
+use liquid_core::{Object, Result, Value};
+use liquid_test_refusals::{Row, Told, flag, read_row, text};
+use std::alloc::Global;
+use std::env;
+
+fn main(rt: HostRuntime) -> Result<()> {
+    let told = Told {
+        rt: &rt,
+        alloc: rt.alloc(),
+        marked: env::args(&rt).is_ok_and(|words| words.count() > 1),
+    };
+    for line in rt.lines(rt.alloc()) {
+        match line {
+            Ok(line) => line_made(&told, line.as_str()),
+            Err(_) => {
+                let _ = println!(rt; "a line that can't be read");
+            }
+        }
+    }
+    Ok(())
+}
+
+/// Makes the calls that the line tells.
+fn line_made<R: Print>(told: &Told<'_, R>, line: &str) {
+    if let Err(fault) = row_read(told, line) {
+        let _ = println!(told.rt; "no row, by {}: {line}", fault.kind.name());
+    }
+}
+
+/// Reads the row of the line, and makes its calls.
+fn row_read<R: Print>(told: &Told<'_, R>, line: &str) -> Result<()> {
+    let (row, data) = read_row(told.alloc, line)?;
+    row_made(told, line, &row, data)
+}
+
+/// Makes the calls of the row.
+fn row_made<R: Print>(told: &Told<'_, R>, line: &str, row: &Row, data: Object) -> Result<()> {
+    match row.call.as_str() {
+        "page" => pages_made(told, row, data, None),
+        "rendering" => rendering_made(told, row, data, None),
+        "hosted page" | "filters" => hosted(told, row),
+        "limited page" => limited_made(told, row, data),
+        "runtime" => runtime_made(told, row, data),
+        "registers" => registered(told, row),
+        _ => {
+            call_made(told, line, row);
+            Ok(())
+        }
+    }
+}
+
+/// Makes the one call of the row.
+fn call_made<R: Print>(told: &Told<'_, R>, line: &str, row: &Row) {
+    told.begin();
+    let answer = called(told.alloc, row);
+    told.end();
+    told.answered(line, row, &answer);
+}
+
+fn called(alloc: Global, row: &Row) -> Result<Value> {
+    match row.call.as_str() {
+        "example" => text(example(alloc, row.source.as_str())),
+        "forloop" => forloop(alloc, row),
+        _ => flag(has_filter(alloc, row)),
+    }
+}

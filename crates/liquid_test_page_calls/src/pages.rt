@@ -1,0 +1,287 @@
+//! A page by each call that makes it.
+use crate::given::{copied, depth, language_with, option, partials_of};
+use crate::writers::{FailingWriter, kind_ending, page_ending, page_of, writer};
+use liquid_core::{ErrorKind, HostFilters, Object, Result, Value};
+use liquid_lib::{
+    Counted, Language, Page, Partials, Renderable, Runtime, RuntimeBuilder, Template, parse,
+    render_page, render_source,
+};
+use liquid_test_refusals::{Row, Told, items, kind_of, text_member, text_of};
+
+/// What the pages of a row are made of.
+#[derive(Drop)]
+struct Given<'g> {
+    row: &'g Row,
+    language: &'g Language,
+    partials: &'g Partials,
+    template: &'g Template,
+    data: &'g Value,
+    host: Option<&'g HostFilters>,
+}
+
+/// The page of the row by each call, with these filters of a host or without any.
+pub(crate) fn pages_made<R: Print>(
+    told: &Told<'_, R>,
+    row: &Row,
+    data: Object,
+    host: Option<&HostFilters>,
+) -> Result<()> {
+    let language = language_with(told.alloc, &row.on)?;
+    pages_in(told, row, &Value::Object(data), host, &language)
+}
+
+/// The page in the language.
+fn pages_in<R: Print>(
+    told: &Told<'_, R>,
+    row: &Row,
+    data: &Value,
+    host: Option<&HostFilters>,
+    language: &Language,
+) -> Result<()> {
+    let partials = &partials_of(told.alloc, &row.on, language)?;
+    match parsed(told, row, language) {
+        Some(template) => rendered_by_each(
+            told,
+            &Given {
+                row,
+                language,
+                partials,
+                template: &template,
+                data,
+                host,
+            },
+        ),
+        None => Ok(()),
+    }
+}
+
+/// The page of the row by the calls that render a template, with these filters of a host or without
+/// any. It is parsed before them, so that nothing but they stands between marks.
+pub(crate) fn rendering_made<R: Print>(
+    told: &Told<'_, R>,
+    row: &Row,
+    data: Object,
+    host: Option<&HostFilters>,
+) -> Result<()> {
+    let language = language_with(told.alloc, &row.on)?;
+    rendering_in(told, row, &Value::Object(data), host, &language)
+}
+
+/// The same in the language.
+fn rendering_in<R: Print>(
+    told: &Told<'_, R>,
+    row: &Row,
+    data: &Value,
+    host: Option<&HostFilters>,
+    language: &Language,
+) -> Result<()> {
+    let partials = &partials_of(told.alloc, &row.on, language)?;
+    let template = &parse(told.alloc, row.source.as_str(), language)?;
+    rendered_twice(
+        told,
+        &Given {
+            row,
+            language,
+            partials,
+            template,
+            data,
+            host,
+        },
+    )
+}
+
+/// To a writer, and as a text.
+fn rendered_twice<R: Print>(told: &Told<'_, R>, given: &Given<'_>) -> Result<()> {
+    rendered_by(told, given, "render_to")?;
+    rendered_by(told, given, "render")
+}
+
+/// The template, parsed again where memory was refused, or none where the row's source is refused by its fault.
+fn parsed<R: Print>(told: &Told<'_, R>, row: &Row, language: &Language) -> Option<Template> {
+    let source = row.source.as_str();
+    told.begin();
+    let answer = parse(told.alloc, source, language);
+    told.end();
+    let kind = kind_of(&answer);
+    told.ended("parse", source, parse_ending(row, kind));
+    match kind {
+        Some(ErrorKind::Memory) => parse(told.alloc, source, language).ok(),
+        _ => answer.ok(),
+    }
+}
+
+/// `done` where the source was parsed, or is refused by the kind of the row's fault.
+fn parse_ending(row: &Row, kind: Option<ErrorKind>) -> &'static str {
+    match kind {
+        None => "done",
+        Some(ErrorKind::Memory) => "Memory",
+        Some(_) => kind_ending(row, kind),
+    }
+}
+
+/// The page by the calls that write it, and where no write is to fail, by those that answer it.
+fn rendered_by_each<R: Print>(told: &Told<'_, R>, given: &Given<'_>) -> Result<()> {
+    rendered_by(told, given, "render_to")?;
+    rendered_by(told, given, "render_source")?;
+    if given.row.fault.as_str() == "Write" {
+        return Ok(());
+    }
+    rendered_by(told, given, "render")?;
+    if given.host.is_none() {
+        page_rendered(told, given);
+    }
+    Ok(())
+}
+
+/// The page by a call over a runtime.
+fn rendered_by<R: Print>(told: &Told<'_, R>, given: &Given<'_>, call: &str) -> Result<()> {
+    let data = copied(told.alloc, given.data)?;
+    let written = Counted::new(writer(told.alloc, given.row)?);
+    rendered_over(told, given, call, data, written)
+}
+
+/// The page by a call over a runtime of the data, which is made here: of one that is handed on to `render_source` rt ci takes it
+/// that filters of a host are made for it.
+fn rendered_over<R: Print>(
+    told: &Told<'_, R>,
+    given: &Given<'_>,
+    call: &str,
+    data: Object,
+    mut written: Counted<FailingWriter>,
+) -> Result<()> {
+    let (alloc, source) = (told.alloc, given.row.source.as_str());
+    let builder = RuntimeBuilder::new(alloc)
+        .set_globals(data)
+        .set_partials(given.partials)
+        .set_depth(depth(&given.row.on));
+    let mut runtime = match given.host {
+        Some(host) => builder.set_host_filters(host).build(alloc),
+        None => builder.build(alloc),
+    };
+    rendered_first(told, given, &mut runtime)?;
+    if call == "render" {
+        rendered(told, given, &mut runtime);
+        return Ok(());
+    }
+    told.begin();
+    let answer = match call {
+        "render_to" => given.template.render_to(alloc, &mut written, &mut runtime),
+        _ => render_source(alloc, source, given.language, &mut written, &mut runtime),
+    };
+    told.end();
+    let kind = kind_of(&answer);
+    told.ended(call, source, page_ending(given.row, kind, written));
+    rendered_then(told, given, &mut runtime, kind)
+}
+
+/// Renders the row's `first` source on the same runtime, where it has one, outside of marks, so
+/// that no memory is refused to it.
+fn rendered_first<R: Print>(
+    told: &Told<'_, R>,
+    given: &Given<'_>,
+    runtime: &mut Runtime<'_>,
+) -> Result<()> {
+    if let Some(Value::Text(source)) = option(&given.row.on, "first") {
+        let template = parse(told.alloc, source.as_str(), given.language)?;
+        drop(template.render(told.alloc, runtime)?);
+    }
+    Ok(())
+}
+
+fn rendered<R: Print>(told: &Told<'_, R>, given: &Given<'_>, runtime: &mut Runtime<'_>) {
+    told.begin();
+    let answer = given.template.render(told.alloc, runtime);
+    told.end();
+    let end = match &answer {
+        Ok(text) if text.as_str() != page_of(given.row) => "another_page",
+        _ => kind_ending(given.row, kind_of(&answer)),
+    };
+    told.ended("render", given.row.source.as_str(), end);
+}
+
+/// Renders the row's further sources on what the runtime now is, each with what it shows.
+fn rendered_then<R: Print>(
+    told: &Told<'_, R>,
+    given: &Given<'_>,
+    runtime: &mut Runtime<'_>,
+    kind: Option<ErrorKind>,
+) -> Result<()> {
+    for step in further(told, given.row, kind) {
+        step_rendered(told, given.language, runtime, step)?;
+    }
+    Ok(())
+}
+
+/// The further sources: those of `refused` after a rendering that was refused memory, and else
+/// those of `then`, which are as many. Where calls stand between marks and the row has no
+/// `refused` there are none, since each run makes the same calls.
+fn further<'r, R: Print>(told: &Told<'_, R>, row: &'r Row, kind: Option<ErrorKind>) -> &'r [Value] {
+    let refused = option(&row.on, "refused");
+    let steps = match kind {
+        Some(ErrorKind::Memory) => refused,
+        _ if told.marked && refused.is_none() => None,
+        _ => option(&row.on, "then"),
+    };
+    match steps {
+        Some(steps) => items(steps),
+        None => &[],
+    }
+}
+
+/// Renders the source of a step, outside of marks, so that no memory is refused to it.
+fn step_rendered<R: Print>(
+    told: &Told<'_, R>,
+    language: &Language,
+    runtime: &mut Runtime<'_>,
+    step: &Value,
+) -> Result<()> {
+    let source = text_member(step, 0);
+    let template = parse(told.alloc, source, language)?;
+    let answer = template.render(told.alloc, runtime);
+    told.begin();
+    told.end();
+    told.ended("render then", source, then_ending(&answer, step));
+    Ok(())
+}
+
+/// `done` where the answer is one of the texts after the step's source, or a fault of a kind of
+/// such a name.
+fn then_ending(answer: &Result<String>, step: &Value) -> &'static str {
+    let (shown, otherwise) = match answer {
+        Ok(text) => (text.as_str(), "another_answer"),
+        Err(fault) => (fault.kind.name(), fault.kind.name()),
+    };
+    for wanted in items(step).get(1..).unwrap_or(&[]) {
+        if text_of(wanted) == shown {
+            return "done";
+        }
+    }
+    otherwise
+}
+
+/// The page over lent data, with its fault beside its text.
+fn page_rendered<R: Print>(told: &Told<'_, R>, given: &Given<'_>) {
+    let Value::Object(data) = given.data else {
+        return;
+    };
+    let depth = depth(&given.row.on);
+    told.begin();
+    let answer = render_page(told.alloc, given.template, given.partials, depth, data);
+    told.end();
+    let end = match &answer {
+        Ok(page) => shown_ending(given.row, page),
+        Err(fault) => fault.kind.name(),
+    };
+    told.ended("render_page", given.row.source.as_str(), end);
+}
+
+/// `done` where the page has the text and the fault that the row says.
+fn shown_ending(row: &Row, page: &Page) -> &'static str {
+    if page.text.as_str() != page_of(row) {
+        return "another_page";
+    }
+    match &page.fault {
+        Some(fault) => kind_ending(row, Some(fault.kind)),
+        None => kind_ending(row, None),
+    }
+}

@@ -1,0 +1,133 @@
+//! Languages and partials: what is registered and put in; and the object of a loop.
+use crate::given::number_or;
+use liquid_core::{Result, Value};
+use liquid_filters::FilterKind;
+use liquid_filters::stdlib::Sort;
+use liquid_lib::stdlib::{ForloopObject, IfBlock};
+use liquid_lib::{Language, Partials, language, parse};
+use liquid_syntax::{BlockKind, TagKind};
+use liquid_test_refusals::{Row, Told, items, text_of};
+use std::alloc::Global;
+
+/// Whether the standard language, as it is made, has a filter of the row's source that takes so many arguments.
+pub(crate) fn has_filter(alloc: Global, row: &Row) -> Result<bool> {
+    let language = language(alloc)?;
+    Ok(accepts(&language, row.source.as_str(), number_or(&row.on, 0)))
+}
+
+/// Whether the language has a filter of the name that takes so many arguments.
+fn accepts(language: &Language, name: &str, count: usize) -> bool {
+    match language.filters.get(name) {
+        Some(filter) => filter.accepts(count),
+        None => false,
+    }
+}
+
+/// The calls that put something in under a name.
+const CALLS: [&str; 5] = [
+    "tags.register",
+    "blocks.register",
+    "filters.register",
+    "filters.register_host",
+    "Partials::insert",
+];
+
+/// Registers a kind of each sort under each name of the row, in a language of its own, and puts a partial in under it.
+pub(crate) fn registered<R: Print>(told: &Told<'_, R>, row: &Row) -> Result<()> {
+    let mut language = Language::new(told.alloc);
+    let mut partials = Partials::new(told.alloc);
+    put_under_each(told, &mut language, &mut partials, items(&row.with))
+}
+
+fn put_under_each<R: Print>(
+    told: &Told<'_, R>,
+    language: &mut Language,
+    partials: &mut Partials,
+    names: &[Value],
+) -> Result<()> {
+    for name in names {
+        put_under(told, language, partials, text_of(name))?;
+    }
+    Ok(())
+}
+
+fn put_under<R: Print>(
+    told: &Told<'_, R>,
+    language: &mut Language,
+    partials: &mut Partials,
+    name: &str,
+) -> Result<()> {
+    for call in CALLS {
+        put_by(told, language, partials, call, name)?;
+    }
+    Ok(())
+}
+
+/// Makes a call, and again where it was refused memory.
+fn put_by<R: Print>(
+    told: &Told<'_, R>,
+    language: &mut Language,
+    partials: &mut Partials,
+    call: &str,
+    name: &str,
+) -> Result<()> {
+    told.begin();
+    let answer = put(told.alloc, language, partials, call, name);
+    told.end();
+    match answer {
+        Ok(()) if is_there(language, partials, call, name) => told.ended(call, name, "done"),
+        Ok(()) => told.ended(call, name, "nothing_is_registered"),
+        Err(fault) => {
+            told.ended(call, name, fault.kind.name());
+            put(told.alloc, language, partials, call, name)?;
+        }
+    }
+    Ok(())
+}
+
+/// Puts something in under the name.
+fn put(
+    alloc: Global,
+    language: &mut Language,
+    partials: &mut Partials,
+    call: &str,
+    name: &str,
+) -> Result<()> {
+    let key = String::from_str(alloc, name)?;
+    match call {
+        "tags.register" => language.tags.register(key, TagKind::Assign),
+        "blocks.register" => language
+            .blocks
+            .register(key, BlockKind::from(IfBlock::new())),
+        "filters.register" => language.filters.register(key, FilterKind::Sort(Sort)),
+        "filters.register_host" => language.filters.register_host(key, 0, 2),
+        _ => partials.insert(key, parse(alloc, "x{{ y }}", language)?),
+    }
+}
+
+/// Whether what the call put in under the name is there.
+fn is_there(language: &Language, partials: &Partials, call: &str, name: &str) -> bool {
+    match call {
+        "tags.register" => language.tags.get(name).is_some(),
+        "blocks.register" => language.blocks.get(name).is_some(),
+        "Partials::insert" => has_partial(partials, name),
+        _ => accepts(language, name, 1),
+    }
+}
+
+fn has_partial(partials: &Partials, name: &str) -> bool {
+    match partials.get(name) {
+        Some(partial) => partial.node_count() == 2,
+        None => false,
+    }
+}
+
+/// What `forloop` is at the second of three items, in a loop or in none.
+pub(crate) fn forloop(alloc: Global, row: &Row) -> Result<Value> {
+    let parent = match &row.on {
+        Value::Nil => None,
+        parent => Some(parent),
+    };
+    let forloop = ForloopObject::new(1, 3).parentloop(parent);
+    Ok(Value::Object(forloop.to_object(alloc)?))
+}

@@ -1,8 +1,0 @@
-use Rattle.std.proofs.Common.{◌≡◌, ◌++◌, map}
-use Rattle.liquid_model.specs.Lists.{pair_lists}
-use Rattle.liquid_model.specs.View.{view, pairs_view}
-use Rattle.liquid_tree.proofs.loop_items.copied_pairs.Given as goal
-
--- what was listed and what is left make the whole
-abbrev pub invariant-loop-key : goal.invariant-loop-key
-invariant-loop-key l = pair_lists (pairs_view l.pairs.entries) ≡ map view l.lists.items ++ pair_lists (pairs_view l.key-iterator)

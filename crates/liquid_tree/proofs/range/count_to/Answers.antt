@@ -1,7 +1,0 @@
-use Rattle.std.proofs.Common.{arith}
-use Rattle.std.proofs.lemmas.Int.{ints}
-use Rattle.liquid_tree.proofs.Ranges.{count_up}
-use Rattle.liquid_tree.proofs.range.count_to.Goals as goal
-
-pub returns-then-first-last : goal.returns-then-first-last
-returns-then-first-last c = count_up c.args.first c.args.last _ (omega (arith, ints)) (omega (arith, ints))

@@ -1,5 +1,0 @@
-use Rattle.liquid_tree.proofs.RangeParts.{lent_items}
-use Rattle.liquid_tree.proofs.range.value_items.Goals as goal
-
-pub returns-in-Array : goal.returns-in-Array
-returns-in-Array c = lent_items c.lent.result c.args.value.now c.in-Array.items c.in-Array.is c.lent.ensures
