@@ -2,16 +2,13 @@
 #![tactic(auto)]
 
 mod buffered;
-mod excerpt;
 mod outcome;
 mod page;
-mod unreadable;
 mod words;
 
-use crate::excerpt::Excerpt;
 use crate::outcome::Outcome;
 use crate::page::{ReadTexts, Texts, Unreadable, page};
-use crate::unreadable::Reason;
+use liquid_excerpts::{Excerpt, Reason};
 pub use liquid_page_texts::{data_from_json, run};
 use std::alloc::AllocError;
 use std::process::ExitCode;

@@ -1,0 +1,71 @@
+//! The files of a folder of partials.
+use crate::stop::Stop;
+use liquid_excerpts::Reason;
+use std::alloc::Global;
+use std::fs::DirEntry;
+use std::{fs, io};
+
+/// The paths of the files below a folder, from the folder on, in their order. What has a name that begins with a dot is passed over, and so
+/// is a link to a folder.
+pub fn files_below(rt: &HostRuntime, folder: &str) -> Result<Vec<String>, Stop> {
+    let mut files = Vec::new(rt.alloc());
+    let mut folders = Vec::new(rt.alloc());
+    folders.push(String::new(rt.alloc()))?;
+    for _ in 0..u64::MAX {
+        let Some(inner) = folders.pop() else {
+            break;
+        };
+        let path = joined(rt.alloc(), folder, inner.as_str())?;
+        if let Err(refused) = add_entries(rt, path.as_str(), inner.as_str(), &mut files, &mut folders) {
+            return Err(Stop::unread(rt.alloc(), path.as_str(), Reason::from(refused.kind())));
+        }
+    }
+    files.sort_unstable();
+    Ok(files)
+}
+
+/// The path of what stands in a folder.
+pub fn joined(alloc: Global, folder: &str, inner: &str) -> Result<String, Stop> {
+    let mut path = String::from_str(alloc, folder.strip_suffix('/').unwrap_or(folder))?;
+    path.push('/')?;
+    path.push_str(inner)?;
+    Ok(path)
+}
+
+/// Adds the entries of one folder: its files, and the folders in it with a slash behind.
+fn add_entries(
+    rt: &HostRuntime,
+    path: &str,
+    inner: &str,
+    files: &mut Vec<String>,
+    folders: &mut Vec<String>,
+) -> io::Result<()> {
+    for entry in fs::read_dir(rt, path)? {
+        let entry = entry?;
+        if entry.file_name().starts_with('.') {
+            continue;
+        }
+        let mut name = String::from_str(rt.alloc(), inner)?;
+        name.push_str(entry.file_name())?;
+        if entry.file_type()?.is_dir() {
+            name.push('/')?;
+            folders.push(name)?;
+        } else if !is_folder(rt, &entry)? {
+            files.push(name)?;
+        }
+    }
+    Ok(())
+}
+
+/// Whether an entry is a link to a folder.
+fn is_folder(rt: &HostRuntime, entry: &DirEntry) -> io::Result<bool> {
+    Ok(entry.file_type()?.is_symlink() && fs::metadata(rt, entry.path())?.is_dir())
+}
+
+/// A name without the suffix of its last part, where it has one.
+pub fn without_suffix(name: &str) -> Option<&str> {
+    match name.rsplit_once('.') {
+        Some((stem, suffix)) if !suffix.contains('/') && !stem.is_empty() && !stem.ends_with('/') => Some(stem),
+        _ => None,
+    }
+}

@@ -1,0 +1,36 @@
+//! The texts of files.
+use crate::stop::Stop;
+use liquid_excerpts::Reason;
+use std::io::Read;
+use std::{fs, io};
+
+/// What a path is called in a message: `-` is standard input.
+pub fn called(path: &str) -> &str {
+    if path == "-" { "standard input" } else { path }
+}
+
+/// The text of the file at a path, or of standard input where the path is `-`.
+pub fn text_at(rt: &HostRuntime, path: &str) -> Result<String, Stop> {
+    match bytes_at(rt, path) {
+        Ok(bytes) => match String::from_utf8(bytes) {
+            Ok(text) => Ok(text),
+            Err(refused) => {
+                let reason = Reason::of_bytes(&refused);
+                Err(Stop::unread(rt.alloc(), called(path), reason))
+            }
+        },
+        Err(refused) => {
+            let reason = Reason::from(refused.kind());
+            Err(Stop::unread(rt.alloc(), called(path), reason))
+        }
+    }
+}
+
+fn bytes_at(rt: &HostRuntime, path: &str) -> io::Result<Vec<u8>> {
+    if path != "-" {
+        return fs::read(rt, path);
+    }
+    let mut bytes = Vec::new(rt.alloc());
+    rt.reader().read_to_end(&mut bytes)?;
+    Ok(bytes)
+}

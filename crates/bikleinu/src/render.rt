@@ -1,0 +1,61 @@
+//! The command `render`.
+use crate::command::RenderCall;
+use crate::output::{print_text, put_file};
+use crate::sources::{Sources, read_parts};
+use crate::stop::Stop;
+use liquid_lib::{LimitReached, LimitedPage, Limits, Page, render_page_within};
+
+/// How deep partials may be nested.
+const DEPTH: u32 = 32;
+
+/// Writes the page of a template. A page that ends by a fault goes to standard output up to there, and into no file.
+pub fn render(rt: &HostRuntime, call: &RenderCall<'_>) -> Result<(), Stop> {
+    let parts = read_parts(rt, &call.inputs)?;
+    let shown = render_page_within(
+        rt.alloc(),
+        &parts.template,
+        &parts.partials,
+        DEPTH,
+        &parts.data,
+        call.limits,
+    )?;
+    let LimitedPage { page, limit } = shown;
+    let Page { text, fault } = page;
+    if call.out.is_none() {
+        print_text(rt, text.as_str())?;
+    }
+    if let Some(limit) = limit {
+        print_limit(rt, &parts.sources, limit, call.limits);
+        return Err(Stop::Faulted);
+    }
+    if let Some(fault) = fault {
+        parts.sources.print_page_fault(rt, &fault);
+        return Err(Stop::Faulted);
+    }
+    match call.out {
+        Some(path) => put_page(rt, path, text.as_str()),
+        None => Ok(()),
+    }
+}
+
+fn put_page(rt: &HostRuntime, path: &str, text: &str) -> Result<(), Stop> {
+    match put_file(rt, path, text) {
+        Ok(()) => Ok(()),
+        Err(refused) => Err(Stop::unwritten(rt.alloc(), path, refused.kind())),
+    }
+}
+
+/// Prints which limit ended a page.
+fn print_limit(rt: &HostRuntime, sources: &Sources, limit: LimitReached, limits: Limits) {
+    let path = sources.template_path();
+    let _ = match limit {
+        LimitReached::Bytes => {
+            let most = limits.bytes.unwrap_or(0);
+            eprintln!(rt; "error: {path}: the page has more text than --max-bytes allows, {most}")
+        }
+        LimitReached::Turns => {
+            let most = limits.turns.unwrap_or(0);
+            eprintln!(rt; "error: {path}: the page runs more than --max-turns allows, {most}")
+        }
+    };
+}
