@@ -39,7 +39,7 @@ def files_of_folder(words):
     return words[:2] if len(words) == 3 else None
 
 
-# how each program is called, what it does, and the files that it has to find
+# how each program is called, what it does, and the files that it has to find; one that isn't here says all of that itself
 CALLS = {
     "liquid_page": (
         "liquid_page TEMPLATE DATA [NAME=FILE ..]",

@@ -32,6 +32,21 @@ pub struct RenderCall<'w> {
     pub limits: Limits,
 }
 
+/// A call of `merge`.
+#[derive(Drop)]
+pub struct MergeCall<'w> {
+    pub inputs: Inputs<'w>,
+    pub records: &'w str,
+    /// The pattern of the files' names; without one all pages go to standard output.
+    pub out: Option<&'w str>,
+    pub separator: &'w str,
+    /// The number of the first record, from 1, and how many at most.
+    pub from: u64,
+    pub count: u64,
+    pub dry_run: bool,
+    pub progress: bool,
+}
+
 /// The program with its commands.
 pub fn program<'a>(alloc: Global) -> Result<Command<'a>, AllocError> {
     Command::new(alloc, "bikleinu")
@@ -39,7 +54,8 @@ pub fn program<'a>(alloc: Global) -> Result<Command<'a>, AllocError> {
         .about("Renders Liquid templates: a page is what the rules of the language say, or ends at its first fault.")
         .subcommand_required(true)
         .arg_required_else_help(true)
-        .subcommand(render_command(alloc)?)
+        .subcommand(render_command(alloc)?)?
+        .subcommand(merge_command(alloc)?)
 }
 
 fn render_command<'a>(alloc: Global) -> Result<Command<'a>, AllocError> {
@@ -55,6 +71,50 @@ fn render_command<'a>(alloc: Global) -> Result<Command<'a>, AllocError> {
         .arg(out_option(alloc))?
         .arg(limit_option(alloc, "max-bytes", "Ends a page that would write more bytes of text"))?
         .arg(limit_option(alloc, "max-turns", "Ends a page that would run more bodies of tags"))
+}
+
+fn merge_command<'a>(alloc: Global) -> Result<Command<'a>, AllocError> {
+    let records = Arg::new(alloc, "RECORDS")
+        .required(true)
+        .help("The records, a JSON object on each line; - is standard input");
+    let command = Command::new(alloc, "merge")
+        .about("Writes the page of a template for each record, each into a file of its own or to standard output")
+        .after_help(STATUSES)
+        .arg(template_word(alloc))?
+        .arg(records)?
+        .arg(pattern_option(alloc))?
+        .arg(data_option(alloc))?
+        .arg(partials_option(alloc))?;
+    with_merge_options(alloc, command)
+}
+
+fn pattern_option<'a>(alloc: Global) -> Arg<'a> {
+    Arg::new(alloc, "out")
+        .short('o')
+        .long("out")
+        .value_name("PATTERN")
+        .help("A template of the name of a record's file, as 'mails/{{ id }}.eml'; without it pages go to standard output")
+}
+
+fn with_merge_options<'a>(alloc: Global, command: Command<'a>) -> Result<Command<'a>, AllocError> {
+    let separator = Arg::new(alloc, "separator")
+        .long("separator")
+        .value_name("TEXT")
+        .default_value("\n")
+        .help("What stands behind each page on standard output");
+    command
+        .arg(separator)?
+        .arg(limit_option(alloc, "from", "Begins with this record; the first is 1"))?
+        .arg(limit_option(alloc, "count", "Takes so many records at most"))?
+        .arg(flag(alloc, "dry-run", "Writes no file: prints the name of each"))?
+        .arg(flag(alloc, "progress", "Prints each second how many pages there are"))
+}
+
+fn flag<'a>(alloc: Global, name: &'static str, help: &'static str) -> Arg<'a> {
+    Arg::new(alloc, name)
+        .long(name)
+        .action(ArgAction::SetTrue)
+        .help(help)
 }
 
 const STATUSES: &str = "Exit status: 0 done, 1 a fault was reported, 2 the command line is wrong.";
@@ -105,24 +165,44 @@ pub fn render_call<'w>(alloc: Global, given: &ArgMatches<'w>) -> Result<RenderCa
         bytes: given.get_one::<u64>("max-bytes"),
         turns: given.get_one::<u64>("max-turns"),
     };
-    let inputs = inputs_of(alloc, given)?;
-    if inputs.takes_twice_from_standard_input() {
-        return Err(Stop::Usage("standard input can be read only once: name - once"));
-    }
     Ok(RenderCall {
-        inputs,
+        inputs: inputs_of(alloc, given, None)?,
         out: given.get_str("out"),
         limits,
     })
 }
 
-fn inputs_of<'w>(alloc: Global, given: &ArgMatches<'w>) -> Result<Inputs<'w>, Stop> {
+/// What the words of `merge` ask for.
+pub fn merge_call<'w>(alloc: Global, given: &ArgMatches<'w>) -> Result<MergeCall<'w>, Stop> {
+    let Some(records) = given.get_str("RECORDS") else {
+        return Err(Stop::Usage("records are needed"));
+    };
+    Ok(MergeCall {
+        inputs: inputs_of(alloc, given, Some(records))?,
+        records,
+        out: given.get_str("out"),
+        separator: given.get_str("separator").unwrap_or("\n"),
+        from: given.get_one::<u64>("from").unwrap_or(1),
+        count: given.get_one::<u64>("count").unwrap_or(u64::MAX),
+        dry_run: given.get_flag("dry-run"),
+        progress: given.get_flag("progress"),
+    })
+}
+
+/// The files that both commands name, of which one may be standard input, as the records may.
+fn inputs_of<'w>(
+    alloc: Global,
+    given: &ArgMatches<'w>,
+    records: Option<&'w str>,
+) -> Result<Inputs<'w>, Stop> {
     let Some(template) = given.get_str("TEMPLATE") else {
         return Err(Stop::Usage("a template is needed"));
     };
     let mut data = Vec::new(alloc);
-    if let Some(path) = given.get_str("DATA") {
-        data.push(DataFile { name: None, path })?;
+    if records.is_none() {
+        if let Some(path) = given.get_str("DATA") {
+            data.push(DataFile { name: None, path })?;
+        }
     }
     for word in given.get_strs("data").unwrap_or_default() {
         data.push(data_file(word))?;
@@ -131,11 +211,15 @@ fn inputs_of<'w>(alloc: Global, given: &ArgMatches<'w>) -> Result<Inputs<'w>, St
     for word in given.get_strs("partials").unwrap_or_default() {
         partials.push(*word)?;
     }
-    Ok(Inputs {
+    let inputs = Inputs {
         template,
         data,
         partials,
-    })
+    };
+    if inputs.takes_twice_from_standard_input(records == Some("-")) {
+        return Err(Stop::Usage("standard input can be read only once: name - once"));
+    }
+    Ok(inputs)
 }
 
 /// A word FILE or NAME=FILE.
@@ -153,9 +237,15 @@ fn data_file<'w>(word: &'w str) -> DataFile<'w> {
 }
 
 impl Inputs<'_> {
-    /// Whether more than one of the files is standard input.
-    fn takes_twice_from_standard_input(&self) -> bool {
-        let mut is_taken = self.template == "-";
+    /// Whether more than one of the files is standard input, where another one may be.
+    fn takes_twice_from_standard_input(&self, is_taken: bool) -> bool {
+        let mut is_taken = is_taken;
+        if self.template == "-" {
+            if is_taken {
+                return true;
+            }
+            is_taken = true;
+        }
         for file in &self.data {
             if file.path == "-" {
                 if is_taken {

@@ -1,15 +1,21 @@
-//! Liquid templates on the command line: `bikleinu render ..`.
+//! Liquid templates on the command line: `bikleinu render ..` and `bikleinu merge ..`.
 #![tactic(auto)]
 
 mod command;
+mod failure;
+mod files;
 mod folder;
 mod input;
+mod merge;
 mod output;
+mod progress;
 mod render;
 mod sources;
 mod stop;
+mod target;
 
-use crate::command::{program, render_call};
+use crate::command::{merge_call, program, render_call};
+use crate::merge::merge;
 use crate::render::render;
 use crate::stop::Stop;
 use clap::error::ErrorKind;
@@ -37,6 +43,7 @@ fn run(rt: &HostRuntime) -> Result<(), Stop> {
     };
     match matches.subcommand() {
         Some(("render", given)) => render(rt, &render_call(rt.alloc(), given)?),
+        Some(("merge", given)) => merge(rt, &merge_call(rt.alloc(), given)?),
         _ => Err(Stop::Usage("there is no such command")),
     }
 }

@@ -108,9 +108,24 @@ fn data_at(rt: &HostRuntime, path: &str) -> Result<Object, Stop> {
     }
 }
 
+/// The template of the names of files. Its fault is printed.
+pub fn read_pattern(rt: &HostRuntime, pattern: &str) -> Result<Template, Stop> {
+    let language = language(rt.alloc())?;
+    let source = Source {
+        path: String::from_str(rt.alloc(), "--out")?,
+        text: String::from_str(rt.alloc(), pattern)?,
+    };
+    parsed(rt, &source, &language)
+}
+
 /// Prints a fault in one line, and the line of the text that it is in. What standard error refuses is lost.
-pub fn print_fault(rt: &HostRuntime, path: &str, fault: &Error, text: Option<&str>) {
+fn print_fault(rt: &HostRuntime, path: &str, fault: &Error, text: Option<&str>) {
     let _ = eprintln!(rt; "error: {path}: {fault}");
+    print_excerpt(rt, fault, text);
+}
+
+/// Prints the line of a text that a fault is in, where the fault has a location.
+pub fn print_excerpt(rt: &HostRuntime, fault: &Error, text: Option<&str>) {
     if let (Some(location), Some(text)) = (&fault.location, text) {
         if let Some(excerpt) = Excerpt::new(text, location) {
             let _ = eprintln!(rt; "{excerpt}");
@@ -121,11 +136,18 @@ pub fn print_fault(rt: &HostRuntime, path: &str, fault: &Error, text: Option<&st
 impl Sources {
     /// Prints the fault of a page in one line, and the line of the template or the partial that it is in.
     pub fn print_page_fault(&self, rt: &HostRuntime, fault: &Error) {
+        let path = self.template.path.as_str();
+        let _ = eprintln!(rt; "error: {path}: {fault}");
+        self.print_excerpt_of(rt, fault);
+    }
+
+    /// Prints the line of the template or the partial that a fault is in.
+    pub fn print_excerpt_of(&self, rt: &HostRuntime, fault: &Error) {
         let text = match &fault.location {
             Some(location) => self.text_of(location),
             None => None,
         };
-        print_fault(rt, self.template.path.as_str(), fault, text);
+        print_excerpt(rt, fault, text);
     }
 
     /// The path of the template.

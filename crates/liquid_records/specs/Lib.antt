@@ -1,1 +1,5 @@
+pub mod FileNames
+pub mod Records
+pub mod Steps
+pub mod Views
 pub mod inside

@@ -1,1 +1,3 @@
 pub mod Covered
+pub mod Dots
+pub mod Puts

@@ -1,10 +1,11 @@
 //! Data over other data, and taken off again.
-ghost use Rattle.std.specs.Prelude.{◌≡◌, IfOk, option_map, string_bytes};
+ghost use Rattle.std.specs.Prelude.{◌≡◌, IfOk, Some, None, option_map, string_bytes};
 ghost use Rattle.liquid_model.specs.Answer.{IsValueOrMemory};
-ghost use Rattle.liquid_model.specs.Maps.{insert, merged};
+ghost use Rattle.liquid_model.specs.Maps.{merged};
 ghost use Rattle.liquid_model.specs.View.{view};
 ghost use Rattle.liquid_core.specs.Held.{held};
-ghost use Rattle.liquid_records.specs.inside.Covered.{covered_view, uncovered, with_member};
+ghost use Rattle.liquid_site.specs.Steps.{with_fact};
+ghost use Rattle.liquid_records.specs.inside.Covered.{covered_view, uncovered};
 
 use liquid_core::{Object, Result, Value};
 use std::alloc::Global;
@@ -52,21 +53,26 @@ pub(crate) fn take_off(over: Object, covered: Vec<(String, Option<Value>)>) -> R
 
 /// Puts a value at a name. The answer is the value that stood there.
 fn exchange(data: &mut Object, name: String, value: Value) -> Result<Option<Value>>
-    ensures put { IsValueOrMemory (λ _. held «data».new) result (insert (held «data».old) (string_bytes name) (view value)) }
+    ensures put { IsValueOrMemory (λ _. held «data».new) result (with_fact (held «data».old) (string_bytes name) (Some (view value))) }
     ensures before { IfOk result (λ o. option_map view o ≡ held «data».old (string_bytes name)) }
 {
     Ok(data.insert(name, value)?)
 }
 
+/// Takes away what stands at a name.
+fn take_away(data: &mut Object, name: &str)
+    ensures { held «data».new ≡ with_fact (held «data».old) name.now None }
+{
+    drop(data.remove(name));
+}
+
 /// Puts a value at a name, or takes away what stands there.
 fn put_back(data: &mut Object, name: String, before: Option<Value>) -> Result<()>
-    ensures { IsValueOrMemory (λ _. held «data».new) result (with_member (held «data».old) (string_bytes name) (option_map view before)) }
+    ensures { IsValueOrMemory (λ _. held «data».new) result (with_fact (held «data».old) (string_bytes name) (option_map view before)) }
 {
     match before {
-        Some(value) => {
-            drop(data.insert(name, value)?);
-        }
-        None => drop(data.remove(name.as_str())),
+        Some(value) => drop(exchange(data, name, value)?),
+        None => take_away(data, name.as_str()),
     }
     Ok(())
 }

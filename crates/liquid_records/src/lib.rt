@@ -2,5 +2,12 @@
 #![tactic(auto)]
 
 mod data;
+mod file_name;
+mod job;
+mod merge;
 
 pub use data::with_members;
+pub use file_name::is_file_name;
+pub use job::{Job, Made, Outcome, Why};
+pub use liquid_site_files::{Disk, DiskFault};
+pub use merge::Merge;

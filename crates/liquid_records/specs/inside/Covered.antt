@@ -1,25 +1,21 @@
 -- What stood under names that other values stand under now.
-use Rattle.std.specs.Prelude.{List, [], ◌∷◌, map, Option, option_map, bytes_eq, String, string_bytes}
-use Rattle.std.specs.Map.{update}
+use Rattle.std.specs.Prelude.{List, [], ◌∷◌, map, Option, option_map, String, string_bytes}
 use Rattle.std.specs.declared.alloc.Global.{Global}
 use Rattle.liquid_model.specs.Data.{Datum}
 use Rattle.liquid_model.specs.Maps.{Map}
 use Rattle.liquid_model.specs.Texts.{Text}
 use Rattle.liquid_model.specs.View.{view}
 use Rattle.liquid_model.specs.declared.value.Value.{Value}
+use Rattle.liquid_site.specs.Steps.{with_fact}
 
 -- each name, in turn, with the value that it had
 abbrev pub Covered : Type 0
 Covered = List (Text × Option Datum)
 
--- a map with a value at a name, or with none
-abbrev pub with_member : Map Datum → Text → Option Datum → Map Datum
-with_member m name d = update bytes_eq m name d
-
 -- the map once what was covered stands there again, the last of it first
 abbrev pub uncovered : Covered → Map Datum → Map Datum
 uncovered [] m = m
-uncovered (c ∷ cs) m = with_member (uncovered cs m) c.0 c.1
+uncovered (c ∷ cs) m = with_fact (uncovered cs m) c.0 c.1
 
 abbrev pub covered_view : List (String Global × Option Value) → Covered
 covered_view cs = map (λ c. (string_bytes c.0, option_map view c.1)) cs

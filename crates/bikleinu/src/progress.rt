@@ -1,0 +1,61 @@
+//! How far a merge is.
+use crate::stop::Stop;
+use std::time::Instant;
+
+/// How many pages there are, and how many records failed.
+#[derive(Drop)]
+pub struct Progress {
+    pages: u64,
+    failed: u64,
+    /// When the merge began, where each second is to be printed; and the last second that was.
+    began: Option<Instant>,
+    told: u64,
+}
+
+impl Progress {
+    pub fn new(rt: &HostRuntime, is_shown: bool) -> Progress {
+        let began = if is_shown { Instant::now(rt).ok() } else { None };
+        Progress {
+            pages: 0,
+            failed: 0,
+            began,
+            told: 0,
+        }
+    }
+
+    /// Counts a page.
+    pub fn done(&mut self, rt: &HostRuntime) {
+        self.pages = self.pages.saturating_add(1);
+        self.print(rt);
+    }
+
+    /// Counts a record that failed.
+    pub fn failed(&mut self, rt: &HostRuntime) {
+        self.failed = self.failed.saturating_add(1);
+        self.print(rt);
+    }
+
+    /// Prints the pages so far, once a second. What standard error refuses is lost.
+    fn print(&mut self, rt: &HostRuntime) {
+        let Some(began) = &self.began else {
+            return;
+        };
+        let Ok(passed) = began.elapsed(rt) else {
+            return;
+        };
+        let seconds = passed.as_secs();
+        if seconds > self.told {
+            self.told = seconds;
+            let pages = self.pages;
+            let rate = pages.checked_div(seconds).unwrap_or(pages);
+            let _ = eprintln!(rt; "{pages} pages, {rate} a second");
+        }
+    }
+
+    /// Prints the counts. A merge in which a record failed isn't done.
+    pub fn end(&self, rt: &HostRuntime) -> Result<(), Stop> {
+        let (pages, failed) = (self.pages, self.failed);
+        let _ = eprintln!(rt; "pages {pages}, failed {failed}");
+        if failed == 0 { Ok(()) } else { Err(Stop::Faulted) }
+    }
+}

@@ -1,0 +1,6 @@
+use Rattle.std.proofs.Common.{[], ap, ◌∙◌}
+use Rattle.liquid_records.proofs.Dots.{read_behind}
+use Rattle.liquid_records.proofs.file_name.is_file_name.Goals as goal
+
+pub returns : goal.returns
+returns c = c.ends_well.ensures ∙ read_behind [] c.args.name.now

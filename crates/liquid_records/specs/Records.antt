@@ -1,0 +1,75 @@
+-- What a record comes to: a page and the name of its file, or why it has none. It depends on the job and the record's own data alone.
+--     page_of job nodes      the page of a template over the job's data, rendered from nothing
+--     comes_to job pattern facts      what a record with this data comes to, where files are named by a pattern
+use Rattle.std.specs.Prelude.{ℕ, cond, List, [], Option, Some, None, Result, Ok, Err}
+use Rattle.liquid_model.specs.Data.{Datum, Pairs}
+use Rattle.liquid_model.specs.Maps.{Map, merged}
+use Rattle.liquid_model.specs.Texts.{Text}
+use Rattle.liquid_model.specs.declared.error.ErrorKind.{ErrorKind}
+use Rattle.liquid_core.specs.Held.{map_of}
+use Rattle.liquid_evaluation.specs.Tree.{Nodes}
+use Rattle.liquid_lib.specs.Pages.{Shown, page_over}
+use Rattle.liquid_records.specs.FileNames.{is_file_name}
+
+-- a template with its partials, how deep these may be nested, and the data that all records share
+pub record Job : Type 0 where
+  pub template : Nodes
+  pub partials : List (Text × Nodes)
+  pub depth : ℕ
+  pub shared : Map Datum
+
+-- a page without a fault, and the name of its file
+pub record Made : Type 0 where
+  pub name : Text
+  pub text : Text
+
+-- why a record has no page in a file
+pub data Reason : Type 0 where
+  -- its text is no data
+  no_data : ErrorKind → Reason
+  -- the page of the pattern ends by a fault
+  unnamed : ErrorKind → Reason
+  -- what the pattern gives is no name of a file
+  bad_name : Text → Reason
+  -- its page ends by a fault
+  faulted : ErrorKind → Reason
+  -- the name is that of the page of an earlier record, which has this number
+  again : Text → ℕ → Reason
+  -- the disk refuses the file
+  unwritten : Text → Reason
+
+infixl 10 ◌then◌
+abbrev pub ◌then◌ : {A B : Type 0} → Result A Reason → (A → Result B Reason) → Result B Reason
+◌then◌ (Ok a) k = k a
+◌then◌ (Err why) k = Err why
+
+abbrev pub page_of : Job → Nodes → Shown
+page_of job nodes = page_over job.depth job.partials job.shared nodes
+
+-- the job with a record's data over the shared data
+abbrev pub with_record : Pairs → Job → Job
+with_record facts job = record job { shared = merged (map_of facts) job.shared }
+
+abbrev pub unless_fault : (ErrorKind → Reason) → Text → Option ErrorKind → Result Text Reason
+unless_fault why text None = Ok text
+unless_fault why text (Some kind) = Err (why kind)
+
+-- the text of a page without a fault
+abbrev pub whole : (ErrorKind → Reason) → Shown → Result Text Reason
+whole why page = unless_fault why page.text page.fault
+
+abbrev pub checked_name : Text → Result Text Reason
+checked_name name = cond (is_file_name name) (Ok name) (Err (bad_name name))
+
+-- the name of the page's file, which is empty where no files are named
+abbrev pub name_of : Job → Option Nodes → Result Text Reason
+name_of job None = Ok []
+name_of job (Some pattern) = whole unnamed (page_of job pattern) then checked_name
+
+-- the name and the page of a job whose data has the record's over it
+abbrev pub made_by : Job → Option Nodes → Result Made Reason
+made_by job pattern = name_of job pattern then λ name. whole faulted (page_of job job.template) then λ text. Ok (record { name = name; text = text })
+
+abbrev pub comes_to : Job → Option Nodes → Result Pairs ErrorKind → Result Made Reason
+comes_to job pattern (Ok facts) = made_by (with_record facts job) pattern
+comes_to job pattern (Err kind) = Err (no_data kind)

@@ -1,0 +1,35 @@
+-- A merge, record after record: which names came before, and what becomes of a record and of the files.
+--     IsStep n made names fate after      what became of record n, and the names after it
+--     Leaves made fate old new      the files after it
+use Rattle.std.specs.Prelude.{◌≡◌, ◌⊎◌, ℕ, Option, Some, None, Result, Ok, Err}
+use Rattle.liquid_model.specs.Maps.{Map, insert}
+use Rattle.liquid_model.specs.Texts.{Text}
+use Rattle.liquid_site_files.specs.Files.{Files, ChangesAt, holds, with_file}
+use Rattle.liquid_records.specs.Records.{Made, Reason, again, unwritten}
+
+-- the names that came before, each with the number of its record
+abbrev pub Names : Type 0
+Names = Map ℕ
+
+-- what became of a record: its page is in the file of this name, or why it is in none
+abbrev pub Fate : Type 0
+Fate = Result Text Reason
+
+-- the page was to be written: it is in its file, or the disk refused it
+abbrev pub IsTried : Text → Fate → Type 0
+IsTried name fate = (fate ≡ Ok name) ⊎ (fate ≡ Err (unwritten name))
+
+-- a page is written only under a name that didn't come before
+abbrev pub IsNamed : ℕ → Text → Option ℕ → Names → Fate → Names → Type 0
+IsNamed n name (Some before) names fate after = (fate ≡ Err (again name before)) × (after ≡ names)
+IsNamed n name None names fate after = IsTried name fate × (after ≡ insert names name n)
+
+abbrev pub IsStep : ℕ → Result Made Reason → Names → Fate → Names → Type 0
+IsStep n (Err why) names fate after = (fate ≡ Err why) × (after ≡ names)
+IsStep n (Ok made) names fate after = IsNamed n made.name (names made.name) names fate after
+
+-- the file of a page holds the page, one that was refused may hold anything, and no other file changes
+abbrev pub Leaves : Result Made Reason → Fate → Files → Option Files → Type 0
+Leaves (Ok made) (Ok name) old new = new ≡ Some (with_file old made.name (holds made.text))
+Leaves (Ok made) (Err (unwritten name)) old new = ChangesAt made.name old new
+Leaves made fate old new = new ≡ Some old

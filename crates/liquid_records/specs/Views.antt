@@ -1,0 +1,51 @@
+-- Jobs, pages and reasons, as contracts see them.
+use Rattle.std.specs.Prelude.{ℕ, Option, option_map, Result, Ok, Err, Bor, String, string_bytes}
+use Rattle.std.specs.BTreeMap.{get_by_text}
+use Rattle.std.specs.declared.alloc.Global.{Global}
+use Rattle.liquid_core.specs.Held.{held}
+use Rattle.liquid_evaluation.specs.Tree.{Nodes}
+use Rattle.liquid_syntax.specs.Templates.{tree_of, partials_of}
+use Rattle.liquid_syntax.specs.declared.template.Template.{Template}
+use Rattle.liquid_records.specs.Records as seen
+use Rattle.liquid_records.specs.Steps.{Fate, Names}
+use Rattle.liquid_records.specs.declared.job.Job.{Job}
+use Rattle.liquid_records.specs.declared.job.Made.{Made}
+use Rattle.liquid_records.specs.declared.job.Why.{Why}
+use Rattle.liquid_records.specs.declared.job.Why.TheVariants.{NoData, Unnamed, BadName, Faulted, Again, Unwritten}
+use Rattle.liquid_records.specs.declared.merge.Merge.{Merge}
+
+abbrev pub job_view : Job → seen.Job
+job_view j = record { template = tree_of j.template; partials = partials_of j.partials; depth = j.depth; shared = held j.shared }
+
+abbrev pub pattern_view : Option (Bor Template) → Option Nodes
+pattern_view o = option_map (λ t. tree_of t.now) o
+
+abbrev pub made_view : Made → seen.Made
+made_view m = record { name = string_bytes m.name; text = string_bytes m.text }
+
+abbrev pub why_view : Why → seen.Reason
+why_view (NoData e) = seen.no_data e.kind
+why_view (Unnamed e) = seen.unnamed e.kind
+why_view (BadName name) = seen.bad_name (string_bytes name)
+why_view (Faulted e) = seen.faulted e.kind
+why_view (Again name number) = seen.again (string_bytes name) number
+why_view (Unwritten name) = seen.unwritten (string_bytes name)
+
+-- what a call answers, its value seen by view
+abbrev pub outcome_view : {X Y : Type 0} → (X → Y) → Result X Why → Result Y seen.Reason
+outcome_view view (Ok x) = Ok (view x)
+outcome_view view (Err why) = Err (why_view why)
+
+abbrev pub fate_view : Result (String Global) Why → Fate
+fate_view fate = outcome_view string_bytes fate
+
+-- ---- merges
+
+abbrev pub job_of : Merge → seen.Job
+job_of m = job_view m.job
+
+abbrev pub pattern_of : Merge → Nodes
+pattern_of m = tree_of m.pattern
+
+abbrev pub names_of : Merge → Names
+names_of m = λ name. get_by_text m.names name

@@ -1,0 +1,164 @@
+//! One template over many records.
+ghost use Rattle.std.specs.Prelude.{◌≡◌, IfOk, Ok, string_bytes};
+ghost use Rattle.liquid_model.specs.Answer.{IsValueOrMemory};
+ghost use Rattle.liquid_model.specs.View.{pairs_view};
+ghost use Rattle.liquid_syntax.specs.Templates.{tree_of};
+ghost use Rattle.liquid_lib.specs.Pages.{page_view};
+ghost use Rattle.liquid_json.specs.Json.{data_of};
+ghost use Rattle.liquid_records.specs.Records.{checked_name, comes_to, made_by, name_of, page_of};
+ghost use Rattle.liquid_records.specs.Views.{job_view, made_view, outcome_view, pattern_view};
+
+use crate::data::{lay_over, take_off};
+use crate::file_name::is_file_name;
+use liquid_core::{Error, ErrorKind, Object, Result};
+use liquid_json::data_from_json;
+use liquid_lib::{Page, Partials, Template, render_page};
+use std::alloc::Global;
+
+/// A template with its partials, how deep these may be nested, and the data that all records share.
+#[derive(Drop)]
+pub struct Job {
+    pub template: Template,
+    pub partials: Partials,
+    pub depth: u32,
+    pub shared: Object,
+}
+
+/// A page without a fault, and the name of its file, which is empty where no files are named.
+#[derive(Drop)]
+pub struct Made {
+    pub name: String,
+    pub text: String,
+}
+
+/// Why a record has no page, or none in a file.
+#[derive(Drop)]
+pub enum Why {
+    /// Its text is no data.
+    NoData(Error),
+    /// The page of the pattern, which is to be the name of its file, ends by a fault.
+    Unnamed(Error),
+    /// What the pattern gives is no name of a file below the folder.
+    BadName(String),
+    /// Its page ends by a fault.
+    Faulted(Error),
+    /// The name is that of the page of an earlier record, which has this number.
+    Again(String, usize),
+    /// The file of this name can't be written.
+    Unwritten(String),
+}
+
+/// What a record comes to.
+pub type Outcome<T> = std::result::Result<T, Why>;
+
+impl Job {
+    /// What a record with these members comes to, over the shared data: the record's member stands in front of the shared one of its name.
+    /// Where there is a pattern, its page is the name of the record's file.
+    ///
+    /// The answer is `Memory` where a growth was refused, and no other kind; then the job is gone. Else it is as it was.
+    pub fn made(
+        self,
+        alloc: Global,
+        facts: Object,
+        pattern: Option<&Template>,
+    ) -> Result<(Job, Outcome<Made>)>
+        ensures made { IsValueOrMemory (λ p. outcome_view made_view p.1) result
+            (comes_to (job_view self) (pattern_view pattern) (Ok (pairs_view facts.entries))) }
+        ensures same { IfOk result (λ p. job_view p.0 ≡ job_view self) }
+    {
+        let Job {
+            template,
+            partials,
+            depth,
+            shared,
+        } = self;
+        let (over, covered) = lay_over(alloc, shared, facts)?;
+        let job = Job {
+            template,
+            partials,
+            depth,
+            shared: over,
+        };
+        let outcome = job.made_over(alloc, pattern)?;
+        let Job {
+            template,
+            partials,
+            depth,
+            shared: over,
+        } = job;
+        let shared = take_off(over, covered)?;
+        let job = Job {
+            template,
+            partials,
+            depth,
+            shared,
+        };
+        Ok((job, outcome))
+    }
+
+    /// As `made`, of a record that is a text of JSON.
+    pub fn made_of_json(
+        self,
+        alloc: Global,
+        text: &str,
+        pattern: Option<&Template>,
+    ) -> Result<(Job, Outcome<Made>)>
+        ensures made { IsValueOrMemory (λ p. outcome_view made_view p.1) result
+            (comes_to (job_view self) (pattern_view pattern) (data_of text.now)) }
+        ensures same { IfOk result (λ p. job_view p.0 ≡ job_view self) }
+    {
+        match data_from_json(alloc, text) {
+            Ok(facts) => self.made(alloc, facts, pattern),
+            Err(fault) => match fault.kind {
+                ErrorKind::Memory => Err(fault),
+                _ => Ok((self, Err(Why::NoData(fault)))),
+            },
+        }
+    }
+
+    /// The name and the page, over the data as it stands.
+    fn made_over(&self, alloc: Global, pattern: Option<&Template>) -> Result<Outcome<Made>>
+        ensures { IsValueOrMemory (outcome_view made_view) result (made_by (job_view self.now) (pattern_view pattern)) }
+    {
+        let name = match self.name_over(alloc, pattern)? {
+            Ok(name) => name,
+            Err(why) => return Ok(Err(why)),
+        };
+        let Page { text, fault } = self.page(alloc, &self.template)?;
+        match fault {
+            Some(fault) => Ok(Err(Why::Faulted(fault))),
+            None => Ok(Ok(Made { name, text })),
+        }
+    }
+
+    /// The name of the page's file.
+    fn name_over(&self, alloc: Global, pattern: Option<&Template>) -> Result<Outcome<String>>
+        ensures { IsValueOrMemory (outcome_view string_bytes) result (name_of (job_view self.now) (pattern_view pattern)) }
+    {
+        let Some(pattern) = pattern else {
+            return Ok(Ok(String::new(alloc)));
+        };
+        let Page { text, fault } = self.page(alloc, pattern)?;
+        match fault {
+            Some(fault) => Ok(Err(Why::Unnamed(fault))),
+            None => Ok(checked_name(text)),
+        }
+    }
+
+    fn page(&self, alloc: Global, template: &Template) -> Result<Page>
+        ensures { IsValueOrMemory page_view result (page_of (job_view self.now) (tree_of template.now)) }
+    {
+        render_page(alloc, template, &self.partials, self.depth, &self.shared)
+    }
+}
+
+/// A name, where it is one of a file.
+fn checked_name(name: String) -> Outcome<String>
+    ensures { outcome_view string_bytes result ≡ checked_name (string_bytes name) }
+{
+    if is_file_name(name.as_str()) {
+        Ok(name)
+    } else {
+        Err(Why::BadName(name))
+    }
+}

@@ -1,0 +1,130 @@
+//! A merge: the pages of records, each in a file of its own.
+ghost use Rattle.std.specs.Prelude.{◌≡◌, IfOk, IfSome, Ok, OnErr, Some, IfErr};
+ghost use Rattle.liquid_model.specs.Maps.{empty};
+ghost use Rattle.liquid_model.specs.View.{pairs_view};
+ghost use Rattle.liquid_json.specs.Json.{data_of};
+ghost use Rattle.liquid_syntax.specs.Templates.{tree_of};
+ghost use Rattle.liquid_records.specs.Records.{comes_to};
+ghost use Rattle.liquid_records.specs.Steps.{IsNamed, IsStep, Leaves};
+ghost use Rattle.liquid_records.specs.Views.{fate_view, job_of, job_view, made_view, names_of, pattern_of};
+ghost use Rattle.liquid_records.specs.inside.Puts.{map_names};
+
+use crate::job::{Job, Made, Outcome, Why};
+use liquid_core::{ErrorKind, Object, Result};
+use liquid_json::data_from_json;
+use liquid_lib::Template;
+use liquid_site_files::Disk;
+use std::alloc::Global;
+use std::collections::BTreeMap;
+
+/// A job whose pages go into files that a pattern names, and the names that came before.
+#[derive(Drop)]
+pub struct Merge {
+    job: Job,
+    pattern: Template,
+    names: BTreeMap<String, usize>,
+}
+
+impl Merge {
+    /// A merge before its first record. It takes no memory.
+    pub fn new(alloc: Global, job: Job, pattern: Template) -> Merge
+        ensures job { job_of result ≡ job_view job }
+        ensures pattern { pattern_of result ≡ tree_of pattern }
+        ensures names { names_of result ≡ empty }
+    {
+        Merge {
+            job,
+            pattern,
+            names: BTreeMap::new(alloc),
+        }
+    }
+
+    /// Writes the page of a record with these members into its file. The answer is the file's name, or why the record has no page there: then no
+    /// file changed but one that can't be written.
+    ///
+    /// It is `Memory` where a growth was refused, and no other kind; then no file changed, and the merge is gone.
+    pub fn take<D: Disk>(
+        self,
+        alloc: Global,
+        number: usize,
+        facts: Object,
+        disk: &mut D,
+    ) -> Result<(Merge, Outcome<String>)>
+        ensures step { IfOk result (λ p. IsStep number (comes_to (job_of self) (Some (pattern_of self)) (Ok (pairs_view facts.entries)))
+            (names_of self) (fate_view p.1) (names_of p.0)) }
+        ensures files { IfSome (D.files disk.old) (λ f. IfOk result (λ p.
+            Leaves (comes_to (job_of self) (Some (pattern_of self)) (Ok (pairs_view facts.entries))) (fate_view p.1) f (D.files disk.new))) }
+        ensures job { IfOk result (λ p. job_of p.0 ≡ job_of self) }
+        ensures pattern { IfOk result (λ p. pattern_of p.0 ≡ pattern_of self) }
+        ensures untouched { OnErr result (D.files disk.new ≡ D.files disk.old) }
+        ensures memory { IfErr result (λ e. e.kind ≡ ErrorKind.Memory) }
+    {
+        let Merge {
+            job,
+            pattern,
+            names,
+        } = self;
+        let (job, outcome) = job.made(alloc, facts, Some(&pattern))?;
+        let mut names = names;
+        let fate = match outcome {
+            Ok(made) => put(alloc, number, made, &mut names, disk)?,
+            Err(why) => Err(why),
+        };
+        let merge = Merge {
+            job,
+            pattern,
+            names,
+        };
+        Ok((merge, fate))
+    }
+
+    /// As `take`, of a record that is a text of JSON.
+    pub fn take_json<D: Disk>(
+        self,
+        alloc: Global,
+        number: usize,
+        text: &str,
+        disk: &mut D,
+    ) -> Result<(Merge, Outcome<String>)>
+        ensures step { IfOk result (λ p. IsStep number (comes_to (job_of self) (Some (pattern_of self)) (data_of text.now))
+            (names_of self) (fate_view p.1) (names_of p.0)) }
+        ensures files { IfSome (D.files disk.old) (λ f. IfOk result (λ p.
+            Leaves (comes_to (job_of self) (Some (pattern_of self)) (data_of text.now)) (fate_view p.1) f (D.files disk.new))) }
+        ensures job { IfOk result (λ p. job_of p.0 ≡ job_of self) }
+        ensures pattern { IfOk result (λ p. pattern_of p.0 ≡ pattern_of self) }
+        ensures untouched { OnErr result (D.files disk.new ≡ D.files disk.old) }
+        ensures memory { IfErr result (λ e. e.kind ≡ ErrorKind.Memory) }
+    {
+        match data_from_json(alloc, text) {
+            Ok(facts) => self.take(alloc, number, facts, disk),
+            Err(fault) => match fault.kind {
+                ErrorKind::Memory => Err(fault),
+                _ => Ok((self, Err(Why::NoData(fault)))),
+            },
+        }
+    }
+}
+
+/// Writes a page into the file of its name, unless the name came before.
+fn put<D: Disk>(
+    alloc: Global,
+    number: usize,
+    made: Made,
+    names: &mut BTreeMap<String, usize>,
+    disk: &mut D,
+) -> Result<Outcome<String>>
+    ensures step { IfOk result (λ fate. IsStep number (Ok (made_view made)) (map_names names.old) (fate_view fate) (map_names names.new)) }
+    ensures files { IfSome (D.files disk.old) (λ f. IfOk result (λ fate. Leaves (Ok (made_view made)) (fate_view fate) f (D.files disk.new))) }
+    ensures untouched { OnErr result (D.files disk.new ≡ D.files disk.old) }
+    ensures memory { IfErr result (λ e. e.kind ≡ ErrorKind.Memory) }
+{
+    let Made { name, text } = made;
+    if let Some(before) = names.get(name.as_str()) {
+        return Ok(Err(Why::Again(name, *before)));
+    }
+    drop(names.insert(String::from_str(alloc, name.as_str())?, number)?);
+    match disk.write(name.as_str(), text.as_str()) {
+        Ok(()) => Ok(Ok(name)),
+        Err(_) => Ok(Err(Why::Unwritten(name))),
+    }
+}
