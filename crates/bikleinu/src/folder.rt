@@ -16,8 +16,9 @@ pub fn files_below(rt: &HostRuntime, folder: &str) -> Result<Vec<String>, Stop> 
             break;
         };
         let path = joined(rt.alloc(), folder, inner.as_str())?;
-        if let Err(refused) = add_entries(rt, path.as_str(), inner.as_str(), &mut files, &mut folders) {
-            return Err(Stop::unread(rt.alloc(), path.as_str(), Reason::from(refused.kind())));
+        let path = path.as_str().strip_suffix('/').unwrap_or(folder);
+        if let Err(refused) = add_entries(rt, path, inner.as_str(), &mut files, &mut folders) {
+            return Err(Stop::unread(rt.alloc(), path, Reason::from(refused.kind())));
         }
     }
     files.sort_unstable();

@@ -2,7 +2,6 @@
 #![tactic(auto)]
 
 mod command;
-mod failure;
 mod files;
 mod folder;
 mod input;
@@ -10,6 +9,7 @@ mod merge;
 mod output;
 mod progress;
 mod render;
+mod report;
 mod sources;
 mod stop;
 mod target;

@@ -1,8 +1,8 @@
 //! The command `merge`.
 use crate::command::MergeCall;
-use crate::failure::Failure;
 use crate::input::called;
 use crate::progress::Progress;
+use crate::report::Report;
 use crate::sources::{Parts, Sources, read_parts, read_pattern};
 use crate::stop::Stop;
 use crate::target::Target;
@@ -97,15 +97,15 @@ impl Run<'_> {
         progress: &mut Progress,
     ) -> Result<Target<'r>, Stop> {
         let Ok(text) = str::from_utf8(line) else {
-            Failure::NotUtf8.print(self.rt, &self.sources, number, "");
+            Report::NotUtf8.print(self.rt, &self.sources, number, "");
             progress.failed(self.rt);
             return Ok(target);
         };
         let (target, outcome) = target.take(self.rt, self.call, number, text)?;
         match outcome {
             Ok(()) => progress.done(self.rt),
-            Err(why) => {
-                why.print(self.rt, &self.sources, number, text);
+            Err(report) => {
+                report.print(self.rt, &self.sources, number, text);
                 progress.failed(self.rt);
             }
         }

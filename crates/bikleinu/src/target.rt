@@ -1,8 +1,8 @@
 //! Where the pages of a merge go.
 use crate::command::MergeCall;
-use crate::failure::Failure;
 use crate::files::{Files, Nowhere};
 use crate::output::print_text;
+use crate::report::Report;
 use crate::stop::Stop;
 use liquid_records::{Job, Made, Merge};
 
@@ -34,7 +34,7 @@ impl<'r> Target<'r> {
         call: &MergeCall<'_>,
         number: u64,
         text: &str,
-    ) -> Result<(Target<'r>, Result<(), Failure>), Stop> {
+    ) -> Result<(Target<'r>, Result<(), Report>), Stop> {
         let number = number as usize;
         match self {
             Target::Files(merge, files) => {
@@ -42,7 +42,7 @@ impl<'r> Target<'r> {
                 let (merge, fate) = merge.take_json(rt.alloc(), number, text, &mut files)?;
                 let outcome = match fate {
                     Ok(_) => Ok(()),
-                    Err(why) => Err(Failure::Of(why, files.reason())),
+                    Err(failure) => Err(Report::NoFile(failure, files.reason())),
                 };
                 Ok((Target::Files(merge, files), outcome))
             }
@@ -54,7 +54,7 @@ impl<'r> Target<'r> {
                         print_text(rt, "\n")?;
                         Ok(())
                     }
-                    Err(why) => Err(Failure::Of(why, None)),
+                    Err(failure) => Err(Report::NoFile(failure, None)),
                 };
                 Ok((Target::Names(merge), outcome))
             }
@@ -66,7 +66,7 @@ impl<'r> Target<'r> {
                         print_text(rt, call.separator)?;
                         Ok(())
                     }
-                    Err(why) => Err(Failure::Of(why, None)),
+                    Err(why) => Err(Report::NoPage(why)),
                 };
                 Ok((Target::Output(job), outcome))
             }

@@ -1,2 +1,3 @@
 pub mod Dots
 pub mod Over
+pub mod Runs

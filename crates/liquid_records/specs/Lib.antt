@@ -1,5 +1,6 @@
 pub mod FileNames
 pub mod Records
+pub mod Runs
 pub mod Steps
 pub mod Views
 pub mod inside

@@ -23,7 +23,7 @@ pub record Made : Type 0 where
   pub name : Text
   pub text : Text
 
--- why a record has no page in a file
+-- why a record has no page
 pub data Reason : Type 0 where
   -- its text is no data
   no_data : ErrorKind → Reason
@@ -33,10 +33,6 @@ pub data Reason : Type 0 where
   bad_name : Text → Reason
   -- its page ends by a fault
   faulted : ErrorKind → Reason
-  -- the name is that of the page of an earlier record, which has this number
-  again : Text → ℕ → Reason
-  -- the disk refuses the file
-  unwritten : Text → Reason
 
 infixl 10 ◌then◌
 abbrev pub ◌then◌ : {A B : Type 0} → Result A Reason → (A → Result B Reason) → Result B Reason

@@ -5,15 +5,24 @@ use Rattle.std.specs.Prelude.{◌≡◌, ◌⊎◌, ℕ, Option, Some, None, Res
 use Rattle.liquid_model.specs.Maps.{Map, insert}
 use Rattle.liquid_model.specs.Texts.{Text}
 use Rattle.liquid_site_files.specs.Files.{Files, ChangesAt, holds, with_file}
-use Rattle.liquid_records.specs.Records.{Made, Reason, again, unwritten}
+use Rattle.liquid_records.specs.Records.{Made, Reason}
 
 -- the names that came before, each with the number of its record
 abbrev pub Names : Type 0
 Names = Map ℕ
 
+-- why a record's page is in no file
+pub data Failed : Type 0 where
+  -- there is no page
+  no_page : Reason → Failed
+  -- the name is that of the page of an earlier record, which has this number
+  again : Text → ℕ → Failed
+  -- the disk refuses the file
+  unwritten : Text → Failed
+
 -- what became of a record: its page is in the file of this name, or why it is in none
 abbrev pub Fate : Type 0
-Fate = Result Text Reason
+Fate = Result Text Failed
 
 -- the page was to be written: it is in its file, or the disk refused it
 abbrev pub IsTried : Text → Fate → Type 0
@@ -25,7 +34,7 @@ IsNamed n name (Some before) names fate after = (fate ≡ Err (again name before
 IsNamed n name None names fate after = IsTried name fate × (after ≡ insert names name n)
 
 abbrev pub IsStep : ℕ → Result Made Reason → Names → Fate → Names → Type 0
-IsStep n (Err why) names fate after = (fate ≡ Err why) × (after ≡ names)
+IsStep n (Err why) names fate after = (fate ≡ Err (no_page why)) × (after ≡ names)
 IsStep n (Ok made) names fate after = IsNamed n made.name (names made.name) names fate after
 
 -- the file of a page holds the page, one that was refused may hold anything, and no other file changes

@@ -7,11 +7,13 @@ use Rattle.liquid_evaluation.specs.Tree.{Nodes}
 use Rattle.liquid_syntax.specs.Templates.{tree_of, partials_of}
 use Rattle.liquid_syntax.specs.declared.template.Template.{Template}
 use Rattle.liquid_records.specs.Records as seen
-use Rattle.liquid_records.specs.Steps.{Fate, Names}
+use Rattle.liquid_records.specs.Steps.{Failed, no_page, again, unwritten, Fate, Names}
 use Rattle.liquid_records.specs.declared.job.Job.{Job}
 use Rattle.liquid_records.specs.declared.job.Made.{Made}
 use Rattle.liquid_records.specs.declared.job.Why.{Why}
-use Rattle.liquid_records.specs.declared.job.Why.TheVariants.{NoData, Unnamed, BadName, Faulted, Again, Unwritten}
+use Rattle.liquid_records.specs.declared.job.Why.TheVariants.{NoData, Unnamed, BadName, Faulted}
+use Rattle.liquid_records.specs.declared.merge.Failure.{Failure}
+use Rattle.liquid_records.specs.declared.merge.Failure.TheVariants.{NoPage, Again, Unwritten}
 use Rattle.liquid_records.specs.declared.merge.Merge.{Merge}
 
 abbrev pub job_view : Job → seen.Job
@@ -28,16 +30,20 @@ why_view (NoData e) = seen.no_data e.kind
 why_view (Unnamed e) = seen.unnamed e.kind
 why_view (BadName name) = seen.bad_name (string_bytes name)
 why_view (Faulted e) = seen.faulted e.kind
-why_view (Again name number) = seen.again (string_bytes name) number
-why_view (Unwritten name) = seen.unwritten (string_bytes name)
 
 -- what a call answers, its value seen by view
 abbrev pub outcome_view : {X Y : Type 0} → (X → Y) → Result X Why → Result Y seen.Reason
 outcome_view view (Ok x) = Ok (view x)
 outcome_view view (Err why) = Err (why_view why)
 
-abbrev pub fate_view : Result (String Global) Why → Fate
-fate_view fate = outcome_view string_bytes fate
+abbrev pub failure_view : Failure → Failed
+failure_view (NoPage why) = no_page (why_view why)
+failure_view (Again name number) = again (string_bytes name) number
+failure_view (Unwritten name) = unwritten (string_bytes name)
+
+abbrev pub fate_view : Result (String Global) Failure → Fate
+fate_view (Ok name) = Ok (string_bytes name)
+fate_view (Err failure) = Err (failure_view failure)
 
 -- ---- merges
 

@@ -31,7 +31,7 @@ pub struct Made {
     pub text: String,
 }
 
-/// Why a record has no page, or none in a file.
+/// Why a record has no page.
 #[derive(Drop)]
 pub enum Why {
     /// Its text is no data.
@@ -42,10 +42,6 @@ pub enum Why {
     BadName(String),
     /// Its page ends by a fault.
     Faulted(Error),
-    /// The name is that of the page of an earlier record, which has this number.
-    Again(String, usize),
-    /// The file of this name can't be written.
-    Unwritten(String),
 }
 
 /// What a record comes to.

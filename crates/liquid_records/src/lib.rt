@@ -4,10 +4,12 @@
 mod data;
 mod file_name;
 mod job;
+mod laws;
 mod merge;
 
 pub use data::with_members;
 pub use file_name::is_file_name;
 pub use job::{Job, Made, Outcome, Why};
+pub use laws::merge_laws;
 pub use liquid_site_files::{Disk, DiskFault};
-pub use merge::Merge;
+pub use merge::{Failure, Fate, Merge};

@@ -9,13 +9,27 @@ ghost use Rattle.liquid_records.specs.Steps.{IsNamed, IsStep, Leaves};
 ghost use Rattle.liquid_records.specs.Views.{fate_view, job_of, job_view, made_view, names_of, pattern_of};
 ghost use Rattle.liquid_records.specs.inside.Puts.{map_names};
 
-use crate::job::{Job, Made, Outcome, Why};
+use crate::job::{Job, Made, Why};
 use liquid_core::{ErrorKind, Object, Result};
 use liquid_json::data_from_json;
 use liquid_lib::Template;
 use liquid_site_files::Disk;
 use std::alloc::Global;
 use std::collections::BTreeMap;
+
+/// Why a record's page is in no file.
+#[derive(Drop)]
+pub enum Failure {
+    /// There is no page.
+    NoPage(Why),
+    /// The name is that of the page of an earlier record, which has this number.
+    Again(String, usize),
+    /// The file of this name can't be written.
+    Unwritten(String),
+}
+
+/// What becomes of a record: the name of its page's file, or why its page is in none.
+pub type Fate = std::result::Result<String, Failure>;
 
 /// A job whose pages go into files that a pattern names, and the names that came before.
 #[derive(Drop)]
@@ -49,7 +63,7 @@ impl Merge {
         number: usize,
         facts: Object,
         disk: &mut D,
-    ) -> Result<(Merge, Outcome<String>)>
+    ) -> Result<(Merge, Fate)>
         ensures step { IfOk result (λ p. IsStep number (comes_to (job_of self) (Some (pattern_of self)) (Ok (pairs_view facts.entries)))
             (names_of self) (fate_view p.1) (names_of p.0)) }
         ensures files { IfSome (D.files disk.old) (λ f. IfOk result (λ p.
@@ -68,7 +82,7 @@ impl Merge {
         let mut names = names;
         let fate = match outcome {
             Ok(made) => put(alloc, number, made, &mut names, disk)?,
-            Err(why) => Err(why),
+            Err(why) => Err(Failure::NoPage(why)),
         };
         let merge = Merge {
             job,
@@ -85,7 +99,7 @@ impl Merge {
         number: usize,
         text: &str,
         disk: &mut D,
-    ) -> Result<(Merge, Outcome<String>)>
+    ) -> Result<(Merge, Fate)>
         ensures step { IfOk result (λ p. IsStep number (comes_to (job_of self) (Some (pattern_of self)) (data_of text.now))
             (names_of self) (fate_view p.1) (names_of p.0)) }
         ensures files { IfSome (D.files disk.old) (λ f. IfOk result (λ p.
@@ -99,7 +113,7 @@ impl Merge {
             Ok(facts) => self.take(alloc, number, facts, disk),
             Err(fault) => match fault.kind {
                 ErrorKind::Memory => Err(fault),
-                _ => Ok((self, Err(Why::NoData(fault)))),
+                _ => Ok((self, Err(Failure::NoPage(Why::NoData(fault))))),
             },
         }
     }
@@ -112,7 +126,7 @@ fn put<D: Disk>(
     made: Made,
     names: &mut BTreeMap<String, usize>,
     disk: &mut D,
-) -> Result<Outcome<String>>
+) -> Result<Fate>
     ensures step { IfOk result (λ fate. IsStep number (Ok (made_view made)) (map_names names.old) (fate_view fate) (map_names names.new)) }
     ensures files { IfSome (D.files disk.old) (λ f. IfOk result (λ fate. Leaves (Ok (made_view made)) (fate_view fate) f (D.files disk.new))) }
     ensures untouched { OnErr result (D.files disk.new ≡ D.files disk.old) }
@@ -120,11 +134,11 @@ fn put<D: Disk>(
 {
     let Made { name, text } = made;
     if let Some(before) = names.get(name.as_str()) {
-        return Ok(Err(Why::Again(name, *before)));
+        return Ok(Err(Failure::Again(name, *before)));
     }
     drop(names.insert(String::from_str(alloc, name.as_str())?, number)?);
     match disk.write(name.as_str(), text.as_str()) {
         Ok(()) => Ok(Ok(name)),
-        Err(_) => Ok(Err(Why::Unwritten(name))),
+        Err(_) => Ok(Err(Failure::Unwritten(name))),
     }
 }

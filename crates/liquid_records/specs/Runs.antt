@@ -1,0 +1,77 @@
+-- A merge over a list of records, and what holds of it.
+--     AreTaken comes records old fates new      the records were taken one after another; comes says what each comes to
+--     written_names fates      the names of the files that were written, or refused by the disk
+use Rattle.std.specs.Prelude.{◌≡◌, ℕ, false, List, [], ◌∷◌, ◌++◌, bytes_eq, ⊤, Some, Result, Ok, Err}
+use Rattle.std.specs.List.{list_any}
+use Rattle.liquid_model.specs.Data.{Pairs}
+use Rattle.liquid_model.specs.Maps.{empty}
+use Rattle.liquid_model.specs.Texts.{Text}
+use Rattle.liquid_model.specs.declared.error.ErrorKind.{ErrorKind}
+use Rattle.liquid_evaluation.specs.Tree.{Nodes}
+use Rattle.liquid_site_files.specs.Files.{Files, holds}
+use Rattle.liquid_records.specs.Records.{Job, Made, Reason, comes_to}
+use Rattle.liquid_records.specs.Steps.{Names, Fate, IsStep, Leaves, unwritten}
+
+-- records by their numbers: the data of each, or the kind of its fault
+abbrev pub Records : Type 0
+Records = List (ℕ × Result Pairs ErrorKind)
+
+-- where a merge is: the names that came, and the files
+pub record Stand : Type 0 where
+  pub names : Names
+  pub files : Files
+
+-- one record was taken
+pub record IsTaken (made : Result Made Reason) (n : ℕ) (old : Stand) (fate : Fate) (new : Stand) : Type 0 where
+  pub step : IsStep n made old.names fate new.names
+  pub left : Leaves made fate old.files (Some new.files)
+
+abbrev pub AreTaken : (Result Pairs ErrorKind → Result Made Reason) → Records → Stand → List Fate → Stand → Type 0
+AreTaken comes [] old [] new = new ≡ old
+AreTaken comes (r ∷ rs) old (f ∷ fs) new = (m : Stand) × IsTaken (comes r.1) r.0 old f m × AreTaken comes rs m fs new
+AreTaken comes _ old _ new = ⊥
+
+-- the name of a file that a record wrote, or tried to write
+abbrev pub tried : Fate → List Text
+tried (Ok name) = name ∷ []
+tried (Err (unwritten name)) = name ∷ []
+tried (Err _) = []
+
+abbrev pub written_names : List Fate → List Text
+written_names [] = []
+written_names (f ∷ fs) = tried f ++ written_names fs
+
+-- no two of the names are the same
+abbrev pub AreApart : List Text → Type 0
+AreApart [] = ⊤
+AreApart (name ∷ names) = (list_any (bytes_eq name) names ≡ false) × AreApart names
+
+-- a record whose page was written has its page in the file of its name
+abbrev pub HasPage : Result Made Reason → Fate → Files → Type 0
+HasPage (Ok made) (Ok name) files = (name ≡ made.name) × (files name ≡ holds made.text)
+HasPage (Err why) (Ok name) files = ⊥
+HasPage made (Err failed) files = ⊤
+
+abbrev pub HavePages : (Result Pairs ErrorKind → Result Made Reason) → Records → List Fate → Files → Type 0
+HavePages comes (r ∷ rs) (f ∷ fs) files = HasPage (comes r.1) f files × HavePages comes rs fs files
+HavePages comes _ _ files = ⊤
+
+-- a merge that begins over these files
+abbrev pub IsMerge : Job → Nodes → Records → Files → List Fate → Stand → Type 0
+IsMerge job pattern records files fates new = AreTaken (comes_to job (Some pattern)) records (record { names = empty; files = files }) fates new
+
+-- ---- the laws
+
+-- no file is written twice
+abbrev pub NeverTwice : Type 0
+NeverTwice = (job : Job) (pattern : Nodes) (records : Records) (files : Files) (fates : List Fate) (new : Stand) → IsMerge job pattern records files fates new → AreApart (written_names fates)
+
+-- at the end each page that was written is in its file
+abbrev pub PagesStand : Type 0
+PagesStand = (job : Job) (pattern : Nodes) (records : Records) (files : Files) (fates : List Fate) (new : Stand) → IsMerge job pattern records files fates new
+    → HavePages (comes_to job (Some pattern)) records fates new.files
+
+-- no other file changes
+abbrev pub OthersStay : Type 0
+OthersStay = (job : Job) (pattern : Nodes) (records : Records) (files : Files) (fates : List Fate) (new : Stand) → IsMerge job pattern records files fates new
+    → (q : Text) → list_any (bytes_eq q) (written_names fates) ≡ false → new.files q ≡ files q
