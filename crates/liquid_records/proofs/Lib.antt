@@ -1,3 +1,5 @@
 pub mod Dots
+pub mod Making
+pub mod Named
 pub mod Over
 pub mod Runs

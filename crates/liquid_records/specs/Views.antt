@@ -1,5 +1,6 @@
 -- Jobs, pages and reasons, as contracts see them.
-use Rattle.std.specs.Prelude.{ℕ, Option, option_map, Result, Ok, Err, Bor, String, string_bytes}
+use Rattle.std.specs.Prelude.{ℕ, Option, option_map, Result, Ok, Err, String, string_bytes}
+use Rattle.std.specs.Borrow.{Bor}
 use Rattle.std.specs.BTreeMap.{get_by_text}
 use Rattle.std.specs.declared.alloc.Global.{Global}
 use Rattle.liquid_core.specs.Held.{held}

@@ -133,8 +133,9 @@ fn put<D: Disk>(
     ensures memory { IfErr result (λ e. e.kind ≡ ErrorKind.Memory) }
 {
     let Made { name, text } = made;
-    if let Some(before) = names.get(name.as_str()) {
-        return Ok(Err(Failure::Again(name, *before)));
+    match names.get(name.as_str()) {
+        Some(before) => return Ok(Err(Failure::Again(name, *before))),
+        None => {}
     }
     drop(names.insert(String::from_str(alloc, name.as_str())?, number)?);
     match disk.write(name.as_str(), text.as_str()) {
