@@ -100,6 +100,7 @@ fn with_merge_options<'a>(alloc: Global, command: Command<'a>) -> Result<Command
     let separator = Arg::new(alloc, "separator")
         .long("separator")
         .value_name("TEXT")
+        .allow_hyphen_values(true)
         .default_value("\n")
         .help("What stands behind each page on standard output");
     command
