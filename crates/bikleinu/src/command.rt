@@ -51,7 +51,9 @@ pub struct MergeCall<'w> {
 pub fn program<'a>(alloc: Global) -> Result<Command<'a>, AllocError> {
     Command::new(alloc, "bikleinu")
         .version(VERSION)
-        .about("Renders Liquid templates: a page is what the rules of the language say, or ends at its first fault.")
+        .about(
+            "Renders Liquid templates: a page is what the rules of the language say, or ends at its first fault.",
+        )
         .subcommand_required(true)
         .arg_required_else_help(true)
         .subcommand(render_command(alloc)?)?
@@ -59,8 +61,7 @@ pub fn program<'a>(alloc: Global) -> Result<Command<'a>, AllocError> {
 }
 
 fn render_command<'a>(alloc: Global) -> Result<Command<'a>, AllocError> {
-    let data = Arg::new(alloc, "DATA")
-        .help("The data, as a JSON object; - is standard input");
+    let data = Arg::new(alloc, "DATA").help("The data, as a JSON object; - is standard input");
     Command::new(alloc, "render")
         .about("Writes the page of a template")
         .after_help(STATUSES)
@@ -69,16 +70,26 @@ fn render_command<'a>(alloc: Global) -> Result<Command<'a>, AllocError> {
         .arg(data_option(alloc))?
         .arg(partials_option(alloc))?
         .arg(out_option(alloc))?
-        .arg(limit_option(alloc, "max-bytes", "Ends a page that would write more bytes of text"))?
-        .arg(limit_option(alloc, "max-turns", "Ends a page that would run more bodies of tags"))
+        .arg(limit_option(
+            alloc,
+            "max-bytes",
+            "Ends a page that would write more bytes of text",
+        ))?
+        .arg(limit_option(
+            alloc,
+            "max-turns",
+            "Ends a page that would run more bodies of tags",
+        ))
 }
 
 fn merge_command<'a>(alloc: Global) -> Result<Command<'a>, AllocError> {
-    let records = Arg::new(alloc, "RECORDS")
-        .required(true)
-        .help("The records, a JSON object on each line; - is standard input");
+    let records = Arg::new(alloc, "RECORDS").required(true).help(
+        "The records, a JSON object on each line; - is standard input",
+    );
     let command = Command::new(alloc, "merge")
-        .about("Writes the page of a template for each record, each into a file of its own or to standard output")
+        .about(
+            "Writes the page of a template for each record, each into a file of its own or to standard output",
+        )
         .after_help(STATUSES)
         .arg(template_word(alloc))?
         .arg(records)?
@@ -93,7 +104,9 @@ fn pattern_option<'a>(alloc: Global) -> Arg<'a> {
         .short('o')
         .long("out")
         .value_name("PATTERN")
-        .help("A template of the name of a record's file, as 'mails/{{ id }}.eml'; without it pages go to standard output")
+        .help(
+            "A template of the name of a record's file, as 'mails/{{ id }}.eml'; without it pages go to standard output",
+        )
 }
 
 fn with_merge_options<'a>(alloc: Global, command: Command<'a>) -> Result<Command<'a>, AllocError> {
@@ -108,7 +121,11 @@ fn with_merge_options<'a>(alloc: Global, command: Command<'a>) -> Result<Command
         .arg(limit_option(alloc, "from", "Begins with this record; the first is 1"))?
         .arg(limit_option(alloc, "count", "Takes so many records at most"))?
         .arg(flag(alloc, "dry-run", "Writes no file: prints the name of each"))?
-        .arg(flag(alloc, "progress", "Prints each second how many pages there are"))
+        .arg(flag(
+            alloc,
+            "progress",
+            "Prints each second how many pages there are",
+        ))
 }
 
 fn flag<'a>(alloc: Global, name: &'static str, help: &'static str) -> Arg<'a> {
@@ -132,7 +149,9 @@ fn data_option<'a>(alloc: Global) -> Arg<'a> {
         .long("data")
         .value_name("[NAME=]FILE")
         .action(ArgAction::Append)
-        .help("More data: a JSON object whose members are added, or the object under NAME; the later wins")
+        .help(
+            "More data: a JSON object whose members are added, or the object under NAME; the later wins",
+        )
 }
 
 fn partials_option<'a>(alloc: Global) -> Arg<'a> {
@@ -141,7 +160,9 @@ fn partials_option<'a>(alloc: Global) -> Arg<'a> {
         .long("partials")
         .value_name("DIR|NAME=FILE")
         .action(ArgAction::Append)
-        .help("Partials: the files below DIR by their paths, also without their suffix, or one FILE by NAME; the later wins")
+        .help(
+            "Partials: the files below DIR by their paths, also without their suffix, or one FILE by NAME; the later wins",
+        )
 }
 
 fn out_option<'a>(alloc: Global) -> Arg<'a> {

@@ -3,7 +3,8 @@ use crate::output::put_file;
 use liquid_records::{Disk, DiskFault};
 use std::{fs, io};
 
-/// The files of the system. That they are what reading them says, and hold what was written to them, is trusted.
+/// The files of the system. That they are what reading them says, and hold what was written to
+/// them, is trusted.
 #[derive(Drop)]
 pub struct Files<'r> {
     rt: &'r HostRuntime,

@@ -5,8 +5,8 @@ use std::alloc::Global;
 use std::fs::DirEntry;
 use std::{fs, io};
 
-/// The paths of the files below a folder, from the folder on, in their order. What has a name that begins with a dot is passed over, and so
-/// is a link to a folder.
+/// The paths of the files below a folder, from the folder on, in their order. What has a name that
+/// begins with a dot is passed over, and so is a link to a folder.
 pub fn files_below(rt: &HostRuntime, folder: &str) -> Result<Vec<String>, Stop> {
     let mut files = Vec::new(rt.alloc());
     let mut folders = Vec::new(rt.alloc());
@@ -33,7 +33,7 @@ pub fn joined(alloc: Global, folder: &str, inner: &str) -> Result<String, Stop> 
     Ok(path)
 }
 
-/// Adds the entries of one folder: its files, and the folders in it with a slash behind.
+/// Adds the entries of one folder: its files, and the folders in it with a slash after.
 fn add_entries(
     rt: &HostRuntime,
     path: &str,
@@ -66,7 +66,8 @@ fn is_folder(rt: &HostRuntime, entry: &DirEntry) -> io::Result<bool> {
 /// A name without the suffix of its last part, where it has one.
 pub fn without_suffix(name: &str) -> Option<&str> {
     match name.rsplit_once('.') {
-        Some((stem, suffix)) if !suffix.contains('/') && !stem.is_empty() && !stem.ends_with('/') => Some(stem),
+        Some((stem, suffix)) if !suffix.contains('/') && !stem.is_empty() && !stem.ends_with('/') =>
+            Some(stem),
         _ => None,
     }
 }

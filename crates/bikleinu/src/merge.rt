@@ -56,7 +56,8 @@ struct Run<'r> {
 }
 
 impl Run<'_> {
-    /// Merges the records that a reader gives, and prints how many pages there are and how many records failed.
+    /// Merges the records that a reader gives, and prints how many pages there are and how many
+    /// records failed.
     fn all<'r, R: Read + Drop>(&self, target: Target<'r>, reader: R) -> Result<(), Stop> {
         let mut reader = match BufReader::new(self.rt.alloc(), reader) {
             Ok(reader) => reader,
@@ -113,6 +114,10 @@ impl Run<'_> {
     }
 
     fn unread(&self, kind: io::ErrorKind) -> Stop {
-        Stop::unread(self.rt.alloc(), called(self.call.records), Reason::from(kind))
+        Stop::unread(
+            self.rt.alloc(),
+            called(self.call.records),
+            Reason::from(kind),
+        )
     }
 }

@@ -12,8 +12,8 @@ pub fn print_text(rt: &HostRuntime, text: &str) -> Result<(), Stop> {
     }
 }
 
-/// Puts a text into the file of a path: all of it, or what stood there stays. What is no file of its own, as a pipe, a device or a link,
-/// is written as it stands, and may be left with a part.
+/// Puts a text into the file of a path: all of it, or what stood there stays. What is no file of
+/// its own, as a pipe, a device or a link, is written as it stands, and may be left with a part.
 pub fn put_file(rt: &HostRuntime, path: &str, text: &str) -> io::Result<()> {
     if !can_be_replaced(rt, path) {
         return fs::write(rt, path, text);

@@ -14,7 +14,11 @@ pub struct Progress {
 
 impl Progress {
     pub fn new(rt: &HostRuntime, is_shown: bool) -> Progress {
-        let began = if is_shown { Instant::now(rt).ok() } else { None };
+        let began = if is_shown {
+            Instant::now(rt).ok()
+        } else {
+            None
+        };
         Progress {
             pages: 0,
             failed: 0,
@@ -56,6 +60,10 @@ impl Progress {
     pub fn end(&self, rt: &HostRuntime) -> Result<(), Stop> {
         let (pages, failed) = (self.pages, self.failed);
         let _ = eprintln!(rt; "pages {pages}, failed {failed}");
-        if failed == 0 { Ok(()) } else { Err(Stop::Faulted) }
+        if failed == 0 {
+            Ok(())
+        } else {
+            Err(Stop::Faulted)
+        }
     }
 }

@@ -8,7 +8,8 @@ use liquid_lib::{LimitReached, LimitedPage, Limits, Page, render_page_within};
 /// How deep partials may be nested.
 const DEPTH: u32 = 32;
 
-/// Writes the page of a template. A page that ends by a fault goes to standard output up to there, and into no file.
+/// Writes the page of a template. A page that ends by a fault goes to standard output up to there,
+/// and into no file.
 pub fn render(rt: &HostRuntime, call: &RenderCall<'_>) -> Result<(), Stop> {
     let parts = read_parts(rt, &call.inputs)?;
     let shown = render_page_within(

@@ -15,7 +15,8 @@ pub enum Report {
 }
 
 impl Report {
-    /// Prints it in one line on standard error, and the line of the text that a fault is in. What that refuses is lost.
+    /// Prints it in one line on standard error, and the line of the text that a fault is in. What
+    /// that refuses is lost.
     pub fn print(&self, rt: &HostRuntime, sources: &Sources, number: u64, text: &str) {
         let _ = eprintln!(rt; "error: record {number}: {self}");
         if let Report::NoPage(why) | Report::NoFile(Failure::NoPage(why), _) = self {
@@ -28,7 +29,7 @@ impl Report {
     }
 }
 
-/// What stands behind the number of the record.
+/// What follows the number of the record.
 impl fmt::Display for Report {
     fn fmt<W: fmt::Write>(&self, f: &mut fmt::Formatter<W>) -> fmt::Result {
         match self {
@@ -38,7 +39,10 @@ impl fmt::Display for Report {
                 Failure::NoPage(why) => write_why(f, why),
                 Failure::Again(name, before) => {
                     let name = Quoted(name.as_str());
-                    write!(f, "the file `{name}` is that of record {before}: give each record another name")
+                    write!(
+                        f,
+                        "the file `{name}` is that of record {before}: give each record another name"
+                    )
                 }
                 Failure::Unwritten(name) => {
                     let name = Quoted(name.as_str());
@@ -58,7 +62,10 @@ fn write_why<W: fmt::Write>(f: &mut fmt::Formatter<W>, why: &Why) -> fmt::Result
         Why::Unnamed(fault) => write!(f, "the name of its file: {fault}"),
         Why::BadName(name) => {
             let name = Quoted(name.as_str());
-            write!(f, "the name of its file is `{name}`: a part between slashes needs more than dots")
+            write!(
+                f,
+                "the name of its file is `{name}`: a part between slashes needs more than dots"
+            )
         }
     }
 }

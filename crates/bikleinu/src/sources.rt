@@ -89,7 +89,11 @@ fn added(alloc: Global, data: Object, name: Option<&str>, more: Object) -> Resul
     match name {
         Some(name) => {
             let mut data = data;
-            store(&mut data, String::from_str(alloc, name)?, Value::Object(more))?;
+            store(
+                &mut data,
+                String::from_str(alloc, name)?,
+                Value::Object(more),
+            )?;
             Ok(data)
         }
         None => Ok(with_members(alloc, data, more)?),
@@ -118,7 +122,8 @@ pub fn read_pattern(rt: &HostRuntime, pattern: &str) -> Result<Template, Stop> {
     parsed(rt, &source, &language)
 }
 
-/// Prints a fault in one line, and the line of the text that it is in. What standard error refuses is lost.
+/// Prints a fault in one line, and the line of the text that it is in. What standard error refuses
+/// is lost.
 fn print_fault(rt: &HostRuntime, path: &str, fault: &Error, text: Option<&str>) {
     let _ = eprintln!(rt; "error: {path}: {fault}");
     print_excerpt(rt, fault, text);
@@ -134,7 +139,8 @@ pub fn print_excerpt(rt: &HostRuntime, fault: &Error, text: Option<&str>) {
 }
 
 impl Sources {
-    /// Prints the fault of a page in one line, and the line of the template or the partial that it is in.
+    /// Prints the fault of a page in one line, and the line of the template or the partial that it
+    /// is in.
     pub fn print_page_fault(&self, rt: &HostRuntime, fault: &Error) {
         let path = self.template.path.as_str();
         let _ = eprintln!(rt; "error: {path}: {fault}");
@@ -155,7 +161,8 @@ impl Sources {
         self.template.path.as_str()
     }
 
-    /// The text that a location is in. A partial that is rendered may be found by its name with `.liquid`.
+    /// The text that a location is in. A partial that is rendered may be found by its name with
+    /// `.liquid`.
     fn text_of(&self, location: &Location) -> Option<&str> {
         match &location.origin {
             Origin::Template => Some(self.template.text.as_str()),

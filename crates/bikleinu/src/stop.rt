@@ -53,7 +53,8 @@ impl Stop {
         }
     }
 
-    /// Prints one line on standard error, unless it is printed already. What standard error refuses is lost.
+    /// Prints one line on standard error, unless it is printed already. What standard error refuses
+    /// is lost.
     pub fn print(&self, rt: &HostRuntime) {
         match self {
             Stop::Refused | Stop::Faulted => {}
@@ -64,7 +65,7 @@ impl Stop {
     }
 }
 
-/// What stands behind `error: `.
+/// What follows `error: `.
 impl fmt::Display for Stop {
     fn fmt<W: fmt::Write>(&self, f: &mut fmt::Formatter<W>) -> fmt::Result {
         match self {

@@ -22,6 +22,7 @@ read_behind part (b ∷ bs) = at (b == 47) (read_behind [] bs) (ap (λ t. ends_w
     ended : (dots : Bool) → ends_well true bs ≡ list_all is_part (parts_behind [] bs) → cond dots false (ends_well true bs) ≡ (not dots && list_all is_part (parts_behind [] bs))
     ended true h = refl
     ended false h = h
+
     at : (slash : Bool) → ends_well true bs ≡ list_all is_part (parts_behind [] bs) → ends_well (only_dots part && b == 46) bs ≡ list_all is_part (parts_behind (part ++ b ∷ []) bs)
         → cond slash (cond (only_dots part) false (ends_well true bs)) (ends_well (only_dots part && b == 46) bs) ≡ list_all is_part (cond slash (part ∷ parts_behind [] bs) (parts_behind (part ++ b ∷ []) bs))
     at true h k = ended (only_dots part) h

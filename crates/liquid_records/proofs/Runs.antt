@@ -82,15 +82,19 @@ does (Ok made) n old f new t = by_name (old.names made.name) refl t.step
   where
     left_by : (g : Fate) → f ≡ g → Leaves (Ok made) g old.files (Some new.files)
     left_by g e = subst (λ h. Leaves (Ok made) h old.files (Some new.files)) e t.left
+
     written : f ≡ Ok made.name → (q : Text) → bytes_eq made.name q ≡ false → new.files q ≡ old.files q
     written e q d = ap (λ fs. fs q) (same_files new.files (with_file old.files made.name (holds made.text)) (left_by (Ok made.name) e)) ∙ other_file old.files made.name (holds made.text) q d
+
     refused : f ≡ Err (unwritten made.name) → (q : Text) → bytes_eq made.name q ≡ false → new.files q ≡ old.files q
     refused e q d =
         let c : ChangesAt made.name old.files (Some new.files) = left_by (Err (unwritten made.name)) e in
         ap (λ fs. fs q) (same_files new.files (with_file old.files made.name c.0) c.1) ∙ other_file old.files made.name c.0 q d
+
     tries : old.names made.name ≡ None → new.names ≡ insert old.names made.name n → IsTried made.name f → Does n old f new
     tries none set (inl e) = subst (λ g. Does n old g new) (sym e) (a_file made.name refl none set (written e))
     tries none set (inr e) = subst (λ g. Does n old g new) (sym e) (a_file made.name refl none set (refused e))
+
     by_name : (o : Option ℕ) → old.names made.name ≡ o → IsNamed n made.name o old.names f new.names → Does n old f new
     by_name (Some before) e s = subst (λ g. Does n old g new) (sym s.0) (nothing refl s.1 (same_files new.files old.files (left_by (Err (again made.name before)) s.0)))
     by_name None e s = tries e s.1 s.0
@@ -139,9 +143,11 @@ has_page (Ok made) n old f new files t stay = by_name (old.names made.name) t.st
         stay made.name (subst (λ m. IsSome (m made.name)) (sym set) (own_name old.names made.name n))
         ∙ ap (λ fs. fs made.name) (same_files new.files (with_file old.files made.name (holds made.text)) (subst (λ h. Leaves (Ok made) h old.files (Some new.files)) e t.left))
         ∙ own_file old.files made.name (holds made.text)
+
     tries : new.names ≡ insert old.names made.name n → IsTried made.name f → HasPage (Ok made) f files
     tries set (inl e) = subst (λ g. HasPage (Ok made) g files) (sym e) (refl, there set e)
     tries set (inr e) = subst (λ g. HasPage (Ok made) g files) (sym e) tt
+
     by_name : (o : Option ℕ) → IsNamed n made.name o old.names f new.names → HasPage (Ok made) f files
     by_name (Some before) s = subst (λ g. HasPage (Ok made) g files) (sym s.0) tt
     by_name None s = tries s.1 s.0

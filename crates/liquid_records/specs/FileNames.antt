@@ -4,10 +4,11 @@ use Rattle.std.specs.Prelude.{ℕ, ◌==◌, Bool, not, cond, List, [], ◌∷�
 use Rattle.std.specs.List.{list_all}
 use Rattle.liquid_model.specs.Texts.{Text}
 
--- the parts of a text, behind what is read of the first of them
+-- the parts of a text, after what is read of the first of them
 abbrev pub parts_behind : Text → Text → List Text
 parts_behind part [] = part ∷ []
-parts_behind part (b ∷ bs) = cond (b == 47) (part ∷ parts_behind [] bs) (parts_behind (part ++ b ∷ []) bs)
+parts_behind part (b ∷ bs) =
+    cond (b == 47) (part ∷ parts_behind [] bs) (parts_behind (part ++ b ∷ []) bs)
 
 abbrev pub parts_of : Text → List Text
 parts_of name = parts_behind [] name

@@ -1,6 +1,8 @@
--- What a record comes to: a page and the name of its file, or why it has none. It depends on the job and the record's own data alone.
+-- What a record comes to: a page and the name of its file, or why it has none. It depends on the
+-- job and the record's own data alone.
 --     page_of job nodes      the page of a template over the job's data, rendered from nothing
---     comes_to job pattern facts      what a record with this data comes to, where files are named by a pattern
+--     comes_to job pattern facts      what a record with this data comes to, where files are named
+--                                     by a pattern
 use Rattle.std.specs.Prelude.{ℕ, cond, List, [], Option, Some, None, Result, Ok, Err}
 use Rattle.liquid_model.specs.Data.{Datum, Pairs}
 use Rattle.liquid_model.specs.Maps.{Map, merged}
@@ -64,7 +66,11 @@ name_of job (Some pattern) = whole unnamed (page_of job pattern) then checked_na
 
 -- the name and the page of a job whose data has the record's over it
 abbrev pub made_by : Job → Option Nodes → Result Made Reason
-made_by job pattern = name_of job pattern then λ name. whole faulted (page_of job job.template) then λ text. Ok (record { name = name; text = text })
+made_by job pattern = name_of job pattern then λ name.
+    whole faulted (page_of job job.template) then λ text. Ok (record {
+      name = name;
+      text = text;
+    })
 
 abbrev pub comes_to : Job → Option Nodes → Result Pairs ErrorKind → Result Made Reason
 comes_to job pattern (Ok facts) = made_by (with_record facts job) pattern

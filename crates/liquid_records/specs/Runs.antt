@@ -1,7 +1,9 @@
 -- A merge over a list of records, and what holds of it.
---     AreTaken comes records old fates new      the records were taken one after another; comes says what each comes to
+--     AreTaken comes records old fates new      the records were taken one after another; comes
+--       says what each comes to
 --     written_names fates      the names of the files that were written, or refused by the disk
-use Rattle.std.specs.Prelude.{◌≡◌, ℕ, false, List, [], ◌∷◌, ◌++◌, bytes_eq, ⊤, Some, Result, Ok, Err}
+use Rattle.std.specs.Prelude.{◌≡◌, ℕ, false, List, [], ◌∷◌, ◌++◌, bytes_eq, ⊤, Some, Result, Ok}
+use Rattle.std.specs.Prelude.{Err}
 use Rattle.std.specs.List.{list_any}
 use Rattle.liquid_model.specs.Data.{Pairs}
 use Rattle.liquid_model.specs.Maps.{empty}
@@ -22,13 +24,16 @@ pub record Stand : Type 0 where
   pub files : Files
 
 -- one record was taken
-pub record IsTaken (made : Result Made Reason) (n : ℕ) (old : Stand) (fate : Fate) (new : Stand) : Type 0 where
+pub record IsTaken (made : Result Made Reason) (n : ℕ) (old : Stand) (fate : Fate)
+    (new : Stand) : Type 0 where
   pub step : IsStep n made old.names fate new.names
   pub left : Leaves made fate old.files (Some new.files)
 
-abbrev pub AreTaken : (Result Pairs ErrorKind → Result Made Reason) → Records → Stand → List Fate → Stand → Type 0
+abbrev pub AreTaken : (Result Pairs ErrorKind → Result Made Reason) → Records → Stand → List Fate →
+    Stand → Type 0
 AreTaken comes [] old [] new = new ≡ old
-AreTaken comes (r ∷ rs) old (f ∷ fs) new = (m : Stand) × IsTaken (comes r.1) r.0 old f m × AreTaken comes rs m fs new
+AreTaken comes (r ∷ rs) old (f ∷ fs) new = (m : Stand) × IsTaken (comes r.1) r.0 old f m ×
+    AreTaken comes rs m fs new
 AreTaken comes _ old _ new = ⊥
 
 -- the name of a file that a record wrote, or tried to write
@@ -52,26 +57,31 @@ HasPage (Ok made) (Ok name) files = (name ≡ made.name) × (files name ≡ hold
 HasPage (Err why) (Ok name) files = ⊥
 HasPage made (Err failed) files = ⊤
 
-abbrev pub HavePages : (Result Pairs ErrorKind → Result Made Reason) → Records → List Fate → Files → Type 0
+abbrev pub HavePages : (Result Pairs ErrorKind → Result Made Reason) → Records → List Fate → Files →
+    Type 0
 HavePages comes (r ∷ rs) (f ∷ fs) files = HasPage (comes r.1) f files × HavePages comes rs fs files
 HavePages comes _ _ files = ⊤
 
 -- a merge that begins over these files
 abbrev pub IsMerge : Job → Nodes → Records → Files → List Fate → Stand → Type 0
-IsMerge job pattern records files fates new = AreTaken (comes_to job (Some pattern)) records (record { names = empty; files = files }) fates new
+IsMerge job pattern records files fates new = AreTaken (comes_to job (Some pattern)) records
+    (record { names = empty; files = files }) fates new
 
 -- ---- the laws
 
 -- no file is written twice
 abbrev pub NeverTwice : Type 0
-NeverTwice = (job : Job) (pattern : Nodes) (records : Records) (files : Files) (fates : List Fate) (new : Stand) → IsMerge job pattern records files fates new → AreApart (written_names fates)
+NeverTwice = (job : Job) (pattern : Nodes) (records : Records) (files : Files) (fates : List Fate)
+    (new : Stand) → IsMerge job pattern records files fates new → AreApart (written_names fates)
 
 -- at the end each page that was written is in its file
 abbrev pub PagesStand : Type 0
-PagesStand = (job : Job) (pattern : Nodes) (records : Records) (files : Files) (fates : List Fate) (new : Stand) → IsMerge job pattern records files fates new
+PagesStand = (job : Job) (pattern : Nodes) (records : Records) (files : Files) (fates : List Fate)
+    (new : Stand) → IsMerge job pattern records files fates new
     → HavePages (comes_to job (Some pattern)) records fates new.files
 
 -- no other file changes
 abbrev pub OthersStay : Type 0
-OthersStay = (job : Job) (pattern : Nodes) (records : Records) (files : Files) (fates : List Fate) (new : Stand) → IsMerge job pattern records files fates new
+OthersStay = (job : Job) (pattern : Nodes) (records : Records) (files : Files) (fates : List Fate)
+    (new : Stand) → IsMerge job pattern records files fates new
     → (q : Text) → list_any (bytes_eq q) (written_names fates) ≡ false → new.files q ≡ files q

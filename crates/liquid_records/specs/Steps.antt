@@ -1,4 +1,5 @@
--- A merge, record after record: which names came before, and what becomes of a record and of the files.
+-- A merge, record after record: which names came before, and what becomes of a record and of the
+-- files.
 --     IsStep n made names fate after      what became of record n, and the names after it
 --     Leaves made fate old new      the files after it
 use Rattle.std.specs.Prelude.{◌≡◌, ◌⊎◌, ℕ, Option, Some, None, Result, Ok, Err}
@@ -37,7 +38,8 @@ abbrev pub IsStep : ℕ → Result Made Reason → Names → Fate → Names → 
 IsStep n (Err why) names fate after = (fate ≡ Err (no_page why)) × (after ≡ names)
 IsStep n (Ok made) names fate after = IsNamed n made.name (names made.name) names fate after
 
--- the file of a page holds the page, one that was refused may hold anything, and no other file changes
+-- the file of a page holds the page, one that was refused may hold anything, and no other file
+-- changes
 abbrev pub Leaves : Result Made Reason → Fate → Files → Option Files → Type 0
 Leaves (Ok made) (Ok name) old new = new ≡ Some (with_file old made.name (holds made.text))
 Leaves (Ok made) (Err (unwritten name)) old new = ChangesAt made.name old new

@@ -18,7 +18,12 @@ use Rattle.liquid_records.specs.declared.merge.Failure.TheVariants.{NoPage, Agai
 use Rattle.liquid_records.specs.declared.merge.Merge.{Merge}
 
 abbrev pub job_view : Job → seen.Job
-job_view j = record { template = tree_of j.template; partials = partials_of j.partials; depth = j.depth; shared = held j.shared }
+job_view j = record {
+  template = tree_of j.template;
+  partials = partials_of j.partials;
+  depth = j.depth;
+  shared = held j.shared;
+}
 
 abbrev pub pattern_view : Option (Bor Template) → Option Nodes
 pattern_view o = option_map (λ t. tree_of t.now) o

@@ -10,8 +10,8 @@ ghost use Rattle.liquid_records.specs.inside.Covered.{covered_view, uncovered};
 use liquid_core::{Object, Result, Value};
 use std::alloc::Global;
 
-/// The data with each of these members, in place of what it has under the member's name. The answer is `Memory` where a
-/// growth was refused, and no other kind.
+/// The data with each of these members, in place of what it has under the member's name. The answer
+/// is `Memory` where a growth was refused, and no other kind.
 pub fn with_members(alloc: Global, data: Object, members: Object) -> Result<Object>
     ensures { IsValueOrMemory held result (merged (held members) (held «data»)) }
 {
@@ -19,8 +19,8 @@ pub fn with_members(alloc: Global, data: Object, members: Object) -> Result<Obje
     Ok(over)
 }
 
-/// The data with these members over it, and what was covered by them: the name of each in turn, with the value that stood
-/// there.
+/// The data with these members over it, and what was covered by them: the name of each in turn,
+/// with the value that stood there.
 pub(crate) fn lay_over(
     alloc: Global,
     data: Object,
@@ -53,7 +53,8 @@ pub(crate) fn take_off(over: Object, covered: Vec<(String, Option<Value>)>) -> R
 
 /// Puts a value at a name. The answer is the value that stood there.
 fn exchange(data: &mut Object, name: String, value: Value) -> Result<Option<Value>>
-    ensures put { IsValueOrMemory (λ _. held «data».new) result (with_fact (held «data».old) (string_bytes name) (Some (view value))) }
+    ensures put { IsValueOrMemory (λ _. held «data».new) result
+        (with_fact (held «data».old) (string_bytes name) (Some (view value))) }
     ensures before { IfOk result (λ o. option_map view o ≡ held «data».old (string_bytes name)) }
 {
     Ok(data.insert(name, value)?)
@@ -68,7 +69,8 @@ fn take_away(data: &mut Object, name: &str)
 
 /// Puts a value at a name, or takes away what stands there.
 fn put_back(data: &mut Object, name: String, before: Option<Value>) -> Result<()>
-    ensures { IsValueOrMemory (λ _. held «data».new) result (with_fact (held «data».old) (string_bytes name) (option_map view before)) }
+    ensures { IsValueOrMemory (λ _. held «data».new) result
+        (with_fact (held «data».old) (string_bytes name) (option_map view before)) }
 {
     match before {
         Some(value) => drop(exchange(data, name, value)?),

@@ -3,8 +3,8 @@ ghost use Rattle.std.specs.Prelude.{◌≡◌, true};
 ghost use Rattle.liquid_records.specs.FileNames.{is_file_name};
 ghost use Rattle.liquid_records.specs.inside.Dots.{ends_well};
 
-/// Whether a text names one file below a folder, in one way alone: each part of it between slashes has something besides dots, so none is
-/// empty, `.` or `..`. It takes no memory.
+/// Whether a text names one file below a folder, in one way alone: each part of it between slashes
+/// has something besides dots, so none is empty, `.` or `..`. It takes no memory.
 pub fn is_file_name(name: &str) -> bool
     ensures { result ≡ is_file_name name.now }
 {

@@ -48,10 +48,12 @@ pub enum Why {
 pub type Outcome<T> = std::result::Result<T, Why>;
 
 impl Job {
-    /// What a record with these members comes to, over the shared data: the record's member stands in front of the shared one of its name.
+    /// What a record with these members comes to, over the shared data: the record's member stands
+    /// in front of the shared one of its name.
     /// Where there is a pattern, its page is the name of the record's file.
     ///
-    /// The answer is `Memory` where a growth was refused, and no other kind; then the job is gone. Else it is as it was.
+    /// The answer is `Memory` where a growth was refused, and no other kind; then the job is gone.
+    /// Else it is as it was.
     pub fn made(
         self,
         alloc: Global,
@@ -114,7 +116,8 @@ impl Job {
 
     /// The name and the page, over the data as it stands.
     fn made_over(&self, alloc: Global, pattern: Option<&Template>) -> Result<Outcome<Made>>
-        ensures { IsValueOrMemory (outcome_view made_view) result (made_by (job_view self.now) (pattern_view pattern)) }
+        ensures { IsValueOrMemory (outcome_view made_view) result
+            (made_by (job_view self.now) (pattern_view pattern)) }
     {
         let name = match self.name_over(alloc, pattern)? {
             Ok(name) => name,
@@ -129,7 +132,8 @@ impl Job {
 
     /// The name of the page's file.
     fn name_over(&self, alloc: Global, pattern: Option<&Template>) -> Result<Outcome<String>>
-        ensures { IsValueOrMemory (outcome_view string_bytes) result (name_of (job_view self.now) (pattern_view pattern)) }
+        ensures { IsValueOrMemory (outcome_view string_bytes) result
+            (name_of (job_view self.now) (pattern_view pattern)) }
     {
         let Some(pattern) = pattern else {
             return Ok(Ok(String::new(alloc)));
@@ -142,7 +146,8 @@ impl Job {
     }
 
     fn page(&self, alloc: Global, template: &Template) -> Result<Page>
-        ensures { IsValueOrMemory page_view result (page_of (job_view self.now) (tree_of template.now)) }
+        ensures { IsValueOrMemory page_view result
+            (page_of (job_view self.now) (tree_of template.now)) }
     {
         render_page(alloc, template, &self.partials, self.depth, &self.shared)
     }

@@ -1,4 +1,5 @@
-//! Pages of records: one template over many records, each page beside shared data, and the files that the pages go to.
+//! Pages of records: one template over many records, each page beside shared data, and the files
+//! that the pages go to.
 #![tactic(auto)]
 
 mod data;

@@ -6,7 +6,8 @@ ghost use Rattle.liquid_json.specs.Json.{data_of};
 ghost use Rattle.liquid_syntax.specs.Templates.{tree_of};
 ghost use Rattle.liquid_records.specs.Records.{comes_to};
 ghost use Rattle.liquid_records.specs.Steps.{IsNamed, IsStep, Leaves};
-ghost use Rattle.liquid_records.specs.Views.{fate_view, job_of, job_view, made_view, names_of, pattern_of};
+ghost use Rattle.liquid_records.specs.Views.{fate_view, job_of, job_view, made_view, names_of};
+ghost use Rattle.liquid_records.specs.Views.{pattern_of};
 ghost use Rattle.liquid_records.specs.inside.Puts.{map_names};
 
 use crate::job::{Job, Made, Why};
@@ -53,10 +54,11 @@ impl Merge {
         }
     }
 
-    /// Writes the page of a record with these members into its file. The answer is the file's name, or why the record has no page there: then no
-    /// file changed but one that can't be written.
+    /// Writes the page of a record with these members into its file. The answer is the file's name,
+    /// or why the record has no page there: then no file changed but one that can't be written.
     ///
-    /// It is `Memory` where a growth was refused, and no other kind; then no file changed, and the merge is gone.
+    /// It is `Memory` where a growth was refused, and no other kind; then no file changed, and the
+    /// merge is gone.
     pub fn take<D: Disk>(
         self,
         alloc: Global,
@@ -64,10 +66,13 @@ impl Merge {
         facts: Object,
         disk: &mut D,
     ) -> Result<(Merge, Fate)>
-        ensures step { IfOk result (λ p. IsStep number (comes_to (job_of self) (Some (pattern_of self)) (Ok (pairs_view facts.entries)))
+        ensures step { IfOk result
+            (λ p. IsStep number (comes_to (job_of self) (Some (pattern_of self))
+            (Ok (pairs_view facts.entries)))
             (names_of self) (fate_view p.1) (names_of p.0)) }
         ensures files { IfSome (D.files disk.old) (λ f. IfOk result (λ p.
-            Leaves (comes_to (job_of self) (Some (pattern_of self)) (Ok (pairs_view facts.entries))) (fate_view p.1) f (D.files disk.new))) }
+            Leaves (comes_to (job_of self) (Some (pattern_of self)) (Ok (pairs_view facts.entries)))
+            (fate_view p.1) f (D.files disk.new))) }
         ensures job { IfOk result (λ p. job_of p.0 ≡ job_of self) }
         ensures pattern { IfOk result (λ p. pattern_of p.0 ≡ pattern_of self) }
         ensures untouched { OnErr result (D.files disk.new ≡ D.files disk.old) }
@@ -100,10 +105,13 @@ impl Merge {
         text: &str,
         disk: &mut D,
     ) -> Result<(Merge, Fate)>
-        ensures step { IfOk result (λ p. IsStep number (comes_to (job_of self) (Some (pattern_of self)) (data_of text.now))
+        ensures step { IfOk result
+            (λ p. IsStep number (comes_to (job_of self) (Some (pattern_of self))
+            (data_of text.now))
             (names_of self) (fate_view p.1) (names_of p.0)) }
         ensures files { IfSome (D.files disk.old) (λ f. IfOk result (λ p.
-            Leaves (comes_to (job_of self) (Some (pattern_of self)) (data_of text.now)) (fate_view p.1) f (D.files disk.new))) }
+            Leaves (comes_to (job_of self) (Some (pattern_of self)) (data_of text.now))
+            (fate_view p.1) f (D.files disk.new))) }
         ensures job { IfOk result (λ p. job_of p.0 ≡ job_of self) }
         ensures pattern { IfOk result (λ p. pattern_of p.0 ≡ pattern_of self) }
         ensures untouched { OnErr result (D.files disk.new ≡ D.files disk.old) }
@@ -127,8 +135,11 @@ fn put<D: Disk>(
     names: &mut BTreeMap<String, usize>,
     disk: &mut D,
 ) -> Result<Fate>
-    ensures step { IfOk result (λ fate. IsStep number (Ok (made_view made)) (map_names names.old) (fate_view fate) (map_names names.new)) }
-    ensures files { IfSome (D.files disk.old) (λ f. IfOk result (λ fate. Leaves (Ok (made_view made)) (fate_view fate) f (D.files disk.new))) }
+    ensures step { IfOk result (λ fate. IsStep number (Ok (made_view made)) (map_names names.old)
+        (fate_view fate) (map_names names.new)) }
+    ensures files { IfSome (D.files disk.old)
+        (λ f. IfOk result (λ fate. Leaves (Ok (made_view made)) (fate_view fate) f
+        (D.files disk.new))) }
     ensures untouched { OnErr result (D.files disk.new ≡ D.files disk.old) }
     ensures memory { IfErr result (λ e. e.kind ≡ ErrorKind.Memory) }
 {

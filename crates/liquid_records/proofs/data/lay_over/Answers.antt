@@ -21,10 +21,11 @@ loop-name-preserved c =
     let left = c.next.new.self in
     let all : c.args.members.entries ≡ done ++ e ∷ left = l.invariant.1 ∙ ap (λ es. done ++ es) c.in-Some.ensures.steps in
     let sorted : IsStrictlySortedBy string_cmp (keys_of c.args.members.entries) = search rules in
-    let last = put_last done e left (subst (λ es. IsStrictlySortedBy string_cmp (keys_of es)) all sorted) in
-    (done ++ e ∷ [],
-    all ∙ sym (append_assoc done (e ∷ []) left),
-    one_over (held c.args.«data») (held l.over) (held c.exchange.new.«data») done e last l.invariant.2 c.in_ok-before.ensures.put,
-    ap (λ cs. uncovered (covered_view cs) (held c.exchange.new.«data»)) c.in_ok-push.ensures.items
-    ∙ one_covered (held c.args.«data») (held l.over) (held c.exchange.new.«data») l.covered.items c.in_ok-kept.kept c.in_ok-before.before (string_bytes c.in-Some.name) (view c.in-Some.value)
-    (c.in_ok-kept.ensures.ok ∙ c.as_str.ensures.value) c.in_ok-before.ensures.before c.in_ok-before.ensures.put l.invariant.3)
+    let last = put_last done e left (subst (λ es. IsStrictlySortedBy string_cmp (keys_of es)) all sorted) in (
+      done ++ e ∷ [],
+      all ∙ sym (append_assoc done (e ∷ []) left),
+      one_over (held c.args.«data») (held l.over) (held c.exchange.new.«data») done e last l.invariant.2 c.in_ok-before.ensures.put,
+      ap (λ cs. uncovered (covered_view cs) (held c.exchange.new.«data»)) c.in_ok-push.ensures.items
+          ∙ one_covered (held c.args.«data») (held l.over) (held c.exchange.new.«data») l.covered.items c.in_ok-kept.kept c.in_ok-before.before (string_bytes c.in-Some.name) (view c.in-Some.value)
+          (c.in_ok-kept.ensures.ok ∙ c.as_str.ensures.value) c.in_ok-before.ensures.before c.in_ok-before.ensures.put l.invariant.3,
+    )
