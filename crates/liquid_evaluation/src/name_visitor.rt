@@ -5,7 +5,8 @@ ghost use Rattle.liquid_evaluation.specs.Telling.{IsTelling};
 
 /// Is told the names that a template mentions, one after another and as often as they stand there.
 pub trait NameVisitor {
-    // What it comes to: from the first state, told these names, to whether it ended the telling, and the second state.
+    // What it comes to: from the first state, told these names, to whether it ended the telling,
+    // and the second state.
     ghost tells: { Self → List Text → Bool → Self → Type 0 };
 
     /// Takes a name, and answers whether the telling ends.

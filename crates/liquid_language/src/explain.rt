@@ -1,5 +1,5 @@
-//! What a refused source is told: where its fault stands, what is found there, and what to write instead. The source is read
-//! once more for that, and only then.
+//! What a refused source is told: where its fault stands, what is found there, and what to write
+//! instead. The source is read once more for that, and only then.
 mod blocks;
 mod characters;
 mod filters;
@@ -21,7 +21,8 @@ use std::alloc::{AllocError, Global};
 use told::{Told, message_of};
 use unread::unread;
 
-/// What is told of a fault: of which place, as so many bytes of the source from it on, and the message.
+/// What is told of a fault: of which place, as so many bytes of the source from it on, and the
+/// message.
 #[derive(Drop)]
 pub struct Explanation {
     pub left: usize,

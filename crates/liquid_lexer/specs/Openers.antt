@@ -13,4 +13,5 @@ opener Tag = percent
 -- a dash belongs to the opener. The truth value: whether it has one
 pub data IsOpener : Delimiter → Bool → List ℕ → List ℕ → Type 0 where
   with_dash : {k : Delimiter} {rest : List ℕ} → IsOpener k true (opener k ∷ dash ∷ rest) rest
-  no_dash : {k : Delimiter} {rest : List ℕ} → begins_with dash rest ≡ false → IsOpener k false (opener k ∷ rest) rest
+  no_dash : {k : Delimiter} {rest : List ℕ} → begins_with dash rest ≡ false →
+      IsOpener k false (opener k ∷ rest) rest

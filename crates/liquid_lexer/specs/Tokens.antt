@@ -1,5 +1,6 @@
 -- Tokens: what the items of a piece say, without their spelling.
-use Rattle.std.specs.Prelude.{ℕ, nat_eq, List, [], ◌∷◌, map, Bool, false, Option, Some, None, cond, bytes_eq}
+use Rattle.std.specs.Prelude.{ℕ, nat_eq, List, [], ◌∷◌, map, Bool, false, Option, Some, None, cond}
+use Rattle.std.specs.Prelude.{bytes_eq}
 use Rattle.std.specs.Option.{option_and_then, option_map}
 use Rattle.liquid_model.specs.Texts.{Text}
 use Rattle.liquid_core.specs.Expression.{Expression, literal, variable, Steps, no_steps, step}
@@ -7,7 +8,10 @@ use Rattle.liquid_lexer.specs.Items as items
 use Rattle.liquid_lexer.specs.PieceView.{item_view}
 use Rattle.liquid_lexer.specs.declared.item.Item.{Item}
 use Rattle.liquid_lexer.specs.declared.symbol.Symbol.{Symbol}
-use Rattle.liquid_lexer.specs.declared.symbol.Symbol.TheVariants.{Equals, NotEquals, LessOrGreater, LessThanEquals, GreaterThanEquals, LessThan, GreaterThan, Assign, Colon, Comma, Bar}
+use Rattle.liquid_lexer.specs.declared.symbol.Symbol.TheVariants.{Equals, NotEquals, LessOrGreater}
+use Rattle.liquid_lexer.specs.declared.symbol.Symbol.TheVariants.{LessThanEquals, GreaterThanEquals}
+use Rattle.liquid_lexer.specs.declared.symbol.Symbol.TheVariants.{LessThan, GreaterThan, Assign}
+use Rattle.liquid_lexer.specs.declared.symbol.Symbol.TheVariants.{Colon, Comma, Bar}
 
 pub data Token : Type 0 where
   value : Expression → Token

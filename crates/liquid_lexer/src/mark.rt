@@ -1,7 +1,8 @@
 //! Marks, and the bodies of `raw` and `comment`, which run up to one.
 ghost use Rattle.std.specs.Prelude.{◌≡◌, length, drop};
 ghost use Rattle.std.specs.Option.{option_map};
-ghost use Rattle.liquid_lexer.specs.SourceReading.{mark_at, mark_behind, dashed, goes_on, in_body, in_comment, raw_at, comment_at};
+ghost use Rattle.liquid_lexer.specs.SourceReading.{mark_at, mark_behind, dashed, goes_on, in_body};
+ghost use Rattle.liquid_lexer.specs.SourceReading.{in_comment, raw_at, comment_at};
 ghost use Rattle.liquid_lexer.specs.ValueReading.{past_byte, run_len};
 ghost use Rattle.liquid_lexer.specs.PieceView.{mark_view};
 
@@ -68,7 +69,8 @@ fn goes_on(text: &str, body: Body) -> bool
     }
 }
 
-/// How many bytes stand before the first mark that counts in the body, or before the end where there is none.
+/// How many bytes stand before the first mark that counts in the body, or before the end where
+/// there is none.
 fn body_len(text: &str, body: Body) -> usize
     ensures { result ≡ run_len (in_body body) text.now }
 {

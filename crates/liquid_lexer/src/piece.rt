@@ -1,7 +1,8 @@
 //! Outputs and tags, and the bodies behind tags that aren't read.
 ghost use Rattle.std.specs.Prelude.{◌≡◌, [], length};
 ghost use Rattle.std.specs.Option.{option_map};
-ghost use Rattle.liquid_lexer.specs.SourceReading.{opener_at, markup_at, bare_name, tag_name, body_at};
+ghost use Rattle.liquid_lexer.specs.SourceReading.{opener_at, markup_at, bare_name, tag_name};
+ghost use Rattle.liquid_lexer.specs.SourceReading.{body_at};
 ghost use Rattle.liquid_lexer.specs.Readers.{Parses};
 ghost use Rattle.liquid_lexer.specs.PieceView.{piece_view, markup_view};
 
@@ -144,7 +145,8 @@ pub fn read_body<'s>(
     markup: Markup<'s>,
     text: &'s str,
 ) -> Result<(Markup<'s>, &'s str), ParseError>
-    ensures { Parses (λ x. (markup_view x.0, x.1.now)) result (body_at body (markup_view markup.entry) text.now) }
+    ensures { Parses (λ x. (markup_view x.0, x.1.now)) result
+        (body_at body (markup_view markup.entry) text.now) }
 {
     let Some(kind) = body else {
         return Ok((markup, text));

@@ -24,8 +24,8 @@ pub trait CountedWrite {
 
     /// Writes a beginning of the bytes and answers how many it took, as `Write::write` does.
     ///
-    /// A write that fails, or takes nothing of bytes that aren't empty, raises the count of failures by one, until it
-    /// stands at its greatest value.
+    /// A write that fails, or takes nothing of bytes that aren't empty, raises the count of
+    /// failures by one, until it stands at its greatest value.
     fn write(&mut self, bytes: &[u8]) -> io::Result<usize>
         ensures bound { WritesAtMost result bytes.now }
         ensures bytes { WriteAppends (contents self.old) (contents self.new) result bytes.now }

@@ -36,10 +36,12 @@ with_atom a (c ∷ cs) = (a ∷ c) ∷ cs
 
 -- what an atom and the token behind it give, where a condition may be behind that
 abbrev pub joined : Atom → Token → Option Condition → Option Condition
-joined a t o = cond (is_word (codes "and") t) (option_map (with_atom a) o) (option_map (λ cs. (a ∷ []) ∷ cs) (cond (is_word (codes "or") t) o None))
+joined a t o = cond (is_word (codes "and") t) (option_map (with_atom a) o)
+    (option_map (λ cs. (a ∷ []) ∷ cs) (cond (is_word (codes "or") t) o None))
 
 -- a comparison, where the token is an operator
-abbrev pub compared_or : Option ComparisonOperator → (ComparisonOperator → Option Condition) → Option Condition → Option Condition
+abbrev pub compared_or : Option ComparisonOperator → (ComparisonOperator → Option Condition) →
+    Option Condition → Option Condition
 compared_or None f o = o
 compared_or (Some operator) f o = f operator
 
@@ -53,7 +55,8 @@ unfoldable mutual
   -- behind the first value of an atom
   pub behind_value : List Token → Expression → Option Condition
   behind_value [] x = Some ((bare x ∷ []) ∷ [])
-  behind_value (t ∷ ts) x = compared_or (operator_of t) (behind_operator ts x) (joined (bare x) t (condition_of ts))
+  behind_value (t ∷ ts) x = compared_or (operator_of t) (behind_operator ts x)
+      (joined (bare x) t (condition_of ts))
 
   -- behind an operator
   pub behind_operator : List Token → Expression → ComparisonOperator → Option Condition

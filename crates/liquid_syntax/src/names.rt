@@ -1,4 +1,5 @@
-//! The visitors that are told the names that templates mention: one looks for a name, and one gathers all.
+//! The visitors that are told the names that templates mention: one looks for a name, and one
+//! gathers all.
 ghost use Rattle.std.specs.Prelude.{◌≡◌, [], ◌∷◌, OnOk};
 ghost use Rattle.liquid_syntax.specs.inside.NameVisitors.{gathers, looks};
 ghost use Rattle.liquid_syntax.specs.NameSets.{Gathers, Looks, added, held};

@@ -34,7 +34,8 @@ fn skip_separator(items: &mut VecDeque<Item<'_>>, separators: Separators) -> boo
 
 /// Takes a separator and the value behind it off the front, if they stand there.
 fn next_further(items: &mut VecDeque<Item<'_>>, separators: Separators) -> Option<Expression>
-    ensures value { option_map (λ x. (expression_view x, tokens_view items.new.items)) result ≡ further_first separators (tokens_view items.old.items) }
+    ensures value { option_map (λ x. (expression_view x, tokens_view items.new.items)) result ≡
+        further_first separators (tokens_view items.old.items) }
     ensures shorter { IfSome result (λ _. length items.new.items < length items.old.items) }
 {
     if !skip_separator(items, separators) {
@@ -79,7 +80,8 @@ pub fn read_values(
     separators: Separators,
     at: &str,
 ) -> Result<Vec<Expression>, ParseError>
-    ensures values { Parses (λ xs. map expression_view xs.items) result (values_of separators (tokens_view items.entry.items)) }
+    ensures values { Parses (λ xs. map expression_view xs.items) result
+        (values_of separators (tokens_view items.entry.items)) }
     ensures kind { FaultsAs FaultKind.Expected result }
     ensures place { FaultsAt (length at.now) result }
 {
@@ -98,7 +100,9 @@ pub fn read_further(
     separators: Separators,
     at: &str,
 ) -> Result<Vec<Expression>, ParseError>
-    ensures values { Parses (λ xs. map expression_view xs.items) result (option_map (λ xs. expression_view first ∷ xs) (further_of separators (tokens_view items.entry.items))) }
+    ensures values { Parses (λ xs. map expression_view xs.items) result
+        (option_map (λ xs. expression_view first ∷ xs)
+        (further_of separators (tokens_view items.entry.items))) }
     ensures kind { FaultsAs FaultKind.Expected result }
     ensures place { FaultsAt (length at.now) result }
 {

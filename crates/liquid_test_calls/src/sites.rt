@@ -5,8 +5,9 @@ use liquid_site::{Change, Site};
 use liquid_test_refusals::{Row, Told, items, kind_of, member, name_of, optional, text_member};
 use std::alloc::Global;
 
-/// Applies the changes of the row. Each is a list: the change, its name, its source or its value, the kind of its fault or an
-/// empty text, what the site shows behind it, and words by which `tests/refusals/run` tells changes that make other requests.
+/// Applies the changes of the row. Each is a list: the change, its name, its source or its value,
+/// the kind of its fault or an empty text, what the site shows behind it, and words by which
+/// `tests/refusals/run` tells changes that make other requests.
 pub(crate) fn site_made<R: Print>(told: &Told<'_, R>, row: &Row) -> Result<()> {
     let mut site = Site::new(told.alloc, language(told.alloc)?, 32);
     applied_in_turn(told, &mut site, items(&row.with))
@@ -21,8 +22,8 @@ fn applied_in_turn<R: Print>(told: &Told<'_, R>, site: &mut Site, steps: &[Value
     Ok(())
 }
 
-/// Applies a change. Where memory was refused, the site is as it was behind the step before, and takes the change when it comes
-/// again.
+/// Applies a change. Where memory was refused, the site is as it was behind the step before, and
+/// takes the change when it comes again.
 fn applied<R: Print>(
     told: &Told<'_, R>,
     site: &mut Site,
@@ -99,8 +100,9 @@ fn change_of(alloc: Global, step: &Value) -> Result<Change> {
     })
 }
 
-/// Whether the site shows just what the step says: each page with its text, a `:` and the kind of its fault, and how many were
-/// `rendered`. Without a step, whether it shows no page, and none was rendered.
+/// Whether the site shows just what the step says: each page with its text, a `:` and the kind of
+/// its fault, and how many were `rendered`. Without a step, whether it shows no page, and none was
+/// rendered.
 fn shows(site: &Site, step: Option<&Value>) -> bool {
     let Some(step) = step else {
         return site.pages().is_empty() && site.rendered() == 0;

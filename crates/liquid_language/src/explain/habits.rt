@@ -130,8 +130,8 @@ fn first_of(habits: &'static str, spot: &Spot<'_>) -> Option<&'static str> {
     None
 }
 
-/// What is told of a habit, where it fits: what stands before the fault (`^` for no item, empty for any), what stands at it (empty
-/// for anything), and what is told, with a `¦` between them.
+/// What is told of a habit, where it fits: what stands before the fault (`^` for no item, empty for
+/// any), what stands at it (empty for anything), and what is told, with a `¦` between them.
 fn told_of(habit: &'static str, spot: &Spot<'_>) -> Option<&'static str> {
     let (before, behind) = habit.split_once('¦')?;
     let (found, told) = behind.split_once('¦')?;
@@ -141,7 +141,8 @@ fn told_of(habit: &'static str, spot: &Spot<'_>) -> Option<&'static str> {
     None
 }
 
-/// Whether what a habit has at a fault stands there: all of the item that is found, and no beginning of a longer word.
+/// Whether what a habit has at a fault stands there: all of the item that is found, and no
+/// beginning of a longer word.
 fn is_found(found: &str, spot: &Spot<'_>) -> bool {
     if found.is_empty() {
         return true;

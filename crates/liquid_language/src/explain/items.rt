@@ -75,7 +75,8 @@ fn tag_in_output<'s>(language: &Language, spot: &Spot<'s>) -> Option<Told<'s>> {
     Some(Told::quoting(spot.rest, words, spot.before, spot.before))
 }
 
-/// What is meant by what stands where the arguments of a filter may; the bar stands two items before it.
+/// What is meant by what stands where the arguments of a filter may; the bar stands two items
+/// before it.
 fn in_arguments<'s>(spot: &Spot<'s>, bar: &str) -> Option<Told<'s>> {
     if let Some(words) = sign_in_arguments(bar, spot.found) {
         return Some(Told::plain(spot.rest, words));

@@ -3,8 +3,9 @@ use liquid_lexer::{excerpt, location};
 use std::alloc::{AllocError, Global};
 use std::fmt::Write;
 
-/// What is told of a place of a source. In the words `…` stands for a text that is quoted as an `excerpt`, `¤` for a text as
-/// it is, `¹` and `²` for the numbers, and `§` for another place, as `line 2, column 3`.
+/// What is told of a place of a source. In the words `…` stands for a text that is quoted as an
+/// `excerpt`, `¤` for a text as it is, `¹` and `²` for the numbers, and `§` for another place, as
+/// `line 2, column 3`.
 #[derive(Clone, Copy)]
 pub struct Told<'s> {
     /// The source from the place on.

@@ -1,4 +1,5 @@
-//! Faults of pieces that can't be read: of what stands where an item can't begin or go on, and of a source that ends inside one.
+//! Faults of pieces that can't be read: of what stands where an item can't begin or go on, and of a
+//! source that ends inside one.
 use super::characters::{ends_value, is_digit, is_letter_beyond, is_sign};
 use super::habits::{Site, Spot, advice, site_of};
 use super::items::{closer_of, closer_word, front_before, not_wanted, spelling_before};
@@ -50,7 +51,8 @@ fn number_front(text: &str) -> &str {
     front_before(text, behind)
 }
 
-/// Of a source that ends inside a piece, which is told at its opener, or inside a text, which is told at its quote.
+/// Of a source that ends inside a piece, which is told at its opener, or inside a text, which is
+/// told at its quote.
 fn unclosed<'s>(outline: &Outline<'s>, piece: &PlacedPiece<'s>) -> Told<'s> {
     match outline.from.get(..1) {
         Some(quote) => unclosed_text(outline.from, quote, piece),
@@ -116,8 +118,8 @@ fn spot_of<'s>(fault: &Fault, from: &'s str, piece: &PlacedPiece<'s>) -> Spot<'s
     }
 }
 
-/// What is told of the end of the source, or of the value that the fault is in. The piece begins at the one place, and the
-/// value at the other.
+/// What is told of the end of the source, or of the value that the fault is in. The piece begins at
+/// the one place, and the value at the other.
 fn in_value<'s>(spot: &Spot<'s>, at: &'s str, value: &'s str) -> Option<Told<'s>> {
     if matches!(spot.rest.trim_end(), "-" | ".") {
         return Some(at_end(spot, at));

@@ -15,7 +15,8 @@ impl Filter for WithUnit {
     // How many arguments it takes: none.
     ghost counts = { λ _ count. nat_eq count 0 };
 
-    // What it answers to an input and arguments. Each call is proved to answer this, or `Memory` where there is no room.
+    // What it answers to an input and arguments. Each call is proved to answer this, or `Memory`
+    // where there is no room.
     ghost answer = { λ filter input _. Ok (text (text_of input ++ filter.unit.now)) };
 
     fn accepts(&self, count: usize) -> bool {

@@ -2,7 +2,8 @@
 ghost use Rattle.std.specs.Prelude.{map};
 ghost use Rattle.liquid_model.specs.Answer.{IsValueOrMemory};
 ghost use Rattle.liquid_model.specs.View.{view};
-ghost use Rattle.liquid_jekyll_shopify_filters.specs.Path.{bracketed_at, member_at, path, step_at, with_steps};
+ghost use Rattle.liquid_jekyll_shopify_filters.specs.Path.{bracketed_at, member_at, path, step_at};
+ghost use Rattle.liquid_jekyll_shopify_filters.specs.Path.{with_steps};
 ghost use Rattle.liquid_lexer.specs.ValueReading.{literal_at};
 ghost use Rattle.liquid_jekyll_shopify_filters.specs.inside.PathView.{path_view, step_view};
 
