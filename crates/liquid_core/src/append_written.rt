@@ -1,4 +1,4 @@
-//! The written form of an expression, put behind a text that is there, part by part.
+//! The written form of an expression, put after a text that is there, part by part.
 ghost use Rattle.std.specs.Prelude.{◌++◌, codes, string_bytes};
 ghost use Rattle.liquid_core.specs.ExpressionView.{expression_view, variable_view, steps_view};
 ghost use Rattle.liquid_core.specs.Written.{written_form, written_literal, written_steps};
@@ -11,7 +11,7 @@ use liquid_model::{Result, Value, append_str};
 
 impl Expression {
     /// Appends the written form to `out`. Where there is no memory, a beginning of it may stand
-    /// there, behind what was there before.
+    /// there, after what was there before.
     pub fn append_written_form(&self, out: &mut String) -> Result<()>
         ensures appended { IsValueOrMemory (λ _. string_bytes out.new) result
             (string_bytes out.old ++

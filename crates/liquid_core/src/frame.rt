@@ -74,7 +74,8 @@ pub struct LoopFrame<'d> {
     ghost within: { (at < count) × ((count ≤ 9223372036854775807) × (from ≤ 9223372036854775807)) },
 }
 
-/// Drops the fields. By hand, so that a way out of a function that owns one is one call to prove.
+/// Drops the fields. Written by hand, so that each early return drops the value by one call to
+/// prove.
 impl Drop for LoopFrame<'_> {
     fn drop(self) {
         let LoopFrame {

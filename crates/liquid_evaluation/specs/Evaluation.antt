@@ -177,7 +177,7 @@ abbrev pub at_most : ℕ → ℤ → ℕ
 at_most n (pos k) = min k n
 at_most n (negsuc k) = n
 
--- of n items, how many are left out, and how many are asked for behind o of them
+-- of n items, how many are left out, and how many are asked for after o of them
 abbrev pub skipped : ℕ → Option ℤ → ℕ
 skipped n None = 0
 skipped n (Some offset) = at_most n offset

@@ -18,7 +18,8 @@ pub struct ChainFilter {
     pub ghost accepted: { IsTrue (stored_counts filter (length arguments.items)) },
 }
 
-/// Drops the fields. By hand, so that a way out of a function that owns one is one call to prove.
+/// Drops the fields. Written by hand, so that each early return drops the value by one call to
+/// prove.
 impl Drop for ChainFilter {
     fn drop(self) {
         let ChainFilter {
@@ -58,7 +59,8 @@ pub struct FilterChain {
     pub filters: Vec<ChainFilter>,
 }
 
-/// Drops the fields. By hand, so that a way out of a function that owns one is one call to prove.
+/// Drops the fields. Written by hand, so that each early return drops the value by one call to
+/// prove.
 impl Drop for FilterChain {
     fn drop(self) {
         let FilterChain {

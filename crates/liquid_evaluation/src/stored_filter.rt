@@ -24,7 +24,7 @@ impl Drop for StoredFilter {
 }
 
 impl StoredFilter {
-    /// The name of the filter, which its faults tell.
+    /// The name of the filter, which its faults name.
     pub fn name(&self) -> &str
         ensures { result.now ≡ stored_name self.now }
     {

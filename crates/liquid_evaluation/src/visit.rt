@@ -1,4 +1,4 @@
-//! The names that chains, conditions and loop sources mention, told to a visitor in the order in
+//! The names that chains, conditions and loop sources mention, given to a visitor in the order in
 //! which they stand. Each function answers whether the visitor ended the telling.
 ghost use Rattle.std.specs.Prelude.{map, option_map};
 ghost use Rattle.liquid_core.specs.ExpressionView.{expression_view, variable_view, steps_view};

@@ -48,7 +48,7 @@ impl<'r> Rounds<'r> {
         Ok(false)
     }
 
-    /// The round behind the last line, if a file changed since the one before.
+    /// The round after the last line, if a file changed since the one before.
     pub fn last_round(&mut self) -> Result<bool, Stop> {
         if self.changes.is_empty() {
             return Ok(true);

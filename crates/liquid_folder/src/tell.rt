@@ -1,4 +1,4 @@
-//! What is told of a round.
+//! The lines that a round prints.
 use crate::stop::Stop;
 use liquid_core::ErrorKind;
 use liquid_site_files::{Folder, Refusal, RoundOutcome, Site, Why};

@@ -6,7 +6,7 @@ use Rattle.liquid_model.specs.Data.{Datum, text}
 use Rattle.liquid_model.specs.Texts.{Text}
 use Rattle.liquid_lexer.specs.ValueReading.{literal_at, past_byte, word_at, Reads}
 
--- the word behind a `.`
+-- the word after a `.`
 unfoldable pub member_at : Reads Datum
 member_at s = option_map (λ w. (text w.0, w.1)) (word_at s)
 
@@ -14,7 +14,7 @@ abbrev pub closed : Option (Datum × Text) → Option (Datum × Text)
 closed None = None
 closed (Some x) = option_map (λ rest. (x.0, rest)) (past_byte 93 x.1)
 
--- the literal behind a `[`, up to its `]`
+-- the literal after a `[`, up to its `]`
 unfoldable pub bracketed_at : Reads Datum
 bracketed_at s = closed (literal_at s)
 

@@ -1,6 +1,6 @@
 -- What a tag's name is, where the tag stands.
 --     role_of l x w      of the name w in a language, in a context
---     unread_body role      the body behind such a tag, where it is a block's that isn't read
+--     unread_body role      the body after such a tag, where it is a block's that isn't read
 use Rattle.std.specs.Prelude.{cond, bytes_eq, Option, Some, None, option_map}
 use Rattle.liquid_model.specs.Maps.{listed}
 use Rattle.liquid_model.specs.Texts.{Text}

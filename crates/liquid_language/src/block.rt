@@ -103,7 +103,7 @@ fn registered(language: &Language, name: &str) -> Option<Role>
     }
 }
 
-/// The body behind a tag, where it is a block's that isn't read.
+/// The body after a tag, where it is a block's that isn't read.
 pub fn unread_body(role: Option<Role>) -> Option<Body>
     ensures { result ≡ unread_body role }
 {
@@ -114,7 +114,7 @@ pub fn unread_body(role: Option<Role>) -> Option<Body>
     }
 }
 
-/// The body behind a piece, where it is a tag without items that begins a block whose body isn't
+/// The body after a piece, where it is a tag without items that begins a block whose body isn't
 /// read.
 pub fn body_behind(language: &Language, context: BlockContext, piece: &Piece<'_>) -> Option<Body>
     ensures { result ≡ wanted_body (body_behind language.now context) (piece_view piece.now) }

@@ -21,15 +21,15 @@ use std::alloc::{AllocError, Global};
 use told::{Told, message_of};
 use unread::unread;
 
-/// What is told of a fault: of which place, as so many bytes of the source from it on, and the
-/// message.
+/// What the message says of a fault: of which place, as so many bytes of the source from it on, and
+/// the message.
 #[derive(Drop)]
 pub struct Explanation {
     pub left: usize,
     pub message: String,
 }
 
-/// What is told of the fault that a source has in a language.
+/// What the message says of the fault that a source has in a language.
 pub fn explanation_of(
     alloc: Global,
     source: &str,
@@ -46,7 +46,7 @@ pub fn explanation_of(
     })
 }
 
-/// What is told of a fault in a piece.
+/// What the message says of a fault in a piece.
 fn told_of<'s>(
     alloc: Global,
     language: &'s Language,

@@ -106,7 +106,8 @@ pub struct Language {
     pub filters: FilterRegistry,
 }
 
-/// Drops the fields. By hand, so that a way out of a function that owns one is one call to prove.
+/// Drops the fields. Written by hand, so that each early return drops the value by one call to
+/// prove.
 impl Drop for Language {
     fn drop(self) {
         let Language {

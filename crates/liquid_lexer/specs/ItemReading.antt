@@ -38,7 +38,7 @@ short_symbol_at bs =
 abbrev pub symbol_at : Reads Symbol
 symbol_at bs = option_or (long_symbol_at bs) (short_symbol_at bs)
 
--- behind the `(` of a range
+-- after the `(` of a range
 unfoldable pub range_at : Reads Item
 range_at bs = do
   first ← value_at 200 (past_white bs)

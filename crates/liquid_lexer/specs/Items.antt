@@ -39,7 +39,7 @@ pub record IsSymbol (s : Symbol) (bs rest : List ℕ) : Type 0 where
   pub longest : (t : Symbol) (after : List ℕ) → bs ≡ spelling_of t ++ after →
       length (spelling_of t) ≤ length (spelling_of s)
 
--- `(value..value)` behind its `(`, whitespace allowed around each value
+-- `(value..value)` after its `(`, whitespace allowed around each value
 pub data IsRange : Expression → Expression → List ℕ → List ℕ → Type 0 where
   is_range : {first second : Expression} {inside from until after next behind rest : List ℕ}
       → Blank inside from → IsValue 200 first from until → Blank until (dot ∷ dot ∷ after)

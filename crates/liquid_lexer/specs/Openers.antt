@@ -1,4 +1,4 @@
--- The written grammar of what stands behind the `{` of an opener.
+-- The written grammar of what follows the `{` of an opener.
 use Rattle.std.specs.Prelude.{◌≡◌, ℕ, List, ◌∷◌, Bool, true, false}
 use Rattle.liquid_lexer.specs.Bytes.{dash, open_brace, percent}
 use Rattle.liquid_lexer.specs.Words.{begins_with}

@@ -12,7 +12,7 @@ pub data Piece : Type 0 where
   text : List ℕ → Piece
   output : List Item → Piece
   tag : List ℕ → List Item → Piece
-  -- a tag without items, by its name, with the verbatim body behind it up to its end
+  -- a tag without items, by its name, with the verbatim body after it up to its end
   raw : List ℕ → List ℕ → Piece
   comment : List ℕ → Piece
 
@@ -34,7 +34,7 @@ pub data IsTag : Bool → List ℕ → List Item → Bool → List ℕ → List 
       → IsOpener Tag before bs inside → Blank inside from → Word w from next →
       AreItems Tag is after next rest → IsTag before w is after bs rest
 
--- behind a `{`: whether the opener has a dash, the piece, and whether the last closer has one.
+-- after a `{`: whether the opener has a dash, the piece, and whether the last closer has one.
 -- Whether a tag without items has a verbatim body, the language tells
 pub data IsMarkup : Bool → Piece → Bool → List ℕ → List ℕ → Type 0 where
   is_output : {before after : Bool} {is : List Item} {bs inside rest : List ℕ} →

@@ -105,7 +105,7 @@ pub record Markup : Type 0 where
   pub piece : Piece
   pub after : Bool
 
--- behind an opener
+-- after an opener
 abbrev pub inside_of : Delimiter → Bool × List ℕ → Option (Markup × List ℕ)
 inside_of Output x = option_map (λ r. (
   record {
@@ -125,7 +125,7 @@ inside_of Tag x =
       r.2,
     )) (items_at Tag (length w.1) w.1)) (word_at (past_white x.1))
 
--- behind the `{` of an opener
+-- after the `{` of an opener
 unfoldable pub markup_at : Reads Markup
 markup_at bs = option_and_then (λ k. inside_of k.0 (dashed k.1 (past_byte dash k.1))) (opener_at bs)
 
@@ -133,7 +133,7 @@ abbrev pub tag_name : Piece → List ℕ
 tag_name (tag w is) = w
 tag_name _ = []
 
--- a tag with the body behind it, where it is to have one
+-- a tag with the body after it, where it is to have one
 abbrev pub body_at : Option Body → Markup → Reads Markup
 body_at None m bs = Some (m, bs)
 body_at (Some Raw) m bs = option_map (λ r. (
@@ -164,7 +164,7 @@ wanted_body wants p = option_and_then wants (bare_name p)
 -- ---- a source, read by a machine that takes one piece after another and changes its state
 
 module _ {S : Type 0} (step : S → Piece → Option S) where
-  -- the state behind all pieces
+  -- the state after all pieces
   abbrev pub all_steps : List Piece → S → Option S
   all_steps [] s = Some s
   all_steps (p ∷ ps) s = option_and_then (all_steps ps) (step s p)
@@ -174,7 +174,7 @@ module _ {S : Type 0} (step : S → Piece → Option S) where
   text_step [] s = Some s
   text_step (b ∷ bs) s = step s (text (b ∷ bs))
 
--- which body the machine wants behind a tag of the name, in a state
+-- which body the machine wants after a tag of the name, in a state
 module _ {S : Type 0} (wants : S → List ℕ → Option Body) (step : S → Piece → Option S) where
   abbrev pub Goes : Type 0
   Goes = Bool → S → List ℕ → Option S

@@ -81,7 +81,7 @@ abbrev pub is_symbol : Symbol → Token → Bool
 is_symbol s (symbol t) = same_symbol s t
 is_symbol s t = false
 
--- what stands behind a symbol at the front
+-- what follows a symbol at the front
 abbrev pub past : Symbol → List Token → Option (List Token)
 past s [] = None
 past s (t ∷ ts) = cond (is_symbol s t) (Some ts) None
@@ -94,7 +94,7 @@ is_that w (Some u) = bytes_eq u w
 abbrev pub is_word : Text → Token → Bool
 is_word w t = is_that w (word_of t)
 
--- what stands behind a word at the front
+-- what follows a word at the front
 abbrev pub past_word : Text → List Token → Option (List Token)
 past_word w [] = None
 past_word w (t ∷ ts) = cond (is_word w t) (Some ts) None

@@ -39,7 +39,7 @@ word_at bs = if is_letter (slice_index bs 0) then Some (
   drop (run_len in_word bs) bs,
 ) else None
 
--- up to the quote q, behind the one that opens
+-- up to the quote q, after the one that opens
 unfoldable pub until_quote : ℕ → Reads (List ℕ)
 until_quote q bs = option_map (λ rest. (take (run_len (not_quote q) bs) bs, rest))
     (past_byte q (drop (run_len (not_quote q) bs) bs))

@@ -38,7 +38,7 @@ pub enum Delimiter {
 /// How deep brackets may nest in a value.
 const MAX_BRACKETS: usize = 200;
 
-/// The range behind its `(`.
+/// The range after its `(`.
 #[tactic(auto, unfolding(crate::specs::ItemReading::range_at))]
 fn read_range(alloc: Global, text: &str) -> Result<(Item, &str), ParseError>
     ensures { Parses (λ x. (item_view x.0, x.1.now)) result (range_at text.now) }

@@ -39,7 +39,7 @@ fn read_mark(text: &str) -> Option<(Mark, &str)>
     mark_behind(before, inside)
 }
 
-/// The mark behind its opener, and what follows it; `before` tells whether the opener has a dash.
+/// The mark after its opener, and what follows it; `before` tells whether the opener has a dash.
 fn mark_behind(before: bool, inside: &str) -> Option<(Mark, &str)>
     ensures { option_map (λ x. (mark_view x.0, x.1.now)) result ≡ mark_behind (before, inside.now) }
 {

@@ -1,4 +1,4 @@
-//! The items of one piece with their places, which is asked for only where a fault is told.
+//! The items of one piece with their places, which is asked for only where a fault is reported.
 use crate::cut::{past_byte, past_white, word};
 use crate::fault::ParseError;
 use crate::item::{Delimiter, Item, closer, read_item};

@@ -175,7 +175,7 @@ fn run_node<'d, W: CountedWrite, H: NamedFilters>(
     }
 }
 
-/// Runs the nodes that an `if`, an `unless` or a `case` came to, behind `at`, or ends as its choice
+/// Runs the nodes that an `if`, an `unless` or a `case` came to, after `at`, or ends as its choice
 /// did.
 #[cycle(run)]
 fn run_chosen<'d, W: CountedWrite, H: NamedFilters>(

@@ -36,7 +36,7 @@ pub(crate) struct EachItem<'d> {
     pub(crate) at: usize,
 }
 
-/// The partial of a `render`, with the pairs alone in its state; its name is told with it. The name
+/// The partial of a `render`, with the pairs alone in its state; its name comes with it. The name
 /// is evaluated before the pairs, and the partial is looked up after them.
 #[inline(never)]
 pub(crate) fn enter_render<'d, H>(

@@ -29,7 +29,7 @@ pub(crate) struct Entered<'d, H> {
 }
 
 /// Enters the partial of an `include`, with the scope of the pairs over the caller's names; its
-/// name is told with it. The name is evaluated before the pairs, and the partial is looked up after
+/// name comes with it. The name is evaluated before the pairs, and the partial is looked up after
 /// them.
 #[inline(never)]
 pub(crate) fn enter_include<'d, H>(

@@ -15,7 +15,7 @@ use std::alloc::Global;
 
 /// Renders a source: parses it in the language, and writes its text up to the first fault.
 ///
-/// A source that is no template is told by the kind of its first fault (see [parse]), before
+/// A source that is no template is reported by the kind of its first fault (see [parse]), before
 /// anything is written. Else the answer, the text and the changes are those of its one tree, for
 /// what the runtime holds under the names that the template or a partial mentions; the names that
 /// neither mentions are left as they are, after any answer. `Memory` where a growth was refused,

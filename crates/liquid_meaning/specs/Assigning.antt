@@ -1,4 +1,4 @@
--- Where an `assign` to a name ran: among the nodes of a list, behind others, in a body, at an item
+-- Where an `assign` to a name ran: among the nodes of a list, after others, in a body, at an item
 -- of a loop.
 --     RanAmong setting deeper name nodes e      in the run of nodes over e, where deeper is the
 --       meaning of a partial
@@ -48,7 +48,7 @@ scoped scope e = record e { local = merged scope e.local }
 
 module _ (setting : Setting) (deeper : Nodes → Run Nothing) (name : Text) where
   mutual
-    -- in the first node, or in one behind it where that ended by a value and left no interrupt
+    -- in the first node, or in one after it where that ended by a value and left no interrupt
     pub data RanAmong : Nodes → Environment → Type 0 where
       at_first : {n : Node} {more : Nodes} {e : Environment} → RanIn n e → RanAmong (node n more) e
       behind : {n : Node} {more : Nodes} {e : Environment}

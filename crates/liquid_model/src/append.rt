@@ -1,4 +1,4 @@
-//! The text of a value, put behind a text that is there, part by part.
+//! The text of a value, put after a text that is there, part by part.
 ghost use Rattle.std.specs.Prelude.{◌++◌, string_bytes};
 ghost use Rattle.liquid_model.specs.Answer.{IsValueOrMemory};
 ghost use Rattle.liquid_model.specs.Appended.{Appended, Begun};
@@ -11,7 +11,7 @@ use itoa::Buffer;
 
 impl Value {
     /// Appends the text of the value to `out`. Where there is no memory, a beginning of it may
-    /// stand there, behind what was there before.
+    /// stand there, after what was there before.
     pub fn append_text(&self, out: &mut String) -> Result<()>
         ensures appended { IsValueOrMemory (λ _. string_bytes out.new) result
             (string_bytes out.old ++

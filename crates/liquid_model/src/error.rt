@@ -162,7 +162,8 @@ pub struct Error {
     pub ghost has_message: { (is_memory kind || is_some message) ≡ true },
 }
 
-/// Drops the fields. By hand, so that a way out of a function that owns one is one call to prove.
+/// Drops the fields. Written by hand, so that each early return drops the value by one call to
+/// prove.
 impl Drop for Error {
     fn drop(self) {
         let Error {
@@ -240,8 +241,8 @@ impl Error {
         }
     }
 
-    /// The same fault, told by the partial of this name: where it stands in the partial's own text,
-    /// its location says so now.
+    /// The same fault, reported by the partial of this name: where it stands in the partial's own
+    /// text, its location says so now.
     /// `Memory`, without a message, where there is no room for that.
     pub fn in_partial(self, alloc: Global, name: &str) -> Error
         ensures told { IsKindOrMemory self.kind result.kind }

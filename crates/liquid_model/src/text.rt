@@ -32,7 +32,7 @@ impl Value {
 }
 
 /// Writes the text of a value: nothing for nil, and of a list or a map the texts of its parts, one
-/// behind the other. Where the writer refuses, a beginning of it may be written. It takes no
+/// after the other. Where the writer refuses, a beginning of it may be written. It takes no
 /// memory.
 #[cycle(write_text)]
 pub fn write_text<W: Write>(value: &Value, f: &mut Formatter<W>) -> fmt::Result

@@ -29,7 +29,7 @@ abbrev pub ◌>>=◌ : {A B : Type 0} → Result A Stop → (A → Result B Stop
 abbrev pub text_at : Files → Text → Result Text Stop
 text_at files path = ok_or (files path) (unread path)
 
--- the texts of named files, in order, behind those that are read
+-- the texts of named files, in order, after those that are read
 abbrev pub sources_from : Files → Named → Sources → Result Sources Stop
 sources_from files [] done = Ok done
 sources_from files (p ∷ ps) done = text_at files p.1 >>= λ t. sources_from files ps

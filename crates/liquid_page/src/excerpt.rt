@@ -1,4 +1,4 @@
-//! The line of a text in which a fault stands, as it is shown behind the fault: with its number,
+//! The line of a text in which a fault stands, as it is shown after the fault: with its number,
 //! and a mark under the column.
 use liquid_core::Location;
 use std::fmt;
@@ -66,7 +66,7 @@ impl fmt::Display for Blank {
     }
 }
 
-/// A part of a line behind its hidden characters, with `..` where it goes on. What has no width or
+/// A part of a line after its hidden characters, with `..` where it goes on. What has no width or
 /// moves the cursor, as a tab, is a space.
 #[derive(Drop)]
 struct Shown<'t> {

@@ -72,7 +72,7 @@ impl ReadTexts {
 }
 
 /// Judges the words, then reads the files in order, and then writes the page. It gives the writer
-/// back, which holds what it held and the page behind it. Where the writer refuses it holds a
+/// back, which holds what it held and the page after it. Where the writer refuses it holds a
 /// beginning of that, and where memory runs out too; no more than it held, where no page is begun.
 /// With it come how the call ended, and the texts, where all were read.
 pub fn page<T: Texts, W: Write + Drop>(
@@ -175,10 +175,10 @@ fn text_of<T: Texts>(
     }
 }
 
-/// Writes the page through a buffer, and gives the writer back. The program ends behind it, so what
+/// Writes the page through a buffer, and gives the writer back. The program ends after it, so what
 /// was read stays as it is. Where the run is done the writer is flushed, once; after a fault what
 /// the page had written is handed on too. A writer that refuses is `Write`. On every answer what
-/// the writer holds is a beginning of what it held and of the page's text behind that.
+/// the writer holds is a beginning of what it held and of the page's text after that.
 pub fn write_page<W: Write + Drop>(
     alloc: Global,
     template: &str,

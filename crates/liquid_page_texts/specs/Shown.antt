@@ -32,7 +32,7 @@ Reads l texts (Ok r) = IsRead l texts (read_view r)
 Reads l texts (Err e) = MatchBool (is_memory e.kind) ⊤ (Refused l texts e.kind ×
     (is_refusal e.kind ≡ false))
 
--- the partials behind those that are there; or that one of them has no tree, unless memory ran out
+-- the partials after those that are there; or that one of them has no tree, unless memory ran out
 abbrev pub ReadsPartials : Language → Sources → Trees → Result Partials Error → Type 0
 ReadsPartials l sources before (Ok p) = ArePartials l sources before (partials_of p)
 ReadsPartials l sources before (Err e) = MatchBool (is_memory e.kind) ⊤ (HasBadPartial l sources ×

@@ -19,7 +19,7 @@ use std::mem;
 /// How deep partials may be nested in a page.
 const DEPTH: u32 = 32;
 
-/// What becomes of what was read, behind the page: to take large data apart is a tenth of the work
+/// What becomes of what was read, after the page: to take large data apart is a tenth of the work
 /// of a page and more.
 #[derive(Clone, Copy, Drop)]
 enum Afterwards {
@@ -70,7 +70,7 @@ pub fn run<W: CountedWrite>(
     render_texts(alloc, read, writer, Afterwards::Freed)
 }
 
-/// As `run`, for a program that ends behind it: what was read isn't taken apart, so its memory
+/// As `run`, for a program that ends after it: what was read isn't taken apart, so its memory
 /// stays until the process ends.
 pub fn run_last<W: CountedWrite>(
     alloc: Global,

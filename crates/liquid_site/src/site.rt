@@ -31,7 +31,8 @@ pub struct Site {
             (pages_from_scratch (contents_in depth templates partials facts)) },
 }
 
-/// Drops the fields. By hand, so that a way out of a function that owns one is one call to prove.
+/// Drops the fields. Written by hand, so that each early return drops the value by one call to
+/// prove.
 impl Drop for Site {
     fn drop(self) {
         let Site {

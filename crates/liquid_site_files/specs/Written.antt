@@ -22,7 +22,7 @@ abbrev pub all_written : Text → Pages → Files → Files
 all_written out [] files = files
 all_written out (p ∷ ps) files = all_written out ps (with_file files (out ++ p.0) (holds p.1.text))
 
--- how many of the pages' files hold another text, behind a count
+-- how many of the pages' files hold another text, after a count
 abbrev pub count_from : ℕ → Text → Pages → Files → ℕ
 count_from n out [] files = n
 count_from n out (p ∷ ps) files =

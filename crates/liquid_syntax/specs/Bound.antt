@@ -38,7 +38,7 @@ pub data IsOneOf (k : PairStyle) : Text × Expression → List Token → Type 0 
   unseparated : {p : Text × Expression} {ts : List Token} → is_separated k ≡ false →
       IsPair (mark_of k) p ts → IsOneOf k p ts
 
--- behind the last pair stands nothing, or one item of any kind (include), or one `,` (render)
+-- after the last pair stands nothing, or one item of any kind (include), or one `,` (render)
 pub data IsPairsEnd : PairStyle → List Token → Type 0 where
   no_item : {k : PairStyle} → IsPairsEnd k []
   any_item : (t : Token) → IsPairsEnd Include (t ∷ [])
@@ -56,7 +56,7 @@ pair_first s ts =
     (λ w. option_and_then (λ rest. option_map (λ x. ((w.0, x.0), x.1)) (value_first rest))
     (past s w.1)) (word_first ts)
 
--- what stands behind a `,`, or where none is wanted all of it
+-- what follows a `,`, or where none is wanted all of it
 abbrev pub past_comma : Bool → List Token → Option (List Token)
 past_comma true ts = past Comma ts
 past_comma false ts = Some ts

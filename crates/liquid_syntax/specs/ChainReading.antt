@@ -13,7 +13,7 @@ use Rattle.liquid_lexer.specs.declared.fault.FaultKind.{FaultKind}
 use Rattle.liquid_lexer.specs.declared.fault.FaultKind.TheVariants.{UnknownFilter, FilterArguments}
 use Rattle.liquid_lexer.specs.declared.symbol.Symbol.TheVariants.{Colon, Comma, Bar}
 
--- arguments, and the filters behind them
+-- arguments, and the filters after them
 abbrev pub Called : Type 0
 Called = List Expression × List FilterCall
 
@@ -47,25 +47,25 @@ module _ (known : Filters) where
     filters_of [] = Some []
     filters_of (t ∷ ts) = cond (is_symbol Bar t) (call_of ts) None
 
-    -- behind a `|`
+    -- after a `|`
     pub call_of : List Token → Option (List FilterCall)
     call_of [] = None
     call_of (t ∷ ts) = option_and_then (λ name. option_and_then (call_with name) (called_of ts))
         (word_of t)
 
-    -- behind a filter's name
+    -- after a filter's name
     pub called_of : List Token → Option Called
     called_of [] = Some ([], [])
     called_of (t ∷ ts) =
         cond (is_symbol Colon t) (arguments_of ts)
         (no_arguments (cond (is_symbol Bar t) (call_of ts) None))
 
-    -- behind a `:` or a `,`
+    -- after a `:` or a `,`
     pub arguments_of : List Token → Option Called
     arguments_of [] = None
     arguments_of (t ∷ ts) = if_value t (λ x. one_argument x (further_of ts))
 
-    -- behind an argument
+    -- after an argument
     pub further_of : List Token → Option Called
     further_of [] = Some ([], [])
     further_of (t ∷ ts) =

@@ -80,7 +80,7 @@ for_of ts = option_map for_node (loop_of Each ts)
 abbrev pub rows_of : List Token → Option (Nodes → Node)
 rows_of ts = option_map row_node (loop_of Rows ts)
 
--- one of a kind, and nothing behind it
+-- one of a kind, and nothing after it
 abbrev pub alone : {A : Type 0} → A × List Token → Option A
 alone (x, []) = Some x
 alone (x, t ∷ ts) = None

@@ -50,11 +50,11 @@ abbrev pub any_values_of : List Token → Option (List Expression)
 any_values_of [] = Some []
 any_values_of (t ∷ ts) = values_of Commas (t ∷ ts)
 
--- what stands behind a name and its `:`
+-- what follows a name and its `:`
 abbrev pub named_of : Expression → List Token → Option Cycle
 named_of name ts = cond (is_name name) (option_map (λ xs. (Some name, xs)) (any_values_of ts)) None
 
--- what stands behind a first value, from the `:` on where there is one
+-- what follows a first value, from the `:` on where there is one
 abbrev pub behind_first : Expression → List Token → Option (List Token) → Option Cycle
 behind_first x ts None = option_map (λ xs. (None, x ∷ xs)) (further_of Commas ts)
 behind_first x ts (Some rest) = named_of x rest

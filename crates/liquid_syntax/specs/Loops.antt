@@ -25,7 +25,7 @@ abbrev pub source_token : Source → Token
 source_token (each_of x) = value x
 source_token (counted x y) = range x y
 
--- what may stand behind the source
+-- what may follow the source
 pub data Part : Type 0 where
   limit_is offset_is cols_is : Expression → Part
   is_reversed : Part

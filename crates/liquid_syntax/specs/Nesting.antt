@@ -42,7 +42,7 @@ module _ {P : Type 0} (Is : BlockContext → P → Statement → Type 0) where
           → Is x p (begins o) → IsBlock d o n ps after → AreNodes x (suc d) f after rest →
           AreNodes x (suc d) (node n f) (p ∷ ps) rest
 
-    -- Behind its start, and up to its end, a block is the node n.
+    -- After its start, and up to its end, a block is the node n.
     pub data IsBlock : ℕ → Opening → Node → List P → List P → Type 0 where
       one : {d : ℕ} {b : Block} {make : Nodes → Node} {f : Nodes} {q : P} {ps rest : List P}
           → AreNodes (InLast b) d f ps (q ∷ rest) → Is (InLast b) q ends →
@@ -56,7 +56,7 @@ module _ {P : Type 0} (Is : BlockContext → P → Statement → Type 0) where
           → AreNodes (InBody b) d unkept ps after → AreWhens b d ws o after rest →
           IsBlock d (of_many b make) (make ws o) ps rest
 
-    -- Behind a body, and up to the block's end: its last body, which `else` begins, or none.
+    -- After a body, and up to the block's end: its last body, which `else` begins, or none.
     pub data IsLast : Block → ℕ → Nodes → List P → List P → Type 0 where
       no_else : {b : Block} {d : ℕ} {p : P} {rest : List P} → Is (InBody b) p ends →
           IsLast b d no_nodes (p ∷ rest) rest
@@ -64,7 +64,7 @@ module _ {P : Type 0} (Is : BlockContext → P → Statement → Type 0) where
           → Is (InBody b) p otherwise → AreNodes (InLast b) d o ps (q ∷ rest) →
           Is (InLast b) q ends → IsLast b d o (p ∷ ps) rest
 
-    -- Behind a first body, and up to the block's end: the else list. An `elsif` is one node in it,
+    -- After a first body, and up to the block's end: the else list. An `elsif` is one node in it,
     -- and nests no deeper.
     pub data IsElse : Block → ℕ → Nodes → List P → List P → Type 0 where
       is_last : {b : Block} {d : ℕ} {o : Nodes} {ps rest : List P} → IsLast b d o ps rest →

@@ -37,28 +37,28 @@ context_in (first b make) = InBody b
 context_in (unkept b make) = InBody b
 context_in (armed b make) = InBody b
 
--- the node, where the block ends behind the nodes f
+-- the node, where the block ends after the nodes f
 abbrev pub ended : Reading → Nodes → Node
 ended (last b make) f = make f
 ended (first b make) f = make f no_nodes
 ended (unkept b make) f = make no_whens no_nodes
 ended (armed b make) f = make f no_whens no_nodes
 
--- where an `else` stands behind the nodes f
+-- where an `else` follows the nodes f
 abbrev pub else_of : Reading → Nodes → Option Reading
 else_of (last b make) f = None
 else_of (first b make) f = Some (last b (make f))
 else_of (unkept b make) f = Some (last b (make no_whens))
 else_of (armed b make) f = Some (last b (make f no_whens))
 
--- where a `when` stands behind the nodes f
+-- where a `when` follows the nodes f
 abbrev pub when_of : List Expression → Reading → Nodes → Option Reading
 when_of vs (last b make) f = None
 when_of vs (first b make) f = None
 when_of vs (unkept b make) f = Some (armed b (λ g ws o. make (when vs g ws) o))
 when_of vs (armed b make) f = Some (armed b (λ g ws o. make f (when vs g ws) o))
 
--- where an `elsif` stands behind the nodes f: the block goes on with its else list, in which
+-- where an `elsif` follows the nodes f: the block goes on with its else list, in which
 -- another begins
 abbrev pub elsif_of : (Nodes → Nodes → Node) → Reading → Nodes → Option (Reading × Reading)
 elsif_of next (last b make) f = None

@@ -16,13 +16,13 @@ use Rattle.liquid_syntax.specs.declared.pair_items.PairStyle.TheVariants.{Render
 
 -- ---- the grammar
 
--- a name, then pairs with `:`; the first of them stands right behind the name
+-- a name, then pairs with `:`; the first of them stands right after the name
 pub data IsInclude : Expression → Bindings → List Token → Type 0 where
   name_alone : (x : Expression) → IsInclude x [] (value x ∷ [])
   name_and_pairs : {p : Text × Expression} {ps : Bindings} {ts us : List Token} (x : Expression)
       → IsPair Colon p ts → ArePairs Include ps us → IsInclude x (p ∷ ps) (value x ∷ (ts ++ us))
 
--- a name, then pairs with `:` behind a `,` each. Right behind the name may stand `with v as w`,
+-- a name, then pairs with `:` after a `,` each. Right after the name may stand `with v as w`,
 -- which is the first pair, or `for R as w`, which is what the partial runs for each item of, and by
 -- which name it knows an item
 pub data IsRender : Expression → Option (Source × Text) → Bindings → List Token → Type 0 where
@@ -53,7 +53,7 @@ pub data IsJekyllInclude : Text → Bindings → List items.Item → Type 0 wher
 
 -- ---- reading
 
--- no pairs, or a first one and those behind it
+-- no pairs, or a first one and those after it
 abbrev pub included_pairs : List Token → Option Bindings
 included_pairs [] = Some []
 included_pairs (t ∷ ts) = option_and_then (λ p. option_map (λ ps. p.0 ∷ ps) (pairs_of Include p.1))
@@ -63,21 +63,21 @@ abbrev pub include_of : List Token → Option (Expression × Bindings)
 include_of ts = option_and_then (λ x. option_map (λ ps. (x.0, ps)) (included_pairs x.1))
     (value_first ts)
 
--- `v as w`, behind `with`
+-- `v as w`, after `with`
 abbrev pub with_first : List Token → Option ((Text × Expression) × List Token)
 with_first ts =
     option_and_then
     (λ x. option_and_then (λ rest. option_map (λ w. ((w.0, x.0), w.1)) (word_first rest))
     (past_word (codes "as") x.1)) (value_first ts)
 
--- `R as w`, behind `for`
+-- `R as w`, after `for`
 abbrev pub each_first : List Token → Option ((Source × Text) × List Token)
 each_first ts =
     option_and_then
     (λ s. option_and_then (λ rest. option_map (λ w. ((s.0, w.0), w.1)) (word_first rest))
     (past_word (codes "as") s.1)) (source_first ts)
 
--- what stands behind the name of a `render`: the source and the variable of `for`, and the pairs
+-- what follows the name of a `render`: the source and the variable of `for`, and the pairs
 abbrev pub Rendered : Type 0
 Rendered = Option (Source × Text) × Bindings
 
@@ -85,12 +85,12 @@ Rendered = Option (Source × Text) × Bindings
 abbrev pub rendered_once : List Token → Option Rendered
 rendered_once ts = option_map (λ ps. (None, ps)) (pairs_of Render ts)
 
--- behind `with`: the first pair, and those behind it
+-- after `with`: the first pair, and those after it
 abbrev pub rendered_with : List Token → Option Rendered
 rendered_with ts = option_and_then (λ p. option_map (λ ps. (None, p.0 ∷ ps)) (pairs_of Render p.1))
     (with_first ts)
 
--- behind `for`: the source and the variable, and the pairs
+-- after `for`: the source and the variable, and the pairs
 abbrev pub rendered_each : List Token → Option Rendered
 rendered_each ts = option_and_then (λ e. option_map (λ ps. (Some e.0, ps)) (pairs_of Render e.1))
     (each_first ts)

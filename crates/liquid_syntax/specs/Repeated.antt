@@ -4,7 +4,7 @@ use Rattle.std.specs.Prelude.{None}
 use Rattle.std.specs.Option.{option_and_then, option_map}
 use Rattle.liquid_lexer.specs.Tokens.{Token}
 
--- the tokens are these, one after another, and an end behind them
+-- the tokens are these, one after another, and an end after them
 module _ {A : Type 0} (One : A → List Token → Type 0) (End : List Token → Type 0) where
   pub data AreRepeated : List A → List Token → Type 0 where
     no_more : {ts : List Token} → End ts → AreRepeated [] ts

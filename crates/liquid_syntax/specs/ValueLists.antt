@@ -18,7 +18,7 @@ pub data IsSeparator : Separators → Token → Type 0 where
   a_comma : {s : Separators} → IsSeparator s (symbol Comma)
   an_or : IsSeparator CommasOr or_word
 
--- a value behind a separator
+-- a value after a separator
 pub data IsFurther (s : Separators) : Expression → List Token → Type 0 where
   a_further : {t : Token} (x : Expression) → IsSeparator s t → IsFurther s x (t ∷ value x ∷ [])
 

@@ -70,7 +70,7 @@ pub struct Open {
     pub chained: bool,
 }
 
-/// Nodes, and the blocks that are open behind them.
+/// Nodes, and the blocks that are open after them.
 #[derive(Drop)]
 pub struct Builder {
     pub nodes: Vec<Node>,
@@ -137,7 +137,7 @@ impl Builder {
         self.leaf(Node::Text(String::from_str(alloc, text)?))
     }
 
-    /// Opens a block behind the nodes.
+    /// Opens a block after the nodes.
     fn open(
         &mut self,
         block: Block,

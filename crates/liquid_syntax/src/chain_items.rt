@@ -20,7 +20,7 @@ use liquid_lexer::{
 use std::alloc::Global;
 use std::collections::VecDeque;
 
-/// A chain of all the items: a value, and any number of filters behind it. `at` is the source from
+/// A chain of all the items: a value, and any number of filters after it. `at` is the source from
 /// the piece on.
 #[tactic(auto, unfolding(crate::specs::ChainReading::chain_of))]
 pub fn read_chain(
@@ -63,7 +63,7 @@ fn read_filters(
     Ok(filters)
 }
 
-/// The filter at the front, behind its `|`: its name, and the arguments that it is given.
+/// The filter at the front, after its `|`: its name, and the arguments that it is given.
 fn read_filter(
     alloc: Global,
     known: &FilterRegistry,
@@ -124,7 +124,7 @@ fn accepted(
     }
 }
 
-/// The arguments behind a filter's name.
+/// The arguments after a filter's name.
 fn read_arguments(
     alloc: Global,
     items: &mut VecDeque<Item<'_>>,

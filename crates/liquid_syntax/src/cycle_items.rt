@@ -40,7 +40,7 @@ pub fn read_cycle(
     Ok((group, values))
 }
 
-/// The group and the values, where all the items stand behind a name and its `:`.
+/// The group and the values, where all the items follow a name and its `:`.
 fn read_named(
     alloc: Global,
     name: Expression,

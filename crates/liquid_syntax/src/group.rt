@@ -52,7 +52,7 @@ pub fn values_group(alloc: Global, values: &[Expression]) -> Result<String, Allo
     }
 }
 
-/// Writes a value behind others, with a `-` before it.
+/// Writes a value after others, with a `-` before it.
 fn write_further(group: &mut String, value: &Expression) -> Result<(), AllocError>
     ensures { OnOk result (string_bytes group.new ≡ string_bytes group.old ++
         (codes "-" ++ written_form (expression_view value.now))) }

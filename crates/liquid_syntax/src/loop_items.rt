@@ -19,7 +19,7 @@ use liquid_lexer::{
 };
 use std::collections::VecDeque;
 
-/// Which parts may stand behind a loop's source.
+/// Which parts may follow a loop's source.
 #[derive(Clone, Copy, Debug, PartialEq, Eq)]
 pub enum LoopKind {
     /// Those of `for`: `limit`, `offset` and `reversed`.
@@ -28,7 +28,7 @@ pub enum LoopKind {
     Rows,
 }
 
-/// A part behind a loop's source.
+/// A part after a loop's source.
 #[derive(Drop)]
 pub enum LoopPart {
     Limit(Expression),
@@ -62,7 +62,7 @@ pub(crate) fn next_source(items: &mut VecDeque<Item<'_>>) -> Option<RangeExpress
     }
 }
 
-/// Takes a `:` and the value behind it off the front, if they stand there.
+/// Takes a `:` and the value after it off the front, if they stand there.
 fn behind_colon(items: &mut VecDeque<Item<'_>>) -> Option<Expression>
     ensures value { (make : Meant → Part) →
         option_map (λ x. (make (expression_view x), tokens_view items.new.items)) result ≡
@@ -75,7 +75,7 @@ fn behind_colon(items: &mut VecDeque<Item<'_>>) -> Option<Expression>
     next_value(items)
 }
 
-/// What may stand behind a loop's source.
+/// What may follow a loop's source.
 fn part_wanted(kind: LoopKind) -> &'static str {
     match kind {
         LoopKind::Each => "`limit: 1`, `offset: 1`, `reversed` or the closer",

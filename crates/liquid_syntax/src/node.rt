@@ -12,7 +12,8 @@ pub struct Binding {
     pub value: Expression,
 }
 
-/// Drops the fields. By hand, so that a way out of a function that owns one is one call to prove.
+/// Drops the fields. Written by hand, so that each early return drops the value by one call to
+/// prove.
 impl Drop for Binding {
     fn drop(self) {
         let Binding { name: _, value: _ } = self;

@@ -16,12 +16,12 @@ use std::collections::VecDeque;
 /// How the pairs of a tag are written.
 #[derive(Clone, Copy, Debug, PartialEq, Eq)]
 pub enum PairStyle {
-    /// `, name: value`, as behind the first pair of an `include`. One item of any kind may stand
-    /// behind the last of them.
+    /// `, name: value`, as after the first pair of an `include`. One item of any kind may stand
+    /// after the last of them.
     Include,
     /// `name=value`, as in Jekyll's `include`.
     JekyllInclude,
-    /// `, name: value`, as in a `render`. One more `,` may stand behind the last of them.
+    /// `, name: value`, as in a `render`. One more `,` may follow the last of them.
     Render,
 }
 
@@ -94,7 +94,7 @@ fn ends_pairs(items: &VecDeque<Item<'_>>, style: PairStyle) -> bool
     }
 }
 
-/// The pairs that all the items are, behind those that stand before them.
+/// The pairs that all the items are, after those that stand before them.
 pub(crate) fn read_pairs(
     first: Vec<Binding>,
     items: VecDeque<Item<'_>>,

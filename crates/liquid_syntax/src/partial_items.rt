@@ -54,7 +54,7 @@ pub(crate) fn read_include(
     }
 }
 
-/// `w: v, w: v`, behind the name of an `include`: no pairs, or a first one and those behind it.
+/// `w: v, w: v`, after the name of an `include`: no pairs, or a first one and those after it.
 fn read_included_pairs(
     alloc: Global,
     items: VecDeque<Item<'_>>,
@@ -76,7 +76,7 @@ fn read_included_pairs(
     read_pairs(first, items, PairStyle::Include, at)
 }
 
-/// What stands behind the name of a `render`: what it runs for each item of, if `for` stands there,
+/// What follows the name of a `render`: what it runs for each item of, if `for` stands there,
 /// and its pairs.
 #[derive(Drop)]
 struct Rendered {
@@ -84,7 +84,7 @@ struct Rendered {
     pairs: Vec<Binding>,
 }
 
-/// `name w: v`, with `with v as w` or `for R as w` behind the name: the node of a `render`.
+/// `name w: v`, with `with v as w` or `for R as w` after the name: the node of a `render`.
 pub(crate) fn read_render(
     alloc: Global,
     items: VecDeque<Item<'_>>,
@@ -109,7 +109,7 @@ pub(crate) fn read_render(
     }
 }
 
-/// The node of a `render` of this name, by what stands behind the name.
+/// The node of a `render` of this name, by what follows the name.
 fn render_node(name: Expression, rendered: Rendered) -> Node
     ensures { flat_of result ≡ leaf (render_node (expression_view name, rendered_view rendered)) }
 {
@@ -120,7 +120,7 @@ fn render_node(name: Expression, rendered: Rendered) -> Node
     }
 }
 
-/// What all the items are, behind the name of a `render`.
+/// What all the items are, after the name of a `render`.
 fn read_rendered(alloc: Global, items: VecDeque<Item<'_>>, at: &str) -> Result<Rendered, ParseError>
     ensures rendered { Parses rendered_view result (rendered_of (tokens_view items.entry.items)) }
     ensures kind { FaultsAs FaultKind.Expected result }
@@ -137,7 +137,7 @@ fn read_rendered(alloc: Global, items: VecDeque<Item<'_>>, at: &str) -> Result<R
     Ok(Rendered { each: None, pairs })
 }
 
-/// `v as w, w: v`, behind `with`: a `render` that runs once.
+/// `v as w, w: v`, after `with`: a `render` that runs once.
 fn read_rendered_with(
     alloc: Global,
     items: VecDeque<Item<'_>>,
@@ -156,7 +156,7 @@ fn read_rendered_with(
     Ok(Rendered { each: None, pairs })
 }
 
-/// `R as w, w: v`, behind `for`: a `render` that runs for each item.
+/// `R as w, w: v`, after `for`: a `render` that runs for each item.
 fn read_rendered_each(
     alloc: Global,
     items: VecDeque<Item<'_>>,
@@ -182,7 +182,7 @@ fn read_rendered_each(
     }
 }
 
-/// Takes what stands behind `for` off the front, if it stands there: a source, `as` and the name of
+/// Takes what follows `for` off the front, if it stands there: a source, `as` and the name of
 /// an item.
 fn next_each(items: &mut VecDeque<Item<'_>>) -> Option<Each>
     ensures { option_map (λ e. (each_view e, tokens_view items.new.items)) result ≡
@@ -196,7 +196,7 @@ fn next_each(items: &mut VecDeque<Item<'_>>) -> Option<Each>
     Some(Each { source, variable })
 }
 
-/// Takes the pair behind `with` off the front, if it stands there: a value, `as` and its name.
+/// Takes the pair after `with` off the front, if it stands there: a value, `as` and its name.
 fn next_with(items: &mut VecDeque<Item<'_>>) -> Option<Binding>
     ensures { option_map (λ p. (binding_view p, tokens_view items.new.items)) result ≡
         with_first (tokens_view items.old.items) }

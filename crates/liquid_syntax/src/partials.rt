@@ -102,7 +102,7 @@ impl Partials {
         }
     }
 
-    /// The names that the templates mention, told to a visitor. The answer is whether it ended the
+    /// The names that the templates mention, given to a visitor. The answer is whether it ended the
     /// telling.
     pub(crate) fn visit_names<V: NameVisitor>(&self, visitor: &mut V) -> bool
         ensures { V.tells visitor.old (partials_list_names (values_of self.now.templates.entries))

@@ -1,4 +1,4 @@
-//! Where the nodes of a template begin in its source, which a fault of a run tells.
+//! Where the nodes of a template begin in its source, which a fault of a run reports.
 use std::alloc::{AllocError, Global};
 
 /// A place in a source: its line and its column, in characters and each from 1. A mark of the byte

@@ -21,7 +21,8 @@ pub struct Template {
         (ends_of_nodes nodes.items) },
 }
 
-/// Drops the fields. By hand, so that a way out of a function that owns one is one call to prove.
+/// Drops the fields. Written by hand, so that each early return drops the value by one call to
+/// prove.
 impl Drop for Template {
     fn drop(self) {
         let Template {

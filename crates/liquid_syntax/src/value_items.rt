@@ -16,7 +16,7 @@ use std::collections::VecDeque;
 /// What stands between the values of a tag.
 #[derive(Clone, Copy, Debug, PartialEq, Eq)]
 pub enum Separators {
-    /// A `,`, and one of them may stand behind the last value.
+    /// A `,`, and one of them may follow the last value.
     Commas,
     /// A `,` or the word `or`.
     CommasOr,
@@ -32,7 +32,7 @@ fn skip_separator(items: &mut VecDeque<Item<'_>>, separators: Separators) -> boo
     }
 }
 
-/// Takes a separator and the value behind it off the front, if they stand there.
+/// Takes a separator and the value after it off the front, if they stand there.
 fn next_further(items: &mut VecDeque<Item<'_>>, separators: Separators) -> Option<Expression>
     ensures value { option_map (λ x. (expression_view x, tokens_view items.new.items)) result ≡
         further_first separators (tokens_view items.old.items) }
@@ -65,7 +65,7 @@ fn ends_values(items: &VecDeque<Item<'_>>, separators: Separators) -> bool
     }
 }
 
-/// What is wanted behind a value.
+/// What is wanted after a value.
 fn further_wanted(separators: Separators) -> &'static str {
     match separators {
         Separators::Commas => "`,` and a value",
@@ -92,7 +92,7 @@ pub fn read_values(
     read_further(alloc, first, items, separators, at)
 }
 
-/// The first value, and those that all the items are behind it, each with a separator before it.
+/// The first value, and those that all the items are after it, each with a separator before it.
 pub fn read_further(
     alloc: Global,
     first: Expression,

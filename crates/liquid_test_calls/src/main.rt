@@ -35,7 +35,7 @@
 //!     `Range::NAME`, `Window::NAME` and
 //!   `Cycle::NAME`.
 //!
-//! With a word each call stands between marks, for `tests/refusals/run`, and how it ended behind
+//! With a word each call stands between marks, for `tests/refusals/run`, and how it ended after
 //! them. Where there is a row of a filter, each standard filter without one is told at the end.
 //!
 //! What rows of `date` and `date_in_tz` print was written by another program, `date` of the GNU

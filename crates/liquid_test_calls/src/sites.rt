@@ -1,4 +1,4 @@
-//! Sites: one change after another, and what the site shows behind each.
+//! Sites: one change after another, and what the site shows after each.
 use liquid_core::{ErrorKind, Object, Result, Value, look_up};
 use liquid_lib::{Page, language};
 use liquid_site::{Change, Site};
@@ -6,7 +6,7 @@ use liquid_test_refusals::{Row, Told, items, kind_of, member, name_of, optional,
 use std::alloc::Global;
 
 /// Applies the changes of the row. Each is a list: the change, its name, its source or its value,
-/// the kind of its fault or an empty text, what the site shows behind it, and words by which
+/// the kind of its fault or an empty text, what the site shows after it, and words by which
 /// `tests/refusals/run` tells changes that make other requests.
 pub(crate) fn site_made<R: Print>(told: &Told<'_, R>, row: &Row) -> Result<()> {
     let mut site = Site::new(told.alloc, language(told.alloc)?, 32);
@@ -22,7 +22,7 @@ fn applied_in_turn<R: Print>(told: &Told<'_, R>, site: &mut Site, steps: &[Value
     Ok(())
 }
 
-/// Applies a change. Where memory was refused, the site is as it was behind the step before, and
+/// Applies a change. Where memory was refused, the site is as it was after the step before, and
 /// takes the change when it comes again.
 fn applied<R: Print>(
     told: &Told<'_, R>,
@@ -63,7 +63,7 @@ fn tell_end<R: Print>(told: &Told<'_, R>, step: &Value, end: &str) -> Result<()>
     Ok(())
 }
 
-/// Tells the step where the site shows other pages behind it.
+/// Tells the step where the site shows other pages after it.
 fn tell_pages<R: Print>(told: &Told<'_, R>, site: &Site, step: &Value) -> Result<()> {
     if !shows(site, Some(step)) {
         let at = named(told.alloc, step)?;

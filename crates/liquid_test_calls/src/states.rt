@@ -21,7 +21,7 @@ pub(crate) fn made_in_turn<R: Print>(
     Ok(())
 }
 
-/// Makes the call of the step. One that was refused memory is made again, so that those behind it
+/// Makes the call of the step. One that was refused memory is made again, so that those after it
 /// find what it does.
 fn step_made<'d, R: Print>(told: &Told<'_, R>, state: &mut State<'d>, step: &'d Value) {
     told.begin();

@@ -9,7 +9,7 @@ use liquid_syntax::{FilterCall, apply_filters};
 use liquid_test_refusals::{Row, Told, items, items_member, member, text_member};
 use std::alloc::Global;
 
-/// The calls of the row, or its page, with the filters of a host: `shout`, which puts a `!` behind
+/// The calls of the row, or its page, with the filters of a host: `shout`, which puts a `!` after
 /// (an earlier one of that name puts a `0`), `upcase`, which puts a `?`, and `bad`.
 pub(crate) fn hosted<R: Print>(told: &Told<'_, R>, row: &Row) -> Result<()> {
     let alloc = told.alloc;

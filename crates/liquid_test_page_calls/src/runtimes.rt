@@ -10,7 +10,7 @@ use std::alloc::Global;
 
 /// Makes the calls of the row, one after another, on the same runtime. Each is a list: its name, a
 /// name or a path of the runtime, a value, and what it answers, which is the kind of its fault as a
-/// text where it ends by one. A call that was refused memory is made again, so that those behind it
+/// text where it ends by one. A call that was refused memory is made again, so that those after it
 /// find what it does.
 pub(crate) fn runtime_made<R: Print>(told: &Told<'_, R>, row: &Row, data: Object) -> Result<()> {
     let partials = Partials::new(told.alloc);

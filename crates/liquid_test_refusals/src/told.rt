@@ -16,7 +16,7 @@ pub struct Told<'r, R> {
 }
 
 impl<R: Print> Told<'_, R> {
-    /// The first mark, behind which requests for memory count.
+    /// The first mark, after which requests for memory count.
     pub fn begin(&self) {
         if self.marked {
             let _ = println!(self.rt; "@refuse");
@@ -59,7 +59,7 @@ impl<R: Print> Told<'_, R> {
         );
     }
 
-    /// How a call ended: behind the second mark, or without marks only where it isn't as wanted.
+    /// How a call ended: after the second mark, or without marks only where it isn't as wanted.
     pub fn ended(&self, call: &str, at: &str, end: &str) {
         if self.marked {
             self.tell_end(call, at, end);

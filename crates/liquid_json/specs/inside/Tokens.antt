@@ -29,7 +29,7 @@ abbrev mutual
   pairs_of (json.member k j ms) found = option_and_then (λ d. pairs_of ms (put k d found))
       (datum_of j)
 
--- what stands at the front of the tokens, and the tokens behind it
+-- what stands at the front of the tokens, and the tokens after it
 abbrev pub datum_at : ℕ → List Token → Option (Datum × List Token)
 datum_at depth ts = converted datum_of (json.value depth ts)
 

@@ -17,9 +17,9 @@ struct Call<'s> {
     /// The source from its name on.
     from: &'s str,
     arguments: usize,
-    /// Whether a `:` stands behind its name.
+    /// Whether a `:` follows its name.
     has_colon: bool,
-    /// Whether a `:` stands behind an argument.
+    /// Whether a `:` follows an argument.
     names_arguments: bool,
 }
 
@@ -186,7 +186,7 @@ fn refused<'s>(
     None
 }
 
-/// The filters of a chain, in order. The values behind a name count as its arguments, also where
+/// The filters of a chain, in order. The values after a name count as its arguments, also where
 /// the `:` is missing, up to the value of an argument with a name.
 fn calls<'s>(alloc: Global, items: &[PlacedItem<'s>]) -> Result<Vec<Call<'s>>, AllocError> {
     let mut calls = Vec::new(alloc);

@@ -9,7 +9,7 @@ use std::alloc::{AllocError, Global};
 pub struct Otherwise<'s> {
     /// The source from it on.
     pub from: &'s str,
-    /// Whether items stand behind its name.
+    /// Whether items follow its name.
     pub has_items: bool,
 }
 

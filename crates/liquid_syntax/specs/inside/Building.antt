@@ -128,7 +128,7 @@ IsAdded vs x y = (t : Expression) (vss : List (List Expression)) (es : List ℕ)
 
 -- ---- the nodes and the open blocks
 
--- what a `case` makes of further `when` parts behind those with these values and bodies, and of its
+-- what a `case` makes of further `when` parts after those with these values and bodies, and of its
 -- else list
 abbrev pub behind_arms : (tree.Whens → Nodes → Node) → List (List Expression) → List Nodes →
     tree.Whens → Nodes → Node

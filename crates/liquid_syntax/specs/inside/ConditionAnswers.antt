@@ -18,7 +18,7 @@ abbrev pub operator_before : List Token → Option ComparisonOperator →
     Option (ComparisonOperator × List Token)
 operator_before ts o = option_map (λ operator. (operator, ts)) o
 
--- the operator at the front, and what stands behind it
+-- the operator at the front, and what follows it
 abbrev pub operator_first : List Token → Option (ComparisonOperator × List Token)
 operator_first [] = None
 operator_first (t ∷ ts) = operator_before ts (operator_of t)
@@ -35,7 +35,7 @@ abbrev pub TakesAtom : List Token → List Token → Result Atom ParseError → 
 TakesAtom old new (Ok atom) = condition_of old ≡ behind_atom new (atom_view atom)
 TakesAtom old new (Err e) = Fails e (condition_of old)
 
--- a conjunction before those that stand behind it
+-- a conjunction before those that follow it
 abbrev pub before_alternatives : List tree.Atom → Option tree.Condition → Option tree.Condition
 before_alternatives atoms o = option_map (λ conjunctions. atoms ∷ conjunctions) o
 

@@ -2,7 +2,7 @@
 use liquid_lib::{Filter, HostFilters, Renderable, Result, RuntimeBuilder, Value, language, parse};
 use std::alloc::Global;
 
-/// The input's text with a unit behind it.
+/// The input's text with a unit after it.
 #[derive(Drop)]
 struct WithUnit {
     unit: &'static str,

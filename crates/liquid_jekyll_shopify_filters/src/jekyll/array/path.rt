@@ -53,7 +53,7 @@ fn read_step(alloc: Global, text: &str) -> Result<Option<(Value, &str)>>
     }
 }
 
-/// The word behind a `.`.
+/// The word after a `.`.
 #[tactic(auto, unfolding(crate::specs::Path::member_at))]
 fn read_member(alloc: Global, text: &str) -> Result<Option<(Value, &str)>>
     ensures { IsValueOrMemory step_view result (member_at text.now) }
@@ -64,7 +64,7 @@ fn read_member(alloc: Global, text: &str) -> Result<Option<(Value, &str)>>
     }
 }
 
-/// The literal behind a `[`, up to its `]`.
+/// The literal after a `[`, up to its `]`.
 #[tactic(auto, unfolding(crate::specs::Path::bracketed_at))]
 fn read_bracketed(alloc: Global, text: &str) -> Result<Option<(Value, &str)>>
     ensures { IsValueOrMemory step_view result (bracketed_at text.now) }

@@ -114,7 +114,7 @@ fn escaped_once(alloc: Global, text: &str) -> Result<String>
     Ok(out)
 }
 
-/// The text before the first byte that has an escape, that byte, and the text behind it. Texts with
+/// The text before the first byte that has an escape, that byte, and the text after it. Texts with
 /// few marks and texts of little else both cost a few instructions for each byte.
 fn split_at_mark(text: &str) -> Option<(&str, u8, &str)>
     ensures none { IfNone result (All (λ b. escape_of b ≡ None) text.now) }
