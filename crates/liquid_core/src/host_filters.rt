@@ -101,7 +101,8 @@ pub trait NamedFilters {
 
 /// As `call` answers.
 impl NamedFilters for HostFilters {
-    ghost named = { λ host name. host_answer (λ b. (Filter-box b).counts b.value) (λ b. (Filter-box b).answer b.value) (last_named name host.filters.items) };
+    ghost named = { λ host name. host_answer (λ b. (Filter-box b).counts b.value)
+        (λ b. (Filter-box b).answer b.value) (last_named name host.filters.items) };
 
     fn call_named(
         &self,
@@ -116,7 +117,8 @@ impl NamedFilters for HostFilters {
 
 /// `Unsupported` where there are none.
 impl<H: NamedFilters> NamedFilters for Option<&H> {
-    ghost named = { λ filters name. option_map_or (λ h. H.named h.now name) filters (λ _ _. Err Unsupported) };
+    ghost named = { λ filters name.
+        option_map_or (λ h. H.named h.now name) filters (λ _ _. Err Unsupported) };
 
     fn call_named(
         &self,

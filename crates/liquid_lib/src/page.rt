@@ -1,5 +1,5 @@
 //! Pages: what a template shows in a run of its own, with how that run ended.
-ghost use Rattle.std.specs.Prelude.{◌≡◌, [], false, IfErr, IfOk, string_bytes};
+ghost use Rattle.std.specs.Prelude.{◌≡◌, [], false, IfErr, IfOk, option_map, string_bytes};
 ghost use Rattle.liquid_model.specs.Answer.{IsValueOrMemory};
 ghost use Rattle.liquid_model.specs.ErrorKinds.{is_memory};
 ghost use Rattle.liquid_core.specs.Held.{held};
@@ -24,6 +24,18 @@ pub struct Page {
     pub text: String,
     /// The fault that the run ended by, where there is one.
     pub fault: Option<Error>,
+}
+
+impl Page {
+    /// The kind of the fault that the run ended by, where there is one. It takes no memory.
+    pub fn kind(&self) -> Option<ErrorKind>
+        ensures kind { result ≡ option_map (λ fault. fault.kind) self.now.fault }
+    {
+        match &self.fault {
+            Some(fault) => Some(fault.kind),
+            None => None,
+        }
+    }
 }
 
 /// The page of a template in a new run over this data, without filters of a host. The data is lent,

@@ -102,7 +102,9 @@ pub trait Renderable {
             Answers (λ t. string_bytes t) result (ended_with o.text o.end) }
         ensures changed { let N = names_in runtime.old (nodes self.now) in
             let e = environment_in runtime.old in
-            is_refused result ≡ false → changes e (environment_in runtime.new) ≡ changes (cut N e) (run_in counts answer runtime.old (nodes self.now) (cut N e)).environment }
+            is_refused result ≡ false → changes e (environment_in runtime.new) ≡
+            changes (cut N e)
+            (run_in counts answer runtime.old (nodes self.now) (cut N e)).environment }
 
         // after every answer
         ensures kept { LayersKept (names_in runtime.old (nodes self.now)) (layers_in runtime.old)

@@ -59,7 +59,8 @@ kind_needs (Concat f) arguments v = items_each (items_wanted v)
 kind_needs (Map f) arguments v =
     by_property (named_by arguments)
     (λ name. items_each (one_field name (present (items_wanted v))))
-kind_needs (Where f) arguments v = by_property (named_by arguments) (λ name. items_or_itself (with_field name everything (items_wanted v)))
+kind_needs (Where f) arguments v = by_property (named_by arguments)
+    (λ name. items_or_itself (with_field name everything (items_wanted v)))
 kind_needs (Sort f) arguments v =
     by_property (named_by arguments)
     (λ name. items_or_itself (with_field name everything (items_wanted v)))

@@ -50,7 +50,8 @@ unfoldable mutual
   -- other step everything
   pub grants_along : Uses → Use → Steps → Use → Bool
   grants_along U u no_steps v = includes u v
-  grants_along U u (step x more) v = by_key (key x) (λ k. grants_along U (use_at k u) more v) (is_everything u && (grants U x everything && grants_along U everything more v))
+  grants_along U u (step x more) v = by_key (key x) (λ k. grants_along U (use_at k u) more v)
+      (is_everything u && (grants U x everything && grants_along U everything more v))
 
 unfoldable pub grants_all : Uses → List Expression → Bool
 grants_all U [] = true
@@ -82,7 +83,8 @@ grants_chain needs U v chain = grants U chain.entry (use_before needs chain.filt
 -- the truth of a value is seen by its kind
 unfoldable pub grants_atom : Uses → Atom → Bool
 grants_atom U (bare x) = grants U x there
-grants_atom U (compared left comparison right) = grants U left everything && grants U right everything
+grants_atom U (compared left comparison right) =
+    grants U left everything && grants U right everything
 
 unfoldable pub grants_atoms : Uses → List Atom → Bool
 grants_atoms U [] = true

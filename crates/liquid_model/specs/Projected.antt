@@ -74,7 +74,8 @@ abbrev mutual
   -- counts alone
   pub projected_pairs : (Text → Use) → Bool → Pairs → Pairs
   projected_pairs W keep no_pairs = no_pairs
-  projected_pairs W keep (pair key d ps) = cond (asks_whether (W key) || keep) (pair key (projected (W key) d) (projected_pairs W keep ps)) (projected_pairs W keep ps)
+  projected_pairs W keep (pair key d ps) = cond (asks_whether (W key) || keep)
+      (pair key (projected (W key) d) (projected_pairs W keep ps)) (projected_pairs W keep ps)
 
 -- a value is alike with what is left of it
 abbrev pub ProjectedAlike : Type 0

@@ -49,7 +49,8 @@ impl fmt::Display for Outcome {
 
 /// How a call ended whose page was written, or ended by a fault.
 impl From<Result<()>> for Outcome {
-    ghost from_gives = { λ answer outcome. MatchResult answer (λ _. outcome ≡ Done) (λ fault. outcome ≡ Fault fault) };
+    ghost from_gives = { λ answer outcome.
+        MatchResult answer (λ _. outcome ≡ Done) (λ fault. outcome ≡ Fault fault) };
 
     fn from(answer: Result<()>) -> Outcome {
         match answer {

@@ -26,7 +26,9 @@ pub struct Site {
     facts: Object,
     pages: BTreeMap<String, Page>,
     rendered: u64,
-    ghost kept: { pages_in pages ≡ pages_from_scratch (contents_in depth templates partials facts) } by { Pages-prop (pages_in pages) (pages_from_scratch (contents_in depth templates partials facts)) },
+    ghost kept: { pages_in pages ≡ pages_from_scratch
+        (contents_in depth templates partials facts) } by { Pages-prop (pages_in pages)
+            (pages_from_scratch (contents_in depth templates partials facts)) },
 }
 
 /// Drops the fields. Written by hand, so that each early return drops the value by one call to

@@ -11,14 +11,16 @@ use Rattle.liquid_language.specs.declared.block.BlockContext.TheVariants.{InBody
 pub data Opening : Type 0 where
   of_one : Block → (Nodes → Node) → Opening  -- one body
   of_two : Block → (Nodes → Nodes → Node) → Opening  -- a body, and an else list that may be missing
-  of_many : Block → (Whens → Nodes → Node) → Opening  -- `when` parts, and an else list that may be missing
+  -- `when` parts, and an else list that may be missing
+  of_many : Block → (Whens → Nodes → Node) → Opening
 
 -- what a piece is, where it stands
 pub data Statement : Type 0 where
   leaf : Node → Statement  -- a node without bodies
   closed : Node → Statement  -- a block whose body isn't read, as a whole
   begins : Opening → Statement  -- the start of a block
-  elsif : (Nodes → Nodes → Node) → Statement  -- `elsif`, and the node that it makes of its body and its else list
+  -- `elsif`, and the node that it makes of its body and its else list
+  elsif : (Nodes → Nodes → Node) → Statement
   arm : List Expression → Statement  -- `when`, with its values
   otherwise : Statement  -- `else`
   ends : Statement  -- the end of a block

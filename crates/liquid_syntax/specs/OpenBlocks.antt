@@ -21,8 +21,10 @@ with_node f n = append f (node n no_nodes)
 pub data Reading : Type 0 where
   last : Block → (Nodes → Node) → Reading  -- the last body
   first : Block → (Nodes → Nodes → Node) → Reading  -- a first body, before the else list
-  unkept : Block → (Whens → Nodes → Node) → Reading  -- what stands before the first `when` or `else`
-  armed : Block → (Nodes → Whens → Nodes → Node) → Reading  -- the body of a `when`, before further ones and the else list
+  -- what stands before the first `when` or `else`
+  unkept : Block → (Whens → Nodes → Node) → Reading
+  -- the body of a `when`, before further ones and the else list
+  armed : Block → (Nodes → Whens → Nodes → Node) → Reading
 
 abbrev pub begun : Opening → Reading
 begun (of_one b make) = last b make

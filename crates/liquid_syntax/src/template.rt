@@ -17,7 +17,8 @@ pub struct Template {
     /// Where each node begins in the source, for the faults of runs. The meaning of a template
     /// doesn't depend on it.
     pub(crate) positions: Vec<Position>,
-    ghost nested: { AreNested (ends_of_nodes nodes.items) } by { AreNested-prop (ends_of_nodes nodes.items) },
+    ghost nested: { AreNested (ends_of_nodes nodes.items) } by { AreNested-prop
+        (ends_of_nodes nodes.items) },
 }
 
 /// Drops the fields. Written by hand, so that each early return drops the value by one call to

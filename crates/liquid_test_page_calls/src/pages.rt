@@ -281,8 +281,5 @@ fn shown_ending(row: &Row, page: &Page) -> &'static str {
     if page.text.as_str() != page_of(row) {
         return "another_page";
     }
-    match &page.fault {
-        Some(fault) => kind_ending(row, Some(fault.kind)),
-        None => kind_ending(row, None),
-    }
+    kind_ending(row, page.kind())
 }
