@@ -238,7 +238,8 @@ fn inputs_of<'w>(
         data,
         partials,
     };
-    if inputs.takes_twice_from_standard_input(records == Some("-")) {
+    let others = (records == Some("-")) as usize;
+    if inputs.from_standard_input().saturating_add(others) > 1 {
         return Err(Stop::Usage("standard input can be read only once: name - once"));
     }
     Ok(inputs)
@@ -259,23 +260,15 @@ fn data_file<'w>(word: &'w str) -> DataFile<'w> {
 }
 
 impl Inputs<'_> {
-    /// Whether more than one of the files is standard input, where another one may be.
-    fn takes_twice_from_standard_input(&self, is_taken: bool) -> bool {
-        let mut is_taken = is_taken;
-        if self.template == "-" {
-            if is_taken {
-                return true;
-            }
-            is_taken = true;
-        }
+    /// How many of the files are standard input.
+    fn from_standard_input(&self) -> usize {
+        let mut count = (self.template == "-") as usize;
         for file in &self.data {
-            if file.path == "-" {
-                if is_taken {
-                    return true;
-                }
-                is_taken = true;
-            }
+            count = count.saturating_add((file.path == "-") as usize);
         }
-        false
+        for word in &self.partials {
+            count = count.saturating_add(word.ends_with("=-") as usize);
+        }
+        count
     }
 }

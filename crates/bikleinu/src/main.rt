@@ -8,6 +8,7 @@ mod input;
 mod merge;
 mod output;
 mod progress;
+mod records;
 mod render;
 mod report;
 mod sources;

@@ -2,14 +2,14 @@
 use crate::command::MergeCall;
 use crate::input::called;
 use crate::progress::Progress;
+use crate::records::Records;
 use crate::report::Report;
 use crate::sources::{Parts, Sources, read_parts, read_pattern};
 use crate::stop::Stop;
 use crate::target::Target;
 use liquid_excerpts::Reason;
 use liquid_records::{Job, Merge};
-use std::alloc::AllocError;
-use std::io::{BufRead, BufReader, Read};
+use std::io::Read;
 use std::{fs, io};
 
 /// How deep partials may be nested.
@@ -58,35 +58,32 @@ struct Run<'r> {
 impl Run<'_> {
     /// Merges the records that a reader gives, and prints how many pages there are and how many
     /// records failed.
-    fn all<'r, R: Read + Drop>(&self, target: Target<'r>, reader: R) -> Result<(), Stop> {
-        let mut reader = match BufReader::new(self.rt.alloc(), reader) {
-            Ok(reader) => reader,
-            Err(_) => return Err(Stop::from(AllocError)),
-        };
+    fn all<R: Read + Drop>(&self, target: Target<'_>, reader: R) -> Result<(), Stop> {
+        let mut records = Records::new(self.rt.alloc(), reader)?;
         let mut target = target;
-        let mut line = Vec::new(self.rt.alloc());
         let mut progress = Progress::new(self.rt, self.call.progress);
-        let mut number: u64 = 0;
         for _ in 0..u64::MAX {
-            line.clear();
-            match reader.read_until(b'\n', &mut line) {
-                Ok(0) => break,
-                Ok(_) => {}
-                Err(refused) => return Err(self.unread(refused.kind())),
-            }
-            if line.as_slice().trim_ascii().is_empty() {
-                continue;
-            }
-            number = number.saturating_add(1);
-            if number < self.call.from {
-                continue;
-            }
-            if number.saturating_sub(self.call.from) >= self.call.count {
+            if !self.advance(&mut records)? {
                 break;
             }
-            target = self.one(target, number, line.as_slice(), &mut progress)?;
+            target = self.one(target, records.number(), records.line(), &mut progress)?;
         }
         progress.end(self.rt)
+    }
+
+    /// Reads the next record that is asked for. Whether there is one.
+    fn advance<R: Read + Drop>(&self, records: &mut Records<R>) -> Result<bool, Stop> {
+        for _ in 0..u64::MAX {
+            match records.advance() {
+                Ok(true) => {}
+                Ok(false) => return Ok(false),
+                Err(refused) => return Err(self.unread(refused.kind())),
+            }
+            if let Some(before) = records.number().checked_sub(self.call.from) {
+                return Ok(before < self.call.count);
+            }
+        }
+        Ok(false)
     }
 
     /// Merges one record.
@@ -102,7 +99,7 @@ impl Run<'_> {
             progress.failed(self.rt);
             return Ok(target);
         };
-        let (target, outcome) = target.take(self.rt, self.call, number, text)?;
+        let (target, outcome) = target.take(self.rt, self.call.separator, number as usize, text)?;
         match outcome {
             Ok(()) => progress.done(self.rt),
             Err(report) => {

@@ -1,10 +1,12 @@
 //! Where the pages of a merge go.
-use crate::command::MergeCall;
 use crate::files::{Files, Nowhere};
 use crate::output::print_text;
 use crate::report::Report;
 use crate::stop::Stop;
-use liquid_records::{Job, Made, Merge};
+use liquid_records::{Fate, Job, Made, Merge, Outcome};
+
+/// Whether a record's page is there, or why not.
+pub type Taken = Result<(), Report>;
 
 /// Where the pages of a merge go.
 #[derive(Drop)]
@@ -31,45 +33,57 @@ impl<'r> Target<'r> {
     pub fn take(
         self,
         rt: &HostRuntime,
-        call: &MergeCall<'_>,
-        number: u64,
+        separator: &str,
+        number: usize,
         text: &str,
-    ) -> Result<(Target<'r>, Result<(), Report>), Stop> {
-        let number = number as usize;
+    ) -> Result<(Target<'r>, Taken), Stop> {
         match self {
             Target::Files(merge, files) => {
                 let mut files = files;
                 let (merge, fate) = merge.take_json(rt.alloc(), number, text, &mut files)?;
-                let outcome = match fate {
-                    Ok(_) => Ok(()),
-                    Err(failure) => Err(Report::NoFile(failure, files.reason())),
-                };
-                Ok((Target::Files(merge, files), outcome))
+                let taken = written(fate, &files);
+                Ok((Target::Files(merge, files), taken))
             }
             Target::Names(merge) => {
                 let (merge, fate) = merge.take_json(rt.alloc(), number, text, &mut Nowhere)?;
-                let outcome = match fate {
-                    Ok(name) => {
-                        print_text(rt, name.as_str())?;
-                        print_text(rt, "\n")?;
-                        Ok(())
-                    }
-                    Err(failure) => Err(Report::NoFile(failure, None)),
-                };
-                Ok((Target::Names(merge), outcome))
+                Ok((Target::Names(merge), named(rt, fate)?))
             }
             Target::Output(job) => {
                 let (job, outcome) = job.made_of_json(rt.alloc(), text, None)?;
-                let outcome = match outcome {
-                    Ok(Made { name: _, text }) => {
-                        print_text(rt, text.as_str())?;
-                        print_text(rt, call.separator)?;
-                        Ok(())
-                    }
-                    Err(why) => Err(Report::NoPage(why)),
-                };
-                Ok((Target::Output(job), outcome))
+                Ok((Target::Output(job), printed(rt, separator, outcome)?))
             }
         }
+    }
+}
+
+/// A record whose page was to go into a file.
+fn written(fate: Fate, files: &Files<'_>) -> Taken {
+    match fate {
+        Ok(_) => Ok(()),
+        Err(failure) => Err(Report::NoFile(failure, files.reason())),
+    }
+}
+
+/// A record whose file's name is printed.
+fn named(rt: &HostRuntime, fate: Fate) -> Result<Taken, Stop> {
+    match fate {
+        Ok(name) => {
+            print_text(rt, name.as_str())?;
+            print_text(rt, "\n")?;
+            Ok(Ok(()))
+        }
+        Err(failure) => Ok(Err(Report::NoFile(failure, None))),
+    }
+}
+
+/// A record whose page is printed.
+fn printed(rt: &HostRuntime, separator: &str, outcome: Outcome<Made>) -> Result<Taken, Stop> {
+    match outcome {
+        Ok(Made { name: _, text }) => {
+            print_text(rt, text.as_str())?;
+            print_text(rt, separator)?;
+            Ok(Ok(()))
+        }
+        Err(why) => Ok(Err(Report::NoPage(why))),
     }
 }
