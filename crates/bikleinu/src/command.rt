@@ -204,7 +204,7 @@ pub fn merge_call<'w>(alloc: Global, given: &ArgMatches<'w>) -> Result<MergeCall
         records,
         out: given.get_str("out"),
         separator: given.get_str("separator").unwrap_or("\n"),
-        from: given.get_one::<u64>("from").unwrap_or(1),
+        from: given.get_one::<u64>("from").unwrap_or(1).max(1),
         count: given.get_one::<u64>("count").unwrap_or(u64::MAX),
         dry_run: given.get_flag("dry-run"),
         progress: given.get_flag("progress"),
