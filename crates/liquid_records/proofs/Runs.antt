@@ -1,5 +1,6 @@
 -- Records that are taken one after another.
-use Rattle.std.specs.Prelude.{◌≡◌, ◌⊎◌, inl, inr, ℕ, ◌||◌, Bool, true, false, cond, List, [], ◌∷◌, ◌++◌, bytes_eq, ⊤, Option, Some, None, IsSome, Result, Ok, Err}
+use Rattle.std.specs.Prelude.{◌≡◌, ◌⊎◌, ℕ, ◌||◌, Bool, true, false, cond, List, [], ◌∷◌, ◌++◌, bytes_eq, ⊤, Option, Some, None, IsSome, Result, Ok, Err}
+use Rattle.std.proofs.Common.{inl, inr}
 use Rattle.std.specs.List.{list_any}
 use Rattle.std.specs.Map.{update}
 use Rattle.std.proofs.lemmas.Slice.Eq.{bytes_eq-Decides}
@@ -25,14 +26,14 @@ own_file files name file = ap (λ b. cond b file (files name)) ((bytes_eq-Decide
 
 own_name : (names : Names) (name : Text) (n : ℕ) → IsSome (insert names name n name)
 unfolding insert
-own_name names name n = subst (λ b. IsSome (cond b (Some n) (names name))) (sym ((bytes_eq-Decides name name).1 refl)) tt
+own_name names name n = subst (λ b. IsSome (cond b (Some n) (names name))) (sym ((bytes_eq-Decides name name).1 refl)) refl
 
 name_stays : (names : Names) (name : Text) (n : ℕ) (q : Text) → IsSome (names q) → IsSome (insert names name n q)
 unfolding insert
 name_stays names name n q s = at (bytes_eq name q)
   where
     at : (b : Bool) → IsSome (cond b (Some n) (names q))
-    at true = tt
+    at true = refl
     at false = s
 
 -- a text that has no value isn't one that has
@@ -40,7 +41,7 @@ apart : (names : Names) (q name : Text) → IsSome (names q) → names name ≡ 
 apart names q name s none = at (bytes_eq q name) refl
   where
     at : (b : Bool) → bytes_eq q name ≡ b → b ≡ false
-    at true e = absurd (subst (λ o. IsSome o) (ap names ((bytes_eq-Decides q name).0 e) ∙ none) s)
+    at true e = sym (subst (λ o. IsSome o) (ap names ((bytes_eq-Decides q name).0 e) ∙ none) s)
     at false e = refl
 
 turned : (a b : Text) → bytes_eq a b ≡ false → bytes_eq b a ≡ false
@@ -50,7 +51,7 @@ turned a b h = at (bytes_eq b a) refl
     at true e = sym ((bytes_eq-Decides a b).1 (sym ((bytes_eq-Decides b a).0 e))) ∙ h
     at false e = refl
 
-file_or : Files → Option Files → Files
+abbrev file_or : Files → Option Files → Files
 file_or none None = none
 file_or none (Some files) = files
 

@@ -61,7 +61,8 @@ impl Job {
         pattern: Option<&Template>,
     ) -> Result<(Job, Outcome<Made>)>
         ensures made { IsValueOrMemory (λ p. outcome_view made_view p.1) result
-            (comes_to (job_view self) (pattern_view pattern) (Ok (pairs_view facts.entries))) }
+            (comes_to (job_view self) (pattern_view pattern.entry)
+            (Ok (pairs_view facts.entries))) }
         ensures same { IfOk result (λ p. job_view p.0 ≡ job_view self) }
     {
         let Job {
@@ -102,7 +103,7 @@ impl Job {
         pattern: Option<&Template>,
     ) -> Result<(Job, Outcome<Made>)>
         ensures made { IsValueOrMemory (λ p. outcome_view made_view p.1) result
-            (comes_to (job_view self) (pattern_view pattern) (data_of text.now)) }
+            (comes_to (job_view self) (pattern_view pattern.entry) (data_of text.now)) }
         ensures same { IfOk result (λ p. job_view p.0 ≡ job_view self) }
     {
         match data_from_json(alloc, text) {
@@ -117,7 +118,7 @@ impl Job {
     /// The name and the page, over the data as it stands.
     fn made_over(&self, alloc: Global, pattern: Option<&Template>) -> Result<Outcome<Made>>
         ensures { IsValueOrMemory (outcome_view made_view) result
-            (made_by (job_view self.now) (pattern_view pattern)) }
+            (made_by (job_view self.now) (pattern_view pattern.entry)) }
     {
         let name = match self.name_over(alloc, pattern)? {
             Ok(name) => name,
@@ -133,7 +134,7 @@ impl Job {
     /// The name of the page's file.
     fn name_over(&self, alloc: Global, pattern: Option<&Template>) -> Result<Outcome<String>>
         ensures { IsValueOrMemory (outcome_view string_bytes) result
-            (name_of (job_view self.now) (pattern_view pattern)) }
+            (name_of (job_view self.now) (pattern_view pattern.entry)) }
     {
         let Some(pattern) = pattern else {
             return Ok(Ok(String::new(alloc)));

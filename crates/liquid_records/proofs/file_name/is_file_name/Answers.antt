@@ -4,4 +4,4 @@ use Rattle.liquid_records.proofs.Dots.{read_behind}
 use Rattle.liquid_records.proofs.file_name.is_file_name.Goals as goal
 
 pub returns : goal.returns
-returns c = c.ends_well.ensures ∙ ap (ends_well true) c.as_bytes.ensures ∙ read_behind [] c.args.name.now
+returns c = c.ends_well.ensures ∙ ap (ends_well true) c.as_bytes.ensures.value ∙ read_behind [] c.args.name.now
