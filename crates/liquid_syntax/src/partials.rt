@@ -90,6 +90,13 @@ impl Partials {
         }
     }
 
+    /// The slots by name, each with its template or none.
+    pub fn slots(&self) -> &BTreeMap<String, Option<Template>>
+        ensures { result.now ≡ self.now.templates }
+    {
+        &self.templates
+    }
+
     /// The names that the templates mention, told to a visitor. The answer is whether it ended the telling.
     pub(crate) fn visit_names<V: NameVisitor>(&self, visitor: &mut V) -> bool
         ensures { V.tells visitor.old (partials_list_names (values_of self.now.templates.entries)) result visitor.new }
