@@ -3,3 +3,4 @@ pub mod Sight
 pub mod Steps
 pub mod TreeGrants
 pub mod WholeNames
+pub mod WrittenLines

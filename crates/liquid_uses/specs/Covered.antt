@@ -16,8 +16,9 @@ use Rattle.liquid_syntax.specs.declared.partials.Partials.{Partials}
 abbrev pub setting_of : FilterAnswers → Partials → Setting
 setting_of answers p = record { answers = answers; partials = partials_of p }
 
--- whatever the filters of a host answer and however deep partials may nest: over environments that are alike in U a run
--- writes the same text and ends alike, and leaves environments that are alike in U again
+-- whatever the filters of a host answer and however deep partials may nest: over environments that
+-- are alike in U a run writes the same text and ends alike, and leaves such environments again
 abbrev pub SeesAlone : Uses → Partials → Nodes → Type 0
 SeesAlone U p nodes = (named : Text → FilterAnswer) (depth : ℕ) (e f : Environment) → AlikeIn U e f
-    → SameRuns U (meaning (setting_of (answers_with named) p) depth nodes e) (meaning (setting_of (answers_with named) p) depth nodes f)
+    → (let setting = setting_of (answers_with named) p in
+    SameRuns U (meaning setting depth nodes e) (meaning setting depth nodes f))

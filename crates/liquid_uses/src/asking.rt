@@ -1,4 +1,5 @@
-//! What each node of a template asks for, told to `Demands`. Nothing here has a contract: what comes of it is tested by `covers`.
+//! What each node of a template asks for, told to `Demands`. Nothing here has a contract: what
+//! comes of it is tested by `covers`.
 
 use crate::demands::{Demands, Wanted};
 use liquid_core::{Expression, Use};
@@ -142,5 +143,11 @@ fn ask_whole_pairs(demands: &mut Demands<'_>, pairs: &[Binding]) -> Asked {
 /// A counter that is asked for is seen by its kind.
 fn ask_counter(demands: &mut Demands<'_>, name: &str) -> Asked {
     let members = BTreeMap::new(demands.alloc);
-    demands.ask_name(name, Use::Parts { members, items: None })
+    demands.ask_name(
+        name,
+        Use::Parts {
+            members,
+            items: None,
+        },
+    )
 }

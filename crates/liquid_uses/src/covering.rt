@@ -12,12 +12,15 @@ use crate::nodes::nodes_granted;
 use liquid_core::Uses;
 use liquid_syntax::{Partials, Template};
 
-/// Whether the uses are seen to ask all that a run of the template over these partials can see. It takes no memory.
+/// Whether the uses ask for all that a run of the template over these partials can see, whatever
+/// the filters of a host answer. It takes no memory.
 ///
-/// Where it holds, they cover the run, whatever the filters of a host answer. Where it doesn't, they may cover it too:
-/// a filter is taken to see all of its input.
+/// Where the answer is false they may ask for it all the same: a filter is taken to see all of its
+/// input, and a step that isn't a literal text all of the value that it is taken from.
 pub fn covers(uses: &Uses, template: &Template, partials: &Partials) -> bool
-    ensures { (answers : FilterAnswers) → result ≡ true → covers known_needs (uses_view uses.now) (setting_of answers partials.now) (tree_of template.now) ≡ true }
+    ensures { (answers : FilterAnswers) → result ≡ true
+        → covers known_needs (uses_view uses.now) (setting_of answers partials.now) (tree_of
+        template.now) ≡ true }
 {
     nodes_granted(uses, template.nodes()) && partials_granted(uses, partials)
 }

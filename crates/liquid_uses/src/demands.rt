@@ -1,5 +1,5 @@
-//! What the nodes of a template ask for, where uses of the round before say what is asked of its names. Nothing here has a
-//! contract: what comes of it is tested by `covers`.
+//! What the nodes of a template ask for, where uses of the round before say what is asked of its
+//! names. Nothing here has a contract: what comes of it is tested by `covers`.
 
 use crate::merge::{copied, joined};
 use liquid_core::{Expression, Use, Uses, Value, Variable, member_of};
@@ -100,12 +100,7 @@ fn present(alloc: Global) -> Use {
 
 /// What is asked of the value that the steps begin at, where this is asked of the one that they
 /// lead to. Past `room` steps that are literal texts it is everything.
-fn led_to(
-    alloc: Global,
-    room: usize,
-    steps: &[Expression],
-    last: Use,
-) -> Result<Use, AllocError> {
+fn led_to(alloc: Global, room: usize, steps: &[Expression], last: Use) -> Result<Use, AllocError> {
     let Some((step, more)) = steps.split_first() else {
         return Ok(last);
     };

@@ -5,7 +5,9 @@ ghost use Rattle.liquid_syntax.specs.Flats.{arm_values, bindings_view, each_view
 ghost use Rattle.liquid_model.specs.Uses.{asks_whether};
 ghost use Rattle.liquid_model.specs.UseViews.{uses_view};
 ghost use Rattle.liquid_meaning.specs.Reading.{grants_all, is_flat};
-ghost use Rattle.liquid_uses.specs.inside.OwnGrants.{arms_granted, each_grants, for_grants, list_grants, own_grants, pairs_grants, row_grants};
+ghost use Rattle.liquid_uses.specs.inside.OwnGrants.{arms_granted, each_grants, for_grants};
+ghost use Rattle.liquid_uses.specs.inside.OwnGrants.{list_grants, own_grants, pairs_grants};
+ghost use Rattle.liquid_uses.specs.inside.OwnGrants.{row_grants};
 
 use crate::grants::{
     all_whole, assigned, bindings_granted, bindings_whole, condition_granted, optional_whole,
@@ -109,7 +111,8 @@ fn row_granted(uses: &Uses, head: &TableRow) -> bool
 /// The name of a partial, and pairs.
 #[tactic(auto, unfolding(crate::specs::inside::OwnGrants::pairs_grants))]
 fn pairs_granted(uses: &Uses, name: &Expression, pairs: &[Binding]) -> bool
-    ensures { result ≡ true → pairs_grants (uses_view uses.now) (expression_view name.now) (bindings_view pairs.now) ≡ true }
+    ensures { result ≡ true → pairs_grants (uses_view uses.now) (expression_view name.now)
+        (bindings_view pairs.now) ≡ true }
 {
     whole(uses, name) && bindings_granted(uses, pairs)
 }
@@ -117,7 +120,8 @@ fn pairs_granted(uses: &Uses, name: &Expression, pairs: &[Binding]) -> bool
 /// The name of a partial, the `for` of a `render`, and pairs.
 #[tactic(auto, unfolding(crate::specs::inside::OwnGrants::each_grants))]
 fn each_granted(uses: &Uses, name: &Expression, each: &Each, pairs: &[Binding]) -> bool
-    ensures { result ≡ true → each_grants (uses_view uses.now) (expression_view name.now) (each_view each.now) (bindings_view pairs.now) ≡ true }
+    ensures { result ≡ true → each_grants (uses_view uses.now) (expression_view name.now)
+        (each_view each.now) (bindings_view pairs.now) ≡ true }
 {
     whole(uses, name)
         && source_granted(uses, each.variable.as_str(), &each.source)

@@ -7,7 +7,8 @@ ghost use Rattle.liquid_meaning.specs.Reading.{Uses, grants};
 ghost use Rattle.liquid_core.specs.ExpressionView.{expression_view, steps_view, variable_view};
 ghost use Rattle.liquid_model.specs.Uses.{everything, includes, no_fields, there, parts, every};
 ghost use Rattle.liquid_model.specs.UseViews.{uses_view, use_view};
-ghost use Rattle.liquid_uses.specs.inside.Placing.{gives, option_use, place_of, whole_if, IsReached, IsReachedAlong, Leads};
+ghost use Rattle.liquid_uses.specs.inside.Placing.{gives, option_use, place_of, whole_if};
+ghost use Rattle.liquid_uses.specs.inside.Placing.{IsReached, IsReachedAlong, Leads};
 
 use liquid_core::{Expression, Use, Uses, Value, Variable, member_of};
 
@@ -71,7 +72,8 @@ impl<'u> Place<'u> {
 
     /// Whether the number of items is asked, and of each item all that this use asks.
     pub(crate) fn includes_each(self, other: Option<&Use>) -> bool
-        ensures { result ≡ true → gives self.entry (parts no_fields (every (option_use other.entry))) ≡ true }
+        ensures { result ≡ true → gives self.entry (parts no_fields (every (option_use
+            other.entry))) ≡ true }
     {
         match self {
             Place::Whole => true,
@@ -106,7 +108,8 @@ fn member_at<'u>(asked: &'u Use, key: &str) -> Place<'u>
 
 /// Whether the number of items is asked, and of each item all that the other use asks.
 fn asks_each(asked: &Use, other: Option<&Use>) -> bool
-    ensures { result ≡ true → includes (use_view asked.now) (parts no_fields (every (option_use other.entry))) ≡ true }
+    ensures { result ≡ true → includes (use_view asked.now) (parts no_fields (every (option_use
+        other.entry))) ≡ true }
 {
     match asked {
         Use::Nothing => false,
@@ -153,10 +156,11 @@ fn reached_along<'u>(steps: &Vec<Expression>, first: Place<'u>, uses: &'u Uses) 
     place
 }
 
-/// Where a step leads from a place. One that is a literal text is known; any other, whose value has to be seen, wants
-/// everything at its place.
+/// Where a step leads from a place. One that is a literal text is known; any other, whose value
+/// has to be seen, wants everything at its place.
 fn led<'u>(place: Place<'u>, step: &Expression, seen: bool) -> Place<'u>
-    ensures { (U : Uses) → (seen ≡ true → grants U (expression_view step.now) everything ≡ true) → Leads U place.entry (expression_view step.now) result }
+    ensures { (U : Uses) → (seen ≡ true → grants U (expression_view step.now) everything ≡ true)
+        → Leads U place.entry (expression_view step.now) result }
 {
     match step {
         Expression::Literal(value) => led_by(place, value),

@@ -1,4 +1,5 @@
-//! Uses found round after round. Nothing here has a contract: what comes of it is tested by `covers`.
+//! Uses found round after round. Nothing here has a contract: what comes of it is tested by
+//! `covers`.
 
 use crate::asking::ask_nodes;
 use crate::demands::Demands;
@@ -10,12 +11,12 @@ use std::collections::BTreeMap;
 /// The most rounds: a partial that renders itself by parts of its data would go on for ever.
 const MOST_ROUNDS: usize = 8;
 
-/// The most parts of one name's value that are kept apart: a name of which more is asked is asked whole, so that a round takes
-/// time in the size of the template.
+/// The most parts of one name's value that are kept apart: a name of which more is asked is asked
+/// whole, so that a round takes time in the size of the template.
 const MOST_PARTS: usize = 200;
 
-/// What the template and the partials ask for, where at first each name is asked as here: round after round, until
-/// nothing changes any more.
+/// What the template and the partials ask for, where at first each name is asked as here: round
+/// after round, until nothing changes any more.
 pub(crate) fn settled_uses(
     alloc: Global,
     first: &Uses,
@@ -50,10 +51,13 @@ fn next_round(
             ask_nodes(&mut demands, partial.nodes())?;
         }
     }
-    let Demands { alloc: _, before: _, mut found } = demands;
+    let Demands {
+        alloc: _,
+        before: _,
+        mut found,
+    } = demands;
     for (name, asked) in found.iter_mut() {
-        let is_flat = name.as_str() != "forloop" || !matches!(asked, Use::Parts { members: _, items: _ });
-        if !is_flat || part_count(asked) > MOST_PARTS {
+        if name.as_str() == "forloop" || part_count(asked) > MOST_PARTS {
             *asked = Use::Everything;
         }
     }
@@ -84,7 +88,9 @@ fn part_count(asked: &Use) -> usize {
                 Some(item) => part_count(item),
                 None => 0,
             };
-            member_count(members).saturating_add(inner).saturating_add(1)
+            member_count(members)
+                .saturating_add(inner)
+                .saturating_add(1)
         }
     }
 }

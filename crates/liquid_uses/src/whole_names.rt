@@ -10,7 +10,8 @@ use std::collections::{BTreeMap, BTreeSet};
 
 /// Everything of each of these names, and nothing of any other.
 pub(crate) fn whole_names(alloc: Global, names: BTreeSet<String>) -> Result<Uses, AllocError>
-    ensures { (name : _) → IfOk result (λ uses. uses_view uses name ≡ cond (held names name) everything nothing) }
+    ensures { (name : _) → IfOk result (λ uses. uses_view uses name
+        ≡ cond (held names name) everything nothing) }
 {
     let mut uses: Uses = BTreeMap::new(alloc);
     for name in names {

@@ -26,7 +26,8 @@ gives_along U Refused steps v = false
 abbrev pub IsReached : Place → Uses → Expression → Type 0
 IsReached r U x = (v : Use) → gives r v ≡ true → grants U x v ≡ true
 
--- where the second place is granted what comes after the steps, the first is granted it along the steps
+-- where the second place is granted what comes after the steps, the first is granted it along the
+-- steps
 abbrev pub IsReachedAlong : Place → Uses → Place → Steps → Type 0
 IsReachedAlong r U first steps = (v : Use) → gives r v ≡ true → gives_along U first steps v ≡ true
 
@@ -35,9 +36,11 @@ abbrev pub option_use : Option (Bor RustUse) → Use
 option_use None = nothing
 option_use (Some u) = use_view u.now
 
--- the second place is where the step leads from the first: what it gives along the further steps, the first gives along all of them
+-- the second place is where the step leads from the first: what it gives along the further steps,
+-- the first gives along all of them
 abbrev pub Leads : Uses → Place → Expression → Place → Type 0
-Leads U r x next = (more : Steps) (v : Use) → gives_along U next more v ≡ true → gives_along U r (step x more) v ≡ true
+Leads U r x next = (more : Steps) (v : Use) → gives_along U next more v ≡ true
+    → gives_along U r (step x more) v ≡ true
 
 -- whole, where the test holds and everything is asked of the place; or else refused
 abbrev pub whole_if : Place → Bool → Place
