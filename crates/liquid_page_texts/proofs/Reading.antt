@@ -71,7 +71,7 @@ pub seen_shown : (l : Language) (texts : Texts) (U : Uses) (p : Partials) (nodes
 unfolding map_of
 seen_shown l texts U p nodes qs only partials facts alone =
     let runs = alone no_host 32 (merged_layers (new_layers (map_of facts.0))) (merged_layers (new_layers (map_of qs)))
-        (record { local = λ name. alike_same (U name) _; assigned = λ name. alike_same (U name) _; counters = λ name. alike_same (U name) _; globals = facts.2; registers = refl }) in
+    (record { local = λ name. alike_same (U name) _; assigned = λ name. alike_same (U name) _; counters = λ name. alike_same (U name) _; globals = facts.2; registers = refl }) in
     record {
       read = record { tree = nodes; facts = facts.0; partials = partials_of p };
       is_read = record { tree = only; facts = facts.1; partials = partials };
