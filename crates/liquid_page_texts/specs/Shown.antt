@@ -7,6 +7,13 @@ use Rattle.liquid_model.specs.View.{pairs_view}
 use Rattle.liquid_model.specs.declared.error.Error.{Error}
 use Rattle.liquid_model.specs.declared.error.ErrorKind.{ErrorKind}
 use Rattle.liquid_model.specs.declared.error.ErrorKind.TheVariants.{Memory}
+use Rattle.liquid_model.specs.Answer.{Faulted}
+use Rattle.liquid_core.specs.Held.{Outer}
+use Rattle.liquid_json.specs.Asked.{IsAlikeData}
+use Rattle.liquid_json.specs.Json.{data_of}
+use Rattle.liquid_evaluation.specs.Tree.{Nodes}
+use Rattle.liquid_meaning.specs.Reading.{Uses}
+use Rattle.liquid_uses.specs.Covered.{SeesAlone}
 use Rattle.liquid_syntax.specs.Templates.{tree_of, partials_of}
 use Rattle.liquid_syntax.specs.Parsing.{IsOfSource}
 use Rattle.liquid_language.specs.declared.language.Language.{Language}
@@ -16,7 +23,7 @@ use Rattle.liquid_lib.specs.Performs.{answer_of, is_refused, unit}
 use Rattle.liquid_lib.specs.Standard.{IsStandard}
 use Rattle.liquid_meaning.specs.Runs.{Nothing}
 use Rattle.liquid_page_texts.specs.Page.{Sources, Texts, Trees, ArePartials, HasBadPartial, Read}
-use Rattle.liquid_page_texts.specs.Page.{IsRead, Refused, IsPage}
+use Rattle.liquid_page_texts.specs.Page.{IsRead, Refused, IsPage, page_outcome}
 use Rattle.liquid_page_texts.specs.declared.page.ReadTexts.{ReadTexts}
 
 abbrev pub read_view : ReadTexts → Read
@@ -26,9 +33,24 @@ read_view r = record {
   partials = partials_of r.partials;
 }
 
+-- the page of r is that of the texts: the same text and the same end, though of the data only what
+-- a run can see may be left
+pub record ShowsPageOf (l : Language) (texts : Texts) (r : Read) : Type 0 where
+  pub read : Read
+  pub is_read : IsRead l texts read
+  pub text : (page_outcome read).text ≡ (page_outcome r).text
+  pub end : (page_outcome read).end ≡ (page_outcome r).end
+
+-- data that are alike with those of the text in all that a run can see; or why there are none,
+-- unless memory ran out
+abbrev pub ReadsSeen : Text → Partials → Nodes → Result Outer Error → Type 0
+ReadsSeen facts p nodes (Ok m) = (U : Uses) × IsAlikeData U (data_of facts) (pairs_view m.entries) ×
+    SeesAlone U p nodes
+ReadsSeen facts p nodes (Err e) = Faulted e.kind (data_of facts)
+
 -- the texts, read; or why they are not, unless memory ran out
 abbrev pub Reads : Language → Texts → Result ReadTexts Error → Type 0
-Reads l texts (Ok r) = IsRead l texts (read_view r)
+Reads l texts (Ok r) = ShowsPageOf l texts (read_view r)
 Reads l texts (Err e) = MatchBool (is_memory e.kind) ⊤ (Refused l texts e.kind ×
     (is_refusal e.kind ≡ false))
 
