@@ -1,4 +1,5 @@
-//! Templates: their nodes, the names that they and a partial mention, what they ask of their data, and the group of a `cycle`.
+//! Templates: their nodes, the names that they and a partial mention, what they ask of their data,
+//! and the group of a `cycle`.
 use crate::faults::no_call;
 use liquid_core::{Expression, Result, Value};
 use liquid_syntax::{Language, Partials, Template, parse};
@@ -57,7 +58,7 @@ fn uses(alloc: Global, template: &Template, partials: &Partials) -> Result<Value
     Ok(Value::Text(written_uses(alloc, &uses)?))
 }
 
-/// Puts a copy of the text behind the others.
+/// Puts a copy of the text after the others.
 fn push_text(alloc: Global, texts: &mut Vec<Value>, text: &str) -> Result<()> {
     texts.push(Value::Text(String::from_str(alloc, text)?))?;
     Ok(())

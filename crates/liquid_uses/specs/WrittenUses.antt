@@ -2,9 +2,10 @@
 --     written_uses members      the lines of uses by name
 --     written path u      the lines of what is asked of the value at a path
 -- A path is a name and what leads on from its value: `.title` a member, `[]` each item of a loop. A
--- line that ends there asks for the whole value. One that ends in `?` asks no more than whether there
--- is a value, its kind, and a scalar whole; after `[]` no more than that of each item, or than how many
--- items there are. Where a member's key can't stand in a path, its value is asked for whole.
+-- line that ends there asks for the whole value. One that ends in `?` asks no more than whether
+-- there is a value, its kind, and a scalar whole; after `[]` no more than that of each item, or
+-- than how many items there are. Where a member's key can't stand in a path, its value is asked for
+-- whole.
 use Rattle.std.specs.Prelude.{ℕ, Bool, true, false, cond, not, ◌&&◌, ◌||◌, ◌==◌, [], ◌++◌}
 use Rattle.std.specs.Prelude.{codes, nat_le, length}
 use Rattle.std.specs.Char.{is_ascii_alphanumeric}

@@ -14,7 +14,7 @@ use std::alloc::{AllocError, Global};
 /// whole
 /// title of each product, `customer?` only whether there is a customer, and of which kind.
 ///
-/// `[]` is each item that a loop goes over, and behind it `?` may stand for how many there are.
+/// `[]` is each item that a loop goes over, and after it `?` may stand for how many there are.
 /// Where a member's key isn't made of letters, digits, `_` and `-`, the value that it is a member
 /// of
 /// is told whole. `Memory` where there is no room for the text.
@@ -123,7 +123,7 @@ fn append_line(path: &str, mark: &str, out: &mut String) -> Result<(), AllocErro
     Ok(())
 }
 
-/// Three texts behind one another.
+/// Three texts after one another.
 fn joined_path(alloc: Global, path: &str, mark: &str, key: &str) -> Result<String, AllocError>
     ensures { IfOk result (λ text. string_bytes text ≡ path.now ++ (mark.now ++ key.now)) }
 {
