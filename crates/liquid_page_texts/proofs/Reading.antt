@@ -3,7 +3,8 @@ use Rattle.std.proofs.Common.{◌≡◌, ℕ, ◌≤◌, List, [], Bool, true, f
 use Rattle.std.specs.Prelude.{⊤, ◌⊎◌}
 use Rattle.std.specs.Io.KnownBytes.{Appends}
 use Rattle.std.proofs.KnownBytes.{Appends-nil, Keeps-refl}
-use Rattle.liquid_model.specs.Answer.{Faulted}
+use Rattle.liquid_model.specs.Answer.{Answers, Faulted}
+use Rattle.liquid_model.specs.Skipping.{AlikeKeys}
 use Rattle.liquid_model.specs.Data.{Pairs}
 use Rattle.liquid_model.specs.ErrorKinds.{IsKindOrMemory, is_memory, is_refusal}
 use Rattle.liquid_model.specs.declared.error.Error.{Error}
@@ -20,7 +21,7 @@ use Rattle.liquid_core.specs.Held.{map_of, Outer}
 use Rattle.liquid_model.specs.View.{pairs_view}
 use Rattle.liquid_core.specs.Hosts.{no_host}
 use Rattle.liquid_core.specs.States.{merged_layers, new_layers}
-use Rattle.liquid_json.specs.Asked.{AnswersAlike, IsAlikeData}
+use Rattle.liquid_json.specs.Asked.{AnswersAlike}
 use Rattle.liquid_json.specs.Json.{data_of}
 use Rattle.liquid_meaning.specs.Reading.{Uses}
 use Rattle.liquid_model.proofs.Alike.{alike_same}
@@ -28,7 +29,7 @@ use Rattle.liquid_syntax.specs.Templates.{partials_of}
 use Rattle.liquid_syntax.specs.declared.partials.Partials.{Partials}
 use Rattle.liquid_uses.specs.Covered.{SeesAlone}
 use Rattle.liquid_page_texts.specs.Page.{Texts, Sources, ArePartials, HasBadPartial, Read, Refused, no_template, no_facts, bad_partial, page, no_page, page_outcome}
-use Rattle.liquid_page_texts.specs.Shown.{Reads, ReadsPartials, ReadsSeen, Shows, ShowsPageOf, RanOut}
+use Rattle.liquid_page_texts.specs.Shown.{Reads, ReadsPartials, ReadsSeen, SamePage, Shows, ShowsPageOf, RanOut}
 
 -- memory ran out, or else
 unless_memory : {P R : Type 0} (b : Bool) → MatchBool b ⊤ P → (b ≡ false → P → R) → MatchBool b ⊤ R
@@ -61,23 +62,30 @@ memory_refused l texts e is = subst (λ (k : ErrorKind). MatchBool (is_memory k)
 pub memory_faulted : (facts : List ℕ) (p : Partials) (nodes : Nodes) (e : Error) → e.kind ≡ Memory → ReadsSeen facts p nodes (Err e)
 memory_faulted facts p nodes e is = subst (λ (k : ErrorKind). Faulted k (data_of facts)) (sym is) tt
 
+-- a run sees no more of its data than is left
+same_page : (U : Uses) (p : Partials) (nodes : Nodes) (ps qs : Pairs) → AlikeKeys U ps qs → SeesAlone U p nodes → SamePage (partials_of p) nodes ps qs
+unfolding map_of
+same_page U p nodes ps qs alike alone =
+    let runs = alone no_host 32 (merged_layers (new_layers (map_of ps))) (merged_layers (new_layers (map_of qs)))
+    (record { local = λ name. alike_same (U name) _; assigned = λ name. alike_same (U name) _; counters = λ name. alike_same (U name) _; globals = alike; registers = refl }) in
+    (runs.text, runs.end)
+
 pub seen_by : (facts : List ℕ) (p : Partials) (nodes : Nodes) (U : Uses) (r : Result Outer Error) → SeesAlone U p nodes → AnswersAlike (λ (m : Outer). pairs_view m.entries) U r (data_of facts) → ReadsSeen facts p nodes r
-seen_by facts p nodes U (Ok m) alone h = (U, h, alone)
+seen_by facts p nodes U (Ok m) alone h = (h.0, h.1, same_page U p nodes h.0 (pairs_view m.entries) h.2 alone)
 seen_by facts p nodes U (Err e) alone h = h
 
--- a run sees no more of its data than is left
-pub seen_shown : (l : Language) (texts : Texts) (U : Uses) (p : Partials) (nodes : Nodes) (qs : Pairs) → IsOnlyTree l nodes texts.template → ArePartials l texts.partials [] (partials_of p)
-    → IsAlikeData U (data_of texts.facts) qs → SeesAlone U p nodes → ShowsPageOf l texts (record { tree = nodes; facts = qs; partials = partials_of p })
-unfolding map_of
-seen_shown l texts U p nodes qs only partials facts alone =
-    let runs = alone no_host 32 (merged_layers (new_layers (map_of facts.0))) (merged_layers (new_layers (map_of qs)))
-    (record { local = λ name. alike_same (U name) _; assigned = λ name. alike_same (U name) _; counters = λ name. alike_same (U name) _; globals = facts.2; registers = refl }) in
-    record {
-      read = record { tree = nodes; facts = facts.0; partials = partials_of p };
-      is_read = record { tree = only; facts = facts.1; partials = partials };
-      text = runs.text;
-      end = runs.end;
-    }
+pub whole_by : (facts : List ℕ) (p : Partials) (nodes : Nodes) (r : Result Outer Error) → Answers (λ (m : Outer). pairs_view m.entries) r (data_of facts) → ReadsSeen facts p nodes r
+whole_by facts p nodes (Ok m) h = (pairs_view m.entries, h, (refl, refl))
+whole_by facts p nodes (Err e) h = h
+
+pub seen_shown : (l : Language) (texts : Texts) (p : Partials) (nodes : Nodes) (ps qs : Pairs) → IsOnlyTree l nodes texts.template → ArePartials l texts.partials [] (partials_of p)
+    → data_of texts.facts ≡ Ok ps → SamePage (partials_of p) nodes ps qs → ShowsPageOf l texts (record { tree = nodes; facts = qs; partials = partials_of p })
+seen_shown l texts p nodes ps qs only partials facts same = record {
+  read = record { tree = nodes; facts = ps; partials = partials_of p };
+  is_read = record { tree = only; facts = facts; partials = partials };
+  text = same.0;
+  end = same.1;
+}
 
 pub partial_refused : (l : Language) (sources left : Sources) (source : List ℕ) (e : Error) → ParsesTo l source (Err e) → MayRefuse e.kind → (HasNoTree l source → HasBadPartial l sources) → ReadsPartials l sources [] (Err e)
 partial_refused l sources left source e parses kinds bad = unless_either (is_memory e.kind) parses kinds (λ none kind. (bad none, kind))

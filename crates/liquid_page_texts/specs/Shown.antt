@@ -3,17 +3,15 @@ use Rattle.std.specs.Prelude.{◌≡◌, ℕ, List, false, MatchBool, ⊤, IsErr
 use Rattle.std.specs.Io.KnownBytes.{Appends, Keeps}
 use Rattle.liquid_model.specs.Texts.{Text}
 use Rattle.liquid_model.specs.ErrorKinds.{is_memory, is_refusal}
+use Rattle.liquid_model.specs.Data.{Pairs}
 use Rattle.liquid_model.specs.View.{pairs_view}
 use Rattle.liquid_model.specs.declared.error.Error.{Error}
 use Rattle.liquid_model.specs.declared.error.ErrorKind.{ErrorKind}
 use Rattle.liquid_model.specs.declared.error.ErrorKind.TheVariants.{Memory}
 use Rattle.liquid_model.specs.Answer.{Faulted}
 use Rattle.liquid_core.specs.Held.{Outer}
-use Rattle.liquid_json.specs.Asked.{IsAlikeData}
 use Rattle.liquid_json.specs.Json.{data_of}
 use Rattle.liquid_evaluation.specs.Tree.{Nodes}
-use Rattle.liquid_meaning.specs.Reading.{Uses}
-use Rattle.liquid_uses.specs.Covered.{SeesAlone}
 use Rattle.liquid_syntax.specs.Templates.{tree_of, partials_of}
 use Rattle.liquid_syntax.specs.Parsing.{IsOfSource}
 use Rattle.liquid_language.specs.declared.language.Language.{Language}
@@ -41,11 +39,17 @@ pub record ShowsPageOf (l : Language) (texts : Texts) (r : Read) : Type 0 where
   pub text : (page_outcome read).text ≡ (page_outcome r).text
   pub end : (page_outcome read).end ≡ (page_outcome r).end
 
--- data that are alike with those of the text in all that a run can see; or why there are none,
--- unless memory ran out
+-- a run over these data writes the same text as one over those, and ends alike
+abbrev pub SamePage : Trees → Nodes → Pairs → Pairs → Type 0
+SamePage partials tree ps qs =
+    let whole = page_outcome (record { tree = tree; facts = ps; partials = partials }) in
+    let seen = page_outcome (record { tree = tree; facts = qs; partials = partials }) in
+    (whole.text ≡ seen.text) × (whole.end ≡ seen.end)
+
+-- data that show the page of those of the text; or why there are none, unless memory ran out
 abbrev pub ReadsSeen : Text → Partials → Nodes → Result Outer Error → Type 0
-ReadsSeen facts p nodes (Ok m) = (U : Uses) × IsAlikeData U (data_of facts) (pairs_view m.entries) ×
-    SeesAlone U p nodes
+ReadsSeen facts p nodes (Ok m) = (ps : Pairs) × (data_of facts ≡ Ok ps)
+    × SamePage (partials_of p) nodes ps (pairs_view m.entries)
 ReadsSeen facts p nodes (Err e) = Faulted e.kind (data_of facts)
 
 -- the texts, read; or why they are not, unless memory ran out

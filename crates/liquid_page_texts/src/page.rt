@@ -21,6 +21,9 @@ use std::mem;
 /// How deep partials may be nested in a page.
 const DEPTH: u32 = 32;
 
+/// To find out what a node sees takes about as long as to read some 200 bytes of data.
+const BYTES_FOR_A_NODE: usize = 4096;
+
 /// What becomes of what was read, after the page: to take large data apart is a tenth of the work
 /// of a page and more.
 #[derive(Clone, Copy, Drop)]
@@ -132,12 +135,27 @@ fn read_texts(
     }
 }
 
-/// The data as far as a run of the template over these partials can see it.
+/// The data, where it is long as far as a run of the template over these partials can see it.
 fn read_seen(alloc: Global, data: &str, template: &Template, partials: &Partials) -> Result<Object>
     ensures { ReadsSeen «data».now partials.now (tree_of template.now) result }
 {
+    if !is_long(data, template, partials) {
+        return data_from_json(alloc, data);
+    }
     let uses = uses_of(alloc, template, partials)?;
     data_for(alloc, data, &uses)
+}
+
+/// Whether there are so many bytes of data for each node of the templates that to find out what
+/// these see takes little beside reading the data.
+fn is_long(data: &str, template: &Template, partials: &Partials) -> bool {
+    let mut nodes = template.nodes().len();
+    for slot in partials.slots().values() {
+        if let Some(partial) = slot {
+            nodes = nodes.saturating_add(partial.nodes().len());
+        }
+    }
+    data.len() / BYTES_FOR_A_NODE >= nodes
 }
 
 fn read_partials(
