@@ -1,9 +1,10 @@
 -- What is known where the texts of a page are read, and where they are not.
-use Rattle.std.proofs.Common.{◌≡◌, ℕ, ◌≤◌, List, [], Bool, true, false, MatchBool, Option, Ok, Err, Result, inl, inr, refl, ap, subst, ◌∙◌, arith}
+use Rattle.std.proofs.Common.{◌≡◌, ℕ, ◌≤◌, List, [], Bool, true, false, MatchBool, Option, Ok, Err, Result, inl, inr, refl, sym, ap, subst, ◌∙◌, arith}
 use Rattle.std.specs.Prelude.{⊤, ◌⊎◌}
 use Rattle.std.specs.Io.KnownBytes.{Appends}
 use Rattle.std.proofs.KnownBytes.{Appends-nil, Keeps-refl}
-use Rattle.liquid_model.specs.Answer.{Faulted}
+use Rattle.liquid_model.specs.Answer.{Answers, Faulted}
+use Rattle.liquid_model.specs.Skipping.{AlikeKeys}
 use Rattle.liquid_model.specs.Data.{Pairs}
 use Rattle.liquid_model.specs.ErrorKinds.{IsKindOrMemory, is_memory, is_refusal}
 use Rattle.liquid_model.specs.declared.error.Error.{Error}
@@ -16,9 +17,19 @@ use Rattle.liquid_lib.specs.Added.{AppendsPart}
 use Rattle.liquid_lib.specs.Performs.{answer_of, is_refused, unit}
 use Rattle.liquid_lib.specs.Standard.{IsStandard}
 use Rattle.liquid_lib.proofs.Joined.{memory_of}
+use Rattle.liquid_core.specs.Held.{map_of, Outer}
+use Rattle.liquid_model.specs.View.{pairs_view}
+use Rattle.liquid_core.specs.Hosts.{no_host}
+use Rattle.liquid_core.specs.States.{merged_layers, new_layers}
+use Rattle.liquid_json.specs.Asked.{AnswersAlike}
 use Rattle.liquid_json.specs.Json.{data_of}
-use Rattle.liquid_page_texts.specs.Page.{Texts, Sources, HasBadPartial, Read, IsRead, Refused, no_template, no_facts, bad_partial, page, no_page, page_outcome}
-use Rattle.liquid_page_texts.specs.Shown.{Reads, ReadsPartials, Shows, RanOut}
+use Rattle.liquid_meaning.specs.Reading.{Uses}
+use Rattle.liquid_model.proofs.Alike.{alike_same}
+use Rattle.liquid_syntax.specs.Templates.{partials_of}
+use Rattle.liquid_syntax.specs.declared.partials.Partials.{Partials}
+use Rattle.liquid_uses.specs.Covered.{SeesAlone}
+use Rattle.liquid_page_texts.specs.Page.{Texts, Sources, ArePartials, HasBadPartial, Read, Refused, no_template, no_facts, bad_partial, page, no_page, page_outcome}
+use Rattle.liquid_page_texts.specs.Shown.{Reads, ReadsPartials, ReadsSeen, SamePage, Shows, ShowsPageOf, RanOut}
 
 -- memory ran out, or else
 unless_memory : {P R : Type 0} (b : Bool) → MatchBool b ⊤ P → (b ≡ false → P → R) → MatchBool b ⊤ R
@@ -43,6 +54,38 @@ facts_refused l texts tree e only faulted = unless_memory (is_memory e.kind) fau
 
 pub partials_refused : (l : Language) (texts : Texts) (tree : Nodes) (facts : Pairs) (e : Error) → IsOnlyTree l tree texts.template → data_of texts.facts ≡ Ok facts → ReadsPartials l texts.partials [] (Err e) → Reads l texts (Err e)
 partials_refused l texts tree facts e only read bad = unless_memory (is_memory e.kind) bad (λ not h. (bad_partial only read h.0 h.1, of_source e.kind h.1))
+
+-- memory ran out before the texts were read
+pub memory_refused : (l : Language) (texts : Texts) (e : Error) → e.kind ≡ Memory → Reads l texts (Err e)
+memory_refused l texts e is = subst (λ (k : ErrorKind). MatchBool (is_memory k) ⊤ (Refused l texts k × (is_refusal k ≡ false))) (sym is) tt
+
+pub memory_faulted : (facts : List ℕ) (p : Partials) (nodes : Nodes) (e : Error) → e.kind ≡ Memory → ReadsSeen facts p nodes (Err e)
+memory_faulted facts p nodes e is = subst (λ (k : ErrorKind). Faulted k (data_of facts)) (sym is) tt
+
+-- a run sees no more of its data than is left
+same_page : (U : Uses) (p : Partials) (nodes : Nodes) (ps qs : Pairs) → AlikeKeys U ps qs → SeesAlone U p nodes → SamePage (partials_of p) nodes ps qs
+unfolding map_of
+same_page U p nodes ps qs alike alone =
+    let runs = alone no_host 32 (merged_layers (new_layers (map_of ps))) (merged_layers (new_layers (map_of qs)))
+    (record { local = λ name. alike_same (U name) _; assigned = λ name. alike_same (U name) _; counters = λ name. alike_same (U name) _; globals = alike; registers = refl }) in
+    (runs.text, runs.end)
+
+pub seen_by : (facts : List ℕ) (p : Partials) (nodes : Nodes) (U : Uses) (r : Result Outer Error) → SeesAlone U p nodes → AnswersAlike (λ (m : Outer). pairs_view m.entries) U r (data_of facts) → ReadsSeen facts p nodes r
+seen_by facts p nodes U (Ok m) alone h = (h.0, h.1, same_page U p nodes h.0 (pairs_view m.entries) h.2 alone)
+seen_by facts p nodes U (Err e) alone h = h
+
+pub whole_by : (facts : List ℕ) (p : Partials) (nodes : Nodes) (r : Result Outer Error) → Answers (λ (m : Outer). pairs_view m.entries) r (data_of facts) → ReadsSeen facts p nodes r
+whole_by facts p nodes (Ok m) h = (pairs_view m.entries, h, (refl, refl))
+whole_by facts p nodes (Err e) h = h
+
+pub seen_shown : (l : Language) (texts : Texts) (p : Partials) (nodes : Nodes) (ps qs : Pairs) → IsOnlyTree l nodes texts.template → ArePartials l texts.partials [] (partials_of p)
+    → data_of texts.facts ≡ Ok ps → SamePage (partials_of p) nodes ps qs → ShowsPageOf l texts (record { tree = nodes; facts = qs; partials = partials_of p })
+seen_shown l texts p nodes ps qs only partials facts same = record {
+  read = record { tree = nodes; facts = ps; partials = partials_of p };
+  is_read = record { tree = only; facts = facts; partials = partials };
+  text = same.0;
+  end = same.1;
+}
 
 pub partial_refused : (l : Language) (sources left : Sources) (source : List ℕ) (e : Error) → ParsesTo l source (Err e) → MayRefuse e.kind → (HasNoTree l source → HasBadPartial l sources) → ReadsPartials l sources [] (Err e)
 partial_refused l sources left source e parses kinds bad = unless_either (is_memory e.kind) parses kinds (λ none kind. (bad none, kind))
@@ -88,8 +131,19 @@ pub refused_shown : (l : Language) (texts : Texts) (e : Error) (o : Option (List
 unfolding ToldBy
 refused_shown l texts e o standard h = refused_by l texts e o (is_memory e.kind) standard refl h
 
-pub page_shown : (l : Language) (texts : Texts) (read : Read) (r : Result (Unit {0}) Error) (old new : Option (List ℕ)) → IsStandard l → IsRead l texts read
-    → (is_refused r ≡ false → Appends old new (page_outcome read).text) → (is_refused r ≡ false → answer_of unit r ≡ (page_outcome read).end) → AppendsPart old new (page_outcome read).text
-    → RanOut r old new ⊎ ((x : Language) × IsStandard x × Shows x texts r old new)
-page_shown l texts read r old new standard is whole ended begun =
-    inr (l, standard, record { text = (page_outcome read).text; end = (page_outcome read).end; is_page = page read is; begun = begun; whole = whole; ended = ended })
+pub page_shown : (l : Language) (texts : Texts) (r : Read) (answer : Result (Unit {0}) Error) (old new : Option (List ℕ)) → IsStandard l → ShowsPageOf l texts r
+    → (is_refused answer ≡ false → Appends old new (page_outcome r).text) → (is_refused answer ≡ false → answer_of unit answer ≡ (page_outcome r).end) → AppendsPart old new (page_outcome r).text
+    → RanOut answer old new ⊎ ((x : Language) × IsStandard x × Shows x texts answer old new)
+page_shown l texts r answer old new standard of whole ended begun =
+    inr (
+      l,
+      standard,
+      record {
+        text = (page_outcome of.read).text;
+        end = (page_outcome of.read).end;
+        is_page = page of.read of.is_read;
+        begun = subst (AppendsPart old new) (sym of.text) begun;
+        whole = λ not. subst (Appends old new) (sym of.text) (whole not);
+        ended = λ not. ended not ∙ sym of.end;
+      },
+    )

@@ -3,10 +3,15 @@ use Rattle.std.specs.Prelude.{◌≡◌, ℕ, List, false, MatchBool, ⊤, IsErr
 use Rattle.std.specs.Io.KnownBytes.{Appends, Keeps}
 use Rattle.liquid_model.specs.Texts.{Text}
 use Rattle.liquid_model.specs.ErrorKinds.{is_memory, is_refusal}
+use Rattle.liquid_model.specs.Data.{Pairs}
 use Rattle.liquid_model.specs.View.{pairs_view}
 use Rattle.liquid_model.specs.declared.error.Error.{Error}
 use Rattle.liquid_model.specs.declared.error.ErrorKind.{ErrorKind}
 use Rattle.liquid_model.specs.declared.error.ErrorKind.TheVariants.{Memory}
+use Rattle.liquid_model.specs.Answer.{Faulted}
+use Rattle.liquid_core.specs.Held.{Outer}
+use Rattle.liquid_json.specs.Json.{data_of}
+use Rattle.liquid_evaluation.specs.Tree.{Nodes}
 use Rattle.liquid_syntax.specs.Templates.{tree_of, partials_of}
 use Rattle.liquid_syntax.specs.Parsing.{IsOfSource}
 use Rattle.liquid_language.specs.declared.language.Language.{Language}
@@ -16,7 +21,7 @@ use Rattle.liquid_lib.specs.Performs.{answer_of, is_refused, unit}
 use Rattle.liquid_lib.specs.Standard.{IsStandard}
 use Rattle.liquid_meaning.specs.Runs.{Nothing}
 use Rattle.liquid_page_texts.specs.Page.{Sources, Texts, Trees, ArePartials, HasBadPartial, Read}
-use Rattle.liquid_page_texts.specs.Page.{IsRead, Refused, IsPage}
+use Rattle.liquid_page_texts.specs.Page.{IsRead, Refused, IsPage, page_outcome}
 use Rattle.liquid_page_texts.specs.declared.page.ReadTexts.{ReadTexts}
 
 abbrev pub read_view : ReadTexts → Read
@@ -26,9 +31,30 @@ read_view r = record {
   partials = partials_of r.partials;
 }
 
+-- the page of r is that of the texts: the same text and the same end, though of the data only what
+-- a run can see may be left
+pub record ShowsPageOf (l : Language) (texts : Texts) (r : Read) : Type 0 where
+  pub read : Read
+  pub is_read : IsRead l texts read
+  pub text : (page_outcome read).text ≡ (page_outcome r).text
+  pub end : (page_outcome read).end ≡ (page_outcome r).end
+
+-- a run over these data writes the same text as one over those, and ends alike
+abbrev pub SamePage : Trees → Nodes → Pairs → Pairs → Type 0
+SamePage partials tree ps qs =
+    let whole = page_outcome (record { tree = tree; facts = ps; partials = partials }) in
+    let seen = page_outcome (record { tree = tree; facts = qs; partials = partials }) in
+    (whole.text ≡ seen.text) × (whole.end ≡ seen.end)
+
+-- data that show the page of those of the text; or why there are none, unless memory ran out
+abbrev pub ReadsSeen : Text → Partials → Nodes → Result Outer Error → Type 0
+ReadsSeen facts p nodes (Ok m) = (ps : Pairs) × (data_of facts ≡ Ok ps)
+    × SamePage (partials_of p) nodes ps (pairs_view m.entries)
+ReadsSeen facts p nodes (Err e) = Faulted e.kind (data_of facts)
+
 -- the texts, read; or why they are not, unless memory ran out
 abbrev pub Reads : Language → Texts → Result ReadTexts Error → Type 0
-Reads l texts (Ok r) = IsRead l texts (read_view r)
+Reads l texts (Ok r) = ShowsPageOf l texts (read_view r)
 Reads l texts (Err e) = MatchBool (is_memory e.kind) ⊤ (Refused l texts e.kind ×
     (is_refusal e.kind ≡ false))
 

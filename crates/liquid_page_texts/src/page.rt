@@ -2,22 +2,27 @@
 ghost use Rattle.std.specs.Prelude.{◌≡◌, ◌<◌, ◌⊎◌, [], false, IfErr, IsErrAnd};
 ghost use Rattle.std.specs.Io.KnownBytes.{Appends};
 ghost use Rattle.liquid_syntax.specs.Parsing.{MayRefuse, ParsesTo};
+ghost use Rattle.liquid_syntax.specs.Templates.{tree_of};
 ghost use Rattle.liquid_lib.specs.Added.{AppendsPart};
 ghost use Rattle.liquid_lib.specs.Failures.{OneFailed, AtMostOneFailed};
 ghost use Rattle.liquid_lib.specs.Performs.{answer_of, is_refused, unit};
 ghost use Rattle.liquid_page_texts.specs.Page.{page_outcome, sources_of};
-ghost use Rattle.liquid_page_texts.specs.Shown.{RanOut, Reads, ReadsPartials, ShowsStandard};
-ghost use Rattle.liquid_page_texts.specs.Shown.{read_view};
+ghost use Rattle.liquid_page_texts.specs.Shown.{RanOut, Reads, ReadsPartials, ReadsSeen};
+ghost use Rattle.liquid_page_texts.specs.Shown.{ShowsStandard, read_view};
 
 use liquid_core::{Error, ErrorKind, Object, Result};
-use liquid_json::data_from_json;
+use liquid_json::{data_for, data_from_json};
 use liquid_lib::{CountedWrite, Renderable, RuntimeBuilder, language};
 use liquid_syntax::{Language, Partials, Template, parse};
+use liquid_uses::uses_of;
 use std::alloc::Global;
 use std::mem;
 
 /// How deep partials may be nested in a page.
 const DEPTH: u32 = 32;
+
+/// To find out what a node sees takes about as long as to read some 200 bytes of data.
+const BYTES_FOR_A_NODE: usize = 4096;
 
 /// What becomes of what was read, after the page: to take large data apart is a tenth of the work
 /// of a page and more.
@@ -97,7 +102,8 @@ pub fn run_last<W: CountedWrite>(
     render_texts(alloc, read, writer, Afterwards::Kept)
 }
 
-/// The three kinds of texts are read in this order.
+/// The template's fault comes first, then the data's, then that of a partial. The partials are
+/// parsed before the data is read, so that of the data no more is built than the page can see.
 fn read_texts(
     alloc: Global,
     language: &Language,
@@ -112,13 +118,44 @@ fn read_texts(
     }) result }
 {
     let template = parse(alloc, template, language)?;
-    let data = data_from_json(alloc, data)?;
-    let partials = read_partials(alloc, language, partials)?;
-    Ok(ReadTexts {
-        template,
-        data,
-        partials,
-    })
+    match read_partials(alloc, language, partials) {
+        Ok(partials) => {
+            let data = read_seen(alloc, data, &template, &partials)?;
+            Ok(ReadTexts {
+                template,
+                data,
+                partials,
+            })
+        }
+        Err(fault) => {
+            let checked = data_from_json(alloc, data)?;
+            drop(checked);
+            Err(fault)
+        }
+    }
+}
+
+/// The data, where it is long as far as a run of the template over these partials can see it.
+fn read_seen(alloc: Global, data: &str, template: &Template, partials: &Partials) -> Result<Object>
+    ensures { ReadsSeen «data».now partials.now (tree_of template.now) result }
+{
+    if !is_long(data, template, partials) {
+        return data_from_json(alloc, data);
+    }
+    let uses = uses_of(alloc, template, partials)?;
+    data_for(alloc, data, &uses)
+}
+
+/// Whether there are so many bytes of data for each node of the templates that to find out what
+/// these see takes little beside reading the data.
+fn is_long(data: &str, template: &Template, partials: &Partials) -> bool {
+    let mut nodes = template.nodes().len();
+    for slot in partials.slots().values() {
+        if let Some(partial) = slot {
+            nodes = nodes.saturating_add(partial.nodes().len());
+        }
+    }
+    data.len() / BYTES_FOR_A_NODE >= nodes
 }
 
 fn read_partials(

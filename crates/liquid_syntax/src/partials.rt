@@ -102,6 +102,13 @@ impl Partials {
         }
     }
 
+    /// The slots by name, each with its template or none.
+    pub fn slots(&self) -> &BTreeMap<String, Option<Template>>
+        ensures { result.now ≡ self.now.templates }
+    {
+        &self.templates
+    }
+
     /// The names that the templates mention, given to a visitor. The answer is whether it ended the
     /// telling.
     pub(crate) fn visit_names<V: NameVisitor>(&self, visitor: &mut V) -> bool

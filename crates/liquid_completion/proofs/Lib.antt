@@ -1,0 +1,6 @@
+mod Again
+mod Completed
+mod Entries
+mod Keeping
+mod Results
+mod Supplied

@@ -1,0 +1,6 @@
+pub mod EachGrants
+pub mod Sight
+pub mod Steps
+pub mod TreeGrants
+pub mod WholeNames
+pub mod WrittenLines

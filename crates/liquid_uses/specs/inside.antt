@@ -1,0 +1,2 @@
+pub mod OwnGrants
+pub mod Placing

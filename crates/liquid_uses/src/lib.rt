@@ -1,0 +1,18 @@
+//! What a template asks of its data: the parts of it that a run can see.
+#![tactic(auto)]
+
+mod asking;
+mod covering;
+mod demands;
+mod grants;
+mod merge;
+mod nodes;
+mod places;
+mod rounds;
+mod uses;
+mod whole_names;
+mod written;
+
+pub use covering::covers;
+pub use uses::uses_of;
+pub use written::written_uses;

@@ -1,0 +1,86 @@
+//! Uses put together. Nothing here has a contract: what comes of it is tested by `covers`.
+
+use liquid_core::{Use, Uses};
+use std::alloc::{AllocError, Global};
+use std::collections::BTreeMap;
+
+/// A copy of a use.
+#[cycle(copy)]
+pub(crate) fn copied(alloc: Global, asked: &Use) -> Result<Use, AllocError> {
+    match asked {
+        Use::Nothing => Ok(Use::Nothing),
+        Use::Everything => Ok(Use::Everything),
+        Use::Parts { members, items } => {
+            let members = copied_members(alloc, members)?;
+            let items = match items {
+                Some(item) => Some(Box::new(alloc, copied(alloc, item)?)?),
+                None => None,
+            };
+            Ok(Use::Parts { members, items })
+        }
+    }
+}
+
+#[cycle(copy)]
+fn copied_members(alloc: Global, members: &Uses) -> Result<Uses, AllocError> {
+    let mut copies: Uses = BTreeMap::new(alloc);
+    for (name, asked) in members.iter() {
+        let key = String::from_str(alloc, name.as_str())?;
+        drop(copies.insert(key, copied(alloc, asked)?)?);
+    }
+    Ok(copies)
+}
+
+/// What both uses ask for.
+#[cycle(join)]
+pub(crate) fn joined(alloc: Global, more: Use, held: Use) -> Result<Use, AllocError> {
+    match more {
+        Use::Nothing => Ok(held),
+        Use::Everything => Ok(Use::Everything),
+        Use::Parts {
+            members: others,
+            items: other_items,
+        } => match held {
+            Use::Nothing => Ok(Use::Parts {
+                members: others,
+                items: other_items,
+            }),
+            Use::Everything => Ok(Use::Everything),
+            Use::Parts { members, items } => Ok(Use::Parts {
+                members: joined_members(alloc, others, members)?,
+                items: joined_items(alloc, other_items, items)?,
+            }),
+        },
+    }
+}
+
+#[cycle(join)]
+fn joined_members(alloc: Global, more: Uses, held: Uses) -> Result<Uses, AllocError> {
+    let mut members = held;
+    for (name, asked) in more {
+        let both = match members.remove(name.as_str()) {
+            Some(before) => joined(alloc, asked, before)?,
+            None => asked,
+        };
+        drop(members.insert(name, both)?);
+    }
+    Ok(members)
+}
+
+#[cycle(join)]
+fn joined_items(
+    alloc: Global,
+    more: Option<Box<Use>>,
+    held: Option<Box<Use>>,
+) -> Result<Option<Box<Use>>, AllocError> {
+    match more {
+        None => Ok(held),
+        Some(asked) => match held {
+            None => Ok(Some(asked)),
+            Some(before) => {
+                let both = joined(alloc, Box::into_inner(asked), Box::into_inner(before))?;
+                Ok(Some(Box::new(alloc, both)?))
+            }
+        },
+    }
+}
