@@ -1,5 +1,6 @@
 //! Laws of values and of finding along a path: each function's contract is the law.
 ghost use Rattle.liquid_model.specs.Laws.{EqualityIsAnEquivalence, EqualValuesHashAlike, OrderIsTotal, KindsAreRanked, ScalarsAreOrdered, FirstUnequalPlaceDecides, MapsGoPairByPair, ComparePairByPair, CompareAgreesWithEquality, CompareWithoutAnswer, CompareByFirstUnequalPlace, ListTextIsItemTexts, NumberTextIsRead, FindGoesOn, ScalarsAloneFind, ItemsByIndex, TextsIndexToo, ItemsByName, OwnKeysWin, PutIsFound};
+ghost use Rattle.liquid_model.specs.Quotes.{PlainTextsAreShownWhole, QuotationsAreLines};
 ghost use Rattle.liquid_model.specs.Projected.{ProjectedAlike};
 ghost use Rattle.liquid_model.specs.Uses.{IncludedAlike, JoinedAlike};
 ghost use Rattle.liquid_model.specs.Skipping.{ListWithAllItems, ListWithoutItems};
@@ -124,4 +125,14 @@ pub fn skipping_laws()
     ensures some_keys { MapWithSomeKeys }
     ensures all_items { ListWithAllItems }
     ensures no_items { ListWithoutItems }
+{}
+
+/// What a message shows of a text is a short line.
+pub fn quotations_are_lines()
+    ensures { QuotationsAreLines }
+{}
+
+/// A short text of characters that each stand for themselves is shown as it is.
+pub fn plain_texts_are_shown_whole()
+    ensures { PlainTextsAreShownWhole }
 {}
