@@ -1,6 +1,6 @@
 -- What is left of a value where only some of it is asked for.
 --     projected u d      d without what u doesn't ask for;   projected_pairs W keep ps      of the pairs those that W asks for
-use Rattle.std.specs.Prelude.{ℕ, Bool, false, cond, not, ◌&&◌, ◌||◌, Some, codes}
+use Rattle.std.specs.Prelude.{Bool, false, cond, not, ◌&&◌, ◌||◌, Some, codes}
 use Rattle.liquid_model.specs.Texts.{Text, same_text}
 use Rattle.liquid_model.specs.Data.{Datum, nil, truth, number, text, array, object, Items, no_items, item, Pairs, no_pairs, pair}
 use Rattle.liquid_model.specs.Uses.{Use, nothing, everything, parts, Fields, no_fields, field, ItemUse, uncounted, every, Alike, asks_whether, use_of_each, has_every, join, is_place, items_wanted}

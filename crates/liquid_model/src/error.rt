@@ -211,6 +211,24 @@ impl Error {
         }
     }
 
+    /// The same fault with this message in place of its own, as by `with_message`.
+    pub fn retold(self, message: String) -> Error
+        ensures kind { result.kind ≡ self.kind }
+        ensures message { IsTrue (is_message self.kind (string_bytes message)) → result.message ≡ Some message }
+        ensures location { result.location ≡ self.location }
+    {
+        let Error {
+            kind,
+            message: _,
+            location,
+        } = self;
+        Error {
+            kind,
+            message: Some(message_of(kind, message)),
+            location,
+        }
+    }
+
     /// A fault of this kind with a message that is written out, as a `format_args!` is, or `Memory` where
     /// there is no room for the message. Of a message that is no short line the beginning that is one stays (`line_of`).
     pub fn formatted<M: fmt::Display + Drop>(alloc: Global, kind: ErrorKind, message: M) -> Error
