@@ -15,7 +15,7 @@ message_line all t words is short =
     let end : is_line 614 (codes "` has no value" ++ words) ≡ true = line_append 14 600 (codes "` has no value") words refl short in
     let behind : is_line 857 (quotation t ++ (codes "` has no value" ++ words)) ≡ true = line_append 243 614 (quotation t) (codes "` has no value" ++ words) (quotation_is_line t) end in
     let whole : is_line 858 (codes "`" ++ (quotation t ++ (codes "` has no value" ++ words))) ≡ true = line_append 1 857 (codes "`") (quotation t ++ (codes "` has no value" ++ words)) refl behind in
-    subst (λ s. is_line 900 s ≡ true) (sym is) (line_wider 858 900 _ (omega arith) whole)
+    subst (λ s. is_line 900 s ≡ true) (sym is) (line_wider 858 900 (codes "`" ++ (quotation t ++ (codes "` has no value" ++ words))) (omega arith) whole)
 
 pub message_front : (o : Option (List ℕ)) (all t words : List ℕ) → IfSome o (λ form. t ≡ form) → all ≡ codes "`" ++ (quotation t ++ (codes "` has no value" ++ words))
     → IfSome o (λ form. (rest : List ℕ) × (all ≡ without_value_front form ++ rest))
@@ -27,7 +27,8 @@ pub nowhere_is_message : (t : List ℕ) → IsTrue (is_message UnknownVariable (
 nowhere_is_message t =
     let end : is_line 263 (quotation t ++ codes "` leads to no value") ≡ true = line_append 243 20 (quotation t) (codes "` leads to no value") (quotation_is_line t) refl in
     let whole : is_line 279 (codes "the path from `" ++ (quotation t ++ codes "` leads to no value")) ≡ true = line_append 16 263 (codes "the path from `") (quotation t ++ codes "` leads to no value") refl end in
-    line_is_message UnknownVariable _ (line_wider 279 1000 _ (omega arith) whole)
+    let text = codes "the path from `" ++ (quotation t ++ codes "` leads to no value") in
+    line_is_message UnknownVariable text (line_wider 279 1000 text (omega arith) whole)
 
 pub where_ok : {A E : Type 0} {P Q : A → Type 0} (r : Result A E) → IfOk r P → ((a : A) → P a → Q a) → IfOk r Q
 where_ok (Ok a) p f = f a p

@@ -3,6 +3,7 @@ ghost use Rattle.std.specs.Prelude.{◌≡◌, ◌++◌, Some, codes, string_byt
 ghost use Rattle.std.specs.Fmt.{WritesOnOk};
 ghost use Rattle.std.specs.List.{list_all};
 ghost use Rattle.liquid_core.specs.ExpressionView.{expression_view, variable_view, steps_view};
+ghost use Rattle.liquid_core.specs.Expression.{literal};
 ghost use Rattle.liquid_core.specs.Spelled.{as_step, begins_name, goes_on_in_name, is_name, spelled, spelled_key, spelled_steps};
 ghost use Rattle.liquid_core.specs.Written.{written_literal};
 ghost use Rattle.liquid_model.specs.View.{view};
@@ -45,7 +46,6 @@ impl fmt::Display for SpelledPath<'_> {
     }
 }
 
-#[cycle(write_spelled)]
 fn write_spelled<W: Write>(expression: &Expression, f: &mut Formatter<W>) -> fmt::Result
     ensures { WritesOnOk W.write_str_gives f.old result (spelled (expression_view expression.now)) f.new }
 {
@@ -55,7 +55,7 @@ fn write_spelled<W: Write>(expression: &Expression, f: &mut Formatter<W>) -> fmt
     }
 }
 
-#[cycle(write_spelled)]
+#[cycle(write_steps)]
 fn write_variable<W: Write>(variable: &Variable, f: &mut Formatter<W>) -> fmt::Result
     ensures { WritesOnOk W.write_str_gives f.old result (spelled (variable_view variable.now)) f.new }
 {
@@ -63,7 +63,7 @@ fn write_variable<W: Write>(variable: &Variable, f: &mut Formatter<W>) -> fmt::R
     write_steps(variable.indexes.as_slice(), f)
 }
 
-#[cycle(write_spelled)]
+#[cycle(write_steps)]
 fn write_steps<W: Write>(indexes: &[Expression], f: &mut Formatter<W>) -> fmt::Result
     ensures { WritesOnOk W.write_str_gives f.old result (spelled_steps (steps_view indexes.now)) f.new }
 {
@@ -73,15 +73,41 @@ fn write_steps<W: Write>(indexes: &[Expression], f: &mut Formatter<W>) -> fmt::R
     Ok(())
 }
 
-#[cycle(write_spelled)]
+#[tactic(auto, using(crate::proofs::ExpressionViews::bracketed_variable))]
+#[cycle(write_steps)]
 fn write_step<W: Write>(index: &Expression, f: &mut Formatter<W>) -> fmt::Result
     ensures { WritesOnOk W.write_str_gives f.old result (as_step (expression_view index.now) (spelled (expression_view index.now))) f.new }
 {
-    if let Expression::Literal(Value::Text(text)) = index {
-        return write_key(text.as_str(), f);
+    match index {
+        Expression::Literal(value) => write_literal_step(value, f),
+        Expression::Variable(variable) => write_bracketed(variable, f),
     }
+}
+
+#[cycle(write_steps)]
+fn write_bracketed<W: Write>(variable: &Variable, f: &mut Formatter<W>) -> fmt::Result
+    ensures { WritesOnOk W.write_str_gives f.old result (codes "[" ++ (spelled (variable_view variable.now) ++ codes "]")) f.new }
+{
     f.write_str("[")?;
-    write_spelled(index, f)?;
+    write_variable(variable, f)?;
+    f.write_str("]")
+}
+
+/// Writes a literal as a step.
+fn write_literal_step<W: Write>(value: &Value, f: &mut Formatter<W>) -> fmt::Result
+    ensures { WritesOnOk W.write_str_gives f.old result (as_step (literal (view value.now)) (written_literal (view value.now))) f.new }
+{
+    match value {
+        Value::Text(text) => write_key(text.as_str(), f),
+        _ => write_bracketed_literal(value, f),
+    }
+}
+
+fn write_bracketed_literal<W: Write>(value: &Value, f: &mut Formatter<W>) -> fmt::Result
+    ensures { WritesOnOk W.write_str_gives f.old result (codes "[" ++ (written_literal (view value.now) ++ codes "]")) f.new }
+{
+    f.write_str("[")?;
+    write_literal(value, f)?;
     f.write_str("]")
 }
 
@@ -90,12 +116,10 @@ fn write_key<W: Write>(text: &str, f: &mut Formatter<W>) -> fmt::Result
     ensures { WritesOnOk W.write_str_gives f.old result (spelled_key text.now) f.new }
 {
     if is_name(text) {
-        f.write_str(".")?;
-        return f.write_str(text);
+        write!(f, ".{text}")
+    } else {
+        write!(f, "[\"{text}\"]")
     }
-    f.write_str("[\"")?;
-    f.write_str(text)?;
-    f.write_str("\"]")
 }
 
 /// Whether a text may follow a dot.

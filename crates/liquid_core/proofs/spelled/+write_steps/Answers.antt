@@ -1,9 +1,10 @@
-use Rattle.std.proofs.Common.{rules, arith, ◌≡◌, ℕ, List, ◌∷◌, ◌++◌, ◌+◌, codes, drop, get_or, sym, ap, ◌∙◌, append_assoc}
+use Rattle.std.proofs.Common.{rules, arith, ◌≡◌, ℕ, List, ◌∷◌, ◌++◌, ◌+◌, codes, drop, get_or, refl, sym, ap, ◌∙◌, append_assoc}
 use Rattle.std.proofs.Output.{has_written_append}
+use Rattle.std.proofs.lemmas.Grind.{put_three}
 use Rattle.std.proofs.lemmas.List.{drop_more}
 use Rattle.liquid_core.specs.ExpressionView.{expression_view, steps_view}
 use Rattle.liquid_core.specs.Spelled.{as_step, spelled, spelled_steps}
-use Rattle.liquid_core.proofs.spelled.+write_spelled.Goals as goal
+use Rattle.liquid_core.proofs.spelled.+write_steps.Goals as goal
 
 pub write_steps-loop-index-preserved : goal.write_steps-loop-index-preserved
 write_steps-loop-index-preserved g t c plain =
@@ -19,3 +20,10 @@ write_steps-loop-index-preserved g t c plain =
       has_written_append _ _ _ _ _ _ before.1 one,
       append_assoc before.0 (as_step (expression_view x) (spelled (expression_view x))) rest ∙ ap (λ l. before.0 ++ spelled_steps (steps_view l)) (sym next) ∙ before.2,
     )
+
+pub write_bracketed-returns : goal.write_bracketed-returns
+write_bracketed-returns g t c = λ plain ok.
+    let one = c.in_ok-write_str.ensures.writes plain (search rules) in
+    let two = c.in_ok-write_variable.ensures one.plain (search rules) in
+    let three = c.write_str-2.ensures.writes two.plain ok in
+    put_three _ _ _ _ _ _ _ _ _ one two three refl
