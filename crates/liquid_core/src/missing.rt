@@ -61,7 +61,8 @@ impl<'n, 'm> Search<'n, 'm> {
     fn look(&mut self, alloc: Global, name: &'n str) -> Result<(), AllocError> {
         if self.left > 0 {
             self.left -= 1;
-            self.near = nearer(alloc, name, self.meant, self.near)?;
+            let near = nearer(alloc, name, self.meant, self.near)?;
+            self.near = likely(near, self.meant);
         }
         Ok(())
     }
@@ -74,6 +75,14 @@ impl<'n, 'm> Search<'n, 'm> {
             self.look(alloc, name.as_str())?;
         }
         Ok(())
+    }
+}
+
+/// A name that is near to one that is meant, where fewer than half of its letters are edited.
+fn likely<'n>(near: Option<NearName<'n>>, meant: &str) -> Option<NearName<'n>> {
+    match near {
+        Some(found) if found.edits.saturating_mul(2) < meant.len() => Some(found),
+        _ => None,
     }
 }
 
@@ -214,7 +223,9 @@ fn look_in_state<'n>(
     state: &'n State<'_>,
 ) -> Result<(), AllocError> {
     for word in &["true", "false", "nil"] {
-        search.look(alloc, *word)?;
+        if word.eq_ignore_ascii_case(search.meant) {
+            search.look(alloc, *word)?;
+        }
     }
     for scope in state.frames() {
         match scope {
