@@ -1,4 +1,5 @@
--- An expression as a template spells it, for messages: `user.name`, `tags[0]`, `a["b c"]`, `products[first].title`.
+-- An expression as a template spells it, for messages: `user.name`, `tags[0]`, `a["b c"]`,
+-- `products[first].title`.
 use Rattle.std.specs.Prelude.{ℕ, Bool, false, cond, ◌&&◌, ◌||◌, ◌==◌, [], ◌∷◌, ◌++◌, codes}
 use Rattle.std.specs.Char.{is_ascii_alphabetic, is_ascii_digit}
 use Rattle.std.specs.List.{list_all}
@@ -20,7 +21,7 @@ abbrev pub is_name : Text → Bool
 is_name [] = false
 is_name (b ∷ bs) = begins_name b && list_all goes_on_in_name bs
 
--- a text as a step: behind a dot where it is a name, else in brackets and quotes
+-- a text as a step: after a dot where it is a name, else in brackets and quotes
 abbrev pub spelled_key : Text → Text
 spelled_key s = cond (is_name s) (codes "." ++ s) (codes "[\"" ++ (s ++ codes "\"]"))
 

@@ -1,4 +1,5 @@
-//! What is said of an expression that has no value, behind its spelling: which step leads nowhere, and which name may be meant.
+//! What is said of an expression that has no value, after its spelling: which step leads nowhere,
+//! and which name may be meant.
 //! It is made only where a run ends by that fault.
 use crate::expression::{Expression, Variable, expression_value};
 use crate::frame::{LoopFrame, LoopKind, Scope};
@@ -10,7 +11,8 @@ use liquid_model::{Found, Object, Quoted, Value};
 use std::alloc::{AllocError, Global};
 use std::fmt::Write;
 
-/// So many names are looked at for a near one, so that the search is short, whatever the data holds.
+/// So many names are looked at for a near one, so that the search is short, whatever the data
+/// holds.
 const MOST_NAMES: usize = 2000;
 
 /// Words, or refused memory.
@@ -86,7 +88,7 @@ fn likely<'n>(near: Option<NearName<'n>>, meant: &str) -> Option<NearName<'n>> {
     }
 }
 
-/// The words behind `X has no value`.
+/// The words after `X has no value`.
 pub(crate) fn words_of(alloc: Global, expression: &Expression, state: &State<'_>) -> Words {
     match expression {
         Expression::Literal(_) => Ok(String::new(alloc)),

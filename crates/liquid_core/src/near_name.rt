@@ -17,8 +17,9 @@ pub struct NearName<'n> {
     pub edits: usize,
 }
 
-/// The nearer of two names to the one that is meant: this one, or the one that was found before. A name of more than 60
-/// bytes is near to none, and so is one that differs by more than two edits. It refuses for memory alone.
+/// The nearer of two names to the one that is meant: this one, or the one that was found before. A
+/// name of more than 60 bytes is near to none, and so is one that differs by more than two edits.
+/// It refuses for memory alone.
 pub fn nearer<'n>(
     alloc: Global,
     name: &'n str,

@@ -4,7 +4,8 @@ ghost use Rattle.std.specs.Fmt.{WritesOnOk};
 ghost use Rattle.std.specs.List.{list_all};
 ghost use Rattle.liquid_core.specs.ExpressionView.{expression_view, variable_view, steps_view};
 ghost use Rattle.liquid_core.specs.Expression.{literal};
-ghost use Rattle.liquid_core.specs.Spelled.{as_step, begins_name, goes_on_in_name, is_name, spelled, spelled_key, spelled_steps};
+ghost use Rattle.liquid_core.specs.Spelled.{as_step, begins_name, goes_on_in_name, is_name};
+ghost use Rattle.liquid_core.specs.Spelled.{spelled, spelled_key, spelled_steps};
 ghost use Rattle.liquid_core.specs.Written.{written_literal};
 ghost use Rattle.liquid_model.specs.View.{view};
 
@@ -14,8 +15,8 @@ use liquid_model::Value;
 use std::fmt;
 use std::fmt::{Formatter, Write};
 
-/// An expression as a template spells it: a literal, or a name with its steps, of which each is a name behind a dot, a text
-/// in brackets and quotes, or any other expression in brackets.
+/// An expression as a template spells it: a literal, or a name with its steps, of which each is a
+/// name after a dot, a text in brackets and quotes, or any other expression in brackets.
 #[derive(Clone, Copy)]
 pub struct Spelled<'e> {
     /// The expression.
@@ -47,7 +48,8 @@ impl fmt::Display for SpelledPath<'_> {
 }
 
 fn write_spelled<W: Write>(expression: &Expression, f: &mut Formatter<W>) -> fmt::Result
-    ensures { WritesOnOk W.write_str_gives f.old result (spelled (expression_view expression.now)) f.new }
+    ensures { WritesOnOk W.write_str_gives f.old result (spelled (expression_view expression.now))
+        f.new }
 {
     match expression {
         Expression::Literal(value) => write_literal(value, f),
@@ -57,7 +59,8 @@ fn write_spelled<W: Write>(expression: &Expression, f: &mut Formatter<W>) -> fmt
 
 #[cycle(write_steps)]
 fn write_variable<W: Write>(variable: &Variable, f: &mut Formatter<W>) -> fmt::Result
-    ensures { WritesOnOk W.write_str_gives f.old result (spelled (variable_view variable.now)) f.new }
+    ensures { WritesOnOk W.write_str_gives f.old result (spelled (variable_view variable.now))
+        f.new }
 {
     f.write_str(variable.name.as_str())?;
     write_steps(variable.indexes.as_slice(), f)
@@ -65,7 +68,8 @@ fn write_variable<W: Write>(variable: &Variable, f: &mut Formatter<W>) -> fmt::R
 
 #[cycle(write_steps)]
 fn write_steps<W: Write>(indexes: &[Expression], f: &mut Formatter<W>) -> fmt::Result
-    ensures { WritesOnOk W.write_str_gives f.old result (spelled_steps (steps_view indexes.now)) f.new }
+    ensures { WritesOnOk W.write_str_gives f.old result (spelled_steps (steps_view indexes.now))
+        f.new }
 {
     for index in indexes {
         write_step(index, f)?;
@@ -76,7 +80,8 @@ fn write_steps<W: Write>(indexes: &[Expression], f: &mut Formatter<W>) -> fmt::R
 #[tactic(auto, using(crate::proofs::ExpressionViews::bracketed_variable))]
 #[cycle(write_steps)]
 fn write_step<W: Write>(index: &Expression, f: &mut Formatter<W>) -> fmt::Result
-    ensures { WritesOnOk W.write_str_gives f.old result (as_step (expression_view index.now) (spelled (expression_view index.now))) f.new }
+    ensures { WritesOnOk W.write_str_gives f.old result (as_step (expression_view index.now)
+        (spelled (expression_view index.now))) f.new }
 {
     match index {
         Expression::Literal(value) => write_literal_step(value, f),
@@ -86,7 +91,8 @@ fn write_step<W: Write>(index: &Expression, f: &mut Formatter<W>) -> fmt::Result
 
 #[cycle(write_steps)]
 fn write_bracketed<W: Write>(variable: &Variable, f: &mut Formatter<W>) -> fmt::Result
-    ensures { WritesOnOk W.write_str_gives f.old result (codes "[" ++ (spelled (variable_view variable.now) ++ codes "]")) f.new }
+    ensures { WritesOnOk W.write_str_gives f.old result (codes "[" ++
+        (spelled (variable_view variable.now) ++ codes "]")) f.new }
 {
     f.write_str("[")?;
     write_variable(variable, f)?;
@@ -95,7 +101,8 @@ fn write_bracketed<W: Write>(variable: &Variable, f: &mut Formatter<W>) -> fmt::
 
 /// Writes a literal as a step.
 fn write_literal_step<W: Write>(value: &Value, f: &mut Formatter<W>) -> fmt::Result
-    ensures { WritesOnOk W.write_str_gives f.old result (as_step (literal (view value.now)) (written_literal (view value.now))) f.new }
+    ensures { WritesOnOk W.write_str_gives f.old result (as_step (literal (view value.now))
+        (written_literal (view value.now))) f.new }
 {
     match value {
         Value::Text(text) => write_key(text.as_str(), f),
@@ -104,7 +111,9 @@ fn write_literal_step<W: Write>(value: &Value, f: &mut Formatter<W>) -> fmt::Res
 }
 
 fn write_bracketed_literal<W: Write>(value: &Value, f: &mut Formatter<W>) -> fmt::Result
-    ensures { WritesOnOk W.write_str_gives f.old result (codes "[" ++ (written_literal (view value.now) ++ codes "]")) f.new }
+    ensures { WritesOnOk W.write_str_gives f.old result (codes "[" ++
+        (written_literal (view value.now) ++
+        codes "]")) f.new }
 {
     f.write_str("[")?;
     write_literal(value, f)?;

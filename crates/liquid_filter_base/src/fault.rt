@@ -4,16 +4,19 @@ ghost use Rattle.liquid_model.specs.Errors.{HasMessageUnlessMemory};
 ghost use Rattle.liquid_model.specs.Quotes.{is_line, most_bytes};
 ghost use Rattle.liquid_model.specs.ErrorKinds.{IsKindOrMemory};
 ghost use Rattle.liquid_model.specs.View.{view};
-ghost use Rattle.liquid_model.specs.declared.error.ErrorKind.TheVariants.{InvalidArgument, InvalidInput};
+ghost use Rattle.liquid_model.specs.declared.error.ErrorKind.TheVariants.{InvalidArgument};
+ghost use Rattle.liquid_model.specs.declared.error.ErrorKind.TheVariants.{InvalidInput};
 ghost use Rattle.liquid_filter_base.specs.Faults.{kind_name, must_be};
 
 use liquid_core::{Error, ErrorKind, Value};
 use std::alloc::Global;
 
-/// An input that is another thing than what is wanted, which is told in a few words with an article.
+/// An input that is another thing than what is wanted, which is told in a few words with an
+/// article.
 pub fn invalid_input(alloc: Global, wanted: &str, found: &Value) -> Error
     ensures told { IsKindOrMemory InvalidInput result.kind }
-    ensures message { IsTrue (is_line most_bytes (must_be (codes "the input") wanted.now (view found.now)))
+    ensures message { IsTrue
+        (is_line most_bytes (must_be (codes "the input") wanted.now (view found.now)))
         → HasMessageUnlessMemory (must_be (codes "the input") wanted.now (view found.now)) result }
 {
     let found_kind = kind_name(found);
@@ -24,11 +27,14 @@ pub fn invalid_input(alloc: Global, wanted: &str, found: &Value) -> Error
     )
 }
 
-/// An argument that is another thing than what is wanted, which is told in a few words with an article.
+/// An argument that is another thing than what is wanted, which is told in a few words with an
+/// article.
 pub fn invalid_argument(alloc: Global, wanted: &str, found: &Value) -> Error
     ensures told { IsKindOrMemory InvalidArgument result.kind }
-    ensures message { IsTrue (is_line most_bytes (must_be (codes "the argument") wanted.now (view found.now)))
-        → HasMessageUnlessMemory (must_be (codes "the argument") wanted.now (view found.now)) result }
+    ensures message { IsTrue
+        (is_line most_bytes (must_be (codes "the argument") wanted.now (view found.now)))
+        → HasMessageUnlessMemory (must_be (codes "the argument") wanted.now (view found.now))
+        result }
 {
     let found_kind = kind_name(found);
     Error::formatted(

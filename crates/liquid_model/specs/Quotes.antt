@@ -1,7 +1,10 @@
 -- What a message shows of a text that a stranger wrote, and what a message is: a short line.
---     quotation text      at most 60 characters of the text, with `...` where more follow, and none that a terminal would obey
---     is_line most text      the text has at most so many bytes, and none of them is a control character
-use Rattle.std.specs.Prelude.{◌≡◌, ◌≤◌, ℕ, ◌-◌, Bool, true, false, IsTrue, cond, not, ◌&&◌, ◌||◌, ◌==◌, nat_lt, nat_le, List, [], ◌∷◌, ◌++◌, codes, length}
+--     quotation text      at most 60 characters of the text, with `...` where more follow, and none
+--                         that a terminal would obey
+--     is_line most text      the text has at most so many bytes, and none of them is a control
+--                            character
+use Rattle.std.specs.Prelude.{◌≡◌, ◌≤◌, ℕ, ◌-◌, Bool, true, false, IsTrue, cond, not, ◌&&◌, ◌||◌}
+use Rattle.std.specs.Prelude.{◌==◌, nat_lt, nat_le, List, [], ◌∷◌, ◌++◌, codes, length}
 use Rattle.std.specs.Char.{encode_utf8, is_control}
 use Rattle.std.specs.Fmt.{digits}
 use Rattle.std.specs.Int.{is_in_range}
@@ -17,10 +20,12 @@ use Rattle.liquid_model.specs.ErrorKinds.{is_write}
 abbrev pub most_quoted : ℕ
 most_quoted = 60
 
--- a character that prints nothing or turns the direction of what follows, or white space other than a plain space
+-- a character that prints nothing or turns the direction of what follows, or white space other than
+-- a plain space
 abbrev pub is_unseen : ℕ → Bool
 is_unseen c =
-    c == 0xA0 || c == 0xAD || c == 0x61C || is_in_range 0x2000 0x200F c || is_in_range 0x2028 0x202F c || is_in_range 0x205F 0x206F c
+    c == 0xA0 || c == 0xAD || c == 0x61C || is_in_range 0x2000 0x200F c ||
+    is_in_range 0x2028 0x202F c || is_in_range 0x205F 0x206F c
     || c == 0x3000 || c == 0xFEFF
 
 -- a character that would not stand for itself on a line
@@ -29,7 +34,9 @@ is_hidden c = is_control c || is_unseen c
 
 -- `\n`, `\r`, `\t`, and of any other the number, as `\u{1b}`
 abbrev pub escaped : ℕ → Text
-escaped c = cond (c == 10) (codes "\\n") (cond (c == 13) (codes "\\r") (cond (c == 9) (codes "\\t") (codes "\\u{" ++ (digits 16 false c ++ codes "}"))))
+escaped c = cond (c == 10) (codes "\\n")
+    (cond (c == 13) (codes "\\r")
+    (cond (c == 9) (codes "\\t") (codes "\\u{" ++ (digits 16 false c ++ codes "}"))))
 
 -- a character as it is shown
 abbrev pub shown : ℕ → Text
@@ -62,7 +69,8 @@ is_line most text = nat_le (length text) most && list_all is_line_byte text
 abbrev pub most_bytes : ℕ
 most_bytes = 1000
 
--- what the message of a fault of this kind is: a short line. Of a failed write it is the host's, and may be any text
+-- what the message of a fault of this kind is: a short line. Of a failed write it is the host's,
+-- and may be any text
 abbrev pub is_message : ErrorKind → Text → Bool
 is_message kind text = is_write kind || is_line most_bytes text
 
@@ -74,4 +82,5 @@ QuotationsAreLines = (t : Text) → IsTrue (is_line 243 (quotation t))
 
 -- a text of 60 characters at most that each stand for themselves is shown as it is
 abbrev pub PlainTextsAreShownWhole : Type 0
-PlainTextsAreShownWhole = (t : Text) → IsUtf8 t → length (chars t) ≤ most_quoted → list_all (λ c. not (is_hidden c)) (chars t) ≡ true → quotation t ≡ t
+PlainTextsAreShownWhole = (t : Text) → IsUtf8 t → length (chars t) ≤ most_quoted →
+    list_all (λ c. not (is_hidden c)) (chars t) ≡ true → quotation t ≡ t

@@ -1,5 +1,6 @@
 //! Faults: what kind one is, and a message for who reads it.
-ghost use Rattle.std.specs.Prelude.{◌≡◌, ◌⊎◌, ◌||◌, true, false, Some, IfSome, IsSomeAnd, IsTrue, is_some, string_bytes};
+ghost use Rattle.std.specs.Prelude.{◌≡◌, ◌⊎◌, ◌||◌, true, false, Some, IfSome, IsSomeAnd, IsTrue};
+ghost use Rattle.std.specs.Prelude.{is_some, string_bytes};
 ghost use Rattle.std.specs.Option.{option_map, option_map_or};
 ghost use Rattle.liquid_model.specs.ErrorKinds.{IsKindOrMemory, is_memory, number_of, name_of};
 ghost use Rattle.liquid_model.specs.Quotes.{is_message};
@@ -156,9 +157,9 @@ impl ErrorKind {
 }
 
 /// A fault: its kind, a message that says what was found and what is wanted, and where it stands,
-/// where that is known. `Memory` alone may lack a message. A message is one line of at most 1,000 bytes without control
-/// characters, and shows at most 60 characters of what a stranger wrote at a place. Of `Write` alone, which a host makes,
-/// it may be any text.
+/// where that is known. `Memory` alone may lack a message. A message is one line of at most 1,000
+/// bytes without control characters, and shows at most 60 characters of what a stranger wrote at a
+/// place. Of `Write` alone, which a host makes, it may be any text.
 #[derive(Debug)]
 pub struct Error {
     pub kind: ErrorKind,
@@ -171,7 +172,8 @@ pub struct Error {
     pub ghost is_short: { option_map_or (λ m. is_message kind (string_bytes m)) message true ≡ true },
 }
 
-/// Drops the fields. By hand, so that a way out of a function that owns one is one call to prove.
+/// Drops the fields. Written by hand, so that each early return drops the value by one call to
+/// prove.
 impl Drop for Error {
     fn drop(self) {
         let Error {
@@ -186,11 +188,12 @@ impl Error {
     ghost use Rattle.liquid_model.specs.Errors.{HasMessageUnlessMemory, location_text};
     ghost use Rattle.liquid_model.specs.Errors.{partial_location_text};
 
-    /// A fault of this kind with this message, or `Memory` where there is no room for the message. Of a message that is no
-    /// short line the beginning that is one stays (`line_of`).
+    /// A fault of this kind with this message, or `Memory` where there is no room for the message.
+    /// Of a message that is no short line the beginning that is one stays (`line_of`).
     pub fn new(alloc: Global, kind: ErrorKind, message: &str) -> Error
         ensures told { IsKindOrMemory kind result.kind }
-        ensures message { IsTrue (is_message kind message.now) → HasMessageUnlessMemory message.now result }
+        ensures message { IsTrue (is_message kind message.now) →
+            HasMessageUnlessMemory message.now result }
     {
         match String::from_str(alloc, message) {
             Ok(text) => Error::with_message(kind, text),
@@ -198,11 +201,12 @@ impl Error {
         }
     }
 
-    /// A fault of this kind with this message. Of a message that is no short line the beginning that is one stays
-    /// (`line_of`).
+    /// A fault of this kind with this message. Of a message that is no short line the beginning
+    /// that is one stays (`line_of`).
     pub fn with_message(kind: ErrorKind, message: String) -> Error
         ensures kind { result.kind ≡ kind }
-        ensures message { IsTrue (is_message kind (string_bytes message)) → result.message ≡ Some message }
+        ensures message { IsTrue (is_message kind (string_bytes message)) → result.message ≡
+            Some message }
     {
         Error {
             kind,
@@ -214,7 +218,8 @@ impl Error {
     /// The same fault with this message in place of its own, as by `with_message`.
     pub fn retold(self, message: String) -> Error
         ensures kind { result.kind ≡ self.kind }
-        ensures message { IsTrue (is_message self.kind (string_bytes message)) → result.message ≡ Some message }
+        ensures message { IsTrue (is_message self.kind (string_bytes message)) → result.message ≡
+            Some message }
         ensures location { result.location ≡ self.location }
     {
         let Error {
@@ -229,11 +234,13 @@ impl Error {
         }
     }
 
-    /// A fault of this kind with a message that is written out, as a `format_args!` is, or `Memory` where
-    /// there is no room for the message. Of a message that is no short line the beginning that is one stays (`line_of`).
+    /// A fault of this kind with a message that is written out, as a `format_args!` is, or `Memory`
+    /// where there is no room for the message. Of a message that is no short line the beginning
+    /// that is one stays (`line_of`).
     pub fn formatted<M: fmt::Display + Drop>(alloc: Global, kind: ErrorKind, message: M) -> Error
         ensures told { IsKindOrMemory kind result.kind }
-        ensures message { IfSome (M.output message) (λ written. IsTrue (is_message kind written) → HasMessageUnlessMemory written result) }
+        ensures message { IfSome (M.output message) (λ written. IsTrue (is_message kind written) →
+            HasMessageUnlessMemory written result) }
     {
         match message.to_string(alloc) {
             Ok(written) => Error::with_message(kind, written),
@@ -241,12 +248,13 @@ impl Error {
         }
     }
 
-    /// The same fault with where it stands. One that says where it stands already keeps that. `Memory`, without a message, where
-    /// there is no room for the location.
+    /// The same fault with where it stands. One that says where it stands already keeps that.
+    /// `Memory`, without a message, where there is no room for the location.
     pub fn located(self, alloc: Global, location: Location) -> Error
         ensures told { IsKindOrMemory self.kind result.kind }
         ensures whole { is_memory result.kind ≡ false → (result.message ≡ self.message)
-            × IsSomeAnd result.location (λ told. (self.location ≡ Some told) ⊎ (told.value ≡ location)) }
+            × IsSomeAnd result.location (λ told. (self.location ≡ Some told) ⊎
+            (told.value ≡ location)) }
         ensures kept { IfSome self.location (λ known. result ≡ self) }
     {
         if self.location.is_some() {
@@ -267,12 +275,15 @@ impl Error {
         }
     }
 
-    /// The same fault, told by the partial of this name: where it stands in the partial's own text, its location says so now.
+    /// The same fault, reported by the partial of this name: where it stands in the partial's own
+    /// text, its location says so now.
     /// `Memory`, without a message, where there is no room for that.
     pub fn in_partial(self, alloc: Global, name: &str) -> Error
         ensures told { IsKindOrMemory self.kind result.kind }
         ensures message { is_memory result.kind ≡ false → result.message ≡ self.message }
-        ensures location { is_memory result.kind ≡ false → option_map (λ l. location_text l.value) result.location ≡ option_map (λ l. partial_location_text name.now l.value) self.location }
+        ensures location { is_memory result.kind ≡ false →
+            option_map (λ l. location_text l.value) result.location ≡
+            option_map (λ l. partial_location_text name.now l.value) self.location }
     {
         let Error {
             kind,

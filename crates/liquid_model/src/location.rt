@@ -17,7 +17,8 @@ pub enum Origin {
     Data,
 }
 
-/// Where a fault stands: in which text, and in which line and column there, counted in characters and each from 1.
+/// Where a fault stands: in which text, and in which line and column there, counted in characters
+/// and each from 1.
 #[derive(Debug, PartialEq, Eq, Drop)]
 pub struct Location {
     pub origin: Origin,
@@ -26,7 +27,8 @@ pub struct Location {
 }
 
 impl Location {
-    /// The same location of a fault that the partial of this name tells: what it tells as its own text is that of the partial.
+    /// The same location of a fault that the partial of this name tells: what it tells as its own
+    /// text is that of the partial.
     pub(crate) fn in_partial(self, alloc: Global, name: &str) -> Result<Location, AllocError>
         ensures { IfOk result (λ told. location_text told ≡ partial_location_text name.now self) }
     {
@@ -48,7 +50,8 @@ impl Location {
     }
 }
 
-/// What stands before a line and a column: nothing for the template itself. The name of a partial is shown as a quotation.
+/// What stands before a line and a column: nothing for the template itself. The name of a partial
+/// is shown as a quotation.
 impl fmt::Display for Origin {
     ghost output = { λ origin. Some (origin_text origin) };
 

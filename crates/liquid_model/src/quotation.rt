@@ -1,4 +1,5 @@
-//! What a message shows of a stranger's text: little of it, on one line, and nothing that a terminal would obey.
+//! What a message shows of a stranger's text: little of it, on one line, and nothing that a
+//! terminal would obey.
 ghost use Rattle.std.specs.Prelude.{◌≡◌, Some, IfOk, string_bytes};
 ghost use Rattle.std.specs.Fmt.{WritesOnOk};
 ghost use Rattle.liquid_model.specs.Quotes.{cost, escaped, is_hidden, quotation, shown};
@@ -10,9 +11,10 @@ use std::fmt::{Formatter, Write};
 /// So many characters of a text are shown at most.
 const MOST_QUOTED: usize = 60;
 
-/// A text as a message shows it: its beginning of at most 60 characters, with `...` where more follow. A character that
-/// prints nothing, or that a terminal would obey, is escaped, as `\n` or `\u{1b}`, and counts as 8. It takes no memory, and
-/// its length is bounded, whatever the text's is.
+/// A text as a message shows it: its beginning of at most 60 characters, with `...` where more
+/// follow. A character that prints nothing, or that a terminal would obey, is escaped, as `\n` or
+/// `\u{1b}`, and counts as 8. It takes no memory, and its length is bounded, whatever the text's
+/// is.
 #[derive(Clone, Copy)]
 pub struct Quoted<'t> {
     /// The whole text.
@@ -79,8 +81,8 @@ fn write_escaped<W: Write>(letter: char, f: &mut Formatter<W>) -> fmt::Result
     }
 }
 
-/// Whether a character would not stand for itself on a line: a control character, one that turns the direction of what
-/// follows, one that prints nothing, or white space other than a plain space.
+/// Whether a character would not stand for itself on a line: a control character, one that turns
+/// the direction of what follows, one that prints nothing, or white space other than a plain space.
 fn is_hidden(letter: char) -> bool
     ensures { result ≡ is_hidden letter }
 {

@@ -1,4 +1,5 @@
-//! Faults of pieces that can't be read: of what stands where an item can't begin or go on, and of a source that ends inside one.
+//! Faults of pieces that can't be read: of what stands where an item can't begin or go on, and of a
+//! source that ends inside one.
 use super::characters::{ends_value, is_digit, is_letter_beyond, is_sign};
 use super::habits::{Site, Spot, advice, site_of};
 use super::items::{closer_of, closer_word, front_before, not_wanted, spelling_before};
@@ -28,8 +29,8 @@ pub fn unread<'s>(fault: &Fault, outline: &Outline<'s>, piece: &PlacedPiece<'s>)
     }
 }
 
-/// Of a number with a fraction: what it is in a smaller unit, where it can be computed with. It needs the `before` in front of
-/// it to be a text that is a number.
+/// Of a number with a fraction: what it is in a smaller unit, where it can be computed with. It
+/// needs the `before` in front of it to be a text that is a number.
 fn no_whole<'s>(from: &'s str, before: &'static str, piece: &PlacedPiece<'s>) -> Told<'s> {
     let number = number_front(from);
     let Some((smaller, unit)) = in_smaller_unit(number) else {
@@ -52,7 +53,7 @@ fn no_whole<'s>(from: &'s str, before: &'static str, piece: &PlacedPiece<'s>) ->
     }
 }
 
-/// What is told of a number with a fraction that isn't zero, by what it is for.
+/// What the message says of a number with a fraction that isn't zero, by what it is for.
 fn words_of_fraction(piece: &PlacedPiece<'_>) -> &'static str {
     match (last_filter(piece), site_of(piece)) {
         (Some("times"), _) => {
@@ -86,8 +87,8 @@ fn last_filter<'s>(piece: &PlacedPiece<'s>) -> Option<&'s str> {
     name
 }
 
-/// A number without its point and the zeros at its end, and how many of that unit are one; for no number with more than 15
-/// digits or a sign.
+/// A number without its point and the zeros at its end, and how many of that unit are one; for no
+/// number with more than 15 digits or a sign.
 fn in_smaller_unit(number: &str) -> Option<(usize, usize)> {
     let (whole, fraction) = number.split_once(".")?;
     let fraction = fraction.trim_end_matches('0');
@@ -117,7 +118,8 @@ fn number_front(text: &str) -> &str {
     front_before(text, behind)
 }
 
-/// Of a source that ends inside a piece, which is told at its opener, or inside a text, which is told at its quote.
+/// Of a source that ends inside a piece, which is reported at its opener, or inside a text, which
+/// is told at its quote.
 fn unclosed<'s>(outline: &Outline<'s>, piece: &PlacedPiece<'s>) -> Told<'s> {
     match outline.from.get(..1) {
         Some(quote) => unclosed_text(outline.from, quote, piece),
@@ -183,8 +185,8 @@ fn spot_of<'s>(fault: &Fault, from: &'s str, piece: &PlacedPiece<'s>) -> Spot<'s
     }
 }
 
-/// What is told of the end of the source, or of the value that the fault is in, at the end of what was read of the piece,
-/// which begins at the other place.
+/// What the message says of the end of the source, or of the value that the fault is in, at the end
+/// of what was read of the piece, which begins at the other place.
 fn in_value<'s>(spot: &Spot<'s>, at: &'s str, piece: &PlacedPiece<'s>) -> Option<Told<'s>> {
     if matches!(spot.rest.trim_end(), "-" | ".") {
         return Some(at_end(spot, at));
@@ -217,7 +219,7 @@ fn at_end<'s>(spot: &Spot<'s>, at: &'s str) -> Told<'s> {
     }
 }
 
-/// Of a step behind a literal, with which the front ends.
+/// Of a step after a literal, with which the front ends.
 fn step_of_literal<'s>(from: &'s str, front: &str) -> Told<'s> {
     let step = from.get(..1).unwrap_or("");
     let words = "`¤` is a value without parts; a name is wanted before `¤`";
@@ -234,7 +236,7 @@ fn literal_at_end(text: &str) -> &'static str {
     "nil"
 }
 
-/// Whether a number begins by a `.`, behind no value that this could be a step of.
+/// Whether a number begins by a `.`, after no value that this could be a step of.
 fn is_fraction(spot: &Spot<'_>) -> bool {
     match spot.rest.strip_prefix(".") {
         Some(behind) if spot.at_item => {
@@ -286,7 +288,7 @@ fn in_parentheses<'s>(spot: &Spot<'s>, piece: &PlacedPiece<'s>) -> Option<Told<'
     Some(Told::plain(piece.rest, no_range(spot)?))
 }
 
-/// Of a filter with parentheses behind its name.
+/// Of a filter with parentheses after its name.
 fn called<'s>(spot: &Spot<'s>, opening: &'s str) -> Told<'s> {
     let words = if front_before(opening, spot.rest) == "(" && spot.rest.starts_with(")") {
         "`…()` is written `…`, without parentheses"
@@ -296,7 +298,7 @@ fn called<'s>(spot: &Spot<'s>, opening: &'s str) -> Told<'s> {
     Told::quoting(opening, words, spot.before, spot.before)
 }
 
-/// What is told of parentheses that hold no range, where no filter is called.
+/// What the message says of parentheses that hold no range, where no filter is called.
 fn no_range(spot: &Spot<'_>) -> Option<&'static str> {
     match spot.site {
         Site::Condition => {
@@ -313,7 +315,7 @@ fn no_range(spot: &Spot<'_>) -> Option<&'static str> {
     }
 }
 
-/// Whether a letter beyond ASCII stands at the front, also behind a `.`.
+/// Whether a letter beyond ASCII stands at the front, also after a `.`.
 fn begins_beyond(text: &str) -> bool {
     text.strip_prefix(".")
         .unwrap_or(text)
