@@ -1,5 +1,6 @@
 -- An expression's view, level by level.
-use Rattle.std.proofs.Common.{◌≡◌, List, [], ◌∷◌, Option, Some, None, string_bytes, sym, ap, ◌∙◌, rules}
+use Rattle.std.proofs.Common.{◌≡◌, List, [], ◌∷◌, Option, Some, None, string_bytes, refl, sym, ap, ◌∙◌, rules}
+use Rattle.std.specs.Prelude.{codes, ◌++◌}
 use Rattle.std.specs.Option.{option_and_then}
 use Rattle.liquid_model.specs.Texts.{Text}
 use Rattle.liquid_model.specs.Data.{Datum}
@@ -7,6 +8,7 @@ use Rattle.liquid_model.specs.Find.{step}
 use Rattle.liquid_core.specs.Environment.{Environment, lookup}
 use Rattle.liquid_core.specs.Expressions.{value_of}
 use Rattle.liquid_core.specs.Led.{led}
+use Rattle.liquid_core.specs.Spelled.{as_step, spelled}
 use Rattle.liquid_core.proofs.Steps.{led_from}
 use Rattle.liquid_model.specs.View.{view}
 use Rattle.liquid_core.specs.Expression as tree
@@ -20,6 +22,10 @@ literal_is v = search (rules, the_lemmas)
 
 pub variable_is : (w : declared.Variable) → variable_view w ≡ tree.variable (string_bytes w.name) (steps_view w.indexes.items)
 variable_is w = search (rules, the_lemmas)
+
+-- a variable as a step
+pub bracketed_variable : (w : declared.Variable) → as_step (variable_view w) (spelled (variable_view w)) ≡ codes "[" ++ (spelled (variable_view w) ++ codes "]")
+bracketed_variable w = rw (variable_is w) refl
 
 -- ---- a variable's value
 

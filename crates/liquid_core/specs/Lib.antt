@@ -12,5 +12,6 @@ pub mod Loops
 pub mod Places
 pub mod Resolved
 pub mod Said
+pub mod Spelled
 pub mod States
 pub mod Written

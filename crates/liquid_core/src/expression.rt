@@ -1,6 +1,7 @@
 //! Expressions: literals, and variables with their steps.
-ghost use Rattle.std.specs.Prelude.{◌≡◌, option_map, option_and_then, map, IsOk, IfSome, IfErr};
-ghost use Rattle.std.specs.Prelude.{None, Some};
+ghost use Rattle.std.specs.Prelude.{◌≡◌, ◌++◌, ℕ, List, option_map, option_and_then, map};
+ghost use Rattle.std.specs.Prelude.{string_bytes, IsOk, IfSome, IfOk, IfErr, None, Some, true};
+ghost use Rattle.liquid_model.specs.Quotes.{is_line};
 ghost use Rattle.liquid_core.specs.Environment.{Environment};
 ghost use Rattle.liquid_core.specs.Said.{Says};
 ghost use Rattle.liquid_core.specs.Led.{led};
@@ -8,20 +9,26 @@ ghost use Rattle.liquid_model.specs.Find.{step};
 ghost use Rattle.liquid_model.specs.View.{view};
 ghost use Rattle.liquid_model.specs.Answer.{Answers, IsValueOrMemory, TakesNoMemory};
 ghost use Rattle.liquid_model.specs.Cow.{cow_view};
-ghost use Rattle.liquid_model.specs.Errors.{HasMessageUnlessMemory, without_value_message};
+ghost use Rattle.liquid_model.specs.Errors.{BeginsUnlessMemory, without_value_front};
 ghost use Rattle.liquid_core.specs.Expressions.{value_of, required};
 ghost use Rattle.liquid_core.specs.ExpressionView.{expression_view, steps_view, variable_view};
 ghost use Rattle.liquid_core.specs.States.{environment_of, loops_of, FindsLoop};
 ghost use Rattle.liquid_core.specs.Resolved.{resolved_view, IsAmong, IsHeld};
 ghost use Rattle.liquid_model.specs.ErrorKinds.{IsKindOrMemory};
-ghost use Rattle.liquid_core.specs.Written.{written_form};
+ghost use Rattle.liquid_core.specs.Spelled.{spelled, spelled_steps};
 ghost use Rattle.liquid_model.specs.declared.error.ErrorKind.TheVariants.{UnknownVariable};
 
+use crate::missing::{Words, words_of, words_of_variable};
 use crate::resolved::{Near, Resolved};
+use crate::spelled::{Spelled, SpelledPath};
 use crate::state::State;
-use liquid_model::{Error, ErrorKind, Found, Result, Value, ValueCow};
+use liquid_model::{Error, ErrorKind, Found, Quoted, Result, Value, ValueCow, line_of};
 use std::alloc::Global;
 use std::fmt::Display;
+
+/// What follows the spelling in the message of an expression without a value has so many bytes at
+/// most.
+const MOST_WORDS: usize = 600;
 
 /// A literal, or a variable.
 #[cycle(expression)]
@@ -74,12 +81,12 @@ impl Expression {
             (environment_of state.now)) →
             ⊥) → TakesNoMemory result (required (expression_view self.now)
             (environment_of state.now)) }
-        ensures message { IfErr result (λ e. HasMessageUnlessMemory
-            (without_value_message (written_form (expression_view self.now))) e) }
+        ensures message { IfErr result (λ e. BeginsUnlessMemory
+            (without_value_front (spelled (expression_view self.now))) e) }
     {
         match valued(alloc, expression_value(self, state))? {
             Some(value) => Ok(value),
-            None => Err(without_value(alloc, self)),
+            None => Err(self.without_value(alloc, state)),
         }
     }
 
@@ -106,13 +113,23 @@ impl Expression {
             (environment_of state.now)) }
         ensures no_memory { TakesNoMemory result (required (expression_view self.now)
             (environment_of state.now)) }
-        ensures message { IfErr result (λ e. HasMessageUnlessMemory
-            (without_value_message (written_form (expression_view self.now))) e) }
+        ensures message { IfErr result (λ e. BeginsUnlessMemory
+            (without_value_front (spelled (expression_view self.now))) e) }
     {
         match expression_value(self, state) {
             Some(resolved) => Ok(resolved),
-            None => Err(without_value(alloc, self)),
+            None => Err(self.without_value(alloc, state)),
         }
+    }
+
+    /// The fault of an expression that has no value here.
+    fn without_value(&self, alloc: Global, state: &State<'_>) -> Error
+        ensures told { IsKindOrMemory UnknownVariable result.kind }
+        ensures message { BeginsUnlessMemory
+            (without_value_front (spelled (expression_view self.now))) result }
+    {
+        let words = words_of(alloc, self, state);
+        without_value(alloc, &Spelled { expression: self }, words)
     }
 
     /// An equal expression that owns its parts.
@@ -161,13 +178,27 @@ impl Variable {
             (value_of (variable_view self.now) (environment_of state.now)) →
             ⊥) → TakesNoMemory result
             (required (variable_view self.now) (environment_of state.now)) }
-        ensures message { IfErr result (λ e. HasMessageUnlessMemory
-            (without_value_message (written_form (variable_view self.now))) e) }
+        ensures message { IfErr result (λ e. BeginsUnlessMemory
+            (without_value_front (spelled (variable_view self.now))) e) }
     {
         match valued(alloc, variable_value(self, state))? {
             Some(value) => Ok(value),
-            None => Err(without_value(alloc, self)),
+            None => Err(self.without_value(alloc, state)),
         }
+    }
+
+    /// The fault of a variable that has no value here.
+    fn without_value(&self, alloc: Global, state: &State<'_>) -> Error
+        ensures told { IsKindOrMemory UnknownVariable result.kind }
+        ensures message { BeginsUnlessMemory
+            (without_value_front (spelled (variable_view self.now))) result }
+    {
+        let words = words_of_variable(alloc, self, state);
+        let path = SpelledPath {
+            name: self.name.as_str(),
+            steps: self.indexes.as_slice(),
+        };
+        without_value(alloc, &path, words)
     }
 
     /// An equal variable that owns its parts.
@@ -178,23 +209,34 @@ impl Variable {
     }
 }
 
-/// The fault of an expression or a variable that has no value.
-fn without_value<D: Display>(alloc: Global, written: &D) -> Error
+/// The fault of an expression or a variable that has no value, by its spelling and further words.
+fn without_value<D: Display>(alloc: Global, spelled: &D, words: Words) -> Error
     ensures told { IsKindOrMemory UnknownVariable result.kind }
-    ensures message { IfSome (D.output written.now)
-        (λ form. HasMessageUnlessMemory (without_value_message form) result) }
+    ensures message { IfSome (D.output spelled.now)
+        (λ form. BeginsUnlessMemory (without_value_front form) result) }
 {
-    Error::formatted(
-        alloc,
-        ErrorKind::UnknownVariable,
-        format_args!(
-            "`{written}` has no value; look at its spelling, or give it one by `assign` or `default`"
-        ),
-    )
+    match message(alloc, spelled, words) {
+        Ok(message) => Error::with_message(ErrorKind::UnknownVariable, message),
+        Err(refused) => Error::from(refused),
+    }
+}
+
+/// The message of an expression that has no value: its spelling, and further words.
+fn message<D: Display>(alloc: Global, spelled: &D, words: Words) -> Words
+    ensures line { IfOk result (λ s. is_line 900 (string_bytes s) ≡ true) }
+    ensures front { IfOk result (λ s. IfSome (D.output spelled.now) (λ form. (rest : List ℕ) ×
+        (string_bytes s ≡ without_value_front form ++ rest))) }
+{
+    let words = line_of(MOST_WORDS, words?);
+    let spelled = spelled.to_string(alloc)?;
+    let quoted = Quoted {
+        text: spelled.as_str(),
+    };
+    format!(in alloc; "`{quoted}` has no value{words}")
 }
 
 #[cycle(value)]
-fn expression_value<'a, 'd>(
+pub(crate) fn expression_value<'a, 'd>(
     expression: &'a Expression,
     state: &'a State<'d>,
 ) -> Option<Resolved<'a, 'd>>

@@ -10,7 +10,10 @@ mod host_filters;
 mod interrupt;
 pub mod laws;
 mod loop_object;
+mod missing;
+mod near_name;
 mod resolved;
+mod spelled;
 mod state;
 mod written;
 
@@ -20,8 +23,10 @@ pub use frame::{Columns, Items, LoopFrame, LoopKind, Scope};
 pub use host_filters::{HostFilters, NamedFilters};
 pub use interrupt::Interrupt;
 pub use liquid_model::{
-    Error, ErrorKind, Found, Location, Object, Origin, Result, Use, Uses, Value, ValueCow,
-    copy_items, look_up, member_of, store, whole_of,
+    Error, ErrorKind, Found, Location, Object, Origin, Quoted, Result, Use, Uses, Value, ValueCow,
+    copy_items, excerpt, line_of, look_up, member_of, store, whole_of,
 };
+pub use near_name::{NearName, nearer};
 pub use resolved::{Near, Resolved, Scopes};
+pub use spelled::Spelled;
 pub use state::{Data, Parts, State};

@@ -64,7 +64,7 @@ fn write_steps<W: Write>(indexes: &Vec<Expression>, f: &mut Formatter<W>) -> fmt
     Ok(())
 }
 
-fn write_literal<W: Write>(value: &Value, f: &mut Formatter<W>) -> fmt::Result
+pub(crate) fn write_literal<W: Write>(value: &Value, f: &mut Formatter<W>) -> fmt::Result
     ensures { WritesOnOk W.write_str_gives f.old result (written_literal (view value.now)) f.new }
 {
     match value {

@@ -7,7 +7,7 @@ use crate::any_filter::AnyFilter;
 use crate::filter_call::{FilterCall, apply_to};
 use crate::stored_filter::StoredFilter;
 use liquid_core::{
-    Error, Expression, HostFilters, NamedFilters, Near, Result, State, Value, ValueCow,
+    Error, Expression, HostFilters, NamedFilters, Near, Quoted, Result, State, Value, ValueCow,
 };
 use std::alloc::Global;
 
@@ -179,17 +179,15 @@ impl FilterChain {
 /// The fault of the filter of this name, or of its arguments: its message begins with the name.
 /// `Memory` where there is no room for that.
 #[inline(never)]
-fn of_filter(alloc: Global, name: &str, mut fault: Error) -> Error
+fn of_filter(alloc: Global, name: &str, fault: Error) -> Error
     ensures { IsKindOrMemory fault.kind result.kind }
 {
     let Some(message) = &fault.message else {
         return fault;
     };
-    match format!(in alloc; "`{name}`: {message}") {
-        Ok(message) => {
-            fault.message = Some(message);
-            fault
-        }
+    let quoted = Quoted { text: name };
+    match format!(in alloc; "`{quoted}`: {message}") {
+        Ok(message) => fault.retold(message),
         Err(refused) => Error::from(refused),
     }
 }

@@ -1,12 +1,14 @@
 //! Which of a loop's items are asked for.
 ghost use Rattle.std.specs.Prelude.{◌≡◌, ◌≤◌, option_map};
 ghost use Rattle.liquid_model.specs.Answer.{Answers};
+ghost use Rattle.liquid_model.specs.ErrorKinds.{IsKindOrMemory};
+ghost use Rattle.liquid_model.specs.declared.error.ErrorKind.TheVariants.{UnexpectedValue};
 ghost use Rattle.liquid_core.specs.ExpressionView.{expression_view};
 ghost use Rattle.liquid_core.specs.Expressions.{needed_whole};
 ghost use Rattle.liquid_core.specs.States.{environment_of};
 ghost use Rattle.liquid_evaluation.specs.Evaluation.{amount, at_most, skipped, wanted};
 
-use liquid_core::{Error, ErrorKind, Expression, Result, State};
+use liquid_core::{Error, ErrorKind, Expression, Quoted, Result, Spelled, State};
 use std::alloc::Global;
 
 /// The items of a source that are asked for, by how many are left out before them and how many they
@@ -83,10 +85,25 @@ pub(crate) fn evaluate_whole(
     let value = expression.evaluate(alloc, state)?;
     match value.as_value().to_integer() {
         Some(number) => Ok(number),
-        None => Err(Error::formatted(
-            alloc,
-            ErrorKind::UnexpectedValue,
-            format_args!("`{expression}` is no whole number"),
-        )),
+        None => Err(no_whole(alloc, expression)),
+    }
+}
+
+/// The fault of a value that is no whole number.
+fn no_whole(alloc: Global, expression: &Expression) -> Error
+    ensures { IsKindOrMemory UnexpectedValue result.kind }
+{
+    match (Spelled { expression }).to_string(alloc) {
+        Ok(spelled) => {
+            let quoted = Quoted {
+                text: spelled.as_str(),
+            };
+            Error::formatted(
+                alloc,
+                ErrorKind::UnexpectedValue,
+                format_args!("`{quoted}` is no whole number"),
+            )
+        }
+        Err(refused) => Error::from(refused),
     }
 }

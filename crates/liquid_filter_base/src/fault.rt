@@ -1,6 +1,7 @@
 //! Faults of filters, with what was wanted and what was found.
-ghost use Rattle.std.specs.Prelude.{◌≡◌, codes};
+ghost use Rattle.std.specs.Prelude.{◌≡◌, IsTrue, codes};
 ghost use Rattle.liquid_model.specs.Errors.{HasMessageUnlessMemory};
+ghost use Rattle.liquid_model.specs.Quotes.{is_line, most_bytes};
 ghost use Rattle.liquid_model.specs.ErrorKinds.{IsKindOrMemory};
 ghost use Rattle.liquid_model.specs.View.{view};
 ghost use Rattle.liquid_model.specs.declared.error.ErrorKind.TheVariants.{InvalidArgument};
@@ -10,11 +11,13 @@ ghost use Rattle.liquid_filter_base.specs.Faults.{kind_name, must_be};
 use liquid_core::{Error, ErrorKind, Value};
 use std::alloc::Global;
 
-/// An input that is another thing than what is wanted.
+/// An input that is another thing than what is wanted, which is told in a few words with an
+/// article.
 pub fn invalid_input(alloc: Global, wanted: &str, found: &Value) -> Error
     ensures told { IsKindOrMemory InvalidInput result.kind }
-    ensures message { HasMessageUnlessMemory (must_be (codes "the input") wanted.now
-        (view found.now)) result }
+    ensures message { IsTrue
+        (is_line most_bytes (must_be (codes "the input") wanted.now (view found.now)))
+        → HasMessageUnlessMemory (must_be (codes "the input") wanted.now (view found.now)) result }
 {
     let found_kind = kind_name(found);
     Error::formatted(
@@ -24,11 +27,14 @@ pub fn invalid_input(alloc: Global, wanted: &str, found: &Value) -> Error
     )
 }
 
-/// An argument that is another thing than what is wanted.
+/// An argument that is another thing than what is wanted, which is told in a few words with an
+/// article.
 pub fn invalid_argument(alloc: Global, wanted: &str, found: &Value) -> Error
     ensures told { IsKindOrMemory InvalidArgument result.kind }
-    ensures message { HasMessageUnlessMemory (must_be (codes "the argument") wanted.now
-        (view found.now)) result }
+    ensures message { IsTrue
+        (is_line most_bytes (must_be (codes "the argument") wanted.now (view found.now)))
+        → HasMessageUnlessMemory (must_be (codes "the argument") wanted.now (view found.now))
+        result }
 {
     let found_kind = kind_name(found);
     Error::formatted(

@@ -106,7 +106,7 @@ pub(crate) fn left_by(answer: Result<()>, own: &State<'_>) -> Result<Option<Inte
 fn own_state<'d>(alloc: Global, names: Object) -> Result<State<'d>>
     ensures { IsValueOrMemory environment_of result (new_environment (held names)) }
 {
-    let mut own = State::new(alloc, BTreeMap::new(alloc));
+    let mut own = State::alone(alloc, BTreeMap::new(alloc));
     if let Err(fault) = own.push_scope(names) {
         drop(own);
         return Err(fault);

@@ -16,7 +16,7 @@ ghost use Rattle.liquid_lib.specs.inside.Partials.{jekyll_entry, partial_of, ren
 ghost use Rattle.liquid_meaning.specs.Meaning.{name_of};
 
 use crate::context::RunContext;
-use liquid_core::{Error, ErrorKind, Expression, Object, Result, State, Value, store};
+use liquid_core::{Error, ErrorKind, Expression, Object, Quoted, Result, State, Value, store};
 use liquid_syntax::{Binding, Partials, Template};
 use std::alloc::Global;
 use std::collections::BTreeMap;
@@ -200,9 +200,10 @@ pub(crate) fn partial_rendered<'p>(
 fn unknown(alloc: Global, name: &str) -> Error
     ensures { IsKindOrMemory ErrorKind.UnknownPartial result.kind }
 {
+    let quoted = Quoted { text: name };
     Error::formatted(
         alloc,
         ErrorKind::UnknownPartial,
-        format_args!("no partial is named `{name}`; hand one in by this name"),
+        format_args!("no partial is named `{quoted}`; hand one in by this name"),
     )
 }

@@ -5,6 +5,7 @@ pub mod Compares
 pub mod Lawful
 pub mod Maps
 pub mod Projected
+pub mod Quotes
 pub mod Sizes
 pub mod Skipping
 pub mod UseViews

@@ -20,6 +20,10 @@ abbrev pub is_memory : ErrorKind → Bool
 is_memory Memory = true
 is_memory _ = false
 
+abbrev pub is_write : ErrorKind → Bool
+is_write Write = true
+is_write _ = false
+
 -- the kinds that stand outside of the meaning: memory that was refused, and a writer that failed
 abbrev pub is_refusal : ErrorKind → Bool
 is_refusal Memory = true

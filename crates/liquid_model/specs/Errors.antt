@@ -4,6 +4,7 @@ use Rattle.std.specs.Fmt.{decimal}
 use Rattle.std.specs.Option.{option_map, option_map_or}
 use Rattle.liquid_model.specs.Data.{Datum, text_of}
 use Rattle.liquid_model.specs.ErrorKinds.{is_memory, name_of}
+use Rattle.liquid_model.specs.Quotes.{quotation}
 use Rattle.liquid_model.specs.declared.error.Error.{Error}
 use Rattle.liquid_model.specs.declared.location.Location.{Location}
 use Rattle.liquid_model.specs.declared.location.Origin.{Origin}
@@ -17,7 +18,8 @@ HasMessageUnlessMemory message e =
 -- what stands before a line and a column: nothing for the template itself
 abbrev pub origin_text : Origin → List ℕ
 origin_text Template = []
-origin_text (Partial name) = codes "in the partial `" ++ (string_bytes name ++ codes "`: ")
+origin_text (Partial name) = codes "in the partial `" ++
+    (quotation (string_bytes name) ++ codes "`: ")
 origin_text Data = codes "in the data: "
 
 -- `line 3, column 5`, with the partial or the data named before it
@@ -28,7 +30,7 @@ location_text l = origin_text l.origin ++
 -- the same of a fault that the partial of this name tells: what it tells as its own text is that of
 -- the partial
 abbrev pub partial_origin_text : List ℕ → Origin → List ℕ
-partial_origin_text name Template = codes "in the partial `" ++ (name ++ codes "`: ")
+partial_origin_text name Template = codes "in the partial `" ++ (quotation name ++ codes "`: ")
 partial_origin_text name (Partial inner) = origin_text (Partial inner)
 partial_origin_text name Data = origin_text Data
 
@@ -42,14 +44,17 @@ error_text e =
     name_of e.kind ++ (option_map_or (λ l. codes ": " ++ location_text l.value) e.location [] ++
     option_map_or (λ m. codes ": " ++ string_bytes m) e.message [])
 
--- what is said of an expression without a value, by its written form
-abbrev pub without_value_message : List ℕ → List ℕ
-without_value_message written =
-    codes "`" ++ (written ++
-    codes "` has no value; look at its spelling, or give it one by `assign` or `default`")
+-- memory ran out, or the message begins with these words, and goes on by others
+abbrev pub BeginsUnlessMemory : List ℕ → Error → Type 0
+BeginsUnlessMemory front e = MatchBool (is_memory e.kind) ⊤ ((words : List ℕ) ×
+    (option_map string_bytes e.message ≡ Some (front ++ words)))
+
+-- what is said first of an expression without a value, by its written form
+abbrev pub without_value_front : List ℕ → List ℕ
+without_value_front written = codes "`" ++ (quotation written ++ codes "` has no value")
 
 -- what is said of a path that leads to nothing
 abbrev pub nowhere_message : List Datum → List ℕ
 nowhere_message [] = codes "an empty path leads to no value"
 nowhere_message (name ∷ path) = codes "the path from `" ++
-    (text_of name ++ codes "` leads to no value")
+    (quotation (text_of name) ++ codes "` leads to no value")

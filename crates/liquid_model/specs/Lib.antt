@@ -15,6 +15,7 @@ pub mod Maps
 pub mod Order
 pub mod OrderLaws
 pub mod Projected
+pub mod Quotes
 pub mod Skipping
 pub mod Texts
 pub mod UseViews

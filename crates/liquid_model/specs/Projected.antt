@@ -1,7 +1,7 @@
 -- What is left of a value where only some of it is asked for.
 --     projected u d      d without what u doesn't ask for;   projected_pairs W keep ps      of the
 --                        pairs those that W asks for
-use Rattle.std.specs.Prelude.{ℕ, Bool, false, cond, not, ◌&&◌, ◌||◌, Some, codes}
+use Rattle.std.specs.Prelude.{Bool, false, cond, not, ◌&&◌, ◌||◌, Some, codes}
 use Rattle.liquid_model.specs.Texts.{Text, same_text}
 use Rattle.liquid_model.specs.Data.{Datum, nil, truth, number, text, array, object, Items, no_items}
 use Rattle.liquid_model.specs.Data.{item, Pairs, no_pairs, pair}

@@ -1,12 +1,18 @@
 //! Faults: what kind one is, and a message for who reads it.
-ghost use Rattle.std.specs.Prelude.{◌≡◌, ◌⊎◌, ◌||◌, true, false, Some, IfSome, IsSomeAnd, is_some};
-ghost use Rattle.std.specs.Option.{option_map};
+ghost use Rattle.std.specs.Prelude.{◌≡◌, ◌⊎◌, ◌||◌, true, false, Some, IfSome, IsSomeAnd, IsTrue};
+ghost use Rattle.std.specs.Prelude.{is_some, string_bytes};
+ghost use Rattle.std.specs.Option.{option_map, option_map_or};
 ghost use Rattle.liquid_model.specs.ErrorKinds.{IsKindOrMemory, is_memory, number_of, name_of};
+ghost use Rattle.liquid_model.specs.Quotes.{is_message};
 ghost use Rattle.liquid_model.specs.declared.error.ErrorKind.TheVariants.{Memory};
 
+use crate::line::line_of;
 use crate::location::Location;
 use std::alloc::{AllocError, AllocFailed, Global};
 use std::fmt;
+
+/// A message has so many bytes at most.
+const MOST_BYTES: usize = 1000;
 
 /// What a call answers that can meet a fault.
 pub type Result<T> = std::result::Result<T, Error>;
@@ -151,7 +157,9 @@ impl ErrorKind {
 }
 
 /// A fault: its kind, a message that says what was found and what is wanted, and where it stands,
-/// where that is known. `Memory` alone may lack a message.
+/// where that is known. `Memory` alone may lack a message. A message is one line of at most 1,000
+/// bytes without control characters, and shows at most 60 characters of what a stranger wrote at a
+/// place. Of `Write` alone, which a host makes, it may be any text.
 #[derive(Debug)]
 pub struct Error {
     pub kind: ErrorKind,
@@ -160,6 +168,8 @@ pub struct Error {
     pub location: Option<Box<Location>>,
     // There is a message unless the kind is `Memory`.
     pub ghost has_message: { (is_memory kind || is_some message) ≡ true },
+    // It is a short line, unless the kind is `Write`.
+    pub ghost is_short: { option_map_or (λ m. is_message kind (string_bytes m)) message true ≡ true },
 }
 
 /// Drops the fields. Written by hand, so that each early return drops the value by one call to
@@ -179,9 +189,11 @@ impl Error {
     ghost use Rattle.liquid_model.specs.Errors.{partial_location_text};
 
     /// A fault of this kind with this message, or `Memory` where there is no room for the message.
+    /// Of a message that is no short line the beginning that is one stays (`line_of`).
     pub fn new(alloc: Global, kind: ErrorKind, message: &str) -> Error
         ensures told { IsKindOrMemory kind result.kind }
-        ensures message { HasMessageUnlessMemory message.now result }
+        ensures message { IsTrue (is_message kind message.now) →
+            HasMessageUnlessMemory message.now result }
     {
         match String::from_str(alloc, message) {
             Ok(text) => Error::with_message(kind, text),
@@ -189,24 +201,46 @@ impl Error {
         }
     }
 
-    /// A fault of this kind with this message.
+    /// A fault of this kind with this message. Of a message that is no short line the beginning
+    /// that is one stays (`line_of`).
     pub fn with_message(kind: ErrorKind, message: String) -> Error
         ensures kind { result.kind ≡ kind }
-        ensures message { result.message ≡ Some message }
+        ensures message { IsTrue (is_message kind (string_bytes message)) → result.message ≡
+            Some message }
     {
         Error {
             kind,
-            message: Some(message),
+            message: Some(message_of(kind, message)),
             location: None,
         }
     }
 
+    /// The same fault with this message in place of its own, as by `with_message`.
+    pub fn retold(self, message: String) -> Error
+        ensures kind { result.kind ≡ self.kind }
+        ensures message { IsTrue (is_message self.kind (string_bytes message)) → result.message ≡
+            Some message }
+        ensures location { result.location ≡ self.location }
+    {
+        let Error {
+            kind,
+            message: _,
+            location,
+        } = self;
+        Error {
+            kind,
+            message: Some(message_of(kind, message)),
+            location,
+        }
+    }
+
     /// A fault of this kind with a message that is written out, as a `format_args!` is, or `Memory`
-    /// where there is no room for the message.
+    /// where there is no room for the message. Of a message that is no short line the beginning
+    /// that is one stays (`line_of`).
     pub fn formatted<M: fmt::Display + Drop>(alloc: Global, kind: ErrorKind, message: M) -> Error
         ensures told { IsKindOrMemory kind result.kind }
-        ensures message { IfSome (M.output message)
-            (λ written. HasMessageUnlessMemory written result) }
+        ensures message { IfSome (M.output message) (λ written. IsTrue (is_message kind written) →
+            HasMessageUnlessMemory written result) }
     {
         match message.to_string(alloc) {
             Ok(written) => Error::with_message(kind, written),
@@ -275,6 +309,18 @@ impl Error {
             },
             Err(refused) => Error::from(refused),
         }
+    }
+}
+
+/// The message that a text is for a fault of this kind.
+fn message_of(kind: ErrorKind, text: String) -> String
+    ensures message { IsTrue (is_message kind (string_bytes result)) }
+    ensures same { IsTrue (is_message kind (string_bytes text)) → result ≡ text }
+{
+    if matches!(kind, ErrorKind::Write) {
+        text
+    } else {
+        line_of(MOST_BYTES, text)
     }
 }
 

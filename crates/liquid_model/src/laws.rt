@@ -7,6 +7,7 @@ ghost use Rattle.liquid_model.specs.Laws.{CompareWithoutAnswer, CompareByFirstUn
 ghost use Rattle.liquid_model.specs.Laws.{ListTextIsItemTexts, NumberTextIsRead, FindGoesOn};
 ghost use Rattle.liquid_model.specs.Laws.{ScalarsAloneFind, ItemsByIndex, TextsIndexToo};
 ghost use Rattle.liquid_model.specs.Laws.{ItemsByName, OwnKeysWin, PutIsFound};
+ghost use Rattle.liquid_model.specs.Quotes.{PlainTextsAreShownWhole, QuotationsAreLines};
 ghost use Rattle.liquid_model.specs.Projected.{ProjectedAlike};
 ghost use Rattle.liquid_model.specs.Uses.{IncludedAlike, JoinedAlike};
 ghost use Rattle.liquid_model.specs.Skipping.{ListWithAllItems, ListWithoutItems};
@@ -131,4 +132,14 @@ pub fn skipping_laws()
     ensures some_keys { MapWithSomeKeys }
     ensures all_items { ListWithAllItems }
     ensures no_items { ListWithoutItems }
+{}
+
+/// What a message shows of a text is a short line.
+pub fn quotations_are_lines()
+    ensures { QuotationsAreLines }
+{}
+
+/// A short text of characters that each stand for themselves is shown as it is.
+pub fn plain_texts_are_shown_whole()
+    ensures { PlainTextsAreShownWhole }
 {}

@@ -2,6 +2,7 @@
 ghost use Rattle.std.specs.Prelude.{◌≡◌, Some, IfOk};
 ghost use Rattle.liquid_model.specs.Errors.{location_text, origin_text, partial_location_text};
 
+use crate::quotation::Quoted;
 use std::alloc::{AllocError, Global};
 use std::fmt;
 
@@ -49,14 +50,18 @@ impl Location {
     }
 }
 
-/// What stands before a line and a column: nothing for the template itself.
+/// What stands before a line and a column: nothing for the template itself. The name of a partial
+/// is shown as a quotation.
 impl fmt::Display for Origin {
     ghost output = { λ origin. Some (origin_text origin) };
 
     fn fmt<W: fmt::Write>(&self, f: &mut fmt::Formatter<W>) -> fmt::Result {
         match self {
             Origin::Template => Ok(()),
-            Origin::Partial(name) => write!(f, "in the partial `{name}`: "),
+            Origin::Partial(name) => {
+                let text = name.as_str();
+                write!(f, "in the partial `{}`: ", Quoted { text })
+            }
             Origin::Data => f.write_str("in the data: "),
         }
     }

@@ -1,10 +1,11 @@
 //! Faults of tags' names and of blocks.
 use super::names::meant_tag;
-use super::near::{Near, nearer, nearest};
+use super::near::nearest;
 use super::outline::{Opener, Otherwise, Outline};
 use super::told::Told;
 use crate::block::{Block, end_tag};
 use crate::language::Language;
+use liquid_core::{NearName, nearer};
 use liquid_lexer::Fault;
 use std::alloc::{AllocError, Global};
 
@@ -147,7 +148,7 @@ fn near_tag<'n>(
     alloc: Global,
     language: &'n Language,
     name: &str,
-) -> Result<Option<Near<'n>>, AllocError> {
+) -> Result<Option<NearName<'n>>, AllocError> {
     let near = nearest(alloc, language.tags.names(), name, None)?;
     let near = nearest(alloc, language.blocks.names(), name, near)?;
     let near = nearer(alloc, "else", name, near)?;

@@ -56,7 +56,7 @@ fn meant<'s>(language: &Language, spot: &Spot<'s>, items: &[PlacedItem<'s>]) -> 
         return None;
     }
     if language.filters.get(spot.found).is_some() {
-        let words = "a filter stands behind a `|`: write `| ¤`";
+        let words = "a filter stands behind a `|`: write `| …`";
         return Some(Told::quoting(spot.rest, words, spot.found, ""));
     }
     match spot.count {
@@ -71,7 +71,7 @@ fn tag_in_output<'s>(language: &Language, spot: &Spot<'s>) -> Option<Told<'s>> {
     if !matches!(spot.site, Site::Output) || !is_tag(language, spot.before) {
         return None;
     }
-    let words = "`¤` begins a tag: write `{% ¤ .. %}`";
+    let words = "`…` begins a tag: write `{% … .. %}`";
     Some(Told::quoting(spot.rest, words, spot.before, spot.before))
 }
 

@@ -20,7 +20,7 @@ pub fn unread<'s>(fault: &Fault, outline: &Outline<'s>, piece: &PlacedPiece<'s>)
                 "`…` is beyond the whole numbers of 64 bits, from -9223372036854775808 to 9223372036854775807";
             Told::quoting(from, words, number_front(from), "")
         }
-        FaultKind::FloatLiteral => no_whole(from, ""),
+        FaultKind::FloatLiteral => no_whole(from, "", piece),
         FaultKind::StateWord => {
             let words = "`empty` and `blank` aren't known; compare with `''`, or `.size` with 0";
             Told::plain(from, words)
@@ -29,15 +29,82 @@ pub fn unread<'s>(fault: &Fault, outline: &Outline<'s>, piece: &PlacedPiece<'s>)
     }
 }
 
-/// Of a number with a fraction, and what stands before its text where that needs something.
-fn no_whole<'s>(from: &'s str, before: &'static str) -> Told<'s> {
+/// Of a number with a fraction: what it is in a smaller unit, where it can be computed with. It
+/// needs the `before` in front of it to be a text that is a number.
+fn no_whole<'s>(from: &'s str, before: &'static str, piece: &PlacedPiece<'s>) -> Told<'s> {
     let number = number_front(from);
-    let words =
-        "`…` is no whole number, and templates have no others; as a text, `'¤…'`, it can be shown and rounded";
+    let Some((smaller, unit)) = in_smaller_unit(number) else {
+        let words =
+            "`…` is no whole number, and templates have no others; as a text, `'¤…'`, it can be shown and rounded";
+        return Told {
+            third: number,
+            ..Told::quoting(from, words, number, before)
+        };
+    };
+    let words = if unit == 1 {
+        "`…` has a fraction, and templates have whole numbers alone; write `¹`"
+    } else {
+        words_of_fraction(piece)
+    };
     Told {
         third: number,
+        numbers: (smaller, unit),
         ..Told::quoting(from, words, number, before)
     }
+}
+
+/// What the message says of a number with a fraction that isn't zero, by what it is for.
+fn words_of_fraction(piece: &PlacedPiece<'_>) -> &'static str {
+    match (last_filter(piece), site_of(piece)) {
+        (Some("times"), _) => {
+            "`…` is no whole number, and templates have no others; write `times: ¹ | divided_by: ²`"
+        }
+        (Some("divided_by"), _) => {
+            "`…` is no whole number, and templates have no others; write `times: ² | divided_by: ¹`"
+        }
+        (Some("plus" | "minus" | "modulo" | "at_least" | "at_most"), _) | (None, Site::Condition) =>
+            {
+                "`…` is no whole number, and templates have no others; take a smaller unit, where 1 is ² and this is ¹"
+            }
+        (Some("append" | "prepend" | "default" | "replace"), _)
+        | (None, Site::Output | Site::Assign) => {
+            "`…` is no whole number, and templates have no others; as a text, `'¤…'`, it can be shown and rounded, and to compute take a smaller unit, where 1 is ² and this is ¹"
+        }
+        _ => "`…` is no whole number, and a whole one is wanted here",
+    }
+}
+
+/// The name of the last filter of a piece.
+fn last_filter<'s>(piece: &PlacedPiece<'s>) -> Option<&'s str> {
+    let mut name = None;
+    let mut is_bar = false;
+    for placed in &piece.items {
+        if is_bar {
+            name = Some(placed.spelling);
+        }
+        is_bar = placed.spelling == "|";
+    }
+    name
+}
+
+/// A number without its point and the zeros at its end, and how many of that unit are one; for no
+/// number with more than 15 digits or a sign.
+fn in_smaller_unit(number: &str) -> Option<(usize, usize)> {
+    let (whole, fraction) = number.split_once(".")?;
+    let fraction = fraction.trim_end_matches('0');
+    if whole.len().saturating_add(fraction.len()) > 15 {
+        return None;
+    }
+    let mut smaller: usize = 0;
+    for c in whole.chars().chain(fraction.chars()) {
+        let digit = c.to_digit(10)?;
+        smaller = smaller.saturating_mul(10).saturating_add(digit as usize);
+    }
+    let mut unit: usize = 1;
+    for _ in fraction.chars() {
+        unit = unit.saturating_mul(10);
+    }
+    Some((smaller, unit))
 }
 
 /// The number at the front, with its fraction.
@@ -94,7 +161,7 @@ fn unreadable<'s>(fault: &Fault, outline: &Outline<'s>, piece: &PlacedPiece<'s>)
     if let Some(told) = in_parentheses(&spot, piece) {
         return told;
     }
-    if let Some(told) = in_value(&spot, outline.at, piece.rest) {
+    if let Some(told) = in_value(&spot, outline.at, piece) {
         return told;
     }
     match advice(&spot) {
@@ -118,13 +185,13 @@ fn spot_of<'s>(fault: &Fault, from: &'s str, piece: &PlacedPiece<'s>) -> Spot<'s
     }
 }
 
-/// What the message says of the end of the source, or of the value that the fault is in. The piece
-/// begins at the one place, and the value at the other.
-fn in_value<'s>(spot: &Spot<'s>, at: &'s str, value: &'s str) -> Option<Told<'s>> {
+/// What the message says of the end of the source, or of the value that the fault is in, at the end
+/// of what was read of the piece, which begins at the other place.
+fn in_value<'s>(spot: &Spot<'s>, at: &'s str, piece: &PlacedPiece<'s>) -> Option<Told<'s>> {
     if matches!(spot.rest.trim_end(), "-" | ".") {
         return Some(at_end(spot, at));
     }
-    let front = front_before(value, spot.rest);
+    let front = front_before(piece.rest, spot.rest);
     if spot.wanted == "a literal without a step" {
         return Some(step_of_literal(spot.rest, front));
     }
@@ -133,7 +200,7 @@ fn in_value<'s>(spot: &Spot<'s>, at: &'s str, value: &'s str) -> Option<Told<'s>
         return Some(Told::plain(spot.rest, words));
     }
     if is_fraction(spot) {
-        return Some(no_whole(spot.rest, "0"));
+        return Some(no_whole(spot.rest, "0", piece));
     }
     None
 }

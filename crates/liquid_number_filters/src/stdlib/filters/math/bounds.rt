@@ -140,7 +140,7 @@ fn abs_answer(alloc: Global, input: &Value, _args: &[Value]) -> Result<Value>
         Some(number) => within_range(alloc, number.checked_abs()),
         None => {
             if is_decimal_text(input) {
-                return Err(decimal_refused(alloc));
+                return Err(decimal_refused(alloc, input));
             }
             Err(invalid_input(alloc, "a whole number", input))
         }

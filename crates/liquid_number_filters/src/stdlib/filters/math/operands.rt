@@ -8,7 +8,7 @@ ghost use Rattle.liquid_number_filters.specs.Decimals.{is_decimal_text};
 ghost use Rattle.liquid_number_filters.specs.Numbers.{operands, is_numeric, unlike, or_range};
 
 use super::decimal::Decimal;
-use liquid_core::{Error, ErrorKind, Result, Value};
+use liquid_core::{Error, ErrorKind, Quoted, Result, Value};
 use liquid_filter_base::{invalid_argument, invalid_input, kind_name};
 use std::alloc::Global;
 
@@ -59,7 +59,12 @@ fn unlike(alloc: Global, input: &Value, operand: &Value) -> Error
     ensures { IsKindOrMemory (unlike (view input.now) (view operand.now)) result.kind }
 {
     if is_numeric(input) && is_numeric(operand) {
-        return decimal_refused(alloc);
+        let decimal = if is_decimal_text(input) {
+            input
+        } else {
+            operand
+        };
+        return decimal_refused(alloc, decimal);
     }
     if is_numeric(input) {
         return invalid_argument(alloc, "a whole number", operand);
@@ -73,13 +78,20 @@ fn unlike(alloc: Global, input: &Value, operand: &Value) -> Error
 }
 
 /// A decimal text, with which no filter computes but those that round.
-pub fn decimal_refused(alloc: Global) -> Error
+pub fn decimal_refused(alloc: Global, decimal: &Value) -> Error
     ensures { IsKindOrMemory Float result.kind }
 {
-    Error::new(
+    let text = match decimal {
+        Value::Text(text) => text.as_str(),
+        _ => "",
+    };
+    let quoted = Quoted { text };
+    Error::formatted(
         alloc,
         ErrorKind::Float,
-        "the number must be whole, not decimal",
+        format_args!(
+            "`{quoted}` is a decimal number, and a whole one is wanted; count in a smaller unit, as cents, or make it whole by `round`"
+        ),
     )
 }
 

@@ -172,7 +172,7 @@ fn rounded_to(alloc: Global, input: &Value, places: i64) -> Result<Value>
         return Ok(Value::Integer(number));
     }
     if is_decimal_text(input) {
-        return Err(decimal_refused(alloc));
+        return Err(decimal_refused(alloc, input));
     }
     Err(invalid_input(alloc, "a whole or decimal number", input))
 }
