@@ -169,7 +169,8 @@ pub struct Error {
     // There is a message unless the kind is `Memory`.
     pub ghost has_message: { (is_memory kind || is_some message) ≡ true },
     // It is a short line, unless the kind is `Write`.
-    pub ghost is_short: { option_map_or (λ m. is_message kind (string_bytes m)) message true ≡ true },
+    pub ghost is_short: { option_map_or (λ m. is_message kind (string_bytes m)) message true ≡
+        true },
 }
 
 /// Drops the fields. Written by hand, so that each early return drops the value by one call to
