@@ -7,18 +7,17 @@ ghost use Rattle.liquid_uses.specs.WrittenUses as spec;
 ghost use Rattle.liquid_uses.specs.WrittenUses.{line, written_each, written_items};
 ghost use Rattle.liquid_uses.specs.WrittenUses.{written, written_members, written_uses};
 
-use liquid_core::{ErrorKind, Result, Use, Uses};
+use liquid_core::{ErrorKind, Use, Uses};
 use std::alloc::{AllocError, Global};
+use std::result::Result;
 
 /// The uses as paths, a line each, in the order of the names: `products[].title` asks for the
-/// whole
-/// title of each product, `customer?` only whether there is a customer, and of which kind.
+/// whole title of each product, `customer?` only whether there is a customer, and of which kind.
 ///
 /// `[]` is each item that a loop goes over, and after it `?` may stand for how many there are.
 /// Where a member's key isn't made of letters, digits, `_` and `-`, the value that it is a member
-/// of
-/// is told whole. `Memory` where there is no room for the text.
-pub fn written_uses(alloc: Global, uses: &Uses) -> Result<String>
+/// of is written whole. `Memory` where there is no room for the text.
+pub fn written_uses(alloc: Global, uses: &Uses) -> liquid_core::Result<String>
     ensures lines { IfOk result (λ text.
         string_bytes text ≡ written_uses (members_view uses.now.entries)) }
     ensures memory { IfErr result (λ e. e.kind ≡ ErrorKind.Memory) }
