@@ -1,7 +1,8 @@
 -- The status of a program that ends before its input does.
 use Rattle.std.specs.Prelude.{ℕ}
 use Rattle.liquid_folder.specs.declared.stop.Stop.{Stop}
-use Rattle.liquid_folder.specs.declared.stop.Stop.TheVariants.{Usage, Missing, Unread, Inside, Fault, Streams}
+use Rattle.liquid_folder.specs.declared.stop.Stop.TheVariants.{Usage, Missing, Unread, Inside}
+use Rattle.liquid_folder.specs.declared.stop.Stop.TheVariants.{Fault, Streams}
 
 abbrev pub status_of : Stop → ℕ
 status_of Usage = 2

@@ -59,7 +59,7 @@ fn found_path(rt: &HostRuntime, path: &str) -> Result<Option<String>, Stop> {
     }
 }
 
-/// The path of a folder with these names behind it, which aren't there yet: a `..` takes one back.
+/// The path of a folder with these names after it, which aren't there yet: a `..` takes one back.
 fn joined(folder: String, names: &str) -> Result<String, Stop> {
     let mut path = folder;
     for name in names.split('/') {

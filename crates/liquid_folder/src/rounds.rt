@@ -24,8 +24,8 @@ pub struct Rounds<'r> {
 }
 
 impl<'r> Rounds<'r> {
-    /// A site over its data, to which all files of the folder are new, and whose pages' files go into
-    /// a folder that is made if need be.
+    /// A site over its data, to which all files of the folder are new, and whose pages' files go
+    /// into a folder that is made if need be.
     pub fn new(rt: &'r HostRuntime, folder: &'r Folder, out: &str) -> Result<Rounds<'r>, Stop> {
         let files = Files { rt };
         let site = first_site(rt, folder, &files)?;
@@ -71,7 +71,7 @@ impl<'r> Rounds<'r> {
         }
     }
 
-    /// The round behind the last line, if a file was named since the one before.
+    /// The round after the last line, if a file was named since the one before.
     pub fn last_round(&mut self) -> Result<bool, Stop> {
         if !self.is_named {
             return Ok(true);

@@ -127,7 +127,7 @@ impl Reading {
         }
     }
 
-    /// Past a comma, behind which no closer stands.
+    /// Past a comma, after which no closer stands.
     fn comma<'t>(&mut self, from: &'t str) -> Result<usize, Flaw<'t>> {
         let is_list = self.levels.in_list();
         let closer = if is_list { "]" } else { "}" };

@@ -69,7 +69,7 @@ fn location(text: &str, left: usize) -> Location {
     }
 }
 
-/// The line and the column, in characters and each from 1, of the place behind a text.
+/// The line and the column, in characters and each from 1, of the place after a text.
 fn behind(text: &str) -> (usize, usize) {
     let mut line: usize = 1;
     let mut column: usize = 1;

@@ -50,8 +50,8 @@ fn raw_control(from: &str, sign: char) -> Flaw<'_> {
     }
 }
 
-/// How many bytes the escape at the front takes. What ends the text in it, or the line, is looked at
-/// on its own.
+/// How many bytes the escape at the front takes. What ends the text in it, or the line, is looked
+/// at on its own.
 fn escape_length(from: &str) -> Result<usize, Flaw<'_>> {
     match from.chars().nth(1) {
         Some('"' | '\\' | '/' | 'b' | 'f' | 'n' | 'r' | 't') => Ok(2),
@@ -65,8 +65,8 @@ fn escape_length(from: &str) -> Result<usize, Flaw<'_>> {
     }
 }
 
-/// How many bytes the escape at the front takes, which begins with `\u`: that of a letter, or the two
-/// that make one.
+/// How many bytes the escape at the front takes, which begins with `\u`: that of a letter, or the
+/// two that make one.
 fn code_length(from: &str) -> Result<usize, Flaw<'_>> {
     let Some(code) = code_of(from) else {
         return Err(Flaw::quoting(
