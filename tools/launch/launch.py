@@ -36,7 +36,7 @@ def files_of_page(words):
 
 
 def files_of_folder(words):
-    return words[:2] if len(words) == 3 else None
+    return words[:2] if len(words) == 3 and all(words) else None
 
 
 # how each program is called, what it does, and the files that it has to find; one that isn't here says all of that itself
@@ -54,6 +54,11 @@ CALLS = {
 }
 
 
+def quoted(text):
+    """A text on one line: at most 60 characters of it, and none that a terminal would obey."""
+    return "".join(c if c.isprintable() else f"\\u{{{ord(c):x}}}" for c in text[:60]) + ("..." if len(text) > 60 else "")
+
+
 def need_files(name, words):
     """Ends as the program would, where it has nothing to do."""
     usage, _, files_of = CALLS[name]
@@ -62,7 +67,7 @@ def need_files(name, words):
         raise Invalid(f"usage: {usage}", 2)
     for file in files:
         if not os.access(file, os.R_OK):
-            raise Invalid(f"error: Read: {file}", 1)
+            raise Invalid(f"error: Read: {quoted(file)}", 1)
 
 
 def start(made, words):

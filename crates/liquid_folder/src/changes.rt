@@ -1,18 +1,22 @@
 //! The files of a site: all of them, and the one that a line names.
+use crate::paths::{file_in, is_left_out, is_same};
+use crate::quoted::Quoted;
 use crate::stop::Stop;
+use crate::words::Call;
 use liquid_core::Result;
 use liquid_site_files::{Changed, Folder};
 use std::alloc::Global;
+use std::fs::DirEntry;
 use std::{fs, io};
 
 /// The folder of a site: pages in `FOLDER/pages`, partials in `FOLDER/partials`, pages written into
 /// OUT.
-pub fn folder_of(alloc: Global, folder: &str, facts: &str, out: &str) -> Result<Folder> {
+pub fn folder_of(alloc: Global, call: &Call<'_>) -> Result<Folder> {
     Ok(Folder {
-        pages: inside(alloc, folder, "/pages/")?,
-        partials: inside(alloc, folder, "/partials/")?,
-        facts: String::from_str(alloc, facts)?,
-        out: inside(alloc, out, "/")?,
+        pages: inside(alloc, call.folder, "/pages/")?,
+        partials: inside(alloc, call.folder, "/partials/")?,
+        facts: String::from_str(alloc, call.facts)?,
+        out: inside(alloc, call.out, "/")?,
     })
 }
 
@@ -22,58 +26,127 @@ fn inside(alloc: Global, folder: &str, rest: &str) -> Result<String> {
     Ok(path)
 }
 
-/// The file that a line names by its path, or none where it is no file of the site.
-pub fn changed_by(alloc: Global, folder: &Folder, line: &str) -> Result<Option<Changed>> {
-    if line == folder.facts.as_str() {
-        return Ok(Some(Changed::Facts));
-    }
-    if let Some(name) = name_behind(folder.pages.as_str(), line) {
-        return Ok(Some(Changed::Page(String::from_str(alloc, name)?)));
-    }
-    if let Some(name) = name_behind(folder.partials.as_str(), line) {
-        return Ok(Some(Changed::Partial(String::from_str(alloc, name)?)));
-    }
-    Ok(None)
+/// What a line asks for.
+#[derive(Drop)]
+pub enum Line {
+    /// A round.
+    Round,
+    /// A look at this file in the next round.
+    File(Changed),
+    /// A look at a file that is left out, and so nothing.
+    LeftOut,
+    /// A look at what is no file of the site.
+    NoFile,
 }
 
-/// The name of a file that stands right in a folder.
-fn name_behind<'l>(folder: &str, line: &'l str) -> Option<&'l str> {
-    let name = line.strip_prefix(folder)?;
-    if name.is_empty() || name.contains('/') {
-        return None;
+/// What a line asks for, which is empty or the path of a file.
+pub fn line_of(alloc: Global, folder: &Folder, line: &str) -> Result<Line> {
+    if line.is_empty() {
+        return Ok(Line::Round);
     }
-    Some(name)
+    if line.ends_with('/') {
+        return Ok(Line::NoFile);
+    }
+    if is_same(line, folder.facts.as_str()) {
+        return Ok(Line::File(Changed::Facts));
+    }
+    let page = file_in(folder.pages.as_str(), line);
+    let partial = file_in(folder.partials.as_str(), line);
+    match (page, partial) {
+        (Some(name), _) | (None, Some(name)) if is_left_out(name) => Ok(Line::LeftOut),
+        (Some(name), _) => Ok(Line::File(Changed::Page(String::from_str(alloc, name)?))),
+        (None, Some(name)) => Ok(Line::File(Changed::Partial(String::from_str(alloc, name)?))),
+        (None, None) => Ok(Line::NoFile),
+    }
 }
 
-/// All files of the site but the data: first its partials, then its pages, each in the order of
-/// their names.
-pub fn all_files(rt: &HostRuntime, folder: &Folder) -> std::result::Result<Vec<Changed>, Stop> {
+/// The files of a site that there are at first.
+#[derive(Drop)]
+pub struct Listing {
+    /// Its partials, and then its pages, each in the order of their names.
+    pub files: Vec<Changed>,
+    /// Whether each name was read.
+    pub is_whole: bool,
+}
+
+/// All files of the site but the data. What is passed over, and a name that can't be read, is
+/// mentioned on standard error.
+pub fn all_files(rt: &HostRuntime, folder: &Folder) -> std::result::Result<Listing, Stop> {
     let mut files = Vec::new(rt.alloc());
-    for name in names_in(rt, folder.partials.as_str())? {
+    let partials = names_in(rt, folder.partials.as_str())?;
+    for name in partials.names {
         files.push(Changed::Partial(name))?;
     }
-    for name in names_in(rt, folder.pages.as_str())? {
+    let pages = names_in(rt, folder.pages.as_str())?;
+    for name in pages.names {
         files.push(Changed::Page(name))?;
     }
-    Ok(files)
+    Ok(Listing {
+        files,
+        is_whole: partials.is_whole && pages.is_whole,
+    })
 }
 
-/// The names of the files in a folder, in their order. A folder that isn't there has none.
-fn names_in(rt: &HostRuntime, path: &str) -> std::result::Result<Vec<String>, Stop> {
+/// The names of the files in a folder.
+#[derive(Drop)]
+struct Names {
+    /// In their order.
+    names: Vec<String>,
+    /// Whether each was read.
+    is_whole: bool,
+}
+
+/// The names of the files in a folder. A folder that isn't there has none.
+fn names_in(rt: &HostRuntime, path: &str) -> std::result::Result<Names, Stop> {
     let mut names = Vec::new(rt.alloc());
+    let mut is_whole = true;
     let entries = match fs::read_dir(rt, path) {
         Ok(entries) => entries,
         Err(refused) => match refused.kind() {
-            io::ErrorKind::NotFound => return Ok(names),
+            io::ErrorKind::NotFound => return Ok(Names { names, is_whole }),
             _ => return Err(Stop::unread(rt.alloc(), path)),
         },
     };
     for entry in entries {
-        let entry = entry?;
-        if !entry.file_type()?.is_dir() {
-            names.push(String::from_str(rt.alloc(), entry.file_name())?)?;
+        match entry {
+            Ok(entry) => if is_taken(rt, &entry)? {
+                names.push(String::from_str(rt.alloc(), entry.file_name())?)?;
+            },
+            Err(refused) => {
+                if refused.kind() != io::ErrorKind::InvalidFilename {
+                    return Err(Stop::from(refused));
+                }
+                let text = path;
+                eprintln!(rt;
+                    "error: Read: {}: a name in it isn't UTF-8",
+                    Quoted { text }
+                )?;
+                is_whole = false;
+            }
         }
     }
     names.sort_unstable();
-    Ok(names)
+    Ok(Names { names, is_whole })
+}
+
+/// Whether what stands in a folder is a file of the site. A folder, or what is no file, is passed
+/// over, which is mentioned.
+fn is_taken(rt: &HostRuntime, entry: &DirEntry) -> io::Result<bool> {
+    if is_left_out(entry.file_name()) {
+        return Ok(false);
+    }
+    let Ok(found) = fs::metadata(rt, entry.path()) else {
+        return Ok(true);
+    };
+    if found.is_file() {
+        return Ok(true);
+    }
+    let text = entry.path().as_str();
+    let what = if found.is_dir() {
+        "a folder"
+    } else {
+        "no file"
+    };
+    eprintln!(rt; "passed over: {} is {what}", Quoted { text })?;
+    Ok(false)
 }

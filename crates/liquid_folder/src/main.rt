@@ -3,13 +3,19 @@
 
 mod changes;
 mod files;
+mod folders;
+mod paths;
+mod quoted;
 mod rounds;
 mod stop;
 mod tell;
+mod words;
 
 use crate::changes::folder_of;
+use crate::folders::check_folders;
 use crate::rounds::Rounds;
 use crate::stop::Stop;
+use crate::words::call_of;
 use liquid_site_files::Folder;
 use std::alloc::AllocError;
 use std::process::ExitCode;
@@ -29,21 +35,28 @@ fn main(rt: HostRuntime) -> ExitCode {
 /// All rounds. Whether no file was refused and no page ended by a fault.
 fn run(rt: &HostRuntime) -> Result<bool, Stop> {
     let words = words_given(rt)?;
-    match words.as_slice() {
-        [folder, facts, out] => {
-            let (folder, facts, out) = (folder.as_str(), facts.as_str(), out.as_str());
-            all_rounds(rt, &folder_of(rt.alloc(), folder, facts, out)?, out)
-        }
-        _ => Err(Stop::Usage),
-    }
+    let call = call_of(&words).ok_or(Stop::Usage)?;
+    let folder = folder_of(rt.alloc(), &call)?;
+    check_folders(rt, &call, &folder)?;
+    all_rounds(rt, &folder, call.out)
 }
 
-/// The first round and one for each empty line of standard input, as long as that lasts.
+/// The first round and one for each empty line of standard input, as long as that lasts. A line
+/// that isn't UTF-8 names no file of the site.
 fn all_rounds(rt: &HostRuntime, folder: &Folder, out: &str) -> Result<bool, Stop> {
     let mut rounds = Rounds::new(rt, folder, out)?;
-    let mut clean = rounds.one_round()?;
+    let mut clean = rounds.first_round()?;
     for line in rt.lines(rt.alloc()) {
-        clean &= rounds.take_line(line?.as_str())?;
+        match line {
+            Ok(line) => clean &= rounds.take_line(line.as_str())?,
+            Err(refused) => {
+                if refused.kind() != io::ErrorKind::InvalidData {
+                    return Err(Stop::from(refused));
+                }
+                eprintln!(rt; "error: no file of the site: a line that isn't UTF-8")?;
+                clean = false;
+            }
+        }
     }
     clean &= rounds.last_round()?;
     Ok(clean)

@@ -1,6 +1,7 @@
 //! The rounds over a folder.
-use crate::changes::{all_files, changed_by};
+use crate::changes::{Line, Listing, all_files, line_of};
 use crate::files::Files;
+use crate::quoted::Quoted;
 use crate::stop::Stop;
 use crate::tell::tell_round;
 use liquid_site_files::{Changed, Disk, DiskFault, Folder, Site, round, site_of};
@@ -14,7 +15,12 @@ pub struct Rounds<'r> {
     folder: &'r Folder,
     files: Files<'r>,
     site: Site,
+    /// The files to look at in the next round: those that were named, and those that were refused.
     changes: Vec<Changed>,
+    /// Whether a file was named since the last round.
+    is_named: bool,
+    /// Whether the name of each file could be read.
+    is_whole: bool,
 }
 
 impl<'r> Rounds<'r> {
@@ -23,42 +29,61 @@ impl<'r> Rounds<'r> {
     pub fn new(rt: &'r HostRuntime, folder: &'r Folder, out: &str) -> Result<Rounds<'r>, Stop> {
         let files = Files { rt };
         let site = first_site(rt, folder, &files)?;
-        let changes = changes_at_first(rt, folder, out)?;
+        let Listing {
+            files: changes,
+            is_whole,
+        } = changes_at_first(rt, folder, out)?;
         Ok(Rounds {
             rt,
             folder,
             files,
             site,
             changes,
+            is_named: false,
+            is_whole,
         })
+    }
+
+    /// The round over all files. Whether the name of each could be read, and what `one_round`
+    /// answers.
+    pub fn first_round(&mut self) -> Result<bool, Stop> {
+        let clean = self.one_round()?;
+        Ok(clean && self.is_whole)
     }
 
     /// What a line of standard input asks for: a round where it is empty, or to look at the file of
     /// this path in the next one. Whether it names a file of the site, and what `one_round` answers
-    /// of a round.
+    /// of a round. A file that is left out is passed over without a word.
     pub fn take_line(&mut self, line: &str) -> Result<bool, Stop> {
-        if line.is_empty() {
-            return self.one_round();
+        match line_of(self.rt.alloc(), self.folder, line)? {
+            Line::Round => self.one_round(),
+            Line::File(changed) => {
+                self.changes.push(changed)?;
+                self.is_named = true;
+                Ok(true)
+            }
+            Line::LeftOut => Ok(true),
+            Line::NoFile => {
+                let text = line;
+                eprintln!(self.rt; "error: no file of the site: {}", Quoted { text })?;
+                Ok(false)
+            }
         }
-        if let Some(changed) = changed_by(self.rt.alloc(), self.folder, line)? {
-            self.changes.push(changed)?;
-            return Ok(true);
-        }
-        eprintln!(self.rt; "error: no file of the site: {line}")?;
-        Ok(false)
     }
 
-    /// The round after the last line, if a file changed since the one before.
+    /// The round after the last line, if a file was named since the one before.
     pub fn last_round(&mut self) -> Result<bool, Stop> {
-        if self.changes.is_empty() {
+        if !self.is_named {
             return Ok(true);
         }
         self.one_round()
     }
 
     /// Runs one round and reports it. Whether no file was refused, no page ended by a fault, and
-    /// each page's file was written.
+    /// each page's file was written. A file that is refused is looked at again in the next round.
     pub fn one_round(&mut self) -> Result<bool, Stop> {
+        self.changes.sort_unstable();
+        self.changes.dedup();
         let before = self.site.rendered();
         let done = round(
             self.rt.alloc(),
@@ -66,15 +91,22 @@ impl<'r> Rounds<'r> {
             self.folder,
             &self.changes,
             &mut self.files,
-        );
+        )?;
+        self.is_named = false;
         self.changes.clear();
+        for refusal in &done.refusals {
+            let path = refusal.path.as_str();
+            if let Line::File(changed) = line_of(self.rt.alloc(), self.folder, path)? {
+                self.changes.push(changed)?;
+            }
+        }
         let rendered = self.site.rendered().saturating_sub(before);
-        tell_round(self.rt, &self.site, self.folder, done?, rendered)
+        tell_round(self.rt, &self.site, self.folder, done, rendered)
     }
 }
 
 /// All files of the folder, once there is one for the pages' files.
-fn changes_at_first(rt: &HostRuntime, folder: &Folder, out: &str) -> Result<Vec<Changed>, Stop> {
+fn changes_at_first(rt: &HostRuntime, folder: &Folder, out: &str) -> Result<Listing, Stop> {
     if fs::create_dir_all(rt, out).is_err() {
         return Err(Stop::unread(rt.alloc(), out));
     }

@@ -2,6 +2,7 @@
 ghost use Rattle.std.specs.Prelude.{◌≡◌};
 ghost use Rattle.liquid_folder.specs.Stops.{status_of};
 
+use crate::quoted::Quoted;
 use liquid_core::Error;
 use std::alloc::{AllocError, AllocFailed, Global};
 use std::{fmt, io};
@@ -11,8 +12,12 @@ use std::{fmt, io};
 pub enum Stop {
     /// The words are no call.
     Usage,
+    /// The folder of this path isn't there.
+    Missing(String),
     /// The file or folder of this path can't be read or made.
     Unread(String),
+    /// The pages would be written into the folder of this path, where templates are.
+    Inside(String),
     /// The data has a fault, or memory ran out.
     Fault(Error),
     /// Standard input, output or error failed.
@@ -28,13 +33,33 @@ impl Stop {
         }
     }
 
+    /// A folder that isn't there.
+    pub fn missing(alloc: Global, path: &str) -> Stop {
+        match String::from_str(alloc, path) {
+            Ok(path) => Stop::Missing(path),
+            Err(refused) => Stop::from(refused),
+        }
+    }
+
+    /// Pages that would be written into this folder of templates.
+    pub fn inside(alloc: Global, path: &str) -> Stop {
+        match String::from_str(alloc, path) {
+            Ok(path) => Stop::Inside(path),
+            Err(refused) => Stop::from(refused),
+        }
+    }
+
     /// The status that the program ends with.
     pub fn status(&self) -> u8
         ensures { result ≡ status_of self.now }
     {
         match self {
             Stop::Usage => 2,
-            Stop::Unread(_) | Stop::Fault(_) | Stop::Streams(_) => 1,
+            Stop::Missing(_)
+            | Stop::Unread(_)
+            | Stop::Inside(_)
+            | Stop::Fault(_)
+            | Stop::Streams(_) => 1,
         }
     }
 }
@@ -44,7 +69,26 @@ impl fmt::Display for Stop {
     fn fmt<W: fmt::Write>(&self, f: &mut fmt::Formatter<W>) -> fmt::Result {
         match self {
             Stop::Usage => f.write_str("usage: liquid_folder FOLDER DATA OUT"),
-            Stop::Unread(path) => write!(f, "error: Read: {path}"),
+            Stop::Missing(path) => {
+                let text = path.as_str();
+                write!(
+                    f,
+                    "error: Read: {}\n  there is no such folder",
+                    Quoted { text }
+                )
+            }
+            Stop::Unread(path) => {
+                let text = path.as_str();
+                write!(f, "error: Read: {}", Quoted { text })
+            }
+            Stop::Inside(path) => {
+                let text = path.as_str();
+                write!(
+                    f,
+                    "error: OUT lies in {}, where templates are; name another folder",
+                    Quoted { text }
+                )
+            }
             Stop::Fault(fault) => write!(f, "error: {fault}"),
             Stop::Streams(fault) => write!(f, "error: {fault}"),
         }

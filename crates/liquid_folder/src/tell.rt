@@ -1,10 +1,11 @@
 //! The lines that a round prints.
+use crate::quoted::Quoted;
 use crate::stop::Stop;
 use liquid_core::ErrorKind;
 use liquid_site_files::{Folder, Refusal, RoundOutcome, Site, Why};
 use std::io;
 
-/// Tells each refused file, each page's fault and a page's file that can't be written on standard
+/// Prints each refused file, each page's fault and a page's file that can't be written on standard
 /// error, and how many pages were rendered and written on standard output. Whether there was none
 /// of the former. Memory that ran out ends the program.
 pub fn tell_round(
@@ -35,7 +36,8 @@ pub fn tell_round(
 }
 
 fn tell_refusal(rt: &HostRuntime, refusal: &Refusal) -> io::Result<()> {
-    let path = refusal.path.as_str();
+    let text = refusal.path.as_str();
+    let path = Quoted { text };
     match &refusal.why {
         Why::Unread => eprintln!(rt; "error: Read: {path}"),
         Why::Fault(fault) => eprintln!(rt; "error: {path}: {fault}"),
@@ -43,11 +45,14 @@ fn tell_refusal(rt: &HostRuntime, refusal: &Refusal) -> io::Result<()> {
 }
 
 /// Tells each page that ends by a fault. Whether there is none.
-fn tell_faults(rt: &HostRuntime, site: &Site, folder: &Folder) -> io::Result<bool> {
+fn tell_faults(rt: &HostRuntime, site: &Site, folder: &Folder) -> Result<bool, Stop> {
     let mut faultless = true;
     for (name, page) in site.pages().iter() {
         if let Some(fault) = &page.fault {
-            eprintln!(rt; "error: {}{name}: {fault}", folder.pages)?;
+            let mut path = String::from_str(rt.alloc(), folder.pages.as_str())?;
+            path.push_str(name.as_str())?;
+            let text = path.as_str();
+            eprintln!(rt; "error: {}: {fault}", Quoted { text })?;
             faultless = false;
         }
     }

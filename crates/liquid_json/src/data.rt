@@ -9,7 +9,7 @@ ghost use Rattle.serde_json.specs.View.{view as json_view, items_view as json_it
 ghost use Rattle.serde_json.specs.View.{members_view as json_members};
 
 use crate::copies::{any_by_place, plain_uses};
-use crate::place::{bytes_left, no_json, with_place};
+use crate::place::{no_json, with_place};
 use crate::planned::data_from_planned;
 use crate::tokens::{MAX_DEPTH, data_from_tokens};
 use liquid_core::{Error, ErrorKind, Object, Result, Uses, Value};
@@ -72,8 +72,7 @@ fn data_from_tree(alloc: Global, text: &str) -> Result<Object>
         Err(refused) => if refused.is_memory() {
             Err(Error::from(AllocError))
         } else {
-            let left = bytes_left(text, refused.line(), refused.column());
-            Err(no_json(alloc, text, left))
+            Err(no_json(alloc, text))
         },
     }
 }

@@ -4,8 +4,14 @@
 
 mod copies;
 mod data;
+mod flaw;
+mod grammar;
+mod levels;
+mod misplaced;
 mod place;
 mod planned;
+mod quoted;
+mod scalars;
 mod skip;
 mod tokens;
 mod whole;

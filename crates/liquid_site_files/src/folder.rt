@@ -6,15 +6,17 @@ ghost use Rattle.liquid_site_files.specs.Paths.{path_of};
 use liquid_core::Result;
 use std::alloc::Global;
 
-/// A file of a site that may have changed. It may also be new or gone.
-#[derive(Drop)]
+/// A file of a site that may have changed. It may also be new or gone. In their order the data
+/// comes first, and then the partials, so that in a round of sorted files no page is rendered
+/// before them.
+#[derive(PartialEq, Eq, PartialOrd, Ord, Drop)]
 pub enum Changed {
-    /// The template of a page, by the page's name.
-    Page(String),
-    /// The template of a partial, by the partial's name.
-    Partial(String),
     /// The data.
     Facts,
+    /// The template of a partial, by the partial's name.
+    Partial(String),
+    /// The template of a page, by the page's name.
+    Page(String),
 }
 
 /// Where the files of a site are.

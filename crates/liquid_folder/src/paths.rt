@@ -1,0 +1,55 @@
+//! Paths of a site's files.
+ghost use Rattle.std.specs.Prelude.{◌≡◌, ◌↔◌, IsTrue, IfSome};
+ghost use Rattle.std.specs.Path.{PathStartsWith, components_remaining};
+ghost use Rattle.liquid_folder.specs.Paths.{IsFileIn, is_left_out, steps};
+
+use std::path::{Component, Components, Path};
+
+/// The name of the file that a path leads to, where that is right in the folder. A `.` among the
+/// names of either path, and slashes that follow one another, change nothing.
+pub fn file_in<'p>(folder: &str, path: &'p str) -> Option<&'p str>
+    ensures { IfSome result (λ name. IsFileIn folder.now path.now name.now) }
+{
+    let rest = steps_of(path)
+        .as_path()
+        .strip_prefix(steps_of(folder).as_path())
+        .ok()?;
+    let mut names = rest.components();
+    match (names.next(), names.next()) {
+        (Some(Component::Normal(name)), None) => Some(name),
+        _ => None,
+    }
+}
+
+/// Whether both lead to one file, as `file_in` reads paths.
+pub fn is_same(path: &str, other: &str) -> bool {
+    steps_of(path).as_path() == steps_of(other).as_path()
+}
+
+/// The steps of a path: without a `.` in front.
+fn steps_of(path: &str) -> Components<'_>
+    ensures { components_remaining result ≡ steps path.now }
+{
+    let whole = Path::new(path).components();
+    let mut rest = Path::new(path).components();
+    match rest.next() {
+        Some(Component::CurDir) => rest,
+        _ => whole,
+    }
+}
+
+/// Whether a path is that of the folder, or leads into it, step by step.
+pub fn lies_in(path: &str, folder: &str) -> bool
+    ensures { IsTrue result ↔ PathStartsWith path.now folder.now }
+{
+    Path::new(path).starts_with(folder)
+}
+
+/// Whether a file of this name is left out: it begins with a `.` or ends in `~`.
+pub fn is_left_out(name: &str) -> bool
+    ensures { result ≡ is_left_out name.now }
+{
+    let bytes = name.as_bytes();
+    let length = bytes.len();
+    length > 0 && (bytes[0] == b'.' || bytes[length - 1] == b'~')
+}
