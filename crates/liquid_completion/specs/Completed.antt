@@ -4,9 +4,11 @@
 --     or_blank u o      what stands there, or what is put there for u
 use Rattle.std.specs.Prelude.{Bool, cond, ◌||◌, codes, Option}
 use Rattle.std.specs.Option.{unwrap_or}
-use Rattle.liquid_model.specs.Data.{Datum, nil, truth, number, text, array, object, Items, no_items, item, Pairs, no_pairs, put}
+use Rattle.liquid_model.specs.Data.{Datum, nil, truth, number, text, array, object}
+use Rattle.liquid_model.specs.Data.{Items, no_items, item, Pairs, no_pairs, put}
 use Rattle.liquid_model.specs.Find.{value_at}
-use Rattle.liquid_model.specs.Uses.{Use, nothing, everything, parts, Fields, no_fields, field, ItemUse, uncounted, every, use_in, asks_whether, has_every}
+use Rattle.liquid_model.specs.Uses.{Use, nothing, everything, parts, Fields, no_fields, field}
+use Rattle.liquid_model.specs.Uses.{ItemUse, uncounted, every, use_in, asks_whether, has_every}
 
 -- what is put where nothing stands: an empty map where members are asked of it, else nil
 abbrev pub blank : Use → Datum
@@ -36,7 +38,8 @@ abbrev mutual
   completed (parts members turns) (number z) = number z
   completed (parts members turns) (text s) = text s
   completed (parts members turns) (array ds) = array (completed_items turns ds)
-  completed (parts members turns) (object ps) = object (cond (counts_members members turns) ps (completed_pairs members ps))
+  completed (parts members turns) (object ps) =
+      object (cond (counts_members members turns) ps (completed_pairs members ps))
 
   -- the items that a loop goes over, each completed; else the list as it is
   pub completed_items : ItemUse → Items → Items
@@ -46,4 +49,6 @@ abbrev mutual
   -- member by member: what stands at its key or is put there, completed
   pub completed_pairs : Fields → Pairs → Pairs
   completed_pairs no_fields ps = ps
-  completed_pairs (field k u more) ps = completed_pairs more (cond (asks_whether u) (put k (completed u (or_blank u (value_at k ps))) ps) ps)
+  completed_pairs (field k u more) ps =
+      completed_pairs more
+      (cond (asks_whether u) (put k (completed u (or_blank u (value_at k ps))) ps) ps)

@@ -7,7 +7,8 @@ ghost use Rattle.liquid_model.specs.Uses.{field, no_fields};
 ghost use Rattle.liquid_model.specs.UseViews.{use_view, members_view, turns_view};
 ghost use Rattle.liquid_model.specs.View.{view, pairs_view, items_view};
 ghost use Rattle.liquid_completion.specs.Completed as spec;
-ghost use Rattle.liquid_completion.specs.Completed.{completed, completed_items, completed_pairs, each_item};
+ghost use Rattle.liquid_completion.specs.Completed.{completed, completed_items};
+ghost use Rattle.liquid_completion.specs.Completed.{completed_pairs, each_item};
 ghost use Rattle.liquid_completion.specs.Kept.{Kept};
 ghost use Rattle.liquid_completion.specs.inside.Keeping.{Keeps, uncounted_pairs};
 
@@ -16,20 +17,21 @@ use std::alloc::Global;
 use std::collections::BTreeMap;
 
 /// Puts in what these uses ask for and the data lack: nil, or an empty map where members are asked
-/// of it, which is completed in turn. A template that asks for no more than these uses then finds a
-/// value where a name or a member was missing.
+/// of it, which is completed in turn. A template that asks for no more than these uses then finds
+/// a value where a name or a member was missing.
 ///
-/// What is there stays as it is. Nothing is put below nil or a scalar, and no item into a list; the
-/// items of a list are completed where a loop goes over them. A map that a loop goes over, or whose
-/// `size` is asked for, is left alone, since a member that was put in would be seen there. Of a
-/// value that is asked for whole no members are asked.
+/// What is there stays as it is. Nothing is put below nil or a scalar, and no item into a list;
+/// the items of a list are completed where a loop goes over them. A map that a loop goes over, or
+/// whose `size` is asked for, is left alone, since a member that was put in would be seen there.
+/// Of a value that is asked for whole no members are asked.
 ///
 /// `Memory` where a growth was refused: then some of it is done, and a second call does the rest.
 /// The calls nest, and so do the maps that are put in, as deep as the uses do.
 pub fn complete(alloc: Global, data: &mut Object, uses: &Uses) -> Result<()>
     ensures completed { IsValueOrMemory (λ _. pairs_view «data».new.entries) result
         (completed_pairs (members_view uses.now.entries) (pairs_view «data».old.entries)) }
-    ensures kept { Kept (object (pairs_view «data».old.entries)) (object (pairs_view «data».new.entries)) }
+    ensures kept { Kept (object (pairs_view «data».old.entries))
+        (object (pairs_view «data».new.entries)) }
     ensures again { completed_pairs (members_view uses.now.entries) (pairs_view «data».new.entries)
         ≡ completed_pairs (members_view uses.now.entries) (pairs_view «data».old.entries) }
 {
@@ -40,7 +42,8 @@ pub fn complete(alloc: Global, data: &mut Object, uses: &Uses) -> Result<()>
 fn complete_members(alloc: Global, uses: &Uses, data: &mut Object) -> Result<()>
     ensures completed { IsValueOrMemory (λ _. pairs_view «data».new.entries) result
         (completed_pairs (members_view uses.now.entries) (pairs_view «data».old.entries)) }
-    ensures kept { Keeps (object (pairs_view «data».old.entries)) (object (pairs_view «data».new.entries)) }
+    ensures kept { Keeps (object (pairs_view «data».old.entries))
+        (object (pairs_view «data».new.entries)) }
     ensures again { completed_pairs (members_view uses.now.entries) (pairs_view «data».new.entries)
         ≡ completed_pairs (members_view uses.now.entries) (pairs_view «data».old.entries) }
 {
@@ -56,7 +59,8 @@ fn complete_member(alloc: Global, name: &str, asked: &Use, data: &mut Object) ->
     ensures completed { IsValueOrMemory (λ _. pairs_view «data».new.entries) result
         (completed_pairs (field name.now (use_view asked.now) no_fields)
         (pairs_view «data».old.entries)) }
-    ensures kept { Keeps (object (pairs_view «data».old.entries)) (object (pairs_view «data».new.entries)) }
+    ensures kept { Keeps (object (pairs_view «data».old.entries))
+        (object (pairs_view «data».new.entries)) }
     ensures again { completed_pairs (field name.now (use_view asked.now) no_fields)
         (pairs_view «data».new.entries)
         ≡ completed_pairs (field name.now (use_view asked.now) no_fields)
@@ -109,7 +113,8 @@ fn complete_value(alloc: Global, asked: &Use, value: &mut Value) -> Result<()>
 fn complete_list(alloc: Global, items: &Option<Box<Use>>, values: &mut Vec<Value>) -> Result<()>
     ensures completed { IsValueOrMemory (λ _. items_view values.new.items) result
         (completed_items (turns_view items.now) (items_view values.old.items)) }
-    ensures kept { Keeps (array (items_view values.old.items)) (array (items_view values.new.items)) }
+    ensures kept { Keeps (array (items_view values.old.items))
+        (array (items_view values.new.items)) }
     ensures again { completed_items (turns_view items.now) (items_view values.new.items)
         ≡ completed_items (turns_view items.now) (items_view values.old.items) }
 {
@@ -130,7 +135,8 @@ fn complete_map(
     ensures completed { IsValueOrMemory (λ _. pairs_view pairs.new.entries) result
         (uncounted_pairs (members_view members.now.entries) (turns_view items.now)
         (pairs_view pairs.old.entries)) }
-    ensures kept { Keeps (object (pairs_view pairs.old.entries)) (object (pairs_view pairs.new.entries)) }
+    ensures kept { Keeps (object (pairs_view pairs.old.entries))
+        (object (pairs_view pairs.new.entries)) }
     ensures again { uncounted_pairs (members_view members.now.entries) (turns_view items.now)
         (pairs_view pairs.new.entries)
         ≡ uncounted_pairs (members_view members.now.entries) (turns_view items.now)
@@ -147,7 +153,8 @@ fn complete_map(
 fn complete_items(alloc: Global, asked: &Use, values: &mut Vec<Value>) -> Result<()>
     ensures completed { IsValueOrMemory (λ _. items_view values.new.items) result
         (each_item (completed (use_view asked.now)) (items_view values.old.items)) }
-    ensures kept { Keeps (array (items_view values.old.items)) (array (items_view values.new.items)) }
+    ensures kept { Keeps (array (items_view values.old.items))
+        (array (items_view values.new.items)) }
     ensures again { each_item (completed (use_view asked.now)) (items_view values.new.items)
         ≡ each_item (completed (use_view asked.now)) (items_view values.old.items) }
 {
@@ -174,7 +181,8 @@ fn blank(alloc: Global, asked: &Use) -> Value
 /// Whether a member that is put into a map would be seen: a loop goes over it, or its length is
 /// asked for.
 fn counts_members(members: &Uses, items: &Option<Box<Use>>) -> bool
-    ensures { result ≡ spec.counts_members (members_view members.now.entries) (turns_view items.now) }
+    ensures { result
+        ≡ spec.counts_members (members_view members.now.entries) (turns_view items.now) }
 {
     if items.is_some() {
         return true;
