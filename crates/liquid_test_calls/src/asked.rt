@@ -2,7 +2,7 @@
 //!
 //! Uses stand in a row's `with`, as a map from names. Of a value `null` asks nothing, `true`
 //! everything, and a map its members. A list has what is asked of each item that a loop goes over,
-//! and behind it the members.
+//! and after it the members.
 use crate::faults::no_call;
 use liquid_completion::complete;
 use liquid_core::{Object, Result, Use, Uses, Value};
@@ -59,7 +59,10 @@ fn use_of(alloc: Global, told: &Value) -> Result<Use> {
         Value::Nil => Ok(Use::Nothing),
         Value::Object(named) => {
             let members = named_uses(alloc, named)?;
-            Ok(Use::Parts { members, items: None })
+            Ok(Use::Parts {
+                members,
+                items: None,
+            })
         }
         Value::Array(parts) => looped_use(alloc, parts),
         _ => Ok(Use::Everything),
