@@ -62,6 +62,37 @@ leads_kept (key ∷ path) (object ps) (object qs) h l =
 
 -- ---- asked and not barred
 
+-- the same, where what is missing is what is put there
+abbrev stops : Use → Datum → List Text → Bool
+stops u d [] = false
+stops (parts members turns) (object ps) (key ∷ path) = counts_members members turns || stops (use_in key members) (or_blank (use_in key members) (value_at key ps)) path
+stops _ _ (key ∷ path) = true
+
+none_asked : (turns : ItemUse) (key : Text) (path : List Text) → asks_path (parts no_fields turns) (key ∷ path) ≡ true → ⊥
+none_asked turns key [] asked = absurd cc
+none_asked turns key (k ∷ path) asked = absurd cc
+
+either_false : (a b c : Bool) → (b ≡ false → c ≡ false) → a || b ≡ false → a || c ≡ false
+either_false true b c h e = absurd cc
+either_false false b c h e = h e
+
+barred_stops : (u : Use) (o : Option Datum) (path : List Text) → asks_path u path ≡ true → is_barred u o path ≡ false → stops u (or_blank u o) path ≡ false
+barred_stops u o [] asked free = refl
+barred_stops nothing o (key ∷ path) asked free = absurd cc
+barred_stops everything o (key ∷ path) asked free = absurd cc
+barred_stops (parts no_fields turns) o (key ∷ path) asked free = absurd (none_asked turns key path asked)
+barred_stops (parts (field k u more) turns) None (key ∷ path) asked free =
+    either_false (counts_members (field k u more) turns) (is_barred (use_in key (field k u more)) None path) (stops (use_in key (field k u more)) (or_blank (use_in key (field k u more)) None) path)
+    (barred_stops (use_in key (field k u more)) None path asked) free
+barred_stops (parts (field k u more) turns) (Some nil) (key ∷ path) asked free = absurd cc
+barred_stops (parts (field k u more) turns) (Some (truth b)) (key ∷ path) asked free = absurd cc
+barred_stops (parts (field k u more) turns) (Some (number z)) (key ∷ path) asked free = absurd cc
+barred_stops (parts (field k u more) turns) (Some (text s)) (key ∷ path) asked free = absurd cc
+barred_stops (parts (field k u more) turns) (Some (array ds)) (key ∷ path) asked free = absurd cc
+barred_stops (parts (field k u more) turns) (Some (object ps)) (key ∷ path) asked free =
+    either_false (counts_members (field k u more) turns) (is_barred (use_in key (field k u more)) (value_at key ps) path)
+    (stops (use_in key (field k u more)) (or_blank (use_in key (field k u more)) (value_at key ps)) path) (barred_stops (use_in key (field k u more)) (value_at key ps) path asked) free
+
 asked_at_all : (u : Use) (path : List Text) → asks_path u path ≡ true → asks_whether u ≡ true
 asked_at_all u [] e = e
 asked_at_all nothing (key ∷ path) e = absurd cc
@@ -91,22 +122,22 @@ HasPath key path ps = (c : Datum) × (value_at key ps ≡ Some c) × Leads path 
 
 -- what a member of this key has, where it is the one that is asked for, and where a later one is
 member_leads : (k : Text) (u : Use) (more : Fields) (ps : Pairs) (key : Text) (path : List Text)
-    → ((d : Datum) (p : List Text) → asks_path u p ≡ true → is_barred u d p ≡ false → Leads p (completed u d))
-    → (asks_path (use_in key more) path ≡ true → is_barred (use_in key more) (or_blank (use_in key more) (value_at key (with_member k u ps))) path ≡ false → HasPath key path (completed_pairs more (with_member k u ps)))
-    → (b : Bool) → same_text k key ≡ b → asks_path (cond b u (use_in key more)) path ≡ true → is_barred (cond b u (use_in key more)) (or_blank (cond b u (use_in key more)) (value_at key ps)) path ≡ false
+    → ((d : Datum) (p : List Text) → asks_path u p ≡ true → stops u d p ≡ false → Leads p (completed u d))
+    → (asks_path (use_in key more) path ≡ true → stops (use_in key more) (or_blank (use_in key more) (value_at key (with_member k u ps))) path ≡ false → HasPath key path (completed_pairs more (with_member k u ps)))
+    → (b : Bool) → same_text k key ≡ b → asks_path (cond b u (use_in key more)) path ≡ true → stops (cond b u (use_in key more)) (or_blank (cond b u (use_in key more)) (value_at key ps)) path ≡ false
     → HasPath key path (completed_pairs more (with_member k u ps))
 member_leads k u more ps key path here later true same asked free =
     let e : k ≡ key = (bytes_decides k key).0 same in
     let put_in : with_member k u ps ≡ put k (new_at k u ps) ps = ap (λ b. cond b (put k (new_at k u ps) ps) ps) (asked_at_all u path asked) in
     let there : value_at key (with_member k u ps) ≡ Some (new_at k u ps) = (λ i. value_at (sym e i) (put_in i)) ∙ value_at_put k (new_at k u ps) ps in
-    let free_at : is_barred u (or_blank u (value_at k ps)) path ≡ false = ap (λ q. is_barred u (or_blank u (value_at q ps)) path) e ∙ free in
+    let free_at : stops u (or_blank u (value_at k ps)) path ≡ false = ap (λ q. stops u (or_blank u (value_at q ps)) path) e ∙ free in
     let after = found_of_maps (suc (length path)) (with_member k u ps) (completed_pairs more (with_member k u ps)) (pairs_keep more (suc (suc (length path))) (with_member k u ps)) key (new_at k u ps) there in
     (after.0, after.1, leads_kept path (new_at k u ps) after.0 after.2 (here (or_blank u (value_at k ps)) path asked free_at))
 member_leads k u more ps key path here later false same asked free =
-    later asked (ap (λ o. is_barred (use_in key more) (or_blank (use_in key more) o) path) (other_member (asks_whether u) k key (new_at k u ps) ps same) ∙ free)
+    later asked (ap (λ o. stops (use_in key more) (or_blank (use_in key more) o) path) (other_member (asks_whether u) k key (new_at k u ps) ps same) ∙ free)
 
 mutual
-  leads : (u : Use) (d : Datum) (path : List Text) → asks_path u path ≡ true → is_barred u d path ≡ false → Leads path (completed u d)
+  leads : (u : Use) (d : Datum) (path : List Text) → asks_path u path ≡ true → stops u d path ≡ false → Leads path (completed u d)
   leads u d [] asked free = (completed u d, refl)
   leads nothing d (key ∷ path) asked free = absurd cc
   leads everything d (key ∷ path) asked free = absurd cc
@@ -120,7 +151,7 @@ mutual
       subst (Leads (key ∷ path)) (uncounted_pairs (counts_members members turns) ps (completed_pairs members ps) (left _ _ free))
       (there.2.0, inside_on path (value_at key (completed_pairs members ps)) there.0 there.1 ∙ there.2.1)
 
-  pairs_lead : (members : Fields) (ps : Pairs) (key : Text) (path : List Text) → asks_path (use_in key members) path ≡ true → is_barred (use_in key members) (or_blank (use_in key members) (value_at key ps)) path ≡ false
+  pairs_lead : (members : Fields) (ps : Pairs) (key : Text) (path : List Text) → asks_path (use_in key members) path ≡ true → stops (use_in key members) (or_blank (use_in key members) (value_at key ps)) path ≡ false
       → HasPath key path (completed_pairs members ps)
   pairs_lead no_fields ps key [] asked free = absurd cc
   pairs_lead no_fields ps key (k ∷ path) asked free = absurd cc
@@ -163,7 +194,7 @@ finds (s ∷ ss) (key ∷ path) (object ps) f t e =
 
 pub asked_is_found : AskedIsFound
 asked_is_found u d path asked free =
-    let l = leads u d path asked free in
+    let l = leads u d path asked (barred_stops u (Some d) path asked free) in
     (l.0, finds (map text path) path (completed u d) l.0 (texts_of path) l.1)
 
 -- ---- variables
@@ -200,7 +231,7 @@ literal_path (tree.step (variable name steps) more) e path is = absurd cc
 pub asked_has_value : AskedHasValue
 unfolding value_of
 asked_has_value members ps e name steps path held keys asked free =
-    let there = pairs_lead members ps name path asked free in
+    let there = pairs_lead members ps name path asked (barred_stops (use_in name members) (value_at name ps) path asked free) in
     let ds = literal_path steps e path keys in
     let l = there.2 in (
       l.0,

@@ -4,8 +4,8 @@
 --     or_blank u o      what stands there, or what is put there for u
 use Rattle.std.specs.Prelude.{Bool, cond, ◌||◌, codes, Option}
 use Rattle.std.specs.Option.{unwrap_or}
-use Rattle.liquid_model.specs.Data.{Datum, nil, truth, number, text, array, object, Items, no_items}
-use Rattle.liquid_model.specs.Data.{item, Pairs, no_pairs, put}
+use Rattle.liquid_model.specs.Data.{Datum, nil, truth, number, text, array, object}
+use Rattle.liquid_model.specs.Data.{Items, no_items, item, Pairs, no_pairs, put}
 use Rattle.liquid_model.specs.Find.{value_at}
 use Rattle.liquid_model.specs.Uses.{Use, nothing, everything, parts, Fields, no_fields, field}
 use Rattle.liquid_model.specs.Uses.{ItemUse, uncounted, every, use_in, asks_whether, has_every}

@@ -1,9 +1,9 @@
 -- What was found is found as before.
 --     reads_count path d      on its way from d the path comes to the number of a map's members
---     Kept d e      each other path that finds a value in d finds in e the same scalar, or a list
---                   or a map as before
-use Rattle.std.specs.Prelude.{◌≡◌, Bool, false, ◌&&◌, ◌||◌, not, is_some, codes, List, [], ◌∷◌}
-use Rattle.std.specs.Prelude.{Option, Some, None}
+--     Kept d e      each other path that finds a value in d finds one in e, the same where it is a
+--     scalar, and a list or a map as it was
+use Rattle.std.specs.Prelude.{◌≡◌, Bool, false, ◌&&◌, ◌||◌, not, is_some, codes}
+use Rattle.std.specs.Prelude.{List, [], ◌∷◌, Option, Some, None}
 use Rattle.liquid_model.specs.Texts.{same_text}
 use Rattle.liquid_model.specs.Data.{Datum, object, text_of}
 use Rattle.liquid_model.specs.Find.{find, step, value_at}
@@ -12,8 +12,8 @@ use Rattle.liquid_completion.specs.Completed.{completed}
 
 -- the step `size` into a map that has no member of that name
 abbrev pub counts_at : Datum → Datum → Bool
-counts_at s (object ps) = same_text (text_of s) (codes "size") &&
-    not (is_some (value_at (text_of s) ps))
+counts_at s (object ps) =
+    same_text (text_of s) (codes "size") && not (is_some (value_at (text_of s) ps))
 counts_at s _ = false
 
 abbrev pub holds_of : (Datum → Bool) → Option Datum → Bool
@@ -25,8 +25,9 @@ reads_count [] d = false
 reads_count (s ∷ path) d = counts_at s d || holds_of (reads_count path) (step d s)
 
 abbrev pub Kept : Datum → Datum → Type 0
-Kept d e = (path : List Datum) (c : Datum) → reads_count path d ≡ false → find d path ≡ Some c →
-    (f : Datum) × (find e path ≡ Some f) × (shape c ≡ shape f)
+Kept d e =
+    (path : List Datum) (c : Datum) → reads_count path d ≡ false → find d path ≡ Some c
+    → (f : Datum) × (find e path ≡ Some f) × (shape c ≡ shape f)
 
 -- completing changes nothing that is there. How many members a map has is left out, since one that
 -- is put in counts

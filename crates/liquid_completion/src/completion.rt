@@ -7,8 +7,8 @@ ghost use Rattle.liquid_model.specs.Uses.{field, no_fields};
 ghost use Rattle.liquid_model.specs.UseViews.{use_view, members_view, turns_view};
 ghost use Rattle.liquid_model.specs.View.{view, pairs_view, items_view};
 ghost use Rattle.liquid_completion.specs.Completed as spec;
-ghost use Rattle.liquid_completion.specs.Completed.{completed, completed_items, completed_pairs};
-ghost use Rattle.liquid_completion.specs.Completed.{each_item};
+ghost use Rattle.liquid_completion.specs.Completed.{completed, completed_items};
+ghost use Rattle.liquid_completion.specs.Completed.{completed_pairs, each_item};
 ghost use Rattle.liquid_completion.specs.Kept.{Kept};
 ghost use Rattle.liquid_completion.specs.inside.Keeping.{Keeps, uncounted_pairs};
 
@@ -17,13 +17,13 @@ use std::alloc::Global;
 use std::collections::BTreeMap;
 
 /// Puts in what these uses ask for and the data lack: nil, or an empty map where members are asked
-/// of it, which is completed in turn. A template that asks for no more than these uses then finds a
-/// value where a name or a member was missing.
+/// of it, which is completed in turn. A template that asks for no more than these uses then finds
+/// a value where a name or a member was missing.
 ///
-/// What is there stays as it is. Nothing is put below nil or a scalar, and no item into a list; the
-/// items of a list are completed where a loop goes over them. A map that a loop goes over, or whose
-/// `size` is asked for, is left alone, since a member that was put in would be seen there. Of a
-/// value that is asked for whole no members are asked.
+/// What is there stays as it is. Nothing is put below nil or a scalar, and no item into a list;
+/// the items of a list are completed where a loop goes over them. A map that a loop goes over, or
+/// whose `size` is asked for, is left alone, since a member that was put in would be seen there.
+/// Of a value that is asked for whole no members are asked.
 ///
 /// `Memory` where a growth was refused: then some of it is done, and a second call does the rest.
 /// The calls nest, and so do the maps that are put in, as deep as the uses do.
@@ -181,8 +181,8 @@ fn blank(alloc: Global, asked: &Use) -> Value
 /// Whether a member that is put into a map would be seen: a loop goes over it, or its length is
 /// asked for.
 fn counts_members(members: &Uses, items: &Option<Box<Use>>) -> bool
-    ensures { result ≡ spec.counts_members (members_view members.now.entries)
-        (turns_view items.now) }
+    ensures { result
+        ≡ spec.counts_members (members_view members.now.entries) (turns_view items.now) }
 {
     if items.is_some() {
         return true;

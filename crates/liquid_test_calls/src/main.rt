@@ -25,6 +25,8 @@
 //!   `read_date`.
 //! - `Value::NAME` and `Test::NAME`: the method of the value `on`. `Order::NAME`: that of `on`
 //!   beside the value `with`.
+//! - `Data::NAME`: `data_for` of the text `source`, or `complete` of the map `on`, with uses that
+//!   `src/asked.rt` tells.
 //! - `Error::NAME`: a fault with the message `source`, as it is told.
 //! - `State`: calls of the state, one after another, as `src/states.rt` tells. `Site`: changes of a
 //!   site, as `src/sites.rt` tells.
@@ -45,6 +47,7 @@
 #![tactic(auto)]
 
 mod arguments;
+mod asked;
 mod expressions;
 mod faults;
 mod filters;
@@ -56,6 +59,7 @@ mod templates;
 mod values;
 
 use crate::arguments::argument_call;
+use crate::asked::asked_call;
 use crate::expressions::{condition_call, part_call};
 use crate::faults::{fault_call, no_call};
 use crate::filters::{accepts_call, each_is_called, filter_made, no_filter_made};
@@ -117,7 +121,7 @@ fn row_made<R: Print>(
         "apply_filters" => no_filter_made(told, line, &row),
         "Site" => site_made(told, &row),
         "State" => made_in_turn(told, &row.with, data),
-        "Value" | "Test" | "Order" | "Error" | "argument" | "Accepts" | "Example" => {
+        "Value" | "Test" | "Order" | "Error" | "argument" | "Accepts" | "Data" | "Example" => {
             call_made(told, line, &row);
             Ok(())
         }
@@ -142,6 +146,7 @@ fn called(alloc: Global, row: &Row) -> Result<Value> {
         "Error" => fault_call(alloc, name, row),
         "argument" => argument_call(alloc, name, row),
         "Accepts" => accepts_call(alloc, name, row),
+        "Data" => asked_call(alloc, name, row),
         _ => text(shop(alloc)),
     }
 }

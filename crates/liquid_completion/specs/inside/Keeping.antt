@@ -3,8 +3,8 @@
 --     Keeps d e      what such steps find in d they find in e, of the same shape
 --     uncounted_pairs members turns ps      a map's pairs, completed
 use Rattle.std.specs.Prelude.{◌≡◌, ℕ, zero, suc, if◌then◌else◌, cond, Option, Some, None}
-use Rattle.liquid_model.specs.Data.{Datum, nil, truth, number, text, array, object, Pairs, text_of}
-use Rattle.liquid_model.specs.Data.{scalar}
+use Rattle.liquid_model.specs.Data.{Datum, nil, truth, number, text, array, object}
+use Rattle.liquid_model.specs.Data.{Pairs, text_of, scalar}
 use Rattle.liquid_model.specs.Find.{step, value_at}
 use Rattle.liquid_model.specs.Uses.{Fields, ItemUse, shape}
 use Rattle.liquid_completion.specs.Completed.{counts_members, completed_pairs}
@@ -19,8 +19,9 @@ own s (object ps) = if scalar s then value_at (text_of s) ps else None
 
 abbrev pub KeepsFor : ℕ → Datum → Datum → Type 0
 KeepsFor zero d e = Unit {0}
-KeepsFor (suc n) d e = (shape d ≡ shape e) × ((s c : Datum) → own s d ≡ Some c → (f : Datum) ×
-    (own s e ≡ Some f) × KeepsFor n c f)
+KeepsFor (suc n) d e =
+    (shape d ≡ shape e)
+    × ((s c : Datum) → own s d ≡ Some c → (f : Datum) × (own s e ≡ Some f) × KeepsFor n c f)
 
 abbrev pub Keeps : Datum → Datum → Type 0
 Keeps d e = (n : ℕ) → KeepsFor n d e

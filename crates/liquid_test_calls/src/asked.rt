@@ -1,0 +1,85 @@
+//! Data as far as they are asked for, and data completed with what is asked of them.
+//!
+//! Uses stand in a row's `with`, as a map from names. Of a value `null` asks nothing, `true`
+//! everything, and a map its members. A list has what is asked of each item that a loop goes over,
+//! and after it the members.
+use crate::faults::no_call;
+use liquid_completion::complete;
+use liquid_core::{Object, Result, Use, Uses, Value};
+use liquid_json::data_for;
+use liquid_test_refusals::Row;
+use std::alloc::Global;
+
+/// A call over the row's uses.
+pub(crate) fn asked_call(alloc: Global, name: &str, row: &Row) -> Result<Value> {
+    let uses = uses_of(alloc, &row.with)?;
+    match name {
+        "data_for" => Ok(Value::Object(data_for(alloc, row.source.as_str(), &uses)?)),
+        "complete" => completed(alloc, &row.on, &uses),
+        _ => no_call(alloc),
+    }
+}
+
+/// The map that the value is, completed twice.
+fn completed(alloc: Global, value: &Value, uses: &Uses) -> Result<Value> {
+    match value.copy(alloc)? {
+        Value::Object(data) => twice_completed(alloc, data, uses),
+        _ => no_call(alloc),
+    }
+}
+
+fn twice_completed(alloc: Global, mut data: Object, uses: &Uses) -> Result<Value> {
+    complete(alloc, &mut data, uses)?;
+    complete(alloc, &mut data, uses)?;
+    Ok(Value::Object(data))
+}
+
+/// The uses that the map has, or none.
+#[cycle(use_of)]
+fn uses_of(alloc: Global, told: &Value) -> Result<Uses> {
+    match told {
+        Value::Object(named) => named_uses(alloc, named),
+        _ => Ok(Uses::new(alloc)),
+    }
+}
+
+#[cycle(use_of)]
+fn named_uses(alloc: Global, named: &Object) -> Result<Uses> {
+    let mut uses = Uses::new(alloc);
+    for (name, told) in named.iter() {
+        let name = String::from_str(alloc, name.as_str())?;
+        drop(uses.insert(name, use_of(alloc, told)?)?);
+    }
+    Ok(uses)
+}
+
+#[cycle(use_of)]
+fn use_of(alloc: Global, told: &Value) -> Result<Use> {
+    match told {
+        Value::Nil => Ok(Use::Nothing),
+        Value::Object(named) => {
+            let members = named_uses(alloc, named)?;
+            Ok(Use::Parts {
+                members,
+                items: None,
+            })
+        }
+        Value::Array(parts) => looped_use(alloc, parts),
+        _ => Ok(Use::Everything),
+    }
+}
+
+/// What is asked of a value that a loop goes over.
+#[cycle(use_of)]
+fn looped_use(alloc: Global, parts: &Vec<Value>) -> Result<Use> {
+    let item = match parts.first() {
+        Some(told) => use_of(alloc, told)?,
+        None => Use::Nothing,
+    };
+    let items = Some(Box::new(alloc, item)?);
+    let members = match parts.get(1) {
+        Some(told) => uses_of(alloc, told)?,
+        None => Uses::new(alloc),
+    };
+    Ok(Use::Parts { members, items })
+}
