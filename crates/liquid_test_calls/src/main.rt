@@ -27,7 +27,7 @@
 //!   beside the value `with`.
 //! - `Error::NAME`: a fault with the message `source`, as it is told.
 //! - `State`: calls of the state, one after another, as `src/states.rt` tells. `Site`: changes of a
-//!   site, as `src/sites.rt` tells.
+//!   site, as `src/sites.rt` tells. `LimitedSite`: the same of a site within the limits `on`.
 //! - `Example::shop`: the README's example of a site.
 //! - `Template::NAME`: the method of the template `source`. That of a part of its first node:
 //!   `Expression::NAME`,
@@ -44,6 +44,7 @@
 //! `%Z`) is told by the documentation of jiff.
 #![tactic(auto)]
 
+mod any_site;
 mod arguments;
 mod expressions;
 mod faults;
@@ -61,7 +62,7 @@ use crate::faults::{fault_call, no_call};
 use crate::filters::{accepts_call, each_is_called, filter_made, no_filter_made};
 use crate::loops::loop_call;
 use crate::site_example::shop;
-use crate::sites::site_made;
+use crate::sites::{limited_site_made, site_made};
 use crate::states::made_in_turn;
 use crate::templates::{group_call, template_call};
 use crate::values::{order_call, test_call, value_call};
@@ -116,6 +117,7 @@ fn row_made<R: Print>(
         "Filter" => filter_made(told, called_filters, line, &row),
         "apply_filters" => no_filter_made(told, line, &row),
         "Site" => site_made(told, &row),
+        "LimitedSite" => limited_site_made(told, &row),
         "State" => made_in_turn(told, &row.with, data),
         "Value" | "Test" | "Order" | "Error" | "argument" | "Accepts" | "Example" => {
             call_made(told, line, &row);
