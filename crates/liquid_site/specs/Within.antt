@@ -3,7 +3,7 @@ use Rattle.std.specs.Prelude.{◌≡◌, ◌++◌, Bool, true, false, T, List, [
 use Rattle.std.specs.Prelude.{Option, None, Some, IsSome, is_some, refl}
 use Rattle.std.specs.Coded.{Coded, Coded-set, code_by, coded_bool, coded_option, ×_prop, Unit-prop}
 use Rattle.std.proofs.lemmas.List.{append_cancel_left}
-use mathlib.Core.HLevel.{Σ_prop_path}
+use mathlib.Core.HLevel.{×₃_prop, Σ_prop_path}
 use mathlib.Core.Logic.{inl, inr}
 use mathlib.Core.Path.{sym, ap, subst, ◌∙◌}
 use Rattle.liquid_model.specs.Texts.{Text}
@@ -43,16 +43,16 @@ pub PageWithin-prop : (whole : Shown) (p : LimitedPage) → IsProp (PageWithin w
 PageWithin-prop whole p (inl a) (inl b) = ap inl (×_prop
     (Coded-set (coded_option limit_code) p.limit None)
     (Coded-set shown_code (page_view p.page) whole) a b)
-PageWithin-prop whole p (inr a) (inr b) = ap inr (×_prop
+PageWithin-prop whole p (inr a) (inr b) = ap inr (×₃_prop
     (Coded-set coded_bool (is_some p.limit) true)
-    (×_prop (Coded-set (coded_option kind_code) (page_view p.page).fault (Some Write))
-    (Begins-prop (page_view p.page).text whole.text)) a b)
+    (Coded-set (coded_option kind_code) (page_view p.page).fault (Some Write))
+    (Begins-prop (page_view p.page).text whole.text) a b)
 PageWithin-prop whole p (inl a) (inr b) = absurd (none_is p.limit a.0 b.0)
 PageWithin-prop whole p (inr a) (inl b) = absurd (none_is p.limit b.0 a.0)
 
 pub AreWithin-prop : (ws : Pages) (ps : List (Text × LimitedPage)) → IsProp (AreWithin ws ps)
 AreWithin-prop [] [] = Unit-prop
-AreWithin-prop (w ∷ ws) (p ∷ ps) = ×_prop (Coded-set text_code w.0 p.0)
-    (×_prop (PageWithin-prop w.1 p.1) (AreWithin-prop ws ps))
+AreWithin-prop (w ∷ ws) (p ∷ ps) = ×₃_prop (Coded-set text_code w.0 p.0)
+    (PageWithin-prop w.1 p.1) (AreWithin-prop ws ps)
 AreWithin-prop [] (p ∷ ps) = λ a b. absurd a
 AreWithin-prop (w ∷ ws) [] = λ a b. absurd a

@@ -1,5 +1,4 @@
-use Rattle.std.proofs.Common.{◌≡◌, ◌∷◌, [], ◌++◌, ◌||◌, true, false, String, Global, string_bytes, refl, sym, ap, subst, ◌∙◌}
-use Rattle.std.proofs.Common.{append_nil}
+use Rattle.std.proofs.Common.{◌≡◌, ◌∷◌, [], ◌++◌, ◌||◌, true, false, String, Global, string_bytes, rules, refl, sym, ap, subst, ◌∙◌}
 use Rattle.std.proofs.lemmas.List.{map-append}
 use Rattle.std.proofs.lemmas.Bool.{or_from, or_right}
 use Rattle.liquid_core.specs.Held.{held}
@@ -7,7 +6,8 @@ use Rattle.liquid_evaluation.specs.Names.{mentioned, nodes_names}
 use Rattle.liquid_language.specs.Entries.{seen}
 use Rattle.liquid_syntax.specs.Templates.{tree_of, partials_of}
 use Rattle.liquid_syntax.specs.declared.template.Template.{Template}
-use Rattle.liquid_lib.specs.Pages.{page_over}
+use Rattle.liquid_lib.specs.Pages.{Shown, page_over}
+use Rattle.liquid_model.specs.Texts.{Text}
 use Rattle.liquid_site.specs.Contents.{all_pages}
 use Rattle.liquid_site.specs.Parts.{trees_in}
 use Rattle.liquid_site.specs.ShownPages.{AreShown}
@@ -24,7 +24,7 @@ loop-page-preserved-in-loop-page g c =
     let test = wanted c.args.all c.args.name.now in
     let t = tree_of c.in-Some.template.now in
     let e : String Global × Template = (c.in-Some.page.now, c.in-Some.template.now) in
-    let w = (string_bytes e.0, show t) in
+    let w : Text × Shown = (string_bytes e.0, show t) in
     let fresh = c.in_ok-fresh.fresh in
     let left = c.next.new.self in
     let before = c.loop-page.pages.items in
@@ -54,5 +54,13 @@ loop-page-preserved g c =
     let miss = or_from c.args.all (mentioned (nodes_names t) c.args.name.now) chosen (sym c.mentions.ensures ∙ c.if-mentions.false) in
     (done, c.loop-page.invariant.1, passed test show done all e c.next.new.self miss (ap (λ es. done ++ all_pages show (wanted_of test (seen tree_of es))) (sym c.in-Some.ensures.steps) ∙ c.loop-page.invariant.2))
 
-pub loop-page-initial : goal.loop-page-initial
-loop-page-initial g c = ([], tt, refl)
+pub loop-page-init : goal.loop-page-init
+loop-page-init g c =
+    let context = c.args.context.now in
+    let show = page_over context.depth (partials_of context.partials.now) (held context.facts.now) in
+    let test = wanted c.args.all c.args.name.now in
+    let all : c.into_iter-page-iterator.result ≡ c.args.templates.now.entries = search rules in (
+      [],
+      subst (λ items. AreShown g.R.Rendering.shows [] (listed_pages items)) (sym c.new-pages.ensures.items) tt,
+      ap (λ es. all_pages show (wanted_of test (seen tree_of es))) all,
+    )

@@ -2,8 +2,8 @@ use Rattle.std.proofs.Common.{rules, OnOk, OnErr, ◌≡◌, Bool, true, false, 
 use Rattle.std.specs.Map.{lookup}
 use Rattle.liquid_model.specs.Answer.{IsValueOrMemory}
 use Rattle.liquid_core.specs.Held.{held}
-use Rattle.liquid_language.specs.Entries.{put}
-use Rattle.liquid_site.specs.Parts.{trees_in}
+use Rattle.liquid_language.specs.Entries.{put, without}
+use Rattle.liquid_site.specs.Parts.{by_name, trees_in}
 use Rattle.liquid_model.specs.View.{view}
 use Rattle.liquid_model.specs.Maps.{listed}
 use Rattle.liquid_syntax.specs.Parsing.{IsOnlyTree}
@@ -12,10 +12,12 @@ use Rattle.liquid_syntax.specs.declared.template.Template.{Template}
 use Rattle.liquid_language.proofs.Inserted.{named}
 use Rattle.liquid_site.specs.Applied.{IsStep}
 use Rattle.liquid_language.specs.declared.language.Language.{Language}
-use Rattle.liquid_site.specs.Contents.{Contents}
+use Rattle.liquid_site.specs.Contents.{Contents, page_of, pages_from_scratch}
 use Rattle.liquid_site.specs.PartViews.{parts_view}
 use Rattle.liquid_site.specs.declared.parts.SiteParts.{SiteParts}
 use Rattle.liquid_site.specs.Steps.{set_page, remove_page, set_partial, remove_partial, set_value, remove_value, stepped, raised, mentioning}
+use Rattle.liquid_site.proofs.Kept.{without_shown}
+use Rattle.liquid_site.proofs.Shown.{shown_as, shown_without}
 use Rattle.liquid_site.proofs.Applying.{applied, held_there, no_partial, no_value, raised_none, value_there}
 use Rattle.liquid_site.proofs.parts.SiteParts.apply.Goals as goal
 
@@ -96,8 +98,8 @@ returns-then-is_none-clause-applied g c =
       rendered = raised_none old.rendered _ (search rules) (ap (λ b. cond b (length (contents_of old).pages) 0) none);
     }
 
-pub exchange_partial-requires-in-RemovePartial : goal.exchange_partial-requires-in-RemovePartial
-exchange_partial-requires-in-RemovePartial g c =
+pub exchange_partial-requires-in-RemovePartial-clause-slot : goal.exchange_partial-requires-in-RemovePartial-clause-slot
+exchange_partial-requires-in-RemovePartial-clause-slot g c =
     let old = c.args.self.now in
     let some = ap is_some (sym c.get.ensures.found) ∙ same_some c.get.result ∙ turned_back (is_some c.get.result) c.is_none.result c.is_none.ensures c.if-is_none.false in
     held_there c.as_str-in-RemovePartial-2.result.now (slots_of old.partials) (ap (λ q. is_some (listed (partials_of old.partials) q)) (c.as_str-in-RemovePartial-2.ensures.value ∙ sym c.as_str-in-RemovePartial.ensures.value) ∙ some)
@@ -160,3 +162,13 @@ returns-else-not-contains_key-clause-applied g c =
     applied c.args.change r (parts_view old) (parts_view new) s (subst (λ ch. IsStep l ch s) (sym c.in-RemoveValue.is) refl) (subst (λ x. IsValueOrMemory (λ u. contents_of new) r x) meant c.change_value-in-RemoveValue.ensures.set)
     (subst (λ x. OnOk r (count_of new ≡ raised (count_of old) x)) (ap (mentioning (contents_of old)) is ∙ sym (ap (λ b. cond b (mentioning (contents_of old) n) 0) some)) c.change_value-in-RemoveValue.ensures.counted)
     c.change_value-in-RemoveValue.ensures.unchanged c.change_value-in-RemoveValue.ensures.uncounted
+
+pub returns-in-RemovePage-clause-keeps : goal.returns-in-RemovePage-clause-keeps
+returns-in-RemovePage-clause-keeps g c =
+    let old = c.args.self.now in
+    let new = c.remove_page.new.self in
+    let n = c.as_str-in-RemovePage.result.now in
+    let ws = pages_from_scratch (contents_of old) in
+    shown_as g.R.Rendering.shows (without n ws) (pages_from_scratch (contents_of new)) (without n (by_name old.pages)) (by_name new.pages)
+    (without_shown (page_of (contents_of old)) n (contents_of old).pages ∙ ap pages_from_scratch (sym c.remove_page.ensures.removed)) (sym c.remove_page.ensures.pages)
+    (shown_without g.R.Rendering.shows n ws (by_name old.pages) c.requires)
