@@ -18,19 +18,18 @@ use Rattle.liquid_syntax.specs.Parsing.{IsOfSource}
 use Rattle.liquid_language.proofs.Inserted.{named}
 use Rattle.liquid_language.specs.Entries.{placed}
 use Rattle.liquid_syntax.specs.Slots.{with_held, filled}
-use Rattle.liquid_site.specs.Applied.{IsStep, HasBadSource, Applies}
-use Rattle.liquid_site.specs.SiteViews.{contents_of, language_of, count_of}
+use Rattle.liquid_site.specs.Applied.{IsStep, HasBadSource, AppliesTo}
+use Rattle.liquid_site.specs.PartViews.{SiteView}
 use Rattle.liquid_site.specs.Steps.{Step, remove_partial, remove_value, stepped, rendered_by, raised}
 use Rattle.liquid_site.specs.Contents.{Contents}
 use Rattle.liquid_site.proofs.Kept.{without_absent, no_fact}
 use Rattle.liquid_site.specs.declared.change.Change.{Change}
-use Rattle.liquid_site.specs.declared.site.Site.{Site}
 
-pub applied : (change : Change) (r : Result (Unit {0}) Error) (old new : Site) (s : Step) → IsStep (language_of old) change s
-    → IsValueOrMemory (λ u. contents_of new) r (stepped s (contents_of old)) → OnOk r (count_of new ≡ raised (count_of old) (rendered_by s (contents_of old)))
-    → OnErr r (contents_of new ≡ contents_of old) → OnErr r (count_of new ≡ count_of old) → Applies change r old new
+pub applied : (change : Change) (r : Result (Unit {0}) Error) (old new : SiteView) (s : Step) → IsStep old.language change s
+    → IsValueOrMemory (λ u. new.contents) r (stepped s old.contents) → OnOk r (new.rendered ≡ raised old.rendered (rendered_by s old.contents))
+    → OnErr r (new.contents ≡ old.contents) → OnErr r (new.rendered ≡ old.rendered) → AppliesTo change r old new
 applied change (Ok u) old new s is context counted same uncounted = record { step = s; is_step = is; contents = context; rendered = counted }
-applied change (Err e) old new s is context counted same uncounted = record { contents = same; rendered = uncounted; why = subst (λ k. MatchBool (is_memory k) ⊤ (HasBadSource (language_of old) change × IsOfSource k)) (sym context) tt }
+applied change (Err e) old new s is context counted same uncounted = record { contents = same; rendered = uncounted; why = subst (λ k. MatchBool (is_memory k) ⊤ (HasBadSource old.language change × IsOfSource k)) (sym context) tt }
 
 -- ---- places
 

@@ -8,9 +8,9 @@ use Rattle.std.specs.declared.alloc.Global.{Global}
 use Rattle.std.proofs.lemmas.Map.Text.{btree_map_updates_text}
 use mathlib.Core.Path.{refl, sym, ap, fun_ext, ◌∙◌}
 use Rattle.liquid_model.specs.Texts.{Text}
-use Rattle.liquid_model.specs.Data.{Datum, Pairs, put}
+use Rattle.liquid_model.specs.Data.{Datum, Pairs, no_pairs, put}
 use Rattle.liquid_model.specs.Find.{value_at}
-use Rattle.liquid_model.specs.Maps.{insert}
+use Rattle.liquid_model.specs.Maps.{empty, insert}
 use Rattle.liquid_model.specs.View.{view, pairs_view}
 use Rattle.liquid_model.specs.declared.value.Value.{Value}
 use Rattle.liquid_model.proofs.Views.{view-lookup}
@@ -29,3 +29,8 @@ fact_removed name m n h = fun_ext (λ q. sym (view-lookup q n.entries) ∙ ap (o
     at : (q : Text) (b : Bool) → option_map view (cond b None (get_by_text m q)) ≡ cond b None (value_at q (pairs_view m.entries))
     at q true = refl
     at q false = view-lookup q m.entries
+
+-- a map without entries holds nothing
+pub no_facts : map_of no_pairs ≡ empty
+unfolding map_of empty
+no_facts = fun_ext (λ name. refl)

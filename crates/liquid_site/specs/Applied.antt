@@ -7,7 +7,8 @@ use Rattle.liquid_model.specs.declared.error.ErrorKind.{ErrorKind}
 use Rattle.liquid_evaluation.specs.Tree.{Nodes}
 use Rattle.liquid_syntax.specs.Parsing.{IsOnlyTree, HasNoTree, IsOfSource}
 use Rattle.liquid_language.specs.declared.language.Language.{Language}
-use Rattle.liquid_site.specs.SiteViews.{contents_of, language_of, count_of}
+use Rattle.liquid_site.specs.PartViews.{SiteView}
+use Rattle.liquid_site.specs.SiteViews.{site_view}
 use Rattle.liquid_site.specs.Steps.{Step, set_page, remove_page, set_partial, remove_partial}
 use Rattle.liquid_site.specs.Steps.{set_value, remove_value, stepped, rendered_by, raised}
 use Rattle.liquid_site.specs.declared.change.Change.{Change}
@@ -34,18 +35,28 @@ HasBadSource l (SetPartial name source) = HasNoTree l (string_bytes source)
 HasBadSource l _ = ⊥
 
 -- the step of the change was taken, and the pages that it renders again are counted
-pub record Accepted (change : Change) (old new : Site) : Type 0 where
+pub record AcceptedStep (change : Change) (old new : SiteView) : Type 0 where
   pub step : Step
-  pub is_step : IsStep (language_of old) change step
-  pub contents : contents_of new ≡ stepped step (contents_of old)
-  pub rendered : count_of new ≡ raised (count_of old) (rendered_by step (contents_of old))
+  pub is_step : IsStep old.language change step
+  pub contents : new.contents ≡ stepped step old.contents
+  pub rendered : new.rendered ≡ raised old.rendered (rendered_by step old.contents)
 
 -- nothing changed. Memory ran out, or the source is no template
-pub record Refused (change : Change) (kind : ErrorKind) (old new : Site) : Type 0 where
-  pub contents : contents_of new ≡ contents_of old
-  pub rendered : count_of new ≡ count_of old
-  pub why : MatchBool (is_memory kind) ⊤ (HasBadSource (language_of old) change × IsOfSource kind)
+pub record RefusedChange (change : Change) (kind : ErrorKind) (old new : SiteView) : Type 0 where
+  pub contents : new.contents ≡ old.contents
+  pub rendered : new.rendered ≡ old.rendered
+  pub why : MatchBool (is_memory kind) ⊤ (HasBadSource old.language change × IsOfSource kind)
+
+abbrev pub AppliesTo : Change → Result (Unit {0}) Error → SiteView → SiteView → Type 0
+AppliesTo change (Ok u) old new = AcceptedStep change old new
+AppliesTo change (Err e) old new = RefusedChange change e.kind old new
+
+-- of a site
+abbrev pub Accepted : Change → Site → Site → Type 0
+Accepted change old new = AcceptedStep change (site_view old) (site_view new)
+
+abbrev pub Refused : Change → ErrorKind → Site → Site → Type 0
+Refused change kind old new = RefusedChange change kind (site_view old) (site_view new)
 
 abbrev pub Applies : Change → Result (Unit {0}) Error → Site → Site → Type 0
-Applies change (Ok u) old new = Accepted change old new
-Applies change (Err e) old new = Refused change e.kind old new
+Applies change r old new = AppliesTo change r (site_view old) (site_view new)

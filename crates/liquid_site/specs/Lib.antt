@@ -1,7 +1,11 @@
 pub mod Applied
 pub mod Contents
 pub mod Faults
+pub mod LimitedViews
+pub mod PartViews
 pub mod Parts
+pub mod ShownPages
 pub mod SiteViews
 pub mod Steps
+pub mod Within
 pub mod inside

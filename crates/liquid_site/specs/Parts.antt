@@ -9,12 +9,16 @@ use Rattle.liquid_language.specs.Entries.{seen}
 use Rattle.liquid_syntax.specs.Templates.{tree_of, partials_of}
 use Rattle.liquid_syntax.specs.declared.partials.Partials.{Partials}
 use Rattle.liquid_syntax.specs.declared.template.Template.{Template}
-use Rattle.liquid_lib.specs.Pages.{Shown, page_view}
+use Rattle.liquid_lib.specs.Pages.{page_view}
 use Rattle.liquid_lib.specs.declared.page.Page.{Page}
 use Rattle.liquid_site.specs.Contents.{Trees, Contents, Pages}
 
 abbrev pub pages_in : BTreeMap (String Global) Page → Pages
 pages_in pages = seen page_view pages.entries
+
+-- pages by name, whatever they are
+abbrev pub by_name : {P : Type 0} → BTreeMap (String Global) P → List (Text × P)
+by_name pages = seen (λ p. p) pages.entries
 
 abbrev pub trees_in : BTreeMap (String Global) Template → Trees
 trees_in templates = seen tree_of templates.entries
@@ -27,10 +31,3 @@ contents_in depth templates partials facts = record {
   partials = partials_of partials;
   facts = held facts;
 }
-
--- a page under its name, and pages in a list
-abbrev pub named_page : String Global × Page → Text × Shown
-named_page p = (string_bytes p.0, page_view p.1)
-
-abbrev pub listed_pages : List (String Global × Page) → Pages
-listed_pages ps = map named_page ps

@@ -4,10 +4,14 @@
 mod change;
 mod facts;
 mod laws;
+mod limited_site;
+mod parts;
 mod refresh;
+mod rendering;
 mod site;
 
 pub use change::Change;
 pub use laws::site_laws;
-pub use liquid_lib::Page;
+pub use limited_site::LimitedSite;
+pub use liquid_lib::{LimitReached, LimitedPage, Limits, Page};
 pub use site::Site;

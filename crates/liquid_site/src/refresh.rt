@@ -1,45 +1,49 @@
 //! Rendering again what was touched.
-ghost use Rattle.std.specs.Prelude.{◌≡◌, map, OnOk, OnErr, IfErr, string_bytes};
+ghost use Rattle.std.specs.Prelude.{◌≡◌, map, IfOk, OnOk, OnErr, IfErr, string_bytes};
 ghost use Rattle.std.specs.List.Sorted.{IsStrictlySortedBy};
 ghost use Rattle.std.specs.Map.{keys_of};
 ghost use Rattle.std.specs.String.{string_cmp};
-ghost use Rattle.liquid_model.specs.Answer.{IsValueOrMemory};
 ghost use Rattle.liquid_core.specs.Held.{held};
 ghost use Rattle.liquid_language.specs.Entries.{put, placed};
 ghost use Rattle.liquid_syntax.specs.Templates.{tree_of, partials_of};
-ghost use Rattle.liquid_lib.specs.Pages.{page_over, page_view};
+ghost use Rattle.liquid_lib.specs.Pages.{page_over};
 ghost use Rattle.liquid_site.specs.Contents.{all_pages};
-ghost use Rattle.liquid_site.specs.inside.Fresh.{wanted, wanted_of, all_placed};
-ghost use Rattle.liquid_site.specs.Parts.{pages_in, trees_in, named_page, listed_pages};
+ghost use Rattle.liquid_site.specs.inside.Fresh.{wanted, wanted_of, all_placed, listed_pages};
+ghost use Rattle.liquid_site.specs.Parts.{by_name, trees_in};
+ghost use Rattle.liquid_site.specs.ShownPages.{AreShown};
 
+use crate::rendering::Rendering;
 use liquid_core::{Error, ErrorKind, Object, Result};
-use liquid_lib::{Page, render_page};
 use liquid_syntax::{Partials, Template};
 use std::alloc::{AllocError, Global};
 use std::collections::BTreeMap;
 
-/// What pages are rendered over: the partials, how many of them may be nested, and the data.
+/// How pages are rendered, and over what: the partials, how many of them may be nested, and the
+/// data.
 #[derive(Drop)]
-pub(crate) struct RenderContext<'g> {
+pub(crate) struct RenderContext<'g, R> {
+    pub rendering: &'g R,
     pub partials: &'g Partials,
     pub depth: u32,
     pub facts: &'g Object,
 }
 
 /// Renders all pages, or those alone whose template mentions the name, and answers them in the
-/// order of their names.
-pub(crate) fn rendered_pages(
+/// order of their names. The answer is `Memory` where a growth was refused, and no other kind.
+pub(crate) fn rendered_pages<P: Drop, R: Rendering<P>>(
     alloc: Global,
     templates: &BTreeMap<String, Template>,
-    context: &RenderContext<'_>,
+    context: &RenderContext<'_, R>,
     all: bool,
     name: &str,
-) -> Result<Vec<(String, Page)>>
-    ensures pages { IsValueOrMemory (λ v. listed_pages v.items) result
+) -> Result<Vec<(String, P)>>
+    ensures pages { IfOk result (λ v. AreShown R.shows
         (all_pages (page_over context.now.depth (partials_of context.now.partials.now)
         (held context.now.facts.now))
-        (wanted_of (wanted all name.now) (trees_in templates.now))) }
+        (wanted_of (wanted all name.now) (trees_in templates.now)))
+        (listed_pages v.items)) }
     ensures ascend { IsStrictlySortedBy string_cmp (keys_of templates.now.entries) }
+    ensures memory { IfErr result (λ e. e.kind ≡ ErrorKind.Memory) }
 {
     let mut pages = Vec::new(alloc);
     for (page, template) in templates.iter() {
@@ -52,20 +56,20 @@ pub(crate) fn rendered_pages(
 }
 
 /// Renders a page, and answers it under its name.
-fn rendered_page(
+fn rendered_page<P: Drop, R: Rendering<P>>(
     alloc: Global,
     name: &str,
     template: &Template,
-    context: &RenderContext<'_>,
-) -> Result<(String, Page)>
-    ensures { IsValueOrMemory named_page result (
-      name.now,
-      page_over context.now.depth (partials_of context.now.partials.now)
-          (held context.now.facts.now) (tree_of template.now),
-    ) }
+    context: &RenderContext<'_, R>,
+) -> Result<(String, P)>
+    ensures name { IfOk result (λ p. string_bytes p.0 ≡ name.now) }
+    ensures page { IfOk result (λ p. R.shows (page_over context.now.depth
+        (partials_of context.now.partials.now) (held context.now.facts.now)
+        (tree_of template.now)) p.1) }
+    ensures memory { IfErr result (λ e. e.kind ≡ ErrorKind.Memory) }
 {
     let own = String::from_str(alloc, name)?;
-    let page = render_page(
+    let page = context.rendering.page(
         alloc,
         template,
         context.partials,
@@ -76,8 +80,8 @@ fn rendered_page(
 }
 
 /// Puts each of these pages in the place of the one of its name. It takes no memory.
-pub(crate) fn replace_pages(pages: &mut BTreeMap<String, Page>, fresh: Vec<(String, Page)>)
-    ensures { pages_in pages.new ≡ all_placed (listed_pages fresh.items) (pages_in pages.old) }
+pub(crate) fn replace_pages<P: Drop>(pages: &mut BTreeMap<String, P>, fresh: Vec<(String, P)>)
+    ensures { by_name pages.new ≡ all_placed (listed_pages fresh.items) (by_name pages.old) }
 {
     for (name, page) in fresh {
         replace_page(pages, name.as_str(), page);
@@ -85,8 +89,8 @@ pub(crate) fn replace_pages(pages: &mut BTreeMap<String, Page>, fresh: Vec<(Stri
 }
 
 /// Puts a page in the place of the one of its name.
-fn replace_page(pages: &mut BTreeMap<String, Page>, name: &str, page: Page)
-    ensures { pages_in pages.new ≡ placed name.now (page_view page) (pages_in pages.old) }
+fn replace_page<P: Drop>(pages: &mut BTreeMap<String, P>, name: &str, page: P)
+    ensures { by_name pages.new ≡ placed name.now page (by_name pages.old) }
 {
     match pages.get_mut(name) {
         Some(shown) => *shown = page,
@@ -95,21 +99,21 @@ fn replace_page(pages: &mut BTreeMap<String, Page>, name: &str, page: Page)
 }
 
 /// Puts a template and its page at a name. Where there is no memory nothing changes.
-pub(crate) fn put_page(
+pub(crate) fn put_page<P: Drop>(
     alloc: Global,
     templates: &mut BTreeMap<String, Template>,
-    pages: &mut BTreeMap<String, Page>,
+    pages: &mut BTreeMap<String, P>,
     name: String,
-    rendered: (Template, Page),
+    rendered: (Template, P),
 ) -> Result<()>
-    requires { map (λ p. p.0) (trees_in templates.old) ≡ map (λ p. p.0) (pages_in pages.old) }
+    requires { map (λ p. p.0) (trees_in templates.old) ≡ map (λ p. p.0) (by_name pages.old) }
     ensures templates { OnOk result (trees_in templates.new ≡
         put (string_bytes name) (tree_of rendered.0)
         (trees_in templates.old)) }
-    ensures pages { OnOk result (pages_in pages.new ≡ put (string_bytes name) (page_view rendered.1)
-        (pages_in pages.old)) }
+    ensures pages { OnOk result (by_name pages.new ≡ put (string_bytes name) rendered.1
+        (by_name pages.old)) }
     ensures templates_unchanged { OnErr result (trees_in templates.new ≡ trees_in templates.old) }
-    ensures pages_unchanged { OnErr result (pages_in pages.new ≡ pages_in pages.old) }
+    ensures pages_unchanged { OnErr result (by_name pages.new ≡ by_name pages.old) }
     ensures memory { IfErr result (λ e. e.kind ≡ ErrorKind.Memory) }
 {
     let (template, page) = rendered;

@@ -29,7 +29,7 @@
 //!   `src/asked.rt` tells.
 //! - `Error::NAME`: a fault with the message `source`, as it is told.
 //! - `State`: calls of the state, one after another, as `src/states.rt` tells. `Site`: changes of a
-//!   site, as `src/sites.rt` tells.
+//!   site, as `src/sites.rt` tells. `LimitedSite`: the same of a site within the limits `on`.
 //! - `Example::shop`: the README's example of a site.
 //! - `Template::NAME`: the method of the template `source`. That of a part of its first node:
 //!   `Expression::NAME`,
@@ -46,6 +46,7 @@
 //! `%Z`) is told by the documentation of jiff.
 #![tactic(auto)]
 
+mod any_site;
 mod arguments;
 mod asked;
 mod expressions;
@@ -65,7 +66,7 @@ use crate::faults::{fault_call, no_call};
 use crate::filters::{accepts_call, each_is_called, filter_made, no_filter_made};
 use crate::loops::loop_call;
 use crate::site_example::shop;
-use crate::sites::site_made;
+use crate::sites::{limited_site_made, site_made};
 use crate::states::made_in_turn;
 use crate::templates::{group_call, template_call};
 use crate::values::{order_call, test_call, value_call};
@@ -120,6 +121,7 @@ fn row_made<R: Print>(
         "Filter" => filter_made(told, called_filters, line, &row),
         "apply_filters" => no_filter_made(told, line, &row),
         "Site" => site_made(told, &row),
+        "LimitedSite" => limited_site_made(told, &row),
         "State" => made_in_turn(told, &row.with, data),
         "Value" | "Test" | "Order" | "Error" | "argument" | "Accepts" | "Data" | "Example" => {
             call_made(told, line, &row);

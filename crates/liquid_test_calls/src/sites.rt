@@ -1,7 +1,8 @@
 //! Sites: one change after another, and what the site shows after each.
+use crate::any_site::AnySite;
 use liquid_core::{ErrorKind, Object, Result, Value, look_up};
-use liquid_lib::{Page, language};
-use liquid_site::{Change, Site};
+use liquid_lib::language;
+use liquid_site::{Change, LimitedSite, Limits, Site};
 use liquid_test_refusals::{Row, Told, items, kind_of, member, name_of, optional, text_member};
 use std::alloc::Global;
 
@@ -13,7 +14,35 @@ pub(crate) fn site_made<R: Print>(told: &Told<'_, R>, row: &Row) -> Result<()> {
     applied_in_turn(told, &mut site, items(&row.with))
 }
 
-fn applied_in_turn<R: Print>(told: &Told<'_, R>, site: &mut Site, steps: &[Value]) -> Result<()> {
+/// The same for a site within limits, which are the numbers `bytes` and `turns` of the map `on`.
+pub(crate) fn limited_site_made<R: Print>(told: &Told<'_, R>, row: &Row) -> Result<()> {
+    let limits = limits_of(&row.on);
+    let mut site = LimitedSite::new(told.alloc, language(told.alloc)?, 32, limits);
+    applied_in_turn(told, &mut site, items(&row.with))
+}
+
+fn limits_of(on: &Value) -> Limits {
+    match on {
+        Value::Object(limits) => Limits {
+            bytes: count_of(look_up(limits, "bytes")),
+            turns: count_of(look_up(limits, "turns")),
+        },
+        _ => Limits::default(),
+    }
+}
+
+fn count_of(value: Option<&Value>) -> Option<u64> {
+    match value {
+        Some(Value::Integer(count)) => u64::try_from(*count).ok(),
+        _ => None,
+    }
+}
+
+fn applied_in_turn<R: Print, S: AnySite>(
+    told: &Told<'_, R>,
+    site: &mut S,
+    steps: &[Value],
+) -> Result<()> {
     let mut before = None;
     for step in steps {
         applied(told, site, step, before)?;
@@ -24,9 +53,9 @@ fn applied_in_turn<R: Print>(told: &Told<'_, R>, site: &mut Site, steps: &[Value
 
 /// Applies a change. Where memory was refused, the site is as it was after the step before, and
 /// takes the change when it comes again.
-fn applied<R: Print>(
+fn applied<R: Print, S: AnySite>(
     told: &Told<'_, R>,
-    site: &mut Site,
+    site: &mut S,
     step: &Value,
     before: Option<&Value>,
 ) -> Result<()> {
@@ -38,20 +67,20 @@ fn applied<R: Print>(
     };
     tell_end(told, step, end)?;
     if matches!(kind, Some(ErrorKind::Memory)) {
-        drop(site.apply(change_of(told.alloc, step)?));
+        drop(site.applied(change_of(told.alloc, step)?));
     }
     tell_pages(told, site, step)
 }
 
 /// Applies the step's change. The kind of the fault that it ended by, if it did.
-fn applied_once<R: Print>(
+fn applied_once<R: Print, S: AnySite>(
     told: &Told<'_, R>,
-    site: &mut Site,
+    site: &mut S,
     step: &Value,
 ) -> Result<Option<ErrorKind>> {
     let change = change_of(told.alloc, step)?;
     told.begin();
-    let kind = kind_of(&site.apply(change));
+    let kind = kind_of(&site.applied(change));
     told.end();
     Ok(kind)
 }
@@ -64,7 +93,7 @@ fn tell_end<R: Print>(told: &Told<'_, R>, step: &Value, end: &str) -> Result<()>
 }
 
 /// Tells the step where the site shows other pages after it.
-fn tell_pages<R: Print>(told: &Told<'_, R>, site: &Site, step: &Value) -> Result<()> {
+fn tell_pages<R: Print, S: AnySite>(told: &Told<'_, R>, site: &S, step: &Value) -> Result<()> {
     if !shows(site, Some(step)) {
         let at = named(told.alloc, step)?;
         let _ = println!(told.rt; "the site shows other pages behind {at}");
@@ -100,12 +129,11 @@ fn change_of(alloc: Global, step: &Value) -> Result<Change> {
     })
 }
 
-/// Whether the site shows just what the step says: each page with its text, a `:` and the kind of
-/// its fault, and how many were `rendered`. Without a step, whether it shows no page, and none was
-/// rendered.
-fn shows(site: &Site, step: Option<&Value>) -> bool {
+/// Whether the site shows just what the step says: each page as `src/any_site.rt` writes it, and
+/// how many were `rendered`. Without a step, whether it shows no page, and none was rendered.
+fn shows<S: AnySite>(site: &S, step: Option<&Value>) -> bool {
     let Some(step) = step else {
-        return site.pages().is_empty() && site.rendered() == 0;
+        return site.shown_of(None) == Some(0) && site.rendered() == 0;
     };
     match member(step, 4) {
         Some(Value::Object(wanted)) => has_rendered(site, wanted) && has_pages(site, wanted),
@@ -114,33 +142,17 @@ fn shows(site: &Site, step: Option<&Value>) -> bool {
 }
 
 /// Whether each page of the site is shown as it is wanted, and none is wanted beside them.
-fn has_pages(site: &Site, wanted: &Object) -> bool {
-    for (name, page) in site.pages().iter() {
-        if !is_shown(page, look_up(wanted, name.as_str())) {
-            return false;
-        }
+fn has_pages<S: AnySite>(site: &S, wanted: &Object) -> bool {
+    match site.shown_of(Some(wanted)) {
+        Some(count) => wanted.len() == count + 1,
+        None => false,
     }
-    wanted.len() == site.pages().len() + 1
 }
 
 /// Whether so many pages were rendered as is wanted.
-fn has_rendered(site: &Site, wanted: &Object) -> bool {
+fn has_rendered<S: AnySite>(site: &S, wanted: &Object) -> bool {
     match look_up(wanted, "rendered") {
         Some(Value::Integer(count)) => u64::try_from(*count) == Ok(site.rendered()),
         _ => false,
-    }
-}
-
-fn is_shown(page: &Page, wanted: Option<&Value>) -> bool {
-    let Some(Value::Text(wanted)) = wanted else {
-        return false;
-    };
-    let kind = match &page.fault {
-        Some(fault) => fault.kind.name(),
-        None => "",
-    };
-    match wanted.as_str().rsplit_once(':') {
-        Some((text, end)) => text == page.text.as_str() && end == kind,
-        None => false,
     }
 }

@@ -1,7 +1,0 @@
-use Rattle.liquid_core.specs.Held.{held}
-use Rattle.liquid_language.specs.Entries.{seen}
-use Rattle.liquid_syntax.specs.Templates.{tree_of}
-use Rattle.liquid_site.proofs.site.Site.over.Goals as goal
-
-pub returns-clause-contents : goal.returns-clause-contents
-returns-clause-contents c = λ i. record { depth = c.args.depth; pages = seen tree_of (c.new.ensures.empty i); partials = c.new-2.ensures i; facts = held c.args.facts }

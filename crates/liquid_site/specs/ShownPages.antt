@@ -1,0 +1,24 @@
+-- Whether the pages of a site are right, whatever the form in which it keeps them.
+--     AreShown shows wholes pages      each page stands under the name of its whole page, and is
+--       right for it
+use Rattle.std.specs.Prelude.{◌≡◌, ⊤, List, [], ◌∷◌}
+use Rattle.liquid_model.specs.Texts.{Text}
+use Rattle.liquid_lib.specs.LimitedPages.{PageWithin}
+use Rattle.liquid_lib.specs.Pages.{Shown, page_view}
+use Rattle.liquid_lib.specs.declared.page.LimitedPage.{LimitedPage}
+use Rattle.liquid_lib.specs.declared.page.Page.{Page}
+use Rattle.liquid_site.specs.Contents.{Pages}
+
+-- without limits, it is the whole page
+abbrev pub IsWhole : Shown → Page → Type 0
+IsWhole whole page = page_view page ≡ whole
+
+module _ {P : Type 0} where
+  abbrev pub AreShown : (Shown → P → Type 0) → Pages → List (Text × P) → Type 0
+  AreShown shows [] [] = ⊤
+  AreShown shows (w ∷ ws) (p ∷ ps) = (w.0 ≡ p.0) × shows w.1 p.1 × AreShown shows ws ps
+  AreShown shows _ _ = ⊥
+
+-- within limits: each page is its whole page, or a beginning of it that a limit ended
+abbrev pub AreWithin : Pages → List (Text × LimitedPage) → Type 0
+AreWithin wholes pages = AreShown PageWithin wholes pages

@@ -1,0 +1,254 @@
+//! The parts of a site, and what a change does to them, in whatever form it keeps its pages.
+
+use crate::change::Change;
+use crate::facts::changed;
+use crate::refresh::{RenderContext, put_page, rendered_pages, replace_pages};
+use crate::rendering::Rendering;
+use liquid_core::{Object, Result, Value};
+use liquid_syntax::{Language, Partials, Template, parse};
+use std::alloc::Global;
+use std::collections::BTreeMap;
+
+/// Page templates, partials and data, and the page of each template.
+pub(crate) struct SiteParts<P> {
+    pub alloc: Global,
+    pub language: Language,
+    pub depth: u32,
+    pub templates: BTreeMap<String, Template>,
+    pub partials: Partials,
+    pub facts: Object,
+    pub pages: BTreeMap<String, P>,
+    pub rendered: u64,
+}
+
+/// Drops the fields. Written by hand, so that each early return drops the value by one call to
+/// prove.
+impl<P: Drop> Drop for SiteParts<P> {
+    fn drop(self) {
+        let SiteParts {
+            alloc: _,
+            language: _,
+            depth: _,
+            templates: _,
+            partials: _,
+            facts: _,
+            pages: _,
+            rendered: _,
+        } = self;
+    }
+}
+
+impl<P: Drop> SiteParts<P> {
+    ghost use Rattle.std.specs.Prelude.{◌≡◌, IsSome, OnOk, OnErr, IfErr, [], length, option_map};
+    ghost use Rattle.std.specs.Prelude.{string_bytes};
+    ghost use Rattle.liquid_model.specs.Answer.{IsValueOrMemory};
+    ghost use Rattle.liquid_model.specs.Maps.{listed};
+    ghost use Rattle.liquid_model.specs.View.{view};
+    ghost use Rattle.liquid_core.specs.Held.{held};
+    ghost use Rattle.liquid_language.specs.Entries.{put, without};
+    ghost use Rattle.liquid_syntax.specs.Slots.{exchanged};
+    ghost use Rattle.liquid_syntax.specs.Templates.{tree_of, slots_of};
+    ghost use Rattle.liquid_site.specs.Applied.{AppliesTo};
+    ghost use Rattle.liquid_site.specs.PartViews.{parts_view};
+    ghost use Rattle.liquid_site.specs.Parts.{by_name};
+    ghost use Rattle.liquid_site.specs.Steps.{no_contents, remove_page, stepped, raised};
+    ghost use Rattle.liquid_site.specs.Steps.{mentioning, with_fact};
+    ghost use Rattle.liquid_site.specs.inside.Keeping.{KeepsPages};
+
+    /// The parts of a site over this data, without pages and partials. It takes no memory.
+    pub(crate) fn over(alloc: Global, language: Language, depth: u32, facts: Object) -> Self
+        ensures parts { parts_view result ≡ record {
+          language = language;
+          contents = record (no_contents depth) { facts = held facts };
+          rendered = 0;
+        } }
+        ensures pages { result.pages.entries ≡ [] }
+    {
+        SiteParts {
+            alloc,
+            language,
+            depth,
+            templates: BTreeMap::new(alloc),
+            partials: Partials::new(alloc),
+            facts,
+            pages: BTreeMap::new(alloc),
+            rendered: 0,
+        }
+    }
+
+    /// Applies a change. A refused one changes nothing.
+    pub(crate) fn apply<R: Rendering<P>>(&mut self, rendering: &R, change: Change) -> Result<()>
+        requires { KeepsPages R.shows self.old }
+        ensures keeps { KeepsPages R.shows self.new }
+        ensures applied { AppliesTo change result (parts_view self.old) (parts_view self.new) }
+        ensures language { (parts_view self.new).language ≡ (parts_view self.old).language }
+    {
+        // No effect at run time. The proof reads the range of the count from this use.
+        let _rendered = self.rendered;
+        match change {
+            Change::SetPage(name, source) => {
+                let template = parse(self.alloc, source.as_str(), &self.language)?;
+                self.set_page(rendering, name, template)
+            }
+            Change::RemovePage(name) => {
+                self.remove_page(name.as_str());
+                Ok(())
+            }
+            Change::SetPartial(name, source) => {
+                let template = parse(self.alloc, source.as_str(), &self.language)?;
+                self.partials
+                    .reserve(String::from_str(self.alloc, name.as_str())?)?;
+                self.exchange_partial(rendering, name.as_str(), Some(template))
+            }
+            Change::RemovePartial(name) => {
+                if self.partials.get(name.as_str()).is_none() {
+                    return Ok(());
+                }
+                self.exchange_partial(rendering, name.as_str(), None)
+            }
+            Change::SetValue(name, value) => {
+                self.change_value(rendering, name.as_str(), Some(value))
+            }
+            Change::RemoveValue(name) => {
+                if !self.facts.contains_key(name.as_str()) {
+                    return Ok(());
+                }
+                self.change_value(rendering, name.as_str(), None)
+            }
+        }
+    }
+
+    /// Renders a page and puts it, with its template, at its name.
+    fn set_page<R: Rendering<P>>(
+        &mut self,
+        rendering: &R,
+        name: String,
+        template: Template,
+    ) -> Result<()>
+        requires { KeepsPages R.shows self.old }
+        ensures keeps { KeepsPages R.shows self.new }
+        ensures set { IsValueOrMemory (λ _. (parts_view self.new).contents) result
+            (record (parts_view self.old).contents {
+              pages = put (string_bytes name) (tree_of template)
+                  (parts_view self.old).contents.pages;
+            }) }
+        ensures counted { OnOk result ((parts_view self.new).rendered ≡
+            raised (parts_view self.old).rendered 1) }
+        ensures unchanged { OnErr result
+            ((parts_view self.new).contents ≡ (parts_view self.old).contents) }
+        ensures uncounted { OnErr result
+            ((parts_view self.new).rendered ≡ (parts_view self.old).rendered) }
+        ensures language { (parts_view self.new).language ≡ (parts_view self.old).language }
+    {
+        let page = rendering.page(
+            self.alloc,
+            &template,
+            &self.partials,
+            self.depth,
+            &self.facts,
+        )?;
+        put_page(
+            self.alloc,
+            &mut self.templates,
+            &mut self.pages,
+            name,
+            (template, page),
+        )?;
+        self.rendered = self.rendered.saturating_add(1);
+        Ok(())
+    }
+
+    /// Takes a page and its template out. It takes no memory.
+    fn remove_page(&mut self, name: &str)
+        ensures pages { by_name self.new.pages ≡ without name.now (by_name self.old.pages) }
+        ensures removed { (parts_view self.new).contents ≡ stepped (remove_page name.now)
+            (parts_view self.old).contents }
+        ensures uncounted { (parts_view self.new).rendered ≡ (parts_view self.old).rendered }
+        ensures language { (parts_view self.new).language ≡ (parts_view self.old).language }
+    {
+        drop(self.templates.remove(name));
+        drop(self.pages.remove(name));
+    }
+
+    /// Puts what is held into the place of a partial, and renders every page again. Where there is
+    /// no memory the partial is as it was.
+    fn exchange_partial<R: Rendering<P>>(
+        &mut self,
+        rendering: &R,
+        name: &str,
+        held: Option<Template>,
+    ) -> Result<()>
+        requires slot { IsSome (listed (slots_of self.old.partials) name.now) }
+        requires shown { KeepsPages R.shows self.old }
+        ensures keeps { KeepsPages R.shows self.new }
+        ensures set { IsValueOrMemory (λ _. (parts_view self.new).contents) result
+            (record (parts_view self.old).contents {
+              partials = exchanged name.now
+                  (option_map tree_of held) (parts_view self.old).contents.partials;
+            }) }
+        ensures counted { OnOk result ((parts_view self.new).rendered ≡ raised
+            (parts_view self.old).rendered (length (parts_view self.old).contents.pages)) }
+        ensures unchanged { OnErr result
+            ((parts_view self.new).contents ≡ (parts_view self.old).contents) }
+        ensures uncounted { OnErr result
+            ((parts_view self.new).rendered ≡ (parts_view self.old).rendered) }
+        ensures language { (parts_view self.new).language ≡ (parts_view self.old).language }
+    {
+        let before = self.partials.exchange(name, held);
+        let context = RenderContext {
+            rendering,
+            partials: &self.partials,
+            depth: self.depth,
+            facts: &self.facts,
+        };
+        let rendered = rendered_pages(self.alloc, &self.templates, &context, true, name);
+        match rendered {
+            Ok(fresh) => {
+                self.rendered = self.rendered.saturating_add(fresh.len() as u64);
+                replace_pages(&mut self.pages, fresh);
+                Ok(())
+            }
+            Err(error) => {
+                drop(self.partials.exchange(name, before));
+                Err(error)
+            }
+        }
+    }
+
+    /// Sets a value of the data, or removes it, and renders again the pages that can see it.
+    fn change_value<R: Rendering<P>>(
+        &mut self,
+        rendering: &R,
+        name: &str,
+        value: Option<Value>,
+    ) -> Result<()>
+        requires { KeepsPages R.shows self.old }
+        ensures keeps { KeepsPages R.shows self.new }
+        ensures set { IsValueOrMemory (λ _. (parts_view self.new).contents) result
+            (record (parts_view self.old).contents {
+              facts = with_fact (parts_view self.old).contents.facts
+                  name.now (option_map view value);
+            }) }
+        ensures counted { OnOk result ((parts_view self.new).rendered ≡ raised
+            (parts_view self.old).rendered (mentioning (parts_view self.old).contents name.now)) }
+        ensures unchanged { OnErr result
+            ((parts_view self.new).contents ≡ (parts_view self.old).contents) }
+        ensures uncounted { OnErr result
+            ((parts_view self.new).rendered ≡ (parts_view self.old).rendered) }
+        ensures language { (parts_view self.new).language ≡ (parts_view self.old).language }
+    {
+        let facts = changed(self.alloc, &self.facts, name, value)?;
+        let all = self.partials.mention(name);
+        let context = RenderContext {
+            rendering,
+            partials: &self.partials,
+            depth: self.depth,
+            facts: &facts,
+        };
+        let fresh = rendered_pages(self.alloc, &self.templates, &context, all, name)?;
+        self.rendered = self.rendered.saturating_add(fresh.len() as u64);
+        replace_pages(&mut self.pages, fresh);
+        self.facts = facts;
+        Ok(())
+    }
+}

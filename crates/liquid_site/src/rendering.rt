@@ -1,0 +1,65 @@
+//! How a page of a site is rendered: whole, or within limits.
+ghost use Rattle.std.specs.Prelude.{◌≡◌, IfOk, IfErr};
+ghost use Rattle.liquid_core.specs.Held.{held};
+ghost use Rattle.liquid_syntax.specs.Templates.{tree_of, partials_of};
+ghost use Rattle.liquid_lib.specs.LimitedPages.{PageWithin};
+ghost use Rattle.liquid_lib.specs.Pages.{Shown, page_over};
+ghost use Rattle.liquid_site.specs.ShownPages.{IsWhole};
+
+use liquid_core::{ErrorKind, Object, Result};
+use liquid_lib::{LimitedPage, Limits, Page, render_page, render_page_within};
+use liquid_syntax::{Partials, Template};
+use std::alloc::Global;
+
+/// Renders the pages of a site.
+pub(crate) trait Rendering<P> {
+    // That a page is right for a template whose whole page this is.
+    ghost shows: { Shown → P → Type 0 };
+
+    /// The page of a template in a new run over this data. The answer is `Memory` where a growth
+    /// was refused, and no other kind.
+    fn page(
+        &self,
+        alloc: Global,
+        template: &Template,
+        partials: &Partials,
+        depth: u32,
+        facts: &Object,
+    ) -> Result<P>
+        ensures page { IfOk result (λ page. shows (page_over depth (partials_of partials.now)
+            (held facts.now) (tree_of template.now)) page) }
+        ensures memory { IfErr result (λ e. e.kind ≡ ErrorKind.Memory) };
+}
+
+/// Renders whole pages.
+pub(crate) struct Whole;
+
+impl Rendering<Page> for Whole {
+    ghost shows = { λ whole page. IsWhole whole page };
+
+    fn page(
+        &self,
+        alloc: Global,
+        template: &Template,
+        partials: &Partials,
+        depth: u32,
+        facts: &Object,
+    ) -> Result<Page> {
+        render_page(alloc, template, partials, depth, facts)
+    }
+}
+
+impl Rendering<LimitedPage> for Limits {
+    ghost shows = { λ whole page. PageWithin whole page };
+
+    fn page(
+        &self,
+        alloc: Global,
+        template: &Template,
+        partials: &Partials,
+        depth: u32,
+        facts: &Object,
+    ) -> Result<LimitedPage> {
+        render_page_within(alloc, template, partials, depth, facts, *self)
+    }
+}
