@@ -1,0 +1,11 @@
+pub mod Amounts
+pub mod Codecs
+pub mod Html
+pub mod Last
+pub mod Lookups
+pub mod Money
+pub mod Styles
+pub mod Sums
+pub mod Urls
+pub mod Weights
+pub mod Words
