@@ -42,10 +42,10 @@ worded_turn w state next s rest out made all c e n m h =
     let past = encode_utf8_all (worded w (after w state c) (chars rest)) in (
       IsUtf8-past_char s rest c h.0 e,
       h.1 ∙ ap (λ cs. out ++ encode_utf8_all (worded w state cs)) (chars_past_char s rest c h.0 e)
-      ∙ ap (λ t. out ++ t) (encodes-append (shown w state c) (worded w (after w state c) (chars rest)))
-      ∙ sym (append_assoc out (encode_utf8_all (shown w state c)) past)
-      ∙ ap (λ t. t ++ past) (sym m)
-      ∙ ap (λ st. made ++ encode_utf8_all (worded w st (chars rest))) (sym n),
+          ∙ ap (λ t. out ++ t) (encodes-append (shown w state c) (worded w (after w state c) (chars rest)))
+          ∙ sym (append_assoc out (encode_utf8_all (shown w state c)) past)
+          ∙ ap (λ t. t ++ past) (sym m)
+          ∙ ap (λ st. made ++ encode_utf8_all (worded w st (chars rest))) (sym n),
     )
 
 pub worded_end : (w : Wording) (state : State) (s out all : List ℕ) → length s ≡ 0

@@ -1,6 +1,8 @@
 pub mod Amounts
+pub mod Answers
 pub mod Codecs
 pub mod Html
+pub mod Kinds
 pub mod Last
 pub mod Lookups
 pub mod Money
@@ -8,4 +10,5 @@ pub mod Styles
 pub mod Sums
 pub mod Urls
 pub mod Weights
+pub mod Wordings
 pub mod Words

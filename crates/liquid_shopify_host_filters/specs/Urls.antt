@@ -10,10 +10,6 @@ use Rattle.liquid_shopify_host_filters.specs.declared.words.Wording.TheVariants.
 abbrev pub prefixed_answer : Text → Datum → Answer
 prefixed_answer prefix d = Ok (text (prefix ++ text_of d))
 
--- `handle` and `handleize`
-abbrev pub handle_answer : Datum → Answer
-handle_answer d = Ok (text (worded_text Handle (text_of d)))
-
 -- the address of the collection whose handle a title gives
 abbrev pub collection_url : Text → Text
 collection_url title = codes "/collections/" ++ worded_text Handle title

@@ -17,7 +17,11 @@ pub(crate) fn amount(alloc: Global, style: MoneyStyle, cents: i64) -> Result<Str
     let point = style.point();
     let mut out = String::new(alloc);
     out.push_str(sign(point, cents))?;
-    push_grouped(&mut out, Buffer::new().format(units_of(point, left)), style.thousands())?;
+    push_grouped(
+        &mut out,
+        Buffer::new().format(units_of(point, left)),
+        style.thousands(),
+    )?;
     push_cents(&mut out, point, left % 100)?;
     Ok(out)
 }
@@ -29,7 +33,11 @@ pub(crate) fn whole_amount(alloc: Global, style: MoneyStyle, cents: i64) -> Resu
     let left = cents.unsigned_abs();
     let mut out = String::new(alloc);
     out.push_str(if cents < 0 { "-" } else { "" })?;
-    push_grouped(&mut out, Buffer::new().format(left / 100), style.thousands())?;
+    push_grouped(
+        &mut out,
+        Buffer::new().format(left / 100),
+        style.thousands(),
+    )?;
     Ok(out)
 }
 

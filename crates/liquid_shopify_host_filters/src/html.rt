@@ -27,9 +27,7 @@ pub(crate) fn script_tag_answer(alloc: Global, input: &Value) -> Result<Value>
 {
     let url = text_of(alloc, input)?;
     let url = url.as_str();
-    Ok(Value::Text(
-        format!(in alloc; "<script src=\"{url}\" type=\"text/javascript\"></script>")?,
-    ))
+    Ok(Value::Text(format!(in alloc; "<script src=\"{url}\" type=\"text/javascript\"></script>")?))
 }
 
 /// `stylesheet_tag`: a style sheet at the input's text, for the argument's media or all.
@@ -40,9 +38,9 @@ pub(crate) fn stylesheet_tag_answer(alloc: Global, input: &Value, args: &[Value]
     let media = text_or(alloc, args, 0, "all")?;
     let url = url.as_str();
     let media = media.as_str();
-    Ok(Value::Text(
-        format!(in alloc; "<link href=\"{url}\" rel=\"stylesheet\" type=\"text/css\"  media=\"{media}\"  />")?,
-    ))
+    Ok(Value::Text(format!(in alloc;
+        "<link href=\"{url}\" rel=\"stylesheet\" type=\"text/css\"  media=\"{media}\"  />"
+    )?))
 }
 
 /// `link_to`: the input's text as a link to the first argument, with the second as its title.

@@ -4,7 +4,9 @@
 mod amount;
 mod argument;
 mod codec;
+mod filter;
 mod html;
+mod kind;
 mod lists;
 mod money;
 mod shop;
@@ -12,7 +14,10 @@ mod sums;
 mod texts;
 mod urls;
 mod weight;
+mod wording;
 mod words;
 
+pub use filter::ShopifyFilter;
+pub use kind::{SHOPIFY_FILTERS, ShopifyKind};
 pub use money::{MoneyFormat, MoneyStyle};
 pub use shop::Shop;

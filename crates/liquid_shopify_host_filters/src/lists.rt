@@ -91,12 +91,7 @@ fn rejected(
     Ok(kept)
 }
 
-fn first_wanted(
-    alloc: Global,
-    items: &[Value],
-    name: &str,
-    target: Option<&Value>,
-) -> Result<Value>
+fn first_wanted(alloc: Global, items: &[Value], name: &str, target: Option<&Value>) -> Result<Value>
     ensures { IsValueOrMemory view result (first_wanted name.now (option_map (λ v. view v.now) target.entry) (list_of (items_view items.now))) }
 {
     for item in items {

@@ -62,8 +62,8 @@ impl MoneyStyle {
     {
         match self {
             MoneyStyle::Amount | MoneyStyle::AmountNoDecimals => ",",
-            MoneyStyle::AmountWithCommaSeparator
-            | MoneyStyle::AmountNoDecimalsWithCommaSeparator => ".",
+            MoneyStyle::AmountWithCommaSeparator | MoneyStyle::AmountNoDecimalsWithCommaSeparator =>
+                ".",
             MoneyStyle::AmountWithApostropheSeparator => "'",
             MoneyStyle::AmountNoDecimalsWithSpaceSeparator
             | MoneyStyle::AmountWithSpaceSeparator

@@ -52,11 +52,7 @@ fn added(alloc: Global, sum: i64, term: Option<&Value>) -> Result<i64>
     let number = summand(alloc, term)?;
     match sum.checked_add(number) {
         Some(total) => Ok(total),
-        None => Err(Error::new(
-            alloc,
-            ErrorKind::NumberRange,
-            "the sum is beyond 64 bits",
-        )),
+        None => Err(Error::new(alloc, ErrorKind::NumberRange, "the sum is beyond 64 bits")),
     }
 }
 

@@ -1,8 +1,8 @@
 //! The filters that write addresses.
-ghost use Rattle.std.specs.Prelude.{codes, string_bytes};
+ghost use Rattle.std.specs.Prelude.{string_bytes};
 ghost use Rattle.liquid_model.specs.Answer.{Answers, IsValueOrMemory};
 ghost use Rattle.liquid_model.specs.View.{view};
-ghost use Rattle.liquid_shopify_host_filters.specs.Urls.{collection_url, handle_answer, prefixed_answer, url_for_answer};
+ghost use Rattle.liquid_shopify_host_filters.specs.Urls.{collection_url, prefixed_answer, url_for_answer};
 
 use crate::words::{Wording, worded};
 use liquid_core::{Result, Value};
@@ -17,14 +17,6 @@ pub(crate) fn prefixed_answer(alloc: Global, prefix: &String, input: &Value) -> 
     let name = name.as_str();
     let prefix = prefix.as_str();
     Ok(Value::Text(format!(in alloc; "{prefix}{name}")?))
-}
-
-/// `handle` and `handleize`: the words of the input's text in lower case, with a hyphen between them.
-pub(crate) fn handle_answer(alloc: Global, input: &Value) -> Result<Value>
-    ensures { Answers view result (handle_answer (view input.now)) }
-{
-    let text = text_of(alloc, input)?;
-    Ok(Value::Text(worded(alloc, Wording::Handle, text.as_str())?))
 }
 
 /// `url_for_vendor` and `url_for_type`: the address of the collection of the input's handle.

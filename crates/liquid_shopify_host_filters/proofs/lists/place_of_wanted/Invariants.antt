@@ -7,7 +7,7 @@ use Rattle.liquid_shopify_host_filters.proofs.lists.place_of_wanted.Given as goa
 abbrev pub invariant-loop-item : goal.invariant-loop-item
 invariant-loop-item l = record {
   found : place_of_wanted l.name (option_map (λ v. view v.now) l.target) 0 (list_of (items_view l.items))
-    ≡ place_of_wanted l.name (option_map (λ v. view v.now) l.target) l.item-index
-    (list_of (items_view (drop l.item-index l.items)));
+      ≡ place_of_wanted l.name (option_map (λ v. view v.now) l.target) l.item-index
+      (list_of (items_view (drop l.item-index l.items)));
   place : l.place ≡ pos (min l.item-index 9223372036854775807);
 }

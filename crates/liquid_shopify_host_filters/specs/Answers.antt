@@ -1,0 +1,51 @@
+-- What each filter answers.
+use Rattle.std.specs.Prelude.{List, string_bytes}
+use Rattle.liquid_model.specs.Data.{Datum}
+use Rattle.liquid_filter_base.specs.Arguments.{Answer}
+use Rattle.liquid_shopify_host_filters.specs.Codecs.{decode_answer, encode_answer, md5_answer, sha1_answer, sha256_answer}
+use Rattle.liquid_shopify_host_filters.specs.Html.{img_tag_answer, link_to_answer, link_to_collection_answer, script_tag_answer, stylesheet_tag_answer}
+use Rattle.liquid_shopify_host_filters.specs.Last.{remove_last_answer, replace_last_answer}
+use Rattle.liquid_shopify_host_filters.specs.Lookups.{find_answer, find_index_answer, has_answer, reject_answer}
+use Rattle.liquid_shopify_host_filters.specs.Money.{amount_answer, money_answer, trimmed_answer}
+use Rattle.liquid_shopify_host_filters.specs.Sums.{sum_answer}
+use Rattle.liquid_shopify_host_filters.specs.Urls.{prefixed_answer, url_for_answer}
+use Rattle.liquid_shopify_host_filters.specs.Weights.{weight_answer}
+use Rattle.liquid_shopify_host_filters.specs.Wordings.{camelize_answer, handle_answer, squish_answer}
+use Rattle.liquid_shopify_host_filters.specs.declared.kind.ShopifyKind.{ShopifyKind}
+use Rattle.liquid_shopify_host_filters.specs.declared.kind.ShopifyKind.TheVariants.{AssetUrl, Base64Decode, Base64Encode, Camelize, Find, FindIndex, GlobalAssetUrl, Handle, Handleize, Has, ImgTag, LinkTo, LinkToType, LinkToVendor, Md5, Money, MoneyWithCurrency, MoneyWithoutCurrency, MoneyWithoutTrailingZeros, Reject, RemoveLast, ReplaceLast, ScriptTag, Sha1, Sha256, ShopifyAssetUrl, Squish, StylesheetTag, Sum, UrlForType, UrlForVendor, WeightWithUnit}
+use Rattle.liquid_shopify_host_filters.specs.declared.shop.Shop.{Shop}
+
+-- a filter's answer in a shop, to an input and arguments
+abbrev pub answer_of : ShopifyKind → Shop → Datum → List Datum → Answer
+answer_of AssetUrl shop d args = prefixed_answer (string_bytes shop.assets) d
+answer_of Base64Decode shop d args = decode_answer d
+answer_of Base64Encode shop d args = encode_answer d
+answer_of Camelize shop d args = camelize_answer d
+answer_of Find shop d args = find_answer d args
+answer_of FindIndex shop d args = find_index_answer d args
+answer_of GlobalAssetUrl shop d args = prefixed_answer (string_bytes shop.global_assets) d
+answer_of Handle shop d args = handle_answer d
+answer_of Handleize shop d args = handle_answer d
+answer_of Has shop d args = has_answer d args
+answer_of ImgTag shop d args = img_tag_answer d args
+answer_of LinkTo shop d args = link_to_answer d args
+answer_of LinkToType shop d args = link_to_collection_answer d
+answer_of LinkToVendor shop d args = link_to_collection_answer d
+answer_of Md5 shop d args = md5_answer d
+answer_of Money shop d args = money_answer shop.money d
+answer_of MoneyWithCurrency shop d args = money_answer shop.money_with_currency d
+answer_of MoneyWithoutCurrency shop d args = amount_answer shop.money d
+answer_of MoneyWithoutTrailingZeros shop d args = trimmed_answer shop.money d
+answer_of Reject shop d args = reject_answer d args
+answer_of RemoveLast shop d args = remove_last_answer d args
+answer_of ReplaceLast shop d args = replace_last_answer d args
+answer_of ScriptTag shop d args = script_tag_answer d
+answer_of Sha1 shop d args = sha1_answer d
+answer_of Sha256 shop d args = sha256_answer d
+answer_of ShopifyAssetUrl shop d args = prefixed_answer (string_bytes shop.shopify_assets) d
+answer_of Squish shop d args = squish_answer d
+answer_of StylesheetTag shop d args = stylesheet_tag_answer d args
+answer_of Sum shop d args = sum_answer d args
+answer_of UrlForType shop d args = url_for_answer d
+answer_of UrlForVendor shop d args = url_for_answer d
+answer_of WeightWithUnit shop d args = weight_answer d
