@@ -33,10 +33,15 @@ abbrev pub cents_text : Option Text → ℕ → Text
 cents_text (Some p) n = p ++ two_digits n
 cents_text None n = []
 
+-- the units of n cents in a style
+abbrev pub units_text : MoneyStyle → ℕ → Text
+units_text style n = grouped (thousands style) (decimal (units_of (point style) n))
+
 -- an amount of cents: sign, units and cents
 abbrev pub amount_of : MoneyStyle → ℤ → Text
 amount_of style z =
-    (sign (point style) z ++ grouped (thousands style) (decimal (units_of (point style) (unsigned_abs z)))) ++ cents_text (point style) (unsigned_abs z % 100)
+    (sign (point style) z ++ units_text style (unsigned_abs z))
+    ++ cents_text (point style) (unsigned_abs z % 100)
 
 abbrev pub minus : ℤ → Text
 minus (pos n) = []

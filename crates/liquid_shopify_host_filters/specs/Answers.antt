@@ -1,19 +1,30 @@
 -- What each filter answers.
-use Rattle.std.specs.Prelude.{List, string_bytes}
+use Rattle.std.specs.Prelude.{List, map, string_bytes}
 use Rattle.liquid_model.specs.Data.{Datum}
+use Rattle.liquid_model.specs.Texts.{Text}
 use Rattle.liquid_filter_base.specs.Arguments.{Answer}
-use Rattle.liquid_shopify_host_filters.specs.Codecs.{decode_answer, encode_answer, md5_answer, sha1_answer, sha256_answer}
+use Rattle.liquid_shopify_host_filters.specs.Codecs.{decode_answer, encode_answer, hmac_sha256_answer, md5_answer, sha1_answer, sha256_answer}
 use Rattle.liquid_shopify_host_filters.specs.Html.{img_tag_answer, link_to_answer, link_to_collection_answer, script_tag_answer, stylesheet_tag_answer}
+use Rattle.liquid_shopify_host_filters.specs.Images.{product_img_url_answer}
+use Rattle.liquid_shopify_host_filters.specs.JsonTexts.{json_answer}
 use Rattle.liquid_shopify_host_filters.specs.Last.{remove_last_answer, replace_last_answer}
 use Rattle.liquid_shopify_host_filters.specs.Lookups.{find_answer, find_index_answer, has_answer, reject_answer}
 use Rattle.liquid_shopify_host_filters.specs.Money.{amount_answer, money_answer, trimmed_answer}
 use Rattle.liquid_shopify_host_filters.specs.Sums.{sum_answer}
+use Rattle.liquid_shopify_host_filters.specs.Tags.{highlight_answer, link_to_add_tag_answer, link_to_remove_tag_answer, link_to_tag_answer, within_answer}
 use Rattle.liquid_shopify_host_filters.specs.Urls.{prefixed_answer, url_for_answer}
 use Rattle.liquid_shopify_host_filters.specs.Weights.{weight_answer}
 use Rattle.liquid_shopify_host_filters.specs.Wordings.{camelize_answer, handle_answer, squish_answer}
 use Rattle.liquid_shopify_host_filters.specs.declared.kind.ShopifyKind.{ShopifyKind}
-use Rattle.liquid_shopify_host_filters.specs.declared.kind.ShopifyKind.TheVariants.{AssetUrl, Base64Decode, Base64Encode, Camelize, Find, FindIndex, GlobalAssetUrl, Handle, Handleize, Has, ImgTag, LinkTo, LinkToType, LinkToVendor, Md5, Money, MoneyWithCurrency, MoneyWithoutCurrency, MoneyWithoutTrailingZeros, Reject, RemoveLast, ReplaceLast, ScriptTag, Sha1, Sha256, ShopifyAssetUrl, Squish, StylesheetTag, Sum, UrlForType, UrlForVendor, WeightWithUnit}
+use Rattle.liquid_shopify_host_filters.specs.declared.kind.ShopifyKind.TheVariants.{AssetUrl, Base64Decode, Base64Encode, Camelize, Find, FindIndex, GlobalAssetUrl, Handle, Handleize, Has, HighlightActiveTag, HmacSha256, ImgTag, Json, LinkTo, LinkToAddTag, LinkToRemoveTag, LinkToTag, LinkToType, LinkToVendor, Md5, Money, MoneyWithCurrency, MoneyWithoutCurrency, MoneyWithoutTrailingZeros, ProductImgUrl, Reject, RemoveLast, ReplaceLast, ScriptTag, Sha1, Sha256, ShopifyAssetUrl, Squish, StylesheetTag, Sum, UrlForType, UrlForVendor, WeightWithUnit, Within}
 use Rattle.liquid_shopify_host_filters.specs.declared.shop.Shop.{Shop}
+
+-- the tags of a page, and the handle of its collection
+abbrev pub tags_of : Shop → List Text
+tags_of shop = map string_bytes shop.tags.items
+
+abbrev pub collection_of : Shop → Text
+collection_of shop = string_bytes shop.collection
 
 -- a filter's answer in a shop, to an input and arguments
 abbrev pub answer_of : ShopifyKind → Shop → Datum → List Datum → Answer
@@ -27,8 +38,14 @@ answer_of GlobalAssetUrl shop d args = prefixed_answer (string_bytes shop.global
 answer_of Handle shop d args = handle_answer d
 answer_of Handleize shop d args = handle_answer d
 answer_of Has shop d args = has_answer d args
+answer_of HighlightActiveTag shop d args = highlight_answer (tags_of shop) d args
+answer_of HmacSha256 shop d args = hmac_sha256_answer d args
 answer_of ImgTag shop d args = img_tag_answer d args
+answer_of Json shop d args = json_answer d
 answer_of LinkTo shop d args = link_to_answer d args
+answer_of LinkToAddTag shop d args = link_to_add_tag_answer (collection_of shop) (tags_of shop) d args
+answer_of LinkToRemoveTag shop d args = link_to_remove_tag_answer (collection_of shop) (tags_of shop) d args
+answer_of LinkToTag shop d args = link_to_tag_answer (collection_of shop) d args
 answer_of LinkToType shop d args = link_to_collection_answer d
 answer_of LinkToVendor shop d args = link_to_collection_answer d
 answer_of Md5 shop d args = md5_answer d
@@ -36,6 +53,7 @@ answer_of Money shop d args = money_answer shop.money d
 answer_of MoneyWithCurrency shop d args = money_answer shop.money_with_currency d
 answer_of MoneyWithoutCurrency shop d args = amount_answer shop.money d
 answer_of MoneyWithoutTrailingZeros shop d args = trimmed_answer shop.money d
+answer_of ProductImgUrl shop d args = product_img_url_answer (string_bytes shop.images) d args
 answer_of Reject shop d args = reject_answer d args
 answer_of RemoveLast shop d args = remove_last_answer d args
 answer_of ReplaceLast shop d args = replace_last_answer d args
@@ -49,3 +67,4 @@ answer_of Sum shop d args = sum_answer d args
 answer_of UrlForType shop d args = url_for_answer d
 answer_of UrlForVendor shop d args = url_for_answer d
 answer_of WeightWithUnit shop d args = weight_answer d
+answer_of Within shop d args = within_answer d args

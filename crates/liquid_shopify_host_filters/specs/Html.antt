@@ -1,4 +1,5 @@
--- The filters that write HTML. What they are given is written as it is: who has a text of strangers escapes it first.
+-- The filters that write HTML.
+-- What they are given is written as it is: who has a text of strangers escapes it first.
 use Rattle.std.specs.Prelude.{List, [], ◌++◌, drop, Ok, codes, if◌then◌else◌}
 use Rattle.liquid_model.specs.Data.{Datum, text, text_of, truthy}
 use Rattle.liquid_model.specs.Texts.{Text}

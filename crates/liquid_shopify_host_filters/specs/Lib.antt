@@ -2,12 +2,16 @@ pub mod Amounts
 pub mod Answers
 pub mod Codecs
 pub mod Html
+pub mod Images
+pub mod JsonTexts
 pub mod Kinds
 pub mod Last
+pub mod Laws
 pub mod Lookups
 pub mod Money
 pub mod Styles
 pub mod Sums
+pub mod Tags
 pub mod Urls
 pub mod Weights
 pub mod Wordings

@@ -1,4 +1,5 @@
--- The filters that look in lists of maps: `reject`, `find`, `find_index` and `has`. The first argument is a property's name, and the second the target, if there is one.
+-- The filters that look in lists of maps: `reject`, `find`, `find_index` and `has`.
+-- The first argument is a property's name, and the second the target, if there is one.
 use Rattle.std.specs.Prelude.{ℕ, suc, Bool, true, false, not, if◌then◌else◌, ◌||◌, List, [], ◌∷◌, Option, Some, None, Ok, Err, filter}
 use Rattle.liquid_model.specs.Data.{Datum, nil, truth, text_of}
 use Rattle.liquid_model.specs.Find.{counted}
@@ -42,7 +43,8 @@ abbrev pub has_wanted : Text → Option Datum → List Datum → Bool
 has_wanted name target [] = false
 has_wanted name target (d ∷ ds) = wants name target d || has_wanted name target ds
 
--- a list with an item that is no map gives nil; nil counts as an empty list, and any other value as a list of itself
+-- a list with an item that is no map gives nil
+-- Nil counts as an empty list, and any other value as a list of itself.
 abbrev pub among : (Text → Option Datum → List Datum → Datum) → Datum → List Datum → Answer
 among f d [] = Err InvalidArgument
 among f d (name ∷ args) =

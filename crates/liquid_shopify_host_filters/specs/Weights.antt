@@ -14,11 +14,13 @@ thousandths n =
     (decimal (n / 100) ++ (if n % 100 == 0 then [] else decimal (n / 10 % 10)))
     ++ (if n % 10 == 0 then [] else decimal (n % 10))
 
+-- the whole kilograms of a weight of grams
+abbrev pub kilograms : ℤ → Text
+kilograms z = minus z ++ decimal (unsigned_abs z / 1000)
+
 -- a weight of grams in kilograms
 abbrev pub weight : ℤ → Text
-weight z =
-    (((minus z ++ decimal (unsigned_abs z / 1000)) ++ codes ".") ++ thousandths (unsigned_abs z % 1000))
-    ++ codes " kg"
+weight z = ((kilograms z ++ codes ".") ++ thousandths (unsigned_abs z % 1000)) ++ codes " kg"
 
 abbrev pub weighed : Option ℤ → Answer
 weighed (Some z) = Ok (text (weight z))

@@ -60,7 +60,7 @@ shown_at Nowhere w state c = []
 abbrev pub shown : Wording → State → ℕ → List ℕ
 shown w state c = shown_at (place_of w c) w state c
 
--- where a wording is after a character: one between words ends a word, and one that is left out changes nothing
+-- where a wording is after a character: one between words ends a word
 abbrev pub after_at : Place → State → State
 after_at Word state = Inside
 after_at Between Before = Before

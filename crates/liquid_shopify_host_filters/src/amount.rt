@@ -65,7 +65,8 @@ fn units_of(point: Option<&'static str>, left: u64) -> u64
 
 /// Appends the cents with the point before them, where they are written.
 fn push_cents(out: &mut String, point: Option<&'static str>, cents: u64) -> Result<()>
-    ensures { IsValueOrMemory (λ _. string_bytes out.new) result (string_bytes out.old ++ cents_text (option_map (λ p. p.now) point.entry) cents) }
+    ensures { IsValueOrMemory (λ _. string_bytes out.new) result
+        (string_bytes out.old ++ cents_text (option_map (λ p. p.now) point.entry) cents) }
 {
     match point {
         Some(point) => {
@@ -77,7 +78,8 @@ fn push_cents(out: &mut String, point: Option<&'static str>, cents: u64) -> Resu
 }
 
 fn push_two_digits(out: &mut String, number: u64) -> Result<()>
-    ensures { IsValueOrMemory (λ _. string_bytes out.new) result (string_bytes out.old ++ two_digits number) }
+    ensures { IsValueOrMemory (λ _. string_bytes out.new) result
+        (string_bytes out.old ++ two_digits number) }
 {
     out.push_str(Buffer::new().format(number / 10))?;
     Ok(out.push_str(Buffer::new().format(number % 10))?)
@@ -86,7 +88,8 @@ fn push_two_digits(out: &mut String, number: u64) -> Result<()>
 /// Appends digits with a separator between groups of three.
 fn push_grouped(out: &mut String, digits: &str, separator: &str) -> Result<()>
     requires { IsAscii digits.now }
-    ensures { IsValueOrMemory (λ _. string_bytes out.new) result (string_bytes out.old ++ grouped separator.now digits.now) }
+    ensures { IsValueOrMemory (λ _. string_bytes out.new) result
+        (string_bytes out.old ++ grouped separator.now digits.now) }
 {
     let bytes = digits.as_bytes();
     for (place, digit) in bytes.iter().enumerate() {
@@ -98,7 +101,8 @@ fn push_grouped(out: &mut String, digits: &str, separator: &str) -> Result<()>
 
 /// Appends the separator where so many digits follow that a group of three begins.
 fn push_separator(out: &mut String, left: usize, separator: &str) -> Result<()>
-    ensures { IsValueOrMemory (λ _. string_bytes out.new) result (string_bytes out.old ++ separator_at separator.now left) }
+    ensures { IsValueOrMemory (λ _. string_bytes out.new) result
+        (string_bytes out.old ++ separator_at separator.now left) }
 {
     if left > 0 && left % 3 == 0 {
         return Ok(out.push_str(separator)?);

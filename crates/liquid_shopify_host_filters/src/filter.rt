@@ -7,7 +7,9 @@ ghost use Rattle.liquid_shopify_host_filters.specs.Kinds.{takes};
 
 use crate::kind::ShopifyKind;
 use crate::shop::Shop;
-use crate::{codec, html, lists, money, sums, texts, urls, weight, wording};
+use crate::{
+    codec, html, images, json_text, lists, money, sums, tags, texts, urls, weight, wording,
+};
 use liquid_core::{Filter, Result, Value};
 use std::alloc::Global;
 use std::rc::Rc;
@@ -60,8 +62,14 @@ fn answered(
         ShopifyKind::Handle => wording::handle_answer(alloc, input),
         ShopifyKind::Handleize => wording::handle_answer(alloc, input),
         ShopifyKind::Has => lists::has_answer(alloc, input, args),
+        ShopifyKind::HighlightActiveTag => tags::highlight_answer(alloc, shop, input, args),
+        ShopifyKind::HmacSha256 => codec::hmac_sha256_answer(alloc, input, args),
         ShopifyKind::ImgTag => html::img_tag_answer(alloc, input, args),
+        ShopifyKind::Json => json_text::json_answer(alloc, input),
         ShopifyKind::LinkTo => html::link_to_answer(alloc, input, args),
+        ShopifyKind::LinkToAddTag => tags::link_to_add_tag_answer(alloc, shop, input, args),
+        ShopifyKind::LinkToRemoveTag => tags::link_to_remove_tag_answer(alloc, shop, input, args),
+        ShopifyKind::LinkToTag => tags::link_to_tag_answer(alloc, shop, input, args),
         ShopifyKind::LinkToType => html::link_to_collection_answer(alloc, input),
         ShopifyKind::LinkToVendor => html::link_to_collection_answer(alloc, input),
         ShopifyKind::Md5 => codec::md5_answer(alloc, input),
@@ -71,6 +79,9 @@ fn answered(
         }
         ShopifyKind::MoneyWithoutCurrency => money::amount_answer(alloc, &shop.money, input),
         ShopifyKind::MoneyWithoutTrailingZeros => money::trimmed_answer(alloc, &shop.money, input),
+        ShopifyKind::ProductImgUrl => {
+            images::product_img_url_answer(alloc, &shop.images, input, args)
+        }
         ShopifyKind::Reject => lists::reject_answer(alloc, input, args),
         ShopifyKind::RemoveLast => texts::remove_last_answer(alloc, input, args),
         ShopifyKind::ReplaceLast => texts::replace_last_answer(alloc, input, args),
@@ -84,5 +95,6 @@ fn answered(
         ShopifyKind::UrlForType => urls::url_for_answer(alloc, input),
         ShopifyKind::UrlForVendor => urls::url_for_answer(alloc, input),
         ShopifyKind::WeightWithUnit => weight::weight_answer(alloc, input),
+        ShopifyKind::Within => tags::within_answer(alloc, input, args),
     }
 }

@@ -25,10 +25,22 @@ pub enum ShopifyKind {
     Handleize,
     /// `has`: whether a list has a map with a property.
     Has,
+    /// `highlight_active_tag`: a tag of the page, marked.
+    HighlightActiveTag,
+    /// `hmac_sha256`: a code under a key.
+    HmacSha256,
     /// `img_tag`: an image.
     ImgTag,
+    /// `json`: the value as JSON.
+    Json,
     /// `link_to`: a link.
     LinkTo,
+    /// `link_to_add_tag`: a link to the products of a tag more.
+    LinkToAddTag,
+    /// `link_to_remove_tag`: a link to the products of a tag less.
+    LinkToRemoveTag,
+    /// `link_to_tag`: a link to the products of a tag.
+    LinkToTag,
     /// `link_to_type`: a link to the products of a type.
     LinkToType,
     /// `link_to_vendor`: a link to the products of a vendor.
@@ -43,6 +55,8 @@ pub enum ShopifyKind {
     MoneyWithoutCurrency,
     /// `money_without_trailing_zeros`: an amount, without `.00` at its end.
     MoneyWithoutTrailingZeros,
+    /// `product_img_url`: the address of a product's image in a size.
+    ProductImgUrl,
     /// `reject`: the maps of a list without a property.
     Reject,
     /// `remove_last`: a text without the last occurrence of another.
@@ -69,10 +83,12 @@ pub enum ShopifyKind {
     UrlForVendor,
     /// `weight_with_unit`: a weight in kilograms.
     WeightWithUnit,
+    /// `within`: an address within a collection.
+    Within,
 }
 
 /// All filters of this set, in the order of their names.
-pub const SHOPIFY_FILTERS: [ShopifyKind; 32] = [
+pub const SHOPIFY_FILTERS: [ShopifyKind; 40] = [
     ShopifyKind::AssetUrl,
     ShopifyKind::Base64Decode,
     ShopifyKind::Base64Encode,
@@ -83,8 +99,14 @@ pub const SHOPIFY_FILTERS: [ShopifyKind; 32] = [
     ShopifyKind::Handle,
     ShopifyKind::Handleize,
     ShopifyKind::Has,
+    ShopifyKind::HighlightActiveTag,
+    ShopifyKind::HmacSha256,
     ShopifyKind::ImgTag,
+    ShopifyKind::Json,
     ShopifyKind::LinkTo,
+    ShopifyKind::LinkToAddTag,
+    ShopifyKind::LinkToRemoveTag,
+    ShopifyKind::LinkToTag,
     ShopifyKind::LinkToType,
     ShopifyKind::LinkToVendor,
     ShopifyKind::Md5,
@@ -92,6 +114,7 @@ pub const SHOPIFY_FILTERS: [ShopifyKind; 32] = [
     ShopifyKind::MoneyWithCurrency,
     ShopifyKind::MoneyWithoutCurrency,
     ShopifyKind::MoneyWithoutTrailingZeros,
+    ShopifyKind::ProductImgUrl,
     ShopifyKind::Reject,
     ShopifyKind::RemoveLast,
     ShopifyKind::ReplaceLast,
@@ -105,6 +128,7 @@ pub const SHOPIFY_FILTERS: [ShopifyKind; 32] = [
     ShopifyKind::UrlForType,
     ShopifyKind::UrlForVendor,
     ShopifyKind::WeightWithUnit,
+    ShopifyKind::Within,
 ];
 
 impl ShopifyKind {
@@ -123,8 +147,14 @@ impl ShopifyKind {
             ShopifyKind::Handle => "handle",
             ShopifyKind::Handleize => "handleize",
             ShopifyKind::Has => "has",
+            ShopifyKind::HighlightActiveTag => "highlight_active_tag",
+            ShopifyKind::HmacSha256 => "hmac_sha256",
             ShopifyKind::ImgTag => "img_tag",
+            ShopifyKind::Json => "json",
             ShopifyKind::LinkTo => "link_to",
+            ShopifyKind::LinkToAddTag => "link_to_add_tag",
+            ShopifyKind::LinkToRemoveTag => "link_to_remove_tag",
+            ShopifyKind::LinkToTag => "link_to_tag",
             ShopifyKind::LinkToType => "link_to_type",
             ShopifyKind::LinkToVendor => "link_to_vendor",
             ShopifyKind::Md5 => "md5",
@@ -132,6 +162,7 @@ impl ShopifyKind {
             ShopifyKind::MoneyWithCurrency => "money_with_currency",
             ShopifyKind::MoneyWithoutCurrency => "money_without_currency",
             ShopifyKind::MoneyWithoutTrailingZeros => "money_without_trailing_zeros",
+            ShopifyKind::ProductImgUrl => "product_img_url",
             ShopifyKind::Reject => "reject",
             ShopifyKind::RemoveLast => "remove_last",
             ShopifyKind::ReplaceLast => "replace_last",
@@ -145,6 +176,7 @@ impl ShopifyKind {
             ShopifyKind::UrlForType => "url_for_type",
             ShopifyKind::UrlForVendor => "url_for_vendor",
             ShopifyKind::WeightWithUnit => "weight_with_unit",
+            ShopifyKind::Within => "within",
         }
     }
 
@@ -156,9 +188,14 @@ impl ShopifyKind {
             ShopifyKind::Find
             | ShopifyKind::FindIndex
             | ShopifyKind::Has
+            | ShopifyKind::HmacSha256
             | ShopifyKind::LinkTo
+            | ShopifyKind::LinkToAddTag
+            | ShopifyKind::LinkToRemoveTag
+            | ShopifyKind::LinkToTag
             | ShopifyKind::Reject
-            | ShopifyKind::RemoveLast => 1,
+            | ShopifyKind::RemoveLast
+            | ShopifyKind::Within => 1,
             ShopifyKind::ReplaceLast => 2,
             _ => 0,
         }
@@ -169,10 +206,17 @@ impl ShopifyKind {
         ensures { result ≡ most_of self }
     {
         match self {
-            ShopifyKind::ImgTag
+            ShopifyKind::HighlightActiveTag
+            | ShopifyKind::HmacSha256
+            | ShopifyKind::ImgTag
+            | ShopifyKind::LinkToAddTag
+            | ShopifyKind::LinkToRemoveTag
+            | ShopifyKind::LinkToTag
+            | ShopifyKind::ProductImgUrl
             | ShopifyKind::RemoveLast
             | ShopifyKind::StylesheetTag
-            | ShopifyKind::Sum => 1,
+            | ShopifyKind::Sum
+            | ShopifyKind::Within => 1,
             ShopifyKind::Find
             | ShopifyKind::FindIndex
             | ShopifyKind::Has

@@ -66,7 +66,8 @@ pub(crate) fn has_answer(alloc: Global, input: &Value, args: &[Value]) -> Result
 
 /// The target that is given: nil is none.
 fn target_of<'a>(given: Option<&'a Value>) -> Option<&'a Value>
-    ensures { option_map (λ v. view v.now) result ≡ target_of (option_map (λ v. view v.now) given.entry) }
+    ensures { option_map (λ v. view v.now) result ≡ target_of
+        (option_map (λ v. view v.now) given.entry) }
 {
     match given {
         Some(Value::Nil) => None,
@@ -80,7 +81,9 @@ fn rejected(
     name: &str,
     target: Option<&Value>,
 ) -> Result<Vec<Value>>
-    ensures { IsValueOrMemory (λ v. map view v.items) result (rejected name.now (option_map (λ v. view v.now) target.entry) (list_of (items_view items.now))) }
+    ensures { IsValueOrMemory (λ v. map view v.items) result
+        (rejected name.now (option_map (λ v. view v.now) target.entry)
+        (list_of (items_view items.now))) }
 {
     let mut kept = Vec::new(alloc);
     for item in items {
@@ -92,7 +95,9 @@ fn rejected(
 }
 
 fn first_wanted(alloc: Global, items: &[Value], name: &str, target: Option<&Value>) -> Result<Value>
-    ensures { IsValueOrMemory view result (first_wanted name.now (option_map (λ v. view v.now) target.entry) (list_of (items_view items.now))) }
+    ensures { IsValueOrMemory view result
+        (first_wanted name.now (option_map (λ v. view v.now) target.entry)
+        (list_of (items_view items.now))) }
 {
     for item in items {
         if is_wanted(property(item, name), target) {
@@ -103,7 +108,8 @@ fn first_wanted(alloc: Global, items: &[Value], name: &str, target: Option<&Valu
 }
 
 fn place_of_wanted(items: &[Value], name: &str, target: Option<&Value>) -> Value
-    ensures { view result ≡ place_of_wanted name.now (option_map (λ v. view v.now) target.entry) 0 (list_of (items_view items.now)) }
+    ensures { view result ≡ place_of_wanted name.now (option_map (λ v. view v.now) target.entry) 0
+        (list_of (items_view items.now)) }
 {
     let mut place = 0i64;
     for item in items {
@@ -116,7 +122,8 @@ fn place_of_wanted(items: &[Value], name: &str, target: Option<&Value>) -> Value
 }
 
 fn has_wanted(items: &[Value], name: &str, target: Option<&Value>) -> bool
-    ensures { result ≡ has_wanted name.now (option_map (λ v. view v.now) target.entry) (list_of (items_view items.now)) }
+    ensures { result ≡ has_wanted name.now (option_map (λ v. view v.now) target.entry)
+        (list_of (items_view items.now)) }
 {
     for item in items {
         if is_wanted(property(item, name), target) {
@@ -137,7 +144,8 @@ pub(crate) fn property<'a>(item: &'a Value, name: &str) -> Option<&'a Value>
 }
 
 fn is_wanted(found: Option<&Value>, target: Option<&Value>) -> bool
-    ensures { result ≡ is_wanted (option_map (λ v. view v.now) target.entry) (option_map (λ v. view v.now) found.entry) }
+    ensures { result ≡ is_wanted (option_map (λ v. view v.now) target.entry)
+        (option_map (λ v. view v.now) found.entry) }
 {
     match (target, found) {
         (None, Some(value)) => value.is_truthy(),

@@ -16,4 +16,8 @@ pub struct Shop {
     pub shopify_assets: String,
     /// What stands before the path of a product's image.
     pub images: String,
+    /// The handle of the page's collection.
+    pub collection: String,
+    /// The tags that the page's products have, each once.
+    pub tags: Vec<String>,
 }

@@ -26,7 +26,8 @@ pub(crate) fn sum_answer(alloc: Global, input: &Value, args: &[Value]) -> Result
 }
 
 fn total(alloc: Global, items: &[Value], name: Option<&str>) -> Result<i64>
-    ensures { Answers (λ n. n) result (total (option_map (λ s. s.now) name.entry) (pos 0) (list_of (items_view items.now))) }
+    ensures { Answers (λ n. n) result (total (option_map (λ s. s.now) name.entry) (pos 0)
+        (list_of (items_view items.now))) }
 {
     let mut sum = 0i64;
     for item in items {
@@ -37,7 +38,8 @@ fn total(alloc: Global, items: &[Value], name: Option<&str>) -> Result<i64>
 
 /// What of an item is added: the item, or its property.
 fn term<'a>(item: &'a Value, name: Option<&str>) -> Option<&'a Value>
-    ensures { option_map (λ v. view v.now) result ≡ term (option_map (λ s. s.now) name.entry) (view item.now) }
+    ensures { option_map (λ v. view v.now) result ≡ term (option_map (λ s. s.now) name.entry)
+        (view item.now) }
 {
     match name {
         Some(name) => property(item, name),

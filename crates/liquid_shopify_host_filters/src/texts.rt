@@ -31,7 +31,8 @@ pub(crate) fn remove_last_answer(alloc: Global, input: &Value, args: &[Value]) -
 
 /// The text with the last occurrence of another replaced.
 fn replaced_last(alloc: Global, text: &str, search: &str, replacement: &str) -> Result<String>
-    ensures { IsValueOrMemory (λ s. string_bytes s) result (replaced_last search.now replacement.now text.now) }
+    ensures { IsValueOrMemory (λ s. string_bytes s) result
+        (replaced_last search.now replacement.now text.now) }
 {
     match text.rsplit_once(search) {
         Some((before, after)) => Ok(format!(in alloc; "{before}{replacement}{after}")?),

@@ -35,7 +35,8 @@ fn weight(alloc: Global, grams: i64) -> Result<String>
 
 /// Appends thousandths as decimals: one, two or three, as many as are wanted.
 fn push_thousandths(out: &mut String, number: u64) -> Result<()>
-    ensures { IsValueOrMemory (λ _. string_bytes out.new) result (string_bytes out.old ++ thousandths number) }
+    ensures { IsValueOrMemory (λ _. string_bytes out.new) result
+        (string_bytes out.old ++ thousandths number) }
 {
     out.push_str(Buffer::new().format(number / 100))?;
     if number % 100 != 0 {

@@ -56,7 +56,8 @@ pub(crate) fn worded(alloc: Global, wording: Wording, text: &str) -> Result<Stri
 
 /// Appends what is written of a character: of a word's, itself in its shape, and before a further word what stands between words.
 fn push_shown(out: &mut String, wording: Wording, state: State, letter: char) -> Result<()>
-    ensures { IsValueOrMemory (λ _. string_bytes out.new) result (string_bytes out.old ++ encode_utf8_all (shown wording state letter)) }
+    ensures { IsValueOrMemory (λ _. string_bytes out.new) result
+        (string_bytes out.old ++ encode_utf8_all (shown wording state letter)) }
 {
     match place_of(wording, letter) {
         Place::Word => {

@@ -32,6 +32,8 @@ fn shop(alloc: Global) -> Result<Shop> {
         global_assets: String::from_str(alloc, "/global/")?,
         shopify_assets: String::from_str(alloc, "/shopify/")?,
         images: String::from_str(alloc, "/files/shops/random_number/")?,
+        collection: String::from_str(alloc, "teas")?,
+        tags: tags(alloc)?,
     })
 }
 
@@ -42,4 +44,12 @@ fn dollars(alloc: Global, after: &str) -> Result<MoneyFormat> {
         style: MoneyStyle::Amount,
         after: String::from_str(alloc, after)?,
     })
+}
+
+/// The tags of the page.
+fn tags(alloc: Global) -> Result<Vec<String>> {
+    let mut tags = Vec::new(alloc);
+    tags.push(String::from_str(alloc, "green")?)?;
+    tags.push(String::from_str(alloc, "fine")?)?;
+    Ok(tags)
 }

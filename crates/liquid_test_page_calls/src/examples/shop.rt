@@ -38,6 +38,8 @@ fn shop(alloc: Global) -> Result<Shop> {
         global_assets: String::from_str(alloc, "/global/")?,
         shopify_assets: String::from_str(alloc, "/shopify/")?,
         images: String::from_str(alloc, "/images/")?,
+        collection: String::new(alloc),
+        tags: Vec::new(alloc),
     })
 }
 
