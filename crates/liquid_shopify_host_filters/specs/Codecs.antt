@@ -1,5 +1,6 @@
 -- The filters that encode texts, and those that make digests of them.
-use Rattle.std.specs.Prelude.{ℕ, nat_lt, bit_xor, List, [], ◌++◌, length, drop, map, replicate, Result, Ok, Err, if◌then◌else◌}
+use Rattle.std.specs.Prelude.{ℕ, nat_lt, bit_xor, List, [], ◌++◌, length, drop, map, replicate}
+use Rattle.std.specs.Prelude.{Result, Ok, Err, if◌then◌else◌}
 use Rattle.std.specs.Str.{is_utf8}
 use Rattle.base64.specs.Engines.{standard}
 use Rattle.base64.specs.GeneralPurpose.{decode_of, encode_of}
@@ -43,7 +44,7 @@ sha256_answer d = Ok (text (encode_lower (sha256 (text_of d))))
 abbrev pub masked : ℕ → List ℕ → List ℕ
 masked mask key = map (λ b. bit_xor b mask) key
 
--- the digest of a message behind the key's block of 64 bytes, masked
+-- the digest of a message after the key's block of 64 bytes, masked
 -- Where the key has no byte more, the mask stands alone.
 abbrev pub digest_behind : List ℕ → ℕ → List ℕ → List ℕ
 digest_behind key mask message =
@@ -55,7 +56,8 @@ code_by key message = digest_behind key 92 (digest_behind key 54 message)
 
 -- the code of RFC 2104 over SHA-256; a key of more than 64 bytes counts by its digest
 abbrev pub hmac : List ℕ → List ℕ → List ℕ
-hmac key message = if nat_lt 64 (length key) then code_by (sha256 key) message else code_by key message
+hmac key message = if nat_lt 64 (length key) then code_by (sha256 key) message else code_by key
+    message
 
 -- `hmac_sha256`: the argument is the key
 abbrev pub hmac_sha256_answer : Datum → List Datum → Answer

@@ -32,7 +32,8 @@ stylesheet_tag_answer d args = Ok (text (style_sheet (text_of d) (text_or (codes
 -- a link with a title
 abbrev pub link : Text → Text → Text → Text
 link label url title =
-    codes "<a href=\"" ++ (url ++ (codes "\" title=\"" ++ (title ++ (codes "\">" ++ (label ++ codes "</a>")))))
+    codes "<a href=\"" ++
+    (url ++ (codes "\" title=\"" ++ (title ++ (codes "\">" ++ (label ++ codes "</a>")))))
 
 -- `link_to`: the address is the first argument, and the title the second
 abbrev pub link_to_answer : Datum → List Datum → Answer

@@ -1,5 +1,7 @@
 -- The filter `product_img_url`.
-use Rattle.std.specs.Prelude.{ℕ, ◌+◌, ◌==◌, ◌&&◌, ◌||◌, nat_lt, slice_index, Bool, true, false, List, [], ◌∷◌, ◌++◌, length, take, drop, Option, Some, None, Ok, Err, codes, bytes_eq, if◌then◌else◌}
+use Rattle.std.specs.Prelude.{ℕ, ◌+◌, ◌==◌, ◌&&◌, ◌||◌, nat_lt, slice_index, Bool, true, false}
+use Rattle.std.specs.Prelude.{List, [], ◌∷◌, ◌++◌, length, take, drop, Option, Some, None, Ok, Err}
+use Rattle.std.specs.Prelude.{codes, bytes_eq, if◌then◌else◌}
 use Rattle.std.specs.Char.{is_ascii_alphanumeric}
 use Rattle.liquid_model.specs.Data.{Datum, text, text_of}
 use Rattle.liquid_model.specs.Texts.{Text}
@@ -34,11 +36,13 @@ found_extension name None = None
 
 -- what follows the dot at a place, if one stands there
 abbrev pub after_dot : Text → ℕ → Option Text
-after_dot s n = if nat_lt n (length s) && (slice_index s n == 46) then Some (drop (n + 1) s) else None
+after_dot s n = if nat_lt n (length s) && (slice_index s n == 46) then Some
+    (drop (n + 1) s) else None
 
 -- a name that isn't empty, a dot and an extension
 abbrev pub named_parts : Text → Text → Option Parts
-named_parts name s = if length name == 0 then None else found_extension name (after_dot s (length name))
+named_parts name s = if length name == 0 then None else found_extension name
+    (after_dot s (length name))
 
 abbrev pub file_parts : Text → Option Parts
 file_parts s = named_parts (leading true s) s
@@ -54,7 +58,7 @@ is_size s =
     || bytes_eq s (codes "compact") || bytes_eq s (codes "small") || bytes_eq s (codes "thumb")
     || bytes_eq s (codes "icon")
 
--- the path with the size behind the name
+-- the path with the size after the name
 abbrev pub resized : Text → Parts → Text → Text
 resized prefix parts size =
     prefix ++ (codes "products/" ++ (parts.0 ++ (codes "_" ++ (size ++ (codes "." ++ parts.1)))))

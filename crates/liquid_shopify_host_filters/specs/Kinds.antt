@@ -2,7 +2,40 @@
 use Rattle.std.specs.Prelude.{ℕ, Bool, ◌&&◌, nat_le, List, codes}
 use Rattle.liquid_model.specs.Texts.{Text}
 use Rattle.liquid_shopify_host_filters.specs.declared.kind.ShopifyKind.{ShopifyKind}
-use Rattle.liquid_shopify_host_filters.specs.declared.kind.ShopifyKind.TheVariants.{AssetUrl, Base64Decode, Base64Encode, Camelize, Find, FindIndex, GlobalAssetUrl, Handle, Handleize, Has, HighlightActiveTag, HmacSha256, ImgTag, Json, LinkTo, LinkToAddTag, LinkToRemoveTag, LinkToTag, LinkToType, LinkToVendor, Md5, Money, MoneyWithCurrency, MoneyWithoutCurrency, MoneyWithoutTrailingZeros, ProductImgUrl, Reject, RemoveLast, ReplaceLast, ScriptTag, Sha1, Sha256, ShopifyAssetUrl, Squish, StylesheetTag, Sum, UrlForType, UrlForVendor, WeightWithUnit, Within}
+use Rattle.liquid_shopify_host_filters.specs.declared.kind.ShopifyKind.TheVariants.{AssetUrl}
+use Rattle.liquid_shopify_host_filters.specs.declared.kind.ShopifyKind.TheVariants.{Base64Decode}
+use Rattle.liquid_shopify_host_filters.specs.declared.kind.ShopifyKind.TheVariants.{Base64Encode}
+use Rattle.liquid_shopify_host_filters.specs.declared.kind.ShopifyKind.TheVariants.{Camelize, Find}
+use Rattle.liquid_shopify_host_filters.specs.declared.kind.ShopifyKind.TheVariants.{FindIndex}
+use Rattle.liquid_shopify_host_filters.specs.declared.kind.ShopifyKind.TheVariants.{GlobalAssetUrl}
+use Rattle.liquid_shopify_host_filters.specs.declared.kind.ShopifyKind.TheVariants.{Handle}
+use Rattle.liquid_shopify_host_filters.specs.declared.kind.ShopifyKind.TheVariants.{Handleize, Has}
+use Rattle.liquid_shopify_host_filters.specs.declared.kind.ShopifyKind.TheVariants.{HighlightActiveTag}
+use Rattle.liquid_shopify_host_filters.specs.declared.kind.ShopifyKind.TheVariants.{HmacSha256}
+use Rattle.liquid_shopify_host_filters.specs.declared.kind.ShopifyKind.TheVariants.{ImgTag, Json}
+use Rattle.liquid_shopify_host_filters.specs.declared.kind.ShopifyKind.TheVariants.{LinkTo}
+use Rattle.liquid_shopify_host_filters.specs.declared.kind.ShopifyKind.TheVariants.{LinkToAddTag}
+use Rattle.liquid_shopify_host_filters.specs.declared.kind.ShopifyKind.TheVariants.{LinkToRemoveTag}
+use Rattle.liquid_shopify_host_filters.specs.declared.kind.ShopifyKind.TheVariants.{LinkToTag}
+use Rattle.liquid_shopify_host_filters.specs.declared.kind.ShopifyKind.TheVariants.{LinkToType}
+use Rattle.liquid_shopify_host_filters.specs.declared.kind.ShopifyKind.TheVariants.{LinkToVendor}
+use Rattle.liquid_shopify_host_filters.specs.declared.kind.ShopifyKind.TheVariants.{Md5, Money}
+use Rattle.liquid_shopify_host_filters.specs.declared.kind.ShopifyKind.TheVariants.{MoneyWithCurrency}
+use Rattle.liquid_shopify_host_filters.specs.declared.kind.ShopifyKind.TheVariants.{MoneyWithoutCurrency}
+use Rattle.liquid_shopify_host_filters.specs.declared.kind.ShopifyKind.TheVariants.{MoneyWithoutTrailingZeros}
+use Rattle.liquid_shopify_host_filters.specs.declared.kind.ShopifyKind.TheVariants.{ProductImgUrl}
+use Rattle.liquid_shopify_host_filters.specs.declared.kind.ShopifyKind.TheVariants.{Reject}
+use Rattle.liquid_shopify_host_filters.specs.declared.kind.ShopifyKind.TheVariants.{RemoveLast}
+use Rattle.liquid_shopify_host_filters.specs.declared.kind.ShopifyKind.TheVariants.{ReplaceLast}
+use Rattle.liquid_shopify_host_filters.specs.declared.kind.ShopifyKind.TheVariants.{ScriptTag, Sha1}
+use Rattle.liquid_shopify_host_filters.specs.declared.kind.ShopifyKind.TheVariants.{Sha256}
+use Rattle.liquid_shopify_host_filters.specs.declared.kind.ShopifyKind.TheVariants.{ShopifyAssetUrl}
+use Rattle.liquid_shopify_host_filters.specs.declared.kind.ShopifyKind.TheVariants.{Squish}
+use Rattle.liquid_shopify_host_filters.specs.declared.kind.ShopifyKind.TheVariants.{StylesheetTag}
+use Rattle.liquid_shopify_host_filters.specs.declared.kind.ShopifyKind.TheVariants.{Sum, UrlForType}
+use Rattle.liquid_shopify_host_filters.specs.declared.kind.ShopifyKind.TheVariants.{UrlForVendor}
+use Rattle.liquid_shopify_host_filters.specs.declared.kind.ShopifyKind.TheVariants.{WeightWithUnit}
+use Rattle.liquid_shopify_host_filters.specs.declared.kind.ShopifyKind.TheVariants.{Within}
 
 -- the name by which templates call a filter
 abbrev pub name_of : ShopifyKind → Text

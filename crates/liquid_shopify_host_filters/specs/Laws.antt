@@ -14,15 +14,16 @@ use Rattle.liquid_shopify_host_filters.specs.Wordings.{handle_answer, squish_ans
 abbrev pub OfText : (Datum → Answer) → Text → Answer
 OfText f s = f (text s)
 
--- one call behind another
+-- one call after another
 abbrev pub after : (Datum → Answer) → (Datum → Answer) → Text → Answer
 after second first s = OfText first s >>= second
 
 -- `base64_decode` gives back what `base64_encode` encoded
 abbrev pub DecodeUndoesEncode : Type 0
-DecodeUndoesEncode = (s : Text) → IsUtf8 s → IsBytes s → after decode_answer encode_answer s ≡ Ok (text s)
+DecodeUndoesEncode = (s : Text) → IsUtf8 s → IsBytes s → after decode_answer encode_answer s ≡
+    Ok (text s)
 
--- the sum of a list behind another goes on from the sum of the other
+-- the sum of a list after another goes on from the sum of the other
 abbrev pub SumGoesOn : Type 0
 SumGoesOn =
     (name : Option Text) (z : ℤ) (ds es : List Datum)
@@ -30,8 +31,10 @@ SumGoesOn =
 
 -- a handle is its own handle
 abbrev pub HandleTwiceIsOnce : Type 0
-HandleTwiceIsOnce = (s : Text) → IsUtf8 s → after handle_answer handle_answer s ≡ OfText handle_answer s
+HandleTwiceIsOnce = (s : Text) → IsUtf8 s → after handle_answer handle_answer s ≡
+    OfText handle_answer s
 
 -- `squish` twice is `squish` once
 abbrev pub SquishTwiceIsOnce : Type 0
-SquishTwiceIsOnce = (s : Text) → IsUtf8 s → after squish_answer squish_answer s ≡ OfText squish_answer s
+SquishTwiceIsOnce = (s : Text) → IsUtf8 s → after squish_answer squish_answer s ≡
+    OfText squish_answer s

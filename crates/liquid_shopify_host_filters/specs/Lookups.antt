@@ -1,6 +1,7 @@
 -- The filters that look in lists of maps: `reject`, `find`, `find_index` and `has`.
 -- The first argument is a property's name, and the second the target, if there is one.
-use Rattle.std.specs.Prelude.{ℕ, suc, Bool, true, false, not, if◌then◌else◌, ◌||◌, List, [], ◌∷◌, Option, Some, None, Ok, Err, filter}
+use Rattle.std.specs.Prelude.{ℕ, suc, Bool, true, false, not, if◌then◌else◌, ◌||◌, List, [], ◌∷◌}
+use Rattle.std.specs.Prelude.{Option, Some, None, Ok, Err, filter}
 use Rattle.liquid_model.specs.Data.{Datum, nil, truth, text_of}
 use Rattle.liquid_model.specs.Find.{counted}
 use Rattle.liquid_model.specs.Texts.{Text}
@@ -48,7 +49,8 @@ has_wanted name target (d ∷ ds) = wants name target d || has_wanted name targe
 abbrev pub among : (Text → Option Datum → List Datum → Datum) → Datum → List Datum → Answer
 among f d [] = Err InvalidArgument
 among f d (name ∷ args) =
-    if all_maps (sequence d) then Ok (f (text_of name) (target_of (first_of args)) (sequence d)) else Ok nil
+    if all_maps (sequence d) then Ok (f (text_of name) (target_of (first_of args)) (sequence d))
+    else Ok nil
 
 -- `reject`
 abbrev pub reject_answer : Datum → List Datum → Answer

@@ -1,5 +1,6 @@
 -- The filters that write amounts of money, given as whole cents.
-use Rattle.std.specs.Prelude.{unsigned_abs, ℕ, ◌%◌, ◌==◌, ℤ, List, [], ◌++◌, Option, Some, None, Result, Ok, Err, string_bytes, if◌then◌else◌}
+use Rattle.std.specs.Prelude.{unsigned_abs, ℕ, ◌%◌, ◌==◌, ℤ, List, [], ◌++◌, Option, Some, None}
+use Rattle.std.specs.Prelude.{Result, Ok, Err, string_bytes, if◌then◌else◌}
 use Rattle.liquid_model.specs.Data.{Datum, nil, text}
 use Rattle.liquid_model.specs.Fallible.{◌>>=◌}
 use Rattle.liquid_model.specs.Texts.{Text}
@@ -17,7 +18,7 @@ in_format f shown = string_bytes f.before ++ (shown ++ string_bytes f.after)
 abbrev pub money : MoneyFormat → ℤ → Text
 money f z = in_format f (amount_of f.style z)
 
--- an amount of whole units has no cents behind it
+-- an amount of whole units has no cents after it
 abbrev pub trimmed : MoneyFormat → ℤ → Text
 trimmed f z = if unsigned_abs z % 100 == 0 then in_format f (whole_amount f.style z) else money f z
 

@@ -2,7 +2,14 @@
 use Rattle.std.specs.Prelude.{List, Option, Some, None, bytes_eq, codes, if◌then◌else◌}
 use Rattle.liquid_model.specs.Texts.{Text}
 use Rattle.liquid_shopify_host_filters.specs.declared.money.MoneyStyle.{MoneyStyle}
-use Rattle.liquid_shopify_host_filters.specs.declared.money.MoneyStyle.TheVariants.{Amount, AmountNoDecimals, AmountWithCommaSeparator, AmountNoDecimalsWithCommaSeparator, AmountWithApostropheSeparator, AmountNoDecimalsWithSpaceSeparator, AmountWithSpaceSeparator, AmountWithPeriodAndSpaceSeparator}
+use Rattle.liquid_shopify_host_filters.specs.declared.money.MoneyStyle.TheVariants.{Amount}
+use Rattle.liquid_shopify_host_filters.specs.declared.money.MoneyStyle.TheVariants.{AmountNoDecimals}
+use Rattle.liquid_shopify_host_filters.specs.declared.money.MoneyStyle.TheVariants.{AmountWithCommaSeparator}
+use Rattle.liquid_shopify_host_filters.specs.declared.money.MoneyStyle.TheVariants.{AmountNoDecimalsWithCommaSeparator}
+use Rattle.liquid_shopify_host_filters.specs.declared.money.MoneyStyle.TheVariants.{AmountWithApostropheSeparator}
+use Rattle.liquid_shopify_host_filters.specs.declared.money.MoneyStyle.TheVariants.{AmountNoDecimalsWithSpaceSeparator}
+use Rattle.liquid_shopify_host_filters.specs.declared.money.MoneyStyle.TheVariants.{AmountWithSpaceSeparator}
+use Rattle.liquid_shopify_host_filters.specs.declared.money.MoneyStyle.TheVariants.{AmountWithPeriodAndSpaceSeparator}
 
 -- the style of the placeholder of a name
 abbrev pub style_named : Text → Option MoneyStyle

@@ -1,12 +1,13 @@
 -- The filters that write links to the products of tags, and `within`.
 -- A page has a collection, by its handle, and tags, each once.
-use Rattle.std.specs.Prelude.{Bool, true, false, ◌||◌, List, [], ◌∷◌, ◌++◌, Option, Some, None, Ok, codes, bytes_eq, if◌then◌else◌}
+use Rattle.std.specs.Prelude.{Bool, true, false, ◌||◌, List, [], ◌∷◌, ◌++◌, Option, Some, None, Ok}
+use Rattle.std.specs.Prelude.{codes, bytes_eq, if◌then◌else◌}
 use Rattle.liquid_model.specs.Data.{Datum, text, text_of}
 use Rattle.liquid_model.specs.Texts.{Text}
 use Rattle.liquid_filter_base.specs.Arguments.{Answer, text_or}
 use Rattle.liquid_shopify_host_filters.specs.Lookups.{property}
 
--- the other tags, each with a + behind it, and then this one
+-- the other tags, each with a + after it, and then this one
 abbrev pub with_tag : List Text → Text → Text
 with_tag [] tag = tag
 with_tag (t ∷ ts) tag =
@@ -48,7 +49,8 @@ link_to_add_tag_answer collection tags d args =
 -- `link_to_remove_tag`: to the page's tags but for this one
 abbrev pub link_to_remove_tag_answer : Text → List Text → Datum → List Datum → Answer
 link_to_remove_tag_answer collection tags d args =
-    Ok (text (tag_link collection (text_of d) (text_or [] args) (other_tags true tags (text_or [] args))))
+    Ok (text (tag_link collection (text_of d) (text_or [] args)
+    (other_tags true tags (text_or [] args))))
 
 -- one of the page's tags, marked with a class
 abbrev pub marked : Text → Text → Text

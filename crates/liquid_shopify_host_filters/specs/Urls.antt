@@ -6,7 +6,7 @@ use Rattle.liquid_filter_base.specs.Arguments.{Answer}
 use Rattle.liquid_shopify_host_filters.specs.Words.{worded_text}
 use Rattle.liquid_shopify_host_filters.specs.declared.words.Wording.TheVariants.{Handle}
 
--- `asset_url` and its like: a file's name behind the prefix of its folder
+-- `asset_url` and its like: a file's name after the prefix of its folder
 abbrev pub prefixed_answer : Text → Datum → Answer
 prefixed_answer prefix d = Ok (text (prefix ++ text_of d))
 

@@ -3,7 +3,8 @@ use Rattle.std.specs.Prelude.{Ok}
 use Rattle.liquid_model.specs.Data.{Datum, nil, text, text_of}
 use Rattle.liquid_filter_base.specs.Arguments.{Answer}
 use Rattle.liquid_shopify_host_filters.specs.Words.{worded_text}
-use Rattle.liquid_shopify_host_filters.specs.declared.words.Wording.TheVariants.{Handle, Camel, Squish}
+use Rattle.liquid_shopify_host_filters.specs.declared.words.Wording.TheVariants.{Handle, Camel}
+use Rattle.liquid_shopify_host_filters.specs.declared.words.Wording.TheVariants.{Squish}
 
 -- `handle` and `handleize`
 abbrev pub handle_answer : Datum → Answer

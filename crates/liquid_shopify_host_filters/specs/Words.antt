@@ -4,11 +4,13 @@ use Rattle.std.specs.Char.{is_ascii_alphanumeric, to_ascii_lowercase, to_ascii_u
 use Rattle.std.specs.Str.{chars, encode_utf8_all}
 use Rattle.liquid_model.specs.Texts.{Text}
 use Rattle.liquid_shopify_host_filters.specs.declared.words.Place.{Place}
-use Rattle.liquid_shopify_host_filters.specs.declared.words.Place.TheVariants.{Word, Between, Nowhere}
+use Rattle.liquid_shopify_host_filters.specs.declared.words.Place.TheVariants.{Word, Between}
+use Rattle.liquid_shopify_host_filters.specs.declared.words.Place.TheVariants.{Nowhere}
 use Rattle.liquid_shopify_host_filters.specs.declared.words.State.{State}
 use Rattle.liquid_shopify_host_filters.specs.declared.words.State.TheVariants.{Before, Inside, Past}
 use Rattle.liquid_shopify_host_filters.specs.declared.words.Wording.{Wording}
-use Rattle.liquid_shopify_host_filters.specs.declared.words.Wording.TheVariants.{Handle, Camel, Squish}
+use Rattle.liquid_shopify_host_filters.specs.declared.words.Wording.TheVariants.{Handle, Camel}
+use Rattle.liquid_shopify_host_filters.specs.declared.words.Wording.TheVariants.{Squish}
 
 -- an ASCII letter or digit, or _
 abbrev pub is_word : ℕ → Bool
@@ -71,7 +73,7 @@ after_at Nowhere state = state
 abbrev pub after : Wording → State → ℕ → State
 after w state c = after_at (place_of w c) state
 
--- the characters of the words, each word behind what is written between two
+-- the characters of the words, each word after what is written between two
 abbrev pub worded : Wording → State → List ℕ → List ℕ
 worded w state [] = []
 worded w state (c ∷ cs) = shown w state c ++ worded w (after w state c) cs

@@ -2,7 +2,9 @@
 ghost use Rattle.std.specs.Prelude.{◌≡◌, ◌++◌, ◌≤◌, ◌^◌, option_map, string_bytes};
 ghost use Rattle.std.specs.Str.{IsAscii};
 ghost use Rattle.liquid_model.specs.Answer.{IsValueOrMemory};
-ghost use Rattle.liquid_shopify_host_filters.specs.Amounts.{amount_of, cents_text, grouped, separator_at, sign, two_digits, units_of, whole_amount};
+ghost use Rattle.liquid_shopify_host_filters.specs.Amounts.{amount_of, cents_text, grouped};
+ghost use Rattle.liquid_shopify_host_filters.specs.Amounts.{separator_at, sign, two_digits};
+ghost use Rattle.liquid_shopify_host_filters.specs.Amounts.{units_of, whole_amount};
 
 use crate::money::MoneyStyle;
 use itoa::Buffer;
@@ -26,7 +28,7 @@ pub(crate) fn amount(alloc: Global, style: MoneyStyle, cents: i64) -> Result<Str
     Ok(out)
 }
 
-/// The whole units of an amount of cents, without what stands behind the point.
+/// The whole units of an amount of cents, without what follows the point.
 pub(crate) fn whole_amount(alloc: Global, style: MoneyStyle, cents: i64) -> Result<String>
     ensures { IsValueOrMemory (λ s. string_bytes s) result (whole_amount style cents) }
 {

@@ -2,7 +2,10 @@
 ghost use Rattle.std.specs.Prelude.{◌≤◌, length, map};
 ghost use Rattle.liquid_model.specs.Answer.{Answers, IsValueOrMemory};
 ghost use Rattle.liquid_model.specs.View.{view};
-ghost use Rattle.liquid_shopify_host_filters.specs.Codecs.{code_by, decode_answer, decoded_text, digest_behind, encode_answer, hmac, hmac_sha256_answer, md5_answer, sha1_answer, sha256_answer};
+ghost use Rattle.liquid_shopify_host_filters.specs.Codecs.{code_by, decode_answer, decoded_text};
+ghost use Rattle.liquid_shopify_host_filters.specs.Codecs.{digest_behind, encode_answer, hmac};
+ghost use Rattle.liquid_shopify_host_filters.specs.Codecs.{hmac_sha256_answer, md5_answer};
+ghost use Rattle.liquid_shopify_host_filters.specs.Codecs.{sha1_answer, sha256_answer};
 
 use crate::argument::text_or;
 use base64::DecodeAllocError;
@@ -22,7 +25,8 @@ pub(crate) fn encode_answer(alloc: Global, input: &Value) -> Result<Value>
     Ok(Value::Text(STANDARD.encode(alloc, text.as_str().as_bytes())?))
 }
 
-/// `base64_decode`: the text that the input's text encodes. `InvalidInput` where it encodes no bytes, or none of a text.
+/// `base64_decode`: the text that the input's text encodes. `InvalidInput` where it encodes no
+/// bytes, or none of a text.
 pub(crate) fn decode_answer(alloc: Global, input: &Value) -> Result<Value>
     ensures { Answers view result (decode_answer (view input.now)) }
 {
@@ -78,7 +82,8 @@ pub(crate) fn sha256_answer(alloc: Global, input: &Value) -> Result<Value>
     Ok(Value::Text(hex::encode(alloc, digest)?))
 }
 
-/// `hmac_sha256`: the code of the input's text under the argument's text as its key, in hexadecimal.
+/// `hmac_sha256`: the code of the input's text under the argument's text as its key, in
+/// hexadecimal.
 pub(crate) fn hmac_sha256_answer(alloc: Global, input: &Value, args: &[Value]) -> Result<Value>
     ensures { Answers view result (hmac_sha256_answer (view input.now) (map view args.now)) }
 {
@@ -88,7 +93,8 @@ pub(crate) fn hmac_sha256_answer(alloc: Global, input: &Value, args: &[Value]) -
     Ok(Value::Text(hex::encode(alloc, code)?))
 }
 
-/// The code of RFC 2104 over SHA-256, whose blocks have 64 bytes. A longer key counts by its digest.
+/// The code of RFC 2104 over SHA-256, whose blocks have 64 bytes. A longer key counts by its
+/// digest.
 fn hmac(alloc: Global, key: &[u8], message: &[u8]) -> Result<[u8; 32]>
     ensures { IsValueOrMemory (λ d. d) result (hmac key.now message.now) }
 {
@@ -107,7 +113,7 @@ fn code_by(alloc: Global, key: &[u8], message: &[u8]) -> Result<[u8; 32]>
     digest_behind(alloc, key, 0x5c, &inner)
 }
 
-/// The digest of a message behind the key's block, whose bytes are masked.
+/// The digest of a message after the key's block, whose bytes are masked.
 fn digest_behind(alloc: Global, key: &[u8], mask: u8, message: &[u8]) -> Result<[u8; 32]>
     requires { length key.now ≤ 64 }
     ensures { IsValueOrMemory (λ d. d) result (digest_behind key.now mask message.now) }

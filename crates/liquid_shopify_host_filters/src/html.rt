@@ -2,7 +2,9 @@
 ghost use Rattle.std.specs.Prelude.{◌≡◌, map, string_bytes};
 ghost use Rattle.liquid_model.specs.Answer.{Answers, IsValueOrMemory};
 ghost use Rattle.liquid_model.specs.View.{view};
-ghost use Rattle.liquid_shopify_host_filters.specs.Html.{image, img_tag_answer, link, link_to_answer, link_to_collection_answer, script_tag_answer, stylesheet_tag_answer};
+ghost use Rattle.liquid_shopify_host_filters.specs.Html.{image, img_tag_answer, link};
+ghost use Rattle.liquid_shopify_host_filters.specs.Html.{link_to_answer, link_to_collection_answer};
+ghost use Rattle.liquid_shopify_host_filters.specs.Html.{script_tag_answer, stylesheet_tag_answer};
 
 use crate::argument::text_or;
 use crate::urls::collection_url;
@@ -53,7 +55,8 @@ pub(crate) fn link_to_answer(alloc: Global, input: &Value, args: &[Value]) -> Re
     Ok(Value::Text(link(alloc, label.as_str(), url.as_str(), title.as_str())?))
 }
 
-/// `link_to_vendor` and `link_to_type`: the input's text as a link to the collection of its handle, or a word where there is none.
+/// `link_to_vendor` and `link_to_type`: the input's text as a link to the collection of its handle,
+/// or a word where there is none.
 pub(crate) fn link_to_collection_answer(alloc: Global, input: &Value) -> Result<Value>
     ensures { Answers view result (link_to_collection_answer (view input.now)) }
 {

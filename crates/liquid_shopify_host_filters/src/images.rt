@@ -2,7 +2,10 @@
 ghost use Rattle.std.specs.Prelude.{◌≡◌, map, option_map, string_bytes};
 ghost use Rattle.liquid_model.specs.Answer.{Answers, IsValueOrMemory};
 ghost use Rattle.liquid_model.specs.View.{view};
-ghost use Rattle.liquid_shopify_host_filters.specs.Images.{after_dot, file_parts, image_parts, is_part, is_size, leading, product_img_url_answer, resized, sized, with_extension};
+ghost use Rattle.liquid_shopify_host_filters.specs.Images.{after_dot, file_parts, image_parts};
+ghost use Rattle.liquid_shopify_host_filters.specs.Images.{is_part, is_size, leading};
+ghost use Rattle.liquid_shopify_host_filters.specs.Images.{product_img_url_answer, resized, sized};
+ghost use Rattle.liquid_shopify_host_filters.specs.Images.{with_extension};
 
 use crate::argument::text_or;
 use liquid_core::{Error, ErrorKind, Result, Value};
@@ -16,8 +19,9 @@ struct ImagePath {
     extension: String,
 }
 
-/// `product_img_url`: the address of a product's image in a size, `small` where none is given. `InvalidInput` where the input isn't
-/// the path of a product's image, and `InvalidArgument` where the argument is no size.
+/// `product_img_url`: the address of a product's image in a size, `small` where none is given.
+/// `InvalidInput` where the input isn't the path of a product's image, and `InvalidArgument` where
+/// the argument is no size.
 pub(crate) fn product_img_url_answer(
     alloc: Global,
     prefix: &String,
@@ -76,8 +80,9 @@ fn is_size(size: &str) -> bool
     )
 }
 
-/// The parts of the path of a product's image, if it is one: `products/`, a name of letters, digits, `_` and `-`, a dot, and an
-/// extension of two to four letters, digits and `_`. What follows these isn't looked at.
+/// The parts of the path of a product's image, if it is one: `products/`, a name of letters,
+/// digits, `_` and `-`, a dot, and an extension of two to four letters, digits and `_`. What
+/// follows these isn't looked at.
 fn image_parts(alloc: Global, url: &str) -> Result<Option<ImagePath>>
     ensures { IsValueOrMemory (λ o. option_map
         (λ p. (string_bytes p.name, string_bytes p.extension)) o) result (image_parts url.now) }

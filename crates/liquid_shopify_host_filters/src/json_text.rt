@@ -3,13 +3,15 @@ ghost use Rattle.std.specs.Prelude.{◌≡◌, ◌++◌, string_bytes};
 ghost use Rattle.std.specs.Str.{IsUtf8};
 ghost use Rattle.liquid_model.specs.Answer.{Answers, IsValueOrMemory};
 ghost use Rattle.liquid_model.specs.View.{view, items_view, pairs_view};
-ghost use Rattle.liquid_shopify_host_filters.specs.JsonTexts.{items_tokens, json_answer, json_tokens, pairs_tokens};
+ghost use Rattle.liquid_shopify_host_filters.specs.JsonTexts.{items_tokens, json_answer};
+ghost use Rattle.liquid_shopify_host_filters.specs.JsonTexts.{json_tokens, pairs_tokens};
 
 use json::Writer;
 use liquid_core::{Object, Result, Value};
 use std::alloc::Global;
 
-/// `json`: the input as JSON, with nothing between its tokens; the keys of a map stand in the order of their bytes.
+/// `json`: the input as JSON, with nothing between its tokens; the keys of a map stand in the order
+/// of their bytes.
 pub(crate) fn json_answer(alloc: Global, input: &Value) -> Result<Value>
     ensures { Answers view result (json_answer (view input.now)) }
 {
@@ -29,7 +31,8 @@ fn text_of_bytes(bytes: Vec<u8>) -> String
     }
 }
 
-/// Writes a value behind what was written. Where there is no memory, a beginning of it may be written.
+/// Writes a value after what was written. Where there is no memory, a beginning of it may be
+/// written.
 #[cycle(write_value)]
 fn write_value(writer: &mut Writer, value: &Value) -> Result<()>
     ensures tokens { IsValueOrMemory (λ _. writer.new.tokens) result

@@ -3,16 +3,21 @@ ghost use Rattle.std.specs.Prelude.{◌≡◌, ◌≤◌, length, map, option_ma
 ghost use Rattle.liquid_model.specs.Answer.{Answers, IsValueOrMemory};
 ghost use Rattle.liquid_model.specs.Lists.{list_of};
 ghost use Rattle.liquid_model.specs.View.{view, items_view};
-ghost use Rattle.liquid_shopify_host_filters.specs.Lookups.{find_answer, find_index_answer, first_wanted, has_answer, has_wanted, is_wanted, property, reject_answer, rejected, target_of, place_of_wanted};
+ghost use Rattle.liquid_shopify_host_filters.specs.Lookups.{find_answer, find_index_answer};
+ghost use Rattle.liquid_shopify_host_filters.specs.Lookups.{first_wanted, has_answer, has_wanted};
+ghost use Rattle.liquid_shopify_host_filters.specs.Lookups.{is_wanted, property, reject_answer};
+ghost use Rattle.liquid_shopify_host_filters.specs.Lookups.{rejected, target_of, place_of_wanted};
 
 use liquid_core::{Result, Value, look_up};
 use liquid_filter_base::text_of;
 use liquid_list_filters::{all_maps, sequence};
 use std::alloc::Global;
 
-/// `reject`: the maps of a list whose property isn't there or isn't truthy, or is another than the target where one is given.
+/// `reject`: the maps of a list whose property isn't there or isn't truthy, or is another than the
+/// target where one is given.
 ///
-/// A list with an item that is no map gives nil; nil counts as an empty list, and any other value as a list of itself.
+/// A list with an item that is no map gives nil; nil counts as an empty list, and any other value
+/// as a list of itself.
 pub(crate) fn reject_answer(alloc: Global, input: &Value, args: &[Value]) -> Result<Value>
     requires { 1 ≤ length args.now }
     ensures { Answers view result (reject_answer (view input.now) (map view args.now)) }
@@ -38,7 +43,8 @@ pub(crate) fn find_answer(alloc: Global, input: &Value, args: &[Value]) -> Resul
     first_wanted(alloc, items, name.as_str(), target_of(args.get(1)))
 }
 
-/// `find_index`: the place of the first of the maps that `reject` leaves out, counted from 0, or nil.
+/// `find_index`: the place of the first of the maps that `reject` leaves out, counted from 0, or
+/// nil.
 pub(crate) fn find_index_answer(alloc: Global, input: &Value, args: &[Value]) -> Result<Value>
     requires { 1 ≤ length args.now }
     ensures { Answers view result (find_index_answer (view input.now) (map view args.now)) }

@@ -3,7 +3,9 @@ ghost use Rattle.std.specs.Prelude.{◌≡◌, option_map};
 ghost use Rattle.liquid_model.specs.Answer.{Answers, IsValueOrMemory};
 ghost use Rattle.liquid_model.specs.Data.{text};
 ghost use Rattle.liquid_model.specs.View.{view};
-ghost use Rattle.liquid_shopify_host_filters.specs.Money.{amount_answer, cents_of, in_format, money, money_answer, trimmed, trimmed_answer};
+ghost use Rattle.liquid_shopify_host_filters.specs.Money.{amount_answer, cents_of, in_format};
+ghost use Rattle.liquid_shopify_host_filters.specs.Money.{money, money_answer, trimmed};
+ghost use Rattle.liquid_shopify_host_filters.specs.Money.{trimmed_answer};
 ghost use Rattle.liquid_shopify_host_filters.specs.Styles.{point, style_named, thousands};
 
 use crate::amount::{amount, whole_amount};
@@ -11,7 +13,8 @@ use liquid_core::{Result, Value};
 use liquid_filter_base::invalid_input;
 use std::alloc::Global;
 
-/// How an amount is written, by the name of the placeholder that stands for it in a shop's settings.
+/// How an amount is written, by the name of the placeholder that stands for it in a shop's
+/// settings.
 #[derive(Clone, Copy, Drop)]
 pub enum MoneyStyle {
     /// `amount`: `1,134.65`.
@@ -89,7 +92,8 @@ impl MoneyStyle {
     }
 }
 
-/// How an amount with its currency is written: `$ {{amount}} USD` is `$ `, the style `Amount` and ` USD`.
+/// How an amount with its currency is written: `$ {{amount}} USD` is `$ `, the style `Amount` and
+/// ` USD`.
 #[derive(Drop)]
 pub struct MoneyFormat {
     /// What stands before the amount.
@@ -100,8 +104,8 @@ pub struct MoneyFormat {
     pub after: String,
 }
 
-/// `money`, and `money_with_currency` with another format: an amount of whole cents. Nil gives the empty text, and any other
-/// input without a whole number is `InvalidInput`.
+/// `money`, and `money_with_currency` with another format: an amount of whole cents. Nil gives the
+/// empty text, and any other input without a whole number is `InvalidInput`.
 pub(crate) fn money_answer(alloc: Global, format: &MoneyFormat, input: &Value) -> Result<Value>
     ensures { Answers view result (money_answer format.now (view input.now)) }
 {
@@ -121,7 +125,7 @@ pub(crate) fn amount_answer(alloc: Global, format: &MoneyFormat, input: &Value) 
     }
 }
 
-/// `money_without_trailing_zeros`: as `money`, but an amount of whole units has no cents behind it.
+/// `money_without_trailing_zeros`: as `money`, but an amount of whole units has no cents after it.
 pub(crate) fn trimmed_answer(alloc: Global, format: &MoneyFormat, input: &Value) -> Result<Value>
     ensures { Answers view result (trimmed_answer format.now (view input.now)) }
 {

@@ -3,7 +3,8 @@ ghost use Rattle.std.specs.Prelude.{◌≡◌, map, option_map, pos};
 ghost use Rattle.liquid_model.specs.Answer.{Answers};
 ghost use Rattle.liquid_model.specs.Lists.{list_of};
 ghost use Rattle.liquid_model.specs.View.{view, items_view};
-ghost use Rattle.liquid_shopify_host_filters.specs.Sums.{added, sum_answer, summand, summand_of, term, total};
+ghost use Rattle.liquid_shopify_host_filters.specs.Sums.{added, sum_answer, summand, summand_of};
+ghost use Rattle.liquid_shopify_host_filters.specs.Sums.{term, total};
 
 use crate::lists::property;
 use liquid_core::{Error, ErrorKind, Result, Value};
@@ -11,9 +12,9 @@ use liquid_filter_base::{invalid_input, text_of};
 use liquid_list_filters::sequence;
 use std::alloc::Global;
 
-/// `sum`: the sum of a list's whole numbers, or of those that its maps have under the argument. Nil, truth values and maps count
-/// as 0. A text that is no whole number, or a list in the list, is `InvalidInput`, and a sum beyond 64 bits on the way
-/// `NumberRange`.
+/// `sum`: the sum of a list's whole numbers, or of those that its maps have under the argument.
+/// Nil, truth values and maps count as 0. A text that is no whole number, or a list in the list, is
+/// `InvalidInput`, and a sum beyond 64 bits on the way `NumberRange`.
 pub(crate) fn sum_answer(alloc: Global, input: &Value, args: &[Value]) -> Result<Value>
     ensures { Answers view result (sum_answer (view input.now) (map view args.now)) }
 {

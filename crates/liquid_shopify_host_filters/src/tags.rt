@@ -2,7 +2,12 @@
 ghost use Rattle.std.specs.Prelude.{◌≡◌, true, map, string_bytes};
 ghost use Rattle.liquid_model.specs.Answer.{Answers, IsValueOrMemory};
 ghost use Rattle.liquid_model.specs.View.{view};
-ghost use Rattle.liquid_shopify_host_filters.specs.Tags.{has_tag, highlight_answer, joint, link_to_add_tag_answer, link_to_remove_tag_answer, link_to_tag_answer, other_tags, tag_link, with_tag, within, within_answer, within_handle};
+ghost use Rattle.liquid_shopify_host_filters.specs.Tags.{has_tag, highlight_answer, joint};
+ghost use Rattle.liquid_shopify_host_filters.specs.Tags.{link_to_add_tag_answer};
+ghost use Rattle.liquid_shopify_host_filters.specs.Tags.{link_to_remove_tag_answer};
+ghost use Rattle.liquid_shopify_host_filters.specs.Tags.{link_to_tag_answer, other_tags, tag_link};
+ghost use Rattle.liquid_shopify_host_filters.specs.Tags.{with_tag, within, within_answer};
+ghost use Rattle.liquid_shopify_host_filters.specs.Tags.{within_handle};
 
 use crate::argument::text_or;
 use crate::lists::property;
@@ -27,7 +32,8 @@ pub(crate) fn link_to_tag_answer(
     Ok(Value::Text(link))
 }
 
-/// `link_to_add_tag`: the input's text as a link to the products of the page's tags and the argument's.
+/// `link_to_add_tag`: the input's text as a link to the products of the page's tags and the
+/// argument's.
 pub(crate) fn link_to_add_tag_answer(
     alloc: Global,
     shop: &Shop,
@@ -43,7 +49,8 @@ pub(crate) fn link_to_add_tag_answer(
     Ok(Value::Text(tag_link(alloc, shop, label.as_str(), tag.as_str(), tags.as_str())?))
 }
 
-/// `link_to_remove_tag`: the input's text as a link to the products of the page's tags but for the argument's.
+/// `link_to_remove_tag`: the input's text as a link to the products of the page's tags but for the
+/// argument's.
 pub(crate) fn link_to_remove_tag_answer(
     alloc: Global,
     shop: &Shop,
@@ -59,8 +66,8 @@ pub(crate) fn link_to_remove_tag_answer(
     Ok(Value::Text(tag_link(alloc, shop, label.as_str(), tag.as_str(), tags.as_str())?))
 }
 
-/// `highlight_active_tag`: the input's text as one of the page's tags, marked with the argument's class or `active`; any other input
-/// stays as it is.
+/// `highlight_active_tag`: the input's text as one of the page's tags, marked with the argument's
+/// class or `active`; any other input stays as it is.
 pub(crate) fn highlight_answer(
     alloc: Global,
     shop: &Shop,
@@ -81,8 +88,8 @@ pub(crate) fn highlight_answer(
     }
 }
 
-/// `within`: the input's text as an address within the collection that the argument is, by its `handle`; without one the input's
-/// text.
+/// `within`: the input's text as an address within the collection that the argument is, by its
+/// `handle`; without one the input's text.
 pub(crate) fn within_answer(alloc: Global, input: &Value, args: &[Value]) -> Result<Value>
     ensures { Answers view result (within_answer (view input.now) (map view args.now)) }
 {
@@ -104,7 +111,8 @@ fn within(alloc: Global, url: &str, collection: &Value) -> Result<String>
 }
 
 fn within_handle(alloc: Global, url: &str, handle: &Value) -> Result<String>
-    ensures { IsValueOrMemory (λ s. string_bytes s) result (within_handle url.now (view handle.now)) }
+    ensures { IsValueOrMemory (λ s. string_bytes s) result
+        (within_handle url.now (view handle.now)) }
 {
     let handle = text_of(alloc, handle)?;
     let handle = handle.as_str();
@@ -122,7 +130,7 @@ fn tag_link(alloc: Global, shop: &Shop, label: &str, tag: &str, tags: &str) -> R
     )?)
 }
 
-/// The other tags of the page, each with a `+` behind it, and then this one.
+/// The other tags of the page, each with a `+` after it, and then this one.
 fn with_tag(alloc: Global, tags: &Vec<String>, tag: &str) -> Result<String>
     ensures { IsValueOrMemory (λ s. string_bytes s) result
         (with_tag (map string_bytes tags.now.items) tag.now) }

@@ -2,15 +2,16 @@
 ghost use Rattle.std.specs.Prelude.{map, string_bytes};
 ghost use Rattle.liquid_model.specs.Answer.{Answers, IsValueOrMemory};
 ghost use Rattle.liquid_model.specs.View.{view};
-ghost use Rattle.liquid_shopify_host_filters.specs.Last.{remove_last_answer, replace_last_answer, replaced_last};
+ghost use Rattle.liquid_shopify_host_filters.specs.Last.{remove_last_answer, replace_last_answer};
+ghost use Rattle.liquid_shopify_host_filters.specs.Last.{replaced_last};
 
 use crate::argument::text_or;
 use liquid_core::{Result, Value};
 use liquid_filter_base::text_of;
 use std::alloc::Global;
 
-/// `replace_last`: the input's text with the last occurrence of the first argument's text replaced by the second's. The empty text
-/// occurs at the end.
+/// `replace_last`: the input's text with the last occurrence of the first argument's text replaced
+/// by the second's. The empty text occurs at the end.
 pub(crate) fn replace_last_answer(alloc: Global, input: &Value, args: &[Value]) -> Result<Value>
     ensures { Answers view result (replace_last_answer (view input.now) (map view args.now)) }
 {

@@ -2,14 +2,16 @@
 ghost use Rattle.std.specs.Prelude.{string_bytes};
 ghost use Rattle.liquid_model.specs.Answer.{Answers, IsValueOrMemory};
 ghost use Rattle.liquid_model.specs.View.{view};
-ghost use Rattle.liquid_shopify_host_filters.specs.Urls.{collection_url, prefixed_answer, url_for_answer};
+ghost use Rattle.liquid_shopify_host_filters.specs.Urls.{collection_url, prefixed_answer};
+ghost use Rattle.liquid_shopify_host_filters.specs.Urls.{url_for_answer};
 
 use crate::words::{Wording, worded};
 use liquid_core::{Result, Value};
 use liquid_filter_base::text_of;
 use std::alloc::Global;
 
-/// `asset_url`, `global_asset_url` and `shopify_asset_url`: the input's text with the prefix of its folder before it.
+/// `asset_url`, `global_asset_url` and `shopify_asset_url`: the input's text with the prefix of its
+/// folder before it.
 pub(crate) fn prefixed_answer(alloc: Global, prefix: &String, input: &Value) -> Result<Value>
     ensures { Answers view result (prefixed_answer (string_bytes prefix.now) (view input.now)) }
 {

@@ -9,7 +9,8 @@ use liquid_core::{Result, Value};
 use liquid_filter_base::invalid_input;
 use std::alloc::Global;
 
-/// `weight_with_unit`: a weight of whole grams in kilograms. `InvalidInput` where the input has no whole number.
+/// `weight_with_unit`: a weight of whole grams in kilograms. `InvalidInput` where the input has no
+/// whole number.
 pub(crate) fn weight_answer(alloc: Global, input: &Value) -> Result<Value>
     ensures { Answers view result (weight_answer (view input.now)) }
 {

@@ -2,14 +2,16 @@
 ghost use Rattle.std.specs.Prelude.{string_bytes};
 ghost use Rattle.liquid_model.specs.Answer.{Answers};
 ghost use Rattle.liquid_model.specs.View.{view};
-ghost use Rattle.liquid_shopify_host_filters.specs.Wordings.{camelize_answer, handle_answer, squish_answer};
+ghost use Rattle.liquid_shopify_host_filters.specs.Wordings.{camelize_answer, handle_answer};
+ghost use Rattle.liquid_shopify_host_filters.specs.Wordings.{squish_answer};
 
 use crate::words::{Wording, worded};
 use liquid_core::{Result, Value};
 use liquid_filter_base::text_of;
 use std::alloc::Global;
 
-/// `handle` and `handleize`: the words of the input's text in lower case, with a hyphen between them.
+/// `handle` and `handleize`: the words of the input's text in lower case, with a hyphen between
+/// them.
 pub(crate) fn handle_answer(alloc: Global, input: &Value) -> Result<Value>
     ensures { Answers view result (handle_answer (view input.now)) }
 {

@@ -2,7 +2,9 @@
 ghost use Rattle.std.specs.Prelude.{◌≡◌, ◌++◌, string_bytes};
 ghost use Rattle.std.specs.Str.{encode_utf8_all};
 ghost use Rattle.liquid_model.specs.Answer.{IsValueOrMemory};
-ghost use Rattle.liquid_shopify_host_filters.specs.Words.{after, is_left_out, is_space, is_word, lead, place_of, separator, shaped, shown, worded_text};
+ghost use Rattle.liquid_shopify_host_filters.specs.Words.{after, is_left_out, is_space, is_word};
+ghost use Rattle.liquid_shopify_host_filters.specs.Words.{lead, place_of, separator, shaped, shown};
+ghost use Rattle.liquid_shopify_host_filters.specs.Words.{worded_text};
 
 use liquid_core::Result;
 use std::alloc::Global;
@@ -10,9 +12,11 @@ use std::alloc::Global;
 /// What is made of a text's words.
 #[derive(Clone, Copy, Drop)]
 pub(crate) enum Wording {
-    /// Words of ASCII letters, digits and `_` in lower case, with a hyphen between them; quotes and brackets are left out.
+    /// Words of ASCII letters, digits and `_` in lower case, with a hyphen between them; quotes and
+    /// brackets are left out.
     Handle,
-    /// Words between hyphens, underscores and spaces, each with its first letter in upper case, joined by nothing.
+    /// Words between hyphens, underscores and spaces, each with its first letter in upper case,
+    /// joined by nothing.
     Camel,
     /// Words between white space, with a space between them.
     Squish,
@@ -54,7 +58,8 @@ pub(crate) fn worded(alloc: Global, wording: Wording, text: &str) -> Result<Stri
     Ok(out)
 }
 
-/// Appends what is written of a character: of a word's, itself in its shape, and before a further word what stands between words.
+/// Appends what is written of a character: of a word's, itself in its shape, and before a further
+/// word what stands between words.
 fn push_shown(out: &mut String, wording: Wording, state: State, letter: char) -> Result<()>
     ensures { IsValueOrMemory (λ _. string_bytes out.new) result
         (string_bytes out.old ++ encode_utf8_all (shown wording state letter)) }

@@ -1,4 +1,5 @@
-//! Shopify's filters, as a host hands them in: calls by their names, and the filters' own numbers of arguments.
+//! Shopify's filters, as a host hands them in: calls by their names, and the filters' own numbers
+//! of arguments.
 use crate::hosts::{called_in_turn, hosted_pages};
 use liquid_core::{Filter, HostFilters, Result};
 use liquid_shopify_host_filters::{MoneyFormat, MoneyStyle, SHOPIFY_FILTERS, Shop, ShopifyFilter};
@@ -6,7 +7,8 @@ use liquid_test_refusals::{Row, Told};
 use std::alloc::Global;
 use std::rc::Rc;
 
-/// The calls of the row, or its page, with all filters of the set in the shop of the engine's own themes.
+/// The calls of the row, or its page, with all filters of the set in the shop of the engine's own
+/// themes.
 pub(crate) fn shop_made<R: Print>(told: &Told<'_, R>, row: &Row) -> Result<()> {
     let alloc = told.alloc;
     let shop = Rc::new(alloc, shop(alloc)?)?;
@@ -37,7 +39,7 @@ fn shop(alloc: Global) -> Result<Shop> {
     })
 }
 
-/// An amount behind a `$`, with this behind it.
+/// An amount after a `$`, with this after it.
 fn dollars(alloc: Global, after: &str) -> Result<MoneyFormat> {
     Ok(MoneyFormat {
         before: String::from_str(alloc, "$ ")?,

@@ -6,7 +6,8 @@ use std::rc::Rc;
 
 /// A page whose template calls filters of the set.
 pub(crate) fn shop_page(alloc: Global) -> Result<String> {
-    // Each filter gets its name in the language, and is made where it is handed in: a `dyn` can't be made elsewhere.
+    // Each filter gets its name in the language, and is made where it is handed in: a `dyn` can't
+    // be made elsewhere.
     let shop = Rc::new(alloc, shop(alloc)?)?;
     let mut language = language(alloc)?;
     let mut filters = Vec::new(alloc);
@@ -43,7 +44,7 @@ fn shop(alloc: Global) -> Result<Shop> {
     })
 }
 
-/// An amount as `1.134,65`, with this behind it.
+/// An amount as `1.134,65`, with this after it.
 fn euros(alloc: Global, after: &str) -> Result<MoneyFormat> {
     Ok(MoneyFormat {
         before: String::new(alloc),
