@@ -33,7 +33,8 @@ abbrev pub limit_code : Coded LimitReached
 limit_code = code_by Bool coded_bool by_turns limit_of limit_back
 
 pub Begins-prop : (front whole : Text) → IsProp (Begins front whole)
-Begins-prop front whole a b = Σ_prop_path (λ (rest : Text). Coded-set text_code (front ++ rest) whole)
+Begins-prop front whole a b =
+    Σ_prop_path (λ (rest : Text). Coded-set text_code (front ++ rest) whole)
     (append_cancel_left front a.0 b.0 (a.1 ∙ sym b.1))
 
 none_is : {X : Type 0} (o : Option X) → o ≡ None → IsSome o → ⊥

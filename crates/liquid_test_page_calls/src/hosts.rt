@@ -28,7 +28,11 @@ pub(crate) fn hosted<R: Print>(told: &Told<'_, R>, row: &Row) -> Result<()> {
 }
 
 /// The page of the row, with the filters of the host unless it lacks them.
-fn hosted_pages<R: Print>(told: &Told<'_, R>, row: &Row, host: &HostFilters) -> Result<()> {
+pub(crate) fn hosted_pages<R: Print>(
+    told: &Told<'_, R>,
+    row: &Row,
+    host: &HostFilters,
+) -> Result<()> {
     let lent = match option(&row.on, "lacks_filters") {
         Some(_) => None,
         None => Some(host),
@@ -38,7 +42,11 @@ fn hosted_pages<R: Print>(told: &Told<'_, R>, row: &Row, host: &HostFilters) -> 
 
 /// Calls the filters of the host. Each step is a list: the call, the filter's name, the input, the
 /// arguments, and the answer or the kind of the fault.
-fn called_in_turn<R: Print>(told: &Told<'_, R>, host: &HostFilters, steps: &Value) -> Result<()> {
+pub(crate) fn called_in_turn<R: Print>(
+    told: &Told<'_, R>,
+    host: &HostFilters,
+    steps: &Value,
+) -> Result<()> {
     for step in items(steps) {
         told.begin();
         let answer = called(told.alloc, host, step);

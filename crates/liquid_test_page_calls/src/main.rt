@@ -22,6 +22,7 @@ mod limits;
 mod pages;
 mod registers;
 mod runtimes;
+mod shops;
 mod writers;
 
 use crate::examples::example;
@@ -30,6 +31,7 @@ use crate::limits::limited_made;
 use crate::pages::{pages_made, rendering_made};
 use crate::registers::{forloop, has_filter, registered};
 use crate::runtimes::runtime_made;
+use crate::shops::shop_made;
 use liquid_core::{Object, Result, Value};
 use liquid_test_refusals::{Row, Told, flag, read_row, text};
 use std::alloc::Global;
@@ -71,6 +73,7 @@ fn row_made<R: Print>(told: &Told<'_, R>, line: &str, row: &Row, data: Object) -
         "page" => pages_made(told, row, data, None),
         "rendering" => rendering_made(told, row, data, None),
         "hosted page" | "filters" => hosted(told, row),
+        "shopify filters" | "shopify page" => shop_made(told, row),
         "limited page" => limited_made(told, row, data),
         "runtime" => runtime_made(told, row, data),
         "registers" => registered(told, row),

@@ -1,0 +1,7 @@
+use Rattle.std.proofs.Common.{◌≡◌, drop, map, string_bytes}
+use Rattle.liquid_shopify_host_filters.specs.Tags.{has_tag}
+use Rattle.liquid_shopify_host_filters.proofs.tags.has_tag.Given as goal
+
+abbrev pub invariant-loop-known : goal.invariant-loop-known
+invariant-loop-known l =
+    has_tag (map string_bytes l.known-items) l.tag ≡ has_tag (map string_bytes (drop l.known-index l.known-items)) l.tag

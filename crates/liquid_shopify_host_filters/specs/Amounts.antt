@@ -1,0 +1,54 @@
+-- Amounts of money as texts.
+use Rattle.std.specs.Prelude.{unsigned_abs, ℕ, suc, ◌+◌, ◌/◌, ◌%◌, ◌==◌, ◌&&◌, nat_lt, ℤ, pos}
+use Rattle.std.specs.Prelude.{negsuc, List, [], ◌∷◌, ◌++◌, length, Option, Some, None, codes}
+use Rattle.std.specs.Prelude.{if◌then◌else◌}
+use Rattle.std.specs.Fmt.{decimal}
+use Rattle.liquid_model.specs.Texts.{Text}
+use Rattle.liquid_shopify_host_filters.specs.Styles.{point, thousands}
+use Rattle.liquid_shopify_host_filters.specs.declared.money.MoneyStyle.{MoneyStyle}
+
+-- a separator stands before n digits where these are groups of three
+abbrev pub separator_at : Text → ℕ → Text
+separator_at separator n = if nat_lt 0 n && (n % 3 == 0) then separator else []
+
+-- digits with a separator between groups of three, counted from the last
+abbrev pub grouped : Text → Text → Text
+grouped separator [] = []
+grouped separator (d ∷ ds) = d ∷ (separator_at separator (length ds) ++ grouped separator ds)
+
+abbrev pub two_digits : ℕ → Text
+two_digits n = decimal (n / 10) ++ decimal (n % 10)
+
+-- the sign of what is written: none where that is rounded to 0
+abbrev pub sign : Option Text → ℤ → Text
+sign p (pos n) = []
+sign (Some p) (negsuc n) = codes "-"
+sign None (negsuc n) = if nat_lt n 49 then [] else codes "-"
+
+-- the units of n cents: rounded, half of one up, where no cents are written
+abbrev pub units_of : Option Text → ℕ → ℕ
+units_of (Some p) n = n / 100
+units_of None n = (n + 50) / 100
+
+-- the cents with the point before them, where they are written
+abbrev pub cents_text : Option Text → ℕ → Text
+cents_text (Some p) n = p ++ two_digits n
+cents_text None n = []
+
+-- the units of n cents in a style
+abbrev pub units_text : MoneyStyle → ℕ → Text
+units_text style n = grouped (thousands style) (decimal (units_of (point style) n))
+
+-- an amount of cents: sign, units and cents
+abbrev pub amount_of : MoneyStyle → ℤ → Text
+amount_of style z =
+    (sign (point style) z ++ units_text style (unsigned_abs z))
+    ++ cents_text (point style) (unsigned_abs z % 100)
+
+abbrev pub minus : ℤ → Text
+minus (pos n) = []
+minus (negsuc n) = codes "-"
+
+-- the whole units of an amount of cents
+abbrev pub whole_amount : MoneyStyle → ℤ → Text
+whole_amount style z = minus z ++ grouped (thousands style) (decimal (unsigned_abs z / 100))

@@ -1,0 +1,113 @@
+-- What each filter answers.
+use Rattle.std.specs.Prelude.{List, map, string_bytes}
+use Rattle.liquid_model.specs.Data.{Datum}
+use Rattle.liquid_model.specs.Texts.{Text}
+use Rattle.liquid_filter_base.specs.Arguments.{Answer}
+use Rattle.liquid_shopify_host_filters.specs.Codecs.{decode_answer, encode_answer}
+use Rattle.liquid_shopify_host_filters.specs.Codecs.{hmac_sha256_answer, md5_answer, sha1_answer}
+use Rattle.liquid_shopify_host_filters.specs.Codecs.{sha256_answer}
+use Rattle.liquid_shopify_host_filters.specs.Html.{img_tag_answer, link_to_answer}
+use Rattle.liquid_shopify_host_filters.specs.Html.{link_to_collection_answer, script_tag_answer}
+use Rattle.liquid_shopify_host_filters.specs.Html.{stylesheet_tag_answer}
+use Rattle.liquid_shopify_host_filters.specs.Images.{product_img_url_answer}
+use Rattle.liquid_shopify_host_filters.specs.JsonTexts.{json_answer}
+use Rattle.liquid_shopify_host_filters.specs.Last.{remove_last_answer, replace_last_answer}
+use Rattle.liquid_shopify_host_filters.specs.Lookups.{find_answer, find_index_answer, has_answer}
+use Rattle.liquid_shopify_host_filters.specs.Lookups.{reject_answer}
+use Rattle.liquid_shopify_host_filters.specs.Money.{amount_answer, money_answer, trimmed_answer}
+use Rattle.liquid_shopify_host_filters.specs.Sums.{sum_answer}
+use Rattle.liquid_shopify_host_filters.specs.Tags.{highlight_answer, link_to_add_tag_answer}
+use Rattle.liquid_shopify_host_filters.specs.Tags.{link_to_remove_tag_answer, link_to_tag_answer}
+use Rattle.liquid_shopify_host_filters.specs.Tags.{within_answer}
+use Rattle.liquid_shopify_host_filters.specs.Urls.{prefixed_answer, url_for_answer}
+use Rattle.liquid_shopify_host_filters.specs.Weights.{weight_answer}
+use Rattle.liquid_shopify_host_filters.specs.Wordings.{camelize_answer, handle_answer}
+use Rattle.liquid_shopify_host_filters.specs.Wordings.{squish_answer}
+use Rattle.liquid_shopify_host_filters.specs.declared.kind.ShopifyKind.{ShopifyKind}
+use Rattle.liquid_shopify_host_filters.specs.declared.kind.ShopifyKind.TheVariants.{AssetUrl}
+use Rattle.liquid_shopify_host_filters.specs.declared.kind.ShopifyKind.TheVariants.{Base64Decode}
+use Rattle.liquid_shopify_host_filters.specs.declared.kind.ShopifyKind.TheVariants.{Base64Encode}
+use Rattle.liquid_shopify_host_filters.specs.declared.kind.ShopifyKind.TheVariants.{Camelize, Find}
+use Rattle.liquid_shopify_host_filters.specs.declared.kind.ShopifyKind.TheVariants.{FindIndex}
+use Rattle.liquid_shopify_host_filters.specs.declared.kind.ShopifyKind.TheVariants.{GlobalAssetUrl}
+use Rattle.liquid_shopify_host_filters.specs.declared.kind.ShopifyKind.TheVariants.{Handle}
+use Rattle.liquid_shopify_host_filters.specs.declared.kind.ShopifyKind.TheVariants.{Handleize, Has}
+use Rattle.liquid_shopify_host_filters.specs.declared.kind.ShopifyKind.TheVariants.{HighlightActiveTag}
+use Rattle.liquid_shopify_host_filters.specs.declared.kind.ShopifyKind.TheVariants.{HmacSha256}
+use Rattle.liquid_shopify_host_filters.specs.declared.kind.ShopifyKind.TheVariants.{ImgTag, Json}
+use Rattle.liquid_shopify_host_filters.specs.declared.kind.ShopifyKind.TheVariants.{LinkTo}
+use Rattle.liquid_shopify_host_filters.specs.declared.kind.ShopifyKind.TheVariants.{LinkToAddTag}
+use Rattle.liquid_shopify_host_filters.specs.declared.kind.ShopifyKind.TheVariants.{LinkToRemoveTag}
+use Rattle.liquid_shopify_host_filters.specs.declared.kind.ShopifyKind.TheVariants.{LinkToTag}
+use Rattle.liquid_shopify_host_filters.specs.declared.kind.ShopifyKind.TheVariants.{LinkToType}
+use Rattle.liquid_shopify_host_filters.specs.declared.kind.ShopifyKind.TheVariants.{LinkToVendor}
+use Rattle.liquid_shopify_host_filters.specs.declared.kind.ShopifyKind.TheVariants.{Md5, Money}
+use Rattle.liquid_shopify_host_filters.specs.declared.kind.ShopifyKind.TheVariants.{MoneyWithCurrency}
+use Rattle.liquid_shopify_host_filters.specs.declared.kind.ShopifyKind.TheVariants.{MoneyWithoutCurrency}
+use Rattle.liquid_shopify_host_filters.specs.declared.kind.ShopifyKind.TheVariants.{MoneyWithoutTrailingZeros}
+use Rattle.liquid_shopify_host_filters.specs.declared.kind.ShopifyKind.TheVariants.{ProductImgUrl}
+use Rattle.liquid_shopify_host_filters.specs.declared.kind.ShopifyKind.TheVariants.{Reject}
+use Rattle.liquid_shopify_host_filters.specs.declared.kind.ShopifyKind.TheVariants.{RemoveLast}
+use Rattle.liquid_shopify_host_filters.specs.declared.kind.ShopifyKind.TheVariants.{ReplaceLast}
+use Rattle.liquid_shopify_host_filters.specs.declared.kind.ShopifyKind.TheVariants.{ScriptTag, Sha1}
+use Rattle.liquid_shopify_host_filters.specs.declared.kind.ShopifyKind.TheVariants.{Sha256}
+use Rattle.liquid_shopify_host_filters.specs.declared.kind.ShopifyKind.TheVariants.{ShopifyAssetUrl}
+use Rattle.liquid_shopify_host_filters.specs.declared.kind.ShopifyKind.TheVariants.{Squish}
+use Rattle.liquid_shopify_host_filters.specs.declared.kind.ShopifyKind.TheVariants.{StylesheetTag}
+use Rattle.liquid_shopify_host_filters.specs.declared.kind.ShopifyKind.TheVariants.{Sum, UrlForType}
+use Rattle.liquid_shopify_host_filters.specs.declared.kind.ShopifyKind.TheVariants.{UrlForVendor}
+use Rattle.liquid_shopify_host_filters.specs.declared.kind.ShopifyKind.TheVariants.{WeightWithUnit}
+use Rattle.liquid_shopify_host_filters.specs.declared.kind.ShopifyKind.TheVariants.{Within}
+use Rattle.liquid_shopify_host_filters.specs.declared.shop.Shop.{Shop}
+
+-- the tags of a page, and the handle of its collection
+abbrev pub tags_of : Shop → List Text
+tags_of shop = map string_bytes shop.tags.items
+
+abbrev pub collection_of : Shop → Text
+collection_of shop = string_bytes shop.collection
+
+-- a filter's answer in a shop, to an input and arguments
+abbrev pub answer_of : ShopifyKind → Shop → Datum → List Datum → Answer
+answer_of AssetUrl shop d args = prefixed_answer (string_bytes shop.assets) d
+answer_of Base64Decode shop d args = decode_answer d
+answer_of Base64Encode shop d args = encode_answer d
+answer_of Camelize shop d args = camelize_answer d
+answer_of Find shop d args = find_answer d args
+answer_of FindIndex shop d args = find_index_answer d args
+answer_of GlobalAssetUrl shop d args = prefixed_answer (string_bytes shop.global_assets) d
+answer_of Handle shop d args = handle_answer d
+answer_of Handleize shop d args = handle_answer d
+answer_of Has shop d args = has_answer d args
+answer_of HighlightActiveTag shop d args = highlight_answer (tags_of shop) d args
+answer_of HmacSha256 shop d args = hmac_sha256_answer d args
+answer_of ImgTag shop d args = img_tag_answer d args
+answer_of Json shop d args = json_answer d
+answer_of LinkTo shop d args = link_to_answer d args
+answer_of LinkToAddTag shop d args =
+    link_to_add_tag_answer (collection_of shop) (tags_of shop) d args
+answer_of LinkToRemoveTag shop d args = link_to_remove_tag_answer (collection_of shop)
+    (tags_of shop) d args
+answer_of LinkToTag shop d args = link_to_tag_answer (collection_of shop) d args
+answer_of LinkToType shop d args = link_to_collection_answer d
+answer_of LinkToVendor shop d args = link_to_collection_answer d
+answer_of Md5 shop d args = md5_answer d
+answer_of Money shop d args = money_answer shop.money d
+answer_of MoneyWithCurrency shop d args = money_answer shop.money_with_currency d
+answer_of MoneyWithoutCurrency shop d args = amount_answer shop.money d
+answer_of MoneyWithoutTrailingZeros shop d args = trimmed_answer shop.money d
+answer_of ProductImgUrl shop d args = product_img_url_answer (string_bytes shop.images) d args
+answer_of Reject shop d args = reject_answer d args
+answer_of RemoveLast shop d args = remove_last_answer d args
+answer_of ReplaceLast shop d args = replace_last_answer d args
+answer_of ScriptTag shop d args = script_tag_answer d
+answer_of Sha1 shop d args = sha1_answer d
+answer_of Sha256 shop d args = sha256_answer d
+answer_of ShopifyAssetUrl shop d args = prefixed_answer (string_bytes shop.shopify_assets) d
+answer_of Squish shop d args = squish_answer d
+answer_of StylesheetTag shop d args = stylesheet_tag_answer d args
+answer_of Sum shop d args = sum_answer d args
+answer_of UrlForType shop d args = url_for_answer d
+answer_of UrlForVendor shop d args = url_for_answer d
+answer_of WeightWithUnit shop d args = weight_answer d
+answer_of Within shop d args = within_answer d args

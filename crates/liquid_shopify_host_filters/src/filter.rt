@@ -1,0 +1,100 @@
+//! The filters as one type.
+ghost use Rattle.std.specs.Prelude.{◌≡◌, IsTrue, length, map};
+ghost use Rattle.liquid_model.specs.Answer.{Answers};
+ghost use Rattle.liquid_model.specs.View.{view};
+ghost use Rattle.liquid_shopify_host_filters.specs.Answers.{answer_of};
+ghost use Rattle.liquid_shopify_host_filters.specs.Kinds.{takes};
+
+use crate::kind::ShopifyKind;
+use crate::shop::Shop;
+use crate::{
+    codec, html, images, json_text, lists, money, sums, tags, texts, urls, weight, wording,
+};
+use liquid_core::{Filter, Result, Value};
+use std::alloc::Global;
+use std::rc::Rc;
+
+/// A filter of this set, over what it has to know of a shop. All filters of a page share the shop.
+///
+/// What each answers is told beside its kind in the guide. `InvalidInput` where the input isn't of
+/// the kind that is needed, and `NumberRange` where a sum is beyond 64 bits.
+#[derive(Drop)]
+pub struct ShopifyFilter {
+    /// Which filter it is.
+    pub kind: ShopifyKind,
+    /// What it knows of the shop.
+    pub shop: Rc<Shop>,
+}
+
+impl Filter for ShopifyFilter {
+    ghost counts = { λ f n. takes f.kind n };
+
+    ghost answer = { λ f. answer_of f.kind f.shop.value };
+
+    fn accepts(&self, count: usize) -> bool {
+        self.kind.least() <= count && count <= self.kind.most()
+    }
+
+    fn evaluate(&self, alloc: Global, input: &Value, args: &[Value]) -> Result<Value> {
+        answered(alloc, self.kind, &self.shop, input, args)
+    }
+}
+
+/// What the filter answers.
+fn answered(
+    alloc: Global,
+    kind: ShopifyKind,
+    shop: &Shop,
+    input: &Value,
+    args: &[Value],
+) -> Result<Value>
+    requires { IsTrue (takes kind (length args.now)) }
+    ensures { Answers view result (answer_of kind shop.now (view input.now) (map view args.now)) }
+{
+    match kind {
+        ShopifyKind::AssetUrl => urls::prefixed_answer(alloc, &shop.assets, input),
+        ShopifyKind::Base64Decode => codec::decode_answer(alloc, input),
+        ShopifyKind::Base64Encode => codec::encode_answer(alloc, input),
+        ShopifyKind::Camelize => wording::camelize_answer(alloc, input),
+        ShopifyKind::Find => lists::find_answer(alloc, input, args),
+        ShopifyKind::FindIndex => lists::find_index_answer(alloc, input, args),
+        ShopifyKind::GlobalAssetUrl => urls::prefixed_answer(alloc, &shop.global_assets, input),
+        ShopifyKind::Handle => wording::handle_answer(alloc, input),
+        ShopifyKind::Handleize => wording::handle_answer(alloc, input),
+        ShopifyKind::Has => lists::has_answer(alloc, input, args),
+        ShopifyKind::HighlightActiveTag => tags::highlight_answer(alloc, shop, input, args),
+        ShopifyKind::HmacSha256 => codec::hmac_sha256_answer(alloc, input, args),
+        ShopifyKind::ImgTag => html::img_tag_answer(alloc, input, args),
+        ShopifyKind::Json => json_text::json_answer(alloc, input),
+        ShopifyKind::LinkTo => html::link_to_answer(alloc, input, args),
+        ShopifyKind::LinkToAddTag => tags::link_to_add_tag_answer(alloc, shop, input, args),
+        ShopifyKind::LinkToRemoveTag => tags::link_to_remove_tag_answer(alloc, shop, input, args),
+        ShopifyKind::LinkToTag => tags::link_to_tag_answer(alloc, shop, input, args),
+        ShopifyKind::LinkToType => html::link_to_collection_answer(alloc, input),
+        ShopifyKind::LinkToVendor => html::link_to_collection_answer(alloc, input),
+        ShopifyKind::Md5 => codec::md5_answer(alloc, input),
+        ShopifyKind::Money => money::money_answer(alloc, &shop.money, input),
+        ShopifyKind::MoneyWithCurrency => {
+            money::money_answer(alloc, &shop.money_with_currency, input)
+        }
+        ShopifyKind::MoneyWithoutCurrency => money::amount_answer(alloc, &shop.money, input),
+        ShopifyKind::MoneyWithoutTrailingZeros => money::trimmed_answer(alloc, &shop.money, input),
+        ShopifyKind::ProductImgUrl => {
+            images::product_img_url_answer(alloc, &shop.images, input, args)
+        }
+        ShopifyKind::Reject => lists::reject_answer(alloc, input, args),
+        ShopifyKind::RemoveLast => texts::remove_last_answer(alloc, input, args),
+        ShopifyKind::ReplaceLast => texts::replace_last_answer(alloc, input, args),
+        ShopifyKind::ScriptTag => html::script_tag_answer(alloc, input),
+        ShopifyKind::Sha1 => codec::sha1_answer(alloc, input),
+        ShopifyKind::Sha256 => codec::sha256_answer(alloc, input),
+        ShopifyKind::ShopifyAssetUrl => urls::prefixed_answer(alloc, &shop.shopify_assets, input),
+        ShopifyKind::Squish => wording::squish_answer(alloc, input),
+        ShopifyKind::StylesheetTag => html::stylesheet_tag_answer(alloc, input, args),
+        ShopifyKind::Sum => sums::sum_answer(alloc, input, args),
+        ShopifyKind::UrlForType => urls::url_for_answer(alloc, input),
+        ShopifyKind::UrlForVendor => urls::url_for_answer(alloc, input),
+        ShopifyKind::WeightWithUnit => weight::weight_answer(alloc, input),
+        ShopifyKind::Within => tags::within_answer(alloc, input, args),
+    }
+}

@@ -1,0 +1,27 @@
+//! The filters that Shopify's templates call beside those of the language, for a host to hand in.
+#![tactic(auto)]
+
+mod amount;
+mod argument;
+mod codec;
+mod filter;
+mod html;
+mod images;
+mod json_text;
+mod kind;
+pub mod laws;
+mod lists;
+mod money;
+mod shop;
+mod sums;
+mod tags;
+mod texts;
+mod urls;
+mod weight;
+mod wording;
+mod words;
+
+pub use filter::ShopifyFilter;
+pub use kind::{SHOPIFY_FILTERS, ShopifyKind};
+pub use money::{MoneyFormat, MoneyStyle};
+pub use shop::Shop;

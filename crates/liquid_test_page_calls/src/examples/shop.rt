@@ -1,0 +1,54 @@
+//! How a host hands in Shopify's filters, all of one type. The guide shows this file.
+use liquid_lib::{Filter, HostFilters, Renderable, Result, RuntimeBuilder, language, parse};
+use liquid_shopify_host_filters::{MoneyFormat, MoneyStyle, SHOPIFY_FILTERS, Shop, ShopifyFilter};
+use std::alloc::Global;
+use std::rc::Rc;
+
+/// A page whose template calls filters of the set.
+pub(crate) fn shop_page(alloc: Global) -> Result<String> {
+    // Each filter gets its name in the language, and is made where it is handed in: a `dyn` can't
+    // be made elsewhere.
+    let shop = Rc::new(alloc, shop(alloc)?)?;
+    let mut language = language(alloc)?;
+    let mut filters = Vec::new(alloc);
+    for kind in SHOPIFY_FILTERS {
+        let name = String::from_str(alloc, kind.name())?;
+        language
+            .filters
+            .register_host(name, kind.least(), kind.most())?;
+        let shop = shop.clone()?;
+        let filter: Box<dyn Filter> = Box::new(alloc, ShopifyFilter { kind, shop })?;
+        filters.push((String::from_str(alloc, kind.name())?, filter))?;
+    }
+
+    let source = "{{ 'Green tea' | link_to: '/tea' }}: {{ 1999 | money }}";
+    let template = parse(alloc, source, &language)?;
+    let host = HostFilters::new(filters);
+    let mut runtime = RuntimeBuilder::new(alloc)
+        .set_host_filters(&host)
+        .build(alloc);
+    template.render(alloc, &mut runtime)
+}
+
+/// What the filters know of the shop.
+fn shop(alloc: Global) -> Result<Shop> {
+    Ok(Shop {
+        money: euros(alloc, " €")?,
+        money_with_currency: euros(alloc, " EUR")?,
+        assets: String::from_str(alloc, "/assets/")?,
+        global_assets: String::from_str(alloc, "/global/")?,
+        shopify_assets: String::from_str(alloc, "/shopify/")?,
+        images: String::from_str(alloc, "/images/")?,
+        collection: String::new(alloc),
+        tags: Vec::new(alloc),
+    })
+}
+
+/// An amount as `1.134,65`, with this after it.
+fn euros(alloc: Global, after: &str) -> Result<MoneyFormat> {
+    Ok(MoneyFormat {
+        before: String::new(alloc),
+        style: MoneyStyle::AmountWithCommaSeparator,
+        after: String::from_str(alloc, after)?,
+    })
+}
