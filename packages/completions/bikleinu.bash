@@ -12,11 +12,10 @@ _bikleinu() {
     bikleinu)
       local words=
       case ${COMP_WORDS[1]} in
-        render) words='--data --partials --out --max-bytes --max-turns --missing --help' ;;
-        paths) words='--partials --help' ;;
+        render) words='--data --partials --out --max-bytes --max-turns --help' ;;
         merge) words='--data --partials --out --separator --from --count --dry-run --progress --help' ;;
       esac
-      if [ "$COMP_CWORD" -eq 1 ]; then mapfile -t COMPREPLY < <(compgen -W 'render merge paths --help --version' -- "$word"); return; fi
+      if [ "$COMP_CWORD" -eq 1 ]; then mapfile -t COMPREPLY < <(compgen -W 'render merge --help --version' -- "$word"); return; fi
       if [ "${word:0:1}" = - ]; then mapfile -t COMPREPLY < <(compgen -W "$words" -- "$word"); return; fi
       ;;
   esac

@@ -30,8 +30,6 @@ pub struct RenderCall<'w> {
     pub inputs: Inputs<'w>,
     pub out: Option<&'w str>,
     pub limits: Limits,
-    /// Whether what is missing in the data is nil.
-    pub missing_is_nil: bool,
 }
 
 /// A call of `merge`.
@@ -59,8 +57,7 @@ pub fn program<'a>(alloc: Global) -> Result<Command<'a>, AllocError> {
         .subcommand_required(true)
         .arg_required_else_help(true)
         .subcommand(render_command(alloc)?)?
-        .subcommand(merge_command(alloc)?)?
-        .subcommand(paths_command(alloc)?)
+        .subcommand(merge_command(alloc)?)
 }
 
 fn render_command<'a>(alloc: Global) -> Result<Command<'a>, AllocError> {
@@ -73,7 +70,6 @@ fn render_command<'a>(alloc: Global) -> Result<Command<'a>, AllocError> {
         .arg(data_option(alloc))?
         .arg(partials_option(alloc))?
         .arg(out_option(alloc))?
-        .arg(missing_option(alloc))?
         .arg(limit_option(
             alloc,
             "max-bytes",
@@ -101,25 +97,6 @@ fn merge_command<'a>(alloc: Global) -> Result<Command<'a>, AllocError> {
         .arg(data_option(alloc))?
         .arg(partials_option(alloc))?;
     with_merge_options(alloc, command)
-}
-
-fn paths_command<'a>(alloc: Global) -> Result<Command<'a>, AllocError> {
-    Command::new(alloc, "paths")
-        .about("Prints what a template asks of its data, a path on each line")
-        .after_help(STATUSES)
-        .arg(template_word(alloc))?
-        .arg(partials_option(alloc))
-}
-
-/// What a missing value may be.
-static MISSING: [&str; 1] = ["nil"];
-
-fn missing_option<'a>(alloc: Global) -> Arg<'a> {
-    Arg::new(alloc, "missing")
-        .long("missing")
-        .value_name("VALUE")
-        .value_parser(MISSING.as_slice())
-        .help("Gives what the template asks for and the data lacks this value, in place of a fault")
 }
 
 fn pattern_option<'a>(alloc: Global) -> Arg<'a> {
@@ -214,13 +191,7 @@ pub fn render_call<'w>(alloc: Global, given: &ArgMatches<'w>) -> Result<RenderCa
         inputs: inputs_of(alloc, given, None)?,
         out: given.get_str("out"),
         limits,
-        missing_is_nil: given.contains_id("missing"),
     })
-}
-
-/// What the words of `paths` ask for.
-pub fn paths_call<'w>(alloc: Global, given: &ArgMatches<'w>) -> Result<Inputs<'w>, Stop> {
-    inputs_of(alloc, given, None)
 }
 
 /// What the words of `merge` ask for.

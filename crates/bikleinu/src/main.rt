@@ -1,4 +1,4 @@
-//! Liquid templates on the command line: `bikleinu render ..`, `merge ..` and `paths ..`.
+//! Liquid templates on the command line: `bikleinu render ..` and `bikleinu merge ..`.
 #![tactic(auto)]
 
 mod command;
@@ -7,7 +7,6 @@ mod folder;
 mod input;
 mod merge;
 mod output;
-mod paths;
 mod progress;
 mod records;
 mod render;
@@ -16,9 +15,8 @@ mod sources;
 mod stop;
 mod target;
 
-use crate::command::{merge_call, paths_call, program, render_call};
+use crate::command::{merge_call, program, render_call};
 use crate::merge::merge;
-use crate::paths::paths;
 use crate::render::render;
 use crate::stop::Stop;
 use clap::error::ErrorKind;
@@ -47,7 +45,6 @@ fn run(rt: &HostRuntime) -> Result<(), Stop> {
     match matches.subcommand() {
         Some(("render", given)) => render(rt, &render_call(rt.alloc(), given)?),
         Some(("merge", given)) => merge(rt, &merge_call(rt.alloc(), given)?),
-        Some(("paths", given)) => paths(rt, &paths_call(rt.alloc(), given)?),
         _ => Err(Stop::Usage("there is no such command")),
     }
 }

@@ -3,9 +3,7 @@ use crate::command::RenderCall;
 use crate::output::{print_text, put_file};
 use crate::sources::{Sources, read_parts};
 use crate::stop::Stop;
-use liquid_completion::complete;
 use liquid_lib::{LimitReached, LimitedPage, Limits, Page, render_page_within};
-use liquid_uses::uses_of;
 
 /// How deep partials may be nested.
 const DEPTH: u32 = 32;
@@ -13,11 +11,7 @@ const DEPTH: u32 = 32;
 /// Writes the page of a template. A page that ends by a fault goes to standard output up to there,
 /// and into no file.
 pub fn render(rt: &HostRuntime, call: &RenderCall<'_>) -> Result<(), Stop> {
-    let mut parts = read_parts(rt, &call.inputs)?;
-    if call.missing_is_nil {
-        let uses = uses_of(rt.alloc(), &parts.template, &parts.partials)?;
-        complete(rt.alloc(), &mut parts.data, &uses)?;
-    }
+    let parts = read_parts(rt, &call.inputs)?;
     let shown = render_page_within(
         rt.alloc(),
         &parts.template,
