@@ -204,8 +204,8 @@ impl Sources {
             }
         }
         // so that a whole name wins against another one without its suffix
-        for (file, place) in files.iter().zip(first..) {
-            self.add_name(rt.alloc(), file.as_str(), place)?;
+        for (place, file) in files.iter().enumerate() {
+            self.add_name(rt.alloc(), file.as_str(), first.saturating_add(place))?;
         }
         Ok(())
     }

@@ -48,29 +48,34 @@ page_of job nodes = page_over job.depth job.partials job.shared nodes
 abbrev pub with_record : Pairs → Job → Job
 with_record facts job = record job { shared = merged (map_of facts) job.shared }
 
-abbrev pub unless_fault : (ErrorKind → Reason) → Text → Option ErrorKind → Result Text Reason
-unless_fault why text None = Ok text
-unless_fault why text (Some kind) = Err (why kind)
-
--- the text of a page without a fault
-abbrev pub whole : (ErrorKind → Reason) → Shown → Result Text Reason
-whole why page = unless_fault why page.text page.fault
-
 abbrev pub checked_name : Text → Result Text Reason
 checked_name name = cond (is_file_name name) (Ok name) (Err (bad_name name))
+
+abbrev pub name_unless : Text → Option ErrorKind → Result Text Reason
+name_unless text None = checked_name text
+name_unless text (Some kind) = Err (unnamed kind)
+
+-- the name that the page of a pattern is
+abbrev pub named_by : Shown → Result Text Reason
+named_by page = name_unless page.text page.fault
 
 -- the name of the page's file, which is empty where no files are named
 abbrev pub name_of : Job → Option Nodes → Result Text Reason
 name_of job None = Ok []
-name_of job (Some pattern) = whole unnamed (page_of job pattern) then checked_name
+name_of job (Some pattern) = named_by (page_of job pattern)
+
+abbrev pub made_unless : Text → Text → Option ErrorKind → Result Made Reason
+made_unless name text None = Ok (record { name = name; text = text })
+made_unless name text (Some kind) = Err (faulted kind)
+
+-- a page under its name
+abbrev pub made_page : Text → Shown → Result Made Reason
+made_page name page = made_unless name page.text page.fault
 
 -- the name and the page of a job whose data has the record's over it
 abbrev pub made_by : Job → Option Nodes → Result Made Reason
 made_by job pattern = name_of job pattern then λ name.
-    whole faulted (page_of job job.template) then λ text. Ok (record {
-      name = name;
-      text = text;
-    })
+    made_page name (page_of job job.template)
 
 abbrev pub comes_to : Job → Option Nodes → Result Pairs ErrorKind → Result Made Reason
 comes_to job pattern (Ok facts) = made_by (with_record facts job) pattern

@@ -5,7 +5,8 @@ ghost use Rattle.liquid_model.specs.View.{pairs_view};
 ghost use Rattle.liquid_syntax.specs.Templates.{tree_of};
 ghost use Rattle.liquid_lib.specs.Pages.{page_view};
 ghost use Rattle.liquid_json.specs.Json.{data_of};
-ghost use Rattle.liquid_records.specs.Records.{checked_name, comes_to, made_by, name_of, page_of};
+ghost use Rattle.liquid_records.specs.Records.{checked_name, comes_to, made_by, made_page, name_of};
+ghost use Rattle.liquid_records.specs.Records.{named_by, page_of};
 ghost use Rattle.liquid_records.specs.Views.{job_view, made_view, outcome_view, pattern_view};
 
 use crate::data::{lay_over, take_off};
@@ -54,6 +55,7 @@ impl Job {
     ///
     /// The answer is `Memory` where a growth was refused, and no other kind; then the job is gone.
     /// Else it is as it was.
+    #[tactic(auto, using(crate::proofs::Making::made_with, crate::proofs::Making::same_job))]
     pub fn made(
         self,
         alloc: Global,
@@ -116,33 +118,32 @@ impl Job {
     }
 
     /// The name and the page, over the data as it stands.
+    #[tactic(auto, using(crate::proofs::Making::made_is, crate::proofs::Making::unnamed_is))]
     fn made_over(&self, alloc: Global, pattern: Option<&Template>) -> Result<Outcome<Made>>
         ensures { IsValueOrMemory (outcome_view made_view) result
             (made_by (job_view self.now) (pattern_view pattern.entry)) }
     {
-        let name = match self.name_over(alloc, pattern)? {
-            Ok(name) => name,
-            Err(why) => return Ok(Err(why)),
-        };
-        let Page { text, fault } = self.page(alloc, &self.template)?;
-        match fault {
-            Some(fault) => Ok(Err(Why::Faulted(fault))),
-            None => Ok(Ok(Made { name, text })),
+        match self.name_over(alloc, pattern)? {
+            Ok(name) => {
+                let page = self.page(alloc, &self.template)?;
+                Ok(page_named(name, page))
+            }
+            Err(why) => Ok(Err(why)),
         }
     }
 
     /// The name of the page's file.
+    #[tactic(auto, using(crate::proofs::Making::name_is))]
     fn name_over(&self, alloc: Global, pattern: Option<&Template>) -> Result<Outcome<String>>
         ensures { IsValueOrMemory (outcome_view string_bytes) result
             (name_of (job_view self.now) (pattern_view pattern.entry)) }
     {
-        let Some(pattern) = pattern else {
-            return Ok(Ok(String::new(alloc)));
-        };
-        let Page { text, fault } = self.page(alloc, pattern)?;
-        match fault {
-            Some(fault) => Ok(Err(Why::Unnamed(fault))),
-            None => Ok(checked_name(text)),
+        match pattern {
+            Some(pattern) => {
+                let page = self.page(alloc, pattern)?;
+                Ok(name_in(page))
+            }
+            None => Ok(Ok(String::new(alloc))),
         }
     }
 
@@ -151,6 +152,28 @@ impl Job {
             (page_of (job_view self.now) (tree_of template.now)) }
     {
         render_page(alloc, template, &self.partials, self.depth, &self.shared)
+    }
+}
+
+/// A page under its name, where it has no fault.
+fn page_named(name: String, page: Page) -> Outcome<Made>
+    ensures { outcome_view made_view result ≡ made_page (string_bytes name) (page_view page) }
+{
+    let Page { text, fault } = page;
+    match fault {
+        Some(fault) => Err(Why::Faulted(fault)),
+        None => Ok(Made { name, text }),
+    }
+}
+
+/// The name that a page is, where it has no fault.
+fn name_in(page: Page) -> Outcome<String>
+    ensures { outcome_view string_bytes result ≡ named_by (page_view page) }
+{
+    let Page { text, fault } = page;
+    match fault {
+        Some(fault) => Err(Why::Unnamed(fault)),
+        None => checked_name(text),
     }
 }
 

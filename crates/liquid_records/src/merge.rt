@@ -5,12 +5,12 @@ ghost use Rattle.liquid_model.specs.View.{pairs_view};
 ghost use Rattle.liquid_json.specs.Json.{data_of};
 ghost use Rattle.liquid_syntax.specs.Templates.{tree_of};
 ghost use Rattle.liquid_records.specs.Records.{comes_to};
-ghost use Rattle.liquid_records.specs.Steps.{IsNamed, IsStep, Leaves};
+ghost use Rattle.liquid_records.specs.Steps.{IsStep, Leaves};
 ghost use Rattle.liquid_records.specs.Views.{fate_view, job_of, job_view, made_view, names_of};
-ghost use Rattle.liquid_records.specs.Views.{pattern_of};
+ghost use Rattle.liquid_records.specs.Views.{outcome_view, pattern_of};
 ghost use Rattle.liquid_records.specs.inside.Puts.{map_names};
 
-use crate::job::{Job, Made, Why};
+use crate::job::{Job, Made, Outcome, Why};
 use liquid_core::{ErrorKind, Object, Result};
 use liquid_json::data_from_json;
 use liquid_lib::Template;
@@ -59,6 +59,7 @@ impl Merge {
     ///
     /// It is `Memory` where a growth was refused, and no other kind; then no file changed, and the
     /// merge is gone.
+    #[tactic(auto, using(crate::proofs::Stepping::step_of, crate::proofs::Stepping::leaves_of))]
     pub fn take<D: Disk>(
         self,
         alloc: Global,
@@ -85,10 +86,7 @@ impl Merge {
         } = self;
         let (job, outcome) = job.made(alloc, facts, Some(&pattern))?;
         let mut names = names;
-        let fate = match outcome {
-            Ok(made) => put(alloc, number, made, &mut names, disk)?,
-            Err(why) => Err(Failure::NoPage(why)),
-        };
+        let fate = put_if_made(alloc, number, outcome, &mut names, disk)?;
         let merge = Merge {
             job,
             pattern,
@@ -124,6 +122,27 @@ impl Merge {
                 _ => Ok((self, Err(Failure::NoPage(Why::NoData(fault))))),
             },
         }
+    }
+}
+
+/// Writes the page of a record, where there is one.
+fn put_if_made<D: Disk>(
+    alloc: Global,
+    number: usize,
+    outcome: Outcome<Made>,
+    names: &mut BTreeMap<String, usize>,
+    disk: &mut D,
+) -> Result<Fate>
+    ensures step { IfOk result (λ fate. IsStep number (outcome_view made_view outcome)
+        (map_names names.old) (fate_view fate) (map_names names.new)) }
+    ensures files { IfSome (D.files disk.old) (λ f. IfOk result (λ fate.
+        Leaves (outcome_view made_view outcome) (fate_view fate) f (D.files disk.new))) }
+    ensures untouched { OnErr result (D.files disk.new ≡ D.files disk.old) }
+    ensures memory { IfErr result (λ e. e.kind ≡ ErrorKind.Memory) }
+{
+    match outcome {
+        Ok(made) => put(alloc, number, made, names, disk),
+        Err(why) => Ok(Err(Failure::NoPage(why))),
     }
 }
 
