@@ -38,7 +38,11 @@ fn hosted_pages<R: Print>(told: &Told<'_, R>, row: &Row, host: &HostFilters) -> 
 
 /// Calls the filters of the host. Each step is a list: the call, the filter's name, the input, the arguments, and the answer or
 /// the kind of the fault.
-fn called_in_turn<R: Print>(told: &Told<'_, R>, host: &HostFilters, steps: &Value) -> Result<()> {
+pub(crate) fn called_in_turn<R: Print>(
+    told: &Told<'_, R>,
+    host: &HostFilters,
+    steps: &Value,
+) -> Result<()> {
     for step in items(steps) {
         told.begin();
         let answer = called(told.alloc, host, step);

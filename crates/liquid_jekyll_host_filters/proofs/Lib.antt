@@ -1,0 +1,5 @@
+pub mod MarkedTexts
+pub mod NamePaths
+pub mod Sentences
+pub mod SplitWords
+pub mod UrlTexts

@@ -1,0 +1,10 @@
+pub mod Dates
+pub mod Escapes
+pub mod Json
+pub mod Properties
+pub mod Searches
+pub mod Sentence
+pub mod SiteFilters
+pub mod Urls
+pub mod Words
+pub mod inside
