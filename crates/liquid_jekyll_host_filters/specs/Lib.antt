@@ -1,6 +1,9 @@
 pub mod Dates
 pub mod Escapes
+pub mod Groups
 pub mod Json
+pub mod Laws
+pub mod Numbers
 pub mod Properties
 pub mod Searches
 pub mod Sentence

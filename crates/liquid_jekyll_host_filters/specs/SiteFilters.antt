@@ -5,13 +5,15 @@ use Rattle.liquid_model.specs.Texts.{Text}
 use Rattle.liquid_filter_base.specs.Arguments.{Answer}
 use Rattle.liquid_jekyll_host_filters.specs.Dates.{date_to_long_string_answer, date_to_rfc822_answer, date_to_string_answer, date_to_xmlschema_answer}
 use Rattle.liquid_jekyll_host_filters.specs.Escapes.{xml_escape_answer}
+use Rattle.liquid_jekyll_host_filters.specs.Groups.{group_by_answer}
 use Rattle.liquid_jekyll_host_filters.specs.Json.{jsonify_answer}
+use Rattle.liquid_jekyll_host_filters.specs.Numbers.{to_integer_answer}
 use Rattle.liquid_jekyll_host_filters.specs.Searches.{find_answer, where_answer}
 use Rattle.liquid_jekyll_host_filters.specs.Sentence.{array_to_sentence_string_answer}
 use Rattle.liquid_jekyll_host_filters.specs.Urls.{absolute_url_answer, cgi_escape_answer, relative_url_answer, uri_escape_answer}
 use Rattle.liquid_jekyll_host_filters.specs.Words.{normalize_whitespace_answer, number_of_words_answer}
 use Rattle.liquid_jekyll_host_filters.specs.declared.site_filter.JekyllFilter.{JekyllFilter}
-use Rattle.liquid_jekyll_host_filters.specs.declared.site_filter.JekyllFilter.TheVariants.{RelativeUrl, AbsoluteUrl, DateToString, DateToLongString, DateToXmlschema, DateToRfc822, XmlEscape, CgiEscape, UriEscape, Jsonify, NormalizeWhitespace, NumberOfWords, ArrayToSentenceString, Where, Find}
+use Rattle.liquid_jekyll_host_filters.specs.declared.site_filter.JekyllFilter.TheVariants.{RelativeUrl, AbsoluteUrl, DateToString, DateToLongString, DateToXmlschema, DateToRfc822, XmlEscape, CgiEscape, UriEscape, Jsonify, NormalizeWhitespace, NumberOfWords, ToInteger, ArrayToSentenceString, GroupBy, Where, Find}
 
 abbrev pub filter_name : JekyllFilter → List ℕ
 filter_name RelativeUrl = codes "relative_url"
@@ -26,12 +28,15 @@ filter_name UriEscape = codes "uri_escape"
 filter_name Jsonify = codes "jsonify"
 filter_name NormalizeWhitespace = codes "normalize_whitespace"
 filter_name NumberOfWords = codes "number_of_words"
+filter_name ToInteger = codes "to_integer"
 filter_name ArrayToSentenceString = codes "array_to_sentence_string"
+filter_name GroupBy = codes "group_by"
 filter_name Where = codes "where"
 filter_name Find = codes "find"
 
 -- the least and the greatest number of arguments
 abbrev pub filter_least : JekyllFilter → ℕ
+filter_least GroupBy = 1
 filter_least Where = 2
 filter_least Find = 2
 filter_least f = 0
@@ -40,6 +45,7 @@ abbrev pub filter_most : JekyllFilter → ℕ
 filter_most DateToString = 2
 filter_most DateToLongString = 2
 filter_most ArrayToSentenceString = 1
+filter_most GroupBy = 1
 filter_most Where = 2
 filter_most Find = 2
 filter_most f = 0
@@ -60,6 +66,8 @@ filter_answer UriEscape address base = uri_escape_answer
 filter_answer Jsonify address base = jsonify_answer
 filter_answer NormalizeWhitespace address base = normalize_whitespace_answer
 filter_answer NumberOfWords address base = number_of_words_answer
+filter_answer ToInteger address base = to_integer_answer
 filter_answer ArrayToSentenceString address base = array_to_sentence_string_answer
+filter_answer GroupBy address base = group_by_answer
 filter_answer Where address base = where_answer
 filter_answer Find address base = find_answer

@@ -3,7 +3,10 @@
 
 mod dates;
 mod escapes;
+mod groups;
 mod json;
+pub mod laws;
+mod numbers;
 mod percent;
 mod properties;
 mod searches;
@@ -14,7 +17,9 @@ mod urls;
 mod words;
 
 pub use dates::{DateToLongString, DateToRfc822, DateToString, DateToXmlschema};
+pub use groups::GroupBy;
 pub use json::Jsonify;
+pub use numbers::ToInteger;
 pub use searches::{Find, Where};
 pub use sentence::ArrayToSentenceString;
 pub use site_filter::{JEKYLL_FILTERS, JekyllFilter, SiteFilter};

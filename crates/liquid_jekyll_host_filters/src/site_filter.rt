@@ -5,7 +5,9 @@ ghost use Rattle.liquid_model.specs.View.{view};
 ghost use Rattle.liquid_jekyll_host_filters.specs.SiteFilters.{filter_answer, filter_counts, filter_least, filter_most, filter_name};
 
 use crate::dates::{DateToLongString, DateToRfc822, DateToString, DateToXmlschema};
+use crate::groups::GroupBy;
 use crate::json::Jsonify;
+use crate::numbers::ToInteger;
 use crate::searches::{Find, Where};
 use crate::sentence::ArrayToSentenceString;
 use crate::texts::{CgiEscape, UriEscape, XmlEscape};
@@ -29,13 +31,15 @@ pub enum JekyllFilter {
     Jsonify,
     NormalizeWhitespace,
     NumberOfWords,
+    ToInteger,
     ArrayToSentenceString,
+    GroupBy,
     Where,
     Find,
 }
 
 /// Each of them.
-pub const JEKYLL_FILTERS: [JekyllFilter; 15] = [
+pub const JEKYLL_FILTERS: [JekyllFilter; 17] = [
     JekyllFilter::RelativeUrl,
     JekyllFilter::AbsoluteUrl,
     JekyllFilter::DateToString,
@@ -48,7 +52,9 @@ pub const JEKYLL_FILTERS: [JekyllFilter; 15] = [
     JekyllFilter::Jsonify,
     JekyllFilter::NormalizeWhitespace,
     JekyllFilter::NumberOfWords,
+    JekyllFilter::ToInteger,
     JekyllFilter::ArrayToSentenceString,
+    JekyllFilter::GroupBy,
     JekyllFilter::Where,
     JekyllFilter::Find,
 ];
@@ -71,7 +77,9 @@ impl JekyllFilter {
             JekyllFilter::Jsonify => "jsonify",
             JekyllFilter::NormalizeWhitespace => "normalize_whitespace",
             JekyllFilter::NumberOfWords => "number_of_words",
+            JekyllFilter::ToInteger => "to_integer",
             JekyllFilter::ArrayToSentenceString => "array_to_sentence_string",
+            JekyllFilter::GroupBy => "group_by",
             JekyllFilter::Where => "where",
             JekyllFilter::Find => "find",
         }
@@ -83,6 +91,7 @@ impl JekyllFilter {
     {
         match self {
             JekyllFilter::Where | JekyllFilter::Find => 2,
+            JekyllFilter::GroupBy => 1,
             _ => 0,
         }
     }
@@ -94,7 +103,7 @@ impl JekyllFilter {
         match self {
             JekyllFilter::Where | JekyllFilter::Find => 2,
             JekyllFilter::DateToString | JekyllFilter::DateToLongString => 2,
-            JekyllFilter::ArrayToSentenceString => 1,
+            JekyllFilter::GroupBy | JekyllFilter::ArrayToSentenceString => 1,
             _ => 0,
         }
     }
@@ -155,9 +164,11 @@ impl Filter for SiteFilter {
             JekyllFilter::Jsonify => Jsonify.evaluate(alloc, input, args),
             JekyllFilter::NormalizeWhitespace => NormalizeWhitespace.evaluate(alloc, input, args),
             JekyllFilter::NumberOfWords => NumberOfWords.evaluate(alloc, input, args),
+            JekyllFilter::ToInteger => ToInteger.evaluate(alloc, input, args),
             JekyllFilter::ArrayToSentenceString => {
                 ArrayToSentenceString.evaluate(alloc, input, args)
             }
+            JekyllFilter::GroupBy => GroupBy.evaluate(alloc, input, args),
             JekyllFilter::Where => Where.evaluate(alloc, input, args),
             JekyllFilter::Find => Find.evaluate(alloc, input, args),
         }
