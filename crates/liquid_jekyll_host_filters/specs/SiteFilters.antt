@@ -1,5 +1,5 @@
 -- Jekyll's filters: the name of each, how many arguments it takes, and what it answers over a site of an address and a base path.
-use Rattle.std.specs.Prelude.{ℕ, Bool, ◌&&◌, List, codes, nat_le}
+use Rattle.std.specs.Prelude.{ℕ, Bool, List, codes, nat_eq, nat_le}
 use Rattle.liquid_model.specs.Data.{Datum}
 use Rattle.liquid_model.specs.Texts.{Text}
 use Rattle.liquid_filter_base.specs.Arguments.{Answer}
@@ -34,7 +34,7 @@ filter_name GroupBy = codes "group_by"
 filter_name Where = codes "where"
 filter_name Find = codes "find"
 
--- the least and the greatest number of arguments
+-- the least and the greatest number of arguments; each number between is taken
 abbrev pub filter_least : JekyllFilter → ℕ
 filter_least GroupBy = 1
 filter_least Where = 2
@@ -51,7 +51,13 @@ filter_most Find = 2
 filter_most f = 0
 
 abbrev pub filter_counts : JekyllFilter → ℕ → Bool
-filter_counts f n = nat_le (filter_least f) n && nat_le n (filter_most f)
+filter_counts DateToString n = nat_le n 2
+filter_counts DateToLongString n = nat_le n 2
+filter_counts ArrayToSentenceString n = nat_le n 1
+filter_counts GroupBy n = nat_eq n 1
+filter_counts Where n = nat_eq n 2
+filter_counts Find n = nat_eq n 2
+filter_counts f n = nat_eq n 0
 
 abbrev pub filter_answer : JekyllFilter → Text → Text → Datum → List Datum → Answer
 filter_answer RelativeUrl address base = relative_url_answer base

@@ -142,7 +142,13 @@ impl Filter for SiteFilter {
     ghost answer = { λ site. filter_answer site.filter (string_bytes site.address) (string_bytes site.base) };
 
     fn accepts(&self, count: usize) -> bool {
-        self.filter.least() <= count && count <= self.filter.most()
+        match self.filter {
+            JekyllFilter::DateToString | JekyllFilter::DateToLongString => count <= 2,
+            JekyllFilter::ArrayToSentenceString => count <= 1,
+            JekyllFilter::GroupBy => count == 1,
+            JekyllFilter::Where | JekyllFilter::Find => count == 2,
+            _ => count == 0,
+        }
     }
 
     fn evaluate(&self, alloc: Global, input: &Value, args: &[Value]) -> Result<Value> {
