@@ -48,7 +48,8 @@ OfText bytes R answer = (IsUtf8 bytes × R answer) ⊎ ((IsUtf8 bytes → ⊥) �
 abbrev pub Parses : Language → Text → Result Held Refusal → Type 0
 Parses l source (Ok (held.Template t levels)) =
     IsOnlyTree l (tree_of t) source × (levels ≡ levels_in (list_of t))
-Parses l source (Ok (held.Fault e)) = MayRefuse e.kind × MatchBool (is_memory e.kind) ⊤ (HasNoTree l source)
+Parses l source (Ok (held.Fault e)) = MayRefuse e.kind ×
+    MatchBool (is_memory e.kind) ⊤ (HasNoTree l source)
 Parses l source _ = ⊥
 
 abbrev pub IsParse : Option Held → List ℕ → Result Held Refusal → Type 0
@@ -99,7 +100,8 @@ ShowsWithin nodes depth facts partials answer = Shows nodes depth facts partials
 
 -- R holds where data and partials are there, and else the call can't be
 abbrev pub OfBoth : Option (Map Datum) → Option (List (Text × Nodes))
-    → (Map Datum → List (Text × Nodes) → Result Held Refusal → Type 0) → Result Held Refusal → Type 0
+    → (Map Datum → List (Text × Nodes) → Result Held Refusal → Type 0) → Result Held Refusal →
+        Type 0
 OfBoth (Some facts) (Some partials) R answer = R facts partials answer
 OfBoth None _ R answer = answer ≡ Err OtherHandle
 OfBoth (Some facts) None R answer = answer ≡ Err OtherHandle
@@ -140,12 +142,21 @@ abbrev pub Holds : Option Held → List (Text × Nodes) → Levels → Type 0
 Holds (Some (held.Partials p most)) trees levels = (partials_of p ≡ trees) × (most ≡ levels)
 Holds _ trees levels = ⊥
 
--- the template now stands among the partials, and its handle holds nothing;  memory ran out, and nothing changed;  the name is no text
-pub data Puts (old : Partials) (most : Levels) (name : List ℕ) (t : Template) (levels : Levels) (number : ℕ) (partials template was : Option Held) : Type 0 where
-  done : IsUtf8 name → number ≡ 0 → Holds partials (put name (tree_of t) (partials_of old)) (greater_of most levels) → template ≡ None → Puts old most name t levels number partials template was
-  refused : IsUtf8 name → number ≡ number_of Memory → Holds partials (partials_of old) most → template ≡ was → Puts old most name t levels number partials template was
-  no_text : (IsUtf8 name → ⊥) → number ≡ number_of_refusal NoText → Holds partials (partials_of old) most → template ≡ was → Puts old most name t levels number partials template was
+-- the template now stands among the partials, and its handle holds nothing;  memory ran out, and
+-- nothing changed;  the name is no text
+pub data Puts (old : Partials) (most : Levels) (name : List ℕ) (t : Template) (levels : Levels)
+      (number : ℕ) (partials template was : Option Held) : Type 0 where
+  done : IsUtf8 name → number ≡ 0 → Holds partials (put name (tree_of t) (partials_of old))
+          (greater_of most levels) → template ≡ None →
+      Puts old most name t levels number partials template was
+  refused : IsUtf8 name → number ≡ number_of Memory → Holds partials (partials_of old) most →
+      template ≡ was → Puts old most name t levels number partials template was
+  no_text : (IsUtf8 name → ⊥) → number ≡ number_of_refusal NoText →
+      Holds partials (partials_of old) most → template ≡ was →
+      Puts old most name t levels number partials template was
 
 abbrev pub IsPut : Option Held → List ℕ → Option Held → ℕ → Option Held → Option Held → Type 0
-IsPut (Some (held.Partials p most)) name (Some (held.Template t levels)) number partials template = Puts p most name t levels number partials template (Some (held.Template t levels))
-IsPut old name was number partials template = (number ≡ number_of_refusal OtherHandle) × (partials ≡ old) × (template ≡ was)
+IsPut (Some (held.Partials p most)) name (Some (held.Template t levels)) number partials template =
+    Puts p most name t levels number partials template (Some (held.Template t levels))
+IsPut old name was number partials template = (number ≡ number_of_refusal OtherHandle) ×
+    (partials ≡ old) × (template ≡ was)

@@ -9,8 +9,10 @@
 use Rattle.std.specs.Prelude.{ℕ, ◌+◌, ◌-◌, ◌*◌, max, nat_eq, nat_lt}
 use Rattle.std.specs.Prelude.{Bool, true, false, ◌&&◌, ◌||◌, cond, List, [], ◌∷◌, length}
 use Rattle.liquid_syntax.specs.declared.node.Node.{Node}
-use Rattle.liquid_syntax.specs.declared.node.Node.TheVariants.{If, Unless, Capture, Case, For, TableRow, IfChanged}
-use Rattle.liquid_syntax.specs.declared.node.Node.TheVariants.{Include, JekyllInclude, Render, RenderEach}
+use Rattle.liquid_syntax.specs.declared.node.Node.TheVariants.{If, Unless, Capture, Case, For}
+use Rattle.liquid_syntax.specs.declared.node.Node.TheVariants.{TableRow, IfChanged}
+use Rattle.liquid_syntax.specs.declared.node.Node.TheVariants.{Include, JekyllInclude, Render}
+use Rattle.liquid_syntax.specs.declared.node.Node.TheVariants.{RenderEach}
 use Rattle.liquid_syntax.specs.declared.node.TwoBodies.{TwoBodies}
 use Rattle.liquid_c.specs.declared.levels.Levels.{Levels}
 use Rattle.liquid_c.specs.declared.levels.Open.{Open}

@@ -1,6 +1,7 @@
 -- What a caller reads behind a handle, part by part.
 --     part_in part held      the part of this number; empty where there is none
-use Rattle.std.specs.Prelude.{ℕ, Option, Some, None, [], String, nat_eq, if◌then◌else◌, option_map, string_bytes}
+use Rattle.std.specs.Prelude.{ℕ, Option, Some, None, [], String, nat_eq, if◌then◌else◌, option_map}
+use Rattle.std.specs.Prelude.{string_bytes}
 use Rattle.std.specs.declared.alloc.Global.{Global}
 use Rattle.liquid_model.specs.Texts.{Text}
 use Rattle.liquid_model.specs.ErrorKinds.{name_of}
@@ -27,7 +28,9 @@ partial_of_location None = []
 partial_of_location (Some l) = partial_of_origin l.origin
 
 abbrev pub part_of_fault : ℕ → Error → Text
-part_of_fault part e = if nat_eq part 1 then message_bytes e.message else if nat_eq part 2 then name_of e.kind else if nat_eq part 3 then partial_of_location (location_of_fault e) else []
+part_of_fault part e =
+    if nat_eq part 1 then message_bytes e.message else if nat_eq part 2 then name_of e.kind
+        else if nat_eq part 3 then partial_of_location (location_of_fault e) else []
 
 abbrev pub part_of_faults : ℕ → Option Error → Text
 part_of_faults part None = []

@@ -13,8 +13,9 @@ use liquid_core::ErrorKind;
 use liquid_lib::Partials;
 use std::alloc::Global;
 
-/// Puts a template among partials at a name; the one of that name before is dropped. 0, and the template's handle then holds
-/// nothing. After any other answer nothing changed; `Memory` is such a one.
+/// Puts a template among partials at a name; the one of that name before is dropped. 0, and the
+/// template's handle then holds nothing. After any other answer nothing changed; `Memory` is such a
+/// one.
 #[unsafe(no_mangle)]
 pub extern "C" fn bikleinu_insert(
     alloc: Global,
@@ -22,7 +23,10 @@ pub extern "C" fn bikleinu_insert(
     name: &[u8],
     template: &mut Handle,
 ) -> u32
-    ensures { IsPut partials.old.held name.now template.old.held result partials.new.held template.new.held }
+    ensures {
+        IsPut partials.old.held name.now template.old.held result partials.new.held
+            template.new.held
+    }
 {
     let mut held = partials.take(alloc);
     let (number, left) = put(alloc, &mut held, name, template.take(alloc));
@@ -38,7 +42,10 @@ fn put(
     name: &[u8],
     template: Option<Box<Held>>,
 ) -> (u32, Option<Box<Held>>)
-    ensures { IsPut (option_map (λ b. b.value) partials.old) name.now (option_map (λ b. b.value) template) result.0 (option_map (λ b. b.value) partials.new) (option_map (λ b. b.value) result.1) }
+    ensures {
+        IsPut (option_map (λ b. b.value) partials.old) name.now (option_map (λ b. b.value) template)
+            result.0 (option_map (λ b. b.value) partials.new) (option_map (λ b. b.value) result.1)
+    }
 {
     let Some(template) = template else {
         return (Refusal::OtherHandle.number(), None);

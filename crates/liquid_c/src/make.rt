@@ -42,7 +42,8 @@ fn no_partials(alloc: Global) -> Result<Held, Refusal>
     Ok(Held::Partials(Partials::new(alloc), Levels::none()))
 }
 
-/// Reads data from a text of JSON. 0, or the number of the fault that `made` then has: `InvalidInput`, `Float` or `Memory`.
+/// Reads data from a text of JSON. 0, or the number of the fault that `made` then has:
+/// `InvalidInput`, `Float` or `Memory`.
 #[unsafe(no_mangle)]
 pub extern "C" fn bikleinu_data(alloc: Global, json: &[u8], made: &mut Handle) -> u32
     ensures { Settled (IsData json.now) result made.new.held }

@@ -10,7 +10,8 @@ use crate::refusal::{Refusal, settle};
 use liquid_lib::{Language, parse};
 use std::alloc::Global;
 
-/// Parses a source in a language. 0, or the number of the fault that `made` then has: a kind of a source, or `Memory`.
+/// Parses a source in a language. 0, or the number of the fault that `made` then has: a kind of a
+/// source, or `Memory`.
 #[unsafe(no_mangle)]
 pub extern "C" fn bikleinu_parse(
     alloc: Global,

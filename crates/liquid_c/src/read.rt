@@ -1,14 +1,17 @@
 //! What a caller reads behind a handle.
 ghost use Rattle.std.specs.Prelude.{◌≡◌, ◌++◌, drop, length, min, option_map, take};
-ghost use Rattle.liquid_c.specs.Parts.{located, location_in, location_of_fault, message_bytes, number_of_origin, part_in, part_behind, part_of_fault, partial_of_location};
+ghost use Rattle.liquid_c.specs.Parts.{located, location_in, location_of_fault, message_bytes};
+ghost use Rattle.liquid_c.specs.Parts.{number_of_origin, part_in, part_behind, part_of_fault};
+ghost use Rattle.liquid_c.specs.Parts.{partial_of_location};
 
 use crate::handle::Handle;
 use crate::held::{Held, seen};
 use liquid_core::{Error, Location, Origin};
 use std::alloc::Global;
 
-/// How many bytes a part has of what lies behind the handle: 0 is the text of a page, 1 the message of a fault or of a page's, 2 the
-/// name of its kind, 3 the name of the partial that it stands in. Without such a part, and of any other number, 0.
+/// How many bytes a part has of what lies behind the handle: 0 is the text of a page, 1 the message
+/// of a fault or of a page's, 2 the name of its kind, 3 the name of the partial that it stands in.
+/// Without such a part, and of any other number, 0.
 #[unsafe(no_mangle)]
 pub extern "C" fn bikleinu_length(alloc: Global, handle: &mut Handle, part: u32) -> usize
     ensures length { result ≡ length (part_in part handle.old.held) }
@@ -20,7 +23,8 @@ pub extern "C" fn bikleinu_length(alloc: Global, handle: &mut Handle, part: u32)
     length
 }
 
-/// Copies such a part into the bytes, as far as it goes and they have room, and answers how many it copied.
+/// Copies such a part into the bytes, as far as it goes and they have room, and answers how many it
+/// copied.
 #[unsafe(no_mangle)]
 pub extern "C" fn bikleinu_copy(
     alloc: Global,
@@ -38,8 +42,9 @@ pub extern "C" fn bikleinu_copy(
     count
 }
 
-/// Where the fault behind the handle stands, in line and column. The answer is in which text: 1 the template, 2 a partial, 3 the
-/// data, and 0 where that isn't known; then line and column stay as they were.
+/// Where the fault behind the handle stands, in line and column. The answer is in which text: 1 the
+/// template, 2 a partial, 3 the data, and 0 where that isn't known; then line and column stay as
+/// they were.
 #[unsafe(no_mangle)]
 pub extern "C" fn bikleinu_location(
     alloc: Global,
@@ -47,7 +52,8 @@ pub extern "C" fn bikleinu_location(
     line: &mut usize,
     column: &mut usize,
 ) -> u32
-    ensures location { (result, (line.new, column.new)) ≡ located (location_in handle.old.held) line.old column.old }
+    ensures location { (result, (line.new, column.new)) ≡
+                located (location_in handle.old.held) line.old column.old }
     ensures same { handle.new.held ≡ handle.old.held }
 {
     let held = handle.take(alloc);

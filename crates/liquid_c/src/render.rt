@@ -259,7 +259,8 @@ fn empty_facts(alloc: Global) -> Object
 /// The data behind a handle, or none where it holds something else.
 fn facts_held<'a>(held: Option<&'a Held>, none: &'a Object) -> Option<&'a Object>
     requires { map_held none.now ≡ empty }
-    ensures { option_map (λ d. map_held d.now) result ≡ facts_behind (option_map (λ h. h.now) held.entry) }
+    ensures { option_map (λ d. map_held d.now) result ≡
+                facts_behind (option_map (λ h. h.now) held.entry) }
 {
     match held {
         None => Some(none),
@@ -271,7 +272,10 @@ fn facts_held<'a>(held: Option<&'a Held>, none: &'a Object) -> Option<&'a Object
 /// The partials behind a handle, or none where it holds something else.
 fn partials_held<'a>(held: Option<&'a Held>, none: &'a Partials) -> Option<&'a Partials>
     requires { partials_of none.now ≡ [] }
-    ensures { option_map (λ p. partials_of p.now) result ≡ partials_behind (option_map (λ h. h.now) held.entry) }
+    ensures {
+        option_map (λ p. partials_of p.now) result ≡
+            partials_behind (option_map (λ h. h.now) held.entry)
+    }
 {
     match held {
         None => Some(none),

@@ -10,4 +10,6 @@ use Rattle.liquid_core.specs.Expressions.{value_of}
 -- what the steps lead to from d
 abbrev pub led : Datum → Steps → Environment → Option Datum
 led d no_steps e = Some d
-led d (step x more) e = option_and_then (λ s. option_and_then (λ next. led next more e) (finding.step d s)) (value_of x e)
+led d (step x more) e =
+    option_and_then (λ s. option_and_then (λ next. led next more e) (finding.step d s))
+        (value_of x e)

@@ -2,7 +2,8 @@
 --     item_of items i      item i of a loop's source, nil where there is none
 --     frame_map frame local      what a loop binds at its item, where local are the names behind it
 --     standing scopes behind      the scopes, the innermost first, over those behind
-use Rattle.std.specs.Prelude.{◌≡◌, ◌<◌, ◌++◌, ℕ, ◌+◌, ◌-◌, List, [], ◌∷◌, length, take, map, get_or, Option, Some, None, String, codes}
+use Rattle.std.specs.Prelude.{◌≡◌, ◌<◌, ◌++◌, ℕ, ◌+◌, ◌-◌, List, [], ◌∷◌, length, take, map, get_or}
+use Rattle.std.specs.Prelude.{Option, Some, None, String, codes}
 use Rattle.std.specs.BTreeMap.{BTreeMap}
 use Rattle.std.specs.declared.alloc.Global.{Global}
 use Rattle.liquid_model.specs.Texts.{Text}
@@ -39,7 +40,8 @@ loop_name Render = codes "forloop"
 loop_name (TableRow columns) = codes "tablerow"
 
 abbrev pub loop_object : LoopKind → ℕ → ℕ → Map Datum → Datum
-loop_object (For elsewhere) k m local = forloop_object k m (parent_of (local (codes "forloop")) (view elsewhere))
+loop_object (For elsewhere) k m local =
+    forloop_object k m (parent_of (local (codes "forloop")) (view elsewhere))
 loop_object Render k m local = forloop_object k m nil
 loop_object (TableRow columns) k m local = tablerow_object k m columns.count
 
@@ -59,7 +61,9 @@ object_part d name = step_into d None name
 
 -- what a loop binds in its k-th turn
 abbrev pub frame_map_at : LoopFrame → ℕ → Map Datum → Map Datum
-frame_map_at t k local = loop_scope (loop_name t.kind) (loop_object t.kind k t.count local) t.name.now (frame_item_at t k)
+frame_map_at t k local =
+    loop_scope (loop_name t.kind) (loop_object t.kind k t.count local) t.name.now
+        (frame_item_at t k)
 
 abbrev pub frame_map : LoopFrame → Map Datum → Map Datum
 frame_map t local = frame_map_at t t.at local
@@ -99,8 +103,10 @@ EndsIn scopes before t = scopes ≡ before ++ variants.LoopFrame t ∷ []
 
 -- the innermost scope is a loop that has a next item
 abbrev pub GoesOn : List Scope → Type 0
-GoesOn scopes = (before : List Scope) × ((t : LoopFrame) × (EndsIn scopes before t × (t.at + 1 < t.count)))
+GoesOn scopes = (before : List Scope) ×
+    ((t : LoopFrame) × (EndsIn scopes before t × (t.at + 1 < t.count)))
 
 -- the innermost scope is a loop that went on to its next item
 abbrev pub WentOn : List Scope → List Scope → Type 0
-WentOn old new = (before : List Scope) (t : LoopFrame) → EndsIn old before t → (u : LoopFrame) × (EndsIn new before u × IsNext t u)
+WentOn old new = (before : List Scope) (t : LoopFrame) → EndsIn old before t → (u : LoopFrame) ×
+    (EndsIn new before u × IsNext t u)

@@ -28,7 +28,8 @@ IsHeld _ = ⊤
 
 -- where it is a loop's object, the loop is one of these scopes, over those below it and over outer
 abbrev pub IsAmong : List Scope → List Outer → Resolved → Type 0
-IsAmong scopes outer (Loop frame behind) = (above : List Scope) × ((scopes ≡ behind.frames.now ++ LoopFrame frame.now ∷ above) × (behind.outer.now ≡ outer))
+IsAmong scopes outer (Loop frame behind) = (above : List Scope) ×
+    ((scopes ≡ behind.frames.now ++ LoopFrame frame.now ∷ above) × (behind.outer.now ≡ outer))
 IsAmong scopes outer _ = ⊤
 
 -- how many loops, and scopes over one, a loop's object can lead back through

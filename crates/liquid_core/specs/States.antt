@@ -36,19 +36,22 @@ layers_of s = record {
   assigned = held s.assigned;
   counters = held s.counters;
   globals = data_held s.data;
-  registers = record { interrupt = s.interrupt; cycles = (λ group. get_by_text s.cycles group); changed = option_map string_bytes s.changed };
+  registers = record { interrupt = s.interrupt; cycles = (λ group. get_by_text s.cycles group);
+          changed = option_map string_bytes s.changed };
 }
 
 -- the scopes as one map
 abbrev pub merged_layers : Layers → Environment
-merged_layers l = record { local = local_of l.scopes; assigned = l.assigned; counters = l.counters; globals = l.globals; registers = l.registers }
+merged_layers l = record { local = local_of l.scopes; assigned = l.assigned; counters = l.counters;
+        globals = l.globals; registers = l.registers }
 
 abbrev pub environment_of : State → Environment
 environment_of s = merged_layers (layers_of s)
 
 -- a new state over this data
 abbrev pub new_layers : Map Datum → Layers
-new_layers globals = record { scopes = []; assigned = empty; counters = empty; globals = globals; registers = new_registers }
+new_layers globals = record { scopes = []; assigned = empty; counters = empty; globals = globals;
+        registers = new_registers }
 
 -- ---- changes
 
@@ -75,11 +78,13 @@ abbrev pub with_changed : Option Text → Layers → Layers
 with_changed shown l = record l { registers = record (l.registers) { changed = shown } }
 
 abbrev pub with_cycle : Text → ℕ → Layers → Layers
-with_cycle group index l = record l { registers = record (l.registers) { cycles = insert l.registers.cycles group index } }
+with_cycle group index l =
+    record l { registers = record (l.registers) { cycles = insert l.registers.cycles group index } }
 
 -- the innermost loop at its item k
 abbrev pub with_frame_at : LoopFrame → ℕ → Layers → Layers
-with_frame_at t k l = with_scope_pushed (frame_map_at t k (local_of (scopes_behind l.scopes))) (with_scope_popped l)
+with_frame_at t k l = with_scope_pushed (frame_map_at t k (local_of (scopes_behind l.scopes)))
+        (with_scope_popped l)
 
 -- ---- loops
 
@@ -98,13 +103,15 @@ pub record FindsLoop (s : State) (found : Option Datum) : Type 0 where
   pub below : List Scope
   pub above : List Scope
   pub among : loops_of s ≡ below ++ variants.LoopFrame loop ∷ above
-  pub whole : found ≡ Some (frame_object loop (local_of (standing below (reverse (map held s.scopes.items)))))
+  pub whole : found ≡
+          Some (frame_object loop (local_of (standing below (reverse (map held s.scopes.items)))))
 
 -- what is held beside the loops and the scopes over them
 abbrev pub held_beside : State → Text → Option Datum
 held_beside s name =
     let e = environment_of s in
-    ((local_of (reverse (map held s.scopes.items)) name else e.assigned name) else e.counters name) else e.globals name
+    ((local_of (reverse (map held s.scopes.items)) name else e.assigned name) else e.counters name)
+            else e.globals name
 
 -- ---- parts
 
@@ -115,5 +122,6 @@ layers_with p globals = record {
   assigned = held p.assigned;
   counters = held p.counters;
   globals = globals;
-  registers = record { interrupt = p.interrupt; cycles = (λ group. get_by_text p.cycles group); changed = option_map string_bytes p.changed };
+  registers = record { interrupt = p.interrupt; cycles = (λ group. get_by_text p.cycles group);
+          changed = option_map string_bytes p.changed };
 }

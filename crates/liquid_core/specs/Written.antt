@@ -1,5 +1,6 @@
 -- The written form of an expression: how it stands in a template's source.
---     a literal      a text in double quotes, a decimal number, `nil`, `true` or `false` (a list or map has its text)
+--     a literal      a text in double quotes, a decimal number, `nil`, `true` or `false` (a list or
+--                    map has its text)
 --     a variable      its name, then each step in brackets, by its own written form
 use Rattle.std.specs.Prelude.{[], ◌++◌, codes}
 use Rattle.liquid_model.specs.Texts.{Text}

@@ -1,5 +1,6 @@
 //! Expressions: literals, and variables with their steps.
-ghost use Rattle.std.specs.Prelude.{◌≡◌, option_map, option_and_then, map, IsOk, IfSome, IfErr, None, Some};
+ghost use Rattle.std.specs.Prelude.{◌≡◌, option_map, option_and_then, map, IsOk, IfSome, IfErr};
+ghost use Rattle.std.specs.Prelude.{None, Some};
 ghost use Rattle.liquid_core.specs.Environment.{Environment};
 ghost use Rattle.liquid_core.specs.Said.{Says};
 ghost use Rattle.liquid_core.specs.Led.{led};
@@ -43,27 +44,43 @@ pub struct Variable {
 }
 
 impl Expression {
-    /// The value of the expression, where it has one. A variable has none where its name has none, where a
-    /// step's value is missing or no scalar, and where the steps lead to nothing.
+    /// The value of the expression, where it has one. A variable has none where its name has none,
+    /// where a step's value is missing or no scalar, and where the steps lead to nothing.
     ///
-    /// The value is lent by the state or the expression, also inside a loop, and a length is owned. It refuses for `Memory`
-    /// alone, and takes memory only where it finds the whole object of a loop.
+    /// The value is lent by the state or the expression, also inside a loop, and a length is owned.
+    /// It refuses for `Memory` alone, and takes memory only where it finds the whole object of a
+    /// loop.
     pub fn try_evaluate<'a>(
         &'a self,
         alloc: Global,
         state: &'a State<'_>,
     ) -> Result<Option<ValueCow<'a>>>
-        ensures value { IsValueOrMemory (λ r. option_map cow_view r) result (value_of (expression_view self.now) (environment_of state.now)) }
-        ensures no_memory { (FindsLoop state.now (value_of (expression_view self.now) (environment_of state.now)) → ⊥) → IsOk result }
+        ensures value {
+            IsValueOrMemory (λ r. option_map cow_view r) result (value_of (expression_view self.now)
+                (environment_of state.now))
+        }
+        ensures no_memory {
+            (FindsLoop state.now (value_of (expression_view self.now) (environment_of state.now)) →
+                ⊥) → IsOk result
+        }
     {
         valued(alloc, expression_value(self, state))
     }
 
-    /// The same, or `UnknownVariable` where the expression has no value. That fault takes memory too.
+    /// The same, or `UnknownVariable` where the expression has no value. That fault takes memory
+    /// too.
     pub fn evaluate<'a>(&'a self, alloc: Global, state: &'a State<'_>) -> Result<ValueCow<'a>>
-        ensures value { Answers cow_view result (required (expression_view self.now) (environment_of state.now)) }
-        ensures no_memory { (FindsLoop state.now (value_of (expression_view self.now) (environment_of state.now)) → ⊥) → TakesNoMemory result (required (expression_view self.now) (environment_of state.now)) }
-        ensures message { IfErr result (λ e. HasMessageUnlessMemory (without_value_message (written_form (expression_view self.now))) e) }
+        ensures value { Answers cow_view result (required (expression_view self.now)
+                    (environment_of state.now)) }
+        ensures no_memory {
+            (FindsLoop state.now (value_of (expression_view self.now) (environment_of state.now)) →
+                ⊥) → TakesNoMemory result (required (expression_view self.now)
+                (environment_of state.now))
+        }
+        ensures message {
+            IfErr result (λ e. HasMessageUnlessMemory
+                (without_value_message (written_form (expression_view self.now))) e)
+        }
     {
         match valued(alloc, expression_value(self, state))? {
             Some(value) => Ok(value),
@@ -71,10 +88,11 @@ impl Expression {
         }
     }
 
-    /// The value of the expression, where it is lent or a number: a literal, or a name that is no loop's object, with steps
-    /// that are keys and places of items. It takes no memory.
+    /// The value of the expression, where it is lent or a number: a literal, or a name that is no
+    /// loop's object, with steps that are keys and places of items. It takes no memory.
     pub fn near<'a>(&'a self, state: &'a State<'_>) -> Near<'a>
-        ensures { Says result (value_of (expression_view self.now) (environment_of state.now)) None }
+        ensures { Says result (value_of (expression_view self.now) (environment_of state.now))
+                    None }
     {
         match self {
             Expression::Literal(value) => Near::Held(value),
@@ -82,16 +100,23 @@ impl Expression {
         }
     }
 
-    /// What the expression leads to, as it is lent: for the whole run where the data lends it. Else as `evaluate`. Only the
-    /// fault takes memory.
+    /// What the expression leads to, as it is lent: for the whole run where the data lends it. Else
+    /// as `evaluate`. Only the fault takes memory.
     pub fn resolve<'a, 'd>(
         &'a self,
         alloc: Global,
         state: &'a State<'d>,
     ) -> Result<Resolved<'a, 'd>>
-        ensures value { Answers resolved_view result (required (expression_view self.now) (environment_of state.now)) }
-        ensures no_memory { TakesNoMemory result (required (expression_view self.now) (environment_of state.now)) }
-        ensures message { IfErr result (λ e. HasMessageUnlessMemory (without_value_message (written_form (expression_view self.now))) e) }
+        ensures value {
+            Answers resolved_view result (required (expression_view self.now)
+                (environment_of state.now))
+        }
+        ensures no_memory { TakesNoMemory result (required (expression_view self.now)
+                    (environment_of state.now)) }
+        ensures message {
+            IfErr result (λ e. HasMessageUnlessMemory
+                (without_value_message (written_form (expression_view self.now))) e)
+        }
     {
         match expression_value(self, state) {
             Some(resolved) => Ok(resolved),
@@ -128,17 +153,31 @@ impl Variable {
         alloc: Global,
         state: &'a State<'_>,
     ) -> Result<Option<ValueCow<'a>>>
-        ensures value { IsValueOrMemory (λ r. option_map cow_view r) result (value_of (variable_view self.now) (environment_of state.now)) }
-        ensures no_memory { (FindsLoop state.now (value_of (variable_view self.now) (environment_of state.now)) → ⊥) → IsOk result }
+        ensures value {
+            IsValueOrMemory (λ r. option_map cow_view r) result
+                (value_of (variable_view self.now) (environment_of state.now))
+        }
+        ensures no_memory {
+            (FindsLoop state.now (value_of (variable_view self.now) (environment_of state.now)) →
+                ⊥) → IsOk result
+        }
     {
         valued(alloc, variable_value(self, state))
     }
 
     /// The same, or `UnknownVariable` where the variable has no value. That fault takes memory too.
     pub fn evaluate<'a>(&'a self, alloc: Global, state: &'a State<'_>) -> Result<ValueCow<'a>>
-        ensures value { Answers cow_view result (required (variable_view self.now) (environment_of state.now)) }
-        ensures no_memory { (FindsLoop state.now (value_of (variable_view self.now) (environment_of state.now)) → ⊥) → TakesNoMemory result (required (variable_view self.now) (environment_of state.now)) }
-        ensures message { IfErr result (λ e. HasMessageUnlessMemory (without_value_message (written_form (variable_view self.now))) e) }
+        ensures value { Answers cow_view result
+                    (required (variable_view self.now) (environment_of state.now)) }
+        ensures no_memory {
+            (FindsLoop state.now (value_of (variable_view self.now) (environment_of state.now)) →
+                ⊥) → TakesNoMemory result
+                (required (variable_view self.now) (environment_of state.now))
+        }
+        ensures message {
+            IfErr result (λ e. HasMessageUnlessMemory
+                (without_value_message (written_form (variable_view self.now))) e)
+        }
     {
         match valued(alloc, variable_value(self, state))? {
             Some(value) => Ok(value),
@@ -157,7 +196,10 @@ impl Variable {
 /// The fault of an expression or a variable that has no value.
 fn without_value<D: Display>(alloc: Global, written: &D) -> Error
     ensures told { IsKindOrMemory UnknownVariable result.kind }
-    ensures message { IfSome (D.output written.now) (λ form. HasMessageUnlessMemory (without_value_message form) result) }
+    ensures message {
+        IfSome (D.output written.now)
+            (λ form. HasMessageUnlessMemory (without_value_message form) result)
+    }
 {
     Error::formatted(
         alloc,
@@ -173,7 +215,10 @@ fn expression_value<'a, 'd>(
     expression: &'a Expression,
     state: &'a State<'d>,
 ) -> Option<Resolved<'a, 'd>>
-    ensures value { option_map resolved_view result ≡ value_of (expression_view expression.now) (environment_of state.now) }
+    ensures value {
+        option_map resolved_view result ≡ value_of (expression_view expression.now)
+            (environment_of state.now)
+    }
     ensures among { IfSome result (IsAmong (loops_of state.now) state.now.scopes.items) }
 {
     match expression {
@@ -184,7 +229,10 @@ fn expression_value<'a, 'd>(
 
 #[cycle(value)]
 fn variable_value<'a, 'd>(variable: &'a Variable, state: &'a State<'d>) -> Option<Resolved<'a, 'd>>
-    ensures value { option_map resolved_view result ≡ value_of (variable_view variable.now) (environment_of state.now) }
+    ensures value {
+        option_map resolved_view result ≡ value_of (variable_view variable.now)
+            (environment_of state.now)
+    }
     ensures among { IfSome result (IsAmong (loops_of state.now) state.now.scopes.items) }
 {
     let mut found = state.resolve(variable.name.as_str())?;
@@ -197,7 +245,11 @@ fn variable_value<'a, 'd>(variable: &'a Variable, state: &'a State<'d>) -> Optio
 
 /// What steps by literals lead to, by keys and by the places of items. None says nothing.
 fn near_along<'a>(value: &'a Value, indexes: &Vec<Expression>) -> Option<&'a Value>
-    ensures { (e : Environment) → IfSome result (λ v. Some (view v.now) ≡ led (view value.now) (steps_view indexes.now.items) e) }
+    ensures {
+        (e : Environment) →
+        IfSome result (λ v. Some (view v.now) ≡
+            led (view value.now) (steps_view indexes.now.items) e)
+    }
 {
     let mut found = value;
     for index in indexes {
@@ -208,7 +260,11 @@ fn near_along<'a>(value: &'a Value, indexes: &Vec<Expression>) -> Option<&'a Val
 
 /// A step by a literal: a key of a map, or the place of an item. None says nothing.
 fn near_step<'a>(value: &'a Value, index: &Expression) -> Option<&'a Value>
-    ensures { (e : Environment) → IfSome result (λ v. Some (view v.now) ≡ option_and_then (step (view value.now)) (value_of (expression_view index.now) e)) }
+    ensures {
+        (e : Environment) →
+        IfSome result (λ v. Some (view v.now) ≡ option_and_then (step (view value.now))
+            (value_of (expression_view index.now) e))
+    }
 {
     match index {
         Expression::Literal(part) => value.near_part(part),
@@ -218,7 +274,8 @@ fn near_step<'a>(value: &'a Value, index: &Expression) -> Option<&'a Value>
 
 /// The value of what was found.
 fn valued<'a, 'd>(alloc: Global, found: Option<Resolved<'a, 'd>>) -> Result<Option<ValueCow<'a>>>
-    ensures value { IsValueOrMemory (λ r. option_map cow_view r) result (option_map resolved_view found.entry) }
+    ensures value { IsValueOrMemory (λ r. option_map cow_view r) result
+                (option_map resolved_view found.entry) }
     ensures no_memory { IfSome found.entry IsHeld → IsOk result }
 {
     match found {
@@ -250,7 +307,10 @@ fn copied_variable(alloc: Global, variable: &Variable) -> Result<Variable>
 
 #[cycle(copied)]
 fn copied_indexes(alloc: Global, indexes: &Vec<Expression>) -> Result<Vec<Expression>>
-    ensures { IsValueOrMemory (λ v. map expression_view v.items) result (map expression_view indexes.now.items) }
+    ensures {
+        IsValueOrMemory (λ v. map expression_view v.items) result
+            (map expression_view indexes.now.items)
+    }
 {
     let mut copies = Vec::with_capacity(alloc, indexes.len())?;
     for index in indexes {

@@ -16,17 +16,20 @@ pub trait Filter: Drop {
     // Its one answer to an input and arguments: a value, or the kind of a fault.
     ghost answer: { Self → Datum → List Datum → Result Datum ErrorKind };
 
-    // Whether that answer stays within the meaning, whose faults are never `Memory` or `Write`. A filter of a host that
-    // has such a kind for an answer says `false` here.
+    // Whether that answer stays within the meaning, whose faults are never `Memory` or `Write`. A
+    // filter of a host that has such a kind for an answer says `false` here.
     ghost within: { Self → Bool } = { λ _. true };
 
     /// Whether the filter takes this many arguments.
     fn accepts(&self, count: usize) -> bool
         ensures { result ≡ counts self.now count };
 
-    /// The filter's answer to the input and the arguments, of which it takes the number; or `Memory` where a growth was
-    /// refused.
+    /// The filter's answer to the input and the arguments, of which it takes the number; or
+    /// `Memory` where a growth was refused.
     fn evaluate(&self, alloc: Global, input: &Value, args: &[Value]) -> Result<Value>
         requires { IsTrue (counts self.now (length args.now)) }
-        ensures { AnswersIf (within self.now) view result (answer self.now (view input.now) (map view args.now)) };
+        ensures {
+            AnswersIf (within self.now) view result
+                (answer self.now (view input.now) (map view args.now))
+        };
 }

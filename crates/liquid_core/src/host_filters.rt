@@ -1,6 +1,7 @@
 //! Filters that a host hands in.
 ghost use Rattle.std.specs.Option.{option_map_or};
-ghost use Rattle.std.specs.Prelude.{◌≡◌, IsTrue, Err, MatchOption, Some, length, map, option_map, true, Result as Answered};
+ghost use Rattle.std.specs.Prelude.{◌≡◌, IsTrue, Err, MatchOption, Some, length, map, option_map};
+ghost use Rattle.std.specs.Prelude.{true, Result as Answered};
 ghost use Rattle.liquid_model.specs.Answer.{Answers};
 ghost use Rattle.liquid_model.specs.Data.{Datum};
 ghost use Rattle.liquid_model.specs.Texts.{Text};
@@ -29,9 +30,11 @@ impl HostFilters {
         HostFilters { filters }
     }
 
-    /// Whether the filter of the name takes this many arguments, or none where no filter has the name. It takes no memory.
+    /// Whether the filter of the name takes this many arguments, or none where no filter has the
+    /// name. It takes no memory.
     pub fn accepts(&self, name: &str, count: usize) -> Option<bool>
-        ensures { result ≡ option_map (λ b. counts b count) (last_named name.now self.now.filters.items) }
+        ensures { result ≡ option_map (λ b. counts b count)
+                    (last_named name.now self.now.filters.items) }
     {
         match self.find(name) {
             Some(filter) => Some(filter.accepts(count)),
@@ -39,8 +42,8 @@ impl HostFilters {
         }
     }
 
-    /// What the filter of the name answers, where it takes this many arguments. A fault of a kind that no run has becomes
-    /// `InvalidInput`. `Memory` where a growth was refused.
+    /// What the filter of the name answers, where it takes this many arguments. A fault of a kind
+    /// that no run has becomes `InvalidInput`. `Memory` where a growth was refused.
     pub fn evaluate(
         &self,
         alloc: Global,
@@ -48,7 +51,10 @@ impl HostFilters {
         input: &Value,
         args: &[Value],
     ) -> Result<Value>
-        requires { option_map (λ b. counts b (length args.now)) (last_named name.now self.now.filters.items) ≡ Some true }
+        requires {
+            option_map (λ b. counts b (length args.now))
+                (last_named name.now self.now.filters.items) ≡ Some true
+        }
         ensures { MatchOption (last_named name.now self.now.filters.items) ⊥
             (λ b. Answers view result (of_host (answer b (view input.now) (map view args.now)))) }
     {
@@ -58,10 +64,13 @@ impl HostFilters {
         }
     }
 
-    /// What a call of the name answers: that of `evaluate` where a filter of the name takes this many arguments, and else
-    /// `Unsupported`. `Memory` where a growth was refused.
+    /// What a call of the name answers: that of `evaluate` where a filter of the name takes this
+    /// many arguments, and else `Unsupported`. `Memory` where a growth was refused.
     pub fn call(&self, alloc: Global, name: &str, input: &Value, args: &[Value]) -> Result<Value>
-        ensures { Answers view result (host_answer (λ b. counts b) (λ b. answer b) (last_named name.now self.now.filters.items) (view input.now) (map view args.now)) }
+        ensures {
+            Answers view result (host_answer (λ b. counts b) (λ b. answer b)
+                (last_named name.now self.now.filters.items) (view input.now) (map view args.now))
+        }
     {
         match self.accepts(name, args.len()) {
             Some(true) => self.evaluate(alloc, name, input, args),
@@ -90,7 +99,8 @@ pub trait NamedFilters {
 
     /// What a call of the name answers, or `Memory` where a growth was refused.
     fn call_named(&self, alloc: Global, name: &str, input: &Value, args: &[Value]) -> Result<Value>
-        ensures { Answers view result (named self.now name.now (view input.now) (map view args.now)) };
+        ensures { Answers view result (named self.now name.now (view input.now)
+                    (map view args.now)) };
 }
 
 /// As `call` answers.
@@ -126,7 +136,8 @@ impl<H: NamedFilters> NamedFilters for Option<&H> {
     }
 }
 
-/// The fault of a call where no filter of the name takes this many arguments. A chain puts the name before it.
+/// The fault of a call where no filter of the name takes this many arguments. A chain puts the name
+/// before it.
 fn unsupported(alloc: Global) -> Error
     ensures { IsKindOrMemory Unsupported result.kind }
 {
@@ -145,22 +156,30 @@ fn evaluated(
     args: &[Value],
 ) -> Result<Value>
     requires { IsTrue (counts filter.now (length args.now)) }
-    ensures { Answers view result (of_host (answer filter.now (view input.now) (map view args.now))) }
+    ensures { Answers view result
+                (of_host (answer filter.now (view input.now) (map view args.now))) }
 {
     answered(alloc, asked(alloc, filter, input, args))
 }
 
-/// The filter's own answer. It is a function for itself so that its clause speaks of the box and not of what stands in it.
+/// The filter's own answer. It is a function for itself so that its clause speaks of the box and
+/// not of what stands in it.
 fn asked(alloc: Global, filter: &Box<dyn Filter>, input: &Value, args: &[Value]) -> Result<Value>
     requires { IsTrue (counts filter.now (length args.now)) }
-    ensures { AnswersIf (within filter.now) view result (answer filter.now (view input.now) (map view args.now)) }
+    ensures {
+        AnswersIf (within filter.now) view result (answer filter.now (view input.now)
+            (map view args.now))
+    }
 {
     filter.evaluate(alloc, input, args)
 }
 
 /// The answer of a filter of the host, with `InvalidInput` for a kind that no run has.
 fn answered(alloc: Global, answer: Result<Value>) -> Result<Value>
-    ensures { (wanted : Answered Datum ErrorKind) → Tells view answer wanted → Answers view result (of_host wanted) }
+    ensures {
+        (wanted : Answered Datum ErrorKind) → Tells view answer wanted →
+        Answers view result (of_host wanted)
+    }
 {
     match answer {
         Ok(value) => Ok(value),

@@ -6,7 +6,8 @@ pub fn innermost_scope_decides()
     ensures { InnermostScopeDecides }
 {}
 
-/// The first layer that holds a path's first name decides, also where the rest of the path leads to nothing there.
+/// The first layer that holds a path's first name decides, also where the rest of the path leads to
+/// nothing there.
 pub fn first_layer_decides()
     ensures { FirstLayerDecides }
 {}

@@ -1,4 +1,5 @@
-//! Expressions and the state of templates, over the values of `liquid_model`: what all other layers stand on.
+//! Expressions and the state of templates, over the values of `liquid_model`: what all other layers
+//! stand on.
 #![tactic(auto)]
 
 mod append_written;

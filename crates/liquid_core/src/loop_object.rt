@@ -18,7 +18,10 @@ pub(crate) fn forloop_object(
 ) -> Result<Object>
     requires item { at < total }
     requires within { total ≤ 9223372036854775807 }
-    ensures { IsValueOrMemory (λ o. object (pairs_view o.entries)) result (forloop_object at total (view parent)) }
+    ensures {
+        IsValueOrMemory (λ o. object (pairs_view o.entries)) result
+            (forloop_object at total (view parent))
+    }
 {
     let mut object: Object = BTreeMap::new(alloc);
     put_number(alloc, &mut object, "length", total)?;
@@ -39,7 +42,10 @@ pub(crate) fn tablerow_object(
     requires within { total ≤ 9223372036854775807 }
     requires some { 0 < columns }
     requires few { columns ≤ 9223372036854775807 }
-    ensures { IsValueOrMemory (λ o. object (pairs_view o.entries)) result (tablerow_object at total columns) }
+    ensures {
+        IsValueOrMemory (λ o. object (pairs_view o.entries)) result
+            (tablerow_object at total columns)
+    }
 {
     let mut object: Object = BTreeMap::new(alloc);
     put_number(alloc, &mut object, "length", total)?;
@@ -55,7 +61,8 @@ fn put_places(alloc: Global, object: &mut Object, at: usize, total: usize) -> Re
     requires within { total ≤ 9223372036854775807 }
     ensures { IsValueOrMemory (λ _. pairs_view object.new.entries) result
         (put (codes "rindex") (count (total - at)) (put (codes "rindex0") (count (total - at - 1))
-        (put (codes "index") (count (at + 1)) (put (codes "index0") (count at) (pairs_view object.old.entries))))) }
+        (put (codes "index") (count (at + 1))
+                (put (codes "index0") (count at) (pairs_view object.old.entries))))) }
 {
     let behind = total - at;
     put_number(alloc, object, "index0", at)?;
@@ -68,13 +75,15 @@ fn put_places(alloc: Global, object: &mut Object, at: usize, total: usize) -> Re
 fn put_ends(alloc: Global, object: &mut Object, at: usize, total: usize) -> Result<()>
     requires { at < total }
     ensures { IsValueOrMemory (λ _. pairs_view object.new.entries) result
-        (put (codes "last") (truth (at + 1 == total)) (put (codes "first") (truth (at == 0)) (pairs_view object.old.entries))) }
+        (put (codes "last") (truth (at + 1 == total)) (put (codes "first") (truth (at == 0))
+                (pairs_view object.old.entries))) }
 {
     put(alloc, object, "first", Value::Bool(at == 0))?;
     put(alloc, object, "last", Value::Bool(at + 1 == total))
 }
 
-/// The column of the item, counted from 0 and from 1, and whether it is the first of its row, and the last.
+/// The column of the item, counted from 0 and from 1, and whether it is the first of its row, and
+/// the last.
 fn put_columns(
     alloc: Global,
     object: &mut Object,
@@ -85,8 +94,10 @@ fn put_columns(
     requires inside { column < columns }
     requires few { columns ≤ 9223372036854775807 }
     ensures { IsValueOrMemory (λ _. pairs_view object.new.entries) result
-        (put (codes "col_last") (truth ((column + 1 == columns) || is_end)) (put (codes "col_first") (truth (column == 0))
-        (put (codes "col") (count (column + 1)) (put (codes "col0") (count column) (pairs_view object.old.entries))))) }
+        (put (codes "col_last") (truth ((column + 1 == columns) || is_end))
+                (put (codes "col_first") (truth (column == 0))
+        (put (codes "col") (count (column + 1))
+                (put (codes "col0") (count column) (pairs_view object.old.entries))))) }
 {
     put_number(alloc, object, "col0", column)?;
     put_number(alloc, object, "col", column + 1)?;
@@ -101,13 +112,19 @@ fn put_columns(
 
 fn put_number(alloc: Global, object: &mut Object, name: &str, number: usize) -> Result<()>
     requires { number ≤ 9223372036854775807 }
-    ensures { IsValueOrMemory (λ _. pairs_view object.new.entries) result (put name.now (count number) (pairs_view object.old.entries)) }
+    ensures {
+        IsValueOrMemory (λ _. pairs_view object.new.entries) result
+            (put name.now (count number) (pairs_view object.old.entries))
+    }
 {
     put(alloc, object, name, Value::Integer(number as i64))
 }
 
 fn put(alloc: Global, object: &mut Object, name: &str, value: Value) -> Result<()>
-    ensures { IsValueOrMemory (λ _. pairs_view object.new.entries) result (put name.now (view value) (pairs_view object.old.entries)) }
+    ensures {
+        IsValueOrMemory (λ _. pairs_view object.new.entries) result
+            (put name.now (view value) (pairs_view object.old.entries))
+    }
 {
     store(object, String::from_str(alloc, name)?, value)
 }

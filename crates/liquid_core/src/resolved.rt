@@ -1,5 +1,6 @@
 //! What names and paths lead to.
-ghost use Rattle.std.specs.Prelude.{◌≡◌, ◌<◌, ◌≤◌, ◌+◌, ◌++◌, ◌∷◌, List, length, drop, take, [], IfSome, IsOk, option_map, map, reverse, Some, None};
+ghost use Rattle.std.specs.Prelude.{◌≡◌, ◌<◌, ◌≤◌, ◌+◌, ◌++◌, ◌∷◌, List, length, drop, take, []};
+ghost use Rattle.std.specs.Prelude.{IfSome, IsOk, option_map, map, reverse, Some, None};
 ghost use Rattle.liquid_model.specs.Answer.{IsValueOrMemory};
 ghost use Rattle.liquid_model.specs.Cow.{cow_view};
 ghost use Rattle.liquid_model.specs.Find.{step};
@@ -15,7 +16,9 @@ ghost use Rattle.liquid_model.specs.Maps.{Map};
 ghost use Rattle.liquid_core.specs.declared.frame.Scope.{Scope};
 ghost use Rattle.liquid_core.specs.declared.frame.Scope.TheVariants as scope;
 ghost use Rattle.liquid_core.specs.declared.frame.LoopFrame.{LoopFrame};
-ghost use Rattle.liquid_core.specs.LoopFrames.{IsNext, parent_of, frame_item, frame_map, frame_object, object_part, loop_name, scope_map, standing};
+ghost use Rattle.liquid_core.specs.LoopFrames.{IsNext, parent_of, frame_item, frame_map};
+ghost use Rattle.liquid_core.specs.LoopFrames.{frame_object, object_part, loop_name, scope_map};
+ghost use Rattle.liquid_core.specs.LoopFrames.{standing};
 
 use crate::frame::{Items, LoopFrame, LoopKind, Scope};
 use crate::loop_object::{forloop_object, tablerow_object};
@@ -132,8 +135,14 @@ impl<'d> LoopFrame<'d> {
 
     /// What the frame binds to the name.
     fn find<'a>(&'a self, name: &str, behind: Scopes<'a, 'd>) -> Option<Resolved<'a, 'd>>
-        ensures value { option_map resolved_view result ≡ frame_map self.now (local_of (scopes_view behind.entry)) name.now }
-        ensures among { IfSome result (IsAmong (behind.entry.frames.now ++ scope.LoopFrame self.now ∷ []) behind.entry.outer.now) }
+        ensures value {
+            option_map resolved_view result ≡
+                frame_map self.now (local_of (scopes_view behind.entry)) name.now
+        }
+        ensures among {
+            IfSome result (IsAmong (behind.entry.frames.now ++ scope.LoopFrame self.now ∷
+                []) behind.entry.outer.now)
+        }
         ensures nested { IfSome result (λ s. depth s ≤ length behind.entry.frames.now + 1) }
     {
         if name == self.name {
@@ -147,7 +156,10 @@ impl<'d> LoopFrame<'d> {
 
     /// A step from the loop's object.
     fn stepped<'a>(&'a self, part: &Value, behind: Scopes<'a, 'd>) -> Option<Resolved<'a, 'd>>
-        ensures value { option_map resolved_view result ≡ step (frame_object self.now (local_of (scopes_view behind.entry))) (view part.now) }
+        ensures value {
+            option_map resolved_view result ≡
+                step (frame_object self.now (local_of (scopes_view behind.entry))) (view part.now)
+        }
         ensures among { IfSome result (IsAmong behind.entry.frames.now behind.entry.outer.now) }
     {
         match part {
@@ -161,7 +173,10 @@ impl<'d> LoopFrame<'d> {
 
     /// A part of the loop's object, or how many it has.
     fn part<'a>(&'a self, name: &str, behind: Scopes<'a, 'd>) -> Option<Resolved<'a, 'd>>
-        ensures value { option_map resolved_view result ≡ object_part (frame_object self.now (local_of (scopes_view behind.entry))) name.now }
+        ensures value {
+            option_map resolved_view result ≡
+                object_part (frame_object self.now (local_of (scopes_view behind.entry))) name.now
+        }
         ensures among { IfSome result (IsAmong behind.entry.frames.now behind.entry.outer.now) }
     {
         let k = self.at;
@@ -206,7 +221,10 @@ impl<'d> LoopFrame<'d> {
     /// The loop's object.
     #[cycle(object)]
     fn object<'a>(&'a self, alloc: Global, behind: Scopes<'a, 'd>) -> Result<Object>
-        ensures { IsValueOrMemory (λ o. object (pairs_view o.entries)) result (frame_object self.now (local_of (scopes_view behind.entry))) }
+        ensures {
+            IsValueOrMemory (λ o. object (pairs_view o.entries)) result
+                (frame_object self.now (local_of (scopes_view behind.entry)))
+        }
     {
         match &self.kind {
             LoopKind::For(elsewhere) => {
@@ -229,8 +247,12 @@ impl<'d> LoopFrame<'d> {
 
 /// What `forloop` was before a loop.
 fn parent<'a, 'd>(found: Option<Resolved<'a, 'd>>, elsewhere: &'a Value) -> Resolved<'a, 'd>
-    ensures value { resolved_view result ≡ parent_of (option_map resolved_view found.entry) (view elsewhere.now) }
-    ensures among { (scopes : List Scope) (outer : List Outer) → IfSome found.entry (IsAmong scopes outer) → IsAmong scopes outer result }
+    ensures value { resolved_view result ≡ parent_of (option_map resolved_view found.entry)
+                (view elsewhere.now) }
+    ensures among {
+        (scopes : List Scope) (outer : List Outer) → IfSome found.entry (IsAmong scopes outer) →
+        IsAmong scopes outer result
+    }
 {
     match found {
         Some(resolved) => resolved,
@@ -265,7 +287,10 @@ impl<'d> Scope<'d> {
     /// Goes on to the next item of a loop.
     pub(crate) fn go_on(&mut self)
         requires { (t : LoopFrame) → self.old ≡ scope.LoopFrame t → t.at + 1 < t.count }
-        ensures { (t : LoopFrame) → self.old ≡ scope.LoopFrame t → (u : LoopFrame) × ((self.new ≡ scope.LoopFrame u) × IsNext t u) }
+        ensures {
+            (t : LoopFrame) → self.old ≡ scope.LoopFrame t → (u : LoopFrame) ×
+            ((self.new ≡ scope.LoopFrame u) × IsNext t u)
+        }
     {
         if let Scope::LoopFrame(frame) = self {
             frame.at += 1;
@@ -289,8 +314,14 @@ impl<'d> Scope<'d> {
     /// What the scope binds to the name.
     #[tactic(auto, using(crate::proofs::States::held_at))]
     fn find<'a>(&'a self, name: &str, behind: Scopes<'a, 'd>) -> Option<Resolved<'a, 'd>>
-        ensures value { option_map resolved_view result ≡ scope_map self.now (local_of (scopes_view behind.entry)) name.now }
-        ensures among { IfSome result (IsAmong (behind.entry.frames.now ++ self.now ∷ []) behind.entry.outer.now) }
+        ensures value {
+            option_map resolved_view result ≡
+                scope_map self.now (local_of (scopes_view behind.entry)) name.now
+        }
+        ensures among {
+            IfSome result
+                (IsAmong (behind.entry.frames.now ++ self.now ∷ []) behind.entry.outer.now)
+        }
         ensures nested { IfSome result (λ s. depth s ≤ length behind.entry.frames.now + 1) }
     {
         match self {
@@ -306,8 +337,12 @@ impl<'d> Scope<'d> {
 impl<'a, 'd> Resolved<'a, 'd> {
     /// One step on.
     pub(crate) fn stepped(self, part: &Value) -> Option<Resolved<'a, 'd>>
-        ensures value { option_map resolved_view result ≡ step (resolved_view self.entry) (view part.now) }
-        ensures among { (scopes : List Scope) (outer : List Outer) → IsAmong scopes outer self.entry → IfSome result (IsAmong scopes outer) }
+        ensures value { option_map resolved_view result ≡ step (resolved_view self.entry)
+                    (view part.now) }
+        ensures among {
+            (scopes : List Scope) (outer : List Outer) → IsAmong scopes outer self.entry →
+            IfSome result (IsAmong scopes outer)
+        }
     {
         match self {
             Resolved::Lent(found) => match found.stepped(part) {
@@ -324,8 +359,14 @@ impl<'a, 'd> Resolved<'a, 'd> {
 
     /// One step on, by what was found.
     pub(crate) fn stepped_by(self, part: Resolved<'a, 'd>) -> Option<Resolved<'a, 'd>>
-        ensures value { option_map resolved_view result ≡ step (resolved_view self.entry) (resolved_view part.entry) }
-        ensures among { (scopes : List Scope) (outer : List Outer) → IsAmong scopes outer self.entry → IfSome result (IsAmong scopes outer) }
+        ensures value {
+            option_map resolved_view result ≡ step (resolved_view self.entry)
+                (resolved_view part.entry)
+        }
+        ensures among {
+            (scopes : List Scope) (outer : List Outer) → IsAmong scopes outer self.entry →
+            IfSome result (IsAmong scopes outer)
+        }
     {
         match part {
             Resolved::Lent(found) => {
@@ -357,10 +398,14 @@ impl<'a, 'd> Resolved<'a, 'd> {
 }
 
 impl<'a, 'd> Scopes<'a, 'd> {
-    /// `find` of what a value holds, and of numbers; where no loop says anything, the scopes behind each loop do.
+    /// `find` of what a value holds, and of numbers; where no loop says anything, the scopes behind
+    /// each loop do.
     #[inline(never)]
     pub(crate) fn near(self, name: &str) -> Near<'a>
-        ensures { Says result (local_of (scopes_view self.entry) name.now) (local_of (reverse (map held self.entry.outer.now)) name.now) }
+        ensures {
+            Says result (local_of (scopes_view self.entry) name.now)
+                (local_of (reverse (map held self.entry.outer.now)) name.now)
+        }
     {
         let frames = self.frames;
         let mut left = frames.len();
@@ -379,8 +424,12 @@ impl<'a, 'd> Scopes<'a, 'd> {
         requires { last < length self.frames.now }
         ensures nested { IfSome result (λ s. depth s ≤ last + 1) }
         ensures among { IfSome result (IsAmong self.entry.frames.now self.entry.outer.now) }
-        ensures value { (scope : Scope) → drop last self.entry.frames.now ≡ scope ∷ drop (last + 1) self.entry.frames.now →
-            option_map resolved_view result ≡ scope_map scope (local_of (standing (take last self.entry.frames.now) (reverse (map held self.entry.outer.now)))) name.now }
+        ensures value { (scope : Scope) → drop last self.entry.frames.now ≡
+                    scope ∷ drop (last + 1) self.entry.frames.now →
+            option_map resolved_view result ≡
+                    scope_map scope
+                    (local_of (standing (take last self.entry.frames.now)
+                    (reverse (map held self.entry.outer.now)))) name.now }
     {
         let frames = self.frames;
         let behind = Scopes {
@@ -393,7 +442,8 @@ impl<'a, 'd> Scopes<'a, 'd> {
 
     /// What a name is in the innermost scope that holds it.
     pub fn find(self, name: &str) -> Option<Resolved<'a, 'd>>
-        ensures value { option_map resolved_view result ≡ local_of (scopes_view self.entry) name.now }
+        ensures value { option_map resolved_view result ≡
+                    local_of (scopes_view self.entry) name.now }
         ensures among { IfSome result (IsAmong self.entry.frames.now self.entry.outer.now) }
         ensures nested { IfSome result (λ s. depth s ≤ length self.entry.frames.now) }
     {
@@ -411,7 +461,8 @@ impl<'a, 'd> Scopes<'a, 'd> {
 
 /// What a name is in the last of the objects that holds it.
 fn outer_find<'a, 'd>(scopes: &'a [Object], name: &str) -> Option<Resolved<'a, 'd>>
-    ensures value { option_map resolved_view result ≡ local_of (reverse (map held scopes.now)) name.now }
+    ensures value { option_map resolved_view result ≡
+                local_of (reverse (map held scopes.now)) name.now }
     ensures held { IfSome result IsHeld }
     ensures nested { IfSome result (λ s. depth s ≡ 0) }
 {
@@ -423,7 +474,8 @@ fn outer_find<'a, 'd>(scopes: &'a [Object], name: &str) -> Option<Resolved<'a, '
 
 /// The value of a name in the last of the objects that holds it.
 pub(crate) fn last_held<'a>(scopes: &'a [Object], name: &str) -> Option<&'a Value>
-    ensures { option_map (λ v. view v.now) result ≡ local_of (reverse (map held scopes.now)) name.now }
+    ensures { option_map (λ v. view v.now) result ≡
+                local_of (reverse (map held scopes.now)) name.now }
 {
     for scope in scopes.iter().rev() {
         if let Some(value) = look_up(scope, name) {

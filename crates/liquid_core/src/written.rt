@@ -10,8 +10,8 @@ use liquid_model::{Value, write_text};
 use std::fmt;
 use std::fmt::{Formatter, Write};
 
-/// The written form: a literal text in double quotes, a decimal number, `nil`, `true`, `false`, or a variable
-/// as `a["b"][0]`.
+/// The written form: a literal text in double quotes, a decimal number, `nil`, `true`, `false`, or
+/// a variable as `a["b"][0]`.
 impl fmt::Display for Expression {
     ghost output = { λ x. Some (written_form (expression_view x)) };
 
@@ -31,7 +31,10 @@ impl fmt::Display for Variable {
 
 #[cycle(write_expression)]
 fn write_expression<W: Write>(expression: &Expression, f: &mut Formatter<W>) -> fmt::Result
-    ensures { WritesOnOk W.write_str_gives f.old result (written_form (expression_view expression.now)) f.new }
+    ensures {
+        WritesOnOk W.write_str_gives f.old result (written_form (expression_view expression.now))
+            f.new
+    }
 {
     match expression {
         Expression::Literal(value) => write_literal(value, f),
@@ -41,7 +44,8 @@ fn write_expression<W: Write>(expression: &Expression, f: &mut Formatter<W>) -> 
 
 #[cycle(write_expression)]
 fn write_variable<W: Write>(variable: &Variable, f: &mut Formatter<W>) -> fmt::Result
-    ensures { WritesOnOk W.write_str_gives f.old result (written_form (variable_view variable.now)) f.new }
+    ensures { WritesOnOk W.write_str_gives f.old result (written_form (variable_view variable.now))
+                f.new }
 {
     f.write_str(variable.name.as_str())?;
     write_steps(&variable.indexes, f)
@@ -49,7 +53,10 @@ fn write_variable<W: Write>(variable: &Variable, f: &mut Formatter<W>) -> fmt::R
 
 #[cycle(write_expression)]
 fn write_steps<W: Write>(indexes: &Vec<Expression>, f: &mut Formatter<W>) -> fmt::Result
-    ensures { WritesOnOk W.write_str_gives f.old result (written_steps (steps_view indexes.now.items)) f.new }
+    ensures {
+        WritesOnOk W.write_str_gives f.old result (written_steps (steps_view indexes.now.items))
+            f.new
+    }
 {
     for index in indexes {
         f.write_str("[")?;
@@ -71,7 +78,8 @@ fn write_literal<W: Write>(value: &Value, f: &mut Formatter<W>) -> fmt::Result
 
 /// Writes the text in double quotes.
 fn write_quoted<W: Write>(text: &str, f: &mut Formatter<W>) -> fmt::Result
-    ensures { WritesOnOk W.write_str_gives f.old result (codes "\"" ++ (text.now ++ codes "\"")) f.new }
+    ensures { WritesOnOk W.write_str_gives f.old result (codes "\"" ++ (text.now ++ codes "\""))
+                f.new }
 {
     f.write_str("\"")?;
     f.write_str(text)?;

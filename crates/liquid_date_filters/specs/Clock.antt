@@ -1,7 +1,9 @@
 -- What a clock shows, and the parts of it that a pattern can print.
-use Rattle.std.specs.Prelude.{ℕ, ℤ, pos, ◌<◌, ◌+◌, ◌-◌, ◌*◌, ◌/◌, ◌%◌, ◌+ℤ◌, ◌-ℤ◌, ◌*ℤ◌, int_le, int_lt, unsigned_abs, List, Option, Some, None, codes, if◌then◌else◌}
+use Rattle.std.specs.Prelude.{ℕ, ℤ, pos, ◌<◌, ◌+◌, ◌-◌, ◌*◌, ◌/◌, ◌%◌, ◌+ℤ◌, ◌-ℤ◌, ◌*ℤ◌, int_le}
+use Rattle.std.specs.Prelude.{int_lt, unsigned_abs, List, Option, Some, None, codes, if◌then◌else◌}
 use Rattle.std.specs.Ordering.{int_eq}
-use Rattle.jiff_core.specs.Calendar.{days_from_civil, day_of_year, days_in_month, weekday_number, iso_year_start, IsYear}
+use Rattle.jiff_core.specs.Calendar.{days_from_civil, day_of_year, days_in_month, weekday_number}
+use Rattle.jiff_core.specs.Calendar.{iso_year_start, IsYear}
 use Rattle.jiff_core.specs.Timestamp.{nanos_of_seconds}
 use Rattle.jiff_core.specs.declared.civil.datetime.DateTime.{DateTime}
 use Rattle.std.specs.Int.{int_div_euclid, IsInRange}
@@ -47,7 +49,8 @@ week c = week_of (week_year c) (day_number c)
 -- nanoseconds since 1 January 1970 on the clock itself, and at no offset
 abbrev pub clock_nanos : Clock → ℤ
 clock_nanos c =
-    day_number c *ℤ pos 86_400_000_000_000 +ℤ pos ((c.hour * 3600 + c.minute * 60 + c.second) * 1_000_000_000 + c.nanosecond)
+    day_number c *ℤ pos 86_400_000_000_000 +ℤ pos
+            ((c.hour * 3600 + c.minute * 60 + c.second) * 1_000_000_000 + c.nanosecond)
 
 abbrev pub instant : Clock → ℤ
 instant c = clock_nanos c -ℤ nanos_of_seconds c.offset

@@ -1,10 +1,12 @@
 -- What the date filters answer.
-use Rattle.std.specs.Prelude.{ℤ, pos, neg_ℤ, ◌*ℤ◌, ◌==◌, ◌&&◌, int_le, Bool, List, [], ◌∷◌, length, Option, Some, None, Result, Ok, Err, if◌then◌else◌}
+use Rattle.std.specs.Prelude.{ℤ, pos, neg_ℤ, ◌*ℤ◌, ◌==◌, ◌&&◌, int_le, Bool, List, [], ◌∷◌, length}
+use Rattle.std.specs.Prelude.{Option, Some, None, Result, Ok, Err, if◌then◌else◌}
 use Rattle.liquid_model.specs.Data.{Datum, text, text_of}
 use Rattle.liquid_model.specs.Fallible.{◌>>=◌}
 use Rattle.liquid_model.specs.Texts.{Text}
 use Rattle.liquid_model.specs.declared.error.ErrorKind.{ErrorKind}
-use Rattle.liquid_model.specs.declared.error.ErrorKind.TheVariants.{InvalidInput, InvalidArgument, TimezoneRange}
+use Rattle.liquid_model.specs.declared.error.ErrorKind.TheVariants.{InvalidInput, InvalidArgument}
+use Rattle.liquid_model.specs.declared.error.ErrorKind.TheVariants.{TimezoneRange}
 use Rattle.liquid_filter_base.specs.Arguments.{Answer, text_or, whole_or_fault}
 use Rattle.liquid_date_filters.specs.Clock.{Clock, instant}
 use Rattle.liquid_date_filters.specs.Instant.{clock_at}
@@ -40,8 +42,10 @@ is_zone hours = int_le (neg_ℤ (pos 23)) hours && int_le hours (pos 23)
 abbrev pub in_zone : Option Clock → Text → ℤ → Answer
 in_zone None pattern hours = Err InvalidInput
 in_zone (Some c) pattern hours =
-    if is_zone hours then as_text (printed (clock_at (instant c) (hours *ℤ pos 3600)) pattern) else Err TimezoneRange
+    if is_zone hours then as_text (printed (clock_at (instant c) (hours *ℤ pos 3600)) pattern)
+            else Err TimezoneRange
 
 abbrev pub date_in_tz_answer : Datum → List Datum → Answer
-date_in_tz_answer d (pattern ∷ hours ∷ args) = whole_or_fault hours >>= in_zone (date_of d) (text_of pattern)
+date_in_tz_answer d (pattern ∷ hours ∷ args) = whole_or_fault hours >>= in_zone (date_of d)
+        (text_of pattern)
 date_in_tz_answer d args = Err InvalidArgument

@@ -1,5 +1,6 @@
 -- The clock at an instant.
-use Rattle.std.specs.Prelude.{ℕ, zero, suc, ℤ, pos, ◌+◌, ◌-◌, ◌/◌, ◌%◌, ◌+ℤ◌, ◌-ℤ◌, int_le, unsigned_abs, if◌then◌else◌}
+use Rattle.std.specs.Prelude.{ℕ, zero, suc, ℤ, pos, ◌+◌, ◌-◌, ◌/◌, ◌%◌, ◌+ℤ◌, ◌-ℤ◌, int_le}
+use Rattle.std.specs.Prelude.{unsigned_abs, if◌then◌else◌}
 use Rattle.std.specs.Int.{int_div_euclid, int_rem_euclid}
 use Rattle.jiff_core.specs.Calendar.{days_from_civil}
 use Rattle.jiff_core.specs.Timestamp.{nanos_of_seconds}
@@ -36,8 +37,10 @@ clock_on day y m rest offset = record {
 -- the clock after so many nanoseconds of its own since 1970 began
 abbrev pub clock_after : ℤ → ℤ → Clock
 clock_after n offset =
-    clock_on (int_div_euclid n (pos 86_400_000_000_000)) (year_of (int_div_euclid n (pos 86_400_000_000_000)))
-    (month_of (year_of (int_div_euclid n (pos 86_400_000_000_000))) (int_div_euclid n (pos 86_400_000_000_000)))
+    clock_on (int_div_euclid n (pos 86_400_000_000_000))
+            (year_of (int_div_euclid n (pos 86_400_000_000_000)))
+    (month_of (year_of (int_div_euclid n (pos 86_400_000_000_000)))
+            (int_div_euclid n (pos 86_400_000_000_000)))
     (unsigned_abs (int_rem_euclid n (pos 86_400_000_000_000))) offset
 
 -- what a clock at the offset shows at the instant

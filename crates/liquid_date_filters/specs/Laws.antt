@@ -1,12 +1,14 @@
 -- What is proved of dates beyond the filters' answers.
-use Rattle.std.specs.Prelude.{◌≡◌, ◌⊎◌, ◌<◌, true, Some, None, ℤ, pos, ◌+ℤ◌, ◌*ℤ◌, List, [], ◌∷◌, MatchBool, Ok, Err}
+use Rattle.std.specs.Prelude.{◌≡◌, ◌⊎◌, ◌<◌, true, Some, None, ℤ, pos, ◌+ℤ◌, ◌*ℤ◌, List, [], ◌∷◌}
+use Rattle.std.specs.Prelude.{MatchBool, Ok, Err}
 use Rattle.jiff_core.specs.DateTime.{IsCivilNanos}
 use Rattle.jiff_core.specs.Timestamp.{nanos_of_seconds}
 use Rattle.liquid_model.specs.Answer.{IsTheOne}
 use Rattle.liquid_model.specs.Data.{Datum, text, text_of}
 use Rattle.liquid_model.specs.Texts.{Text}
 use Rattle.liquid_model.specs.Whole.{whole}
-use Rattle.liquid_model.specs.declared.error.ErrorKind.TheVariants.{InvalidInput, InvalidArgument, TimezoneRange}
+use Rattle.liquid_model.specs.declared.error.ErrorKind.TheVariants.{InvalidInput, InvalidArgument}
+use Rattle.liquid_model.specs.declared.error.ErrorKind.TheVariants.{TimezoneRange}
 use Rattle.liquid_filter_base.specs.Arguments.{Answer, text_or}
 use Rattle.liquid_date_filters.specs.Clock.{Clock, IsClock, instant}
 use Rattle.liquid_date_filters.specs.Dates.{as_text, date_answer, date_in_tz_answer, is_zone}
@@ -23,15 +25,19 @@ abbrev pub NamedIsRead : Type 0
 NamedIsRead = (x : Spelled) → exists x ≡ true → read (written named_written x) ≡ Some (clock x)
 
 abbrev pub ShortIsRead : Type 0
-ShortIsRead = (x : Spelled) → exists x ≡ true → x.date.day < 10 → read (written short_written x) ≡ Some (clock x)
+ShortIsRead = (x : Spelled) → exists x ≡ true → x.date.day < 10 → read (written short_written x) ≡
+        Some (clock x)
 
 -- the text is the date in one of its spellings
 abbrev pub IsWritten : Spelled → Text → Type 0
-IsWritten x s = (s ≡ written plain_written x) ⊎ ((s ≡ written named_written x) ⊎ ((x.date.day < 10) × (s ≡ written short_written x)))
+IsWritten x s = (s ≡ written plain_written x) ⊎
+    ((s ≡ written named_written x) ⊎ ((x.date.day < 10) × (s ≡ written short_written x)))
 
--- and no other text is read: a clock that is read is that of a date that exists, and the text is written so
+-- and no other text is read: a clock that is read is that of a date that exists, and the text is
+-- written so
 abbrev pub ReadIsWritten : Type 0
-ReadIsWritten = (s : Text) (c : Clock) → read s ≡ Some c → (x : Spelled) × (exists x ≡ true) × (c ≡ clock x) × IsWritten x s
+ReadIsWritten = (s : Text) (c : Clock) → read s ≡ Some c → (x : Spelled) × (exists x ≡ true) ×
+    (c ≡ clock x) × IsWritten x s
 
 -- ---- the clock at an instant
 

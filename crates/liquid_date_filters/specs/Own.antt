@@ -1,4 +1,5 @@
--- What jiff itself prints from: the parts that it fills, and the date, the week date and the second that they come to.
+-- What jiff itself prints from: the parts that it fills, and the date, the week date and the second
+-- that they come to.
 use Rattle.std.specs.Prelude.{◌≡◌, ℕ, ℤ, List, Some, Ok}
 use Rattle.jiff_core.specs.declared.civil.datetime.DateTime.{DateTime}
 use Rattle.jiff_core.specs.declared.civil.iso_week_date.ISOWeekDate.{ISOWeekDate}
@@ -12,7 +13,9 @@ use Rattle.liquid_date_filters.specs.Printed.{strict, shown}
 -- the parts of a zoned datetime as jiff fills them, with its date, its week date and its second
 abbrev pub own : DateTime → ℤ → ISOWeekDate → Context
 own dt o i = record {
-  parts = record (date_parts dt.date (time_parts dt.time)) { offset = Some o; timestamp = Some (instant (clock_of dt o)); tz_abbreviation = Some (zone_text o); iana = zone_name o };
+  parts = record (date_parts dt.date (time_parts dt.time)) { offset = Some o;
+          timestamp = Some (instant (clock_of dt o)); tz_abbreviation = Some (zone_text o); iana =
+      zone_name o };
   date = Ok dt.date;
   iso = Ok i;
   second = Ok (unix_second (clock_of dt o));
@@ -23,4 +26,5 @@ IsWeekOf i dt = iso_epoch_day i ≡ epoch_day dt.date
 
 -- a pattern shows the same of them
 abbrev pub ShowsOwn : DateTime → ℤ → List ℕ → Type 0
-ShowsOwn dt o pattern = (i : ISOWeekDate) → IsWeekOf i dt → show_format strict pattern (own dt o i) ≡ shown (clock_of dt o) pattern
+ShowsOwn dt o pattern = (i : ISOWeekDate) → IsWeekOf i dt →
+    show_format strict pattern (own dt o i) ≡ shown (clock_of dt o) pattern

@@ -18,16 +18,20 @@ strict = record { locale = Default; lenient = false }
 
 -- all that a pattern can ask for is among the parts, and the second is the clock's
 abbrev pub context : Clock → Context
-context c = record { parts = parts c; date = Err (Missing NoDate); iso = Err (Missing NoDate); second = Ok (unix_second c) }
+context c = record { parts = parts c; date = Err (Missing NoDate); iso = Err (Missing NoDate);
+        second = Ok (unix_second c) }
 
 abbrev pub shown : Clock → List ℕ → Shown
 shown c pattern = show_format strict pattern (context c)
 
 -- the text, or a pattern that is refused
 abbrev pub printed : Clock → List ℕ → Result (List ℕ) ErrorKind
-printed c pattern = match_result (shown c pattern) (λ bs. if is_utf8 bs then Ok bs else Err DateFormat) (λ e. Err DateFormat)
+printed c pattern =
+    match_result (shown c pattern) (λ bs. if is_utf8 bs then Ok bs else Err DateFormat)
+        (λ e. Err DateFormat)
 
--- memory ran out, or jiff lacks the instant: parts that hold one never lack it, which jiff's contract leaves open
+-- memory ran out, or jiff lacks the instant: parts that hold one never lack it, which jiff's
+-- contract leaves open
 abbrev pub is_short : Error → Bool
 is_short OutOfMemory = true
 is_short (Missing Instant) = true

@@ -1,5 +1,6 @@
 -- How a date is written, and what a text that is a date says.
-use Rattle.std.specs.Prelude.{◌≡◌, ℕ, ℤ, pos, neg_ℤ, ◌+◌, ◌-◌, ◌*◌, ◌==◌, ◌&&◌, nat_le, Bool, true, false, List, [], ◌∷◌, Option, Some, None, if◌then◌else◌}
+use Rattle.std.specs.Prelude.{◌≡◌, ℕ, ℤ, pos, neg_ℤ, ◌+◌, ◌-◌, ◌*◌, ◌==◌, ◌&&◌, nat_le, Bool, true}
+use Rattle.std.specs.Prelude.{false, List, [], ◌∷◌, Option, Some, None, if◌then◌else◌}
 use Rattle.std.specs.Char.{is_ascii_digit}
 use denote.Bor.{Bor}
 use Rattle.liquid_date_filters.specs.declared.spelling.Day.{Day as CodeDay}
@@ -168,14 +169,16 @@ spelled s = do
 -- the calendar has the day in these years, and a clock shows the time
 abbrev pub exists : Spelled → Bool
 exists x =
-    nat_le 1 x.date.year && nat_le x.date.year 9998 && nat_le 1 x.date.month && nat_le x.date.month 12
+    nat_le 1 x.date.year && nat_le x.date.year 9998 && nat_le 1 x.date.month &&
+            nat_le x.date.month 12
     && nat_le 1 x.date.day && nat_le x.date.day (days_in_month (pos x.date.year) x.date.month)
     && nat_le x.time.hour 23 && nat_le x.time.minute 59 && nat_le x.time.second 59
     && nat_le x.offset.hours 23 && nat_le x.offset.minutes 59
 
 abbrev pub offset_seconds : Offset → ℤ
 offset_seconds o =
-    if o.behind then neg_ℤ (pos (o.hours * 3600 + o.minutes * 60)) else pos (o.hours * 3600 + o.minutes * 60)
+    if o.behind then neg_ℤ (pos (o.hours * 3600 + o.minutes * 60)) else pos
+            (o.hours * 3600 + o.minutes * 60)
 
 -- the clock that shows it
 abbrev pub clock : Spelled → Clock

@@ -1,5 +1,8 @@
-//! What is proved of dates beyond the filters' answers: each law is the contract of a function without a body.
-ghost use Rattle.liquid_date_filters.specs.Laws.{ClockOfInstant, DateInTzIsOne, DateIsOne, InstantOfClock, NamedIsRead, PlainIsRead, ReadIsWritten, ShortIsRead};
+//! What is proved of dates beyond the filters' answers: each law is the contract of a function
+//! without a body.
+ghost use Rattle.liquid_date_filters.specs.Laws.{ClockOfInstant, DateInTzIsOne, DateIsOne};
+ghost use Rattle.liquid_date_filters.specs.Laws.{InstantOfClock, NamedIsRead, PlainIsRead};
+ghost use Rattle.liquid_date_filters.specs.Laws.{ReadIsWritten, ShortIsRead};
 ghost use Rattle.liquid_date_filters.specs.Own.{ShowsOwn};
 
 use jiff_core::Offset;
@@ -10,7 +13,8 @@ pub fn plain_is_read()
     ensures { PlainIsRead }
 {}
 
-/// A date that exists is read where its month is written by letters, as `13 Jun 2016 02:30:00 +0300`.
+/// A date that exists is read where its month is written by letters, as
+/// `13 Jun 2016 02:30:00 +0300`.
 pub fn named_is_read()
     ensures { NamedIsRead }
 {}
@@ -20,7 +24,8 @@ pub fn short_is_read()
     ensures { ShortIsRead }
 {}
 
-/// A text that is read is a date that exists, written in one of these ways: no other text is a date.
+/// A text that is read is a date that exists, written in one of these ways: no other text is a
+/// date.
 pub fn read_is_written()
     ensures { ReadIsWritten }
 {}

@@ -7,7 +7,8 @@ ghost use Rattle.liquid_model.specs.Answer.{Answers};
 ghost use Rattle.liquid_model.specs.ErrorKinds.{IsKindOrMemory};
 ghost use Rattle.liquid_model.specs.View.{view};
 ghost use Rattle.liquid_model.specs.declared.error.ErrorKind.TheVariants.{DateFormat};
-ghost use Rattle.liquid_date_filters.specs.Clock.{clock_of, parts, week, week_year, zone_name, zone_text};
+ghost use Rattle.liquid_date_filters.specs.Clock.{clock_of, parts, week, week_year, zone_name};
+ghost use Rattle.liquid_date_filters.specs.Clock.{zone_text};
 ghost use Rattle.liquid_date_filters.specs.Dates.{as_text};
 ghost use Rattle.liquid_date_filters.specs.Printed.{is_short, printed};
 ghost use Rattle.liquid_date_filters.specs.Spelling.{zoned_clock};
@@ -56,7 +57,8 @@ fn filled<'t>(
     abbreviation: &'t str,
     name: Option<&'t str>,
 ) -> BrokenDownTime<'t>
-    requires instant { civil_nanos datetime ≡ timestamp.nanosecond +ℤ nanos_of_seconds offset.seconds }
+    requires instant { civil_nanos datetime ≡
+                timestamp.nanosecond +ℤ nanos_of_seconds offset.seconds }
     requires abbreviation { abbreviation.now ≡ zone_text offset.seconds }
     requires name { option_map (λ s. s.now) name ≡ zone_name offset.seconds }
     ensures { parts_of result ≡ parts (clock_of datetime offset.seconds) }
@@ -103,7 +105,10 @@ fn print_parts(
     pattern: &str,
 ) -> Result<String>
     requires { parts_of filled.now ≡ parts (clock_of datetime offset.seconds) }
-    ensures { Answers (λ s. string_bytes s) result (printed (clock_of datetime offset.seconds) pattern.now) }
+    ensures {
+        Answers (λ s. string_bytes s) result
+            (printed (clock_of datetime offset.seconds) pattern.now)
+    }
 {
     match jiff_strtime::to_string(alloc, Config::new(), pattern.as_bytes(), filled) {
         Ok(text) => Ok(text),
@@ -117,8 +122,8 @@ fn print_parts(
     }
 }
 
-/// Whether memory ran out. The parts hold the instant, so that jiff never lacks it, though its contract leaves that
-/// open.
+/// Whether memory ran out. The parts hold the instant, so that jiff never lacks it, though its
+/// contract leaves that open.
 fn is_short(error: &jiff_core::Error) -> bool
     ensures { result ≡ is_short error.now }
 {

@@ -12,10 +12,11 @@ use jiff::{Timestamp, Zoned};
 use jiff_core::civil;
 use liquid_core::{Result, Value};
 
-/// The date that a text is, or none where it is no date: the whole text in one of the two spellings, as
-/// `13 Jun 2016 02:30:00 +0300` or `2016-06-13 02:30:00 +0300`, in the years 0001 to 9998, at offsets up to 23 hours
-/// and 59 minutes, and a day that the calendar has. It is in the zone that has this offset at every
-/// instant, which for an offset of 0 is UTC. It takes no memory and is never refused.
+/// The date that a text is, or none where it is no date: the whole text in one of the two
+/// spellings, as `13 Jun 2016 02:30:00 +0300` or `2016-06-13 02:30:00 +0300`, in the years 0001 to
+/// 9998, at offsets up to 23 hours and 59 minutes, and a day that the calendar has. It is in the
+/// zone that has this offset at every instant, which for an offset of 0 is UTC. It takes no memory
+/// and is never refused.
 pub fn read_date(text: &str) -> Result<Option<Zoned<'static>>>
     ensures value { IfOk result (λ o. option_map spec.zoned_clock o ≡ spec.read text.now) }
     ensures zone { IfOk result (λ o. IfSome o spec.IsAtFixedOffset) }
@@ -92,7 +93,10 @@ fn civil_date(x: Day) -> civil::Date
 
 fn civil_time(x: Time) -> civil::Time
     requires { (x.hour ≤ 23) × (x.minute ≤ 59) × (x.second ≤ 59) }
-    ensures { (result.hour ≡ x.hour) × (result.minute ≡ x.minute) × (result.second ≡ x.second) × (result.subsec_nanosecond ≡ 0) }
+    ensures {
+        (result.hour ≡ x.hour) × (result.minute ≡ x.minute) × (result.second ≡ x.second) ×
+        (result.subsec_nanosecond ≡ 0)
+    }
 {
     civil::Time {
         hour: x.hour,

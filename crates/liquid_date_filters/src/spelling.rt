@@ -229,7 +229,8 @@ fn read_offset(text: &[u8]) -> Option<(Offset, &[u8])>
 
 /// A day in one of the two spellings.
 fn read_day(text: &[u8]) -> Option<(Day, &[u8])>
-    ensures value { spec.day_view result ≡ spec.or_else (spec.named_day text.now) (spec.plain_day text.now) }
+    ensures value { spec.day_view result ≡ spec.or_else (spec.named_day text.now)
+                (spec.plain_day text.now) }
     ensures bound { IfSome result (λ p. spec.IsDay p.0) }
 {
     match named_day(text) {

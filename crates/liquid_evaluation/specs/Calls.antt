@@ -15,7 +15,8 @@ pub record Call : Type 0 where
   pub answers : Datum → List Datum → Result Datum ErrorKind
   pub arguments : List Expression
 
--- the arguments of each are evaluated from left to right before it, and a missing one is UnknownVariable
+-- the arguments of each are evaluated from left to right before it, and a missing one is
+-- UnknownVariable
 unfoldable pub applied : List Call → Datum → Environment → Result Datum ErrorKind
 applied [] d e = Ok d
 applied (call ∷ calls) d e = do
@@ -24,4 +25,5 @@ applied (call ∷ calls) d e = do
   applied calls answer e
 
 abbrev pub call_of : (Datum → List Datum → Result Datum ErrorKind) → List StoredExpression → Call
-call_of answers expressions = record { answers = answers; arguments = map expression_view expressions }
+call_of answers expressions = record { answers = answers;
+        arguments = map expression_view expressions }

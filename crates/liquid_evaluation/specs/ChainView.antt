@@ -7,7 +7,9 @@ use Rattle.liquid_evaluation.specs.declared.chain.ChainFilter.{ChainFilter}
 use Rattle.liquid_evaluation.specs.declared.chain.FilterChain.{FilterChain}
 
 abbrev pub chain_filter_view : ChainFilter → FilterCall
-chain_filter_view stored = record { filter = stored_view stored.filter; arguments = map expression_view stored.arguments.items }
+chain_filter_view stored = record { filter = stored_view stored.filter;
+        arguments = map expression_view stored.arguments.items }
 
 abbrev pub chain_view : FilterChain → Chain
-chain_view chain = record { entry = expression_view chain.entry; filters = map chain_filter_view chain.filters.items }
+chain_view chain = record { entry = expression_view chain.entry;
+        filters = map chain_filter_view chain.filters.items }

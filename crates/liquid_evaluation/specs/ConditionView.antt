@@ -9,7 +9,8 @@ use Rattle.liquid_evaluation.specs.declared.condition.Condition.{Condition}
 
 abbrev pub atom_view : Atom → tree.Atom
 atom_view (Bare value) = tree.bare (expression_view value)
-atom_view (Compared left operator right) = tree.compared (expression_view left) operator (expression_view right)
+atom_view (Compared left operator right) = tree.compared (expression_view left) operator
+        (expression_view right)
 
 abbrev pub atoms_view : Vec Atom Global → List tree.Atom
 atoms_view atoms = map atom_view atoms.items

@@ -1,6 +1,9 @@
--- How many nodes a tree has, in all depths: a node counts, and so do those of its bodies. An `elsif` is a node of its own, a `when` is none.
+-- How many nodes a tree has, in all depths: a node counts, and so do those of its bodies. An
+-- `elsif` is a node of its own, a `when` is none.
 use Rattle.std.specs.Prelude.{ℕ, ◌+◌}
-use Rattle.liquid_evaluation.specs.Tree.{Node, if_true, unless, case_of, for_each, tablerow, capture, ifchanged, Nodes, no_nodes, node, Whens, no_whens, when}
+use Rattle.liquid_evaluation.specs.Tree.{Node, if_true, unless, case_of, for_each, tablerow}
+use Rattle.liquid_evaluation.specs.Tree.{capture, ifchanged, Nodes, no_nodes, node, Whens, no_whens}
+use Rattle.liquid_evaluation.specs.Tree.{when}
 
 unfoldable mutual
   pub count_of_nodes : Nodes → ℕ
@@ -8,10 +11,14 @@ unfoldable mutual
   count_of_nodes (node n more) = count_of_node n + count_of_nodes more
 
   pub count_of_node : Node → ℕ
-  count_of_node (if_true condition body otherwise) = 1 + (count_of_nodes body + count_of_nodes otherwise)
-  count_of_node (unless condition body otherwise) = 1 + (count_of_nodes body + count_of_nodes otherwise)
-  count_of_node (case_of target whens otherwise) = 1 + (count_of_whens whens + count_of_nodes otherwise)
-  count_of_node (for_each name source window body otherwise) = 1 + (count_of_nodes body + count_of_nodes otherwise)
+  count_of_node (if_true condition body otherwise) =
+      1 + (count_of_nodes body + count_of_nodes otherwise)
+  count_of_node (unless condition body otherwise) =
+      1 + (count_of_nodes body + count_of_nodes otherwise)
+  count_of_node (case_of target whens otherwise) =
+      1 + (count_of_whens whens + count_of_nodes otherwise)
+  count_of_node (for_each name source window body otherwise) =
+      1 + (count_of_nodes body + count_of_nodes otherwise)
   count_of_node (tablerow name source window columns body) = 1 + count_of_nodes body
   count_of_node (capture name body) = 1 + count_of_nodes body
   count_of_node (ifchanged body) = 1 + count_of_nodes body

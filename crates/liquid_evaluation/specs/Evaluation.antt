@@ -1,18 +1,24 @@
 -- What chains, conditions and loop sources are in an environment: a value, or a kind.
 --     chain_value      a chain's value;   truth_of      a condition's
---     source_items, window_items      the items of a loop's source; those of them that are asked for
-use Rattle.std.specs.Prelude.{ℕ, zero, suc, ◌-◌, min, ℤ, pos, negsuc, ◌+ℤ◌, ◌-ℤ◌, nat_abs, int_le, nat_le, nat_eq, Bool, true, false, cond, not, ◌&&◌, ◌||◌, List, [], ◌∷◌, length, map, reverse, get_or, Option, Some, None, Result, Ok, Err, is_some}
+--     source_items, window_items      the items of a loop's source; those of them that are asked
+--                                     for
+use Rattle.std.specs.Prelude.{ℕ, zero, suc, ◌-◌, min, ℤ, pos, negsuc, ◌+ℤ◌, ◌-ℤ◌, nat_abs, int_le}
+use Rattle.std.specs.Prelude.{nat_le, nat_eq, Bool, true, false, cond, not, ◌&&◌, ◌||◌, List, []}
+use Rattle.std.specs.Prelude.{◌∷◌, length, map, reverse, get_or, Option, Some, None, Result, Ok}
+use Rattle.std.specs.Prelude.{Err, is_some}
 use Rattle.std.specs.declared.cmp.Ordering.{Ordering}
 use Rattle.std.specs.Ordering.{is_lt, is_gt, is_le, is_ge}
 use Rattle.std.specs.List.{starts_with, list_any}
 use Rattle.liquid_model.specs.Texts.{Text}
-use Rattle.liquid_model.specs.Data.{Datum, Pairs, nil, number, array, object, text_of, truthy, scalar}
+use Rattle.liquid_model.specs.Data.{Datum, Pairs, nil, number, array, object, text_of, truthy}
+use Rattle.liquid_model.specs.Data.{scalar}
 use Rattle.liquid_model.specs.Lists.{list_of, pair_lists}
 use Rattle.liquid_model.specs.Order.{same}
 use Rattle.liquid_model.specs.Compare.{compare}
 use Rattle.liquid_model.specs.Find.{value_at}
 use Rattle.liquid_model.specs.declared.error.ErrorKind.{ErrorKind}
-use Rattle.liquid_model.specs.declared.error.ErrorKind.TheVariants.{UnknownVariable, UnexpectedValue, RangeTooLong}
+use Rattle.liquid_model.specs.declared.error.ErrorKind.TheVariants.{UnknownVariable}
+use Rattle.liquid_model.specs.declared.error.ErrorKind.TheVariants.{UnexpectedValue, RangeTooLong}
 use Rattle.liquid_model.specs.Fallible.{◌>>=◌}
 use Rattle.liquid_core.specs.Expression.{Expression}
 use Rattle.liquid_core.specs.Environment.{Environment}
@@ -20,9 +26,17 @@ use Rattle.liquid_core.specs.Expressions.{value_of, required, needed_whole}
 use Rattle.liquid_core.specs.FilterAnswers.{FilterAnswer}
 use Rattle.liquid_filters.specs.Kinds.{kind_answer}
 use Rattle.liquid_evaluation.specs.declared.comparison.ComparisonOperator.{ComparisonOperator}
-use Rattle.liquid_evaluation.specs.declared.comparison.ComparisonOperator.TheVariants.{Equals, NotEquals, LessThan, GreaterThan, LessThanEquals, GreaterThanEquals, Contains}
+use Rattle.liquid_evaluation.specs.declared.comparison.ComparisonOperator.TheVariants.{Equals}
+use Rattle.liquid_evaluation.specs.declared.comparison.ComparisonOperator.TheVariants.{NotEquals}
+use Rattle.liquid_evaluation.specs.declared.comparison.ComparisonOperator.TheVariants.{LessThan}
+use Rattle.liquid_evaluation.specs.declared.comparison.ComparisonOperator.TheVariants.{GreaterThan}
+use Rattle.liquid_evaluation.specs.declared.comparison.ComparisonOperator.TheVariants.{LessThanEquals}
+use Rattle.liquid_evaluation.specs.declared.comparison.ComparisonOperator.TheVariants.{GreaterThanEquals}
+use Rattle.liquid_evaluation.specs.declared.comparison.ComparisonOperator.TheVariants.{Contains}
 use Rattle.liquid_evaluation.specs.Calls.{Call, applied}
-use Rattle.liquid_evaluation.specs.Tree.{Filter, existing, hosted, FilterCall, Chain, Atom, bare, compared, Condition, Source, each_of, counted, Window, Bindings}
+use Rattle.liquid_evaluation.specs.Tree.{Filter, existing, hosted, FilterCall, Chain, Atom, bare}
+use Rattle.liquid_evaluation.specs.Tree.{compared, Condition, Source, each_of, counted, Window}
+use Rattle.liquid_evaluation.specs.Tree.{Bindings}
 
 -- ---- chains
 
@@ -70,7 +84,8 @@ occurs_in s (c ∷ t) = starts_with nat_eq (c ∷ t) s || occurs_in s t
 abbrev pub has_key : Pairs → Datum → Bool
 has_key ps d = scalar d && is_some (value_at (text_of d) ps)
 
--- nil on the left is refused; a list has an equal item; a map has a scalar's text as a key; a scalar's text has the text of d in it
+-- nil on the left is refused; a list has an equal item; a map has a scalar's text as a key; a
+-- scalar's text has the text of d in it
 abbrev pub contains : Datum → Datum → Result Bool ErrorKind
 contains nil d = Err UnexpectedValue
 contains (array ds) d = Ok (list_any (λ item. same item d) (list_of ds))
@@ -118,7 +133,8 @@ truth_of (conjunction ∷ conjunctions) e = do
 abbrev pub most_items : ℕ
 most_items = 9223372036854775807
 
--- a list gives its items, a map the two-item lists `[key, value]`, nil none; other values are refused
+-- a list gives its items, a map the two-item lists `[key, value]`, nil none; other values are
+-- refused
 abbrev pub value_items : Datum → Result (List Datum) ErrorKind
 value_items nil = Ok []
 value_items (array ds) = Ok (list_of ds)
@@ -137,7 +153,8 @@ abbrev pub numbers_from : ℤ → ℕ → List Datum
 numbers_from a zero = []
 numbers_from a (suc n) = number a ∷ numbers_from (a +ℤ pos 1) n
 
--- the items of a value, or the numbers of a range, each end of which is evaluated and converted in turn; too many items are refused
+-- the items of a value, or the numbers of a range, each end of which is evaluated and converted in
+-- turn; too many items are refused
 unfoldable pub source_items : Source → Environment → Result (List Datum) ErrorKind
 source_items (each_of x) e = do
   d ← required x e
@@ -160,7 +177,7 @@ abbrev pub at_most : ℕ → ℤ → ℕ
 at_most n (pos k) = min k n
 at_most n (negsuc k) = n
 
--- of n items, how many are left out, and how many are asked for behind o of them
+-- of n items, how many are left out, and how many are asked for after o of them
 abbrev pub skipped : ℕ → Option ℤ → ℕ
 skipped n None = 0
 skipped n (Some offset) = at_most n offset

@@ -6,7 +6,12 @@ use Rattle.std.specs.Prelude.{List, [], ◌∷◌, ◌++◌, Option, Some, None,
 use Rattle.std.specs.List.{list_any}
 use Rattle.liquid_model.specs.Texts.{Text, same_text}
 use Rattle.liquid_core.specs.Expression.{Expression, literal, variable, Steps, no_steps, step}
-use Rattle.liquid_evaluation.specs.Tree.{FilterCall, Chain, Atom, bare, compared, Condition, Source, each_of, counted, Window, Bindings, Node, plain, raw, comment, output, assign, increment, decrement, break_loop, continue_loop, cycle, if_true, unless, case_of, for_each, tablerow, capture, ifchanged, include, jekyll_include, render, Nodes, no_nodes, node, Whens, no_whens, when}
+use Rattle.liquid_evaluation.specs.Tree.{FilterCall, Chain, Atom, bare, compared, Condition, Source}
+use Rattle.liquid_evaluation.specs.Tree.{each_of, counted, Window, Bindings, Node, plain, raw}
+use Rattle.liquid_evaluation.specs.Tree.{comment, output, assign, increment, decrement, break_loop}
+use Rattle.liquid_evaluation.specs.Tree.{continue_loop, cycle, if_true, unless, case_of, for_each}
+use Rattle.liquid_evaluation.specs.Tree.{tablerow, capture, ifchanged, include, jekyll_include}
+use Rattle.liquid_evaluation.specs.Tree.{render, Nodes, no_nodes, node, Whens, no_whens, when}
 use Rattle.liquid_core.specs.Environment.{Names}
 
 -- the first name of each variable, also in steps
@@ -44,7 +49,8 @@ atoms_names (atom ∷ atoms) = atom_names atom ++ atoms_names atoms
 
 unfoldable pub condition_names : Condition → List Text
 condition_names [] = []
-condition_names (conjunction ∷ conjunctions) = atoms_names conjunction ++ condition_names conjunctions
+condition_names (conjunction ∷ conjunctions) = atoms_names conjunction ++
+        condition_names conjunctions
 
 unfoldable pub source_names : Source → List Text
 source_names (each_of x) = expression_names x
@@ -80,17 +86,31 @@ unfoldable mutual
   node_names break_loop = []
   node_names continue_loop = []
   node_names (cycle group values) = all_names values
-  node_names (if_true condition body otherwise) = condition_names condition ++ (nodes_names body ++ nodes_names otherwise)
-  node_names (unless condition body otherwise) = condition_names condition ++ (nodes_names body ++ nodes_names otherwise)
-  node_names (case_of target whens otherwise) = expression_names target ++ (whens_names whens ++ nodes_names otherwise)
-  node_names (for_each name source window body otherwise) = codes "forloop" ∷ name ∷ (source_names source ++ (window_names window ++ (nodes_names body ++ nodes_names otherwise)))
-  node_names (tablerow name source window columns body) = codes "tablerow" ∷ name ∷ (source_names source ++ (optional_names columns ++ (window_names window ++ nodes_names body)))
+  node_names (if_true condition body otherwise) = condition_names condition ++
+          (nodes_names body ++ nodes_names otherwise)
+  node_names (unless condition body otherwise) = condition_names condition ++
+          (nodes_names body ++ nodes_names otherwise)
+  node_names (case_of target whens otherwise) = expression_names target ++
+          (whens_names whens ++ nodes_names otherwise)
+  node_names (for_each name source window body otherwise) =
+      codes "forloop" ∷ name ∷
+          (source_names source ++
+          (window_names window ++ (nodes_names body ++ nodes_names otherwise)))
+  node_names (tablerow name source window columns body) =
+      codes "tablerow" ∷ name ∷
+          (source_names source ++
+          (optional_names columns ++ (window_names window ++ nodes_names body)))
   node_names (capture name body) = name ∷ nodes_names body
   node_names (ifchanged body) = nodes_names body
-  node_names (include x bindings) = expression_names x ++ (target_names bindings ++ bound_names bindings)
+  node_names (include x bindings) =
+      expression_names x ++ (target_names bindings ++ bound_names bindings)
   node_names (jekyll_include name bindings) = include_name bindings ++ bound_names bindings
-  node_names (render x None bindings) = expression_names x ++ (target_names bindings ++ bound_names bindings)
-  node_names (render x (Some each) bindings) = expression_names x ++ (codes "forloop" ∷ each.1 ∷ (source_names each.0 ++ (target_names bindings ++ bound_names bindings)))
+  node_names (render x None bindings) = expression_names x ++
+          (target_names bindings ++ bound_names bindings)
+  node_names (render x (Some each) bindings) =
+      expression_names x ++
+          (codes "forloop" ∷ each.1 ∷
+          (source_names each.0 ++ (target_names bindings ++ bound_names bindings)))
 
   pub nodes_names : Nodes → List Text
   nodes_names no_nodes = []

@@ -1,6 +1,7 @@
 -- What the source of a loop is before its items are taken.
 --     range_of source e      what a source is in an environment
---     range_items r      its items;   range_count r      how many;   range_item r i      item i of them, nil where there is none
+--     range_items r      its items;   range_count r      how many;   range_item r i      item i of
+--                        them, nil where there is none
 use Rattle.std.specs.Prelude.{ℕ, nat_le, ℤ, cond, List, length, get_or, Result, Ok, Err}
 use Rattle.liquid_model.specs.Data.{Datum, nil, array, object}
 use Rattle.liquid_model.specs.Lists.{list_of, pair_lists}
@@ -11,7 +12,8 @@ use Rattle.liquid_core.specs.Environment.{Environment}
 use Rattle.liquid_core.specs.Expressions.{required, needed_whole}
 use Rattle.liquid_core.specs.Places.{number_at}
 use Rattle.liquid_evaluation.specs.Tree.{Source, each_of, counted}
-use Rattle.liquid_evaluation.specs.Evaluation.{value_items, most_items, not_too_long, count_to, numbers_from}
+use Rattle.liquid_evaluation.specs.Evaluation.{value_items, most_items, not_too_long, count_to}
+use Rattle.liquid_evaluation.specs.Evaluation.{numbers_from}
 
 -- a value whose items are meant, or the ends of a range
 pub data Range : Type 0 where

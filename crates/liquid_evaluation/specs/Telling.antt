@@ -2,9 +2,12 @@
 use Rattle.std.specs.Prelude.{Bool, true, false, List, [], ◌++◌}
 use Rattle.liquid_model.specs.Texts.{Text}
 
--- `tells u names b v` says that a visitor was u, was told the names in their order, and is v now; where b is true it ended the telling, so it was told some first of them.
--- None is nothing, one part after another is both, and once it has ended nothing that would follow is told.
+-- `tells u names b v` says that a visitor was u, was told the names in their order, and is v now;
+-- where b is true it ended the telling, so it was told some first of them.
+-- None is nothing, one part after another is both, and once it has ended nothing that would follow
+-- is told.
 pub record IsTelling {V : Type 0} (tells : V → List Text → Bool → V → Type 0) : Type 0 where
   pub none : (v : V) → tells v [] false v
-  pub both : (u v w : V) (xs ys : List Text) (b : Bool) → tells u xs false v → tells v ys b w → tells u (xs ++ ys) b w
+  pub both : (u v w : V) (xs ys : List Text) (b : Bool) → tells u xs false v → tells v ys b w →
+      tells u (xs ++ ys) b w
   pub ends : (u v : V) (xs ys : List Text) → tells u xs true v → tells u (xs ++ ys) true v

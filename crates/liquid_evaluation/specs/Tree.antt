@@ -5,7 +5,8 @@ use Rattle.liquid_core.specs.Expression.{Expression}
 use Rattle.liquid_filters.specs.declared.kind.FilterKind.{FilterKind}
 use Rattle.liquid_evaluation.specs.declared.comparison.ComparisonOperator.{ComparisonOperator}
 
--- what the name of a filter is registered as: one of the filters that exist, or a name under which a host hands one in
+-- what the name of a filter is registered as: one of the filters that exist, or a name under which
+-- a host hands one in
 pub data Filter : Type 0 where
   existing : FilterKind → Filter
   hosted : Text → Filter
@@ -57,7 +58,8 @@ mutual
     break_loop continue_loop : Node
     -- the group (specs/Groups), and the values
     cycle : Text → List Expression → Node
-    -- a condition, the body, and the nodes of `else`; an `elsif` is one `if_true` alone in the nodes of `else`
+    -- a condition, the body, and the nodes of `else`; an `elsif` is one `if_true` alone in the
+    -- nodes of `else`
     if_true : Condition → Nodes → Nodes → Node
     unless : Condition → Nodes → Nodes → Node
     -- the target, the parts of `when`, and the nodes of `else`
@@ -73,7 +75,8 @@ mutual
     include : Expression → Bindings → Node
     -- the partial's name is a text, and no variable
     jekyll_include : Text → Bindings → Node
-    -- the partial's name, the source and the variable of `for`, and the pairs, of which `with .. as ..` is the first
+    -- the partial's name, the source and the variable of `for`, and the pairs, of which
+    -- `with .. as ..` is the first
     render : Expression → Option (Source × Text) → Bindings → Node
 
   -- a template, a partial or a body

@@ -5,7 +5,13 @@ use Rattle.liquid_model.specs.Texts.{Text}
 use Rattle.liquid_core.specs.Written.{written_form}
 use Rattle.liquid_evaluation.specs.Tree.{Atom, bare, compared, Condition}
 use Rattle.liquid_evaluation.specs.declared.comparison.ComparisonOperator.{ComparisonOperator}
-use Rattle.liquid_evaluation.specs.declared.comparison.ComparisonOperator.TheVariants.{Equals, NotEquals, LessThan, GreaterThan, LessThanEquals, GreaterThanEquals, Contains}
+use Rattle.liquid_evaluation.specs.declared.comparison.ComparisonOperator.TheVariants.{Equals}
+use Rattle.liquid_evaluation.specs.declared.comparison.ComparisonOperator.TheVariants.{NotEquals}
+use Rattle.liquid_evaluation.specs.declared.comparison.ComparisonOperator.TheVariants.{LessThan}
+use Rattle.liquid_evaluation.specs.declared.comparison.ComparisonOperator.TheVariants.{GreaterThan}
+use Rattle.liquid_evaluation.specs.declared.comparison.ComparisonOperator.TheVariants.{LessThanEquals}
+use Rattle.liquid_evaluation.specs.declared.comparison.ComparisonOperator.TheVariants.{GreaterThanEquals}
+use Rattle.liquid_evaluation.specs.declared.comparison.ComparisonOperator.TheVariants.{Contains}
 
 abbrev pub written_operator : ComparisonOperator → Text
 written_operator Equals = codes "=="
@@ -19,7 +25,9 @@ written_operator Contains = codes "contains"
 -- a comparison has its operator between single spaces
 abbrev pub written_atom : Atom → Text
 written_atom (bare x) = written_form x
-written_atom (compared left operator right) = written_form left ++ (codes " " ++ (written_operator operator ++ (codes " " ++ written_form right)))
+written_atom (compared left operator right) =
+    written_form left ++
+        (codes " " ++ (written_operator operator ++ (codes " " ++ written_form right)))
 
 abbrev pub written_conjunction : List Atom → Text
 written_conjunction atoms = join_by written_atom (codes " and ") atoms

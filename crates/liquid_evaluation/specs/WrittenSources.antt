@@ -7,4 +7,5 @@ use Rattle.liquid_evaluation.specs.Tree.{Source, each_of, counted}
 -- a range has its ends in parentheses, with two points between them
 abbrev pub written_source : Source → Text
 written_source (each_of x) = written_form x
-written_source (counted first last) = codes "(" ++ (written_form first ++ (codes ".." ++ (written_form last ++ codes ")")))
+written_source (counted first last) =
+    codes "(" ++ (written_form first ++ (codes ".." ++ (written_form last ++ codes ")")))

@@ -10,8 +10,8 @@ use std::alloc::Global;
 pub enum AnyFilter<'h, H> {
     /// One of the filters that exist.
     Kind(FilterKind),
-    /// A filter of the host: its name, and the filters of the host. It takes any number of arguments, and is `Unsupported`
-    /// where none of the name takes so many.
+    /// A filter of the host: its name, and the filters of the host. It takes any number of
+    /// arguments, and is `Unsupported` where none of the name takes so many.
     Host(&'h str, &'h H),
 }
 

@@ -11,14 +11,15 @@ use liquid_core::{Expression, Result, State, Value, ValueCow};
 use std::alloc::Global;
 use std::slice;
 
-/// The values of a call's arguments: a single one, as it is lent, or a list of copies. Most calls have one argument or none, and
-/// then nothing is copied.
+/// The values of a call's arguments: a single one, as it is lent, or a list of copies. Most calls
+/// have one argument or none, and then nothing is copied.
 pub(crate) enum Arguments<'x> {
     One(ValueCow<'x>),
     Many(Vec<Value>),
 }
 
-/// Drops what it holds. By hand, so that a way out of a function that owns one is one call to prove.
+/// Drops what it holds. By hand, so that a way out of a function that owns one is one call to
+/// prove.
 impl Drop for Arguments<'_> {
     fn drop(self) {
         match self {
@@ -45,7 +46,10 @@ pub(crate) fn evaluate_all<'x>(
     expressions: &'x [Expression],
     state: &'x State<'_>,
 ) -> Result<Arguments<'x>>
-    ensures values { Answers arguments_view result (all_required (map expression_view expressions.now) (environment_of state.now)) }
+    ensures values {
+        Answers arguments_view result (all_required (map expression_view expressions.now)
+            (environment_of state.now))
+    }
     ensures count { IfOk result (λ a. length (arguments_view a) ≡ length expressions.now) }
 {
     match expressions {
@@ -56,7 +60,10 @@ pub(crate) fn evaluate_all<'x>(
 
 /// Copies of the values of the expressions, from left to right.
 fn evaluate_each(alloc: Global, expressions: &[Expression], state: &State<'_>) -> Result<Vec<Value>>
-    ensures values { Answers (λ v. map view v.items) result (all_required (map expression_view expressions.now) (environment_of state.now)) }
+    ensures values {
+        Answers (λ v. map view v.items) result (all_required (map expression_view expressions.now)
+            (environment_of state.now))
+    }
     ensures count { IfOk result (λ v. length v.items ≡ length expressions.now) }
 {
     let mut values = Vec::with_capacity(alloc, expressions.len())?;

@@ -18,7 +18,8 @@ pub struct ChainFilter {
     pub ghost accepted: { IsTrue (stored_counts filter (length arguments.items)) },
 }
 
-/// Drops the fields. By hand, so that a way out of a function that owns one is one call to prove.
+/// Drops the fields. Written by hand, so that each early return drops the value by one call to
+/// prove.
 impl Drop for ChainFilter {
     fn drop(self) {
         let ChainFilter {
@@ -37,7 +38,10 @@ impl ChainFilter {
 
     /// The call by which the filter is run on its arguments, whose number it accepts.
     pub fn call<'h, H: NamedFilters>(&'h self, host: &'h H) -> FilterCall<'h, AnyFilter<'h, H>>
-        ensures call { call_of (any_answer H.named result.filter) result.args.now ≡ call_by (answers_with (H.named host.now)) (chain_filter_view self.now) }
+        ensures call {
+            call_of (any_answer H.named result.filter) result.args.now ≡
+                call_by (answers_with (H.named host.now)) (chain_filter_view self.now)
+        }
         ensures accepted { IsTrue (any_counts result.filter (length result.args.now)) }
     {
         let filter = match &self.filter {
@@ -57,7 +61,8 @@ pub struct FilterChain {
     pub filters: Vec<ChainFilter>,
 }
 
-/// Drops the fields. By hand, so that a way out of a function that owns one is one call to prove.
+/// Drops the fields. Written by hand, so that each early return drops the value by one call to
+/// prove.
 impl Drop for FilterChain {
     fn drop(self) {
         let FilterChain {
@@ -80,17 +85,21 @@ impl FilterChain {
 
     /// The value of the chain: that of its entry, through its filters in order.
     ///
-    /// A missing entry is nil before a filter, and `UnknownVariable` without one; so is a missing argument of a filter.
-    /// A filter's fault ends the chain, and its message begins with the filter's name, as does that of an argument. A filter
-    /// of the host is `Unsupported` where `host` has none of its name that takes so many arguments. `Memory` where a growth
-    /// was refused.
+    /// A missing entry is nil before a filter, and `UnknownVariable` without one; so is a missing
+    /// argument of a filter.
+    /// A filter's fault ends the chain, and its message begins with the filter's name, as does that
+    /// of an argument. A filter of the host is `Unsupported` where `host` has none of its name that
+    /// takes so many arguments. `Memory` where a growth was refused.
     pub fn evaluate(
         &self,
         alloc: Global,
         state: &State<'_>,
         host: Option<&HostFilters>,
     ) -> Result<Value>
-        ensures { Answers view result (chain_value (answers_with (named_by counts answer host.entry)) (chain_view self.now) (environment_of state.now)) }
+        ensures {
+            Answers view result (chain_value (answers_with (named_by counts answer host.entry))
+                (chain_view self.now) (environment_of state.now))
+        }
     {
         self.evaluate_by(alloc, state, &host)
     }
@@ -102,22 +111,31 @@ impl FilterChain {
         state: &State<'_>,
         host: &H,
     ) -> Result<Value>
-        ensures { Answers view result (chain_value (answers_with (H.named host.now)) (chain_view self.now) (environment_of state.now)) }
+        ensures {
+            Answers view result (chain_value (answers_with (H.named host.now)) (chain_view self.now)
+                (environment_of state.now))
+        }
     {
         self.evaluate_cow(alloc, state, host)?.into_owned(alloc)
     }
 
-    /// `evaluate_by` without a copy: where the chain has no filters, the value is lent by its literal or by the state, which
-    /// takes no memory, unless it is the whole object of a loop.
+    /// `evaluate_by` without a copy: where the chain has no filters, the value is lent by its
+    /// literal or by the state, which takes no memory, unless it is the whole object of a loop.
     pub fn evaluate_cow<'a, H: NamedFilters>(
         &'a self,
         alloc: Global,
         state: &'a State<'_>,
         host: &H,
     ) -> Result<ValueCow<'a>>
-        ensures value { Answers cow_view result (chain_value (answers_with (H.named host.now)) (chain_view self.now) (environment_of state.now)) }
-        ensures no_memory { (chain_view self.now).filters ≡ [] → (FindsLoop state.now (value_of (chain_view self.now).entry (environment_of state.now)) → ⊥)
-            → TakesNoMemory result (required (chain_view self.now).entry (environment_of state.now)) }
+        ensures value {
+            Answers cow_view result (chain_value (answers_with (H.named host.now))
+                (chain_view self.now) (environment_of state.now))
+        }
+        ensures no_memory { (chain_view self.now).filters ≡ [] →
+                (FindsLoop state.now (value_of (chain_view self.now).entry
+                    (environment_of state.now)) → ⊥)
+            → TakesNoMemory result (required (chain_view self.now).entry
+                    (environment_of state.now)) }
     {
         let mut value = self.evaluate_entry(alloc, state)?;
         for stored in &self.filters {
@@ -142,9 +160,17 @@ impl FilterChain {
 
     /// The entry's value, or nil where it is missing before a filter.
     fn evaluate_entry<'a>(&'a self, alloc: Global, state: &'a State<'_>) -> Result<ValueCow<'a>>
-        ensures value { Answers cow_view result (entry_value (value_of (chain_view self.now).entry (environment_of state.now)) (chain_view self.now).filters) }
-        ensures no_memory { (FindsLoop state.now (value_of (chain_view self.now).entry (environment_of state.now)) → ⊥)
-            → TakesNoMemory result (entry_value (value_of (chain_view self.now).entry (environment_of state.now)) (chain_view self.now).filters) }
+        ensures value {
+            Answers cow_view result
+                (entry_value (value_of (chain_view self.now).entry (environment_of state.now))
+                (chain_view self.now).filters)
+        }
+        ensures no_memory
+                    { (FindsLoop state.now (value_of (chain_view self.now).entry
+                    (environment_of state.now)) → ⊥)
+            → TakesNoMemory result
+                    (entry_value (value_of (chain_view self.now).entry (environment_of state.now))
+                    (chain_view self.now).filters) }
     {
         if self.filters.is_empty() {
             return self.entry.evaluate(alloc, state);
@@ -159,7 +185,8 @@ impl FilterChain {
     }
 }
 
-/// The fault of the filter of this name, or of its arguments: its message begins with the name. `Memory` where there is no room for that.
+/// The fault of the filter of this name, or of its arguments: its message begins with the name.
+/// `Memory` where there is no room for that.
 #[inline(never)]
 fn of_filter(alloc: Global, name: &str, mut fault: Error) -> Error
     ensures { IsKindOrMemory fault.kind result.kind }

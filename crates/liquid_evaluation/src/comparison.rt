@@ -3,7 +3,8 @@ ghost use Rattle.std.specs.Prelude.{◌≡◌, Ok, Some};
 ghost use Rattle.liquid_model.specs.Answer.{Answers, IsValueOrMemory};
 ghost use Rattle.liquid_model.specs.Data.{text_of};
 ghost use Rattle.liquid_model.specs.View.{view, pairs_view};
-ghost use Rattle.liquid_evaluation.specs.Evaluation.{comparison_truth, contains, has_key, occurs_in};
+ghost use Rattle.liquid_evaluation.specs.Evaluation.{comparison_truth, contains, has_key};
+ghost use Rattle.liquid_evaluation.specs.Evaluation.{occurs_in};
 ghost use Rattle.liquid_evaluation.specs.WrittenConditions.{written_operator};
 
 use liquid_core::{Error, ErrorKind, Object, Result, Value, look_up};
@@ -32,7 +33,8 @@ pub enum ComparisonOperator {
 }
 
 impl ComparisonOperator {
-    /// Whether the two values compare so. Where values have no order, `<`, `>`, `<=` and `>=` are false.
+    /// Whether the two values compare so. Where values have no order, `<`, `>`, `<=` and `>=` are
+    /// false.
     /// `contains` is `UnexpectedValue` for nil on the left.
     #[tactic(auto, unfolding(crate::specs::Evaluation::comparison_truth))]
     pub fn holds(self, alloc: Global, left: &Value, right: &Value) -> Result<bool>
@@ -85,7 +87,8 @@ impl fmt::Display for ComparisonOperator {
     }
 }
 
-/// Whether the left value has the right one in it: a list as an item, a map as a key, a scalar in its text.
+/// Whether the left value has the right one in it: a list as an item, a map as a key, a scalar in
+/// its text.
 #[tactic(auto, using(liquid_model::proofs::Views::list_of_view))]
 fn contains(alloc: Global, left: &Value, right: &Value) -> Result<bool>
     ensures { Answers (λ b. b) result (contains (view left.now) (view right.now)) }
@@ -109,7 +112,8 @@ fn contains(alloc: Global, left: &Value, right: &Value) -> Result<bool>
 
 /// Whether the text of a scalar is a key.
 fn has_key(alloc: Global, pairs: &Object, key: &Value) -> Result<bool>
-    ensures { IsValueOrMemory (λ b. b) result (has_key (pairs_view pairs.now.entries) (view key.now)) }
+    ensures { IsValueOrMemory (λ b. b) result (has_key (pairs_view pairs.now.entries)
+                (view key.now)) }
 {
     match key {
         Value::Text(name) => Ok(look_up(pairs, name.as_str()).is_some()),

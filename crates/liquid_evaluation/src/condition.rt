@@ -7,7 +7,8 @@ ghost use Rattle.liquid_core.specs.ExpressionView.{expression_view};
 ghost use Rattle.liquid_core.specs.States.{environment_of};
 ghost use Rattle.liquid_evaluation.specs.ConditionView.{atom_view, atoms_view, condition_view};
 ghost use Rattle.liquid_evaluation.specs.Evaluation.{atom_truth, all_true, truth_of};
-ghost use Rattle.liquid_evaluation.specs.WrittenConditions.{written_atom, written_conjunction, written_condition};
+ghost use Rattle.liquid_evaluation.specs.WrittenConditions.{written_atom, written_conjunction};
+ghost use Rattle.liquid_evaluation.specs.WrittenConditions.{written_condition};
 ghost use Rattle.liquid_evaluation.specs.inside.Comparisons.{truth_beside};
 
 use crate::comparison::ComparisonOperator;
@@ -28,7 +29,8 @@ pub enum Atom {
     Compared(Expression, ComparisonOperator, Expression),
 }
 
-/// Drops what it holds. By hand, so that a way out of a function that owns one is one call to prove.
+/// Drops what it holds. By hand, so that a way out of a function that owns one is one call to
+/// prove.
 impl Drop for Atom {
     fn drop(self) {
         match self {
@@ -39,12 +41,13 @@ impl Drop for Atom {
 }
 
 impl Condition {
-    /// Whether the condition holds. Both joins go from left to right, and the right side is not read where the left
-    /// decides. `UnknownVariable` where a compared value is missing (a bare one is false), `UnexpectedValue` where
-    /// `contains` has nil on its left.
+    /// Whether the condition holds. Both joins go from left to right, and the right side is not
+    /// read where the left decides. `UnknownVariable` where a compared value is missing (a bare one
+    /// is false), `UnexpectedValue` where `contains` has nil on its left.
     #[tactic(auto, unfolding(crate::specs::Evaluation::truth_of))]
     pub fn holds(&self, alloc: Global, state: &State<'_>) -> Result<bool>
-        ensures { Answers (λ b. b) result (truth_of (condition_view self.now) (environment_of state.now)) }
+        ensures { Answers (λ b. b) result (truth_of (condition_view self.now)
+                    (environment_of state.now)) }
     {
         for conjunction in &self.conjunctions {
             if all_hold(alloc, conjunction, state)? {
@@ -71,7 +74,8 @@ fn all_hold(alloc: Global, atoms: &Vec<Atom>, state: &State<'_>) -> Result<bool>
 impl Atom {
     #[tactic(auto, unfolding(crate::specs::Evaluation::atom_truth))]
     fn holds(&self, alloc: Global, state: &State<'_>) -> Result<bool>
-        ensures { Answers (λ b. b) result (atom_truth (atom_view self.now) (environment_of state.now)) }
+        ensures { Answers (λ b. b) result
+                    (atom_truth (atom_view self.now) (environment_of state.now)) }
     {
         match self {
             Atom::Bare(value) => match value.try_evaluate(alloc, state)? {
@@ -108,7 +112,10 @@ fn holds_beside(
     right: &Expression,
     state: &State<'_>,
 ) -> Result<bool>
-    ensures { Answers (λ b. b) result (truth_beside (view left.now) operator (expression_view right.now) (environment_of state.now)) }
+    ensures {
+        Answers (λ b. b) result (truth_beside (view left.now) operator (expression_view right.now)
+            (environment_of state.now))
+    }
 {
     if let Near::Held(right) = right.near(state) {
         return operator.holds(alloc, left, right);
@@ -141,7 +148,10 @@ impl fmt::Display for Atom {
 }
 
 fn write_conjunctions<W: Write>(conjunctions: &Vec<Vec<Atom>>, f: &mut Formatter<W>) -> fmt::Result
-    ensures { WritesOnOk W.write_str_gives f.old result (written_condition (map atoms_view conjunctions.now.items)) f.new }
+    ensures {
+        WritesOnOk W.write_str_gives f.old result
+            (written_condition (map atoms_view conjunctions.now.items)) f.new
+    }
 {
     let mut join = "";
     for conjunction in conjunctions {
@@ -154,7 +164,8 @@ fn write_conjunctions<W: Write>(conjunctions: &Vec<Vec<Atom>>, f: &mut Formatter
 
 /// The atoms with ` and ` between them.
 fn write_atoms<W: Write>(atoms: &Vec<Atom>, f: &mut Formatter<W>) -> fmt::Result
-    ensures { WritesOnOk W.write_str_gives f.old result (written_conjunction (atoms_view atoms.now)) f.new }
+    ensures { WritesOnOk W.write_str_gives f.old result (written_conjunction (atoms_view atoms.now))
+                f.new }
 {
     let mut join = "";
     for atom in atoms {

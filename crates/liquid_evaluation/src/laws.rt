@@ -1,5 +1,6 @@
 //! Laws of what loops go over: each function's contract is the law, and its body does nothing.
-ghost use Rattle.liquid_evaluation.specs.Laws.{CountedWindow, ItemsByPlace, SourceInTwoSteps, WindowByPlace};
+ghost use Rattle.liquid_evaluation.specs.Laws.{CountedWindow, ItemsByPlace, SourceInTwoSteps};
+ghost use Rattle.liquid_evaluation.specs.Laws.{WindowByPlace};
 
 /// A source's items are those of the range that it comes to, together or one by one.
 pub fn range_laws()

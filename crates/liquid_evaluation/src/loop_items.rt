@@ -25,13 +25,16 @@ pub struct LoopItems<'d> {
 }
 
 impl RangeExpression {
-    /// The items of the source. A list that is lent for the whole run stays lent, and any other is copied, for the body of a
-    /// loop may set the name that holds it.
+    /// The items of the source. A list that is lent for the whole run stays lent, and any other is
+    /// copied, for the body of a loop may set the name that holds it.
     ///
     /// The faults are those of `evaluate` and then those of `Range::evaluate`.
     #[tactic(auto, unfolding(crate::specs::Evaluation::source_items))]
     pub fn items<'x, 'd>(&'x self, alloc: Global, state: &'x State<'d>) -> Result<LoopItems<'d>>
-        ensures items { Answers (λ r. all_items r.items) result (source_items (source_view self.now) (environment_of state.now)) }
+        ensures items {
+            Answers (λ r. all_items r.items) result (source_items (source_view self.now)
+                (environment_of state.now))
+        }
         ensures count { IfOk result (λ r. r.count ≡ length (all_items r.items)) }
         ensures within { IfOk result (λ r. r.count ≤ 9223372036854775807) }
     {
@@ -48,7 +51,10 @@ impl RangeExpression {
 
 /// The items of what a value was found to be.
 fn resolved_items<'d>(alloc: Global, resolved: Resolved<'_, 'd>) -> Result<LoopItems<'d>>
-    ensures items { Answers (λ r. all_items r.items) result (range_items (items_in (resolved_view resolved.entry))) }
+    ensures items {
+        Answers (λ r. all_items r.items) result
+            (range_items (items_in (resolved_view resolved.entry)))
+    }
     ensures count { IfOk result (λ r. r.count ≡ length (all_items r.items)) }
     ensures within { IfOk result (λ r. r.count ≤ 9223372036854775807) }
 {
@@ -63,7 +69,8 @@ fn resolved_items<'d>(alloc: Global, resolved: Resolved<'_, 'd>) -> Result<LoopI
 
 /// The items of what is lent for the whole run.
 fn found_items<'d>(alloc: Global, found: Found<'d>) -> Result<LoopItems<'d>>
-    ensures items { Answers (λ r. all_items r.items) result (range_items (items_in (found_view found.entry))) }
+    ensures items { Answers (λ r. all_items r.items) result
+                (range_items (items_in (found_view found.entry))) }
     ensures count { IfOk result (λ r. r.count ≡ length (all_items r.items)) }
     ensures within { IfOk result (λ r. r.count ≤ 9223372036854775807) }
 {
@@ -75,7 +82,8 @@ fn found_items<'d>(alloc: Global, found: Found<'d>) -> Result<LoopItems<'d>>
 
 /// The items of a value, of which a list is lent.
 fn lent_items<'d>(alloc: Global, value: &'d Value) -> Result<LoopItems<'d>>
-    ensures items { Answers (λ r. all_items r.items) result (range_items (items_in (view value.now))) }
+    ensures items { Answers (λ r. all_items r.items) result
+                (range_items (items_in (view value.now))) }
     ensures count { IfOk result (λ r. r.count ≡ length (all_items r.items)) }
     ensures within { IfOk result (λ r. r.count ≤ 9223372036854775807) }
 {
@@ -91,7 +99,8 @@ fn lent_items<'d>(alloc: Global, value: &'d Value) -> Result<LoopItems<'d>>
 
 /// The items of a value, copied.
 fn owned_items<'d>(alloc: Global, value: &Value) -> Result<LoopItems<'d>>
-    ensures items { Answers (λ r. all_items r.items) result (range_items (items_in (view value.now))) }
+    ensures items { Answers (λ r. all_items r.items) result
+                (range_items (items_in (view value.now))) }
     ensures count { IfOk result (λ r. r.count ≡ length (all_items r.items)) }
     ensures within { IfOk result (λ r. r.count ≤ 9223372036854775807) }
 {
@@ -114,7 +123,8 @@ fn copied_items(alloc: Global, value: &Value) -> Result<Vec<Value>>
 
 /// The pairs, each as a list of its key and its value.
 fn copied_pairs(alloc: Global, pairs: &Object) -> Result<Vec<Value>>
-    ensures { IsValueOrMemory (λ v. map view v.items) result (pair_lists (pairs_view pairs.now.entries)) }
+    ensures { IsValueOrMemory (λ v. map view v.items) result
+                (pair_lists (pairs_view pairs.now.entries)) }
 {
     let mut lists = Vec::with_capacity(alloc, pairs.len())?;
     for (key, value) in pairs.iter() {

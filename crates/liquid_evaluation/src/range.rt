@@ -6,10 +6,12 @@ ghost use Rattle.liquid_model.specs.Data.{nil, text, array, item, no_items};
 ghost use Rattle.liquid_model.specs.Lists.{pair_lists};
 ghost use Rattle.liquid_model.specs.ErrorKinds.{IsKindOrMemory};
 ghost use Rattle.liquid_model.specs.View.{view, pairs_view};
-ghost use Rattle.liquid_model.specs.declared.error.ErrorKind.TheVariants.{RangeTooLong, UnexpectedValue};
+ghost use Rattle.liquid_model.specs.declared.error.ErrorKind.TheVariants.{RangeTooLong};
+ghost use Rattle.liquid_model.specs.declared.error.ErrorKind.TheVariants.{UnexpectedValue};
 ghost use Rattle.liquid_core.specs.Places.{number_at};
 ghost use Rattle.liquid_evaluation.specs.Evaluation.{count_to, numbers_from, value_items};
-ghost use Rattle.liquid_evaluation.specs.Ranges.{range_count, range_item, range_items, checked_count, value_count, value_item};
+ghost use Rattle.liquid_evaluation.specs.Ranges.{range_count, range_item, range_items};
+ghost use Rattle.liquid_evaluation.specs.Ranges.{checked_count, value_count, value_item};
 ghost use Rattle.liquid_evaluation.specs.SourceView.{range_view};
 
 use liquid_core::{Error, ErrorKind, Object, Result, Value, ValueCow};
@@ -18,9 +20,11 @@ use std::alloc::Global;
 /// What a loop goes over in a run.
 #[derive(Drop)]
 pub enum Range<'r> {
-    /// The items of a list, the pairs of a map as lists of two, or the none of nil. Any other value has no items.
+    /// The items of a list, the pairs of a map as lists of two, or the none of nil. Any other value
+    /// has no items.
     Array(ValueCow<'r>),
-    /// The numbers from the first to the second, both among them. There are none where the first is the greater one.
+    /// The numbers from the first to the second, both among them. There are none where the first is
+    /// the greater one.
     Counted(i64, i64),
 }
 
@@ -30,8 +34,8 @@ const MOST_ITEMS: u128 = 9223372036854775807;
 impl<'r> Range<'r> {
     /// The items, in their order. Those of a list are lent.
     ///
-    /// `UnexpectedValue` where the value is no list, no map and not nil; `RangeTooLong` where there are more than
-    /// 9223372036854775807 items.
+    /// `UnexpectedValue` where the value is no list, no map and not nil; `RangeTooLong` where there
+    /// are more than 9223372036854775807 items.
     pub fn evaluate(&self, alloc: Global) -> Result<Vec<ValueCow<'_>>>
         ensures { Answers (λ v. map cow_view v.items) result (range_items (range_view self.now)) }
     {
@@ -57,8 +61,9 @@ impl<'r> Range<'r> {
         }
     }
 
-    /// Item `place`, counted from 0, or nil where there is none: a number is computed, and an item of a list is lent. The
-    /// pair of a map is made, which alone takes memory, and found by a walk from the first one.
+    /// Item `place`, counted from 0, or nil where there is none: a number is computed, and an item
+    /// of a list is lent. The pair of a map is made, which alone takes memory, and found by a walk
+    /// from the first one.
     pub fn item(&self, alloc: Global, place: usize) -> Result<ValueCow<'_>>
         ensures { IsValueOrMemory cow_view result (range_item (range_view self.now) place) }
     {
@@ -147,7 +152,10 @@ fn lent<'a>(alloc: Global, items: &'a Vec<Value>) -> Result<Vec<ValueCow<'a>>>
 
 /// The pairs, each as a list of its key and its value.
 fn pair_lists<'a>(alloc: Global, pairs: &Object) -> Result<Vec<ValueCow<'a>>>
-    ensures { IsValueOrMemory (λ v. map cow_view v.items) result (pair_lists (pairs_view pairs.now.entries)) }
+    ensures {
+        IsValueOrMemory (λ v. map cow_view v.items) result
+            (pair_lists (pairs_view pairs.now.entries))
+    }
 {
     let mut lists = Vec::with_capacity(alloc, pairs.len())?;
     for (key, value) in pairs.iter() {
@@ -158,7 +166,8 @@ fn pair_lists<'a>(alloc: Global, pairs: &Object) -> Result<Vec<ValueCow<'a>>>
 
 /// The pair at this place as such a list, or nil.
 fn pair_at(alloc: Global, pairs: &Object, place: usize) -> Result<Value>
-    ensures { IsValueOrMemory view result (get_or (pair_lists (pairs_view pairs.now.entries)) place nil) }
+    ensures { IsValueOrMemory view result
+                (get_or (pair_lists (pairs_view pairs.now.entries)) place nil) }
 {
     let mut before = place;
     for (key, value) in pairs.iter() {
@@ -172,7 +181,8 @@ fn pair_at(alloc: Global, pairs: &Object, place: usize) -> Result<Value>
 
 /// A list of the key and the value.
 pub(crate) fn pair(alloc: Global, key: &str, value: &Value) -> Result<Value>
-    ensures { IsValueOrMemory view result (array (item (text key.now) (item (view value.now) no_items))) }
+    ensures { IsValueOrMemory view result
+                (array (item (text key.now) (item (view value.now) no_items))) }
 {
     let key = Value::Text(String::from_str(alloc, key)?);
     let value = value.copy(alloc)?;

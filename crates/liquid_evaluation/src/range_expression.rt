@@ -21,7 +21,8 @@ pub enum RangeExpression {
     Counted(Expression, Expression),
 }
 
-/// Drops what it holds. By hand, so that a way out of a function that owns one is one call to prove.
+/// Drops what it holds. By hand, so that a way out of a function that owns one is one call to
+/// prove.
 impl Drop for RangeExpression {
     fn drop(self) {
         match self {
@@ -32,13 +33,15 @@ impl Drop for RangeExpression {
 }
 
 impl RangeExpression {
-    /// What the loop goes over in this state. A value is lent by what holds it. The ends of a range are evaluated in turn,
-    /// and each is converted before the next is evaluated.
+    /// What the loop goes over in this state. A value is lent by what holds it. The ends of a range
+    /// are evaluated in turn, and each is converted before the next is evaluated.
     ///
-    /// `UnknownVariable` where an expression has no value, `UnexpectedValue` where the end of a range has no whole number.
+    /// `UnknownVariable` where an expression has no value, `UnexpectedValue` where the end of a
+    /// range has no whole number.
     #[tactic(auto, unfolding(crate::specs::Ranges::range_of))]
     pub fn evaluate<'r>(&'r self, alloc: Global, state: &'r State<'_>) -> Result<Range<'r>>
-        ensures { Answers range_view result (range_of (source_view self.now) (environment_of state.now)) }
+        ensures { Answers range_view result
+                    (range_of (source_view self.now) (environment_of state.now)) }
     {
         match self {
             RangeExpression::Array(value) => Ok(Range::Array(value.evaluate(alloc, state)?)),

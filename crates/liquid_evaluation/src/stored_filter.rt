@@ -12,7 +12,8 @@ pub enum StoredFilter {
     Host(String),
 }
 
-/// Drops what it holds. By hand, so that a way out of a function that owns one is one call to prove.
+/// Drops what it holds. By hand, so that a way out of a function that owns one is one call to
+/// prove.
 impl Drop for StoredFilter {
     fn drop(self) {
         match self {
@@ -23,7 +24,7 @@ impl Drop for StoredFilter {
 }
 
 impl StoredFilter {
-    /// The name of the filter, which its faults tell.
+    /// The name of the filter, which its faults name.
     pub fn name(&self) -> &str
         ensures { result.now ≡ stored_name self.now }
     {

@@ -1,10 +1,13 @@
-//! The names that chains, conditions and loop sources mention, told to a visitor in the order in which they stand. Each
-//! function answers whether the visitor ended the telling.
+//! The names that chains, conditions and loop sources mention, given to a visitor in the order in
+//! which they stand. Each function answers whether the visitor ended the telling.
 ghost use Rattle.std.specs.Prelude.{map, option_map};
 ghost use Rattle.liquid_core.specs.ExpressionView.{expression_view, variable_view, steps_view};
 ghost use Rattle.liquid_evaluation.specs.ChainView.{chain_view, chain_filter_view};
 ghost use Rattle.liquid_evaluation.specs.ConditionView.{atom_view, atoms_view, condition_view};
-ghost use Rattle.liquid_evaluation.specs.Names.{expression_names, steps_names, all_names, optional_names, filters_names, chain_names, atom_names, atoms_names, condition_names, source_names};
+ghost use Rattle.liquid_evaluation.specs.Names.{expression_names, steps_names, all_names};
+ghost use Rattle.liquid_evaluation.specs.Names.{optional_names, filters_names, chain_names};
+ghost use Rattle.liquid_evaluation.specs.Names.{atom_names, atoms_names, condition_names};
+ghost use Rattle.liquid_evaluation.specs.Names.{source_names};
 ghost use Rattle.liquid_evaluation.specs.SourceView.{source_view};
 
 use crate::chain::{ChainFilter, FilterChain};
@@ -22,7 +25,8 @@ pub fn visit_chain<V: NameVisitor>(chain: &FilterChain, visitor: &mut V) -> bool
 }
 
 fn visit_filters<V: NameVisitor>(filters: &[ChainFilter], visitor: &mut V) -> bool
-    ensures { V.tells visitor.old (filters_names (map chain_filter_view filters.now)) result visitor.new }
+    ensures { V.tells visitor.old (filters_names (map chain_filter_view filters.now)) result
+                visitor.new }
 {
     for filter in filters {
         if visit_expressions(&filter.arguments, visitor) {
@@ -34,7 +38,8 @@ fn visit_filters<V: NameVisitor>(filters: &[ChainFilter], visitor: &mut V) -> bo
 
 /// The names of a condition.
 pub fn visit_condition<V: NameVisitor>(condition: &Condition, visitor: &mut V) -> bool
-    ensures { V.tells visitor.old (condition_names (condition_view condition.now)) result visitor.new }
+    ensures { V.tells visitor.old (condition_names (condition_view condition.now)) result
+                visitor.new }
 {
     for conjunction in &condition.conjunctions {
         if visit_atoms(conjunction, visitor) {
@@ -83,7 +88,10 @@ pub fn visit_source<V: NameVisitor>(source: &RangeExpression, visitor: &mut V) -
 /// The names of an expression that may be missing.
 #[tactic(auto, unfolding(crate::specs::Names::optional_names))]
 pub fn visit_optional<V: NameVisitor>(expression: &Option<Expression>, visitor: &mut V) -> bool
-    ensures { V.tells visitor.old (optional_names (option_map expression_view expression.now)) result visitor.new }
+    ensures {
+        V.tells visitor.old (optional_names (option_map expression_view expression.now)) result
+            visitor.new
+    }
 {
     match expression {
         Some(expression) => visit_expression(expression, visitor),
@@ -93,7 +101,8 @@ pub fn visit_optional<V: NameVisitor>(expression: &Option<Expression>, visitor: 
 
 /// The names of expressions, one after another.
 pub fn visit_expressions<V: NameVisitor>(expressions: &[Expression], visitor: &mut V) -> bool
-    ensures { V.tells visitor.old (all_names (map expression_view expressions.now)) result visitor.new }
+    ensures { V.tells visitor.old (all_names (map expression_view expressions.now)) result
+                visitor.new }
 {
     for expression in expressions {
         if visit_expression(expression, visitor) {
@@ -103,10 +112,12 @@ pub fn visit_expressions<V: NameVisitor>(expressions: &[Expression], visitor: &m
     false
 }
 
-/// The names of an expression: the first name of a variable, then those in its steps. A literal has none.
+/// The names of an expression: the first name of a variable, then those in its steps. A literal has
+/// none.
 #[cycle(visit)]
 pub fn visit_expression<V: NameVisitor>(expression: &Expression, visitor: &mut V) -> bool
-    ensures { V.tells visitor.old (expression_names (expression_view expression.now)) result visitor.new }
+    ensures { V.tells visitor.old (expression_names (expression_view expression.now)) result
+                visitor.new }
 {
     match expression {
         Expression::Literal(_) => false,
@@ -116,7 +127,8 @@ pub fn visit_expression<V: NameVisitor>(expression: &Expression, visitor: &mut V
 
 #[cycle(visit)]
 fn visit_variable<V: NameVisitor>(variable: &Variable, visitor: &mut V) -> bool
-    ensures { V.tells visitor.old (expression_names (variable_view variable.now)) result visitor.new }
+    ensures { V.tells visitor.old (expression_names (variable_view variable.now)) result
+                visitor.new }
 {
     visitor.visit(variable.name.as_str()) || visit_steps(&variable.indexes, visitor)
 }

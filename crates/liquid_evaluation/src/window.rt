@@ -9,7 +9,8 @@ ghost use Rattle.liquid_evaluation.specs.Evaluation.{amount, at_most, skipped, w
 use liquid_core::{Error, ErrorKind, Expression, Result, State};
 use std::alloc::Global;
 
-/// The items of a source that are asked for, by how many are left out before them and how many they are.
+/// The items of a source that are asked for, by how many are left out before them and how many they
+/// are.
 #[derive(Clone, Copy, Debug, PartialEq, Eq, Drop)]
 pub struct Window {
     /// How many of the source's items are left out.
@@ -19,7 +20,8 @@ pub struct Window {
 }
 
 impl Window {
-    /// The window of a limit and an offset over a source of `length` items. A negative number counts as huge.
+    /// The window of a limit and an offset over a source of `length` items. A negative number
+    /// counts as huge.
     pub fn new(length: usize, limit: Option<i64>, offset: Option<i64>) -> Window
         ensures from { result.from ≡ skipped length offset }
         ensures count { result.count ≡ wanted length (skipped length offset) limit }
@@ -51,14 +53,18 @@ fn at_most(all: usize, number: i64) -> usize
 
 /// The whole number of a `limit`, an `offset` or a number of columns, where one is given.
 ///
-/// `UnknownVariable` where the expression has no value, `UnexpectedValue` where its value has no whole number.
+/// `UnknownVariable` where the expression has no value, `UnexpectedValue` where its value has no
+/// whole number.
 #[tactic(auto, unfolding(crate::specs::Evaluation::amount))]
 pub fn evaluate_amount(
     alloc: Global,
     given: &Option<Expression>,
     state: &State<'_>,
 ) -> Result<Option<i64>>
-    ensures { Answers (λ n. n) result (amount (option_map expression_view given.now) (environment_of state.now)) }
+    ensures {
+        Answers (λ n. n) result (amount (option_map expression_view given.now)
+            (environment_of state.now))
+    }
 {
     match given {
         Some(expression) => Ok(Some(evaluate_whole(alloc, expression, state)?)),
@@ -73,7 +79,10 @@ pub(crate) fn evaluate_whole(
     expression: &Expression,
     state: &State<'_>,
 ) -> Result<i64>
-    ensures { Answers (λ n. n) result (needed_whole (expression_view expression.now) (environment_of state.now)) }
+    ensures {
+        Answers (λ n. n) result (needed_whole (expression_view expression.now)
+            (environment_of state.now))
+    }
 {
     let value = expression.evaluate(alloc, state)?;
     match value.as_value().to_integer() {

@@ -10,7 +10,8 @@ use Rattle.liquid_model.specs.declared.error.ErrorKind.TheVariants.{InvalidArgum
 abbrev pub Answer : Type 0
 Answer = Result Datum ErrorKind
 
--- a text argument is the text of whatever value is given; where none is, the text that the filter takes in its place
+-- a text argument is the text of whatever value is given; where none is, the text that the filter
+-- takes in its place
 abbrev pub text_or : Text → List Datum → Text
 text_or missing [] = missing
 text_or missing (d ∷ ds) = text_of d

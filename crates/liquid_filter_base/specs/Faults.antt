@@ -12,4 +12,5 @@ kind_name (object ms) = codes "a map"
 
 -- `SUBJECT must be WANTED, not FOUND`, as `the input must be a list, not nil`
 abbrev pub must_be : List ℕ → List ℕ → Datum → List ℕ
-must_be subject wanted found = subject ++ (codes " must be " ++ (wanted ++ (codes ", not " ++ kind_name found)))
+must_be subject wanted found =
+    subject ++ (codes " must be " ++ (wanted ++ (codes ", not " ++ kind_name found)))

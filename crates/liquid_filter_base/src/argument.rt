@@ -29,7 +29,8 @@ pub fn text_of<'a>(alloc: Global, value: &'a Value) -> Result<CowStr<'a>>
     }
 }
 
-/// A whole-number argument: the whole number of the value, else `InvalidArgument`. The fault alone takes memory.
+/// A whole-number argument: the whole number of the value, else `InvalidArgument`. The fault alone
+/// takes memory.
 pub fn whole_argument(alloc: Global, value: &Value) -> Result<i64>
     ensures answer { Answers (λ n. n) result (whole_or_fault (view value.now)) }
     ensures no_memory { TakesNoMemory result (whole_or_fault (view value.now)) }
@@ -40,7 +41,8 @@ pub fn whole_argument(alloc: Global, value: &Value) -> Result<i64>
     }
 }
 
-/// A text with `A` to `Z` as `a` to `z`; other characters stay. `Memory` alone where it can't be made.
+/// A text with `A` to `Z` as `a` to `z`; other characters stay. `Memory` alone where it can't be
+/// made.
 pub fn lower_case(alloc: Global, text: &str) -> Result<String>
     ensures { IsValueOrMemory (λ s. string_bytes s) result (map to_ascii_lowercase text.now) }
 {

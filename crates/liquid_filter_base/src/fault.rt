@@ -3,7 +3,8 @@ ghost use Rattle.std.specs.Prelude.{◌≡◌, codes};
 ghost use Rattle.liquid_model.specs.Errors.{HasMessageUnlessMemory};
 ghost use Rattle.liquid_model.specs.ErrorKinds.{IsKindOrMemory};
 ghost use Rattle.liquid_model.specs.View.{view};
-ghost use Rattle.liquid_model.specs.declared.error.ErrorKind.TheVariants.{InvalidArgument, InvalidInput};
+ghost use Rattle.liquid_model.specs.declared.error.ErrorKind.TheVariants.{InvalidArgument};
+ghost use Rattle.liquid_model.specs.declared.error.ErrorKind.TheVariants.{InvalidInput};
 ghost use Rattle.liquid_filter_base.specs.Faults.{kind_name, must_be};
 
 use liquid_core::{Error, ErrorKind, Value};
@@ -12,7 +13,8 @@ use std::alloc::Global;
 /// An input that is another thing than what is wanted.
 pub fn invalid_input(alloc: Global, wanted: &str, found: &Value) -> Error
     ensures told { IsKindOrMemory InvalidInput result.kind }
-    ensures message { HasMessageUnlessMemory (must_be (codes "the input") wanted.now (view found.now)) result }
+    ensures message { HasMessageUnlessMemory (must_be (codes "the input") wanted.now
+                (view found.now)) result }
 {
     let found_kind = kind_name(found);
     Error::formatted(
@@ -25,7 +27,8 @@ pub fn invalid_input(alloc: Global, wanted: &str, found: &Value) -> Error
 /// An argument that is another thing than what is wanted.
 pub fn invalid_argument(alloc: Global, wanted: &str, found: &Value) -> Error
     ensures told { IsKindOrMemory InvalidArgument result.kind }
-    ensures message { HasMessageUnlessMemory (must_be (codes "the argument") wanted.now (view found.now)) result }
+    ensures message { HasMessageUnlessMemory (must_be (codes "the argument") wanted.now
+                (view found.now)) result }
 {
     let found_kind = kind_name(found);
     Error::formatted(

@@ -1,4 +1,5 @@
-//! What all sets of filters share: readers of arguments, faults, and the words in which answers are told.
+//! What all sets of filters share: readers of arguments, faults, and the words in which answers are
+//! told.
 #![tactic(auto)]
 
 mod argument;

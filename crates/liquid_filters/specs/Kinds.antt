@@ -4,7 +4,8 @@ use Rattle.liquid_model.specs.Data.{Datum}
 use Rattle.liquid_model.specs.Texts.{Text}
 use Rattle.liquid_filter_base.specs.Arguments.{Answer}
 use Rattle.liquid_date_filters.specs.Dates.{date_answer, date_in_tz_answer}
-use Rattle.liquid_jekyll_shopify_filters.specs.Ends.{pop_answer, push_answer, shift_answer, unshift_answer}
+use Rattle.liquid_jekyll_shopify_filters.specs.Ends.{pop_answer, push_answer, shift_answer}
+use Rattle.liquid_jekyll_shopify_filters.specs.Ends.{unshift_answer}
 use Rattle.liquid_jekyll_shopify_filters.specs.Pluralize.{pluralize_answer}
 use Rattle.liquid_jekyll_shopify_filters.specs.Sentence.{array_to_sentence_string_answer}
 use Rattle.liquid_jekyll_shopify_filters.specs.Slugs.{slugify_answer}
@@ -12,25 +13,48 @@ use Rattle.liquid_jekyll_shopify_filters.specs.Sorting as jekyll
 use Rattle.liquid_list_filters.specs.Ends.{first_answer, last_answer}
 use Rattle.liquid_list_filters.specs.Joined.{join_answer}
 use Rattle.liquid_list_filters.specs.Keeping.{compact_answer, map_answer, uniq_answer, where_answer}
-use Rattle.liquid_number_filters.specs.Numbers.{abs, at_least, at_most, divided_by, minus, modulo, of_none, of_one, plus, times}
+use Rattle.liquid_number_filters.specs.Numbers.{abs, at_least, at_most, divided_by, minus, modulo}
+use Rattle.liquid_number_filters.specs.Numbers.{of_none, of_one, plus, times}
 use Rattle.liquid_number_filters.specs.Rounding.{round, rounded}
 use Rattle.liquid_list_filters.specs.Rows.{concat_answer, reverse_answer}
 use Rattle.liquid_list_filters.specs.Sorting.{sort_answer, sort_natural_answer}
 use Rattle.liquid_text_filters.specs.Case.{capitalize_answer, downcase_answer, upcase_answer}
 use Rattle.liquid_text_filters.specs.Default.{default_answer}
-use Rattle.liquid_text_filters.specs.Operate.{append_answer, prepend_answer, remove_answer, remove_first_answer, replace_answer, replace_first_answer}
+use Rattle.liquid_text_filters.specs.Operate.{append_answer, prepend_answer, remove_answer}
+use Rattle.liquid_text_filters.specs.Operate.{remove_first_answer, replace_answer}
+use Rattle.liquid_text_filters.specs.Operate.{replace_first_answer}
 use Rattle.liquid_text_filters.specs.Size.{size_answer}
 use Rattle.liquid_text_filters.specs.Slice.{slice_answer}
 use Rattle.liquid_text_filters.specs.Split.{split_answer}
-use Rattle.liquid_text_filters.specs.Strip.{lstrip_answer, rstrip_answer, strip_answer, strip_newlines_answer}
+use Rattle.liquid_text_filters.specs.Strip.{lstrip_answer, rstrip_answer, strip_answer}
+use Rattle.liquid_text_filters.specs.Strip.{strip_newlines_answer}
 use Rattle.liquid_text_filters.specs.Truncate.{truncate_answer, truncatewords_answer}
 use Rattle.liquid_web_filters.specs.Escapes.{escape_answer, escape_once_answer}
 use Rattle.liquid_web_filters.specs.LineBreaks.{newline_to_br_answer}
 use Rattle.liquid_web_filters.specs.Tags.{strip_html_answer}
 use Rattle.liquid_web_filters.specs.Urls.{url_decode_answer, url_encode_answer}
-use Rattle.liquid_number_filters.specs.declared.stdlib.filters.math.decimal.Rounding.TheVariants.{Up, Down}
+use Rattle.liquid_number_filters.specs.declared.stdlib.filters.math.decimal.Rounding.TheVariants.{Up}
+use Rattle.liquid_number_filters.specs.declared.stdlib.filters.math.decimal.Rounding.TheVariants.{Down}
 use Rattle.liquid_filters.specs.declared.kind.FilterKind.{FilterKind}
-use Rattle.liquid_filters.specs.declared.kind.FilterKind.TheVariants.{Join, Sort, SortNatural, Where, Uniq, Reverse, Map, Compact, Concat, First, Last, Abs, AtLeast, AtMost, Plus, Minus, Times, DividedBy, Modulo, Round, Ceil, Floor, Size, Default, Slice, Split, Replace, ReplaceFirst, Remove, RemoveFirst, Append, Prepend, Strip, Lstrip, Rstrip, StripNewlines, Downcase, Upcase, Capitalize, Truncate, TruncateWords, Escape, EscapeOnce, StripHtml, NewlineToBr, UrlEncode, UrlDecode, Date, JekyllSort, Push, Unshift, Pop, Shift, ArrayToSentenceString, Slugify, Pluralize, DateInTz}
+use Rattle.liquid_filters.specs.declared.kind.FilterKind.TheVariants.{Join, Sort, SortNatural}
+use Rattle.liquid_filters.specs.declared.kind.FilterKind.TheVariants.{Where, Uniq, Reverse, Map}
+use Rattle.liquid_filters.specs.declared.kind.FilterKind.TheVariants.{Compact, Concat, First, Last}
+use Rattle.liquid_filters.specs.declared.kind.FilterKind.TheVariants.{Abs, AtLeast, AtMost, Plus}
+use Rattle.liquid_filters.specs.declared.kind.FilterKind.TheVariants.{Minus, Times, DividedBy}
+use Rattle.liquid_filters.specs.declared.kind.FilterKind.TheVariants.{Modulo, Round, Ceil, Floor}
+use Rattle.liquid_filters.specs.declared.kind.FilterKind.TheVariants.{Size, Default, Slice, Split}
+use Rattle.liquid_filters.specs.declared.kind.FilterKind.TheVariants.{Replace, ReplaceFirst, Remove}
+use Rattle.liquid_filters.specs.declared.kind.FilterKind.TheVariants.{RemoveFirst, Append, Prepend}
+use Rattle.liquid_filters.specs.declared.kind.FilterKind.TheVariants.{Strip, Lstrip, Rstrip}
+use Rattle.liquid_filters.specs.declared.kind.FilterKind.TheVariants.{StripNewlines, Downcase}
+use Rattle.liquid_filters.specs.declared.kind.FilterKind.TheVariants.{Upcase, Capitalize, Truncate}
+use Rattle.liquid_filters.specs.declared.kind.FilterKind.TheVariants.{TruncateWords, Escape}
+use Rattle.liquid_filters.specs.declared.kind.FilterKind.TheVariants.{EscapeOnce, StripHtml}
+use Rattle.liquid_filters.specs.declared.kind.FilterKind.TheVariants.{NewlineToBr, UrlEncode}
+use Rattle.liquid_filters.specs.declared.kind.FilterKind.TheVariants.{UrlDecode, Date, JekyllSort}
+use Rattle.liquid_filters.specs.declared.kind.FilterKind.TheVariants.{Push, Unshift, Pop, Shift}
+use Rattle.liquid_filters.specs.declared.kind.FilterKind.TheVariants.{ArrayToSentenceString}
+use Rattle.liquid_filters.specs.declared.kind.FilterKind.TheVariants.{Slugify, Pluralize, DateInTz}
 
 abbrev pub kind_counts : FilterKind → ℕ → Bool
 kind_counts (Join f) n = nat_le n 1

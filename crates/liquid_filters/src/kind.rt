@@ -206,8 +206,12 @@ impl Filter for FilterKind {
 
     fn evaluate(&self, alloc: Global, input: &Value, args: &[Value]) -> Result<Value>
         requires { IsTrue (kind_counts self.now (length args.now)) }
-        ensures answer { Answers view result (kind_answer self.now (view input.now) (map view args.now)) }
-        ensures no_memory { IsTrue (answers_numbers self.now) → TakesNoMemory result (kind_answer self.now (view input.now) (map view args.now)) }
+        ensures answer { Answers view result (kind_answer self.now (view input.now)
+                    (map view args.now)) }
+        ensures no_memory {
+            IsTrue (answers_numbers self.now) →
+            TakesNoMemory result (kind_answer self.now (view input.now) (map view args.now))
+        }
     {
         match self {
             FilterKind::Join(filter) => filter.evaluate(alloc, input, args),

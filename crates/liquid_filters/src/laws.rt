@@ -2,7 +2,8 @@
 ghost use Rattle.liquid_filters.specs.Joining.{JoinGivesBack};
 ghost use Rattle.liquid_filters.specs.RunKinds.{KindsOfAnswers};
 
-/// Each filter answers a value or a kind of fault that a run has: no kind of a source, and neither `Memory` nor `Write`.
+/// Each filter answers a value or a kind of fault that a run has: no kind of a source, and neither
+/// `Memory` nor `Write`.
 pub fn answer_law()
     ensures { KindsOfAnswers }
 {}

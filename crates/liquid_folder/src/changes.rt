@@ -5,7 +5,8 @@ use liquid_site_files::{Changed, Folder};
 use std::alloc::Global;
 use std::{fs, io};
 
-/// The folder of a site: pages in `FOLDER/pages`, partials in `FOLDER/partials`, pages written into OUT.
+/// The folder of a site: pages in `FOLDER/pages`, partials in `FOLDER/partials`, pages written into
+/// OUT.
 pub fn folder_of(alloc: Global, folder: &str, facts: &str, out: &str) -> Result<Folder> {
     Ok(Folder {
         pages: inside(alloc, folder, "/pages/")?,
@@ -44,7 +45,8 @@ fn name_behind<'l>(folder: &str, line: &'l str) -> Option<&'l str> {
     Some(name)
 }
 
-/// All files of the site but the data: first its partials, then its pages, each in the order of their names.
+/// All files of the site but the data: first its partials, then its pages, each in the order of
+/// their names.
 pub fn all_files(rt: &HostRuntime, folder: &Folder) -> std::result::Result<Vec<Changed>, Stop> {
     let mut files = Vec::new(rt.alloc());
     for name in names_in(rt, folder.partials.as_str())? {

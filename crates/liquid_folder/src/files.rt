@@ -2,7 +2,8 @@
 use liquid_site_files::{Disk, DiskFault};
 use std::{fs, io};
 
-/// The files of the system. That they are what reading them says, and hold what was written to them, is trusted.
+/// The files of the system. That they are what reading them says, and hold what was written to
+/// them, is trusted.
 #[derive(Drop)]
 pub struct Files<'r> {
     pub rt: &'r HostRuntime,

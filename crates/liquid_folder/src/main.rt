@@ -49,7 +49,7 @@ fn all_rounds(rt: &HostRuntime, folder: &Folder, out: &str) -> Result<bool, Stop
     Ok(clean)
 }
 
-/// The words behind the program's own. A word that isn't UTF-8 makes no call.
+/// The words after the program's own. A word that isn't UTF-8 makes no call.
 fn words_given(rt: &HostRuntime) -> Result<Vec<String>, Stop> {
     let mut words: Vec<String> = Vec::new(rt.alloc());
     match env::args(rt) {

@@ -18,7 +18,8 @@ pub struct Rounds<'r> {
 }
 
 impl<'r> Rounds<'r> {
-    /// A site over its data, to which all files of the folder are new, and whose pages' files go into a folder that is made if need be.
+    /// A site over its data, to which all files of the folder are new, and whose pages' files go
+    /// into a folder that is made if need be.
     pub fn new(rt: &'r HostRuntime, folder: &'r Folder, out: &str) -> Result<Rounds<'r>, Stop> {
         let files = Files { rt };
         let site = first_site(rt, folder, &files)?;
@@ -32,8 +33,9 @@ impl<'r> Rounds<'r> {
         })
     }
 
-    /// What a line of standard input asks for: a round where it is empty, or to look at the file of this path in the next one. Whether
-    /// it names a file of the site, and what `one_round` answers of a round.
+    /// What a line of standard input asks for: a round where it is empty, or to look at the file of
+    /// this path in the next one. Whether it names a file of the site, and what `one_round` answers
+    /// of a round.
     pub fn take_line(&mut self, line: &str) -> Result<bool, Stop> {
         if line.is_empty() {
             return self.one_round();
@@ -46,7 +48,7 @@ impl<'r> Rounds<'r> {
         Ok(false)
     }
 
-    /// The round behind the last line, if a file changed since the one before.
+    /// The round after the last line, if a file changed since the one before.
     pub fn last_round(&mut self) -> Result<bool, Stop> {
         if self.changes.is_empty() {
             return Ok(true);
@@ -54,8 +56,8 @@ impl<'r> Rounds<'r> {
         self.one_round()
     }
 
-    /// Runs one round and reports it. Whether no file was refused, no page ended by a fault, and each
-    /// page's file was written.
+    /// Runs one round and reports it. Whether no file was refused, no page ended by a fault, and
+    /// each page's file was written.
     pub fn one_round(&mut self) -> Result<bool, Stop> {
         let before = self.site.rendered();
         let done = round(

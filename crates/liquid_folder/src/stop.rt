@@ -39,7 +39,7 @@ impl Stop {
     }
 }
 
-/// What is told on standard error.
+/// What goes to standard error.
 impl fmt::Display for Stop {
     fn fmt<W: fmt::Write>(&self, f: &mut fmt::Formatter<W>) -> fmt::Result {
         match self {

@@ -1,11 +1,12 @@
-//! What is told of a round.
+//! The lines that a round prints.
 use crate::stop::Stop;
 use liquid_core::ErrorKind;
 use liquid_site_files::{Folder, Refusal, RoundOutcome, Site, Why};
 use std::io;
 
-/// Tells each refused file, each page's fault and a page's file that can't be written on standard error, and how many pages were
-/// rendered and written on standard output. Whether there was none of the former. Memory that ran out ends the program.
+/// Tells each refused file, each page's fault and a page's file that can't be written on standard
+/// error, and how many pages were rendered and written on standard output. Whether there was none
+/// of the former. Memory that ran out ends the program.
 pub fn tell_round(
     rt: &HostRuntime,
     site: &Site,

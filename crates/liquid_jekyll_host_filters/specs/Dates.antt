@@ -1,5 +1,6 @@
 -- What the filters over dates answer: what `date` answers by a pattern of their own.
-use Rattle.std.specs.Prelude.{Bool, true, false, ◌||◌, List, [], ◌∷◌, ◌++◌, Result, Ok, Err, codes, is_some, if◌then◌else◌}
+use Rattle.std.specs.Prelude.{Bool, true, false, ◌||◌, List, [], ◌∷◌, ◌++◌, Result, Ok, Err, codes}
+use Rattle.std.specs.Prelude.{is_some, if◌then◌else◌}
 use Rattle.liquid_model.specs.Data.{Datum, nil, text}
 use Rattle.liquid_model.specs.Fallible.{◌>>=◌}
 use Rattle.liquid_model.specs.Texts.{Text, same_text}
@@ -9,9 +10,11 @@ use Rattle.liquid_filter_base.specs.Arguments.{Answer}
 use Rattle.liquid_date_filters.specs.Dates.{date_answer}
 use Rattle.liquid_date_filters.specs.Spelling.{read}
 use Rattle.liquid_jekyll_host_filters.specs.declared.dates.Form.{Form}
-use Rattle.liquid_jekyll_host_filters.specs.declared.dates.Form.TheVariants.{Plain, British, American}
+use Rattle.liquid_jekyll_host_filters.specs.declared.dates.Form.TheVariants.{Plain, British}
+use Rattle.liquid_jekyll_host_filters.specs.declared.dates.Form.TheVariants.{American}
 
--- whether there is a date: nil and the empty text are none, and anything else that is none is refused
+-- whether there is a date: nil and the empty text are none, and anything else that is none is
+-- refused
 abbrev pub text_has_date : Text → Result Bool ErrorKind
 text_has_date [] = Ok false
 text_has_date (b ∷ s) = if is_some (read (b ∷ s)) then Ok true else Err InvalidInput
@@ -45,7 +48,9 @@ says d word = false
 
 -- plain, unless the first argument is `ordinal`; and then by whether the second is `US`
 abbrev pub form_of : Datum → Datum → Form
-form_of kind style = if says kind (codes "ordinal") then (if says style (codes "US") then American else British) else Plain
+form_of kind style =
+    if says kind (codes "ordinal") then (if says style (codes "US") then American else British)
+    else Plain
 
 abbrev pub form_given : List Datum → Form
 form_given [] = Plain
@@ -67,7 +72,8 @@ form_pattern American month ending = month ++ (codes " %-d" ++ (ending ++ codes 
 
 -- a date in a form: for an ordinal the day is printed first, to know its ending
 abbrev pub ordinal : Text → Form → Datum → Answer
-ordinal month form d = dated (codes "%-d") d >>= λ day. dated (form_pattern form month (day_ending day)) d
+ordinal month form d = dated (codes "%-d") d >>= λ day.
+    dated (form_pattern form month (day_ending day)) d
 
 abbrev pub in_form : Text → Form → Datum → Answer
 in_form month Plain d = dated (form_pattern Plain month []) d

@@ -1,5 +1,7 @@
--- Texts in which marked bytes give way to their escapes. Each mark is an ASCII character, so a text is seen byte by byte.
-use Rattle.std.specs.Prelude.{ℕ, ◌/◌, ◌%◌, Bool, false, ◌||◌, ◌==◌, nat_lt, List, ◌∷◌, [], ◌++◌, codes, if◌then◌else◌}
+-- Texts in which marked bytes give way to their escapes. Each mark is an ASCII character, so a text
+-- is seen byte by byte.
+use Rattle.std.specs.Prelude.{ℕ, ◌/◌, ◌%◌, Bool, false, ◌||◌, ◌==◌, nat_lt, List, ◌∷◌, [], ◌++◌}
+use Rattle.std.specs.Prelude.{codes, if◌then◌else◌}
 use Rattle.std.specs.Fmt.{digit_glyph}
 use Rattle.std.specs.List.{flat_map}
 use Rattle.liquid_model.specs.Data.{Datum}
@@ -21,11 +23,13 @@ number_escape b = codes "\\u00" ++ (digit_glyph false (b / 16) ∷ digit_glyph f
 -- the escape of a marked byte
 abbrev pub escape_of : Marks → ℕ → Text
 escape_of Xml b =
-    if b == 34 then codes "&quot;" else (if b == 38 then codes "&amp;" else (if b == 39 then codes "&apos;"
+    if b == 34 then codes "&quot;" else (if b == 38 then codes "&amp;"
+    else (if b == 39 then codes "&apos;"
     else (if b == 60 then codes "&lt;" else codes "&gt;")))
 escape_of Json b =
     if b == 34 then codes "\\\"" else (if b == 92 then codes "\\\\" else (if b == 8 then codes "\\b"
-    else (if b == 9 then codes "\\t" else (if b == 10 then codes "\\n" else (if b == 12 then codes "\\f"
+    else (if b == 9 then codes "\\t"
+    else (if b == 10 then codes "\\n" else (if b == 12 then codes "\\f"
     else (if b == 13 then codes "\\r" else number_escape b))))))
 
 -- a marked byte's escape, or the byte

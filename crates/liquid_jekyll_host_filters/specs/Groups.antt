@@ -1,5 +1,6 @@
 -- The filter `group_by`.
-use Rattle.std.specs.Prelude.{Bool, false, ◌||◌, List, [], ◌∷◌, ◌++◌, Ok, Err, codes, filter, length, map, if◌then◌else◌}
+use Rattle.std.specs.Prelude.{Bool, false, ◌||◌, List, [], ◌∷◌, ◌++◌, Ok, Err, codes, filter}
+use Rattle.std.specs.Prelude.{length, map, if◌then◌else◌}
 use Rattle.liquid_model.specs.Data.{Datum, text, array, object, no_pairs, pair, text_of}
 use Rattle.liquid_model.specs.Find.{counted}
 use Rattle.liquid_model.specs.Lists.{list_of}
@@ -17,7 +18,7 @@ abbrev pub has_text : Text → List Text → Bool
 has_text t [] = false
 has_text t (u ∷ us) = same_text t u || has_text t us
 
--- with the text behind them, unless it is among them
+-- with the text after them, unless it is among them
 abbrev pub noted : Text → List Text → List Text
 noted t us = if has_text t us then us else us ++ t ∷ []
 
@@ -33,7 +34,8 @@ items_named name ds t = filter (λ d. same_text t (group_name name d)) ds
 -- a group as a map
 abbrev pub group_of : Text → List Datum → Datum
 group_of t ds =
-    object (pair (codes "items") (array (items_of ds)) (pair (codes "name") (text t) (pair (codes "size") (counted (length ds)) no_pairs)))
+    object (pair (codes "items") (array (items_of ds))
+    (pair (codes "name") (text t) (pair (codes "size") (counted (length ds)) no_pairs)))
 
 abbrev pub groups : Text → List Datum → List Datum
 groups name ds = map (λ t. group_of t (items_named name ds t)) (names_after name [] ds)

@@ -1,6 +1,7 @@
 -- Values as JSON, without spaces.
 use Rattle.std.specs.Prelude.{List, [], ◌∷◌, ◌++◌, Ok, codes}
-use Rattle.liquid_model.specs.Data.{Datum, nil, truth, number, text, array, object, Items, no_items, item, Pairs, no_pairs, pair, text_of}
+use Rattle.liquid_model.specs.Data.{Datum, nil, truth, number, text, array, object, Items, no_items}
+use Rattle.liquid_model.specs.Data.{item, Pairs, no_pairs, pair, text_of}
 use Rattle.liquid_model.specs.Texts.{Text}
 use Rattle.liquid_filter_base.specs.Arguments.{Answer}
 use Rattle.liquid_jekyll_host_filters.specs.Escapes.{escaped}
@@ -10,7 +11,8 @@ use Rattle.liquid_jekyll_host_filters.specs.declared.escapes.Marks.TheVariants.{
 abbrev pub quoted : Text → Text
 quoted s = codes "\"" ++ (escaped Json s ++ codes "\"")
 
--- truth values and numbers are as Liquid writes them; before the first item or pair stands nothing, and before each other a comma
+-- truth values and numbers are as Liquid writes them; before the first item or pair stands nothing,
+-- and before each other a comma
 abbrev mutual
   pub json_text : Datum → Text
   json_text nil = codes "null"
@@ -26,7 +28,8 @@ abbrev mutual
 
   pub json_pairs : Text → Pairs → Text
   json_pairs before no_pairs = []
-  json_pairs before (pair k d ms) = before ++ (quoted k ++ (codes ":" ++ (json_text d ++ json_pairs (codes ",") ms)))
+  json_pairs before (pair k d ms) =
+      before ++ (quoted k ++ (codes ":" ++ (json_text d ++ json_pairs (codes ",") ms)))
 
 abbrev pub json_list : Items → Text
 json_list ds = json_text (array ds)

@@ -1,5 +1,6 @@
 -- The number that a text begins with.
-use Rattle.std.specs.Prelude.{ℕ, ◌+◌, ℤ, pos, ◌||◌, ◌==◌, List, [], ◌∷◌, take, drop, Option, Some, None, Result, Ok, Err, if◌then◌else◌}
+use Rattle.std.specs.Prelude.{ℕ, ◌+◌, ℤ, pos, ◌||◌, ◌==◌, List, [], ◌∷◌, take, drop, Option, Some}
+use Rattle.std.specs.Prelude.{None, Result, Ok, Err, if◌then◌else◌}
 use Rattle.std.specs.Char.{is_ascii_digit, is_ascii_whitespace}
 use Rattle.std.specs.List.{prefix_len}
 use Rattle.liquid_model.specs.Data.{Datum, nil, truth, number, text}
@@ -15,7 +16,7 @@ abbrev pub sign_len : Text → ℕ
 sign_len [] = 0
 sign_len (b ∷ s) = if b == 45 || b == 43 then 1 else 0
 
--- the digits behind it
+-- the digits after it
 abbrev pub digits_len : Text → ℕ
 digits_len s = prefix_len is_ascii_digit (drop (sign_len s) s)
 
@@ -25,9 +26,10 @@ number_or_range None = Err NumberRange
 
 -- 0 where there are no digits, and refused beyond 64 bits
 abbrev pub front_number : Text → Result ℤ ErrorKind
-front_number s = if digits_len s == 0 then Ok (pos 0) else number_or_range (whole_text (take (sign_len s + digits_len s) s))
+front_number s = if digits_len s == 0 then Ok (pos 0) else number_or_range
+    (whole_text (take (sign_len s + digits_len s) s))
 
--- behind white space
+-- after white space
 abbrev pub leading_number : Text → Result ℤ ErrorKind
 leading_number s = front_number (drop (prefix_len is_ascii_whitespace s) s)
 

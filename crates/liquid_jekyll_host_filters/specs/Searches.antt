@@ -1,6 +1,8 @@
 -- The filters that search a list by a property of its items.
-use Rattle.std.specs.Prelude.{Bool, true, false, not, ◌||◌, ◌&&◌, if◌then◌else◌, List, [], ◌∷◌, Option, Some, None, Ok, Err, filter}
-use Rattle.liquid_model.specs.Data.{Datum, nil, truth, number, text, array, object, Pairs, no_pairs, pair, text_of, truthy}
+use Rattle.std.specs.Prelude.{Bool, true, false, not, ◌||◌, ◌&&◌, if◌then◌else◌, List, [], ◌∷◌}
+use Rattle.std.specs.Prelude.{Option, Some, None, Ok, Err, filter}
+use Rattle.liquid_model.specs.Data.{Datum, nil, truth, number, text, array, object, Pairs, no_pairs}
+use Rattle.liquid_model.specs.Data.{pair, text_of, truthy}
 use Rattle.liquid_model.specs.Lists.{list_of}
 use Rattle.liquid_model.specs.Texts.{Text, same_text}
 use Rattle.liquid_model.specs.View.{items_of}
@@ -43,7 +45,8 @@ wanted name target ds = filter (is_wanted name target) ds
 
 abbrev pub first_wanted : Text → Option Text → List Datum → Datum
 first_wanted name target [] = nil
-first_wanted name target (d ∷ ds) = if is_wanted name target d then d else first_wanted name target ds
+first_wanted name target (d ∷ ds) =
+    if is_wanted name target d then d else first_wanted name target ds
 
 -- all wanted items, or the first of them
 abbrev pub taken : Which → Text → Option Text → List Datum → Datum
@@ -75,7 +78,8 @@ abbrev pub is_search : Datum → Datum → Bool
 is_search name target = truthy name && is_target target
 
 abbrev pub where_by : Which → Datum → Datum → Datum → Answer
-where_by which name target d = if is_search name target then searched which (text_of name) (target_text target) d else Ok d
+where_by which name target d = if is_search name target then searched which (text_of name)
+    (target_text target) d else Ok d
 
 -- `where`
 abbrev pub where_answer : Datum → List Datum → Answer

@@ -1,19 +1,40 @@
--- Jekyll's filters: the name of each, how many arguments it takes, and what it answers over a site of an address and a base path.
+-- Jekyll's filters: the name of each, how many arguments it takes, and what it answers over a site
+-- of an address and a base path.
 use Rattle.std.specs.Prelude.{ℕ, Bool, List, codes, nat_eq, nat_le}
 use Rattle.liquid_model.specs.Data.{Datum}
 use Rattle.liquid_model.specs.Texts.{Text}
 use Rattle.liquid_filter_base.specs.Arguments.{Answer}
-use Rattle.liquid_jekyll_host_filters.specs.Dates.{date_to_long_string_answer, date_to_rfc822_answer, date_to_string_answer, date_to_xmlschema_answer}
+use Rattle.liquid_jekyll_host_filters.specs.Dates.{date_to_long_string_answer}
+use Rattle.liquid_jekyll_host_filters.specs.Dates.{date_to_rfc822_answer, date_to_string_answer}
+use Rattle.liquid_jekyll_host_filters.specs.Dates.{date_to_xmlschema_answer}
 use Rattle.liquid_jekyll_host_filters.specs.Escapes.{xml_escape_answer}
 use Rattle.liquid_jekyll_host_filters.specs.Groups.{group_by_answer}
 use Rattle.liquid_jekyll_host_filters.specs.Json.{jsonify_answer}
 use Rattle.liquid_jekyll_host_filters.specs.Numbers.{to_integer_answer}
 use Rattle.liquid_jekyll_host_filters.specs.Searches.{find_answer, where_answer}
 use Rattle.liquid_jekyll_host_filters.specs.Sentence.{array_to_sentence_string_answer}
-use Rattle.liquid_jekyll_host_filters.specs.Urls.{absolute_url_answer, cgi_escape_answer, relative_url_answer, uri_escape_answer}
-use Rattle.liquid_jekyll_host_filters.specs.Words.{normalize_whitespace_answer, number_of_words_answer}
+use Rattle.liquid_jekyll_host_filters.specs.Urls.{absolute_url_answer, cgi_escape_answer}
+use Rattle.liquid_jekyll_host_filters.specs.Urls.{relative_url_answer, uri_escape_answer}
+use Rattle.liquid_jekyll_host_filters.specs.Words.{normalize_whitespace_answer}
+use Rattle.liquid_jekyll_host_filters.specs.Words.{number_of_words_answer}
 use Rattle.liquid_jekyll_host_filters.specs.declared.site_filter.JekyllFilter.{JekyllFilter}
-use Rattle.liquid_jekyll_host_filters.specs.declared.site_filter.JekyllFilter.TheVariants.{RelativeUrl, AbsoluteUrl, DateToString, DateToLongString, DateToXmlschema, DateToRfc822, XmlEscape, CgiEscape, UriEscape, Jsonify, NormalizeWhitespace, NumberOfWords, ToInteger, ArrayToSentenceString, GroupBy, Where, Find}
+use Rattle.liquid_jekyll_host_filters.specs.declared.site_filter.JekyllFilter.TheVariants.{RelativeUrl}
+use Rattle.liquid_jekyll_host_filters.specs.declared.site_filter.JekyllFilter.TheVariants.{AbsoluteUrl}
+use Rattle.liquid_jekyll_host_filters.specs.declared.site_filter.JekyllFilter.TheVariants.{DateToString}
+use Rattle.liquid_jekyll_host_filters.specs.declared.site_filter.JekyllFilter.TheVariants.{DateToLongString}
+use Rattle.liquid_jekyll_host_filters.specs.declared.site_filter.JekyllFilter.TheVariants.{DateToXmlschema}
+use Rattle.liquid_jekyll_host_filters.specs.declared.site_filter.JekyllFilter.TheVariants.{DateToRfc822}
+use Rattle.liquid_jekyll_host_filters.specs.declared.site_filter.JekyllFilter.TheVariants.{XmlEscape}
+use Rattle.liquid_jekyll_host_filters.specs.declared.site_filter.JekyllFilter.TheVariants.{CgiEscape}
+use Rattle.liquid_jekyll_host_filters.specs.declared.site_filter.JekyllFilter.TheVariants.{UriEscape}
+use Rattle.liquid_jekyll_host_filters.specs.declared.site_filter.JekyllFilter.TheVariants.{Jsonify}
+use Rattle.liquid_jekyll_host_filters.specs.declared.site_filter.JekyllFilter.TheVariants.{NormalizeWhitespace}
+use Rattle.liquid_jekyll_host_filters.specs.declared.site_filter.JekyllFilter.TheVariants.{NumberOfWords}
+use Rattle.liquid_jekyll_host_filters.specs.declared.site_filter.JekyllFilter.TheVariants.{ToInteger}
+use Rattle.liquid_jekyll_host_filters.specs.declared.site_filter.JekyllFilter.TheVariants.{ArrayToSentenceString}
+use Rattle.liquid_jekyll_host_filters.specs.declared.site_filter.JekyllFilter.TheVariants.{GroupBy}
+use Rattle.liquid_jekyll_host_filters.specs.declared.site_filter.JekyllFilter.TheVariants.{Where}
+use Rattle.liquid_jekyll_host_filters.specs.declared.site_filter.JekyllFilter.TheVariants.{Find}
 
 abbrev pub filter_name : JekyllFilter → List ℕ
 filter_name RelativeUrl = codes "relative_url"

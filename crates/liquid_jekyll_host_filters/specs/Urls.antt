@@ -1,5 +1,6 @@
 -- URLs: what is escaped in them, and where they lead from.
-use Rattle.std.specs.Prelude.{ℕ, Bool, true, false, not, ◌||◌, ◌&&◌, ◌==◌, nat_le, List, [], ◌∷◌, ◌++◌, Ok, codes, if◌then◌else◌}
+use Rattle.std.specs.Prelude.{ℕ, Bool, true, false, not, ◌||◌, ◌&&◌, ◌==◌, nat_le, List, [], ◌∷◌}
+use Rattle.std.specs.Prelude.{◌++◌, Ok, codes, if◌then◌else◌}
 use Rattle.std.specs.Char.{is_ascii_alphabetic, is_ascii_alphanumeric, is_ascii_hexdigit}
 use Rattle.percent_encoding.specs.Percent.{percent_encode_byte}
 use Rattle.liquid_model.specs.Data.{Datum, nil, text, text_of}
@@ -20,9 +21,11 @@ abbrev pub is_delimiter : ℕ → Bool
 is_delimiter b =
     b == 33 || b == 36 || (nat_le 38 b && nat_le b 44) || b == 59 || b == 61
 
--- what stays in the value of a form; in a path, with its query and its fragment; and in any part of a URL
+-- what stays in the value of a form; in a path, with its query and its fragment; and in any part of
+-- a URL
 abbrev pub stays_in_path : ℕ → Bool
-stays_in_path b = is_unreserved b || is_delimiter b || b == 58 || b == 64 || b == 47 || b == 63 || b == 35
+stays_in_path b = is_unreserved b || is_delimiter b || b == 58 || b == 64 || b == 47 || b == 63 ||
+    b == 35
 
 abbrev pub stays : Escaping → ℕ → Bool
 stays Form b = is_unreserved b
@@ -49,7 +52,8 @@ in_place Url s = if begins_digits s then codes "%" else codes "%25"
 
 -- what a byte becomes, before the text after it
 abbrev pub url_byte : Escaping → ℕ → Text → Text
-url_byte how b s = if b == mark how then in_place how s else (if stays how b then b ∷ [] else percent_encode_byte b)
+url_byte how b s = if b == mark how then in_place how s else (if stays how b then b ∷
+    [] else percent_encode_byte b)
 
 abbrev pub url_escaped : Escaping → Text → Text
 url_escaped how [] = []
@@ -102,16 +106,18 @@ abbrev pub or_slash : Text → Text
 or_slash [] = codes "/"
 or_slash (b ∷ s) = b ∷ s
 
--- a path behind the address of a site, where the site has one
+-- a path after the address of a site, where the site has one
 abbrev pub addressed : Text → Text → Text
 addressed [] path = path
 addressed (b ∷ address) path = (b ∷ address) ++ or_slash path
 
--- nil stays, and so does an absolute URL; anything else is a path under the base path, behind the address
+-- nil stays, and so does an absolute URL; anything else is a path under the base path, after the
+-- address
 abbrev pub site_url : Text → Text → Datum → Answer
 site_url address base nil = Ok nil
 site_url address base d =
-    if is_absolute (text_of d) then Ok d else Ok (text (addressed address (relative base (text_of d))))
+    if is_absolute (text_of d) then Ok d else Ok
+    (text (addressed address (relative base (text_of d))))
 
 -- `relative_url` is without an address
 abbrev pub relative_url_answer : Text → Datum → List Datum → Answer

@@ -16,7 +16,8 @@ ended (b ∷ w) ws = (b ∷ w) ∷ ws
 -- the words of a text, of which the first has begun with these bytes
 abbrev pub words_after : Text → Text → List Text
 words_after w [] = ended w []
-words_after w (b ∷ s) = if is_ascii_whitespace b then ended w (words_after [] s) else words_after (w ++ b ∷ []) s
+words_after w (b ∷ s) = if is_ascii_whitespace b then ended w (words_after [] s) else words_after
+    (w ++ b ∷ []) s
 
 abbrev pub words : Text → List Text
 words = words_after []

@@ -7,7 +7,13 @@ ghost use Rattle.liquid_model.specs.View.{view};
 ghost use Rattle.liquid_model.specs.declared.error.ErrorKind.TheVariants.{InvalidInput};
 ghost use Rattle.liquid_date_filters.specs.Dates.{date_answer};
 ghost use Rattle.liquid_date_filters.specs.Spelling.{read};
-ghost use Rattle.liquid_jekyll_host_filters.specs.Dates.{date_to_long_string_answer, date_to_rfc822_answer, date_to_string_answer, date_to_xmlschema_answer, day_ending, form_given, form_of, form_pattern, has_date, in_form, ordinal, printed_by, says, spelled_date, text_has_date};
+ghost use Rattle.liquid_jekyll_host_filters.specs.Dates.{date_to_long_string_answer};
+ghost use Rattle.liquid_jekyll_host_filters.specs.Dates.{date_to_rfc822_answer};
+ghost use Rattle.liquid_jekyll_host_filters.specs.Dates.{date_to_string_answer};
+ghost use Rattle.liquid_jekyll_host_filters.specs.Dates.{date_to_xmlschema_answer, day_ending};
+ghost use Rattle.liquid_jekyll_host_filters.specs.Dates.{form_given, form_of, form_pattern};
+ghost use Rattle.liquid_jekyll_host_filters.specs.Dates.{has_date, in_form, ordinal, printed_by};
+ghost use Rattle.liquid_jekyll_host_filters.specs.Dates.{says, spelled_date, text_has_date};
 
 use liquid_core::{Error, Filter, Result, Value};
 use liquid_date_filters::read_date;
@@ -16,8 +22,8 @@ use liquid_filter_base::invalid_input;
 use std::alloc::Global;
 use std::slice;
 
-/// `date_to_string`: a date as `07 Nov 2008`, with `ordinal` as `7th Nov 2008`, and with `ordinal` and `US` as
-/// `Nov 7th, 2008`. Nil and the empty text stay.
+/// `date_to_string`: a date as `07 Nov 2008`, with `ordinal` as `7th Nov 2008`, and with `ordinal`
+/// and `US` as `Nov 7th, 2008`. Nil and the empty text stay.
 #[derive(Clone, Copy, Drop)]
 pub struct DateToString;
 
@@ -168,7 +174,8 @@ fn ordinal(alloc: Global, input: &Value, month: &str, form: Form) -> Result<Valu
 
 /// The pattern of a form, with the directive of the month and the ending of the day.
 fn form_pattern(alloc: Global, form: Form, month: &str, ending: &str) -> Result<String>
-    ensures { IsValueOrMemory (λ s. string_bytes s) result (form_pattern form month.now ending.now) }
+    ensures { IsValueOrMemory (λ s. string_bytes s) result
+        (form_pattern form month.now ending.now) }
 {
     match form {
         Form::Plain => Ok(format!(in alloc; "%d {month} %Y")?),
@@ -205,13 +212,15 @@ fn printed_by(alloc: Global, input: &Value, pattern: &str) -> Result<Value>
 
 /// What the filter `date` answers by the pattern.
 fn dated(alloc: Global, input: &Value, pattern: String) -> Result<Value>
-    ensures { Answers view result (date_answer (view input.now) (text (string_bytes pattern) ∷ [])) }
+    ensures { Answers view result (date_answer (view input.now) (text (string_bytes pattern) ∷
+        [])) }
 {
     let pattern = Value::Text(pattern);
     Date.evaluate(alloc, input, slice::from_ref(&pattern))
 }
 
-/// Whether the input is a date: not where it is nil or empty, and `InvalidInput` where it is anything else.
+/// Whether the input is a date: not where it is nil or empty, and `InvalidInput` where it is
+/// anything else.
 fn has_date(alloc: Global, input: &Value) -> Result<bool>
     ensures { Answers (λ b. b) result (has_date (view input.now)) }
 {

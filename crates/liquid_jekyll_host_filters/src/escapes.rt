@@ -1,8 +1,10 @@
 //! Marked bytes of a text, and the escapes that stand for them.
-ghost use Rattle.std.specs.Prelude.{◌≡◌, ◌<◌, ◌≤◌, ◌∷◌, ◌++◌, All, IfNone, IfSome, false, length, slice_index, string_bytes, take, true};
+ghost use Rattle.std.specs.Prelude.{◌≡◌, ◌<◌, ◌≤◌, ◌∷◌, ◌++◌, All, IfNone, IfSome, false, length};
+ghost use Rattle.std.specs.Prelude.{slice_index, string_bytes, take, true};
 ghost use Rattle.std.specs.Fmt.{digit_glyph};
 ghost use Rattle.liquid_model.specs.Answer.{IsValueOrMemory};
-ghost use Rattle.liquid_jekyll_host_filters.specs.Escapes.{escape_of, escaped, is_marked, number_escape};
+ghost use Rattle.liquid_jekyll_host_filters.specs.Escapes.{escape_of, escaped, is_marked};
+ghost use Rattle.liquid_jekyll_host_filters.specs.Escapes.{number_escape};
 
 use liquid_core::Result;
 
@@ -15,10 +17,11 @@ pub(crate) enum Marks {
     Json,
 }
 
-/// Appends the text, with its escape in the place of each marked byte. Where there is no memory, a beginning of it may
-/// stand there.
+/// Appends the text, with its escape in the place of each marked byte. Where there is no memory, a
+/// beginning of it may stand there.
 pub(crate) fn push_escaped(out: &mut String, text: &str, marks: Marks) -> Result<()>
-    ensures { IsValueOrMemory (λ _. string_bytes out.new) result (string_bytes out.old ++ escaped marks text.now) }
+    ensures { IsValueOrMemory (λ _. string_bytes out.new) result (string_bytes out.old ++
+        escaped marks text.now) }
 {
     let mut rest = text;
     while let Some((plain, mark, after)) = split_at_mark(rest, marks) {
@@ -51,7 +54,8 @@ fn split_at_mark(text: &str, marks: Marks) -> Option<(&str, u8, &str)>
 fn plain_len(bytes: &[u8], marks: Marks) -> usize
     ensures within { result ≤ length bytes.now }
     ensures plain { All (λ b. is_marked marks b ≡ false) (take result bytes.now) }
-    ensures mark { result < length bytes.now → is_marked marks (slice_index bytes.now result) ≡ true }
+    ensures mark { result < length bytes.now → is_marked marks (slice_index bytes.now result) ≡
+        true }
 {
     for i in 0..bytes.len() {
         if is_marked(bytes[i], marks) {
@@ -75,7 +79,8 @@ fn is_marked(byte: u8, marks: Marks) -> bool
 
 /// Appends the escape of a marked byte.
 fn push_mark(out: &mut String, mark: u8, marks: Marks) -> Result<()>
-    ensures { IsValueOrMemory (λ _. string_bytes out.new) result (string_bytes out.old ++ escape_of marks mark) }
+    ensures { IsValueOrMemory (λ _. string_bytes out.new) result (string_bytes out.old ++
+        escape_of marks mark) }
 {
     match marks {
         Marks::Xml => Ok(out.push_str(xml_escape(mark))?),
@@ -97,7 +102,8 @@ fn xml_escape(mark: u8) -> &'static str
 
 /// Appends the letter after a `\` that JSON has for the byte, or the number of the byte.
 fn push_json_mark(out: &mut String, mark: u8) -> Result<()>
-    ensures { IsValueOrMemory (λ _. string_bytes out.new) result (string_bytes out.old ++ escape_of Marks.Json mark) }
+    ensures { IsValueOrMemory (λ _. string_bytes out.new) result (string_bytes out.old ++
+        escape_of Marks.Json mark) }
 {
     match mark {
         b'"' => Ok(out.push_str("\\\"")?),
@@ -113,7 +119,8 @@ fn push_json_mark(out: &mut String, mark: u8) -> Result<()>
 
 /// Appends `\u00` and two hexadecimal digits.
 fn push_number(out: &mut String, byte: u8) -> Result<()>
-    ensures { IsValueOrMemory (λ _. string_bytes out.new) result (string_bytes out.old ++ number_escape byte) }
+    ensures { IsValueOrMemory (λ _. string_bytes out.new) result (string_bytes out.old ++
+        number_escape byte) }
 {
     out.push_str("\\u00")?;
     out.push(hex_digit(byte / 16))?;

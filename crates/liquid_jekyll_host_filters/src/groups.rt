@@ -1,11 +1,14 @@
 //! The filter that groups a list by a property of its items.
-ghost use Rattle.std.specs.Prelude.{◌≡◌, ◌∷◌, ◌++◌, [], IfErr, IfOk, List, map, nat_eq, option_map, string_bytes, ℕ};
+ghost use Rattle.std.specs.Prelude.{◌≡◌, ◌∷◌, ◌++◌, [], IfErr, IfOk, List, map, nat_eq, option_map};
+ghost use Rattle.std.specs.Prelude.{string_bytes, ℕ};
 ghost use Rattle.std.specs.Cow.{cow_str_bytes};
 ghost use Rattle.liquid_model.specs.Answer.{Answers, IsValueOrMemory};
 ghost use Rattle.liquid_model.specs.Lists.{list_of};
 ghost use Rattle.liquid_model.specs.View.{view, items_view, pairs_view};
 ghost use Rattle.liquid_model.specs.declared.error.ErrorKind.TheVariants.{Memory};
-ghost use Rattle.liquid_jekyll_host_filters.specs.Groups.{group_by_answer, group_name, group_of, grouped, groups, items_named, names_after, noted};
+ghost use Rattle.liquid_jekyll_host_filters.specs.Groups.{group_by_answer, group_name, group_of};
+ghost use Rattle.liquid_jekyll_host_filters.specs.Groups.{grouped, groups, items_named};
+ghost use Rattle.liquid_jekyll_host_filters.specs.Groups.{names_after, noted};
 ghost use Rattle.liquid_jekyll_host_filters.specs.inside.Members.{AreSeen, member_at, members_of};
 ghost use Rattle.liquid_model.specs.Data.{put};
 
@@ -19,8 +22,9 @@ use std::collections::{BTreeMap, BTreeSet};
 /// The items of each text that items have for a property.
 type Members<'a> = BTreeMap<String, Vec<&'a Value>>;
 
-/// `group_by`: a map for each text that items of a list have for the property, in the order in which these come. It has
-/// `name`, the text, `items`, those that have it, in their order, and `size`, how many they are.
+/// `group_by`: a map for each text that items of a list have for the property, in the order in
+/// which these come. It has `name`, the text, `items`, those that have it, in their order, and
+/// `size`, how many they are.
 #[derive(Clone, Copy, Drop)]
 pub struct GroupBy;
 
@@ -53,7 +57,8 @@ fn grouped(alloc: Global, input: &Value, name: &Value) -> Result<Value>
 }
 
 fn groups(alloc: Global, items: &[Value], name: &str) -> Result<Vec<Value>>
-    ensures { IsValueOrMemory (λ v. map view v.items) result (groups name.now (list_of (items_view items.now))) }
+    ensures { IsValueOrMemory (λ v. map view v.items) result
+        (groups name.now (list_of (items_view items.now))) }
 {
     let members = members(alloc, items, name)?;
     let names = names(alloc, items, name)?;
@@ -66,7 +71,8 @@ fn groups(alloc: Global, items: &[Value], name: &str) -> Result<Vec<Value>>
 
 /// The items of each text.
 fn members<'a>(alloc: Global, items: &'a [Value], name: &str) -> Result<Members<'a>>
-    ensures members { IfOk result (λ m. (q : List ℕ) → members_of m q ≡ items_named name.now (list_of (items_view items.now)) q) }
+    ensures members { IfOk result (λ m. (q : List ℕ) → members_of m q ≡
+        items_named name.now (list_of (items_view items.now)) q) }
     ensures memory { IfErr result (λ e. e.kind ≡ Memory) }
 {
     let mut members: Members<'a> = BTreeMap::new(alloc);
@@ -79,7 +85,9 @@ fn members<'a>(alloc: Global, items: &'a [Value], name: &str) -> Result<Members<
 
 /// Adds an item to those of the text.
 fn add_member<'a>(members: &mut Members<'a>, text: String, item: &'a Value) -> Result<()>
-    ensures members { IfOk result (λ _. (q : List ℕ) → members_of members.new q ≡ members_of members.old q ++ member_at (string_bytes text) (view item.now) q) }
+    ensures members { IfOk result (λ _. (q : List ℕ) → members_of members.new q ≡
+        members_of members.old q ++
+        member_at (string_bytes text) (view item.now) q) }
     ensures memory { IfErr result (λ e. e.kind ≡ Memory) }
 {
     members.entry(text)?.or_default().push(item)?;
@@ -88,7 +96,8 @@ fn add_member<'a>(members: &mut Members<'a>, text: String, item: &'a Value) -> R
 
 /// The texts, each where it comes first.
 fn names(alloc: Global, items: &[Value], name: &str) -> Result<Vec<String>>
-    ensures { IsValueOrMemory (λ v. map string_bytes v.items) result (names_after name.now [] (list_of (items_view items.now))) }
+    ensures { IsValueOrMemory (λ v. map string_bytes v.items) result
+        (names_after name.now [] (list_of (items_view items.now))) }
 {
     let mut seen: BTreeSet<String> = BTreeSet::new(alloc);
     let mut names = Vec::new(alloc);
@@ -107,7 +116,8 @@ fn note_name(
     text: &str,
 ) -> Result<()>
     requires { AreSeen seen.old (map string_bytes names.old.items) }
-    ensures names { IsValueOrMemory (λ _. map string_bytes names.new.items) result (noted text.now (map string_bytes names.old.items)) }
+    ensures names { IsValueOrMemory (λ _. map string_bytes names.new.items) result
+        (noted text.now (map string_bytes names.old.items)) }
     ensures seen { IfOk result (λ _. AreSeen seen.new (map string_bytes names.new.items)) }
 {
     if seen.contains(text) {
@@ -165,7 +175,8 @@ fn group_of(alloc: Global, name: &str, items: Vec<Value>) -> Result<Value>
 }
 
 fn put(alloc: Global, group: &mut Object, key: &str, value: Value) -> Result<()>
-    ensures { IsValueOrMemory (λ _. pairs_view group.new.entries) result (put key.now (view value) (pairs_view group.old.entries)) }
+    ensures { IsValueOrMemory (λ _. pairs_view group.new.entries) result
+        (put key.now (view value) (pairs_view group.old.entries)) }
 {
     store(group, String::from_str(alloc, key)?, value)
 }

@@ -2,7 +2,8 @@
 ghost use Rattle.std.specs.Prelude.{◌++◌, nat_eq, string_bytes};
 ghost use Rattle.liquid_model.specs.Answer.{IsValueOrMemory};
 ghost use Rattle.liquid_model.specs.View.{view, items_view, pairs_view};
-ghost use Rattle.liquid_jekyll_host_filters.specs.Json.{json_list, json_map, json_text, jsonify_answer, quoted};
+ghost use Rattle.liquid_jekyll_host_filters.specs.Json.{json_list, json_map, json_text};
+ghost use Rattle.liquid_jekyll_host_filters.specs.Json.{jsonify_answer, quoted};
 
 use crate::escapes::{Marks, push_escaped};
 use liquid_core::{Filter, Object, Result, Value};
@@ -31,7 +32,8 @@ impl Filter for Jsonify {
 /// Appends the value as JSON. Where there is no memory, a beginning of it may stand there.
 #[cycle(push_json)]
 fn push_json(value: &Value, out: &mut String) -> Result<()>
-    ensures { IsValueOrMemory (λ _. string_bytes out.new) result (string_bytes out.old ++ json_text (view value.now)) }
+    ensures { IsValueOrMemory (λ _. string_bytes out.new) result (string_bytes out.old ++
+        json_text (view value.now)) }
 {
     match value {
         Value::Nil => Ok(out.push_str("null")?),
@@ -45,7 +47,8 @@ fn push_json(value: &Value, out: &mut String) -> Result<()>
 
 #[cycle(push_json)]
 fn push_items(items: &Vec<Value>, out: &mut String) -> Result<()>
-    ensures { IsValueOrMemory (λ _. string_bytes out.new) result (string_bytes out.old ++ json_list (items_view items.now.items)) }
+    ensures { IsValueOrMemory (λ _. string_bytes out.new) result (string_bytes out.old ++
+        json_list (items_view items.now.items)) }
 {
     out.push_str("[")?;
     let mut before = "";
@@ -60,7 +63,8 @@ fn push_items(items: &Vec<Value>, out: &mut String) -> Result<()>
 
 #[cycle(push_json)]
 fn push_pairs(pairs: &Object, out: &mut String) -> Result<()>
-    ensures { IsValueOrMemory (λ _. string_bytes out.new) result (string_bytes out.old ++ json_map (pairs_view pairs.now.entries)) }
+    ensures { IsValueOrMemory (λ _. string_bytes out.new) result (string_bytes out.old ++
+        json_map (pairs_view pairs.now.entries)) }
 {
     out.push_str("{")?;
     let mut before = "";
@@ -77,7 +81,8 @@ fn push_pairs(pairs: &Object, out: &mut String) -> Result<()>
 
 /// Appends the text as a string of JSON.
 fn push_quoted(out: &mut String, text: &str) -> Result<()>
-    ensures { IsValueOrMemory (λ _. string_bytes out.new) result (string_bytes out.old ++ quoted text.now) }
+    ensures { IsValueOrMemory (λ _. string_bytes out.new) result (string_bytes out.old ++
+        quoted text.now) }
 {
     out.push_str("\"")?;
     push_escaped(out, text, Marks::Json)?;

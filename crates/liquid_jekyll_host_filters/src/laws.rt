@@ -1,5 +1,7 @@
 //! What is proved of Jekyll's filters beyond their answers.
-ghost use Rattle.liquid_jekyll_host_filters.specs.Laws.{AbsoluteUrlTwiceIsOnce, EachItemIsGrouped, NormalizeKeepsWords, RelativeUrlTwiceIsOnce};
+ghost use Rattle.liquid_jekyll_host_filters.specs.Laws.{AbsoluteUrlTwiceIsOnce, EachItemIsGrouped};
+ghost use Rattle.liquid_jekyll_host_filters.specs.Laws.{NormalizeKeepsWords};
+ghost use Rattle.liquid_jekyll_host_filters.specs.Laws.{RelativeUrlTwiceIsOnce};
 
 /// `relative_url` changes nothing a second time where there is no base path.
 pub fn relative_url_twice_is_once()

@@ -4,13 +4,16 @@ ghost use Rattle.std.specs.List.{prefix_len};
 ghost use Rattle.std.specs.Prelude.{◌≡◌, ◌≤◌, length, nat_eq};
 ghost use Rattle.liquid_model.specs.Answer.{Answers};
 ghost use Rattle.liquid_model.specs.View.{view};
-ghost use Rattle.liquid_jekyll_host_filters.specs.Numbers.{front_number, integer_of, leading_number, sign_len, to_integer_answer};
+ghost use Rattle.liquid_jekyll_host_filters.specs.Numbers.{front_number, integer_of};
+ghost use Rattle.liquid_jekyll_host_filters.specs.Numbers.{leading_number, sign_len};
+ghost use Rattle.liquid_jekyll_host_filters.specs.Numbers.{to_integer_answer};
 
 use liquid_core::{Error, ErrorKind, Filter, Result, Value, whole_of};
 use liquid_filter_base::invalid_input;
 use std::alloc::Global;
 
-/// `to_integer`: the whole number that the input's text begins with, behind white space, or 0. True is 1, false and nil are 0.
+/// `to_integer`: the whole number that the input's text begins with, after white space, or 0. True
+/// is 1, false and nil are 0.
 #[derive(Clone, Copy, Drop)]
 pub struct ToInteger;
 
@@ -41,7 +44,7 @@ fn integer_of(alloc: Global, input: &Value) -> Result<i64>
     }
 }
 
-/// The number that a text begins with, behind white space.
+/// The number that a text begins with, after white space.
 fn leading_number(alloc: Global, text: &str) -> Result<i64>
     ensures { Answers (λ n. n) result (leading_number text.now) }
 {

@@ -52,7 +52,8 @@ pub(crate) enum Escaping {
 
 /// Appends the text with its escapes. Where there is no memory, a beginning of it may stand there.
 pub(crate) fn push_url(out: &mut String, text: &str, how: Escaping) -> Result<()>
-    ensures { IsValueOrMemory (λ _. string_bytes out.new) result (string_bytes out.old ++ url_escaped how text.now) }
+    ensures { IsValueOrMemory (λ _. string_bytes out.new) result (string_bytes out.old ++
+        url_escaped how text.now) }
 {
     let mut rest = text;
     while let Some((before, after)) = rest.split_once(mark(how)) {

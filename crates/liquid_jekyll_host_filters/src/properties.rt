@@ -5,7 +5,8 @@ ghost use Rattle.liquid_jekyll_host_filters.specs.Properties.{member, or_nil, pr
 
 use liquid_core::{Value, look_up};
 
-/// What the value has along the property, whose names are parted by `.`; none is nil. It takes no memory.
+/// What the value has along the property, whose names are parted by `.`; none is nil. It takes no
+/// memory.
 pub(crate) fn property<'a>(item: &'a Value, name: &str) -> Option<&'a Value>
     ensures { or_nil (option_map (λ v. view v.now) result) ≡ property name.now (view item.now) }
 {
@@ -20,7 +21,8 @@ pub(crate) fn property<'a>(item: &'a Value, name: &str) -> Option<&'a Value>
 
 /// What a value has at the name, where it is a map.
 fn member<'a>(found: Option<&'a Value>, name: &str) -> Option<&'a Value>
-    ensures { or_nil (option_map (λ v. view v.now) result) ≡ member name.now (or_nil (option_map (λ v. view v.now) found.entry)) }
+    ensures { or_nil (option_map (λ v. view v.now) result) ≡
+        member name.now (or_nil (option_map (λ v. view v.now) found.entry)) }
 {
     match found {
         Some(Value::Object(pairs)) => look_up(pairs, name),

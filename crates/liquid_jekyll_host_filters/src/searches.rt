@@ -4,7 +4,10 @@ ghost use Rattle.liquid_model.specs.Answer.{Answers, IsValueOrMemory};
 ghost use Rattle.liquid_model.specs.Lists.{list_of};
 ghost use Rattle.liquid_model.specs.View.{view, items_view, pairs_view};
 ghost use Rattle.liquid_jekyll_host_filters.specs.Properties.{or_nil};
-ghost use Rattle.liquid_jekyll_host_filters.specs.Searches.{any_says, find_answer, first_wanted, is_search, is_wanted, item_says, meets, searched, taken, value_says, values, wanted, where_answer, where_by};
+ghost use Rattle.liquid_jekyll_host_filters.specs.Searches.{any_says, find_answer, first_wanted};
+ghost use Rattle.liquid_jekyll_host_filters.specs.Searches.{is_search, is_wanted, item_says, meets};
+ghost use Rattle.liquid_jekyll_host_filters.specs.Searches.{searched, taken, value_says, values};
+ghost use Rattle.liquid_jekyll_host_filters.specs.Searches.{wanted, where_answer, where_by};
 
 use crate::properties::property;
 use itoa::Buffer;
@@ -12,10 +15,11 @@ use liquid_core::{Filter, Object, Result, Value};
 use liquid_filter_base::text_of;
 use std::alloc::Global;
 
-/// `where`: the items of a list, or the values of a map, whose property is the target, or is a list that has it.
+/// `where`: the items of a list, or the values of a map, whose property is the target, or is a list
+/// that has it.
 ///
-/// Scalars are alike where their texts are, and nil is like nil alone. The input stays without a property, with a list or a
-/// map for a target, and where it is neither a list nor a map.
+/// Scalars are alike where their texts are, and nil is like nil alone. The input stays without a
+/// property, with a list or a map for a target, and where it is neither a list nor a map.
 #[derive(Clone, Copy, Drop)]
 pub struct Where;
 
@@ -65,7 +69,8 @@ fn where_by(
     target: &Value,
     which: Which,
 ) -> Result<Value>
-    ensures { Answers view result (where_by which (view name.now) (view target.now) (view input.now)) }
+    ensures { Answers view result (where_by which (view name.now) (view target.now)
+        (view input.now)) }
 {
     if !is_search(name, target) {
         return input.copy(alloc);
@@ -94,7 +99,8 @@ fn searched(
     target: Option<&str>,
     which: Which,
 ) -> Result<Value>
-    ensures { Answers view result (searched which name.now (option_map (λ t. t.now) target.entry) (view input.now)) }
+    ensures { Answers view result (searched which name.now (option_map (λ t. t.now) target.entry)
+        (view input.now)) }
 {
     match input {
         Value::Array(items) => taken(alloc, items, name, target, which),
@@ -111,7 +117,9 @@ fn taken_of_map(
     target: Option<&str>,
     which: Which,
 ) -> Result<Value>
-    ensures { IsValueOrMemory view result (taken which name.now (option_map (λ t. t.now) target.entry) (values (pairs_view pairs.now.entries))) }
+    ensures { IsValueOrMemory view result
+        (taken which name.now (option_map (λ t. t.now) target.entry)
+        (values (pairs_view pairs.now.entries))) }
 {
     let items = values(alloc, pairs)?;
     taken(alloc, &items, name, target, which)
@@ -119,7 +127,8 @@ fn taken_of_map(
 
 /// The values of a map.
 fn values(alloc: Global, pairs: &Object) -> Result<Vec<Value>>
-    ensures { IsValueOrMemory (λ v. map view v.items) result (values (pairs_view pairs.now.entries)) }
+    ensures { IsValueOrMemory (λ v. map view v.items) result
+        (values (pairs_view pairs.now.entries)) }
 {
     let mut items = Vec::with_capacity(alloc, pairs.len())?;
     for (_key, value) in pairs.iter() {
@@ -135,7 +144,9 @@ fn taken(
     target: Option<&str>,
     which: Which,
 ) -> Result<Value>
-    ensures { IsValueOrMemory view result (taken which name.now (option_map (λ t. t.now) target.entry) (list_of (items_view items.now))) }
+    ensures { IsValueOrMemory view result
+        (taken which name.now (option_map (λ t. t.now) target.entry)
+        (list_of (items_view items.now))) }
 {
     match which {
         Which::All => Ok(Value::Array(wanted(alloc, items, name, target)?)),
@@ -144,7 +155,9 @@ fn taken(
 }
 
 fn wanted(alloc: Global, items: &[Value], name: &str, target: Option<&str>) -> Result<Vec<Value>>
-    ensures { IsValueOrMemory (λ v. map view v.items) result (wanted name.now (option_map (λ t. t.now) target.entry) (list_of (items_view items.now))) }
+    ensures { IsValueOrMemory (λ v. map view v.items) result
+        (wanted name.now (option_map (λ t. t.now) target.entry)
+        (list_of (items_view items.now))) }
 {
     let mut kept = Vec::new(alloc);
     for item in items {
@@ -156,7 +169,9 @@ fn wanted(alloc: Global, items: &[Value], name: &str, target: Option<&str>) -> R
 }
 
 fn first_wanted(alloc: Global, items: &[Value], name: &str, target: Option<&str>) -> Result<Value>
-    ensures { IsValueOrMemory view result (first_wanted name.now (option_map (λ t. t.now) target.entry) (list_of (items_view items.now))) }
+    ensures { IsValueOrMemory view result
+        (first_wanted name.now (option_map (λ t. t.now) target.entry)
+        (list_of (items_view items.now))) }
 {
     for item in items {
         if is_wanted(item, name, target) {
@@ -174,7 +189,8 @@ fn is_wanted(item: &Value, name: &str, target: Option<&str>) -> bool
 
 /// Whether what was found meets the target.
 fn meets(found: Option<&Value>, target: Option<&str>) -> bool
-    ensures { result ≡ meets (option_map (λ t. t.now) target.entry) (or_nil (option_map (λ v. view v.now) found.entry)) }
+    ensures { result ≡ meets (option_map (λ t. t.now) target.entry)
+        (or_nil (option_map (λ v. view v.now) found.entry)) }
 {
     match (found, target) {
         (Some(value), Some(text)) => value_says(value, text),

@@ -4,14 +4,16 @@ ghost use Rattle.liquid_model.specs.Answer.{Answers, IsValueOrMemory};
 ghost use Rattle.liquid_model.specs.Data.{text_of};
 ghost use Rattle.liquid_model.specs.Lists.{list_of};
 ghost use Rattle.liquid_model.specs.View.{view, items_view};
-ghost use Rattle.liquid_jekyll_host_filters.specs.Sentence.{array_to_sentence_string_answer, listed, next_text, sentence, sentence_by, two};
+ghost use Rattle.liquid_jekyll_host_filters.specs.Sentence.{array_to_sentence_string_answer};
+ghost use Rattle.liquid_jekyll_host_filters.specs.Sentence.{listed, next_text, sentence};
+ghost use Rattle.liquid_jekyll_host_filters.specs.Sentence.{sentence_by, two};
 
 use liquid_core::{Filter, Result, Value};
 use liquid_filter_base::{invalid_input, text_of};
 use std::alloc::Global;
 
-/// `array_to_sentence_string`: the texts of a list's items as `a`, `a and b` or `a, b, and c`, with the argument's text in
-/// the place of `and`.
+/// `array_to_sentence_string`: the texts of a list's items as `a`, `a and b` or `a, b, and c`, with
+/// the argument's text in the place of `and`.
 #[derive(Clone, Copy, Drop)]
 pub struct ArrayToSentenceString;
 
@@ -43,7 +45,8 @@ fn sentence_of(alloc: Global, input: &Value, connector: &str) -> Result<Value>
 }
 
 fn sentence(alloc: Global, items: &[Value], connector: &str) -> Result<String>
-    ensures { IsValueOrMemory (λ s. string_bytes s) result (sentence connector.now (map text_of (list_of (items_view items.now)))) }
+    ensures { IsValueOrMemory (λ s. string_bytes s) result
+        (sentence connector.now (map text_of (list_of (items_view items.now)))) }
 {
     if items.len() == 2 {
         two(alloc, &items[0], &items[1], connector)
@@ -54,7 +57,9 @@ fn sentence(alloc: Global, items: &[Value], connector: &str) -> Result<String>
 
 /// Two items with the connector between them.
 fn two(alloc: Global, first: &Value, second: &Value, connector: &str) -> Result<String>
-    ensures { IsValueOrMemory (λ s. string_bytes s) result (two connector.now (text_of (view first.now)) (text_of (view second.now))) }
+    ensures { IsValueOrMemory (λ s. string_bytes s) result
+        (two connector.now (text_of (view first.now))
+        (text_of (view second.now))) }
 {
     let mut out = String::new(alloc);
     first.append_text(&mut out)?;
@@ -67,7 +72,8 @@ fn two(alloc: Global, first: &Value, second: &Value, connector: &str) -> Result<
 
 /// The items with commas, and the connector before the last.
 fn listed(alloc: Global, items: &[Value], connector: &str) -> Result<String>
-    ensures { IsValueOrMemory (λ s. string_bytes s) result (listed connector.now (map text_of (list_of (items_view items.now)))) }
+    ensures { IsValueOrMemory (λ s. string_bytes s) result
+        (listed connector.now (map text_of (list_of (items_view items.now)))) }
 {
     let mut out = String::new(alloc);
     let Some((first, rest)) = items.split_first() else {
@@ -84,7 +90,8 @@ fn listed(alloc: Global, items: &[Value], connector: &str) -> Result<String>
 
 /// Appends an item that isn't the first.
 fn push_next(out: &mut String, item: &Value, connector: &str, is_last: bool) -> Result<()>
-    ensures { IsValueOrMemory (λ _. string_bytes out.new) result (string_bytes out.old ++ next_text connector.now is_last (text_of (view item.now))) }
+    ensures { IsValueOrMemory (λ _. string_bytes out.new) result (string_bytes out.old ++
+        next_text connector.now is_last (text_of (view item.now))) }
 {
     out.push_str(", ")?;
     if is_last {

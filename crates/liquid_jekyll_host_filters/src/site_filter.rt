@@ -2,7 +2,9 @@
 ghost use Rattle.std.specs.Prelude.{◌≡◌, IsTrue, length, map, string_bytes};
 ghost use Rattle.liquid_model.specs.Answer.{Answers, IsValueOrMemory};
 ghost use Rattle.liquid_model.specs.View.{view};
-ghost use Rattle.liquid_jekyll_host_filters.specs.SiteFilters.{filter_answer, filter_counts, filter_least, filter_most, filter_name};
+ghost use Rattle.liquid_jekyll_host_filters.specs.SiteFilters.{filter_answer, filter_counts};
+ghost use Rattle.liquid_jekyll_host_filters.specs.SiteFilters.{filter_least, filter_most};
+ghost use Rattle.liquid_jekyll_host_filters.specs.SiteFilters.{filter_name};
 
 use crate::dates::{DateToLongString, DateToRfc822, DateToString, DateToXmlschema};
 use crate::groups::GroupBy;
@@ -121,7 +123,8 @@ pub struct SiteFilter {
 }
 
 impl SiteFilter {
-    /// The filter over a site of this address and this base path. `Memory` alone where there is no room.
+    /// The filter over a site of this address and this base path. `Memory` alone where there is no
+    /// room.
     pub fn new(alloc: Global, filter: JekyllFilter, address: &str, base: &str) -> Result<SiteFilter>
         ensures filter { IsValueOrMemory (λ s. s.filter) result filter }
         ensures address { IsValueOrMemory (λ s. string_bytes s.address) result address.now }

@@ -9,7 +9,8 @@ use liquid_core::{Filter, Result, Value};
 use liquid_filter_base::text_of;
 use std::alloc::Global;
 
-/// `xml_escape`: the input's text with `&quot;`, `&amp;`, `&apos;`, `&lt;` and `&gt;` for `"`, `&`, `'`, `<` and `>`.
+/// `xml_escape`: the input's text with `&quot;`, `&amp;`, `&apos;`, `&lt;` and `&gt;` for `"`, `&`,
+/// `'`, `<` and `>`.
 #[derive(Clone, Copy, Drop)]
 pub struct XmlEscape;
 
@@ -30,8 +31,8 @@ impl Filter for XmlEscape {
     }
 }
 
-/// `cgi_escape`: the input's text as a form sends it. A space is `+`, and each other byte but ASCII letters, digits, `-`,
-/// `.`, `_` and `~` is `%` and two upper-case hexadecimal digits.
+/// `cgi_escape`: the input's text as a form sends it. A space is `+`, and each other byte but ASCII
+/// letters, digits, `-`, `.`, `_` and `~` is `%` and two upper-case hexadecimal digits.
 #[derive(Clone, Copy, Drop)]
 pub struct CgiEscape;
 
@@ -52,8 +53,8 @@ impl Filter for CgiEscape {
     }
 }
 
-/// `uri_escape`: the input's text, in which each byte that can't stand in a URL is `%` and two upper-case hexadecimal
-/// digits. What is such an escape already stays, and so does nil.
+/// `uri_escape`: the input's text, in which each byte that can't stand in a URL is `%` and two
+/// upper-case hexadecimal digits. What is such an escape already stays, and so does nil.
 #[derive(Clone, Copy, Drop)]
 pub struct UriEscape;
 

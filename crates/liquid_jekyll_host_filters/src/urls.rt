@@ -3,15 +3,19 @@ ghost use Rattle.std.specs.Prelude.{◌≡◌, ◌++◌, Ok, nat_eq, string_byte
 ghost use Rattle.liquid_model.specs.Data.{text};
 ghost use Rattle.liquid_model.specs.Answer.{Answers, IsValueOrMemory};
 ghost use Rattle.liquid_model.specs.View.{view};
-ghost use Rattle.liquid_jekyll_host_filters.specs.Urls.{absolute_url_answer, addressed, has_no_slash, is_absolute, is_scheme_byte, path_text, reaches_colon, relative, relative_url_answer, site_url, without_slash};
+ghost use Rattle.liquid_jekyll_host_filters.specs.Urls.{absolute_url_answer, addressed};
+ghost use Rattle.liquid_jekyll_host_filters.specs.Urls.{has_no_slash, is_absolute, is_scheme_byte};
+ghost use Rattle.liquid_jekyll_host_filters.specs.Urls.{path_text, reaches_colon, relative};
+ghost use Rattle.liquid_jekyll_host_filters.specs.Urls.{relative_url_answer, site_url};
+ghost use Rattle.liquid_jekyll_host_filters.specs.Urls.{without_slash};
 
 use crate::percent::{Escaping, push_url};
 use liquid_core::{Filter, Result, Value};
 use liquid_filter_base::text_of;
 use std::alloc::Global;
 
-/// `relative_url`: the input's text as a path under the base path of the site, with the escapes of a URL. Nil stays, and so
-/// does a URL that begins with a scheme.
+/// `relative_url`: the input's text as a path under the base path of the site, with the escapes of
+/// a URL. Nil stays, and so does a URL that begins with a scheme.
 #[derive(Drop)]
 pub struct RelativeUrl {
     /// Jekyll's `baseurl`, as `/blog`, or the empty text. A slash at its end doesn't count.
@@ -93,7 +97,8 @@ fn addressed(alloc: Global, address: &str, path: String) -> Result<Value>
 
 /// Appends the path with its escapes, and a slash before it unless it has one or is empty.
 fn push_path(out: &mut String, path: &str) -> Result<()>
-    ensures { IsValueOrMemory (λ _. string_bytes out.new) result (string_bytes out.old ++ path_text path.now) }
+    ensures { IsValueOrMemory (λ _. string_bytes out.new) result (string_bytes out.old ++
+        path_text path.now) }
 {
     if has_no_slash(path.as_bytes()) {
         out.push_str("/")?;

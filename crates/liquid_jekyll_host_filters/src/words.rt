@@ -3,7 +3,8 @@ ghost use Rattle.std.specs.Prelude.{◌≡◌, nat_eq, length, string_bytes};
 ghost use Rattle.liquid_model.specs.Answer.{IsValueOrMemory};
 ghost use Rattle.liquid_model.specs.Find.{counted};
 ghost use Rattle.liquid_model.specs.View.{view};
-ghost use Rattle.liquid_jekyll_host_filters.specs.Words.{normalize_whitespace_answer, normalized, number_of_words_answer, words};
+ghost use Rattle.liquid_jekyll_host_filters.specs.Words.{normalize_whitespace_answer, normalized};
+ghost use Rattle.liquid_jekyll_host_filters.specs.Words.{number_of_words_answer, words};
 
 use liquid_core::{Filter, Result, Value};
 use liquid_filter_base::text_of;

@@ -1,5 +1,7 @@
--- What each filter's answer is, told without the filter: the relation that holds of it and of nothing else.
-use Rattle.std.specs.Prelude.{◌≡◌, ◌↔◌, ◌==◌, ◌⊎◌, MatchBool, ℤ, pos, List, [], ◌∷◌, ◌++◌, length, map, codes, Some, None, Result, Ok, Err}
+-- What each filter's answer is, told without the filter: the relation that holds of it and of
+-- nothing else.
+use Rattle.std.specs.Prelude.{◌≡◌, ◌↔◌, ◌==◌, ◌⊎◌, MatchBool, ℤ, pos, List, [], ◌∷◌, ◌++◌, length}
+use Rattle.std.specs.Prelude.{map, codes, Some, None, Result, Ok, Err}
 use Rattle.liquid_model.specs.Answer.{IsTheOne}
 use Rattle.liquid_model.specs.Data.{Datum, text, text_of}
 use Rattle.liquid_model.specs.Texts.{Text}
@@ -12,7 +14,8 @@ use Rattle.liquid_list_filters.specs.Laws.{Lists, OfList, OfMaps}
 use Rattle.liquid_list_filters.specs.Places.{IsFollowed}
 use Rattle.liquid_list_filters.specs.Sequences.{sequence}
 use Rattle.liquid_list_filters.specs.Sorts.{IsSort}
-use Rattle.liquid_jekyll_shopify_filters.specs.Ends.{pop_answer, push_answer, shift_answer, unshift_answer}
+use Rattle.liquid_jekyll_shopify_filters.specs.Ends.{pop_answer, push_answer, shift_answer}
+use Rattle.liquid_jekyll_shopify_filters.specs.Ends.{unshift_answer}
 use Rattle.liquid_jekyll_shopify_filters.specs.Runs.{IsSlug, IsSlugOf}
 use Rattle.liquid_jekyll_shopify_filters.specs.Sentence.{array_to_sentence_string_answer}
 use Rattle.liquid_jekyll_shopify_filters.specs.Slugs.{mode_named, slugify_answer}
@@ -54,7 +57,8 @@ abbrev pub Unshifts : Datum → Datum → Answer → Type 0
 Unshifts x = OfList (λ ds. Lists (IsFollowed (x ∷ []) ds))
 
 abbrev pub UnshiftIsOne : Type 0
-UnshiftIsOne = (d x : Datum) (args : List Datum) → IsTheOne (Unshifts x d) (unshift_answer d (x ∷ args))
+UnshiftIsOne = (d x : Datum) (args : List Datum) →
+    IsTheOne (Unshifts x d) (unshift_answer d (x ∷ args))
 
 -- out has all items but the last, or there is none
 abbrev pub LosesLast : List Datum → List Datum → Type 0
@@ -65,10 +69,12 @@ abbrev pub LosesFirst : List Datum → List Datum → Type 0
 LosesFirst ds out = ((x : Datum) × (ds ≡ x ∷ out)) ⊎ ((ds ≡ []) × (out ≡ []))
 
 abbrev pub PopIsOne : Type 0
-PopIsOne = (d : Datum) (args : List Datum) → IsTheOne (OfList (λ ds. Lists (LosesLast ds)) d) (pop_answer d args)
+PopIsOne = (d : Datum) (args : List Datum) → IsTheOne (OfList (λ ds. Lists (LosesLast ds)) d)
+        (pop_answer d args)
 
 abbrev pub ShiftIsOne : Type 0
-ShiftIsOne = (d : Datum) (args : List Datum) → IsTheOne (OfList (λ ds. Lists (LosesFirst ds)) d) (shift_answer d args)
+ShiftIsOne = (d : Datum) (args : List Datum) → IsTheOne (OfList (λ ds. Lists (LosesFirst ds)) d)
+        (shift_answer d args)
 
 -- where it isn't refused, a push and then a pop gives the list back
 abbrev pub PopUndoesPush : Type 0
@@ -82,7 +88,8 @@ ShiftUndoesUnshift = (d x e : Datum) → unshift_answer d (x ∷ []) ≡ Ok e �
 abbrev pub GoesOn : Text → List Text → Text → Type 0
 GoesOn connector [] s = s ≡ []
 GoesOn connector (t ∷ []) s = s ≡ codes ", " ++ (connector ++ (codes " " ++ t))
-GoesOn connector (t ∷ (u ∷ ts)) s = (rest : Text) × (s ≡ codes ", " ++ (t ++ rest)) × GoesOn connector (u ∷ ts) rest
+GoesOn connector (t ∷ (u ∷ ts)) s = (rest : Text) × (s ≡ codes ", " ++ (t ++ rest)) ×
+    GoesOn connector (u ∷ ts) rest
 
 abbrev pub IsSentence : Text → List Text → Text → Type 0
 IsSentence connector [] s = s ≡ []
@@ -92,7 +99,8 @@ abbrev pub MakesSentence : Text → Datum → Answer → Type 0
 MakesSentence connector = OfList (λ ds. Texts (IsSentence connector (map text_of ds)))
 
 abbrev pub SentenceIsOne : Type 0
-SentenceIsOne = (d : Datum) (args : List Datum) → IsTheOne (MakesSentence (text_or (codes "and") args) d) (array_to_sentence_string_answer d args)
+SentenceIsOne = (d : Datum) (args : List Datum) →
+    IsTheOne (MakesSentence (text_or (codes "and") args) d) (array_to_sentence_string_answer d args)
 
 -- ---- paths
 
@@ -116,14 +124,16 @@ SortsItems ds (name ∷ args) =
     (λ a. a ≡ Err InvalidInput)
 
 abbrev pub Sorts : Datum → List Datum → Answer → Type 0
-Sorts d args a = MatchBool (length (sequence d) == 0) (a ≡ Err InvalidInput) (SortsItems (sequence d) args a)
+Sorts d args a = MatchBool (length (sequence d) == 0) (a ≡ Err InvalidInput)
+        (SortsItems (sequence d) args a)
 
 abbrev pub SortIsOne : Type 0
 SortIsOne = (d : Datum) (args : List Datum) → IsTheOne (Sorts d args) (sort_answer d args)
 
 -- where it isn't refused, a sort twice is the sort once
 abbrev pub SortTwiceIsOnce : Type 0
-SortTwiceIsOnce = (d e : Datum) (args : List Datum) → sort_answer d args ≡ Ok e → sort_answer e args ≡ Ok e
+SortTwiceIsOnce = (d e : Datum) (args : List Datum) → sort_answer d args ≡ Ok e →
+    sort_answer e args ≡ Ok e
 
 -- ---- slugs
 abbrev pub mode_given : List Datum → Result Mode ErrorKind
@@ -131,7 +141,9 @@ mode_given [] = Ok Default
 mode_given (name ∷ args) = mode_named (text_of name)
 
 abbrev pub SlugifyIsOne : Type 0
-SlugifyIsOne = (d : Datum) (args : List Datum) → IsTheOne (Reads (mode_given args) (λ mode. Texts (IsSlugOf mode (text_of d)))) (slugify_answer d args)
+SlugifyIsOne = (d : Datum) (args : List Datum) →
+    IsTheOne (Reads (mode_given args) (λ mode. Texts (IsSlugOf mode (text_of d))))
+        (slugify_answer d args)
 
 -- what the mode `ascii` makes of a text is a slug, and stays as it is
 abbrev pub AsciiSlugs : Type 0

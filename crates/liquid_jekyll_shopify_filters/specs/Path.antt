@@ -1,11 +1,12 @@
--- Paths of properties: a word followed by any of `.word` and `[literal]`, where words, quoted texts and numbers are those of a source.
+-- Paths of properties: a word followed by any of `.word` and `[literal]`, where words, quoted texts
+-- and numbers are those of a source.
 use Rattle.std.specs.Prelude.{ℕ, zero, suc, List, [], ◌∷◌, ◌++◌, length, Option, Some, None}
 use Rattle.std.specs.Option.{option_and_then, option_map}
 use Rattle.liquid_model.specs.Data.{Datum, text}
 use Rattle.liquid_model.specs.Texts.{Text}
 use Rattle.liquid_lexer.specs.ValueReading.{literal_at, past_byte, word_at, Reads}
 
--- the word behind a `.`
+-- the word after a `.`
 unfoldable pub member_at : Reads Datum
 member_at s = option_map (λ w. (text w.0, w.1)) (word_at s)
 
@@ -13,7 +14,7 @@ abbrev pub closed : Option (Datum × Text) → Option (Datum × Text)
 closed None = None
 closed (Some x) = option_map (λ rest. (x.0, rest)) (past_byte 93 x.1)
 
--- the literal behind a `[`, up to its `]`
+-- the literal after a `[`, up to its `]`
 unfoldable pub bracketed_at : Reads Datum
 bracketed_at s = closed (literal_at s)
 
@@ -25,11 +26,13 @@ step_by None None = None
 unfoldable pub step_at : Reads Datum
 step_at s = step_by (past_byte 91 s) (past_byte 46 s)
 
--- the steps of a whole text, or none where it has other parts; the number bounds the steps, and the count of the bytes is always enough
+-- the steps of a whole text, or none where it has other parts; the number bounds the steps, and the
+-- count of the bytes is always enough
 unfoldable pub steps_in : ℕ → Text → Option (List Datum)
 steps_in n [] = Some []
 steps_in zero (b ∷ s) = None
-steps_in (suc n) (b ∷ s) = option_and_then (λ x. option_map (λ ds. x.0 ∷ ds) (steps_in n x.1)) (step_at (b ∷ s))
+steps_in (suc n) (b ∷ s) = option_and_then (λ x. option_map (λ ds. x.0 ∷ ds) (steps_in n x.1))
+        (step_at (b ∷ s))
 
 abbrev pub path_by : Option (Text × Text) → Option (List Datum)
 path_by None = None

@@ -1,5 +1,6 @@
 -- What a slug is made of, told by runs of characters.
-use Rattle.std.specs.Prelude.{◌≡◌, ℕ, ◌==◌, ◌&&◌, ◌||◌, nat_le, ⊤, Bool, true, false, List, [], ◌∷◌, ◌++◌, map}
+use Rattle.std.specs.Prelude.{◌≡◌, ℕ, ◌==◌, ◌&&◌, ◌||◌, nat_le, ⊤, Bool, true, false, List, [], ◌∷◌}
+use Rattle.std.specs.Prelude.{◌++◌, map}
 use Rattle.std.specs.Char.{to_ascii_lowercase}
 use Rattle.std.specs.List.{concat}
 use Rattle.std.specs.Str.{chars, encode_utf8_all, trim}
@@ -37,7 +38,8 @@ AreParts keeps (other c cs ∷ ps) = AreOther keeps (c ∷ cs) × EndsRun ps × 
 
 -- ds is cs with each longest run of characters that aren't kept as one hyphen
 abbrev pub Hyphens : (ℕ → Bool) → List ℕ → List ℕ → Type 0
-Hyphens keeps cs ds = (ps : List Part) × AreParts keeps ps × (cs ≡ concat (map characters_of ps)) × (ds ≡ concat (map shown_of ps))
+Hyphens keeps cs ds = (ps : List Part) × AreParts keeps ps × (cs ≡ concat (map characters_of ps)) ×
+    (ds ≡ concat (map shown_of ps))
 
 abbrev pub AreHyphens : List ℕ → Type 0
 AreHyphens [] = ⊤
@@ -54,11 +56,13 @@ EndsOther (c ∷ (d ∷ cs)) = EndsOther (d ∷ cs)
 
 -- cut is ds without the hyphens at both ends
 abbrev pub CutsHyphens : List ℕ → List ℕ → Type 0
-CutsHyphens ds cut = (before : List ℕ) × (after : List ℕ) × (ds ≡ before ++ (cut ++ after)) × AreHyphens before × AreHyphens after × StartsOther cut × EndsOther cut
+CutsHyphens ds cut = (before : List ℕ) × (after : List ℕ) × (ds ≡ before ++ (cut ++ after)) ×
+    AreHyphens before × AreHyphens after × StartsOther cut × EndsOther cut
 
 -- t is the slug of s
 abbrev pub IsSlugOf : Mode → Text → Text → Type 0
-IsSlugOf mode s t = (ds : List ℕ) × (cut : List ℕ) × Hyphens (keeps mode) (chars (trim s)) ds × CutsHyphens ds cut × (t ≡ map to_ascii_lowercase (encode_utf8_all cut))
+IsSlugOf mode s t = (ds : List ℕ) × (cut : List ℕ) × Hyphens (keeps mode) (chars (trim s)) ds ×
+    CutsHyphens ds cut × (t ≡ map to_ascii_lowercase (encode_utf8_all cut))
 
 -- a to z, 0 to 9 and the hyphen
 abbrev pub is_slug_letter : ℕ → Bool

@@ -1,5 +1,6 @@
 -- The filter `array_to_sentence_string`.
-use Rattle.std.specs.Prelude.{Bool, true, false, ◌==◌, List, [], ◌∷◌, ◌++◌, length, map, codes, Ok, Err}
+use Rattle.std.specs.Prelude.{Bool, true, false, ◌==◌, List, [], ◌∷◌, ◌++◌, length, map, codes, Ok}
+use Rattle.std.specs.Prelude.{Err}
 use Rattle.liquid_model.specs.Data.{Datum, text, array, text_of}
 use Rattle.liquid_model.specs.Lists.{list_of}
 use Rattle.liquid_model.specs.Texts.{Text}

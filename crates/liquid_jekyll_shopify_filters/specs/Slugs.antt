@@ -1,5 +1,6 @@
 -- The filter `slugify`.
-use Rattle.std.specs.Prelude.{ℕ, Bool, true, false, not, ◌==◌, ◌&&◌, ◌||◌, List, [], ◌∷◌, ◌++◌, length, map, bytes_eq, codes, if◌then◌else◌, Result, Ok, Err}
+use Rattle.std.specs.Prelude.{ℕ, Bool, true, false, not, ◌==◌, ◌&&◌, ◌||◌, List, [], ◌∷◌, ◌++◌}
+use Rattle.std.specs.Prelude.{length, map, bytes_eq, codes, if◌then◌else◌, Result, Ok, Err}
 use Rattle.std.specs.Char.{is_ascii_alphanumeric, is_ascii_digit, is_whitespace, to_ascii_lowercase}
 use Rattle.std.specs.Str.{chars, encode_utf8_all, trim}
 use Rattle.unicode.specs.Binary.{is_alphabetic}
@@ -10,7 +11,11 @@ use Rattle.liquid_model.specs.declared.error.ErrorKind.{ErrorKind}
 use Rattle.liquid_model.specs.declared.error.ErrorKind.TheVariants.{Unsupported}
 use Rattle.liquid_filter_base.specs.Arguments.{Answer}
 use Rattle.liquid_jekyll_shopify_filters.specs.declared.jekyll.slugify.Mode.{Mode}
-use Rattle.liquid_jekyll_shopify_filters.specs.declared.jekyll.slugify.Mode.TheVariants.{Default, Raw, Pretty, Ascii, Nothing}
+use Rattle.liquid_jekyll_shopify_filters.specs.declared.jekyll.slugify.Mode.TheVariants.{Default}
+use Rattle.liquid_jekyll_shopify_filters.specs.declared.jekyll.slugify.Mode.TheVariants.{Raw}
+use Rattle.liquid_jekyll_shopify_filters.specs.declared.jekyll.slugify.Mode.TheVariants.{Pretty}
+use Rattle.liquid_jekyll_shopify_filters.specs.declared.jekyll.slugify.Mode.TheVariants.{Ascii}
+use Rattle.liquid_jekyll_shopify_filters.specs.declared.jekyll.slugify.Mode.TheVariants.{Nothing}
 
 -- the mode of a name; any other name is the default mode
 abbrev pub mode_named : Text → Result Mode ErrorKind
@@ -41,7 +46,8 @@ shown true after c = c ∷ []
 shown false true c = []
 shown false false c = 45 ∷ []
 
--- each longest run of characters that aren't kept as one hyphen; the truth value says whether one was just before
+-- each longest run of characters that aren't kept as one hyphen; the truth value says whether one
+-- was just before
 abbrev pub hyphened : (ℕ → Bool) → Bool → List ℕ → List ℕ
 hyphened kept after [] = []
 hyphened kept after (c ∷ cs) = shown (kept c) after c ++ hyphened kept (not (kept c)) cs
@@ -52,15 +58,18 @@ without_first (c ∷ cs) = if c == 45 then without_first cs else c ∷ cs
 
 abbrev pub without_last : List ℕ → List ℕ
 without_last [] = []
-without_last (c ∷ cs) = if (c == 45) && (length (without_last cs) == 0) then [] else c ∷ without_last cs
+without_last (c ∷ cs) = if (c == 45) && (length (without_last cs) == 0) then [] else c ∷
+        without_last cs
 
 -- without the hyphens at both ends
 abbrev pub inner : List ℕ → List ℕ
 inner cs = without_last (without_first cs)
 
--- white space cut at both ends, runs that aren't kept as hyphens, hyphens cut at both ends, lower case
+-- white space cut at both ends, runs that aren't kept as hyphens, hyphens cut at both ends, lower
+-- case
 abbrev pub slug : Mode → Text → Text
-slug mode s = map to_ascii_lowercase (encode_utf8_all (inner (hyphened (keeps mode) false (chars (trim s)))))
+slug mode s =
+    map to_ascii_lowercase (encode_utf8_all (inner (hyphened (keeps mode) false (chars (trim s)))))
 
 abbrev pub slug_in : Datum → Mode → Answer
 slug_in d mode = Ok (text (slug mode (text_of d)))

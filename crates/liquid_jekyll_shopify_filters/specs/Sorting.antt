@@ -1,5 +1,6 @@
 -- The filter `sort` of Jekyll.
-use Rattle.std.specs.Prelude.{◌==◌, List, [], ◌∷◌, length, bytes_eq, codes, if◌then◌else◌, Option, Some, None, Result, Ok, Err}
+use Rattle.std.specs.Prelude.{◌==◌, List, [], ◌∷◌, length, bytes_eq, codes, if◌then◌else◌, Option}
+use Rattle.std.specs.Prelude.{Some, None, Result, Ok, Err}
 use Rattle.liquid_model.specs.Data.{Datum, text_of}
 use Rattle.liquid_model.specs.Fallible.{◌>>=◌}
 use Rattle.liquid_model.specs.Find.{find}
@@ -12,10 +13,13 @@ use Rattle.liquid_list_filters.specs.Sequences.{list, sequence, all_maps}
 use Rattle.liquid_list_filters.specs.Sorting.{Key, given, sort_by}
 use Rattle.liquid_jekyll_shopify_filters.specs.Path.{path}
 use Rattle.liquid_jekyll_shopify_filters.specs.declared.jekyll.array.sort.Nils.{Nils}
-use Rattle.liquid_jekyll_shopify_filters.specs.declared.jekyll.array.sort.Nils.TheVariants.{First, Last}
+use Rattle.liquid_jekyll_shopify_filters.specs.declared.jekyll.array.sort.Nils.TheVariants.{First}
+use Rattle.liquid_jekyll_shopify_filters.specs.declared.jekyll.array.sort.Nils.TheVariants.{Last}
 
 abbrev pub nils_named : Text → Result Nils ErrorKind
-nils_named s = if bytes_eq s (codes "first") then Ok First else (if bytes_eq s (codes "last") then Ok Last else Err InvalidInput)
+nils_named s =
+    if bytes_eq s (codes "first") then Ok First else (if bytes_eq s (codes "last") then Ok Last
+        else Err InvalidInput)
 
 -- nils come first where nothing is said
 abbrev pub nils_given : Option Datum → Result Nils ErrorKind
@@ -44,7 +48,9 @@ found_key nils p d = nils_key nils (found p d)
 
 abbrev pub sort_maps : List Datum → Text → Option Datum → Answer
 sort_maps ds name nils =
-    if all_maps ds then nils_given nils >>= (λ n. path_given name >>= (λ p. Ok (list (sort_by (found_key n p) ds)))) else Err InvalidInput
+    if all_maps ds then nils_given nils >>=
+            (λ n. path_given name >>= (λ p. Ok (list (sort_by (found_key n p) ds)))) else Err
+            InvalidInput
 
 -- without a property each item is sorted by itself
 abbrev pub sort_items : List Datum → List Datum → Answer
@@ -52,4 +58,5 @@ sort_items ds [] = Ok (list (sort_by (found_key First []) ds))
 sort_items ds (name ∷ args) = sort_maps ds (text_of name) (first_of args)
 
 abbrev pub sort_answer : Datum → List Datum → Answer
-sort_answer d args = if length (sequence d) == 0 then Err InvalidInput else sort_items (sequence d) args
+sort_answer d args = if length (sequence d) == 0 then Err InvalidInput else sort_items
+        (sequence d) args

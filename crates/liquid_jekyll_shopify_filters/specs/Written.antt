@@ -21,7 +21,7 @@ pub data AreSteps : List Datum → Text → Type 0 where
       → IsLiteral d from (close_bracket ∷ rest)
       → AreSteps ds rest → AreSteps (d ∷ ds) (open_bracket ∷ from)
 
--- the whole text is a word, and steps behind it
+-- the whole text is a word, and steps after it
 pub data IsPath : List Datum → Text → Type 0 where
   is_path : {w bs rest : List ℕ} {ds : List Datum} → Word w bs rest
       → AreSteps ds rest → IsPath (text w ∷ ds) bs

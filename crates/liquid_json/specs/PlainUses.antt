@@ -1,7 +1,8 @@
 -- Uses by which a reader of data builds what is asked for and no more.
 use Rattle.std.specs.Prelude.{Bool, true, not, ◌&&◌, ◌||◌, codes}
 use Rattle.liquid_model.specs.Texts.{same_text}
-use Rattle.liquid_model.specs.Uses.{Use, nothing, everything, parts, Fields, no_fields, field, ItemUse, uncounted, every, asks_whether, is_place}
+use Rattle.liquid_model.specs.Uses.{Use, nothing, everything, parts, Fields, no_fields, field}
+use Rattle.liquid_model.specs.Uses.{ItemUse, uncounted, every, asks_whether, is_place}
 use Rattle.liquid_model.specs.Projected.{use_of_key}
 
 -- each member once, and none that finds an item or a length of a list or a map
@@ -13,7 +14,8 @@ abbrev mutual
 
   pub plain_fields : Fields → Bool
   plain_fields no_fields = true
-  plain_fields (field k u more) = not (same_text k (codes "size") || is_place k) && (not (asks_whether (use_of_key k more)) && (plain u && plain_fields more))
+  plain_fields (field k u more) = not (same_text k (codes "size") || is_place k) &&
+          (not (asks_whether (use_of_key k more)) && (plain u && plain_fields more))
 
   pub plain_turns : ItemUse → Bool
   plain_turns uncounted = true

@@ -5,7 +5,8 @@ ghost use Rattle.liquid_model.specs.View.{view, items_view, pairs_view};
 ghost use Rattle.liquid_model.specs.UseViews.{uses_view};
 ghost use Rattle.liquid_json.specs.Asked.{AnswersAlike, IsAlikeData};
 ghost use Rattle.liquid_json.specs.Json.{datum_of, items_of, pairs_of, object_of, data_of};
-ghost use Rattle.serde_json.specs.View.{view as json_view, items_view as json_items, members_view as json_members};
+ghost use Rattle.serde_json.specs.View.{view as json_view, items_view as json_items};
+ghost use Rattle.serde_json.specs.View.{members_view as json_members};
 
 use crate::copies::{any_by_place, plain_uses};
 use crate::place::{bytes_left, no_json, with_place};
@@ -26,13 +27,14 @@ pub fn data_from_json(alloc: Global, text: &str) -> Result<Object>
     data_from_tree(alloc, text)
 }
 
-/// The data that a text of JSON gives, as far as these uses ask for it: under each name stands a value
-/// that is alike with the text's in all that is asked of it, so whoever looks at no more can't tell
-/// the two apart. What nobody asks for is read over and mostly not built, so it may be missing.
+/// The data that a text of JSON gives, as far as these uses ask for it: under each name stands a
+/// value that is alike with the text's in all that is asked of it, so whoever looks at no more
+/// can't tell the two apart. What nobody asks for is read over and mostly not built, so it may be
+/// missing.
 ///
-/// The text is refused exactly where `data_from_json` refuses it, by the same kind of fault, also for
-/// what nobody asks for: `InvalidInput` where it is no JSON or no object, `Float` where a number isn't
-/// whole or is past 64 bits. `Memory` where a growth was refused.
+/// The text is refused exactly where `data_from_json` refuses it, by the same kind of fault, also
+/// for what nobody asks for: `InvalidInput` where it is no JSON or no object, `Float` where a
+/// number isn't whole or is past 64 bits. `Memory` where a growth was refused.
 #[tactic(auto, using(crate::proofs::PlainCopies::whole_answers))]
 pub fn data_for(alloc: Global, text: &str, uses: &Uses) -> Result<Object>
     ensures { AnswersAlike (λ m. pairs_view m.entries) (uses_view uses.now) result

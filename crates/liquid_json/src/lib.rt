@@ -1,4 +1,5 @@
-//! Data from JSON: a text read as an object of Liquid's values, and where a text that isn't one has its fault.
+//! Data from JSON: a text read as an object of Liquid's values, and where a text that isn't one has
+//! its fault.
 #![tactic(auto)]
 
 mod copies;

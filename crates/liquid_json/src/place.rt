@@ -1,5 +1,5 @@
-//! Where the data has a fault, and its message with that place. The data is read once more for it, so that data without a
-//! fault pays nothing.
+//! Where the data has a fault, and its message with that place. The data is read once more for it,
+//! so that data without a fault pays nothing.
 ghost use Rattle.liquid_model.specs.ErrorKinds.{IsKindOrMemory};
 
 use liquid_core::{Error, ErrorKind, Location, Origin, whole_of};
@@ -28,7 +28,8 @@ fn found_there(alloc: Global, text: &str, left: usize) -> Result<String, AllocEr
     format!(in alloc; "found `{found}`, which is no JSON there")
 }
 
-/// The fault of data that is JSON, with where it stands: at a number that isn't whole, or else at the first value.
+/// The fault of data that is JSON, with where it stands: at a number that isn't whole, or else at
+/// the first value.
 pub fn with_place(alloc: Global, text: &str, error: Error) -> Error
     ensures { IsKindOrMemory error.kind result.kind }
 {
@@ -57,7 +58,7 @@ fn at_left(text: &str, left: usize) -> (&str, &str) {
         .unwrap_or((text, ""))
 }
 
-/// The line and the column, in characters and each from 1, of the place behind a text.
+/// The line and the column, in characters and each from 1, of the place after a text.
 fn behind(text: &str) -> (usize, usize) {
     let mut line: usize = 1;
     let mut column: usize = 1;

@@ -53,7 +53,8 @@ fn read_planned(
     asked: &Use,
 ) -> Result<Value, Stop>
     requires plain { IsTrue (plain (use_view asked.now)) }
-    ensures ok { IfOk result (λ v. IsPlanned (use_view asked.now) depth reader.old (view v) reader.new) }
+    ensures ok { IfOk result (λ v. IsPlanned (use_view asked.now) depth reader.old
+                (view v) reader.new) }
     ensures shorter { OnOk result (length reader.new < length reader.old) }
 {
     match asked {
@@ -82,7 +83,11 @@ fn read_parts(
 ) -> Result<Value, Stop>
     requires plain_members { IsTrue (plain_fields (members_view members.now.entries)) }
     requires plain_items { IsTrue (plain_turns (turns_view items.now)) }
-    ensures ok { IfOk result (λ v. IsPlanned (parts (members_view members.now.entries) (turns_view items.now)) depth reader.old (view v) reader.new) }
+    ensures ok {
+        IfOk result (λ v.
+            IsPlanned (parts (members_view members.now.entries) (turns_view items.now)) depth
+            reader.old (view v) reader.new)
+    }
     ensures shorter { OnOk result (length reader.new < length reader.old) }
 {
     let token = reader.next().ok_or(Stop::Other)?;
@@ -128,7 +133,10 @@ fn planned_items(
     asked: &Use,
 ) -> Result<Vec<Value>, Stop>
     requires plain { IsTrue (plain (use_view asked.now)) }
-    ensures ok { IfOk result (λ v. ArePlanned (use_view asked.now) depth reader.old (items_view v.items) reader.new) }
+    ensures ok {
+        IfOk result (λ v. ArePlanned (use_view asked.now) depth reader.old
+            (items_view v.items) reader.new)
+    }
     ensures shorter { OnOk result (length reader.new < length reader.old) }
 {
     let mut found = Vec::new(alloc);
@@ -148,7 +156,10 @@ fn planned_pairs(
     members: &Uses,
 ) -> Result<Object, Stop>
     requires plain { IsTrue (plain_fields (members_view members.now.entries)) }
-    ensures ok { IfOk result (λ m. PairsPlanned (members_view members.now.entries) depth reader.old (pairs_view m.entries) reader.new) }
+    ensures ok {
+        IfOk result (λ m. PairsPlanned (members_view members.now.entries) depth reader.old
+            (pairs_view m.entries) reader.new)
+    }
     ensures shorter { OnOk result (length reader.new < length reader.old) }
 {
     let mut found: Object = BTreeMap::new(alloc);

@@ -46,7 +46,8 @@ impl From<Invalid> for Stop {
     }
 }
 
-/// The data of a text, or none where it isn't plain: no JSON, no object, or with a number that isn't whole.
+/// The data of a text, or none where it isn't plain: no JSON, no object, or with a number that
+/// isn't whole.
 pub fn data_from_tokens(alloc: Global, text: &str) -> Result<Option<Object>, AllocError>
     ensures { IfOk result (λ o. IfSome o (λ m. data_of text.now ≡ Ok (pairs_view m.entries))) }
 {
@@ -100,7 +101,10 @@ pub fn read(alloc: Global, reader: &mut Reader<'_>, depth: usize) -> Result<Valu
 #[cycle(read)]
 #[inline(never)]
 fn read_items(alloc: Global, reader: &mut Reader<'_>, depth: usize) -> Result<Vec<Value>, Stop>
-    ensures ok { IfOk result (λ v. items_at depth (length reader.old) reader.old ≡ Some (items_view v.items, reader.new)) }
+    ensures ok {
+        IfOk result (λ v. items_at depth (length reader.old) reader.old ≡
+            Some (items_view v.items, reader.new))
+    }
     ensures shorter { OnOk result (length reader.new < length reader.old) }
 {
     let mut found = Vec::new(alloc);
@@ -114,7 +118,10 @@ fn read_items(alloc: Global, reader: &mut Reader<'_>, depth: usize) -> Result<Ve
 #[cycle(read)]
 #[inline(never)]
 pub fn read_pairs(alloc: Global, reader: &mut Reader<'_>, depth: usize) -> Result<Object, Stop>
-    ensures ok { IfOk result (λ m. pairs_at depth no_pairs (length reader.old) reader.old ≡ Some (pairs_view m.entries, reader.new)) }
+    ensures ok {
+        IfOk result (λ m. pairs_at depth no_pairs (length reader.old) reader.old ≡
+            Some (pairs_view m.entries, reader.new))
+    }
     ensures shorter { OnOk result (length reader.new < length reader.old) }
 {
     let mut found: Object = BTreeMap::new(alloc);

@@ -1,5 +1,6 @@
 //! The whole numbers of JSON.
-ghost use Rattle.std.specs.Prelude.{◌≡◌, ◌<◌, ◌==◌, length, slice_index, true, false, Some, IfSome, IsTrue, option_and_then};
+ghost use Rattle.std.specs.Prelude.{◌≡◌, ◌<◌, ◌==◌, length, slice_index, true, false, Some, IfSome};
+ghost use Rattle.std.specs.Prelude.{IsTrue, option_and_then};
 ghost use Rattle.serde_json.specs.Find.{as_i64};
 ghost use Rattle.serde_json.specs.Read.{number_from};
 ghost use Rattle.liquid_json.specs.inside.Tokens as spec;

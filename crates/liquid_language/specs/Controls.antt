@@ -4,7 +4,8 @@ use Rattle.liquid_model.specs.Texts.{Text}
 use Rattle.liquid_language.specs.declared.block.Block.{Block}
 use Rattle.liquid_language.specs.declared.block.Control.{Control}
 use Rattle.liquid_language.specs.declared.block.Control.TheVariants.{Elsif, Else, BareElse, When}
-use Rattle.liquid_language.specs.declared.block.Block.TheVariants.{If, Unless, Case, For, TableRow, Capture, IfChanged}
+use Rattle.liquid_language.specs.declared.block.Block.TheVariants.{If, Unless, Case, For, TableRow}
+use Rattle.liquid_language.specs.declared.block.Block.TheVariants.{Capture, IfChanged}
 
 abbrev pub end_word : Block → Text
 end_word If = codes "endif"

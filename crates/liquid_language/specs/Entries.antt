@@ -13,7 +13,8 @@ seen f es = map (λ e. (string_bytes e.0, f e.1)) es
 -- the entries with y at a name; what stood there before is gone
 abbrev pub put : {Y : Type 0} → Text → Y → List (Text × Y) → List (Text × Y)
 put name y [] = (name, y) ∷ []
-put name y (e ∷ es) = match_ordering (slice_cmp nat_cmp name e.0) ((name, y) ∷ e ∷ es) ((e.0, y) ∷ es) (e ∷ put name y es)
+put name y (e ∷ es) = match_ordering (slice_cmp nat_cmp name e.0) ((name, y) ∷ e ∷ es)
+        ((e.0, y) ∷ es) (e ∷ put name y es)
 
 -- the entries with y at a name that is there
 abbrev pub placed : {Y : Type 0} → Text → Y → List (Text × Y) → List (Text × Y)

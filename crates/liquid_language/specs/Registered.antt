@@ -5,7 +5,8 @@ use Rattle.liquid_filters.specs.Kinds.{kind_counts}
 use Rattle.liquid_language.specs.Languages.{kinds_of}
 use Rattle.liquid_language.specs.declared.registered_filter.FilterRegistry.{FilterRegistry}
 use Rattle.liquid_language.specs.declared.registered_filter.RegisteredFilter.{RegisteredFilter}
-use Rattle.liquid_language.specs.declared.registered_filter.RegisteredFilter.TheVariants.{Kind, Host}
+use Rattle.liquid_language.specs.declared.registered_filter.RegisteredFilter.TheVariants.{Kind}
+use Rattle.liquid_language.specs.declared.registered_filter.RegisteredFilter.TheVariants.{Host}
 
 abbrev pub registered_in : FilterRegistry → List (Text × RegisteredFilter)
 registered_in r = kinds_of r.entries

@@ -1,6 +1,6 @@
 -- What a tag's name is, where the tag stands.
 --     role_of l x w      of the name w in a language, in a context
---     unread_body role      the body behind such a tag, where it is a block's that isn't read
+--     unread_body role      the body after such a tag, where it is a block's that isn't read
 use Rattle.std.specs.Prelude.{cond, bytes_eq, Option, Some, None, option_map}
 use Rattle.liquid_model.specs.Maps.{listed}
 use Rattle.liquid_model.specs.Texts.{Text}
@@ -12,7 +12,8 @@ use Rattle.liquid_language.specs.declared.block.Control.{Control}
 use Rattle.liquid_language.specs.declared.block.BlockContext.{BlockContext}
 use Rattle.liquid_language.specs.declared.block.BlockContext.TheVariants.{Outside, InBody, InLast}
 use Rattle.liquid_language.specs.declared.block.Role.{Role}
-use Rattle.liquid_language.specs.declared.block.Role.TheVariants.{End, Control as Word, Tag, Block as Start}
+use Rattle.liquid_language.specs.declared.block.Role.TheVariants.{End, Control as Word, Tag}
+use Rattle.liquid_language.specs.declared.block.Role.TheVariants.{Block as Start}
 use Rattle.liquid_language.specs.declared.language.BlockKind.{BlockKind}
 use Rattle.liquid_language.specs.declared.language.BlockKind.TheVariants as blocks
 use Rattle.liquid_language.specs.declared.language.Language.{Language}
@@ -31,10 +32,12 @@ abbrev pub word_or : Option Control → Option Role → Option Role
 word_or (Some word) o = Some (Word word)
 word_or None o = o
 
--- in a block its end comes first, then the control words that can end the body, then what is registered
+-- in a block its end comes first, then the control words that can end the body, then what is
+-- registered
 abbrev pub role_of : Language → BlockContext → Text → Option Role
 role_of l Outside w = registered l w
-role_of l (InBody b) w = cond (bytes_eq w (end_word b)) (Some End) (word_or (control_of b w) (registered l w))
+role_of l (InBody b) w =
+    cond (bytes_eq w (end_word b)) (Some End) (word_or (control_of b w) (registered l w))
 role_of l (InLast b) w = cond (bytes_eq w (end_word b)) (Some End) (registered l w)
 
 abbrev pub unread : BlockKind → Option Body

@@ -68,8 +68,8 @@ pub enum Role {
     Block(BlockKind),
 }
 
-/// What the name is, where a tag stands: in a block its end comes first, then the control words that can end the body,
-/// then registered tags, then registered blocks.
+/// What the name is, where a tag stands: in a block its end comes first, then the control words
+/// that can end the body, then registered tags, then registered blocks.
 pub fn role_of(language: &Language, context: BlockContext, name: &str) -> Option<Role>
     ensures { result ≡ role_of language.now context name.now }
 {
@@ -103,7 +103,7 @@ fn registered(language: &Language, name: &str) -> Option<Role>
     }
 }
 
-/// The body behind a tag, where it is a block's that isn't read.
+/// The body after a tag, where it is a block's that isn't read.
 pub fn unread_body(role: Option<Role>) -> Option<Body>
     ensures { result ≡ unread_body role }
 {
@@ -114,7 +114,8 @@ pub fn unread_body(role: Option<Role>) -> Option<Body>
     }
 }
 
-/// The body behind a piece, where it is a tag without items that begins a block whose body isn't read.
+/// The body after a piece, where it is a tag without items that begins a block whose body isn't
+/// read.
 pub fn body_behind(language: &Language, context: BlockContext, piece: &Piece<'_>) -> Option<Body>
     ensures { result ≡ wanted_body (body_behind language.now context) (piece_view piece.now) }
 {

@@ -1,5 +1,5 @@
-//! What a refused source is told: where its fault stands, what is found there, and what to write instead. The source is read
-//! once more for that, and only then.
+//! What a refused source is told: where its fault stands, what is found there, and what to write
+//! instead. The source is read once more for that, and only then.
 mod blocks;
 mod characters;
 mod filters;
@@ -21,14 +21,15 @@ use std::alloc::{AllocError, Global};
 use told::{Told, message_of};
 use unread::unread;
 
-/// What is told of a fault: of which place, as so many bytes of the source from it on, and the message.
+/// What the message says of a fault: of which place, as so many bytes of the source from it on, and
+/// the message.
 #[derive(Drop)]
 pub struct Explanation {
     pub left: usize,
     pub message: String,
 }
 
-/// What is told of the fault that a source has in a language.
+/// What the message says of the fault that a source has in a language.
 pub fn explanation_of(
     alloc: Global,
     source: &str,
@@ -45,7 +46,7 @@ pub fn explanation_of(
     })
 }
 
-/// What is told of a fault in a piece.
+/// What the message says of a fault in a piece.
 fn told_of<'s>(
     alloc: Global,
     language: &'s Language,

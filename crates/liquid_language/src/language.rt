@@ -73,9 +73,13 @@ impl<K: Copy + Drop> Registry<K> {
         }
     }
 
-    /// Registers a kind under a name; what the name stood for before is forgotten. Where there is no memory nothing changes.
+    /// Registers a kind under a name; what the name stood for before is forgotten. Where there is
+    /// no memory nothing changes.
     pub fn register(&mut self, name: String, kind: K) -> Result<()>
-        ensures registered { IsValueOrMemory (λ _. listed (kinds_of self.new)) result (insert (listed (kinds_of self.old)) (string_bytes name) kind) }
+        ensures registered {
+            IsValueOrMemory (λ _. listed (kinds_of self.new)) result
+                (insert (listed (kinds_of self.old)) (string_bytes name) kind)
+        }
         ensures unchanged { OnErr result (kinds_of self.new ≡ kinds_of self.old) }
     {
         drop(self.kinds.insert(name, kind)?);
@@ -104,7 +108,8 @@ pub struct Language {
     pub filters: FilterRegistry,
 }
 
-/// Drops the fields. By hand, so that a way out of a function that owns one is one call to prove.
+/// Drops the fields. Written by hand, so that each early return drops the value by one call to
+/// prove.
 impl Drop for Language {
     fn drop(self) {
         let Language {

@@ -1,4 +1,5 @@
-//! What a language holds: tags, blocks and filters under their names; and what a source is told that it refuses.
+//! What a language holds: tags, blocks and filters under their names; and what a refused source is
+//! told that it refuses.
 #![tactic(auto)]
 
 mod block;

@@ -3,7 +3,8 @@ ghost use Rattle.std.specs.Prelude.{◌≡◌, [], map, OnErr, string_bytes};
 ghost use Rattle.liquid_model.specs.Answer.{IsValueOrMemory};
 ghost use Rattle.liquid_model.specs.Maps.{listed, insert};
 ghost use Rattle.liquid_language.specs.Registered.{registered_counts, registered_in};
-ghost use Rattle.liquid_language.specs.declared.registered_filter.RegisteredFilter.TheVariants.{Kind, Host};
+ghost use Rattle.liquid_language.specs.declared.registered_filter.RegisteredFilter.TheVariants.{Kind};
+ghost use Rattle.liquid_language.specs.declared.registered_filter.RegisteredFilter.TheVariants.{Host};
 
 use crate::language::Registry;
 use liquid_core::{Filter, Result};
@@ -16,7 +17,8 @@ use std::collections::btree_map::Keys;
 pub enum RegisteredFilter {
     /// One of the filters that exist.
     Kind(FilterKind),
-    /// A filter that the host hands in, with the least and the greatest number of arguments that a template may give it.
+    /// A filter that the host hands in, with the least and the greatest number of arguments that a
+    /// template may give it.
     Host { least: usize, most: usize },
 }
 
@@ -48,18 +50,26 @@ impl FilterRegistry {
         }
     }
 
-    /// Registers a filter under a name; what the name stood for before is forgotten. Where there is no memory nothing changes.
+    /// Registers a filter under a name; what the name stood for before is forgotten. Where there is
+    /// no memory nothing changes.
     pub fn register(&mut self, name: String, kind: FilterKind) -> Result<()>
-        ensures registered { IsValueOrMemory (λ _. listed (registered_in self.new)) result (insert (listed (registered_in self.old)) (string_bytes name) (Kind kind)) }
+        ensures registered {
+            IsValueOrMemory (λ _. listed (registered_in self.new)) result
+                (insert (listed (registered_in self.old)) (string_bytes name) (Kind kind))
+        }
         ensures unchanged { OnErr result (registered_in self.new ≡ registered_in self.old) }
     {
         self.entries.register(name, RegisteredFilter::Kind(kind))
     }
 
-    /// Registers a filter that the host hands in, by its name, with the least and the greatest number of arguments; what
-    /// the name stood for before is forgotten. Where there is no memory nothing changes.
+    /// Registers a filter that the host hands in, by its name, with the least and the greatest
+    /// number of arguments; what the name stood for before is forgotten. Where there is no memory
+    /// nothing changes.
     pub fn register_host(&mut self, name: String, least: usize, most: usize) -> Result<()>
-        ensures registered { IsValueOrMemory (λ _. listed (registered_in self.new)) result (insert (listed (registered_in self.old)) (string_bytes name) (Host least most)) }
+        ensures registered {
+            IsValueOrMemory (λ _. listed (registered_in self.new)) result
+                (insert (listed (registered_in self.old)) (string_bytes name) (Host least most))
+        }
         ensures unchanged { OnErr result (registered_in self.new ≡ registered_in self.old) }
     {
         self.entries

@@ -104,7 +104,8 @@ is_digit b bs = nat_le digit_zero b && nat_le b digit_nine
 
 -- a letter or `_`
 abbrev pub is_letter : ℕ → Bool
-is_letter b = (nat_le upper_a b && nat_le b upper_z) || (nat_le lower_a b && nat_le b lower_z) || (b == underscore)
+is_letter b = (nat_le upper_a b && nat_le b upper_z) || (nat_le lower_a b && nat_le b lower_z) ||
+        (b == underscore)
 
 -- `%}` or `}}` stands at the front
 abbrev pub closes : List ℕ → Bool

@@ -1,11 +1,17 @@
 -- What is read between an opener and a closer, as functions.
-use Rattle.std.specs.Prelude.{ℕ, zero, suc, List, [], ◌∷◌, length, take, ◌-◌, Bool, true, false, Option, Some, None}
+use Rattle.std.specs.Prelude.{ℕ, zero, suc, List, [], ◌∷◌, length, take, ◌-◌, Bool, true, false}
+use Rattle.std.specs.Prelude.{Option, Some, None}
 use Rattle.std.specs.Option.{option_and_then, option_map, option_or}
-use Rattle.liquid_lexer.specs.Bytes.{bar, close_brace, close_parenthesis, colon, comma, dash, dot, equals_sign, exclamation_mark, greater_sign, less_sign, open_parenthesis}
+use Rattle.liquid_lexer.specs.Bytes.{bar, close_brace, close_parenthesis, colon, comma, dash, dot}
+use Rattle.liquid_lexer.specs.Bytes.{equals_sign, exclamation_mark, greater_sign, less_sign}
+use Rattle.liquid_lexer.specs.Bytes.{open_parenthesis}
 use Rattle.liquid_lexer.specs.ValueReading.{◌>>=◌, Reads, past_white, past_byte, value_at}
 use Rattle.liquid_lexer.specs.Items.{Item, value, range, symbol, mark}
 use Rattle.liquid_lexer.specs.declared.symbol.Symbol.{Symbol}
-use Rattle.liquid_lexer.specs.declared.symbol.Symbol.TheVariants.{Equals, NotEquals, LessOrGreater, LessThanEquals, GreaterThanEquals, LessThan, GreaterThan, Assign, Colon, Comma, Bar}
+use Rattle.liquid_lexer.specs.declared.symbol.Symbol.TheVariants.{Equals, NotEquals, LessOrGreater}
+use Rattle.liquid_lexer.specs.declared.symbol.Symbol.TheVariants.{LessThanEquals, GreaterThanEquals}
+use Rattle.liquid_lexer.specs.declared.symbol.Symbol.TheVariants.{LessThan, GreaterThan, Assign}
+use Rattle.liquid_lexer.specs.declared.symbol.Symbol.TheVariants.{Colon, Comma, Bar}
 use Rattle.liquid_lexer.specs.declared.item.Delimiter.{Delimiter}
 
 abbrev pub two_bytes : ℕ → ℕ → Symbol → Reads Symbol
@@ -16,17 +22,23 @@ one_byte b s bs = option_map (λ rest. (s, rest)) (past_byte b bs)
 
 unfoldable pub long_symbol_at : Reads Symbol
 long_symbol_at bs =
-    option_or (two_bytes equals_sign equals_sign Equals bs) (option_or (two_bytes exclamation_mark equals_sign NotEquals bs) (option_or (two_bytes less_sign greater_sign LessOrGreater bs) (option_or (two_bytes less_sign equals_sign LessThanEquals bs) (two_bytes greater_sign equals_sign GreaterThanEquals bs))))
+    option_or (two_bytes equals_sign equals_sign Equals bs)
+            (option_or (two_bytes exclamation_mark equals_sign NotEquals bs)
+            (option_or (two_bytes less_sign greater_sign LessOrGreater bs)
+            (option_or (two_bytes less_sign equals_sign LessThanEquals bs)
+            (two_bytes greater_sign equals_sign GreaterThanEquals bs))))
 
 unfoldable pub short_symbol_at : Reads Symbol
 short_symbol_at bs =
-    option_or (one_byte less_sign LessThan bs) (option_or (one_byte greater_sign GreaterThan bs) (option_or (one_byte equals_sign Assign bs) (option_or (one_byte colon Colon bs) (option_or (one_byte comma Comma bs) (one_byte bar Bar bs)))))
+    option_or (one_byte less_sign LessThan bs) (option_or (one_byte greater_sign GreaterThan bs)
+            (option_or (one_byte equals_sign Assign bs) (option_or (one_byte colon Colon bs)
+            (option_or (one_byte comma Comma bs) (one_byte bar Bar bs)))))
 
 -- the longest first
 abbrev pub symbol_at : Reads Symbol
 symbol_at bs = option_or (long_symbol_at bs) (short_symbol_at bs)
 
--- behind the `(` of a range
+-- after the `(` of a range
 unfoldable pub range_at : Reads Item
 range_at bs = do
   first ← value_at 200 (past_white bs)
@@ -67,9 +79,11 @@ abbrev pub ReadItems : Type 0
 ReadItems = List Item × Bool × List ℕ
 
 module _ (k : Delimiter) where
-  abbrev pub items_by : (List ℕ → Option ReadItems) → List ℕ → Option (Bool × List ℕ) → Option ReadItems
+  abbrev pub items_by : (List ℕ → Option ReadItems) → List ℕ → Option (Bool × List ℕ) →
+      Option ReadItems
   items_by again bs (Some x) = Some ([], x.0, x.1)
-  items_by again bs None = option_and_then (λ i. option_map (λ r. (i.0 ∷ r.0, r.1, r.2)) (again i.1)) (item_at bs)
+  items_by again bs None =
+      option_and_then (λ i. option_map (λ r. (i.0 ∷ r.0, r.1, r.2)) (again i.1)) (item_at bs)
 
   unfoldable pub items_at : ℕ → List ℕ → Option ReadItems
   items_at zero bs = items_by (λ bs. None) (past_white bs) (closer_at k (past_white bs))

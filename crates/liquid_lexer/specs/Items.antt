@@ -1,11 +1,16 @@
--- The written grammar of items: what stands between an opener and a closer. In each relation bs begins with what is named, and rest follows it.
+-- The written grammar of items: what stands between an opener and a closer. In each relation bs
+-- begins with what is named, and rest follows it.
 use Rattle.std.specs.Prelude.{◌≡◌, ℕ, ◌≤◌, List, [], ◌∷◌, ◌++◌, length, Bool, true, false, codes}
 use Rattle.liquid_core.specs.Expression.{Expression}
-use Rattle.liquid_lexer.specs.Bytes.{close_brace, close_parenthesis, dash, dot, open_parenthesis, percent}
+use Rattle.liquid_lexer.specs.Bytes.{close_brace, close_parenthesis, dash, dot, open_parenthesis}
+use Rattle.liquid_lexer.specs.Bytes.{percent}
 use Rattle.liquid_lexer.specs.Words.{Blank}
 use Rattle.liquid_lexer.specs.Values.{IsValue}
 use Rattle.liquid_lexer.specs.declared.symbol.Symbol.{Symbol}
-use Rattle.liquid_lexer.specs.declared.symbol.Symbol.TheVariants.{Equals, NotEquals, LessOrGreater, LessThanEquals, GreaterThanEquals, LessThan, GreaterThan, Assign, Colon, Comma, Bar}
+use Rattle.liquid_lexer.specs.declared.symbol.Symbol.TheVariants.{Equals, NotEquals, LessOrGreater}
+use Rattle.liquid_lexer.specs.declared.symbol.Symbol.TheVariants.{LessThanEquals, GreaterThanEquals}
+use Rattle.liquid_lexer.specs.declared.symbol.Symbol.TheVariants.{LessThan, GreaterThan, Assign}
+use Rattle.liquid_lexer.specs.declared.symbol.Symbol.TheVariants.{Colon, Comma, Bar}
 use Rattle.liquid_lexer.specs.declared.item.Delimiter.{Delimiter}
 use Rattle.liquid_lexer.specs.declared.item.Delimiter.TheVariants.{Output, Tag}
 
@@ -31,18 +36,23 @@ spelling_of Bar = codes "|"
 -- the longest symbol that stands at the front
 pub record IsSymbol (s : Symbol) (bs rest : List ℕ) : Type 0 where
   pub joined : bs ≡ spelling_of s ++ rest
-  pub longest : (t : Symbol) (after : List ℕ) → bs ≡ spelling_of t ++ after → length (spelling_of t) ≤ length (spelling_of s)
+  pub longest : (t : Symbol) (after : List ℕ) → bs ≡ spelling_of t ++ after →
+      length (spelling_of t) ≤ length (spelling_of s)
 
--- `(value..value)` behind its `(`, whitespace allowed around each value
+-- `(value..value)` after its `(`, whitespace allowed around each value
 pub data IsRange : Expression → Expression → List ℕ → List ℕ → Type 0 where
   is_range : {first second : Expression} {inside from until after next behind rest : List ℕ}
       → Blank inside from → IsValue 200 first from until → Blank until (dot ∷ dot ∷ after)
-      → Blank after next → IsValue 200 second next behind → Blank behind (close_parenthesis ∷ rest) → IsRange first second inside rest
+      → Blank after next → IsValue 200 second next behind →
+          Blank behind (close_parenthesis ∷ rest) → IsRange first second inside rest
 
 pub data IsItem : Item → List ℕ → List ℕ → Type 0 where
   is_symbol : {s : Symbol} {bs rest : List ℕ} → IsSymbol s bs rest → IsItem (symbol s) bs rest
-  is_interval : {first second : Expression} {inside rest : List ℕ} → IsRange first second inside rest → IsItem (range first second) (open_parenthesis ∷ inside) rest
-  is_value : {x : Expression} {spelling bs rest : List ℕ} → IsValue 200 x bs rest → bs ≡ spelling ++ rest → IsItem (value x spelling) bs rest
+  is_interval : {first second : Expression} {inside rest : List ℕ} →
+      IsRange first second inside rest →
+      IsItem (range first second) (open_parenthesis ∷ inside) rest
+  is_value : {x : Expression} {spelling bs rest : List ℕ} → IsValue 200 x bs rest →
+      bs ≡ spelling ++ rest → IsItem (value x spelling) bs rest
 
 -- an output closes by `}}`, a tag by `%}`
 abbrev pub mark : Delimiter → ℕ
@@ -63,5 +73,8 @@ NoCloser k bs = (d : Bool) (rest : List ℕ) → IsCloser k d bs rest → ⊥
 
 -- the items up to the first closer in an item's place. The truth value: the closer has a dash
 pub data AreItems : Delimiter → List Item → Bool → List ℕ → List ℕ → Type 0 where
-  closed : {k : Delimiter} {d : Bool} {bs from rest : List ℕ} → Blank bs from → IsCloser k d from rest → AreItems k [] d bs rest
-  item : {k : Delimiter} {d : Bool} {i : Item} {is : List Item} {bs from after rest : List ℕ} → Blank bs from → NoCloser k from → IsItem i from after → AreItems k is d after rest → AreItems k (i ∷ is) d bs rest
+  closed : {k : Delimiter} {d : Bool} {bs from rest : List ℕ} → Blank bs from →
+      IsCloser k d from rest → AreItems k [] d bs rest
+  item : {k : Delimiter} {d : Bool} {i : Item} {is : List Item} {bs from after rest : List ℕ} →
+      Blank bs from → NoCloser k from → IsItem i from after → AreItems k is d after rest →
+      AreItems k (i ∷ is) d bs rest

@@ -12,7 +12,7 @@ pub data Piece : Type 0 where
   text : List ℕ → Piece
   output : List Item → Piece
   tag : List ℕ → List Item → Piece
-  -- a tag without items, by its name, with the verbatim body behind it up to its end
+  -- a tag without items, by its name, with the verbatim body after it up to its end
   raw : List ℕ → List ℕ → Piece
   comment : List ℕ → Piece
 
@@ -31,23 +31,35 @@ stripped front t back = strip_back back (strip_front front t)
 -- A tag's opener, name and items. The truth values: whether its opener and its closer have a dash
 pub data IsTag : Bool → List ℕ → List Item → Bool → List ℕ → List ℕ → Type 0 where
   is_tag : {before after : Bool} {w : List ℕ} {is : List Item} {bs inside from next rest : List ℕ}
-      → IsOpener Tag before bs inside → Blank inside from → Word w from next → AreItems Tag is after next rest → IsTag before w is after bs rest
+      → IsOpener Tag before bs inside → Blank inside from → Word w from next →
+          AreItems Tag is after next rest → IsTag before w is after bs rest
 
--- behind a `{`: whether the opener has a dash, the piece, and whether the last closer has one. Whether a tag without items has a verbatim body, the language tells
+-- after a `{`: whether the opener has a dash, the piece, and whether the last closer has one.
+-- Whether a tag without items has a verbatim body, the language tells
 pub data IsMarkup : Bool → Piece → Bool → List ℕ → List ℕ → Type 0 where
-  is_output : {before after : Bool} {is : List Item} {bs inside rest : List ℕ} → IsOpener Output before bs inside → AreItems Output is after inside rest → IsMarkup before (output is) after bs rest
-  is_plain_tag : {before after : Bool} {w : List ℕ} {is : List Item} {bs rest : List ℕ} → IsTag before w is after bs rest → IsMarkup before (tag w is) after bs rest
+  is_output : {before after : Bool} {is : List Item} {bs inside rest : List ℕ} →
+      IsOpener Output before bs inside → AreItems Output is after inside rest →
+      IsMarkup before (output is) after bs rest
+  is_plain_tag : {before after : Bool} {w : List ℕ} {is : List Item} {bs rest : List ℕ} →
+      IsTag before w is after bs rest → IsMarkup before (tag w is) after bs rest
   is_raw : {before front back after : Bool} {w bs body rest : List ℕ} (t : List ℕ)
-      → IsTag before w [] front bs body → IsRaw t back after body rest → IsMarkup before (raw w (stripped front t back)) after bs rest
-  is_comment : {before front after : Bool} {w bs body rest : List ℕ} → IsTag before w [] front bs body → IsComment 0 after body rest → IsMarkup before (comment w) after bs rest
+      → IsTag before w [] front bs body → IsRaw t back after body rest →
+          IsMarkup before (raw w (stripped front t back)) after bs rest
+  is_comment : {before front after : Bool} {w bs body rest : List ℕ} →
+      IsTag before w [] front bs body → IsComment 0 after body rest →
+      IsMarkup before (comment w) after bs rest
 
 -- a text left empty is no piece
 abbrev pub content : List ℕ → List Piece → List Piece
 content [] ps = ps
 content (b ∷ bs) ps = text (b ∷ bs) ∷ ps
 
--- texts up to the leftmost opener, and what it opens. The truth value: a mark before the source strips
+-- texts up to the leftmost opener, and what it opens. The truth value: a mark before the source
+-- strips
 pub data IsSource : Bool → List Piece → List ℕ → Type 0 where
-  last : {front : Bool} {t : List ℕ} → IsRun plain t [] → IsSource front (content (stripped front t false) []) t
-  more : {front after : Bool} {bs rest : List ℕ} {p : Piece} {ps : List Piece} (t : List ℕ) (before : Bool)
-      → IsRun plain t (open_brace ∷ bs) → IsMarkup before p after bs rest → IsSource after ps rest → IsSource front (content (stripped front t before) (p ∷ ps)) (t ++ (open_brace ∷ bs))
+  last : {front : Bool} {t : List ℕ} → IsRun plain t [] →
+      IsSource front (content (stripped front t false) []) t
+  more : {front after : Bool} {bs rest : List ℕ} {p : Piece} {ps : List Piece} (t : List ℕ)
+          (before : Bool)
+      → IsRun plain t (open_brace ∷ bs) → IsMarkup before p after bs rest → IsSource after ps rest →
+          IsSource front (content (stripped front t before) (p ∷ ps)) (t ++ (open_brace ∷ bs))

@@ -1,8 +1,11 @@
--- What is read as a source, as functions. What is read next may depend on the language: it tells where a tag has a verbatim body.
-use Rattle.std.specs.Prelude.{◌≡◌, ℕ, zero, suc, List, [], ◌∷◌, length, take, drop, Bool, true, false, not, cond, ◌&&◌, codes, bytes_eq, Option, Some, None}
+-- What is read as a source, as functions. What is read next may depend on the language: it tells
+-- where a tag has a verbatim body.
+use Rattle.std.specs.Prelude.{◌≡◌, ℕ, zero, suc, List, [], ◌∷◌, length, take, drop, Bool, true}
+use Rattle.std.specs.Prelude.{false, not, cond, ◌&&◌, codes, bytes_eq, Option, Some, None}
 use Rattle.std.specs.Option.{option_and_then, option_map}
 use Rattle.liquid_lexer.specs.Bytes.{dash, open_brace, percent}
-use Rattle.liquid_lexer.specs.ValueReading.{◌>>=◌, Reads, run_len, past_white, past_byte, word_at, text_at}
+use Rattle.liquid_lexer.specs.ValueReading.{◌>>=◌, Reads, run_len, past_white, past_byte, word_at}
+use Rattle.liquid_lexer.specs.ValueReading.{text_at}
 use Rattle.liquid_lexer.specs.ItemReading.{closer_at, items_at}
 use Rattle.liquid_lexer.specs.Pieces.{Piece, text, output, tag, raw, comment, stripped}
 use Rattle.liquid_lexer.specs.declared.item.Delimiter.{Delimiter}
@@ -45,23 +48,29 @@ in_raw b bs = not (is_named (codes "endraw") (mark_at (b ∷ bs)))
 
 -- the text up to the first mark `endraw`, that mark, and what follows it
 unfoldable pub raw_at : List ℕ → Option (List ℕ × Mark × List ℕ)
-raw_at bs = option_map (λ m. (take (run_len in_raw bs) bs, m.0, m.1)) (mark_at (drop (run_len in_raw bs) bs))
+raw_at bs = option_map (λ m. (take (run_len in_raw bs) bs, m.0, m.1))
+        (mark_at (drop (run_len in_raw bs) bs))
 
 -- none of the three marks that count in a comment begins at b, before bs
 unfoldable pub in_comment : ℕ → List ℕ → Bool
-in_comment b bs = not (is_named (codes "comment") (mark_at (b ∷ bs))) && (not (is_named (codes "raw") (mark_at (b ∷ bs))) && not (is_named (codes "endcomment") (mark_at (b ∷ bs))))
+in_comment b bs = not (is_named (codes "comment") (mark_at (b ∷ bs))) &&
+        (not (is_named (codes "raw") (mark_at (b ∷ bs))) &&
+        not (is_named (codes "endcomment") (mark_at (b ∷ bs))))
 
 -- no mark that counts in the body stands at the front
 abbrev pub goes_on : Body → List ℕ → Bool
 goes_on Raw bs = not (is_named (codes "endraw") (mark_at bs))
-goes_on Comment bs = not (is_named (codes "comment") (mark_at bs)) && (not (is_named (codes "raw") (mark_at bs)) && not (is_named (codes "endcomment") (mark_at bs)))
+goes_on Comment bs = not (is_named (codes "comment") (mark_at bs)) &&
+        (not (is_named (codes "raw") (mark_at bs)) &&
+        not (is_named (codes "endcomment") (mark_at bs)))
 
 -- the body goes on over b, before bs
 abbrev pub in_body : Body → ℕ → List ℕ → Bool
 in_body Raw b bs = in_raw b bs
 in_body Comment b bs = in_comment b bs
 
--- in a comment, with a number of open inner ones: whether its last closer has a dash, and what follows it
+-- in a comment, with a number of open inner ones: whether its last closer has a dash, and what
+-- follows it
 abbrev pub Skips : Type 0
 Skips = ℕ → List ℕ → Option (Bool × List ℕ)
 
@@ -72,12 +81,15 @@ comment_ends again (suc n) m = again n m.1
 abbrev pub past_mark : Skips → ℕ → Mark × List ℕ → Option (Bool × List ℕ)
 past_mark again n m =
     cond (bytes_eq m.0.name (codes "comment")) (again (suc n) m.1)
-    (cond (bytes_eq m.0.name (codes "raw")) (option_and_then (λ r. again n r.2) (raw_at m.1)) (comment_ends again n m))
+    (cond (bytes_eq m.0.name (codes "raw")) (option_and_then (λ r. again n r.2) (raw_at m.1))
+            (comment_ends again n m))
 
 -- The first number bounds the marks. The count of the bytes is always enough.
 unfoldable pub comment_at : ℕ → Skips
-comment_at zero n bs = option_and_then (past_mark (λ n bs. None) n) (mark_at (drop (run_len in_comment bs) bs))
-comment_at (suc turns) n bs = option_and_then (past_mark (comment_at turns) n) (mark_at (drop (run_len in_comment bs) bs))
+comment_at zero n bs = option_and_then (past_mark (λ n bs. None) n)
+        (mark_at (drop (run_len in_comment bs) bs))
+comment_at (suc turns) n bs = option_and_then (past_mark (comment_at turns) n)
+        (mark_at (drop (run_len in_comment bs) bs))
 
 -- ---- outputs and tags
 
@@ -93,13 +105,15 @@ pub record Markup : Type 0 where
   pub piece : Piece
   pub after : Bool
 
--- behind an opener
+-- after an opener
 abbrev pub inside_of : Delimiter → Bool × List ℕ → Option (Markup × List ℕ)
-inside_of Output x = option_map (λ r. (record { before = x.0; piece = output r.0; after = r.1 }, r.2)) (items_at Output (length x.1) x.1)
+inside_of Output x = option_map (λ r. (record { before = x.0; piece = output r.0;
+        after = r.1 }, r.2)) (items_at Output (length x.1) x.1)
 inside_of Tag x =
-    option_and_then (λ w. option_map (λ r. (record { before = x.0; piece = tag w.0 r.0; after = r.1 }, r.2)) (items_at Tag (length w.1) w.1)) (word_at (past_white x.1))
+    option_and_then (λ w. option_map (λ r. (record { before = x.0; piece = tag w.0 r.0;
+            after = r.1 }, r.2)) (items_at Tag (length w.1) w.1)) (word_at (past_white x.1))
 
--- behind the `{` of an opener
+-- after the `{` of an opener
 unfoldable pub markup_at : Reads Markup
 markup_at bs = option_and_then (λ k. inside_of k.0 (dashed k.1 (past_byte dash k.1))) (opener_at bs)
 
@@ -107,11 +121,14 @@ abbrev pub tag_name : Piece → List ℕ
 tag_name (tag w is) = w
 tag_name _ = []
 
--- a tag with the body behind it, where it is to have one
+-- a tag with the body after it, where it is to have one
 abbrev pub body_at : Option Body → Markup → Reads Markup
 body_at None m bs = Some (m, bs)
-body_at (Some Raw) m bs = option_map (λ r. (record { before = m.before; piece = raw (tag_name m.piece) (stripped m.after r.0 r.1.before); after = r.1.after }, r.2)) (raw_at bs)
-body_at (Some Comment) m bs = option_map (λ r. (record { before = m.before; piece = comment (tag_name m.piece); after = r.0 }, r.1)) (comment_at (length bs) 0 bs)
+body_at (Some Raw) m bs = option_map (λ r. (record { before = m.before;
+        piece = raw (tag_name m.piece) (stripped m.after r.0 r.1.before);
+        after = r.1.after }, r.2)) (raw_at bs)
+body_at (Some Comment) m bs = option_map (λ r. (record { before = m.before;
+        piece = comment (tag_name m.piece); after = r.0 }, r.1)) (comment_at (length bs) 0 bs)
 
 -- the name of a tag without items: no other piece has a body
 abbrev pub bare_name : Piece → Option (List ℕ)
@@ -124,7 +141,7 @@ wanted_body wants p = option_and_then wants (bare_name p)
 -- ---- a source, read by a machine that takes one piece after another and changes its state
 
 module _ {S : Type 0} (step : S → Piece → Option S) where
-  -- the state behind all pieces
+  -- the state after all pieces
   abbrev pub all_steps : List Piece → S → Option S
   all_steps [] s = Some s
   all_steps (p ∷ ps) s = option_and_then (all_steps ps) (step s p)
@@ -134,7 +151,7 @@ module _ {S : Type 0} (step : S → Piece → Option S) where
   text_step [] s = Some s
   text_step (b ∷ bs) s = step s (text (b ∷ bs))
 
--- which body the machine wants behind a tag of the name, in a state
+-- which body the machine wants after a tag of the name, in a state
 module _ {S : Type 0} (wants : S → List ℕ → Option Body) (step : S → Piece → Option S) where
   abbrev pub Goes : Type 0
   Goes = Bool → S → List ℕ → Option S

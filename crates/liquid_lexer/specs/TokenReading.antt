@@ -7,10 +7,12 @@ use Rattle.liquid_lexer.specs.declared.symbol.Symbol.{Symbol}
 
 -- whether a symbol was taken off the front
 abbrev pub Skips : Symbol → List Item → List Item → Bool → Type 0
-Skips s old new true = (past s (tokens_view old) ≡ Some (tokens_view new)) × (length new < length old)
+Skips s old new true = (past s (tokens_view old) ≡ Some (tokens_view new)) ×
+    (length new < length old)
 Skips s old new false = (past s (tokens_view old) ≡ None) × (new ≡ old)
 
 -- whether a word was taken off the front
 abbrev pub SkipsWord : Text → List Item → List Item → Bool → Type 0
-SkipsWord w old new true = (past_word w (tokens_view old) ≡ Some (tokens_view new)) × (length new < length old)
+SkipsWord w old new true = (past_word w (tokens_view old) ≡ Some (tokens_view new)) ×
+    (length new < length old)
 SkipsWord w old new false = (past_word w (tokens_view old) ≡ None) × (new ≡ old)

@@ -1,5 +1,6 @@
 -- Tokens: what the items of a piece say, without their spelling.
-use Rattle.std.specs.Prelude.{ℕ, nat_eq, List, [], ◌∷◌, map, Bool, false, Option, Some, None, cond, bytes_eq}
+use Rattle.std.specs.Prelude.{ℕ, nat_eq, List, [], ◌∷◌, map, Bool, false, Option, Some, None, cond}
+use Rattle.std.specs.Prelude.{bytes_eq}
 use Rattle.std.specs.Option.{option_and_then, option_map}
 use Rattle.liquid_model.specs.Texts.{Text}
 use Rattle.liquid_core.specs.Expression.{Expression, literal, variable, Steps, no_steps, step}
@@ -7,7 +8,10 @@ use Rattle.liquid_lexer.specs.Items as items
 use Rattle.liquid_lexer.specs.PieceView.{item_view}
 use Rattle.liquid_lexer.specs.declared.item.Item.{Item}
 use Rattle.liquid_lexer.specs.declared.symbol.Symbol.{Symbol}
-use Rattle.liquid_lexer.specs.declared.symbol.Symbol.TheVariants.{Equals, NotEquals, LessOrGreater, LessThanEquals, GreaterThanEquals, LessThan, GreaterThan, Assign, Colon, Comma, Bar}
+use Rattle.liquid_lexer.specs.declared.symbol.Symbol.TheVariants.{Equals, NotEquals, LessOrGreater}
+use Rattle.liquid_lexer.specs.declared.symbol.Symbol.TheVariants.{LessThanEquals, GreaterThanEquals}
+use Rattle.liquid_lexer.specs.declared.symbol.Symbol.TheVariants.{LessThan, GreaterThan, Assign}
+use Rattle.liquid_lexer.specs.declared.symbol.Symbol.TheVariants.{Colon, Comma, Bar}
 
 pub data Token : Type 0 where
   value : Expression → Token
@@ -77,7 +81,7 @@ abbrev pub is_symbol : Symbol → Token → Bool
 is_symbol s (symbol t) = same_symbol s t
 is_symbol s t = false
 
--- what stands behind a symbol at the front
+-- what follows a symbol at the front
 abbrev pub past : Symbol → List Token → Option (List Token)
 past s [] = None
 past s (t ∷ ts) = cond (is_symbol s t) (Some ts) None
@@ -90,7 +94,7 @@ is_that w (Some u) = bytes_eq u w
 abbrev pub is_word : Text → Token → Bool
 is_word w t = is_that w (word_of t)
 
--- what stands behind a word at the front
+-- what follows a word at the front
 abbrev pub past_word : Text → List Token → Option (List Token)
 past_word w [] = None
 past_word w (t ∷ ts) = cond (is_word w t) (Some ts) None

@@ -1,11 +1,14 @@
 -- What is read at the front of a text, as functions: words, quoted texts, numbers and values.
-use Rattle.std.specs.Prelude.{ℕ, zero, suc, ◌+◌, ℤ, List, [], ◌∷◌, length, take, drop, Bool, ◌-◌, ◌==◌, ◌||◌, if◌then◌else◌, slice_index, Option, Some, None}
+use Rattle.std.specs.Prelude.{ℕ, zero, suc, ◌+◌, ℤ, List, [], ◌∷◌, length, take, drop, Bool, ◌-◌}
+use Rattle.std.specs.Prelude.{◌==◌, ◌||◌, if◌then◌else◌, slice_index, Option, Some, None}
 use Rattle.std.specs.Option.{option_and_then, option_map}
 use Rattle.std.specs.List.{suffix_len}
 use Rattle.liquid_model.specs.Data.{Datum, text, number}
 use Rattle.liquid_core.specs.Expression.{Expression, literal, variable, Steps, no_steps, step}
 use Rattle.liquid_model.specs.Whole.{whole_text}
-use Rattle.liquid_lexer.specs.Bytes.{is_white, is_digit, is_letter, in_word, not_quote, plain, close_bracket, dash, dot, double_quote, open_bracket, plus_sign, single_quote}
+use Rattle.liquid_lexer.specs.Bytes.{is_white, is_digit, is_letter, in_word, not_quote, plain}
+use Rattle.liquid_lexer.specs.Bytes.{close_bracket, dash, dot, double_quote, open_bracket}
+use Rattle.liquid_lexer.specs.Bytes.{plus_sign, single_quote}
 use Rattle.liquid_lexer.specs.Words.{passes, goes_on}
 use Rattle.liquid_lexer.specs.Values.{WordKind, name, constant, state, word_kind, dotted}
 
@@ -31,11 +34,13 @@ past_byte b [] = None
 past_byte b (c ∷ cs) = if c == b then Some cs else None
 
 unfoldable pub word_at : Reads (List ℕ)
-word_at bs = if is_letter (slice_index bs 0) then Some (take (run_len in_word bs) bs, drop (run_len in_word bs) bs) else None
+word_at bs = if is_letter (slice_index bs 0) then Some (take (run_len in_word bs) bs,
+        drop (run_len in_word bs) bs) else None
 
--- up to the quote q, behind the one that opens
+-- up to the quote q, after the one that opens
 unfoldable pub until_quote : ℕ → Reads (List ℕ)
-until_quote q bs = option_map (λ rest. (take (run_len (not_quote q) bs) bs, rest)) (past_byte q (drop (run_len (not_quote q) bs) bs))
+until_quote q bs = option_map (λ rest. (take (run_len (not_quote q) bs) bs, rest))
+        (past_byte q (drop (run_len (not_quote q) bs) bs))
 
 unfoldable pub quoted_at : Reads (List ℕ)
 quoted_at [] = None
@@ -87,7 +92,8 @@ module _ (inner : Reads Expression) where
   unfoldable pub step_at : List ℕ → Option (Option (Expression × List ℕ))
   step_at bs = step_by bs (past_byte open_bracket bs)
 
-  abbrev pub more_steps : Reads Steps → List ℕ → Option (Expression × List ℕ) → Option (Steps × List ℕ)
+  abbrev pub more_steps : Reads Steps → List ℕ → Option (Expression × List ℕ) →
+      Option (Steps × List ℕ)
   more_steps more bs None = Some (no_steps, bs)
   more_steps more bs (Some x) = option_map (λ xs. (step x.0 xs.0, xs.1)) (more x.1)
 
@@ -98,7 +104,8 @@ module _ (inner : Reads Expression) where
 
   -- a value that opens by a word
   abbrev pub named_by : List ℕ → List ℕ → WordKind → Option (Expression × List ℕ)
-  named_by w rest name = option_map (λ steps. (variable w steps.0, steps.1)) (steps_at (length rest) rest)
+  named_by w rest name = option_map (λ steps. (variable w steps.0, steps.1))
+          (steps_at (length rest) rest)
   named_by w rest (constant v) = if dotted rest then None else Some (literal v, rest)
   named_by w rest state = None
 

@@ -1,11 +1,14 @@
--- The written grammar of values: literals, and variables with their steps. In each relation bs begins with the value, and rest follows it.
-use Rattle.std.specs.Prelude.{◌≡◌, ℕ, suc, ℤ, List, [], ◌∷◌, Bool, true, false, ◌==◌, ◌||◌, ◌&&◌, slice_index, cond, bytes_eq, codes}
+-- The written grammar of values: literals, and variables with their steps. In each relation bs
+-- begins with the value, and rest follows it.
+use Rattle.std.specs.Prelude.{◌≡◌, ℕ, suc, ℤ, List, [], ◌∷◌, Bool, true, false, ◌==◌, ◌||◌, ◌&&◌}
+use Rattle.std.specs.Prelude.{slice_index, cond, bytes_eq, codes}
 use Rattle.liquid_model.specs.Data.{Datum, nil, truth, number, text}
 use Rattle.liquid_core.specs.Expression.{Expression, literal, variable, Steps, no_steps, step}
 use Rattle.liquid_lexer.specs.Bytes.{is_letter, close_bracket, dot, open_bracket}
 use Rattle.liquid_lexer.specs.Words.{Blank, Word, Quoted, Number}
 
--- what a word is where it opens a value: a variable's name, a literal, or one of the two that are refused
+-- what a word is where it opens a value: a variable's name, a literal, or one of the two that are
+-- refused
 pub data WordKind : Type 0 where
   name : WordKind
   constant : Datum → WordKind
@@ -32,15 +35,21 @@ step_begins (b ∷ bs) = b == open_bracket || (b == dot && is_letter (slice_inde
 mutual
   pub data IsValue : ℕ → Expression → List ℕ → List ℕ → Type 0 where
     is_text : {d : ℕ} {s bs rest : List ℕ} → Quoted s bs rest → IsValue d (literal (text s)) bs rest
-    is_number : {d : ℕ} {n : ℤ} {bs rest : List ℕ} → Number n bs rest → IsValue d (literal (number n)) bs rest
+    is_number : {d : ℕ} {n : ℤ} {bs rest : List ℕ} → Number n bs rest →
+        IsValue d (literal (number n)) bs rest
     -- `nil`, `null`, `true`, `false`
-    is_constant : {d : ℕ} {w bs rest : List ℕ} {v : Datum} → Word w bs rest → word_kind w ≡ constant v → dotted rest ≡ false → IsValue d (literal v) bs rest
-    is_variable : {d : ℕ} {w bs after rest : List ℕ} {steps : Steps} → Word w bs after → word_kind w ≡ name → AreSteps d steps after rest → IsValue d (variable w steps) bs rest
+    is_constant : {d : ℕ} {w bs rest : List ℕ} {v : Datum} → Word w bs rest → word_kind w ≡
+            constant v → dotted rest ≡ false → IsValue d (literal v) bs rest
+    is_variable : {d : ℕ} {w bs after rest : List ℕ} {steps : Steps} → Word w bs after →
+        word_kind w ≡ name → AreSteps d steps after rest → IsValue d (variable w steps) bs rest
 
   pub data AreSteps : ℕ → Steps → List ℕ → List ℕ → Type 0 where
     no_step : {d : ℕ} {rest : List ℕ} → step_begins rest ≡ false → AreSteps d no_steps rest rest
     -- `.word`
-    is_member : {d : ℕ} {w from after rest : List ℕ} {steps : Steps} → Word w from after → AreSteps d steps after rest → AreSteps d (step (literal (text w)) steps) (dot ∷ from) rest
+    is_member : {d : ℕ} {w from after rest : List ℕ} {steps : Steps} → Word w from after →
+        AreSteps d steps after rest → AreSteps d (step (literal (text w)) steps) (dot ∷ from) rest
     -- `[value]`
-    is_index : {d : ℕ} {x : Expression} {steps : Steps} {inside from until after rest : List ℕ} → Blank inside from → IsValue d x from until → Blank until (close_bracket ∷ after)
-        → AreSteps (suc d) steps after rest → AreSteps (suc d) (step x steps) (open_bracket ∷ inside) rest
+    is_index : {d : ℕ} {x : Expression} {steps : Steps} {inside from until after rest : List ℕ} →
+        Blank inside from → IsValue d x from until → Blank until (close_bracket ∷ after)
+        → AreSteps (suc d) steps after rest →
+            AreSteps (suc d) (step x steps) (open_bracket ∷ inside) rest

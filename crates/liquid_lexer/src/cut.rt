@@ -1,6 +1,7 @@
 //! Parts of a text, cut at its front: each borrows from the text, and nothing is copied.
 ghost use Rattle.std.specs.Prelude.{◌≡◌, ◌≤◌, List, ℕ, ◌++◌, option_map};
-ghost use Rattle.liquid_lexer.specs.ValueReading.{past_white, past_byte, word_at, until_quote, quoted_at, text_at, trimmed};
+ghost use Rattle.liquid_lexer.specs.ValueReading.{past_white, past_byte, word_at, until_quote};
+ghost use Rattle.liquid_lexer.specs.ValueReading.{quoted_at, text_at, trimmed};
 ghost use Rattle.liquid_lexer.specs.ItemReading.{before};
 ghost use Rattle.liquid_lexer.specs.Pieces.{stripped};
 

@@ -60,12 +60,13 @@ impl FaultKind {
 #[derive(Clone, Copy, Debug, PartialEq, Eq)]
 pub struct Fault {
     pub kind: FaultKind,
-    /// How many bytes of the source are left from the place on: where an item can't be read, or else where the piece opens.
+    /// How many bytes of the source are left from the place on: where an item can't be read, or
+    /// else where the piece opens.
     pub left: usize,
     /// What is wanted at the place, in words. `the closer` at its end stands for the piece's own.
     pub wanted: &'static str,
-    /// Of a piece whose items are read but aren't allowed: how many of them are left from the one on that is wrong. With 0
-    /// it is the closer, before which another is wanted.
+    /// Of a piece whose items are read but aren't allowed: how many of them are left from the one
+    /// on that is wrong. With 0 it is the closer, before which another is wanted.
     pub items_left: usize,
 }
 

@@ -2,7 +2,8 @@
 ghost use Rattle.std.specs.Prelude.{◌≡◌, ◌≤◌, length};
 ghost use Rattle.std.specs.Option.{option_map};
 ghost use Rattle.liquid_lexer.specs.Items.{mark};
-ghost use Rattle.liquid_lexer.specs.ItemReading.{range_at, item_at, bare_closer_at, closer_at, items_at};
+ghost use Rattle.liquid_lexer.specs.ItemReading.{range_at, item_at, bare_closer_at, closer_at};
+ghost use Rattle.liquid_lexer.specs.ItemReading.{items_at};
 ghost use Rattle.liquid_lexer.specs.Readers.{Parses};
 ghost use Rattle.liquid_lexer.specs.PieceView.{item_view, items_view};
 
@@ -37,7 +38,7 @@ pub enum Delimiter {
 /// How deep brackets may nest in a value.
 const MAX_BRACKETS: usize = 200;
 
-/// The range behind its `(`.
+/// The range after its `(`.
 #[tactic(auto, unfolding(crate::specs::ItemReading::range_at))]
 fn read_range(alloc: Global, text: &str) -> Result<(Item, &str), ParseError>
     ensures { Parses (λ x. (item_view x.0, x.1.now)) result (range_at text.now) }
@@ -111,13 +112,17 @@ fn unclosed(kind: Delimiter) -> Fault
     }
 }
 
-/// The items up to the first closer that stands in an item's place, whether it has a dash, and what follows it.
+/// The items up to the first closer that stands in an item's place, whether it has a dash, and what
+/// follows it.
 pub fn read_items<'s>(
     alloc: Global,
     text: &'s str,
     kind: Delimiter,
 ) -> Result<(VecDeque<Item<'s>>, bool, &'s str), ParseError>
-    ensures { Parses (λ x. (items_view x.0.items, x.1, x.2.now)) result (items_at kind (length text.now) text.now) }
+    ensures {
+        Parses (λ x. (items_view x.0.items, x.1, x.2.now)) result
+            (items_at kind (length text.now) text.now)
+    }
 {
     let mut items = VecDeque::new(alloc);
     let mut rest = text;

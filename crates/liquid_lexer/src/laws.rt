@@ -1,7 +1,12 @@
 //! Laws of the definitions that contracts speak of.
-ghost use Rattle.liquid_lexer.specs.ReadingLaws.{ReadValueStands, StandingValueIsRead, ReadItemsStand, StandingItemsAreRead, ReadRawStands, StandingRawIsRead, ReadCommentStands, StandingCommentIsRead, ReadSourceStands, StandingSourceIsRead};
+ghost use Rattle.liquid_lexer.specs.ReadingLaws.{ReadValueStands, StandingValueIsRead};
+ghost use Rattle.liquid_lexer.specs.ReadingLaws.{ReadItemsStand, StandingItemsAreRead};
+ghost use Rattle.liquid_lexer.specs.ReadingLaws.{ReadRawStands, StandingRawIsRead};
+ghost use Rattle.liquid_lexer.specs.ReadingLaws.{ReadCommentStands, StandingCommentIsRead};
+ghost use Rattle.liquid_lexer.specs.ReadingLaws.{ReadSourceStands, StandingSourceIsRead};
 
-/// What is read as a value stands in the written grammar, and what stands in the grammar is read: a text begins with at most one value.
+/// What is read as a value stands in the written grammar, and what stands in the grammar is read: a
+/// text begins with at most one value.
 pub fn value_laws()
     ensures read { ReadValueStands }
     ensures standing { StandingValueIsRead }

@@ -1,4 +1,5 @@
-//! Sources, cut into pieces and items: what is read before any tag, block or filter is known by name.
+//! Sources, cut into pieces and items: what is read before any tag, block or filter is known by
+//! name.
 #![tactic(auto)]
 
 mod cut;

@@ -1,7 +1,8 @@
 //! Marks, and the bodies of `raw` and `comment`, which run up to one.
 ghost use Rattle.std.specs.Prelude.{◌≡◌, length, drop};
 ghost use Rattle.std.specs.Option.{option_map};
-ghost use Rattle.liquid_lexer.specs.SourceReading.{mark_at, mark_behind, dashed, goes_on, in_body, in_comment, raw_at, comment_at};
+ghost use Rattle.liquid_lexer.specs.SourceReading.{mark_at, mark_behind, dashed, goes_on, in_body};
+ghost use Rattle.liquid_lexer.specs.SourceReading.{in_comment, raw_at, comment_at};
 ghost use Rattle.liquid_lexer.specs.ValueReading.{past_byte, run_len};
 ghost use Rattle.liquid_lexer.specs.PieceView.{mark_view};
 
@@ -38,7 +39,7 @@ fn read_mark(text: &str) -> Option<(Mark, &str)>
     mark_behind(before, inside)
 }
 
-/// The mark behind its opener, and what follows it; `before` tells whether the opener has a dash.
+/// The mark after its opener, and what follows it; `before` tells whether the opener has a dash.
 fn mark_behind(before: bool, inside: &str) -> Option<(Mark, &str)>
     ensures { option_map (λ x. (mark_view x.0, x.1.now)) result ≡ mark_behind (before, inside.now) }
 {
@@ -68,7 +69,8 @@ fn goes_on(text: &str, body: Body) -> bool
     }
 }
 
-/// How many bytes stand before the first mark that counts in the body, or before the end where there is none.
+/// How many bytes stand before the first mark that counts in the body, or before the end where
+/// there is none.
 fn body_len(text: &str, body: Body) -> usize
     ensures { result ≡ run_len (in_body body) text.now }
 {

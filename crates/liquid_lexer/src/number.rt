@@ -5,7 +5,8 @@ ghost use Rattle.liquid_lexer.specs.ValueReading.{number_at};
 use crate::scan::{number_goes_on, number_len};
 use liquid_core::whole_of;
 
-/// A number: an optional sign and digits, within 64 bits. It isn't one where a letter or a fraction follows.
+/// A number: an optional sign and digits, within 64 bits. It isn't one where a letter or a fraction
+/// follows.
 #[tactic(auto, unfolding(crate::specs::ValueReading::number_at), using(crate::proofs::Cuts::number_cut))]
 pub fn number(text: &str) -> Option<(i64, &str)>
     ensures { option_map (λ x. (x.0, x.1.now)) result ≡ number_at text.now }

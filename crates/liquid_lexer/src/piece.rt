@@ -1,7 +1,8 @@
-//! Outputs and tags, and the bodies behind tags that aren't read.
+//! Outputs and tags, and the bodies after tags that aren't read.
 ghost use Rattle.std.specs.Prelude.{◌≡◌, [], length};
 ghost use Rattle.std.specs.Option.{option_map};
-ghost use Rattle.liquid_lexer.specs.SourceReading.{opener_at, markup_at, bare_name, tag_name, body_at};
+ghost use Rattle.liquid_lexer.specs.SourceReading.{opener_at, markup_at, bare_name, tag_name};
+ghost use Rattle.liquid_lexer.specs.SourceReading.{body_at};
 ghost use Rattle.liquid_lexer.specs.Readers.{Parses};
 ghost use Rattle.liquid_lexer.specs.PieceView.{piece_view, markup_view};
 
@@ -20,9 +21,9 @@ pub enum Piece<'s> {
     Output(VecDeque<Item<'s>>),
     /// A tag's name and its items.
     Tag(&'s str, VecDeque<Item<'s>>),
-    /// A tag's name and the verbatim body behind it, stripped.
+    /// A tag's name and the verbatim body after it, stripped.
     Raw(&'s str, &'s str),
-    /// The name of a tag behind which a comment was skipped.
+    /// The name of a tag after which a comment was skipped.
     Comment(&'s str),
 }
 
@@ -52,7 +53,7 @@ pub(crate) fn opener(text: &str) -> Option<(Delimiter, &str)>
     Some((Delimiter::Tag, past_byte(text, b'%')?))
 }
 
-/// The output or tag behind a `{`, and what follows it.
+/// The output or tag after a `{`, and what follows it.
 #[tactic(auto, unfolding(crate::specs::SourceReading::markup_at))]
 pub fn read_markup<'s>(alloc: Global, text: &'s str) -> Result<(Markup<'s>, &'s str), ParseError>
     ensures { Parses (λ x. (markup_view x.0, x.1.now)) result (markup_at text.now) }
@@ -106,7 +107,7 @@ fn no_name(text: &str) -> Fault
     }
 }
 
-/// The name of a tag without items, behind which alone a body may stand.
+/// The name of a tag without items, after which alone a body may stand.
 pub fn bare_name<'s>(piece: &Piece<'s>) -> Option<&'s str>
     ensures { option_map (λ w. w.now) result ≡ bare_name (piece_view piece.now) }
 {
@@ -138,13 +139,16 @@ fn without_end(end: &'static str) -> Fault
     Fault::new(FaultKind::MissingEnd, "", end)
 }
 
-/// A tag with the verbatim body behind it, where it is to have one.
+/// A tag with the verbatim body after it, where it is to have one.
 pub fn read_body<'s>(
     body: Option<Body>,
     markup: Markup<'s>,
     text: &'s str,
 ) -> Result<(Markup<'s>, &'s str), ParseError>
-    ensures { Parses (λ x. (markup_view x.0, x.1.now)) result (body_at body (markup_view markup.entry) text.now) }
+    ensures {
+        Parses (λ x. (markup_view x.0, x.1.now)) result
+            (body_at body (markup_view markup.entry) text.now)
+    }
 {
     let Some(kind) = body else {
         return Ok((markup, text));

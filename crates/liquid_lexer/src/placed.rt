@@ -1,4 +1,4 @@
-//! The items of one piece with their places, which is asked for only where a fault is told.
+//! The items of one piece with their places, which is asked for only where a fault is reported.
 use crate::cut::{past_byte, past_white, word};
 use crate::fault::ParseError;
 use crate::item::{Delimiter, Item, closer, read_item};
@@ -27,7 +27,8 @@ pub struct PlacedPiece<'s> {
     pub rest: &'s str,
 }
 
-/// The items of the piece with which the text begins, up to its closer or to what can't be read, each with its place.
+/// The items of the piece with which the text begins, up to its closer or to what can't be read,
+/// each with its place.
 pub fn placed_piece<'s>(alloc: Global, text: &'s str) -> Result<PlacedPiece<'s>, AllocError> {
     let (kind, inside) = past_byte(text, b'{')
         .and_then(opener)

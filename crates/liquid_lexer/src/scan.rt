@@ -1,7 +1,8 @@
 //! How many bytes of a kind stand at the front of a text, or at its end.
 ghost use Rattle.std.specs.Prelude.{◌≡◌, ◌≤◌, length, []};
 ghost use Rattle.std.specs.List.{suffix_len};
-ghost use Rattle.liquid_lexer.specs.Bytes.{is_white, is_letter, is_digit, closes, in_word, not_quote, plain};
+ghost use Rattle.liquid_lexer.specs.Bytes.{is_white, is_letter, is_digit, closes, in_word};
+ghost use Rattle.liquid_lexer.specs.Bytes.{not_quote, plain};
 ghost use Rattle.liquid_lexer.specs.ValueReading.{run_len, number_len};
 ghost use Rattle.liquid_lexer.specs.Words.{passes, goes_on};
 ghost use Rattle.liquid_lexer.specs.Values.{dotted};
@@ -81,8 +82,8 @@ pub fn unquoted_len(bytes: &[u8], quote: u8) -> usize
     n
 }
 
-/// How many bytes stand before the leftmost opener, or before the end where there is none. What isn't a `{` is passed without a
-/// look at what follows it.
+/// How many bytes stand before the leftmost opener, or before the end where there is none. What
+/// isn't a `{` is passed without a look at what follows it.
 #[tactic(auto, unfolding(crate::specs::Bytes::plain))]
 pub fn plain_len(bytes: &[u8]) -> usize
     ensures { result ≡ run_len plain bytes.now }
@@ -105,7 +106,8 @@ fn digit_len(bytes: &[u8]) -> usize
     n
 }
 
-/// How many bytes a number at the front takes: an optional sign and digits. It is 0 where no number stands there.
+/// How many bytes a number at the front takes: an optional sign and digits. It is 0 where no number
+/// stands there.
 pub fn number_len(bytes: &[u8]) -> usize
     ensures value { result ≡ number_len bytes.now }
     ensures within { result ≤ length bytes.now }
@@ -120,7 +122,8 @@ pub fn number_len(bytes: &[u8]) -> usize
     }
 }
 
-/// Whether a number before these bytes would go on: by a digit, a letter, or a `.` that begins no `..`.
+/// Whether a number before these bytes would go on: by a digit, a letter, or a `.` that begins no
+/// `..`.
 pub fn number_goes_on(bytes: &[u8]) -> bool
     ensures { result ≡ passes goes_on bytes.now }
 {

@@ -1,6 +1,7 @@
 //! Symbols.
 ghost use Rattle.std.specs.Prelude.{◌≡◌, ◌≤◌, option_map};
-ghost use Rattle.liquid_lexer.specs.ItemReading.{two_bytes, one_byte, long_symbol_at, short_symbol_at, symbol_at};
+ghost use Rattle.liquid_lexer.specs.ItemReading.{two_bytes, one_byte, long_symbol_at};
+ghost use Rattle.liquid_lexer.specs.ItemReading.{short_symbol_at, symbol_at};
 
 use crate::cut::past_byte;
 

@@ -1,7 +1,9 @@
 //! The items of a piece, taken off the front one after another.
-ghost use Rattle.std.specs.Prelude.{◌≡◌, ◌≤◌, ◌<◌, nat_eq, is_some, length, option_map, string_bytes, MatchOption, ⊤};
+ghost use Rattle.std.specs.Prelude.{◌≡◌, ◌≤◌, ◌<◌, nat_eq, is_some, length, option_map};
+ghost use Rattle.std.specs.Prelude.{string_bytes, MatchOption, ⊤};
 ghost use Rattle.liquid_core.specs.ExpressionView.{expression_view};
-ghost use Rattle.liquid_lexer.specs.Tokens.{tokens_view, value_first, word_first, word_in, word_of, token_of, is_symbol, is_word, is_that};
+ghost use Rattle.liquid_lexer.specs.Tokens.{tokens_view, value_first, word_first, word_in, word_of};
+ghost use Rattle.liquid_lexer.specs.Tokens.{token_of, is_symbol, is_word, is_that};
 ghost use Rattle.liquid_lexer.specs.PieceView.{item_view};
 ghost use Rattle.liquid_lexer.specs.TokenReading.{Skips, SkipsWord};
 
@@ -19,7 +21,10 @@ pub fn is_over(items: &VecDeque<Item<'_>>) -> bool
 
 /// Takes the value at the front, if one stands there; else takes nothing.
 pub fn next_value(items: &mut VecDeque<Item<'_>>) -> Option<Expression>
-    ensures value { option_map (λ x. (expression_view x, tokens_view items.new.items)) result ≡ value_first (tokens_view items.old.items) }
+    ensures value {
+        option_map (λ x. (expression_view x, tokens_view items.new.items)) result ≡
+            value_first (tokens_view items.old.items)
+    }
     ensures nothing { MatchOption result (items.new.items ≡ items.old.items) (λ _. ⊤) }
     ensures shorter { length items.new.items ≤ length items.old.items }
 {
@@ -48,7 +53,10 @@ fn word_in(value: Expression) -> Option<String>
 
 /// Takes the word at the front, if one stands there; else takes nothing.
 pub fn next_word(items: &mut VecDeque<Item<'_>>) -> Option<String>
-    ensures value { option_map (λ w. (string_bytes w, tokens_view items.new.items)) result ≡ word_first (tokens_view items.old.items) }
+    ensures value {
+        option_map (λ w. (string_bytes w, tokens_view items.new.items)) result ≡
+            word_first (tokens_view items.old.items)
+    }
     ensures nothing { MatchOption result (items.new.items ≡ items.old.items) (λ _. ⊤) }
     ensures shorter { length items.new.items ≤ length items.old.items }
 {

@@ -5,7 +5,8 @@ ghost use Rattle.liquid_core.specs.ExpressionView.{steps_view};
 ghost use Rattle.liquid_model.specs.Whole.{whole_text};
 ghost use Rattle.liquid_lexer.specs.inside.ValueFaults.{number_fault, value_fault};
 ghost use Rattle.liquid_lexer.specs.Values.{word_kind};
-ghost use Rattle.liquid_lexer.specs.ValueReading.{literal_at, named_by, inner_of, value_at, step_at, steps_at};
+ghost use Rattle.liquid_lexer.specs.ValueReading.{literal_at, named_by, inner_of, value_at};
+ghost use Rattle.liquid_lexer.specs.ValueReading.{step_at, steps_at};
 ghost use Rattle.liquid_lexer.specs.Readers.{Parses};
 ghost use Rattle.liquid_lexer.specs.PieceView.{word_kind_view, read_view};
 ghost use Rattle.std.specs.Option.{option_map};
@@ -116,7 +117,8 @@ fn read_named<'s>(
     rest: &'s str,
     depth: usize,
 ) -> Result<(Expression, &'s str), ParseError>
-    ensures { Parses read_view result (named_by (inner_of depth) name.now rest.now (word_kind name.now)) }
+    ensures { Parses read_view result (named_by (inner_of depth) name.now rest.now
+                (word_kind name.now)) }
 {
     match word_kind(name) {
         WordKind::Name => {
@@ -148,7 +150,10 @@ fn read_steps(
     text: &str,
     depth: usize,
 ) -> Result<(Vec<Expression>, &str), ParseError>
-    ensures { Parses (λ x. (steps_view x.0.items, x.1.now)) result (steps_at (inner_of depth) (length text.now) text.now) }
+    ensures {
+        Parses (λ x. (steps_view x.0.items, x.1.now)) result
+            (steps_at (inner_of depth) (length text.now) text.now)
+    }
 {
     let mut steps = Vec::new(alloc);
     let mut rest = text;
@@ -194,7 +199,8 @@ fn read_step(
     Ok(Some((Expression::Literal(Value::Text(name)), rest)))
 }
 
-/// The fault of a text that doesn't begin as it must: `Unclosed` where nothing is left, else `BadItem`.
+/// The fault of a text that doesn't begin as it must: `Unclosed` where nothing is left, else
+/// `BadItem`.
 pub fn unexpected(text: &str, wanted: &'static str) -> Fault
     ensures unclosed { text.now ≡ [] → result.kind ≡ FaultKind.Unclosed }
     ensures bad_item { (text.now ≡ [] → ⊥) → result.kind ≡ FaultKind.BadItem }

@@ -10,7 +10,8 @@ use Rattle.liquid_meaning.specs.Isolation.{HoldsOutside}
 use Rattle.liquid_meaning.specs.Meaning.{Setting}
 use Rattle.liquid_meaning.specs.Within.{Within}
 
--- the scopes and the data as they were, and the assigned variables and the counters under each name that is not in N
+-- the scopes and the data as they were, and the assigned variables and the counters under each name
+-- that is not in N
 pub record LayersKept (N : Names) (old new : Layers) : Type 0 where
   pub scopes : new.scopes ≡ old.scopes
   pub globals : new.globals ≡ old.globals
@@ -19,7 +20,8 @@ pub record LayersKept (N : Names) (old new : Layers) : Type 0 where
 
 -- for every set of names that has these and those of the partials
 abbrev pub Keeps : List Text → Setting → State → State → Type 0
-Keeps names setting old new = (N : Names) → Within N names → Within N (partials_names setting.partials) → LayersKept N (layers_of old) (layers_of new)
+Keeps names setting old new = (N : Names) → Within N names →
+    Within N (partials_names setting.partials) → LayersKept N (layers_of old) (layers_of new)
 
 -- nodes that leave everything as it was
 abbrev pub IsRender : Node → Type 0

@@ -1,7 +1,9 @@
 -- The page that a template shows in a run of its own.
 --     shown o      the text of a run, and the kind of the fault that it ended by
---     page_over depth partials facts nodes      the page of these nodes in a new run over this data, without filters of a host
-use Rattle.std.specs.Prelude.{ℕ, List, Option, Some, None, Result, Ok, Err, option_map, string_bytes}
+--     page_over depth partials facts nodes      the page of these nodes in a new run over this
+--       data, without filters of a host
+use Rattle.std.specs.Prelude.{ℕ, List, Option, Some, None, Result, Ok, Err, option_map}
+use Rattle.std.specs.Prelude.{string_bytes}
 use Rattle.liquid_model.specs.Texts.{Text}
 use Rattle.liquid_model.specs.Data.{Datum}
 use Rattle.liquid_model.specs.Maps.{Map}
@@ -23,7 +25,8 @@ pub record Shown : Type 0 where
   pub fault : Option ErrorKind
 
 abbrev pub page_view : Page → Shown
-page_view page = record { text = string_bytes page.text; fault = option_map (λ e. e.kind) page.fault }
+page_view page = record { text = string_bytes page.text;
+        fault = option_map (λ e. e.kind) page.fault }
 
 abbrev pub fault_of : Result Nothing ErrorKind → Option ErrorKind
 fault_of (Ok done) = None
@@ -45,4 +48,5 @@ abbrev pub fresh : Map Datum → Environment
 fresh facts = merged_layers (new_layers facts)
 
 unfoldable pub page_over : ℕ → List (Text × Nodes) → Map Datum → Nodes → Shown
-page_over depth partials facts nodes = shown (meaning (setting_over partials) depth nodes (fresh facts))
+page_over depth partials facts nodes =
+    shown (meaning (setting_over partials) depth nodes (fresh facts))

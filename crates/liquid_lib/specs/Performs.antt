@@ -1,5 +1,6 @@
 -- What a step of a run has done, by its answer.
---     Meets view r m before after      the step is the run m, unless the answer is `Memory` or `Write`: then a beginning of m's text was added
+--     Meets view r m before after      the step is the run m, unless the answer is `Memory` or
+--                                      `Write`: then a beginning of m's text was added
 --     Performs r m before after      the same of a step that gives no value
 --     Writes r t old new      the step writes t and does nothing else
 use Rattle.std.specs.Prelude.{◌≡◌, ℕ, List, Bool, false, Result, Ok, Err, ◌⊎◌, Option, None}
@@ -21,8 +22,10 @@ pub record Configuration : Type 0 where
   pub sink : Sink
   pub environment : Environment
 
-abbrev pub configuration_of : {W : Type 0} → (W → Option (List ℕ)) → (W → ℕ) → Output W → State → Configuration
-configuration_of contents failure_count out state = record { sink = sink_of contents failure_count out; environment = environment_of state }
+abbrev pub configuration_of : {W : Type 0} → (W → Option (List ℕ)) → (W → ℕ) → Output W → State →
+    Configuration
+configuration_of contents failure_count out state = record {
+        sink = sink_of contents failure_count out; environment = environment_of state }
 
 abbrev pub answer_of : {V A : Type 0} → (V → A) → Result V Error → Result A ErrorKind
 answer_of view (Ok value) = Ok (view value)
@@ -35,10 +38,13 @@ is_refused (Err e) = is_refusal e.kind
 -- the answer is `Memory` and at most one write failed, or it is `Write` and just one did
 abbrev pub IsCut : {V : Type 0} → Result V Error → ℕ → ℕ → Type 0
 IsCut (Ok value) old new = ⊥
-IsCut (Err e) old new = ((e.kind ≡ Memory) × AtMostOneFailed old new) ⊎ ((e.kind ≡ Write) × OneFailed old new)
+IsCut (Err e) old new = ((e.kind ≡ Memory) × AtMostOneFailed old new) ⊎
+    ((e.kind ≡ Write) × OneFailed old new)
 
--- the answer is the meaning's end, all of its text was added, no write failed, and the environment is the meaning's
-pub record Exact {V A : Type 0} (view : V → A) (r : Result V Error) (meant : Outcome A) (old new : Sink) (environment : Environment) : Type 0 where
+-- the answer is the meaning's end, all of its text was added, no write failed, and the environment
+-- is the meaning's
+pub record Exact {V A : Type 0} (view : V → A) (r : Result V Error) (meant : Outcome A)
+      (old new : Sink) (environment : Environment) : Type 0 where
   pub end : answer_of view r ≡ meant.end
   pub within : is_refused r ≡ false
   pub adds : Adds old new meant.text
@@ -50,11 +56,15 @@ pub record Cut {V : Type 0} (r : Result V Error) (text : Text) (old new : Sink) 
   pub cause : IsCut r old.failures new.failures
   pub adds : AddsPart old new text
 
-abbrev pub MeetsAt : {V A : Type 0} → (V → A) → Result V Error → Outcome A → Sink → Sink → Environment → Type 0
-MeetsAt view r meant old new environment = Exact view r meant old new environment ⊎ Cut r meant.text old new
+abbrev pub MeetsAt : {V A : Type 0} → (V → A) → Result V Error → Outcome A → Sink → Sink →
+    Environment → Type 0
+MeetsAt view r meant old new environment = Exact view r meant old new environment ⊎
+    Cut r meant.text old new
 
-abbrev pub Meets : {V A : Type 0} → (V → A) → Result V Error → Run A → Configuration → Configuration → Type 0
-Meets view r m before after = MeetsAt view r (m before.environment) before.sink after.sink after.environment
+abbrev pub Meets : {V A : Type 0} → (V → A) → Result V Error → Run A → Configuration →
+    Configuration → Type 0
+Meets view r m before after =
+    MeetsAt view r (m before.environment) before.sink after.sink after.environment
 
 abbrev pub unit : Unit {0} → Nothing
 unit u = tt
@@ -64,7 +74,8 @@ Performs r m before after = Meets unit r m before after
 
 -- the text was written, unless the answer is `Memory` or `Write`, and nothing else happened
 abbrev pub Writes : Result (Unit {0}) Error → Text → Sink → Sink → Type 0
-Writes r t old new = (e : Environment) → MeetsAt unit r (record { text = t; environment = e; end = Ok tt }) old new e
+Writes r t old new = (e : Environment) → MeetsAt unit r (record { text = t; environment = e;
+        end = Ok tt }) old new e
 
 -- a caller's writer, with no buffer open
 abbrev pub writer_sink : Option (List ℕ) → ℕ → Sink

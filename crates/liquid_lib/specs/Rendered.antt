@@ -30,20 +30,27 @@ module _ {D : Type 0} {P : D → Type 0} where
     abbrev pub outcome_in : Runtime D P → Nodes → Outcome Nothing
     outcome_in runtime nodes = run_in runtime nodes (environment_in runtime)
 
--- a kind by which a rendering ends, of the numbers 1 to 18: one of a run, `Memory` or `Write`, and none of a source
+-- a kind by which a rendering ends, of the numbers 1 to 18: one of a run, `Memory` or `Write`, and
+-- none of a source
 abbrev pub is_rendering_kind : ErrorKind → Bool
 is_rendering_kind kind = nat_le (number_of kind) 18
 
 -- a run with no buffer open
-abbrev pub at_writer : {W : Type 0} → (W → Option (List ℕ)) → (W → ℕ) → W → Environment → Configuration
-at_writer contents failure_count writer environment = record { sink = writer_sink (contents writer) (failure_count writer); environment = environment }
+abbrev pub at_writer : {W : Type 0} → (W → Option (List ℕ)) → (W → ℕ) → W → Environment →
+    Configuration
+at_writer contents failure_count writer environment = record {
+        sink = writer_sink (contents writer) (failure_count writer); environment = environment }
 
 -- text, end and changes are those of m for the environment cut to N
-pub record ExactForCut (N : Names) (r : Result (Unit {0}) Error) (m : Run Nothing) (before after : Configuration) : Type 0 where
+pub record ExactForCut (N : Names) (r : Result (Unit {0}) Error) (m : Run Nothing)
+      (before after : Configuration) : Type 0 where
   pub text : Adds before.sink after.sink (m (cut N before.environment)).text
   pub end : answer_of unit r ≡ (m (cut N before.environment)).end
-  pub changes : changes before.environment after.environment ≡ changes (cut N before.environment) (m (cut N before.environment)).environment
+  pub changes : changes before.environment after.environment ≡ changes (cut N before.environment)
+          (m (cut N before.environment)).environment
 
 -- unless the answer is `Memory` or `Write`: then a beginning of that text was added
-abbrev pub PerformsForCut : Names → Result (Unit {0}) Error → Run Nothing → Configuration → Configuration → Type 0
-PerformsForCut N r m before after = ExactForCut N r m before after ⊎ Cut r (m (cut N before.environment)).text before.sink after.sink
+abbrev pub PerformsForCut : Names → Result (Unit {0}) Error → Run Nothing → Configuration →
+    Configuration → Type 0
+PerformsForCut N r m before after = ExactForCut N r m before after ⊎
+    Cut r (m (cut N before.environment)).text before.sink after.sink

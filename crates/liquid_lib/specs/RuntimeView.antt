@@ -1,6 +1,7 @@
 -- What a runtime, or the builder of one, holds.
 --     layers_in, environment_in      its names and registers
---     setting_in, depth_in      the filters' answers and the partials; how many nested partials there may be
+--     setting_in, depth_in      the filters' answers and the partials; how many nested partials
+--                               there may be
 --     named_for      what the host's filters of a builder answer by name
 use Rattle.std.specs.Prelude.{◌≡◌, ℕ, Bool, List, [], Option, Some, None}
 use Rattle.std.specs.Borrow.{Bor}
@@ -59,7 +60,8 @@ module _ {D : Type 0} {P : D → Type 0} where
   -- ---- with what the boxed filters take and answer
   module _ (counts : (x : D) × P x → ℕ → Bool) (answer : (x : D) × P x → FilterAnswer) where
     abbrev pub setting_in : Runtime D P → Setting
-    setting_in runtime = record { answers = answers_with (named_by counts answer runtime.host); partials = trees_of runtime.partials }
+    setting_in runtime = record { answers = answers_with (named_by counts answer runtime.host);
+            partials = trees_of runtime.partials }
 
     abbrev pub named_for : RuntimeBuilder D P → Text → FilterAnswer
     named_for builder = named_by counts answer builder.host

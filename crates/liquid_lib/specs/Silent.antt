@@ -1,7 +1,8 @@
 -- Nodes for which a run takes no memory.
 use Rattle.std.specs.Prelude.{ℕ, Result, IsOk, ◌⊎◌}
 use Rattle.liquid_model.specs.declared.error.Error.{Error}
-use Rattle.liquid_evaluation.specs.Tree.{Node, Nodes, no_nodes, node, break_loop, continue_loop, comment}
+use Rattle.liquid_evaluation.specs.Tree.{Node, Nodes, no_nodes, node, break_loop, continue_loop}
+use Rattle.liquid_evaluation.specs.Tree.{comment}
 use Rattle.liquid_lib.specs.Failures.{OneFailed}
 
 -- `break`, `continue` and a comment: they write nothing, and store no value

@@ -5,7 +5,8 @@ use Rattle.std.specs.Option.{option_map}
 use Rattle.std.specs.Io.KnownBytes.{Appends}
 use Rattle.liquid_lib.specs.declared.output.Output.{Output}
 
--- the innermost open buffer, the bytes that the caller's writer holds, where they are known, and its count of failures
+-- the innermost open buffer, the bytes that the caller's writer holds, where they are known, and
+-- its count of failures
 pub record Sink : Type 0 where
   pub buffer : Option (List ℕ)
   pub contents : Option (List ℕ)

@@ -6,14 +6,36 @@ use Rattle.liquid_model.specs.Texts.{Text}
 use Rattle.liquid_core.specs.Environment.{bind_each}
 use Rattle.liquid_filters.specs.Kinds.{kind_name}
 use Rattle.liquid_filters.specs.declared.kind.FilterKind.{FilterKind}
-use Rattle.liquid_filters.specs.declared.kind.FilterKind.TheVariants.{Join, Sort, SortNatural, Where, Uniq, Reverse, Map, Compact, Concat, First, Last, Abs, AtLeast, AtMost, Plus, Minus, Times, DividedBy, Modulo, Round, Ceil, Floor, Size, Default, Slice, Split, Replace, ReplaceFirst, Remove, RemoveFirst, Append, Prepend, Strip, Lstrip, Rstrip, StripNewlines, Downcase, Upcase, Capitalize, Truncate, TruncateWords, Escape, EscapeOnce, StripHtml, NewlineToBr, UrlEncode, UrlDecode, Date, Push, Unshift, Pop, Shift, ArrayToSentenceString, Slugify, Pluralize, DateInTz}
+use Rattle.liquid_filters.specs.declared.kind.FilterKind.TheVariants.{Join, Sort, SortNatural}
+use Rattle.liquid_filters.specs.declared.kind.FilterKind.TheVariants.{Where, Uniq, Reverse, Map}
+use Rattle.liquid_filters.specs.declared.kind.FilterKind.TheVariants.{Compact, Concat, First, Last}
+use Rattle.liquid_filters.specs.declared.kind.FilterKind.TheVariants.{Abs, AtLeast, AtMost, Plus}
+use Rattle.liquid_filters.specs.declared.kind.FilterKind.TheVariants.{Minus, Times, DividedBy}
+use Rattle.liquid_filters.specs.declared.kind.FilterKind.TheVariants.{Modulo, Round, Ceil, Floor}
+use Rattle.liquid_filters.specs.declared.kind.FilterKind.TheVariants.{Size, Default, Slice, Split}
+use Rattle.liquid_filters.specs.declared.kind.FilterKind.TheVariants.{Replace, ReplaceFirst, Remove}
+use Rattle.liquid_filters.specs.declared.kind.FilterKind.TheVariants.{RemoveFirst, Append, Prepend}
+use Rattle.liquid_filters.specs.declared.kind.FilterKind.TheVariants.{Strip, Lstrip, Rstrip}
+use Rattle.liquid_filters.specs.declared.kind.FilterKind.TheVariants.{StripNewlines, Downcase}
+use Rattle.liquid_filters.specs.declared.kind.FilterKind.TheVariants.{Upcase, Capitalize, Truncate}
+use Rattle.liquid_filters.specs.declared.kind.FilterKind.TheVariants.{TruncateWords, Escape}
+use Rattle.liquid_filters.specs.declared.kind.FilterKind.TheVariants.{EscapeOnce, StripHtml}
+use Rattle.liquid_filters.specs.declared.kind.FilterKind.TheVariants.{NewlineToBr, UrlEncode}
+use Rattle.liquid_filters.specs.declared.kind.FilterKind.TheVariants.{UrlDecode, Date, Push}
+use Rattle.liquid_filters.specs.declared.kind.FilterKind.TheVariants.{Unshift, Pop, Shift}
+use Rattle.liquid_filters.specs.declared.kind.FilterKind.TheVariants.{ArrayToSentenceString}
+use Rattle.liquid_filters.specs.declared.kind.FilterKind.TheVariants.{Slugify, Pluralize, DateInTz}
 use Rattle.liquid_language.specs.Languages.{kinds_of}
 use Rattle.liquid_language.specs.Registered.{registered_in}
 use Rattle.liquid_language.specs.declared.language.BlockKind.{BlockKind}
-use Rattle.liquid_language.specs.declared.language.BlockKind.TheVariants.{Raw, Comment, If, Unless, Case, Capture, IfChanged, For, TableRow}
+use Rattle.liquid_language.specs.declared.language.BlockKind.TheVariants.{Raw, Comment, If, Unless}
+use Rattle.liquid_language.specs.declared.language.BlockKind.TheVariants.{Case, Capture, IfChanged}
+use Rattle.liquid_language.specs.declared.language.BlockKind.TheVariants.{For, TableRow}
 use Rattle.liquid_language.specs.declared.language.Language.{Language}
 use Rattle.liquid_language.specs.declared.language.TagKind.{TagKind}
-use Rattle.liquid_language.specs.declared.language.TagKind.TheVariants.{Assign, Break, Continue, Increment, Decrement, Cycle, Include, Render}
+use Rattle.liquid_language.specs.declared.language.TagKind.TheVariants.{Assign, Break, Continue}
+use Rattle.liquid_language.specs.declared.language.TagKind.TheVariants.{Increment, Decrement, Cycle}
+use Rattle.liquid_language.specs.declared.language.TagKind.TheVariants.{Include, Render}
 use Rattle.liquid_language.specs.declared.registered_filter.RegisteredFilter.{RegisteredFilter}
 use Rattle.liquid_language.specs.declared.registered_filter.RegisteredFilter.TheVariants.{Kind}
 
@@ -31,7 +53,8 @@ standard_blocks =
     (codes "case", Case) ∷ (codes "capture", Capture) ∷ (codes "ifchanged", IfChanged) ∷
     (codes "for", For) ∷ (codes "tablerow", TableRow) ∷ []
 
--- the standard filters: of the two that are called `sort` the one of Liquid, and not the one of Jekyll
+-- the standard filters: of the two that are called `sort` the one of Liquid, and not the one of
+-- Jekyll
 abbrev pub standard_filters : List FilterKind
 standard_filters =
     Join (record {}) ∷ Sort (record {}) ∷ SortNatural (record {}) ∷ Where (record {}) ∷
@@ -55,7 +78,8 @@ abbrev pub with_filters : maps.Map RegisteredFilter → List FilterKind → maps
 with_filters m [] = m
 with_filters m (k ∷ ks) = with_filters (insert m (kind_name k) (Kind k)) ks
 
--- the language of the standard library: these tags, blocks and filters, each under its name, and no others
+-- the language of the standard library: these tags, blocks and filters, each under its name, and no
+-- others
 pub record IsStandard (l : Language) : Type 0 where
   pub tags : listed (kinds_of l.tags) ≡ bind_each standard_tags (listed [])
   pub blocks : listed (kinds_of l.blocks) ≡ bind_each standard_blocks (listed [])

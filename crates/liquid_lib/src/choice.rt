@@ -10,14 +10,16 @@ ghost use Rattle.liquid_evaluation.specs.Evaluation.{truth_of};
 ghost use Rattle.liquid_syntax.specs.Flats.{Maker, StandsAt, IsRange, nodes_of};
 ghost use Rattle.liquid_syntax.specs.Forest.{Forest};
 ghost use Rattle.liquid_evaluation.specs.Tree as tree;
-ghost use Rattle.liquid_lib.specs.inside.Choices.{Meant, ComesTo, NodeComesTo, ListComesTo, CaseStands, IsCase, CaseLeft, equal_among};
+ghost use Rattle.liquid_lib.specs.inside.Choices.{Meant, ComesTo, NodeComesTo, ListComesTo};
+ghost use Rattle.liquid_lib.specs.inside.Choices.{CaseStands, IsCase, CaseLeft, equal_among};
 
 use crate::fault_location::located;
 use liquid_core::{Expression, Result, State, Value};
 use liquid_syntax::{Arm, Condition, Node, Position, TwoBodies};
 use std::alloc::Global;
 
-/// The range that the `if` at `at` comes to: its body, where the condition holds, else what the nodes of `else` come to.
+/// The range that the `if` at `at` comes to: its body, where the condition holds, else what the
+/// nodes of `else` come to.
 #[inline(never)]
 pub(crate) fn chosen_range(
     alloc: Global,
@@ -31,8 +33,10 @@ pub(crate) fn chosen_range(
     requires body { IsRange nodes.now (at + 1) bodies.first_end }
     requires otherwise { IsRange nodes.now bodies.first_end bodies.last_end }
     ensures inside { IfOk result (λ range. (at < range.0) × (range.1 ≤ bodies.last_end)) }
-    ensures chosen { (b d : Forest Maker) → StandsAt nodes.now (at + 1) b bodies.first_end → StandsAt nodes.now bodies.first_end d bodies.last_end →
-        NodeComesTo nodes.now (environment_of state.now) (tree.if_true (condition_view condition.now) (nodes_of b) (nodes_of d)) result }
+    ensures chosen { (b d : Forest Maker) → StandsAt nodes.now (at + 1) b bodies.first_end →
+            StandsAt nodes.now bodies.first_end d bodies.last_end →
+        NodeComesTo nodes.now (environment_of state.now)
+                (tree.if_true (condition_view condition.now) (nodes_of b) (nodes_of d)) result }
 {
     if condition.holds(alloc, state)? {
         Ok((at + 1, bodies.first_end))
@@ -48,7 +52,8 @@ pub(crate) fn chosen_range(
     }
 }
 
-/// The range that the `unless` at `at` comes to: its body, where the condition doesn't hold, else the nodes of `else`.
+/// The range that the `unless` at `at` comes to: its body, where the condition doesn't hold, else
+/// the nodes of `else`.
 #[inline(never)]
 pub(crate) fn unless_range(
     alloc: Global,
@@ -61,8 +66,10 @@ pub(crate) fn unless_range(
     requires body { IsRange nodes.now (at + 1) bodies.first_end }
     requires otherwise { IsRange nodes.now bodies.first_end bodies.last_end }
     ensures inside { IfOk result (λ range. (at < range.0) × (range.1 ≤ bodies.last_end)) }
-    ensures chosen { (b d : Forest Maker) → StandsAt nodes.now (at + 1) b bodies.first_end → StandsAt nodes.now bodies.first_end d bodies.last_end →
-        NodeComesTo nodes.now (environment_of state.now) (tree.unless (condition_view condition.now) (nodes_of b) (nodes_of d)) result }
+    ensures chosen { (b d : Forest Maker) → StandsAt nodes.now (at + 1) b bodies.first_end →
+            StandsAt nodes.now bodies.first_end d bodies.last_end →
+        NodeComesTo nodes.now (environment_of state.now) (tree.unless (condition_view condition.now)
+                (nodes_of b) (nodes_of d)) result }
 {
     let body = (at + 1, bodies.first_end);
     let otherwise = (bodies.first_end, bodies.last_end);
@@ -73,8 +80,9 @@ pub(crate) fn unless_range(
     }
 }
 
-/// The range that the `case` at `at` comes to: the body of the first `when` that has a value equal to the target, else the
-/// nodes of `else`. Values are evaluated in order, up to the one that is equal.
+/// The range that the `case` at `at` comes to: the body of the first `when` that has a value equal
+/// to the target, else the nodes of `else`. Values are evaluated in order, up to the one that is
+/// equal.
 #[inline(never)]
 pub(crate) fn case_range(
     alloc: Global,
@@ -87,15 +95,17 @@ pub(crate) fn case_range(
 ) -> Result<(usize, usize)>
     requires { IsCase nodes.now (at + 1) arms.now last }
     ensures inside { IfOk result (λ range. (at < range.0) × (range.1 ≤ last)) }
-    ensures chosen { (ws : tree.Whens) (o : tree.Nodes) → CaseStands nodes.now (at + 1) arms.now last ws o →
-        NodeComesTo nodes.now (environment_of state.now) (tree.case_of (expression_view target.now) ws o) result }
+    ensures chosen { (ws : tree.Whens) (o : tree.Nodes) →
+            CaseStands nodes.now (at + 1) arms.now last ws o →
+        NodeComesTo nodes.now (environment_of state.now)
+                (tree.case_of (expression_view target.now) ws o) result }
 {
     let wanted = target.evaluate(alloc, state)?;
     arm_range(alloc, nodes, at + 1, wanted.as_value(), arms, last, state)
 }
 
-/// The body of the first `when` that has a value equal to this one, else the nodes of `else`. The first body begins at
-/// `first`.
+/// The body of the first `when` that has a value equal to this one, else the nodes of `else`. The
+/// first body begins at `first`.
 fn arm_range(
     alloc: Global,
     nodes: &[Node],
@@ -107,7 +117,9 @@ fn arm_range(
 ) -> Result<(usize, usize)>
     requires { IsCase nodes.now first arms.now last }
     ensures inside { IfOk result (λ range. (first ≤ range.0) × (range.1 ≤ last)) }
-    ensures chosen { (names : List Text) (meant : Meant) → CaseLeft nodes.now (environment_of state.now) names meant (view wanted.now) arms.now first last →
+    ensures chosen { (names : List Text) (meant : Meant) →
+            CaseLeft nodes.now (environment_of state.now) names meant (view wanted.now) arms.now
+                first last →
         ComesTo nodes.now (environment_of state.now) names meant result }
 {
     let mut from = first;
@@ -120,9 +132,13 @@ fn arm_range(
     Ok((from, last))
 }
 
-/// Whether one of the values equals the target. They are evaluated in order, up to the first that does.
+/// Whether one of the values equals the target. They are evaluated in order, up to the first that
+/// does.
 fn is_among(alloc: Global, target: &Value, values: &[Expression], state: &State<'_>) -> Result<bool>
-    ensures { Answers (λ b. b) result (equal_among (view target.now) (map expression_view values.now) (environment_of state.now)) }
+    ensures {
+        Answers (λ b. b) result (equal_among (view target.now) (map expression_view values.now)
+            (environment_of state.now))
+    }
 {
     for value in values {
         if *target == *value.evaluate(alloc, state)?.as_value() {
@@ -132,8 +148,8 @@ fn is_among(alloc: Global, target: &Value, values: &[Expression], state: &State<
     Ok(false)
 }
 
-/// The range that the nodes of an `else` come to. An `elsif` is an `if` that is all of them: then it is its body, where its
-/// condition holds, or else what the nodes of its own `else` come to.
+/// The range that the nodes of an `else` come to. An `elsif` is an `if` that is all of them: then
+/// it is its body, where its condition holds, or else what the nodes of its own `else` come to.
 fn else_range(
     alloc: Global,
     nodes: &[Node],
@@ -144,7 +160,10 @@ fn else_range(
 ) -> Result<(usize, usize)>
     requires { IsRange nodes.now from to }
     ensures inside { IfOk result (λ range. (from ≤ range.0) × (range.1 ≤ to)) }
-    ensures chosen { (f : Forest Maker) → StandsAt nodes.now from f to → ListComesTo nodes.now (environment_of state.now) (nodes_of f) result }
+    ensures chosen {
+        (f : Forest Maker) → StandsAt nodes.now from f to →
+        ListComesTo nodes.now (environment_of state.now) (nodes_of f) result
+    }
 {
     let mut at = from;
     while at < to {
@@ -161,7 +180,8 @@ fn else_range(
     Ok((at, to))
 }
 
-/// Whether the condition of the `elsif` at an index holds. Its fault stands there, and not at its `if`.
+/// Whether the condition of the `elsif` at an index holds. Its fault stands there, and not at its
+/// `if`.
 fn elsif_holds(
     alloc: Global,
     condition: &Condition,
@@ -169,7 +189,8 @@ fn elsif_holds(
     at: usize,
     state: &State<'_>,
 ) -> Result<bool>
-    ensures { Answers (λ b. b) result (truth_of (condition_view condition.now) (environment_of state.now)) }
+    ensures { Answers (λ b. b) result (truth_of (condition_view condition.now)
+                (environment_of state.now)) }
 {
     match condition.holds(alloc, state) {
         Ok(holds) => Ok(holds),

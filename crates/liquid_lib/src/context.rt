@@ -8,8 +8,8 @@ use liquid_core::{Error, ErrorKind, Result};
 use liquid_syntax::{Partials, Position, Template};
 use std::alloc::Global;
 
-/// The partials, the filters of the host, how many nested partials there may still be, and where the nodes of the template or
-/// the partial begin whose nodes run.
+/// The partials, the filters of the host, how many nested partials there may still be, and where
+/// the nodes of the template or the partial begin whose nodes run.
 #[derive(Drop)]
 pub(crate) struct RunContext<'g, H> {
     pub(crate) partials: &'g Partials,
@@ -22,7 +22,10 @@ impl<'g, H> RunContext<'g, H> {
     /// What the nodes of a partial are given that is entered here, or `TooDeep` with no depth left.
     pub(crate) fn deeper(&self, alloc: Global, partial: &'g Template) -> Result<RunContext<'g, H>>
         ensures depth { Answers (λ c. c.depth) result (depth_left self.now.depth) }
-        ensures same { IfOk result (λ c. (c.partials.now ≡ self.now.partials.now) × (c.host.now ≡ self.now.host.now)) }
+        ensures same {
+            IfOk result (λ c. (c.partials.now ≡ self.now.partials.now) ×
+                (c.host.now ≡ self.now.host.now))
+        }
     {
         if self.depth == 0 {
             return Err(too_deep(alloc));

@@ -13,7 +13,7 @@ use std::io::Write;
 ///
 /// A refusal, of a turn or of room, is a failed write of no bytes.
 pub trait CountedWrite {
-    // The bytes that the writer holds, where it tells them.
+    // The bytes that the writer holds, where it knows them.
     ghost contents: { Self → Option (List ℕ) };
 
     // How many writes failed.
@@ -24,8 +24,8 @@ pub trait CountedWrite {
 
     /// Writes a beginning of the bytes and answers how many it took, as `Write::write` does.
     ///
-    /// A write that fails, or takes nothing of bytes that aren't empty, raises the count of failures by one, until it
-    /// stands at its greatest value.
+    /// A write that fails, or takes nothing of bytes that aren't empty, raises the count of
+    /// failures by one, until it stands at its greatest value.
     fn write(&mut self, bytes: &[u8]) -> io::Result<usize>
         ensures bound { WritesAtMost result bytes.now }
         ensures bytes { WriteAppends (contents self.old) (contents self.new) result bytes.now }
@@ -124,7 +124,7 @@ impl<W: Write> CountedWrite for Counted<W> {
     }
 }
 
-/// A writer that nothing is written to, behind a run into a buffer alone.
+/// A writer that nothing is written to, after a run into a buffer alone.
 #[derive(Clone, Copy, Debug)]
 pub struct NoWriter;
 

@@ -20,8 +20,8 @@ use crate::push_value::push_number;
 use liquid_core::{Error, ErrorKind, NamedFilters, Result, State, Value};
 use std::alloc::Global;
 
-/// Writes the counter's number, and stores one more. Where that is beyond 64 bits, it is `NumberRange` before anything is
-/// written.
+/// Writes the counter's number, and stores one more. Where that is beyond 64 bits, it is
+/// `NumberRange` before anything is written.
 #[inline(never)]
 pub(crate) fn run_increment<W: CountedWrite, H: NamedFilters>(
     alloc: Global,
@@ -34,7 +34,10 @@ pub(crate) fn run_increment<W: CountedWrite, H: NamedFilters>(
         (configuration_of W.contents W.failure_count out.old state.old)
         (configuration_of W.contents W.failure_count out.new state.new) }
     ensures same_writer { out.new.writer.ghost_name ≡ out.old.writer.ghost_name }
-    ensures kept { Keeps (node_names (tree.increment name.now)) (setting_of H.named context.now) state.old state.new }
+    ensures kept {
+        Keeps (node_names (tree.increment name.now)) (setting_of H.named context.now) state.old
+            state.new
+    }
     ensures loops { loops_of state.new ≡ loops_of state.old }
 {
     let number = number_of(name, state);
@@ -42,8 +45,8 @@ pub(crate) fn run_increment<W: CountedWrite, H: NamedFilters>(
     show_and_store(alloc, name, number, more, out, state)
 }
 
-/// Writes one less than the counter's number, and stores that. Where it is beyond 64 bits, it is `NumberRange` before
-/// anything is written.
+/// Writes one less than the counter's number, and stores that. Where it is beyond 64 bits, it is
+/// `NumberRange` before anything is written.
 #[inline(never)]
 pub(crate) fn run_decrement<W: CountedWrite, H: NamedFilters>(
     alloc: Global,
@@ -56,7 +59,10 @@ pub(crate) fn run_decrement<W: CountedWrite, H: NamedFilters>(
         (configuration_of W.contents W.failure_count out.old state.old)
         (configuration_of W.contents W.failure_count out.new state.new) }
     ensures same_writer { out.new.writer.ghost_name ≡ out.old.writer.ghost_name }
-    ensures kept { Keeps (node_names (tree.decrement name.now)) (setting_of H.named context.now) state.old state.new }
+    ensures kept {
+        Keeps (node_names (tree.decrement name.now)) (setting_of H.named context.now) state.old
+            state.new
+    }
     ensures loops { loops_of state.new ≡ loops_of state.old }
 {
     let less = one_less(alloc, number_of(name, state))?;
@@ -114,7 +120,8 @@ fn show_and_store<W: CountedWrite>(
         (configuration_of W.contents W.failure_count out.old state.old)
         (configuration_of W.contents W.failure_count out.new state.new) }
     ensures same_writer { out.new.writer.ghost_name ≡ out.old.writer.ghost_name }
-    ensures kept { (N : Names) → T (N name.now) → LayersKept N (layers_of state.old) (layers_of state.new) }
+    ensures kept { (N : Names) → T (N name.now) →
+            LayersKept N (layers_of state.old) (layers_of state.new) }
     ensures loops { loops_of state.new ≡ loops_of state.old }
 {
     push_number(alloc, shown, out)?;

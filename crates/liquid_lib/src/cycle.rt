@@ -18,8 +18,8 @@ use crate::push_value::push_value;
 use liquid_core::{Error, ErrorKind, Expression, NamedFilters, Result, State};
 use std::alloc::Global;
 
-/// Writes the value at the group's index, which moves on before the value is evaluated. Where no value stands there it is
-/// `CycleBounds`; without values the index stays.
+/// Writes the value at the group's index, which moves on before the value is evaluated. Where no
+/// value stands there it is `CycleBounds`; without values the index stays.
 #[inline(never)]
 pub(crate) fn run_cycle<W: CountedWrite, H: NamedFilters>(
     alloc: Global,
@@ -29,11 +29,16 @@ pub(crate) fn run_cycle<W: CountedWrite, H: NamedFilters>(
     out: &mut Output<'_, W>,
     state: &mut State<'_>,
 ) -> Result<()>
-    ensures performs { Performs result (node_in H.named context.now (tree.cycle group.now (map expression_view values.now)))
+    ensures performs { Performs result
+                (node_in H.named context.now
+                (tree.cycle group.now (map expression_view values.now)))
         (configuration_of W.contents W.failure_count out.old state.old)
         (configuration_of W.contents W.failure_count out.new state.new) }
     ensures same_writer { out.new.writer.ghost_name ≡ out.old.writer.ghost_name }
-    ensures kept { Keeps (node_names (tree.cycle group.now (map expression_view values.now))) (setting_of H.named context.now) state.old state.new }
+    ensures kept {
+        Keeps (node_names (tree.cycle group.now (map expression_view values.now)))
+            (setting_of H.named context.now) state.old state.new
+    }
     ensures loops { loops_of state.new ≡ loops_of state.old }
 {
     if values.is_empty() {
@@ -49,11 +54,16 @@ pub(crate) fn run_cycle<W: CountedWrite, H: NamedFilters>(
     }
 }
 
-/// Moves the group's index on by one, up to this count: the index that it had, 0 at first. Only a new group takes memory.
+/// Moves the group's index on by one, up to this count: the index that it had, 0 at first. Only a
+/// new group takes memory.
 fn move_on(alloc: Global, group: &str, count: usize, state: &mut State<'_>) -> Result<usize>
     requires { 0 < count }
     ensures index { IfOk result (λ i. i ≡ cycle_index group.now (environment_of state.old)) }
-    ensures moved { IsValueOrMemory (λ _. layers_of state.new) result (with_cycle group.now ((cycle_index group.now (environment_of state.old) + 1) % count) (layers_of state.old)) }
+    ensures moved {
+        IsValueOrMemory (λ _. layers_of state.new) result
+            (with_cycle group.now ((cycle_index group.now (environment_of state.old) + 1) % count)
+            (layers_of state.old))
+    }
     ensures unchanged { OnErr result (layers_of state.new ≡ layers_of state.old) }
     ensures loops { loops_of state.new ≡ loops_of state.old }
 {

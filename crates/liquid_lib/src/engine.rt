@@ -1,11 +1,13 @@
 //! Runs of nodes.
 //!
-//! A node in blocks in partials stands as deep in these calls as it is nested. So that a level takes little of the stack, what a
-//! node does beside calling on is kept out of the frames of [run_range], [run_node] and [run_chosen], by `#[inline(never)]`.
+//! A node in blocks in partials stands as deep in these calls as it is nested. So that a level
+//! takes little of the stack, what a node does beside calling on is kept out of the frames of
+//! [run_range], [run_node] and [run_chosen], by `#[inline(never)]`.
 ghost use Rattle.std.specs.Prelude.{◌≡◌, ℕ, ◌+◌, ◌<◌, ◌≤◌, IfOk, IsOk};
 ghost use Rattle.liquid_core.specs.ExpressionView.{expression_view};
 ghost use Rattle.liquid_core.specs.States.{environment_of, layers_of, loops_of};
-ghost use Rattle.liquid_syntax.specs.Flats.{Maker, StandsAt, IsRange, NodeAt, IsNode, bindings_view, nodes_of};
+ghost use Rattle.liquid_syntax.specs.Flats.{Maker, StandsAt, IsRange, NodeAt, IsNode};
+ghost use Rattle.liquid_syntax.specs.Flats.{bindings_view, nodes_of};
 ghost use Rattle.liquid_syntax.specs.Forest.{Forest};
 ghost use Rattle.liquid_evaluation.specs.Names.{node_names, nodes_names};
 ghost use Rattle.liquid_evaluation.specs.Tree as tree;
@@ -36,7 +38,8 @@ use loops::{run_for, run_tablerow};
 use renders::{run_render, run_render_each};
 use std::alloc::Global;
 
-/// Runs the nodes of a range in order, up to the first fault or interrupt. The first node runs whatever the interrupt was.
+/// Runs the nodes of a range in order, up to the first fault or interrupt. The first node runs
+/// whatever the interrupt was.
 #[cycle(run)]
 pub(crate) fn run_range<'d, W: CountedWrite, H: NamedFilters>(
     alloc: Global,
@@ -53,8 +56,14 @@ pub(crate) fn run_range<'d, W: CountedWrite, H: NamedFilters>(
         (configuration_of W.contents W.failure_count out.old state.old)
         (configuration_of W.contents W.failure_count out.new state.new) }
     ensures same_writer { out.new.writer.ghost_name ≡ out.old.writer.ghost_name }
-    ensures kept { (f : Forest Maker) → StandsAt nodes.now from f to → Keeps (nodes_names (nodes_of f)) (setting_of H.named context.now) state.old state.new }
-    ensures alone { (f : Forest Maker) → StandsAt nodes.now from f to → AreRenders (nodes_of f) → layers_of state.new ≡ layers_of state.old }
+    ensures kept {
+        (f : Forest Maker) → StandsAt nodes.now from f to →
+        Keeps (nodes_names (nodes_of f)) (setting_of H.named context.now) state.old state.new
+    }
+    ensures alone {
+        (f : Forest Maker) → StandsAt nodes.now from f to → AreRenders (nodes_of f) →
+        layers_of state.new ≡ layers_of state.old
+    }
     ensures silent { (f : Forest Maker) → StandsAt nodes.now from f to → AreSilent (nodes_of f) →
         IsDoneOrStopped result
         (sink_of W.contents W.failure_count out.old).failures
@@ -93,8 +102,14 @@ fn run_node<'d, W: CountedWrite, H: NamedFilters>(
         (configuration_of W.contents W.failure_count out.old state.old)
         (configuration_of W.contents W.failure_count out.new state.new) }
     ensures same_writer { out.new.writer.ghost_name ≡ out.old.writer.ghost_name }
-    ensures kept { (n : tree.Node) (next : ℕ) → NodeAt nodes.now at n next → Keeps (node_names n) (setting_of H.named context.now) state.old state.new }
-    ensures alone { (n : tree.Node) (next : ℕ) → NodeAt nodes.now at n next → IsRender n → layers_of state.new ≡ layers_of state.old }
+    ensures kept {
+        (n : tree.Node) (next : ℕ) → NodeAt nodes.now at n next →
+        Keeps (node_names n) (setting_of H.named context.now) state.old state.new
+    }
+    ensures alone {
+        (n : tree.Node) (next : ℕ) → NodeAt nodes.now at n next → IsRender n → layers_of state.new ≡
+            layers_of state.old
+    }
     ensures silent { (n : tree.Node) (next : ℕ) → NodeAt nodes.now at n next →
         IsSilent n → IsOk result }
     ensures loops { loops_of state.new ≡ loops_of state.old }
@@ -167,7 +182,8 @@ fn run_node<'d, W: CountedWrite, H: NamedFilters>(
     }
 }
 
-/// Runs the nodes that an `if`, an `unless` or a `case` came to, behind `at`, or ends as its choice did.
+/// Runs the nodes that an `if`, an `unless` or a `case` came to, after `at`, or ends as its choice
+/// did.
 #[cycle(run)]
 fn run_chosen<'d, W: CountedWrite, H: NamedFilters>(
     alloc: Global,
@@ -179,13 +195,17 @@ fn run_chosen<'d, W: CountedWrite, H: NamedFilters>(
     out: &mut Output<'_, W>,
     state: &mut State<'d>,
 ) -> Result<()>
-    requires { IfOk chosen (λ range. (at < range.0) × (range.1 ≤ to) × IsRange nodes.now range.0 range.1) }
+    requires { IfOk chosen (λ range. (at < range.0) × (range.1 ≤ to) ×
+                IsRange nodes.now range.0 range.1) }
     ensures performs { (n : tree.Node) → NodeComesTo nodes.now (environment_of state.old) n chosen →
         Performs result (node_in H.named context.now n)
         (configuration_of W.contents W.failure_count out.old state.old)
         (configuration_of W.contents W.failure_count out.new state.new) }
     ensures same_writer { out.new.writer.ghost_name ≡ out.old.writer.ghost_name }
-    ensures kept { (n : tree.Node) → NodeComesTo nodes.now (environment_of state.old) n chosen → Keeps (node_names n) (setting_of H.named context.now) state.old state.new }
+    ensures kept {
+        (n : tree.Node) → NodeComesTo nodes.now (environment_of state.old) n chosen →
+        Keeps (node_names n) (setting_of H.named context.now) state.old state.new
+    }
     ensures loops { loops_of state.new ≡ loops_of state.old }
 {
     match chosen {
@@ -214,7 +234,8 @@ fn run_capture<'d, W: CountedWrite, H: NamedFilters>(
         (configuration_of W.contents W.failure_count out.new state.new) }
     ensures same_writer { out.new.writer.ghost_name ≡ out.old.writer.ghost_name }
     ensures kept { (b : Forest Maker) → StandsAt nodes.now (at + 1) b end →
-        Keeps (node_names (tree.capture name.now (nodes_of b))) (setting_of H.named context.now) state.old state.new }
+        Keeps (node_names (tree.capture name.now (nodes_of b))) (setting_of H.named context.now)
+                state.old state.new }
     ensures loops { loops_of state.new ≡ loops_of state.old }
 {
     let outer = out.open(alloc);
@@ -224,7 +245,8 @@ fn run_capture<'d, W: CountedWrite, H: NamedFilters>(
     state.set_global(String::from_str(alloc, name)?, Value::Text(text))
 }
 
-/// Runs the body into a buffer, and writes its text where it differs from the last one, as the body left that.
+/// Runs the body into a buffer, and writes its text where it differs from the last one, as the body
+/// left that.
 #[cycle(run)]
 #[inline(never)]
 fn run_ifchanged<'d, W: CountedWrite, H: NamedFilters>(
@@ -243,7 +265,8 @@ fn run_ifchanged<'d, W: CountedWrite, H: NamedFilters>(
         (configuration_of W.contents W.failure_count out.new state.new) }
     ensures same_writer { out.new.writer.ghost_name ≡ out.old.writer.ghost_name }
     ensures kept { (b : Forest Maker) → StandsAt nodes.now (at + 1) b end →
-        Keeps (node_names (tree.ifchanged (nodes_of b))) (setting_of H.named context.now) state.old state.new }
+        Keeps (node_names (tree.ifchanged (nodes_of b))) (setting_of H.named context.now) state.old
+                state.new }
     ensures loops { loops_of state.new ≡ loops_of state.old }
 {
     let outer = out.open(alloc);
@@ -264,11 +287,16 @@ fn run_include<'d, W: CountedWrite, H: NamedFilters>(
     out: &mut Output<'_, W>,
     state: &mut State<'d>,
 ) -> Result<()>
-    ensures performs { Performs result (node_in H.named context.now (tree.include (expression_view name.now) (bindings_view bindings.now)))
+    ensures performs { Performs result
+                (node_in H.named context.now (tree.include (expression_view name.now)
+                (bindings_view bindings.now)))
         (configuration_of W.contents W.failure_count out.old state.old)
         (configuration_of W.contents W.failure_count out.new state.new) }
     ensures same_writer { out.new.writer.ghost_name ≡ out.old.writer.ghost_name }
-    ensures kept { Keeps (node_names (tree.include (expression_view name.now) (bindings_view bindings.now))) (setting_of H.named context.now) state.old state.new }
+    ensures kept {
+        Keeps (node_names (tree.include (expression_view name.now) (bindings_view bindings.now)))
+            (setting_of H.named context.now) state.old state.new
+    }
     ensures loops { loops_of state.new ≡ loops_of state.old }
 {
     let (called, inner) = enter_include(alloc, context, name, bindings, state)?;
@@ -289,11 +317,16 @@ fn run_jekyll_include<'d, W: CountedWrite, H: NamedFilters>(
     out: &mut Output<'_, W>,
     state: &mut State<'d>,
 ) -> Result<()>
-    ensures performs { Performs result (node_in H.named context.now (tree.jekyll_include name.now (bindings_view bindings.now)))
+    ensures performs { Performs result
+                (node_in H.named context.now
+                (tree.jekyll_include name.now (bindings_view bindings.now)))
         (configuration_of W.contents W.failure_count out.old state.old)
         (configuration_of W.contents W.failure_count out.new state.new) }
     ensures same_writer { out.new.writer.ghost_name ≡ out.old.writer.ghost_name }
-    ensures kept { Keeps (node_names (tree.jekyll_include name.now (bindings_view bindings.now))) (setting_of H.named context.now) state.old state.new }
+    ensures kept {
+        Keeps (node_names (tree.jekyll_include name.now (bindings_view bindings.now)))
+            (setting_of H.named context.now) state.old state.new
+    }
     ensures loops { loops_of state.new ≡ loops_of state.old }
 {
     let inner = enter_jekyll_include(alloc, context, name, bindings, state)?;

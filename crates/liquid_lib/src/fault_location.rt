@@ -6,8 +6,9 @@ use liquid_core::{Error, ErrorKind, Location, Origin, Result};
 use liquid_syntax::Position;
 use std::alloc::Global;
 
-/// The fault of the node at an index, with where the node begins in the template or the partial that it stands in. A fault
-/// that says already where it stands keeps that. Refused memory and a failed write are no node's, and say no place.
+/// The fault of the node at an index, with where the node begins in the template or the partial
+/// that it stands in. A fault that says already where it stands keeps that. Refused memory and a
+/// failed write are no node's, and say no place.
 #[inline(never)]
 pub(crate) fn located(alloc: Global, positions: &[Position], at: usize, fault: Error) -> Error
     ensures { IsKindOrMemory fault.kind result.kind }
@@ -26,7 +27,8 @@ pub(crate) fn located(alloc: Global, positions: &[Position], at: usize, fault: E
     fault.located(alloc, location)
 }
 
-/// How the run of the partial of this name ended: a fault that stands in the partial's own text says its name.
+/// How the run of the partial of this name ended: a fault that stands in the partial's own text
+/// says its name.
 #[inline(never)]
 pub(crate) fn in_partial<T: Drop>(alloc: Global, name: &str, answer: Result<T>) -> Result<T>
     ensures { Retold answer result }

@@ -39,7 +39,8 @@ fn write_unless_last<W: CountedWrite>(
     out: &mut Output<'_, W>,
     state: &State<'_>,
 ) -> Result<()>
-    ensures performs { Performs result (written_unless_last (environment_of state.now).registers.changed text.now)
+    ensures performs { Performs result
+                (written_unless_last (environment_of state.now).registers.changed text.now)
         (configuration_of W.contents W.failure_count out.old state.now)
         (configuration_of W.contents W.failure_count out.new state.now) }
     ensures same_writer { out.new.writer.ghost_name ≡ out.old.writer.ghost_name }

@@ -28,7 +28,10 @@ pub(crate) fn run_text<W: CountedWrite, H: NamedFilters>(
         (configuration_of W.contents W.failure_count out.old state.old)
         (configuration_of W.contents W.failure_count out.new state.new) }
     ensures same_writer { out.new.writer.ghost_name ≡ out.old.writer.ghost_name }
-    ensures kept { Keeps (node_names (tree.plain text.now)) (setting_of H.named context.now) state.old state.new }
+    ensures kept {
+        Keeps (node_names (tree.plain text.now)) (setting_of H.named context.now) state.old
+            state.new
+    }
     ensures loops { loops_of state.new ≡ loops_of state.old }
 {
     out.push_text(alloc, text)
@@ -46,7 +49,8 @@ pub(crate) fn run_raw<W: CountedWrite, H: NamedFilters>(
         (configuration_of W.contents W.failure_count out.old state.old)
         (configuration_of W.contents W.failure_count out.new state.new) }
     ensures same_writer { out.new.writer.ghost_name ≡ out.old.writer.ghost_name }
-    ensures kept { Keeps (node_names (tree.raw text.now)) (setting_of H.named context.now) state.old state.new }
+    ensures kept { Keeps (node_names (tree.raw text.now)) (setting_of H.named context.now) state.old
+                state.new }
     ensures loops { loops_of state.new ≡ loops_of state.old }
 {
     out.push_text(alloc, text)
@@ -61,11 +65,15 @@ pub(crate) fn run_output<W: CountedWrite, H: NamedFilters>(
     out: &mut Output<'_, W>,
     state: &mut State<'_>,
 ) -> Result<()>
-    ensures performs { Performs result (node_in H.named context.now (tree.output (chain_view chain.now)))
+    ensures performs { Performs result
+                (node_in H.named context.now (tree.output (chain_view chain.now)))
         (configuration_of W.contents W.failure_count out.old state.old)
         (configuration_of W.contents W.failure_count out.new state.new) }
     ensures same_writer { out.new.writer.ghost_name ≡ out.old.writer.ghost_name }
-    ensures kept { Keeps (node_names (tree.output (chain_view chain.now))) (setting_of H.named context.now) state.old state.new }
+    ensures kept {
+        Keeps (node_names (tree.output (chain_view chain.now))) (setting_of H.named context.now)
+            state.old state.new
+    }
     ensures loops { loops_of state.new ≡ loops_of state.old }
 {
     match chain.near(state) {
@@ -84,11 +92,15 @@ fn run_chain<W: CountedWrite, H: NamedFilters>(
     out: &mut Output<'_, W>,
     state: &mut State<'_>,
 ) -> Result<()>
-    ensures performs { Performs result (node_in H.named context.now (tree.output (chain_view chain.now)))
+    ensures performs { Performs result
+                (node_in H.named context.now (tree.output (chain_view chain.now)))
         (configuration_of W.contents W.failure_count out.old state.old)
         (configuration_of W.contents W.failure_count out.new state.new) }
     ensures same_writer { out.new.writer.ghost_name ≡ out.old.writer.ghost_name }
-    ensures kept { Keeps (node_names (tree.output (chain_view chain.now))) (setting_of H.named context.now) state.old state.new }
+    ensures kept {
+        Keeps (node_names (tree.output (chain_view chain.now))) (setting_of H.named context.now)
+            state.old state.new
+    }
     ensures loops { loops_of state.new ≡ loops_of state.old }
 {
     let value = chain.evaluate_cow(alloc, state, context.host)?;
@@ -105,11 +117,15 @@ pub(crate) fn run_assign<W: CountedWrite, H: NamedFilters>(
     out: &mut Output<'_, W>,
     state: &mut State<'_>,
 ) -> Result<()>
-    ensures performs { Performs result (node_in H.named context.now (tree.assign name.now (chain_view chain.now)))
+    ensures performs { Performs result
+                (node_in H.named context.now (tree.assign name.now (chain_view chain.now)))
         (configuration_of W.contents W.failure_count out.old state.old)
         (configuration_of W.contents W.failure_count out.new state.new) }
     ensures same_writer { out.new.writer.ghost_name ≡ out.old.writer.ghost_name }
-    ensures kept { Keeps (node_names (tree.assign name.now (chain_view chain.now))) (setting_of H.named context.now) state.old state.new }
+    ensures kept {
+        Keeps (node_names (tree.assign name.now (chain_view chain.now)))
+            (setting_of H.named context.now) state.old state.new
+    }
     ensures loops { loops_of state.new ≡ loops_of state.old }
 {
     let value = chain.evaluate_by(alloc, state, context.host)?;

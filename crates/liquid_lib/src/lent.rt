@@ -33,8 +33,12 @@ pub(crate) fn run_template<W: CountedWrite>(
         (configuration_of W.contents W.failure_count out.old runtime.old.state)
         (configuration_of W.contents W.failure_count out.new runtime.new.state) }
     ensures same_writer { out.new.writer.ghost_name ≡ out.old.writer.ghost_name }
-    ensures kept { LayersKept (names_in runtime.old (tree_of template.now)) (layers_in runtime.old) (layers_in runtime.new) }
-    ensures alone { AreRenders (tree_of template.now) → layers_in runtime.new ≡ layers_in runtime.old }
+    ensures kept {
+        LayersKept (names_in runtime.old (tree_of template.now)) (layers_in runtime.old)
+            (layers_in runtime.new)
+    }
+    ensures alone { AreRenders (tree_of template.now) → layers_in runtime.new ≡
+                layers_in runtime.old }
     ensures silent { AreSilent (tree_of template.now) →
         IsDoneOrStopped result
         (sink_of W.contents W.failure_count out.old).failures
@@ -51,8 +55,9 @@ pub(crate) fn run_template<W: CountedWrite>(
     run_lent(alloc, template, &context, out, &mut runtime.state)
 }
 
-/// Runs the nodes of a template, whose positions the context has. The data is taken out of the state, so that loops can go
-/// over its lists while the run changes the rest, and is put back after any answer.
+/// Runs the nodes of a template, whose positions the context has. The data is taken out of the
+/// state, so that loops can go over its lists while the run changes the rest, and is put back after
+/// any answer.
 fn run_lent<W: CountedWrite, H: NamedFilters>(
     alloc: Global,
     template: &Template,
@@ -65,7 +70,10 @@ fn run_lent<W: CountedWrite, H: NamedFilters>(
         (configuration_of W.contents W.failure_count out.old state.old)
         (configuration_of W.contents W.failure_count out.new state.new) }
     ensures same_writer { out.new.writer.ghost_name ≡ out.old.writer.ghost_name }
-    ensures kept { Keeps (nodes_names (tree_of template.now)) (setting_of H.named context.now) state.old state.new }
+    ensures kept {
+        Keeps (nodes_names (tree_of template.now)) (setting_of H.named context.now) state.old
+            state.new
+    }
     ensures alone { AreRenders (tree_of template.now) → layers_of state.new ≡ layers_of state.old }
     ensures silent { AreSilent (tree_of template.now) →
         IsDoneOrStopped result

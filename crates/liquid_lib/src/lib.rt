@@ -1,7 +1,8 @@
 //! Runs of templates.
 //!
-//! What a caller needs is here, also where a lower crate has it: `parse` with its language, templates and partials, values and
-//! faults, and the filters in [stdlib], [jekyll], [shopify] and [extra].
+//! What a caller needs is here, also where a lower crate has it: `parse` with its language,
+//! templates and partials, values and faults, and the filters in [stdlib], [jekyll], [shopify] and
+//! [extra].
 #![tactic(auto)]
 
 mod choice;

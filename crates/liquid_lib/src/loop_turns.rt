@@ -1,5 +1,6 @@
 //! What stands before the first turn of a loop, and what ends one.
-ghost use Rattle.std.specs.Prelude.{◌≡◌, ◌<◌, ◌≤◌, List, IfOk, IfSome, None, codes, length, option_map, string_bytes};
+ghost use Rattle.std.specs.Prelude.{◌≡◌, ◌<◌, ◌≤◌, List, IfOk, IfSome, None, codes, length};
+ghost use Rattle.std.specs.Prelude.{option_map, string_bytes};
 ghost use Rattle.liquid_model.specs.Answer.{Answers, IsValueOrMemory};
 ghost use Rattle.liquid_model.specs.Data.{Datum};
 ghost use Rattle.liquid_model.specs.View.{view};
@@ -9,7 +10,8 @@ ghost use Rattle.liquid_core.specs.LoopFrames.{parent_of};
 ghost use Rattle.liquid_evaluation.specs.Evaluation.{asked_for};
 ghost use Rattle.liquid_evaluation.specs.SourceView.{source_view};
 ghost use Rattle.liquid_syntax.specs.Flats.{window_view};
-ghost use Rattle.liquid_lib.specs.inside.LoopTurns.{AreRows, IsFor, cells_asked, cells_of, items_asked, placed, some_columns, turns_of};
+ghost use Rattle.liquid_lib.specs.inside.LoopTurns.{AreRows, IsFor, cells_asked, cells_of};
+ghost use Rattle.liquid_lib.specs.inside.LoopTurns.{items_asked, placed, some_columns, turns_of};
 ghost use Rattle.liquid_meaning.specs.Effects.{is_break, value_or_nil};
 ghost use Rattle.liquid_meaning.specs.Loops.{columns_of};
 
@@ -19,15 +21,22 @@ use liquid_core::{
 use liquid_syntax::{For, TableRow, Window, WindowExpression, evaluate_amount};
 use std::alloc::Global;
 
-/// The first turn of a `for`, or nothing where no items are asked for. The source is evaluated before the window.
+/// The first turn of a `for`, or nothing where no items are asked for. The source is evaluated
+/// before the window.
 #[inline(never)]
 pub(crate) fn for_frame<'d>(
     alloc: Global,
     head: &'d For,
     state: &State<'d>,
 ) -> Result<Option<LoopFrame<'d>>>
-    ensures items { Answers turns_of result (items_asked (source_view head.now.source) (window_view head.now.window) (environment_of state.now)) }
-    ensures begins { IfOk result (λ t. IfSome t (IsFor (string_bytes head.now.variable) (environment_of state.now))) }
+    ensures items {
+        Answers turns_of result (items_asked (source_view head.now.source)
+            (window_view head.now.window) (environment_of state.now))
+    }
+    ensures begins {
+        IfOk result (λ t.
+            IfSome t (IsFor (string_bytes head.now.variable) (environment_of state.now)))
+    }
 {
     let all = head.source.items(alloc, state)?;
     let window = evaluate_window(alloc, &head.window, all.count, state)?;
@@ -46,15 +55,20 @@ pub(crate) fn for_frame<'d>(
     }))
 }
 
-/// The first turn of a `tablerow` and its columns, or nothing where no items are asked for. The source is evaluated first,
-/// then the number of columns, then the window; `ZeroColumns` where there are items and no column.
+/// The first turn of a `tablerow` and its columns, or nothing where no items are asked for. The
+/// source is evaluated first, then the number of columns, then the window; `ZeroColumns` where
+/// there are items and no column.
 #[inline(never)]
 pub(crate) fn row_frame<'d>(
     alloc: Global,
     head: &'d TableRow,
     state: &State<'d>,
 ) -> Result<Option<(LoopFrame<'d>, Columns)>>
-    ensures items { Answers cells_of result (cells_asked (source_view head.now.source) (window_view head.now.window) (option_map expression_view head.now.cols) (environment_of state.now)) }
+    ensures items {
+        Answers cells_of result (cells_asked (source_view head.now.source)
+            (window_view head.now.window) (option_map expression_view head.now.cols)
+            (environment_of state.now))
+    }
     ensures begins { IfOk result (AreRows (string_bytes head.now.variable)) }
 {
     let all = head.source.items(alloc, state)?;
@@ -84,7 +98,8 @@ fn evaluate_window(
     state: &State<'_>,
 ) -> Result<Window>
     ensures items { (ds : List Datum) → length ds ≡ total →
-        Answers (λ w. placed ds w.from w.count asked.now.reversed) result (asked_for (window_view asked.now) ds (environment_of state.now)) }
+        Answers (λ w. placed ds w.from w.count asked.now.reversed) result
+                (asked_for (window_view asked.now) ds (environment_of state.now)) }
     ensures within { IfOk result (λ w. (w.from ≤ total) × (w.count ≤ total)) }
 {
     let limit = evaluate_amount(alloc, &asked.limit, state)?;
@@ -92,9 +107,13 @@ fn evaluate_window(
     Ok(Window::new(total, limit, offset))
 }
 
-/// What `forloop` is outside of any loop that is under way, for the `parentloop` of one that begins.
+/// What `forloop` is outside of any loop that is under way, for the `parentloop` of one that
+/// begins.
 fn forloop_elsewhere(alloc: Global, state: &State<'_>) -> Result<Value>
-    ensures { IsValueOrMemory (λ v. parent_of ((environment_of state.now).local (codes "forloop")) (view v)) result (value_or_nil (codes "forloop") (environment_of state.now)) }
+    ensures {
+        IsValueOrMemory (λ v. parent_of ((environment_of state.now).local (codes "forloop"))
+            (view v)) result (value_or_nil (codes "forloop") (environment_of state.now))
+    }
 {
     match state.look_up("forloop") {
         Some(value) => value.copy(alloc),

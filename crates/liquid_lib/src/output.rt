@@ -42,7 +42,8 @@ enum Put {
 }
 
 impl<'w, W: CountedWrite> Output<'w, W> {
-    /// Adds a text: `Memory` where the buffer can't grow, `Write` where the writer fails. Then a beginning of it was added.
+    /// Adds a text: `Memory` where the buffer can't grow, `Write` where the writer fails. Then a
+    /// beginning of it was added.
     pub fn push_text(&mut self, alloc: Global, text: &str) -> Result<()>
         ensures writes { Writes result text.now
             (sink_of W.contents W.failure_count self.old)
@@ -86,7 +87,10 @@ impl<'w, W: CountedWrite> Output<'w, W> {
 
     /// Asks the writer whether the run may go on: `Write` where it refuses.
     pub fn turn(&mut self, alloc: Global) -> Result<Turn>
-        ensures goes_on { OnOk result (sink_of W.contents W.failure_count self.new ≡ sink_of W.contents W.failure_count self.old) }
+        ensures goes_on {
+            OnOk result (sink_of W.contents W.failure_count self.new ≡
+                sink_of W.contents W.failure_count self.old)
+        }
         // of a writer with a limit it takes one of the turns that are left
         ensures takes { OnOk result
             (TakesTurn (W.left self.old.writer.now) (W.left self.new.writer.now)) }
@@ -113,7 +117,8 @@ impl<'w, W: CountedWrite> Output<'w, W> {
         mem::replace(&mut self.buffer, Some(String::new(alloc)))
     }
 
-    /// Closes the innermost buffer, gives its text, and puts back the one that `open` gave. It takes no memory.
+    /// Closes the innermost buffer, gives its text, and puts back the one that `open` gave. It
+    /// takes no memory.
     pub fn close(&mut self, outer: Option<String>) -> String
         requires { IsSome self.old.buffer }
         ensures text { self.old.buffer ≡ Some result }

@@ -10,7 +10,8 @@ ghost use Rattle.liquid_core.specs.States.{environment_of};
 ghost use Rattle.liquid_core.specs.LoopFrames.{item_of, frame_map};
 ghost use Rattle.liquid_syntax.specs.Flats.{bindings_view};
 ghost use Rattle.liquid_syntax.specs.Templates.{partials_of, tree_of};
-ghost use Rattle.liquid_lib.specs.inside.Partials.{IsWithin, item_entry, item_scope, left_with, render_entry};
+ghost use Rattle.liquid_lib.specs.inside.Partials.{IsWithin, item_entry, item_scope, left_with};
+ghost use Rattle.liquid_lib.specs.inside.Partials.{render_entry};
 
 use crate::context::RunContext;
 use crate::partial::{Entered, pairs_scope, partial_name, partial_rendered};
@@ -35,8 +36,8 @@ pub(crate) struct EachItem<'d> {
     pub(crate) at: usize,
 }
 
-/// The partial of a `render`, with the pairs alone in its state; its name is told with it. The name is evaluated before the
-/// pairs, and the partial is looked up after them.
+/// The partial of a `render`, with the pairs alone in its state; its name comes with it. The name
+/// is evaluated before the pairs, and the partial is looked up after them.
 #[inline(never)]
 pub(crate) fn enter_render<'d, H>(
     alloc: Global,
@@ -45,8 +46,15 @@ pub(crate) fn enter_render<'d, H>(
     bindings: &[Binding],
     state: &State<'_>,
 ) -> Result<(String, Apart<'d, H>)>
-    ensures apart { Answers (λ r. (environment_of r.1.own, (string_bytes r.0, (tree_of r.1.inner.partial.now, r.1.inner.context.depth)))) result (render_entry (partials_of context.now.partials.now) context.now.depth (expression_view name.now) (bindings_view bindings.now) (environment_of state.now)) }
-    ensures within { IfOk result (λ r. IsWithin context.now r.1.inner.partial.now r.1.inner.context) }
+    ensures apart {
+        Answers (λ r.
+            (environment_of r.1.own,
+            (string_bytes r.0, (tree_of r.1.inner.partial.now, r.1.inner.context.depth)))) result
+            (render_entry (partials_of context.now.partials.now) context.now.depth
+            (expression_view name.now) (bindings_view bindings.now) (environment_of state.now))
+    }
+    ensures within { IfOk result
+                (λ r. IsWithin context.now r.1.inner.partial.now r.1.inner.context) }
 {
     let called = partial_name(alloc, name, state)?;
     let names = pairs_scope(alloc, bindings, state)?;
@@ -57,8 +65,8 @@ pub(crate) fn enter_render<'d, H>(
     Ok((called, Apart { inner, own }))
 }
 
-/// The partial of a `render .. for` at one of its items, with the pairs in its state, and the loop over them. The pairs are
-/// evaluated before the partial is looked up.
+/// The partial of a `render .. for` at one of its items, with the pairs in its state, and the loop
+/// over them. The pairs are evaluated before the partial is looked up.
 #[inline(never)]
 pub(crate) fn enter_render_item<'d, H>(
     alloc: Global,
@@ -70,7 +78,11 @@ pub(crate) fn enter_render_item<'d, H>(
 ) -> Result<Apart<'d, H>>
     requires item { item.now.at < item.now.source.now.count }
     requires within { item.now.source.now.count ≤ 9223372036854775807 }
-    ensures apart { Answers (λ r. (environment_of r.own, (tree_of r.inner.partial.now, r.inner.context.depth))) result (item_entry (partials_of context.now.partials.now) context.now.depth name.now (bindings_view bindings.now) (item_scope item.now) (environment_of state.now)) }
+    ensures apart {
+        Answers (λ r. (environment_of r.own, (tree_of r.inner.partial.now, r.inner.context.depth)))
+            result (item_entry (partials_of context.now.partials.now) context.now.depth name.now
+            (bindings_view bindings.now) (item_scope item.now) (environment_of state.now))
+    }
     ensures within { IfOk result (λ r. IsWithin context.now r.inner.partial.now r.inner.context) }
 {
     let names = pairs_scope(alloc, bindings, state)?;
@@ -108,7 +120,10 @@ fn own_state<'d>(alloc: Global, names: Object) -> Result<State<'d>>
 fn state_at<'d>(alloc: Global, names: Object, item: &EachItem<'d>) -> Result<State<'d>>
     requires item { item.now.at < item.now.source.now.count }
     requires within { item.now.source.now.count ≤ 9223372036854775807 }
-    ensures { IsValueOrMemory environment_of result (new_environment (merged (item_scope item.now) (held names))) }
+    ensures {
+        IsValueOrMemory environment_of result
+            (new_environment (merged (item_scope item.now) (held names)))
+    }
 {
     let mut own = own_state(alloc, names)?;
     if let Err(fault) = own.push_frame(frame_at(item)) {

@@ -26,11 +26,11 @@ pub struct Page {
     pub fault: Option<Error>,
 }
 
-/// The page of a template in a new run over this data, without filters of a host. The data is lent, so that nothing of it is
-/// copied.
+/// The page of a template in a new run over this data, without filters of a host. The data is lent,
+/// so that nothing of it is copied.
 ///
-/// A fault is the page's end, and the page has the text up to there. The answer is `Memory` where a growth was refused, and
-/// no other kind.
+/// A fault is the page's end, and the page has the text up to there. The answer is `Memory` where a
+/// growth was refused, and no other kind.
 pub fn render_page(
     alloc: Global,
     template: &Template,
@@ -38,7 +38,10 @@ pub fn render_page(
     depth: u32,
     facts: &Object,
 ) -> Result<Page>
-    ensures { IsValueOrMemory page_view result (page_over depth (partials_of partials.now) (held facts.now) (tree_of template.now)) }
+    ensures {
+        IsValueOrMemory page_view result (page_over depth (partials_of partials.now)
+            (held facts.now) (tree_of template.now))
+    }
 {
     let mut runtime = Runtime {
         state: state_over(alloc, facts),

@@ -1,4 +1,5 @@
-//! What a tag that runs a partial names: the partial, and the scope of its pairs; and how an `include` enters it.
+//! What a tag that runs a partial names: the partial, and the scope of its pairs; and how an
+//! `include` enters it.
 ghost use Rattle.std.specs.Prelude.{◌≡◌, ◌≤◌, IfOk, OnErr, length, string_bytes};
 ghost use Rattle.liquid_model.specs.Answer.{Answers};
 ghost use Rattle.liquid_model.specs.ErrorKinds.{IsKindOrMemory};
@@ -9,7 +10,9 @@ ghost use Rattle.liquid_core.specs.LoopFrames.{without_innermost};
 ghost use Rattle.liquid_core.specs.States.{environment_of, layers_of, loops_of};
 ghost use Rattle.liquid_syntax.specs.Flats.{bindings_view};
 ghost use Rattle.liquid_syntax.specs.Templates.{list_of, most_of, partials_of, tree_of};
-ghost use Rattle.liquid_lib.specs.inside.Partials.{Enters, IsWithin, bound_include, bound_object, bound_scope, entry_at, include_entry, jekyll_entry, partial_of, rendered_of};
+ghost use Rattle.liquid_lib.specs.inside.Partials.{Enters, IsWithin, bound_include, bound_object};
+ghost use Rattle.liquid_lib.specs.inside.Partials.{bound_scope, entry_at, include_entry};
+ghost use Rattle.liquid_lib.specs.inside.Partials.{jekyll_entry, partial_of, rendered_of};
 ghost use Rattle.liquid_meaning.specs.Meaning.{name_of};
 
 use crate::context::RunContext;
@@ -25,8 +28,9 @@ pub(crate) struct Entered<'d, H> {
     pub(crate) context: RunContext<'d, H>,
 }
 
-/// Enters the partial of an `include`, with the scope of the pairs over the caller's names; its name is told with it. The name
-/// is evaluated before the pairs, and the partial is looked up after them.
+/// Enters the partial of an `include`, with the scope of the pairs over the caller's names; its
+/// name comes with it. The name is evaluated before the pairs, and the partial is looked up after
+/// them.
 #[inline(never)]
 pub(crate) fn enter_include<'d, H>(
     alloc: Global,
@@ -35,7 +39,12 @@ pub(crate) fn enter_include<'d, H>(
     bindings: &[Binding],
     state: &mut State<'_>,
 ) -> Result<(String, Entered<'d, H>)>
-    ensures entered { Enters (λ r. (string_bytes r.0, (tree_of r.1.partial.now, r.1.context.depth))) result (include_entry (partials_of context.now.partials.now) context.now.depth (expression_view name.now) (bindings_view bindings.now) (environment_of state.old)) (layers_of state.old) (layers_of state.new) }
+    ensures entered {
+        Enters (λ r. (string_bytes r.0, (tree_of r.1.partial.now, r.1.context.depth))) result
+            (include_entry (partials_of context.now.partials.now) context.now.depth
+            (expression_view name.now) (bindings_view bindings.now) (environment_of state.old))
+            (layers_of state.old) (layers_of state.new)
+    }
     ensures within { IfOk result (λ r. IsWithin context.now r.1.partial.now r.1.context) }
     ensures loops { IfOk result (λ r. without_innermost (loops_of state.new) ≡ loops_of state.old) }
     ensures unchanged { OnErr result (loops_of state.new ≡ loops_of state.old) }
@@ -47,8 +56,8 @@ pub(crate) fn enter_include<'d, H>(
     Ok((called, entered))
 }
 
-/// Enters the partial of a jekyll `include`, with the scope of the pairs over the caller's names. The pairs are evaluated
-/// before the partial is looked up.
+/// Enters the partial of a jekyll `include`, with the scope of the pairs over the caller's names.
+/// The pairs are evaluated before the partial is looked up.
 #[inline(never)]
 pub(crate) fn enter_jekyll_include<'d, H>(
     alloc: Global,
@@ -57,7 +66,12 @@ pub(crate) fn enter_jekyll_include<'d, H>(
     bindings: &[Binding],
     state: &mut State<'_>,
 ) -> Result<Entered<'d, H>>
-    ensures entered { Enters (λ r. (tree_of r.partial.now, r.context.depth)) result (jekyll_entry (partials_of context.now.partials.now) context.now.depth name.now (bindings_view bindings.now) (environment_of state.old)) (layers_of state.old) (layers_of state.new) }
+    ensures entered {
+        Enters (λ r. (tree_of r.partial.now, r.context.depth)) result
+            (jekyll_entry (partials_of context.now.partials.now) context.now.depth name.now
+            (bindings_view bindings.now) (environment_of state.old)) (layers_of state.old)
+            (layers_of state.new)
+    }
     ensures within { IfOk result (λ r. IsWithin context.now r.partial.now r.context) }
     ensures loops { IfOk result (λ r. without_innermost (loops_of state.new) ≡ loops_of state.old) }
     ensures unchanged { OnErr result (loops_of state.new ≡ loops_of state.old) }
@@ -76,7 +90,11 @@ fn enter<'d, H>(
     state: &mut State<'_>,
 ) -> Result<Entered<'d, H>>
     requires { length (list_of partial.now) ≤ most_of context.now.partials.now }
-    ensures entered { Enters (λ r. (tree_of r.partial.now, r.context.depth)) result (entry_at context.now.depth (held scope) (tree_of partial.now)) (layers_of state.old) (layers_of state.new) }
+    ensures entered {
+        Enters (λ r. (tree_of r.partial.now, r.context.depth)) result
+            (entry_at context.now.depth (held scope) (tree_of partial.now)) (layers_of state.old)
+            (layers_of state.new)
+    }
     ensures within { IfOk result (λ r. IsWithin context.now r.partial.now r.context) }
     ensures loops { IfOk result (λ r. without_innermost (loops_of state.new) ≡ loops_of state.old) }
     ensures unchanged { OnErr result (loops_of state.new ≡ loops_of state.old) }
@@ -89,7 +107,10 @@ fn enter<'d, H>(
 /// The name of a partial, which is a scalar's text.
 #[inline(never)]
 pub(crate) fn partial_name(alloc: Global, name: &Expression, state: &State<'_>) -> Result<String>
-    ensures { Answers (λ t. string_bytes t) result (name_of (expression_view name.now) (environment_of state.now)) }
+    ensures {
+        Answers (λ t. string_bytes t) result (name_of (expression_view name.now)
+            (environment_of state.now))
+    }
 {
     let value = name.evaluate(alloc, state)?;
     if value.as_value().is_scalar() {
@@ -105,7 +126,10 @@ pub(crate) fn partial_name(alloc: Global, name: &Expression, state: &State<'_>) 
 
 /// The pairs, which are evaluated in order, as an object. Of two with one name the later counts.
 fn pairs_object(alloc: Global, bindings: &[Binding], state: &State<'_>) -> Result<Object>
-    ensures { Answers (λ m. pairs_view m.entries) result (bound_object (bindings_view bindings.now) (environment_of state.now)) }
+    ensures {
+        Answers (λ m. pairs_view m.entries) result (bound_object (bindings_view bindings.now)
+            (environment_of state.now))
+    }
 {
     let mut object: Object = BTreeMap::new(alloc);
     for binding in bindings {
@@ -119,15 +143,18 @@ fn pairs_object(alloc: Global, bindings: &[Binding], state: &State<'_>) -> Resul
 /// The scope of the pairs of an `include` or a `render`.
 #[inline(never)]
 pub(crate) fn pairs_scope(alloc: Global, bindings: &[Binding], state: &State<'_>) -> Result<Object>
-    ensures { Answers held result (bound_scope (bindings_view bindings.now) (environment_of state.now)) }
+    ensures { Answers held result (bound_scope (bindings_view bindings.now)
+                (environment_of state.now)) }
 {
     pairs_object(alloc, bindings, state)
 }
 
-/// The scope of the pairs of a jekyll `include`: one object that is named `include`, or nothing without pairs.
+/// The scope of the pairs of a jekyll `include`: one object that is named `include`, or nothing
+/// without pairs.
 #[inline(never)]
 fn include_scope(alloc: Global, bindings: &[Binding], state: &State<'_>) -> Result<Object>
-    ensures { Answers held result (bound_include (bindings_view bindings.now) (environment_of state.now)) }
+    ensures { Answers held result (bound_include (bindings_view bindings.now)
+                (environment_of state.now)) }
 {
     let mut scope: Object = BTreeMap::new(alloc);
     if bindings.is_empty() {
@@ -146,7 +173,8 @@ fn include_scope(alloc: Global, bindings: &[Binding], state: &State<'_>) -> Resu
 #[tactic(auto, using(crate::proofs::PartialRuns::small_list))]
 #[inline(never)]
 fn partial_called<'p>(alloc: Global, partials: &'p Partials, name: &str) -> Result<&'p Template>
-    ensures found { Answers (λ t. tree_of t.now) result (partial_of (partials_of partials.now) name.now) }
+    ensures found { Answers (λ t. tree_of t.now) result
+                (partial_of (partials_of partials.now) name.now) }
     ensures small { IfOk result (λ t. length (list_of t.now) ≤ most_of partials.now) }
 {
     match partials.get(name) {
@@ -163,7 +191,8 @@ pub(crate) fn partial_rendered<'p>(
     partials: &'p Partials,
     name: &str,
 ) -> Result<&'p Template>
-    ensures found { Answers (λ t. tree_of t.now) result (rendered_of (partials_of partials.now) name.now) }
+    ensures found { Answers (λ t. tree_of t.now) result
+                (rendered_of (partials_of partials.now) name.now) }
     ensures small { IfOk result (λ t. length (list_of t.now) ≤ most_of partials.now) }
 {
     if let Some(partial) = partials.get(name) {

@@ -1,6 +1,7 @@
 //! The texts of values, written piece by piece.
 ghost use Rattle.std.specs.Prelude.{◌≡◌, ◌++◌, decimal};
-ghost use Rattle.liquid_model.specs.Data.{truth as truth_datum, number, text_of, items_text, pairs_text};
+ghost use Rattle.liquid_model.specs.Data.{truth as truth_datum, number, text_of, items_text};
+ghost use Rattle.liquid_model.specs.Data.{pairs_text};
 ghost use Rattle.liquid_model.specs.View.{view, items_view, pairs_view};
 ghost use Rattle.liquid_lib.specs.Performs.{Writes};
 ghost use Rattle.liquid_lib.specs.Sinks.{sink_of};
@@ -11,8 +12,8 @@ use itoa::Buffer;
 use liquid_core::{Object, Result, Value};
 use std::alloc::Global;
 
-/// Writes the text of a value, without making it anywhere: a text as it stands, a number from the stack,
-/// lists and maps item by item.
+/// Writes the text of a value, without making it anywhere: a text as it stands, a number from the
+/// stack, lists and maps item by item.
 #[cycle(push_value)]
 pub fn push_value<W: CountedWrite>(
     alloc: Global,

@@ -1,5 +1,6 @@
 //! Whole renderings.
-ghost use Rattle.std.specs.Prelude.{◌≡◌, ◌<◌, ◌⊎◌, T, [], false, IfErr, IsErrAnd, IsOk, string_bytes};
+ghost use Rattle.std.specs.Prelude.{◌≡◌, ◌<◌, ◌⊎◌, T, [], false, IfErr, IsErrAnd, IsOk};
+ghost use Rattle.std.specs.Prelude.{string_bytes};
 ghost use Rattle.std.specs.Io.KnownBytes.{Appends};
 ghost use Rattle.liquid_model.specs.Answer.{Answers};
 ghost use Rattle.liquid_core.specs.Environment.{cut};
@@ -11,7 +12,8 @@ ghost use Rattle.liquid_lib.specs.Failures.{OneFailed, AtMostOneFailed};
 ghost use Rattle.liquid_meaning.specs.Isolation.{changes};
 ghost use Rattle.liquid_lib.specs.Kept.{LayersKept, AreRenders};
 ghost use Rattle.liquid_lib.specs.Performs.{Performs, answer_of, is_refused, unit};
-ghost use Rattle.liquid_lib.specs.Rendered.{PerformsForCut, run_in, outcome_in, names_in, at_writer, is_rendering_kind};
+ghost use Rattle.liquid_lib.specs.Rendered.{PerformsForCut, run_in, outcome_in, names_in};
+ghost use Rattle.liquid_lib.specs.Rendered.{at_writer, is_rendering_kind};
 ghost use Rattle.liquid_meaning.specs.Runs.{ended_with};
 ghost use Rattle.liquid_lib.specs.RuntimeView.{SettingKept, layers_in, environment_in};
 ghost use Rattle.liquid_lib.specs.Silent.{AreSilent, IsDoneOrStopped};
@@ -31,10 +33,11 @@ pub trait Renderable {
 
     /// Writes the text, up to the first fault.
     ///
-    /// `Memory` where a growth was refused, and `Write` where the writer failed or took nothing of what was left; then a
-    /// beginning of the text is written, and no failed write is tried again. Any other kind is the first fault's. After any
-    /// answer the scopes, the data, the partials and the depth are as before, and so is each name that neither the template
-    /// nor a partial mentions.
+    /// `Memory` where a growth was refused, and `Write` where the writer failed or took nothing of
+    /// what was left; then a beginning of the text is written, and no failed write is tried again.
+    /// Any other kind is the first fault's. After any answer the scopes, the data, the partials and
+    /// the depth are as before, and so is each name that neither the template nor a partial
+    /// mentions.
     fn render_to<W: CountedWrite>(
         &self,
         alloc: Global,
@@ -45,7 +48,8 @@ pub trait Renderable {
         ensures meaning { Performs result (run_in counts answer runtime.old (nodes self.now))
             (at_writer W.contents W.failure_count writer.old (environment_in runtime.old))
             (at_writer W.contents W.failure_count writer.new (environment_in runtime.new)) }
-        // text, end and changes are those for what the runtime holds under the mentioned names, layer by layer
+        // text, end and changes are those for what the runtime holds under the mentioned names,
+        // layer by layer
         ensures isolated { PerformsForCut (names_in runtime.old (nodes self.now)) result
             (run_in counts answer runtime.old (nodes self.now))
             (at_writer W.contents W.failure_count writer.old (environment_in runtime.old))
@@ -53,17 +57,27 @@ pub trait Renderable {
 
         // where the answer is neither `Memory` nor `Write`
         ensures whole { is_refused result ≡ false →
-            Appends (W.contents writer.old) (W.contents writer.new) (outcome_in counts answer runtime.old (nodes self.now)).text }
-        ensures end { is_refused result ≡ false → answer_of unit result ≡ (outcome_in counts answer runtime.old (nodes self.now)).end }
+            Appends (W.contents writer.old) (W.contents writer.new)
+                    (outcome_in counts answer runtime.old (nodes self.now)).text }
+        ensures end {
+            is_refused result ≡ false → answer_of unit result ≡
+                (outcome_in counts answer runtime.old (nodes self.now)).end
+        }
         ensures environment { is_refused result ≡ false →
-            environment_in runtime.new ≡ (outcome_in counts answer runtime.old (nodes self.now)).environment }
+            environment_in runtime.new ≡
+                    (outcome_in counts answer runtime.old (nodes self.now)).environment }
 
         // after every answer
         ensures begun { AppendsPart (W.contents writer.old) (W.contents writer.new)
             (outcome_in counts answer runtime.old (nodes self.now)).text }
-        ensures kept { LayersKept (names_in runtime.old (nodes self.now)) (layers_in runtime.old) (layers_in runtime.new) }
-        // nodes that are each a `render` leave the scopes, the variables, the counters, the data and the registers
-        ensures alone { AreRenders (nodes self.now) → layers_in runtime.new ≡ layers_in runtime.old }
+        ensures kept {
+            LayersKept (names_in runtime.old (nodes self.now)) (layers_in runtime.old)
+                (layers_in runtime.new)
+        }
+        // nodes that are each a `render` leave the scopes, the variables, the counters, the data
+        // and the registers
+        ensures alone { AreRenders (nodes self.now) → layers_in runtime.new ≡
+                    layers_in runtime.old }
         // a `break`, a `continue` and a comment take no memory: where each node is one, only the
         // writer can stop the run
         ensures no_memory { AreSilent (nodes self.now) →
@@ -79,22 +93,30 @@ pub trait Renderable {
     /// The text, or the first fault; `Memory` where a growth was refused. Else as `render_to`.
     fn render(&self, alloc: Global, runtime: &mut Runtime<'_>) -> Result<String>
         ensures text { Answers (λ t. string_bytes t) result
-            (ended_with (outcome_in counts answer runtime.old (nodes self.now)).text (outcome_in counts answer runtime.old (nodes self.now)).end) }
+            (ended_with (outcome_in counts answer runtime.old (nodes self.now)).text
+                    (outcome_in counts answer runtime.old (nodes self.now)).end) }
         ensures environment { is_refused result ≡ false →
-            environment_in runtime.new ≡ (outcome_in counts answer runtime.old (nodes self.now)).environment }
+            environment_in runtime.new ≡
+                    (outcome_in counts answer runtime.old (nodes self.now)).environment }
 
         // what the runtime holds under the mentioned names decides, layer by layer
         ensures isolated { let N = names_in runtime.old (nodes self.now) in
-            let o = run_in counts answer runtime.old (nodes self.now) (cut N (environment_in runtime.old)) in
+            let o = run_in counts answer runtime.old (nodes self.now)
+                    (cut N (environment_in runtime.old)) in
             Answers (λ t. string_bytes t) result (ended_with o.text o.end) }
         ensures changed { let N = names_in runtime.old (nodes self.now) in
             let e = environment_in runtime.old in
             is_refused result ≡ false → changes e (environment_in runtime.new) ≡ changes (cut N e) (run_in counts answer runtime.old (nodes self.now) (cut N e)).environment }
 
         // after every answer
-        ensures kept { LayersKept (names_in runtime.old (nodes self.now)) (layers_in runtime.old) (layers_in runtime.new) }
-        // nodes that are each a `render` leave the scopes, the variables, the counters, the data and the registers
-        ensures alone { AreRenders (nodes self.now) → layers_in runtime.new ≡ layers_in runtime.old }
+        ensures kept {
+            LayersKept (names_in runtime.old (nodes self.now)) (layers_in runtime.old)
+                (layers_in runtime.new)
+        }
+        // nodes that are each a `render` leave the scopes, the variables, the counters, the data
+        // and the registers
+        ensures alone { AreRenders (nodes self.now) → layers_in runtime.new ≡
+                    layers_in runtime.old }
         // a `break`, a `continue` and a comment take no memory
         ensures no_memory { AreSilent (nodes self.now) → IsOk result }
         ensures same { SettingKept runtime.old runtime.new }
@@ -132,7 +154,8 @@ impl Renderable for Template {
     }
 }
 
-/// Runs the nodes of a template into a buffer. The text, up to the first fault, and how the run ended.
+/// Runs the nodes of a template into a buffer. The text, up to the first fault, and how the run
+/// ended.
 pub(crate) fn text_of_run(
     alloc: Global,
     template: &Template,
@@ -141,16 +164,20 @@ pub(crate) fn text_of_run(
     ensures performs { Performs result.1 (run_in counts answer runtime.old (tree_of template.now))
         (in_buffer [] (environment_in runtime.old))
         (in_buffer (string_bytes result.0) (environment_in runtime.new)) }
-    ensures kept { LayersKept (names_in runtime.old (tree_of template.now)) (layers_in runtime.old) (layers_in runtime.new) }
-    ensures alone { AreRenders (tree_of template.now) → layers_in runtime.new ≡ layers_in runtime.old }
+    ensures kept {
+        LayersKept (names_in runtime.old (tree_of template.now)) (layers_in runtime.old)
+            (layers_in runtime.new)
+    }
+    ensures alone { AreRenders (tree_of template.now) → layers_in runtime.new ≡
+                layers_in runtime.old }
     ensures silent { AreSilent (tree_of template.now) → IsOk result.1 }
     ensures same { SettingKept runtime.old runtime.new }
 {
     text_beside(alloc, template, &mut NoWriter, runtime)
 }
 
-/// Runs the nodes of a template into a buffer, while the writer grants it. The text, up to the first
-/// fault or refusal, and how the run ended.
+/// Runs the nodes of a template into a buffer, while the writer grants it. The text, up to the
+/// first fault or refusal, and how the run ended.
 pub(crate) fn text_beside<W: CountedWrite>(
     alloc: Global,
     template: &Template,

@@ -14,8 +14,8 @@ pub struct RuntimeBuilder<'p> {
     pub(crate) depth: u32,
 }
 
-/// The names and registers that templates read and change, with the host's filters, the partials and how many of them may
-/// be nested.
+/// The names and registers that templates read and change, with the host's filters, the partials
+/// and how many of them may be nested.
 ///
 /// It can be used again after any fault.
 #[derive(Drop)]

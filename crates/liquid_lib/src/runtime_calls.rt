@@ -1,5 +1,6 @@
 //! What a template is run in: how it is made, read and changed.
-ghost use Rattle.std.specs.Prelude.{◌≡◌, [], Some, map, option_map, string_bytes, IfErr, IsOk, IsTrue, OnErr};
+ghost use Rattle.std.specs.Prelude.{◌≡◌, [], Some, map, option_map, string_bytes, IfErr, IsOk};
+ghost use Rattle.std.specs.Prelude.{IsTrue, OnErr};
 ghost use Rattle.std.specs.Option.{ok_or};
 ghost use Rattle.liquid_model.specs.Answer.{Answers, IsValueOrMemory, TakesNoMemory};
 ghost use Rattle.liquid_model.specs.Cow.{cow_view};
@@ -7,13 +8,16 @@ ghost use Rattle.liquid_model.specs.Errors.{HasMessageUnlessMemory, nowhere_mess
 ghost use Rattle.liquid_core.specs.Expressions.{value_along, begins_with_text};
 ghost use Rattle.liquid_model.specs.Maps.{empty};
 ghost use Rattle.liquid_core.specs.Held.{held};
-ghost use Rattle.liquid_core.specs.States.{layers_of, new_layers, with_assigned, with_counter, with_scope_pushed, with_scope_popped};
+ghost use Rattle.liquid_core.specs.States.{layers_of, new_layers, with_assigned, with_counter};
+ghost use Rattle.liquid_core.specs.States.{with_scope_pushed, with_scope_popped};
 ghost use Rattle.liquid_model.specs.View.{view};
 ghost use Rattle.liquid_model.specs.declared.error.ErrorKind.TheVariants.{UnknownVariable};
 ghost use Rattle.liquid_syntax.specs.Templates.{partials_of};
 ghost use Rattle.liquid_core.specs.Hosts.{named_by, no_host};
 ghost use Rattle.liquid_evaluation.specs.Evaluation.{answers_with};
-ghost use Rattle.liquid_lib.specs.RuntimeView.{SettingKept, layers_in, environment_in, setting_in, partials_in, depth_in, globals_for, partials_for, depth_for, named_for};
+ghost use Rattle.liquid_lib.specs.RuntimeView.{SettingKept, layers_in, environment_in, setting_in};
+ghost use Rattle.liquid_lib.specs.RuntimeView.{partials_in, depth_in, globals_for, partials_for};
+ghost use Rattle.liquid_lib.specs.RuntimeView.{depth_for, named_for};
 
 use crate::runtime::{Runtime, RuntimeBuilder};
 use liquid_core::{HostFilters, Object, Result, State, Value, ValueCow};
@@ -22,7 +26,8 @@ use std::alloc::Global;
 use std::collections::BTreeMap;
 
 impl<'p> RuntimeBuilder<'p> {
-    /// A builder without data, partials and filters of a host, of 32 nested partials. It takes no memory.
+    /// A builder without data, partials and filters of a host, of 32 nested partials. It takes no
+    /// memory.
     pub fn new(alloc: Global) -> RuntimeBuilder<'p>
         ensures globals { globals_for result ≡ empty }
         ensures partials { partials_for result ≡ [] }
@@ -101,7 +106,10 @@ impl<'p> RuntimeBuilder<'p> {
     pub fn build(self, alloc: Global) -> Runtime<'p>
         ensures layers { layers_in result ≡ new_layers (globals_for self.entry) }
         ensures partials { partials_in result ≡ partials_for self.entry }
-        ensures host { (setting_in counts answer result).answers ≡ answers_with (named_for counts answer self.entry) }
+        ensures host {
+            (setting_in counts answer result).answers ≡
+                answers_with (named_for counts answer self.entry)
+        }
         ensures depth { depth_in result ≡ depth_for self.entry }
     {
         Runtime {
@@ -121,27 +129,42 @@ impl<'p> Runtime<'p> {
         &self.state
     }
 
-    /// What a path leads to, as `State::try_get`. It refuses for `Memory` alone, and takes memory only for the text of a
-    /// first step that is no text itself.
+    /// What a path leads to, as `State::try_get`. It refuses for `Memory` alone, and takes memory
+    /// only for the text of a first step that is no text itself.
     pub fn try_get<'a>(&'a self, alloc: Global, path: &[Value]) -> Result<Option<ValueCow<'a>>>
-        ensures value { IsValueOrMemory (λ r. option_map cow_view r) result (value_along (environment_in self.now) (map view path.now)) }
+        ensures value {
+            IsValueOrMemory (λ r. option_map cow_view r) result
+                (value_along (environment_in self.now) (map view path.now))
+        }
         ensures no_memory { IsTrue (begins_with_text (map view path.now)) → IsOk result }
     {
         self.state.try_get(alloc, path)
     }
 
-    /// The same, or `UnknownVariable` where the path leads to nothing: that fault's message takes memory too.
+    /// The same, or `UnknownVariable` where the path leads to nothing: that fault's message takes
+    /// memory too.
     pub fn get<'a>(&'a self, alloc: Global, path: &[Value]) -> Result<ValueCow<'a>>
-        ensures value { Answers cow_view result (ok_or (value_along (environment_in self.now) (map view path.now)) UnknownVariable) }
-        ensures no_memory { IsTrue (begins_with_text (map view path.now)) → TakesNoMemory result (ok_or (value_along (environment_in self.now) (map view path.now)) UnknownVariable) }
-        ensures message { IfErr result (λ e. HasMessageUnlessMemory (nowhere_message (map view path.now)) e) }
+        ensures value {
+            Answers cow_view result
+                (ok_or (value_along (environment_in self.now) (map view path.now)) UnknownVariable)
+        }
+        ensures no_memory {
+            IsTrue (begins_with_text (map view path.now)) →
+            TakesNoMemory result (ok_or (value_along (environment_in self.now) (map view path.now))
+                UnknownVariable)
+        }
+        ensures message { IfErr result
+                    (λ e. HasMessageUnlessMemory (nowhere_message (map view path.now)) e) }
     {
         self.state.get(alloc, path)
     }
 
     /// Sets an assigned variable. Without the memory for it nothing changes.
     pub fn set_global(&mut self, name: String, value: Value) -> Result<()>
-        ensures set { IsValueOrMemory (λ _. layers_in self.new) result (with_assigned (string_bytes name) (view value) (layers_in self.old)) }
+        ensures set {
+            IsValueOrMemory (λ _. layers_in self.new) result
+                (with_assigned (string_bytes name) (view value) (layers_in self.old))
+        }
         ensures unchanged { OnErr result (layers_in self.new ≡ layers_in self.old) }
         ensures same { SettingKept self.old self.new }
     {
@@ -157,7 +180,10 @@ impl<'p> Runtime<'p> {
 
     /// Sets a counter. Without the memory for it nothing changes.
     pub fn set_index(&mut self, name: String, value: Value) -> Result<()>
-        ensures set { IsValueOrMemory (λ _. layers_in self.new) result (with_counter (string_bytes name) (view value) (layers_in self.old)) }
+        ensures set {
+            IsValueOrMemory (λ _. layers_in self.new) result
+                (with_counter (string_bytes name) (view value) (layers_in self.old))
+        }
         ensures unchanged { OnErr result (layers_in self.new ≡ layers_in self.old) }
         ensures same { SettingKept self.old self.new }
     {
@@ -166,7 +192,10 @@ impl<'p> Runtime<'p> {
 
     /// Adds an innermost scope. Without the memory for it nothing changes.
     pub fn push_scope(&mut self, scope: Object) -> Result<()>
-        ensures pushed { IsValueOrMemory (λ _. layers_in self.new) result (with_scope_pushed (held scope) (layers_in self.old)) }
+        ensures pushed {
+            IsValueOrMemory (λ _. layers_in self.new) result
+                (with_scope_pushed (held scope) (layers_in self.old))
+        }
         ensures unchanged { OnErr result (layers_in self.new ≡ layers_in self.old) }
         ensures same { SettingKept self.old self.new }
     {

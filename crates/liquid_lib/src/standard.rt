@@ -3,7 +3,8 @@ ghost use Rattle.std.specs.Prelude.{◌≡◌, IfOk, IfErr};
 ghost use Rattle.liquid_model.specs.Answer.{IsValueOrMemory};
 ghost use Rattle.liquid_model.specs.Maps.{insert, listed};
 ghost use Rattle.liquid_core.specs.Environment.{bind_each};
-ghost use Rattle.liquid_lib.specs.Standard.{IsStandard, standard_blocks, standard_tags, with_filters};
+ghost use Rattle.liquid_lib.specs.Standard.{IsStandard, standard_blocks, standard_tags};
+ghost use Rattle.liquid_lib.specs.Standard.{with_filters};
 ghost use Rattle.liquid_language.specs.Languages.{kinds_of};
 ghost use Rattle.liquid_language.specs.Registered.{registered_in};
 ghost use Rattle.liquid_language.specs.declared.registered_filter.RegisteredFilter.TheVariants.{Kind};
@@ -79,8 +80,8 @@ pub const STANDARD_FILTERS: [FilterKind; 56] = [
     FilterKind::DateInTz(extra::DateInTz),
 ];
 
-/// The language of the standard library, as far as its tags, blocks and filters exist: each under the name that Liquid
-/// gives it. `Memory` where a growth was refused.
+/// The language of the standard library, as far as its tags, blocks and filters exist: each under
+/// the name that Liquid gives it. `Memory` where a growth was refused.
 pub fn language(alloc: Global) -> Result<Language>
     ensures standard { IfOk result IsStandard }
     ensures memory { IfErr result (λ e. e.kind ≡ ErrorKind.Memory) }
@@ -94,7 +95,10 @@ pub fn language(alloc: Global) -> Result<Language>
 
 /// Registers the standard tags.
 fn register_tags(alloc: Global, tags: &mut Registry<TagKind>) -> Result<()>
-    ensures { IsValueOrMemory (λ _. listed (kinds_of tags.new)) result (bind_each standard_tags (listed (kinds_of tags.old))) }
+    ensures {
+        IsValueOrMemory (λ _. listed (kinds_of tags.new)) result
+            (bind_each standard_tags (listed (kinds_of tags.old)))
+    }
 {
     let assign = AssignTag::new();
     register(alloc, tags, assign.tag(), TagKind::from(assign))?;
@@ -116,7 +120,10 @@ fn register_tags(alloc: Global, tags: &mut Registry<TagKind>) -> Result<()>
 
 /// Registers the standard blocks.
 fn register_blocks(alloc: Global, blocks: &mut Registry<BlockKind>) -> Result<()>
-    ensures { IsValueOrMemory (λ _. listed (kinds_of blocks.new)) result (bind_each standard_blocks (listed (kinds_of blocks.old))) }
+    ensures {
+        IsValueOrMemory (λ _. listed (kinds_of blocks.new)) result
+            (bind_each standard_blocks (listed (kinds_of blocks.old)))
+    }
 {
     let raw = RawBlock::new();
     register(alloc, blocks, raw.start_tag(), BlockKind::from(raw))?;
@@ -160,14 +167,20 @@ fn register<K: Copy + Drop>(
     name: &str,
     kind: K,
 ) -> Result<()>
-    ensures { IsValueOrMemory (λ _. listed (kinds_of kinds.new)) result (insert (listed (kinds_of kinds.old)) name.now kind) }
+    ensures {
+        IsValueOrMemory (λ _. listed (kinds_of kinds.new)) result
+            (insert (listed (kinds_of kinds.old)) name.now kind)
+    }
 {
     kinds.register(String::from_str(alloc, name)?, kind)
 }
 
 /// Registers each filter under its own name.
 fn register_filters(alloc: Global, filters: &mut FilterRegistry, kinds: &[FilterKind]) -> Result<()>
-    ensures { IsValueOrMemory (λ _. listed (registered_in filters.new)) result (with_filters (listed (registered_in filters.old)) kinds.now) }
+    ensures {
+        IsValueOrMemory (λ _. listed (registered_in filters.new)) result
+            (with_filters (listed (registered_in filters.old)) kinds.now)
+    }
 {
     for kind in kinds {
         register_filter(alloc, filters, kind.name(), *kind)?;
@@ -182,7 +195,10 @@ fn register_filter(
     name: &str,
     kind: FilterKind,
 ) -> Result<()>
-    ensures { IsValueOrMemory (λ _. listed (registered_in filters.new)) result (insert (listed (registered_in filters.old)) name.now (Kind kind)) }
+    ensures {
+        IsValueOrMemory (λ _. listed (registered_in filters.new)) result
+            (insert (listed (registered_in filters.old)) name.now (Kind kind))
+    }
 {
     filters.register(String::from_str(alloc, name)?, kind)
 }

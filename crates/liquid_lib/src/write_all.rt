@@ -11,14 +11,17 @@ use crate::counted::CountedWrite;
 #[derive(Clone, Copy, Debug)]
 pub struct WriteFailed;
 
-/// Writes all the bytes. A short count goes on with the rest; what failed isn't tried again, and nothing is flushed.
+/// Writes all the bytes. A short count goes on with the rest; what failed isn't tried again, and
+/// nothing is flushed.
 pub fn write_all<W: CountedWrite>(writer: &mut W, bytes: &[u8]) -> Result<(), WriteFailed>
     ensures all { OnOk result (Appends (W.contents writer.old) (W.contents writer.new) bytes.now) }
     ensures takes { OnOk result
         (TakesBytes (length bytes.now) (W.left writer.old) (W.left writer.new)) }
     ensures none_failed { OnOk result (W.failure_count writer.new ≡ W.failure_count writer.old) }
-    ensures part { OnErr result (AppendsPart (W.contents writer.old) (W.contents writer.new) bytes.now) }
-    ensures failed { OnErr result (OneFailed (W.failure_count writer.old) (W.failure_count writer.new)) }
+    ensures part { OnErr result (AppendsPart (W.contents writer.old)
+                (W.contents writer.new) bytes.now) }
+    ensures failed { OnErr result (OneFailed (W.failure_count writer.old)
+                (W.failure_count writer.new)) }
 {
     let mut rest = bytes;
     while !rest.is_empty() {

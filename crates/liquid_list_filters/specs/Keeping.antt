@@ -1,5 +1,6 @@
 -- The filters that keep some of a list's items: `compact`, `where`, `map` and `uniq`.
-use Rattle.std.specs.Prelude.{Bool, true, false, not, ◌||◌, if◌then◌else◌, List, [], ◌∷◌, ◌++◌, Option, Some, None, Ok, Err, filter, filter_map}
+use Rattle.std.specs.Prelude.{Bool, true, false, not, ◌||◌, if◌then◌else◌, List, [], ◌∷◌, ◌++◌}
+use Rattle.std.specs.Prelude.{Option, Some, None, Ok, Err, filter, filter_map}
 use Rattle.liquid_model.specs.Data.{Datum, nil, array, object, text_of, truthy}
 use Rattle.liquid_model.specs.Lists.{list_of}
 use Rattle.liquid_model.specs.Order.{same}
@@ -25,7 +26,8 @@ abbrev pub compact_of : Text → List Datum → List Datum
 compact_of name ds = filter (λ d. is_given (property name d)) ds
 
 abbrev pub compact_by : Text → Datum → Answer
-compact_by name (array ds) = if all_maps (list_of ds) then Ok (list (compact_of name (list_of ds))) else Err InvalidInput
+compact_by name (array ds) = if all_maps (list_of ds) then Ok (list (compact_of name (list_of ds)))
+        else Err InvalidInput
 compact_by name _ = Err InvalidInput
 
 abbrev pub compact_answer : Datum → List Datum → Answer
@@ -43,7 +45,8 @@ where_of name target ds = filter (λ d. is_wanted target (property name d)) ds
 
 -- a list with an item that is no map gives nil; a map counts as a list of itself
 abbrev pub where_by : Text → Option Datum → Datum → Answer
-where_by name target (array ds) = if all_maps (list_of ds) then Ok (list (where_of name target (list_of ds))) else Ok nil
+where_by name target (array ds) =
+    if all_maps (list_of ds) then Ok (list (where_of name target (list_of ds))) else Ok nil
 where_by name target (object ps) = Ok (list (where_of name target (object ps ∷ [])))
 where_by name target _ = Err InvalidInput
 
@@ -66,7 +69,8 @@ has_same d (e ∷ es) = same e d || has_same d es
 
 abbrev pub uniq_after : List Datum → List Datum → List Datum
 uniq_after kept [] = []
-uniq_after kept (d ∷ ds) = if has_same d kept then uniq_after kept ds else d ∷ uniq_after (kept ++ d ∷ []) ds
+uniq_after kept (d ∷ ds) = if has_same d kept then uniq_after kept ds else d ∷
+        uniq_after (kept ++ d ∷ []) ds
 
 abbrev pub uniq : List Datum → List Datum
 uniq ds = uniq_after [] ds

@@ -1,5 +1,6 @@
 -- Lists made from lists, told place by place.
-use Rattle.std.specs.Prelude.{◌≡◌, ℕ, ◌-◌, ◌<◌, ◌⊎◌, List, [], ◌∷◌, ◌++◌, length, take, drop, slice_get, Option, Some, None}
+use Rattle.std.specs.Prelude.{◌≡◌, ℕ, ◌-◌, ◌<◌, ◌⊎◌, List, [], ◌∷◌, ◌++◌, length, take, drop}
+use Rattle.std.specs.Prelude.{slice_get, Option, Some, None}
 use Rattle.liquid_model.specs.Data.{Datum}
 use Rattle.liquid_model.specs.Texts.{Text}
 
@@ -15,7 +16,8 @@ EndsWith {X} xs (Some x) = (before : List X) × (xs ≡ before ++ x ∷ [])
 
 -- as long, with the items counted from the other end
 abbrev pub IsReversed : List Datum → List Datum → Type 0
-IsReversed ds out = (length out ≡ length ds) × ((i : ℕ) → i < length ds → slice_get out i ≡ slice_get ds (length ds - 1 - i))
+IsReversed ds out = (length out ≡ length ds) × ((i : ℕ) → i < length ds → slice_get out i ≡
+        slice_get ds (length ds - 1 - i))
 
 -- the first items are those of ds, and what follows are those of es
 abbrev pub IsFollowed : List Datum → List Datum → List Datum → Type 0
@@ -25,17 +27,21 @@ IsFollowed ds es out = (take (length ds) out ≡ ds) × (drop (length ds) out �
 abbrev pub IsJoined : Text → List Text → Text → Type 0
 IsJoined separator [] s = s ≡ []
 IsJoined separator (t ∷ []) s = s ≡ t
-IsJoined separator (t ∷ u ∷ ts) s = (rest : Text) × (s ≡ t ++ (separator ++ rest)) × IsJoined separator (u ∷ ts) rest
+IsJoined separator (t ∷ u ∷ ts) s = (rest : Text) × (s ≡ t ++ (separator ++ rest)) ×
+    IsJoined separator (u ∷ ts) rest
 
 -- the items of which P holds, in their order
 abbrev pub Keeps : (Datum → Type 0) → List Datum → List Datum → Type 0
 Keeps P [] out = out ≡ []
-Keeps P (d ∷ ds) out = (P d × (rest : List Datum) × (out ≡ d ∷ rest) × Keeps P ds rest) ⊎ (¬ (P d) × Keeps P ds out)
+Keeps P (d ∷ ds) out = (P d × (rest : List Datum) × (out ≡ d ∷ rest) × Keeps P ds rest) ⊎
+    (¬ (P d) × Keeps P ds out)
 
 -- the values of the items that have one, in their order
 abbrev pub KeepsValues : (Datum → Option Datum) → List Datum → List Datum → Type 0
 KeepsValues value [] out = out ≡ []
-KeepsValues value (d ∷ ds) out = ((e : Datum) × (value d ≡ Some e) × (rest : List Datum) × (out ≡ e ∷ rest) × KeepsValues value ds rest) ⊎ ((value d ≡ None) × KeepsValues value ds out)
+KeepsValues value (d ∷ ds) out = ((e : Datum) × (value d ≡ Some e) × (rest : List Datum) ×
+        (out ≡ e ∷ rest) × KeepsValues value ds rest) ⊎
+    ((value d ≡ None) × KeepsValues value ds out)
 
 abbrev pub IsAmong : Datum → List Datum → Type 0
 IsAmong d [] = ⊥
@@ -44,4 +50,5 @@ IsAmong d (e ∷ es) = (e ≡ d) ⊎ IsAmong d es
 -- an item is kept exactly where no kept item before it equals it
 abbrev pub KeepsFirsts : List Datum → List Datum → List Datum → Type 0
 KeepsFirsts kept [] out = out ≡ []
-KeepsFirsts kept (d ∷ ds) out = (¬ (IsAmong d kept) × (rest : List Datum) × (out ≡ d ∷ rest) × KeepsFirsts (kept ++ d ∷ []) ds rest) ⊎ (IsAmong d kept × KeepsFirsts kept ds out)
+KeepsFirsts kept (d ∷ ds) out = (¬ (IsAmong d kept) × (rest : List Datum) × (out ≡ d ∷ rest) ×
+        KeepsFirsts (kept ++ d ∷ []) ds rest) ⊎ (IsAmong d kept × KeepsFirsts kept ds out)

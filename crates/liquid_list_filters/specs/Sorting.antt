@@ -1,5 +1,6 @@
 -- Stable sorts as functions, and the filters `sort` and `sort_natural`.
-use Rattle.std.specs.Prelude.{Bool, List, [], ◌∷◌, map, if◌then◌else◌, Option, Some, None, option_map, option_and_then, Ok, Err}
+use Rattle.std.specs.Prelude.{Bool, List, [], ◌∷◌, map, if◌then◌else◌, Option, Some, None}
+use Rattle.std.specs.Prelude.{option_map, option_and_then, Ok, Err}
 use Rattle.std.specs.Char.{to_ascii_lowercase}
 use Rattle.std.specs.Ordering.{is_lt}
 use Rattle.std.specs.declared.cmp.Ordering.{Ordering}
@@ -52,7 +53,9 @@ natural_key_of name d = option_map (λ e. text (lower_case (text_of e))) (key_of
 
 -- of a sequence; with a property all its items must be maps
 abbrev pub sort_named : (Option Text → Datum → Key) → Text → Datum → Answer
-sort_named key name d = if all_maps (sequence d) then Ok (list (sort_by (key (Some name)) (sequence d))) else Err InvalidInput
+sort_named key name d =
+    if all_maps (sequence d) then Ok (list (sort_by (key (Some name)) (sequence d))) else Err
+        InvalidInput
 
 abbrev pub sort_answer : Datum → List Datum → Answer
 sort_answer d [] = Ok (list (sort_by (key_of None) (sequence d)))

@@ -1,7 +1,12 @@
-//! What is proved of the list filters beyond their answers: each law is the contract of a function without a body.
+//! What is proved of the list filters beyond their answers: each law is the contract of a function
+//! without a body.
 //!
-//! `NAME_is_one` says what the filter's answer is without the filter's own steps, and that nothing else is.
-ghost use Rattle.liquid_list_filters.specs.Laws.{JoinIsOne, SortIsOne, SortNaturalIsOne, SortTwiceIsOnce, SortNaturalTwiceIsOnce, CompactIsOne, WhereIsOne, MapIsOne, UniqIsOne, ReverseIsOne, ConcatIsOne, FirstIsOne, LastIsOne};
+//! `NAME_is_one` says what the filter's answer is without the filter's own steps, and that nothing
+//! else is.
+ghost use Rattle.liquid_list_filters.specs.Laws.{JoinIsOne, SortIsOne, SortNaturalIsOne};
+ghost use Rattle.liquid_list_filters.specs.Laws.{SortTwiceIsOnce, SortNaturalTwiceIsOnce};
+ghost use Rattle.liquid_list_filters.specs.Laws.{CompactIsOne, WhereIsOne, MapIsOne, UniqIsOne};
+ghost use Rattle.liquid_list_filters.specs.Laws.{ReverseIsOne, ConcatIsOne, FirstIsOne, LastIsOne};
 
 /// `join`: the texts in a row, the separator between each and the next.
 pub fn join_is_one()

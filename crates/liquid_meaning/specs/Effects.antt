@@ -22,7 +22,8 @@ abbrev pub interrupted_by : Option Interrupt → Environment → Environment
 interrupted_by i e = record e { registers = record (e.registers) { interrupt = i } }
 
 abbrev pub cycled_to : Text → ℕ → Environment → Environment
-cycled_to group i e = record e { registers = record (e.registers) { cycles = insert e.registers.cycles group i } }
+cycled_to group i e =
+    record e { registers = record (e.registers) { cycles = insert e.registers.cycles group i } }
 
 abbrev pub changed_to : Text → Environment → Environment
 changed_to t e = record e { registers = record (e.registers) { changed = Some t } }

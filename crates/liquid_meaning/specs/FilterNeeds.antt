@@ -1,16 +1,21 @@
 -- What the filters that go through lists ask of their input.
---     known_needs      of each call of a filter: `size` sees how many items there are, `first` and `last` an end, `reverse` and `concat` what is
---     asked of the answer's items, `where`, `sort` and `sort_natural` with a property also that, `map` its property alone; all others see everything
+--     known_needs      of each call of a filter: `size` sees how many items there are, `first` and
+--                      `last` an end, `reverse` and `concat` what is
+--     asked of the answer's items, `where`, `sort` and `sort_natural` with a property also that,
+--       `map` its property alone; all others see everything
 use Rattle.std.specs.Prelude.{cond, List, ◌∷◌, Option, Some, None, codes}
 use Rattle.liquid_model.specs.Texts.{Text, same_text}
 use Rattle.liquid_model.specs.Data.{text_of}
 use Rattle.liquid_core.specs.Expression.{Expression, literal}
 use Rattle.liquid_filters.specs.declared.kind.FilterKind.{FilterKind}
-use Rattle.liquid_filters.specs.declared.kind.FilterKind.TheVariants.{Sort, SortNatural, Where, Reverse, Map, Concat, First, Last, Size}
+use Rattle.liquid_filters.specs.declared.kind.FilterKind.TheVariants.{Sort, SortNatural, Where}
+use Rattle.liquid_filters.specs.declared.kind.FilterKind.TheVariants.{Reverse, Map, Concat, First}
+use Rattle.liquid_filters.specs.declared.kind.FilterKind.TheVariants.{Last, Size}
 use Rattle.liquid_evaluation.specs.Tree.{Filter, existing, hosted}
 use Rattle.liquid_evaluation.specs.Evaluation.{answers_with}
 use Rattle.liquid_core.specs.FilterAnswers.{FilterAnswer}
-use Rattle.liquid_model.specs.Uses.{Use, nothing, everything, parts, no_fields, field, uncounted, every, present, use_of_each, join, items_wanted}
+use Rattle.liquid_model.specs.Uses.{Use, nothing, everything, parts, no_fields, field, uncounted}
+use Rattle.liquid_model.specs.Uses.{every, present, use_of_each, join, items_wanted}
 use Rattle.liquid_meaning.specs.Reading.{Needs}
 use Rattle.liquid_meaning.specs.Reads.{Respects}
 
@@ -26,7 +31,8 @@ with_field name w u = join (parts (field name w no_fields) uncounted) u
 
 -- u of each item of a list, and of a map that counts as a list of itself
 abbrev pub items_or_itself : Use → Use
-items_or_itself (parts members turns) = parts members (every (join (parts members turns) (use_of_each turns)))
+items_or_itself (parts members turns) =
+    parts members (every (join (parts members turns) (use_of_each turns)))
 items_or_itself _ = everything
 
 -- ---- the filters
@@ -50,10 +56,16 @@ kind_needs (First f) arguments v = one_field (codes "first") v
 kind_needs (Last f) arguments v = one_field (codes "last") v
 kind_needs (Reverse f) arguments v = items_each (items_wanted v)
 kind_needs (Concat f) arguments v = items_each (items_wanted v)
-kind_needs (Map f) arguments v = by_property (named_by arguments) (λ name. items_each (one_field name (present (items_wanted v))))
+kind_needs (Map f) arguments v =
+    by_property (named_by arguments)
+        (λ name. items_each (one_field name (present (items_wanted v))))
 kind_needs (Where f) arguments v = by_property (named_by arguments) (λ name. items_or_itself (with_field name everything (items_wanted v)))
-kind_needs (Sort f) arguments v = by_property (named_by arguments) (λ name. items_or_itself (with_field name everything (items_wanted v)))
-kind_needs (SortNatural f) arguments v = by_property (named_by arguments) (λ name. items_or_itself (with_field name everything (items_wanted v)))
+kind_needs (Sort f) arguments v =
+    by_property (named_by arguments)
+        (λ name. items_or_itself (with_field name everything (items_wanted v)))
+kind_needs (SortNatural f) arguments v =
+    by_property (named_by arguments)
+        (λ name. items_or_itself (with_field name everything (items_wanted v)))
 kind_needs _ arguments v = everything
 
 abbrev pub filter_needs : Filter → List Expression → Use → Use

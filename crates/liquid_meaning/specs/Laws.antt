@@ -1,5 +1,6 @@
 -- Laws of runs, beside those of isolation.
-use Rattle.std.specs.Prelude.{◌≡◌, ℕ, ◌+◌, ◌<◌, T, nat_le, List, [], ◌∷◌, Some, Result, Ok, Err, IsSome, pos, codes}
+use Rattle.std.specs.Prelude.{◌≡◌, ℕ, ◌+◌, ◌<◌, T, nat_le, List, [], ◌∷◌, Some, Result, Ok, Err}
+use Rattle.std.specs.Prelude.{IsSome, pos, codes}
 use Rattle.liquid_model.specs.Texts.{Text}
 use Rattle.liquid_model.specs.Data.{Datum, number, text}
 use Rattle.liquid_model.specs.Find.{find}
@@ -9,7 +10,8 @@ use Rattle.liquid_core.specs.Environment.{Environment}
 use Rattle.liquid_core.specs.FilterAnswers.{FilterAnswer}
 use Rattle.liquid_core.specs.Hosts.{no_host}
 use Rattle.liquid_filters.specs.RunKinds.{EndsAsRun}
-use Rattle.liquid_evaluation.specs.Tree.{Filter, Chain, Source, Window, Nodes, no_nodes, node, plain, assign, for_each}
+use Rattle.liquid_evaluation.specs.Tree.{Filter, Chain, Source, Window, Nodes, no_nodes, node}
+use Rattle.liquid_evaluation.specs.Tree.{plain, assign, for_each}
 use Rattle.liquid_evaluation.specs.Evaluation.{answers_with, source_items, asked_for}
 use Rattle.liquid_core.specs.Loops.{forloop_object}
 use Rattle.liquid_meaning.specs.Meaning.{Setting, meaning}
@@ -17,7 +19,8 @@ use Rattle.liquid_meaning.specs.Meaning.{Setting, meaning}
 -- a template of one text is that text: its run writes it, is done and changes nothing
 abbrev pub TextIsItself : Type 0
 TextIsItself = (setting : Setting) (depth : ℕ) (t : Text) (e : Environment)
-    → meaning setting depth (node (plain t) no_nodes) e ≡ record { text = t; environment = e; end = Ok tt }
+    → meaning setting depth (node (plain t) no_nodes) e ≡ record { text = t; environment = e;
+            end = Ok tt }
 
 -- no run takes an assigned variable away
 abbrev pub AssignedStay : Type 0
@@ -26,10 +29,13 @@ AssignedStay = (setting : Setting) (depth : ℕ) (nodes : Nodes) (e : Environmen
 
 -- an `assign` that ran in a `for`, which has items and is done, is there after it
 abbrev pub AssignedInLoop : Type 0
-AssignedInLoop = (setting : Setting) (depth : ℕ) (name : Text) (source : Source) (window : Window) (target : Text) (chain : Chain) (more otherwise : Nodes) (e : Environment)
+AssignedInLoop = (setting : Setting) (depth : ℕ) (name : Text) (source : Source) (window : Window)
+        (target : Text) (chain : Chain) (more otherwise : Nodes) (e : Environment)
     (all items : List Datum) (d : Datum)
     → source_items source e ≡ Ok all → asked_for window all e ≡ Ok (d ∷ items)
-    → (let o = meaning setting depth (node (for_each name source window (node (assign target chain) more) otherwise) no_nodes) e in
+    → (let o = meaning setting depth
+            (node (for_each name source window (node (assign target chain) more) otherwise)
+            no_nodes) e in
     o.end ≡ Ok tt → IsSome (o.environment.assigned target))
 
 -- the object of a loop holds the number n under a name
@@ -54,13 +60,15 @@ ForloopCountsItems = (k m : ℕ) (parent : Datum) → k < m → ForloopCounts k 
 
 -- where the filters answer kinds of runs alone, every run ends by such a kind
 abbrev pub KindsOfRuns : Type 0
-KindsOfRuns = (setting : Setting) → ((filter : Filter) (input : Datum) (arguments : List Datum) → EndsAsRun (setting.answers filter input arguments))
+KindsOfRuns = (setting : Setting) → ((filter : Filter) (input : Datum) (arguments : List Datum) →
+        EndsAsRun (setting.answers filter input arguments))
     → (depth : ℕ) (nodes : Nodes) (e : Environment) → EndsAsRun (meaning setting depth nodes e).end
 
 -- with the filters that exist, and none of a host, every run ends by a kind of runs
 abbrev pub KindsOfOwnRuns : Type 0
 KindsOfOwnRuns = (partials : List (Text × Nodes)) (depth : ℕ) (nodes : Nodes) (e : Environment)
-    → EndsAsRun (meaning (record { answers = answers_with no_host; partials = partials }) depth nodes e).end
+    → EndsAsRun (meaning (record { answers = answers_with no_host;
+            partials = partials }) depth nodes e).end
 
 -- an end by a value, or by a kind of the numbers 1 to 17: a host's filter may answer `Memory` too
 abbrev pub EndsWithHost : {A : Type 0} → Result A ErrorKind → Type 0
@@ -68,6 +76,9 @@ EndsWithHost end = (kind : ErrorKind) → end ≡ Err kind → T (nat_le (number
 
 -- with the filters that exist, and those of a host that end so, every run ends so
 abbrev pub KindsWithHost : Type 0
-KindsWithHost = (named : Text → FilterAnswer) → ((name : Text) (input : Datum) (arguments : List Datum) → EndsWithHost (named name input arguments))
+KindsWithHost = (named : Text → FilterAnswer) →
+    ((name : Text) (input : Datum) (arguments : List Datum) →
+        EndsWithHost (named name input arguments))
     → (partials : List (Text × Nodes)) (depth : ℕ) (nodes : Nodes) (e : Environment)
-    → EndsWithHost (meaning (record { answers = answers_with named; partials = partials }) depth nodes e).end
+    → EndsWithHost (meaning (record { answers = answers_with named;
+            partials = partials }) depth nodes e).end

@@ -1,16 +1,22 @@
 -- The meaning of a template: what its run writes, how it ends and what it leaves.
---     Setting      what a run is given beside its environment: the filters' answers and the partials
---     node_meaning, nodes_meaning      of a node and of a list of nodes, where deeper is the meaning of a partial
+--     Setting      what a run is given beside its environment: the filters' answers and the
+--                  partials
+--     node_meaning, nodes_meaning      of a node and of a list of nodes, where deeper is the
+--                                      meaning of a partial
 --     meaning setting depth nodes      of a list of nodes, with depth nested partials left
 -- A rule goes from top to bottom, and where a step ends by a kind, the whole ends there.
-use Rattle.std.specs.Prelude.{ℕ, zero, suc, ◌+◌, ◌%◌, ℤ, pos, ◌+ℤ◌, ◌-ℤ◌, Bool, true, false, cond, List, [], ◌∷◌, ◌++◌, length, slice_get, Option, Some, None, Result, Ok, Err, codes}
+use Rattle.std.specs.Prelude.{ℕ, zero, suc, ◌+◌, ◌%◌, ℤ, pos, ◌+ℤ◌, ◌-ℤ◌, Bool, true, false, cond}
+use Rattle.std.specs.Prelude.{List, [], ◌∷◌, ◌++◌, length, slice_get, Option, Some, None, Result}
+use Rattle.std.specs.Prelude.{Ok, Err, codes}
 use Rattle.std.specs.Option.{ok_or}
 use Rattle.std.specs.Fmt.{signed_decimal}
 use Rattle.liquid_model.specs.Texts.{Text, ◌else◌}
 use Rattle.liquid_model.specs.Data.{Datum, nil, text, text_of, scalar}
 use Rattle.liquid_model.specs.Lists.{object_of}
 use Rattle.liquid_model.specs.declared.error.ErrorKind.{ErrorKind}
-use Rattle.liquid_model.specs.declared.error.ErrorKind.TheVariants.{UnknownPartial, PartialName, TooDeep, CycleBounds, NumberRange}
+use Rattle.liquid_model.specs.declared.error.ErrorKind.TheVariants.{UnknownPartial, PartialName}
+use Rattle.liquid_model.specs.declared.error.ErrorKind.TheVariants.{TooDeep, CycleBounds}
+use Rattle.liquid_model.specs.declared.error.ErrorKind.TheVariants.{NumberRange}
 use Rattle.liquid_model.specs.Whole.{fits}
 use Rattle.liquid_model.specs.Order.{same}
 use Rattle.liquid_core.specs.Expression.{Expression}
@@ -19,10 +25,18 @@ use Rattle.liquid_model.specs.Maps.{Map, empty, insert, merged, listed}
 use Rattle.liquid_core.specs.Environment.{bind_each, Environment}
 use Rattle.liquid_core.specs.declared.interrupt.Interrupt.{Interrupt}
 use Rattle.liquid_core.specs.declared.interrupt.Interrupt.TheVariants.{Break, Continue}
-use Rattle.liquid_evaluation.specs.Tree.{Bindings, Node, plain, raw, comment, output, assign, increment, decrement, break_loop, continue_loop, cycle, if_true, unless, case_of, for_each, tablerow, capture, ifchanged, include, jekyll_include, render, Nodes, no_nodes, node, Whens, no_whens, when}
-use Rattle.liquid_evaluation.specs.Evaluation.{FilterAnswers, chain_value, truth_of, source_items, amount, asked_for, bound_values}
-use Rattle.liquid_meaning.specs.Runs.{Nothing, Run, done, read, evaluate, fault, change, write, ◌>>=◌, ◌>>◌, with_scope, buffered, apart}
-use Rattle.liquid_meaning.specs.Effects.{assigned_to, counted_to, interrupted_by, cycled_to, changed_to, counter_number, cycle_index, value_or_nil, is_last_text, unless_interrupted}
+use Rattle.liquid_evaluation.specs.Tree.{Bindings, Node, plain, raw, comment, output, assign}
+use Rattle.liquid_evaluation.specs.Tree.{increment, decrement, break_loop, continue_loop, cycle}
+use Rattle.liquid_evaluation.specs.Tree.{if_true, unless, case_of, for_each, tablerow, capture}
+use Rattle.liquid_evaluation.specs.Tree.{ifchanged, include, jekyll_include, render, Nodes}
+use Rattle.liquid_evaluation.specs.Tree.{no_nodes, node, Whens, no_whens, when}
+use Rattle.liquid_evaluation.specs.Evaluation.{FilterAnswers, chain_value, truth_of, source_items}
+use Rattle.liquid_evaluation.specs.Evaluation.{amount, asked_for, bound_values}
+use Rattle.liquid_meaning.specs.Runs.{Nothing, Run, done, read, evaluate, fault, change, write}
+use Rattle.liquid_meaning.specs.Runs.{◌>>=◌, ◌>>◌, with_scope, buffered, apart}
+use Rattle.liquid_meaning.specs.Effects.{assigned_to, counted_to, interrupted_by, cycled_to}
+use Rattle.liquid_meaning.specs.Effects.{changed_to, counter_number, cycle_index, value_or_nil}
+use Rattle.liquid_meaning.specs.Effects.{is_last_text, unless_interrupted}
 use Rattle.liquid_core.specs.Loops.{loop_scope, forloop_object}
 use Rattle.liquid_meaning.specs.Loops.{until_break, if_empty, loop, columns_of, rows}
 
@@ -83,11 +97,13 @@ include_scope (p ∷ ps) = insert empty (codes "include") (object_of (p ∷ ps))
 -- ---- the meaning
 
 module _ (setting : Setting) (deeper : Nodes → Run Nothing) where
-  -- the partial of that name, or of that name with `.liquid`, in an environment of its own: with the pairs, and these names over them
+  -- the partial of that name, or of that name with `.liquid`, in an environment of its own: with
+  -- the pairs, and these names over them
   abbrev pub render_apart : Text → Bindings → Map Datum → Run (Option Interrupt)
   render_apart name bindings over = do
     pairs ← evaluate (bound_values bindings)
-    partial ← evaluate (λ e. found (listed setting.partials name else listed setting.partials (name ++ codes ".liquid")))
+    partial ← evaluate (λ e. found (listed setting.partials name else listed setting.partials
+            (name ++ codes ".liquid")))
     apart (merged over (pairs_scope pairs)) (deeper partial)
 
   unfoldable mutual
@@ -142,7 +158,8 @@ module _ (setting : Setting) (deeper : Nodes → Run Nothing) where
     node_meaning (capture name body) = do
       t ← buffered (nodes_meaning body)
       change (assigned_to name (text t))
-    -- the body's text is written where it differs from the last one, as the body left that, and is the last one from then on
+    -- the body's text is written where it differs from the last one, as the body left that, and is
+    -- the last one from then on
     node_meaning (ifchanged body) = do
       t ← buffered (nodes_meaning body)
       last ← read (λ e. e.registers.changed)
@@ -163,13 +180,16 @@ module _ (setting : Setting) (deeper : Nodes → Run Nothing) where
       name ← evaluate (name_of x)
       render_apart name bindings empty
       done tt
-    -- it runs once for each item, up to a run that leaves a break; `forloop` and then the variable win over the pairs
+    -- it runs once for each item, up to a run that leaves a break; `forloop` and then the variable
+    -- win over the pairs
     node_meaning (render x (Some each) bindings) = do
       name ← evaluate (name_of x)
       items ← evaluate (source_items each.0)
-      until_break (λ k d. render_apart name bindings (loop_scope (codes "forloop") (forloop_object k (length items) nil) each.1 d)) 0 items
+      until_break (λ k d. render_apart name bindings
+              (loop_scope (codes "forloop") (forloop_object k (length items) nil) each.1 d)) 0 items
 
-    -- in order, up to a node that leaves an interrupt set; the first one runs whatever the interrupt was
+    -- in order, up to a node that leaves an interrupt set; the first one runs whatever the
+    -- interrupt was
     pub nodes_meaning : Nodes → Run Nothing
     nodes_meaning no_nodes = done tt
     nodes_meaning (node n more) = do
@@ -186,7 +206,8 @@ module _ (setting : Setting) (deeper : Nodes → Run Nothing) where
 -- the meaning of a partial that is entered with depth nested ones left: it takes one of them
 unfoldable pub deeper_meaning : Setting → ℕ → Nodes → Run Nothing
 deeper_meaning setting zero nodes = fault TooDeep
-deeper_meaning setting (suc depth) nodes = nodes_meaning setting (deeper_meaning setting depth) nodes
+deeper_meaning setting (suc depth) nodes =
+    nodes_meaning setting (deeper_meaning setting depth) nodes
 
 unfoldable pub meaning : Setting → ℕ → Nodes → Run Nothing
 meaning setting depth nodes = nodes_meaning setting (deeper_meaning setting depth) nodes

@@ -1,5 +1,7 @@
--- What a run needs of its data: what is left of it where only that is asked for which its template can see.
---     ProjectedRun      a run over the data is a run over what is left of it;   SameSight      and so are the runs over data of which the same is left
+-- What a run needs of its data: what is left of it where only that is asked for which its template
+-- can see.
+--     ProjectedRun      a run over the data is a run over what is left of it;   SameSight      and
+--                       so are the runs over data of which the same is left
 use Rattle.std.specs.Prelude.{◌≡◌, ℕ, T, false}
 use Rattle.liquid_model.specs.Data.{Pairs}
 use Rattle.liquid_model.specs.Find.{value_at}
@@ -17,14 +19,17 @@ over_data ps = record (new_environment empty) { globals = λ name. value_at name
 
 -- the text and the end of a run over data are those of a run over what is left of the data
 abbrev pub ProjectedRun : Type 0
-ProjectedRun = (needs : Needs) (U : Uses) (setting : Setting) (depth : ℕ) (nodes : Nodes) (ps : Pairs) → Respects setting.answers needs → T (covers needs U setting nodes)
+ProjectedRun = (needs : Needs) (U : Uses) (setting : Setting) (depth : ℕ) (nodes : Nodes)
+        (ps : Pairs) → Respects setting.answers needs → T (covers needs U setting nodes)
     → (let o = meaning setting depth nodes (over_data ps) in
     let p = meaning setting depth nodes (over_data (projected_pairs U false ps)) in
     (o.text ≡ p.text) × (o.end ≡ p.end))
 
--- so data of which the same is left give the same page: a page need be made again only where that changes
+-- so data of which the same is left give the same page: a page need be made again only where that
+-- changes
 abbrev pub SameSight : Type 0
-SameSight = (needs : Needs) (U : Uses) (setting : Setting) (depth : ℕ) (nodes : Nodes) (ps qs : Pairs) → Respects setting.answers needs → T (covers needs U setting nodes)
+SameSight = (needs : Needs) (U : Uses) (setting : Setting) (depth : ℕ) (nodes : Nodes)
+        (ps qs : Pairs) → Respects setting.answers needs → T (covers needs U setting nodes)
     → projected_pairs U false ps ≡ projected_pairs U false qs
     → (let o = meaning setting depth nodes (over_data ps) in
     let p = meaning setting depth nodes (over_data qs) in

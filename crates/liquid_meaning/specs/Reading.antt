@@ -2,16 +2,24 @@
 --     Uses      what is asked of the value of each name
 --     grants U x v      where environments are alike in U, the expression's values are alike in v
 --     Needs      what each call of a filter asks of its input
---     covers needs U setting nodes      U grants all that the template or a partial asks for: a test
-use Rattle.std.specs.Prelude.{Bool, true, false, cond, ◌&&◌, List, [], ◌∷◌, Option, Some, None, codes}
+--     covers needs U setting nodes      U grants all that the template or a partial asks for: a
+--                                       test
+use Rattle.std.specs.Prelude.{Bool, true, false, cond, ◌&&◌, List, [], ◌∷◌, Option, Some, None}
+use Rattle.std.specs.Prelude.{codes}
 use Rattle.std.specs.Fmt.{signed_decimal}
 use Rattle.liquid_model.specs.Texts.{Text}
 use Rattle.liquid_model.specs.Data.{Datum, truth, number, text, text_of}
 use Rattle.liquid_model.specs.Whole.{fits}
 use Rattle.liquid_core.specs.Expression.{Expression, literal, variable, Steps, no_steps, step}
-use Rattle.liquid_evaluation.specs.Tree.{FilterCall, Chain, Atom, bare, compared, Condition, Source, each_of, counted, Window, Bindings, Node, plain, raw, comment, output, assign, increment, decrement, break_loop, continue_loop, cycle, if_true, unless, case_of, for_each, tablerow, capture, ifchanged, include, jekyll_include, render, Nodes, no_nodes, node, Whens, no_whens, when}
+use Rattle.liquid_evaluation.specs.Tree.{FilterCall, Chain, Atom, bare, compared, Condition, Source}
+use Rattle.liquid_evaluation.specs.Tree.{each_of, counted, Window, Bindings, Node, plain, raw}
+use Rattle.liquid_evaluation.specs.Tree.{comment, output, assign, increment, decrement, break_loop}
+use Rattle.liquid_evaluation.specs.Tree.{continue_loop, cycle, if_true, unless, case_of, for_each}
+use Rattle.liquid_evaluation.specs.Tree.{tablerow, capture, ifchanged, include, jekyll_include}
+use Rattle.liquid_evaluation.specs.Tree.{render, Nodes, no_nodes, node, Whens, no_whens, when}
 use Rattle.liquid_meaning.specs.Meaning.{Setting}
-use Rattle.liquid_model.specs.Uses.{Use, everything, parts, no_fields, every, there, is_everything, asks_whether, present, use_at, includes}
+use Rattle.liquid_model.specs.Uses.{Use, everything, parts, no_fields, every, there, is_everything}
+use Rattle.liquid_model.specs.Uses.{asks_whether, present, use_at, includes}
 
 abbrev pub Uses : Type 0
 Uses = Text → Use
@@ -38,7 +46,8 @@ unfoldable mutual
   grants U (literal d) v = true
   grants U (variable name steps) v = grants_along U (U name) steps v
 
-  -- u is asked of the value that the steps begin at. A step that is known asks a member, and any other step everything
+  -- u is asked of the value that the steps begin at. A step that is known asks a member, and any
+  -- other step everything
   pub grants_along : Uses → Use → Steps → Use → Bool
   grants_along U u no_steps v = includes u v
   grants_along U u (step x more) v = by_key (key x) (λ k. grants_along U (use_at k u) more v) (is_everything u && (grants U x everything && grants_along U everything more v))
@@ -67,7 +76,8 @@ use_before needs [] v = v
 use_before needs (call ∷ calls) v = present (needs call (use_before needs calls v))
 
 unfoldable pub grants_chain : Needs → Uses → Use → Chain → Bool
-grants_chain needs U v chain = grants U chain.entry (use_before needs chain.filters v) && grants_filters U chain.filters
+grants_chain needs U v chain = grants U chain.entry (use_before needs chain.filters v) &&
+        grants_filters U chain.filters
 
 -- the truth of a value is seen by its kind
 unfoldable pub grants_atom : Uses → Atom → Bool
@@ -80,7 +90,8 @@ grants_atoms U (atom ∷ atoms) = grants_atom U atom && grants_atoms U atoms
 
 unfoldable pub grants_condition : Uses → Condition → Bool
 grants_condition U [] = true
-grants_condition U (conjunction ∷ conjunctions) = grants_atoms U conjunction && grants_condition U conjunctions
+grants_condition U (conjunction ∷ conjunctions) = grants_atoms U conjunction &&
+        grants_condition U conjunctions
 
 -- of a loop over a value each item is seen as the loop's variable is
 unfoldable pub grants_source : Uses → Text → Source → Bool
@@ -121,17 +132,26 @@ module _ (needs : Needs) where
     grants_node U break_loop = true
     grants_node U continue_loop = true
     grants_node U (cycle group values) = grants_all U values
-    grants_node U (if_true condition body otherwise) = grants_condition U condition && (grants_nodes U body && grants_nodes U otherwise)
-    grants_node U (unless condition body otherwise) = grants_condition U condition && (grants_nodes U body && grants_nodes U otherwise)
-    grants_node U (case_of target whens otherwise) = grants U target everything && (grants_whens U whens && grants_nodes U otherwise)
-    grants_node U (for_each name source window body otherwise) = is_flat (U (codes "forloop")) && (grants_source U name source && (grants_window U window && (grants_nodes U body && grants_nodes U otherwise)))
-    grants_node U (tablerow name source window columns body) = grants_source U name source && (grants_optional U columns && (grants_window U window && grants_nodes U body))
+    grants_node U (if_true condition body otherwise) = grants_condition U condition &&
+            (grants_nodes U body && grants_nodes U otherwise)
+    grants_node U (unless condition body otherwise) = grants_condition U condition &&
+            (grants_nodes U body && grants_nodes U otherwise)
+    grants_node U (case_of target whens otherwise) = grants U target everything &&
+            (grants_whens U whens && grants_nodes U otherwise)
+    grants_node U (for_each name source window body otherwise) = is_flat (U (codes "forloop")) &&
+            (grants_source U name source &&
+            (grants_window U window && (grants_nodes U body && grants_nodes U otherwise)))
+    grants_node U (tablerow name source window columns body) = grants_source U name source &&
+            (grants_optional U columns && (grants_window U window && grants_nodes U body))
     grants_node U (capture name body) = grants_nodes U body
     grants_node U (ifchanged body) = grants_nodes U body
-    grants_node U (include x bindings) = grants U x everything && grants_bindings U (bound_use U) bindings
+    grants_node U (include x bindings) = grants U x everything &&
+            grants_bindings U (bound_use U) bindings
     grants_node U (jekyll_include name bindings) = grants_bindings U all_of bindings
-    grants_node U (render x None bindings) = grants U x everything && grants_bindings U (bound_use U) bindings
-    grants_node U (render x (Some each) bindings) = grants U x everything && (grants_source U each.1 each.0 && grants_bindings U (bound_use U) bindings)
+    grants_node U (render x None bindings) = grants U x everything &&
+            grants_bindings U (bound_use U) bindings
+    grants_node U (render x (Some each) bindings) = grants U x everything &&
+            (grants_source U each.1 each.0 && grants_bindings U (bound_use U) bindings)
 
     pub grants_nodes : Uses → Nodes → Bool
     grants_nodes U no_nodes = true
@@ -139,7 +159,8 @@ module _ (needs : Needs) where
 
     pub grants_whens : Uses → Whens → Bool
     grants_whens U no_whens = true
-    grants_whens U (when values body more) = grants_all U values && (grants_nodes U body && grants_whens U more)
+    grants_whens U (when values body more) = grants_all U values &&
+            (grants_nodes U body && grants_whens U more)
 
   unfoldable pub grants_partials : Uses → List (Text × Nodes) → Bool
   grants_partials U [] = true

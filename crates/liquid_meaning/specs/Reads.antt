@@ -1,6 +1,9 @@
--- The law of reading: a run depends on those parts of its environment alone that its template or a partial can see.
---     AlikeIn U e f      the environments are alike in what U asks of each name, layer by layer, and their registers are equal
---     ReadsAlone      two runs from environments that are alike in U write the same text, end alike, and leave such environments
+-- The law of reading: a run depends on those parts of its environment alone that its template or a
+-- partial can see.
+--     AlikeIn U e f      the environments are alike in what U asks of each name, layer by layer,
+--                        and their registers are equal
+--     ReadsAlone      two runs from environments that are alike in U write the same text, end
+--                     alike, and leave such environments
 use Rattle.std.specs.Prelude.{◌≡◌, ℕ, T, true, cond, List, Some, Result, Ok, Err}
 use Rattle.liquid_model.specs.declared.error.ErrorKind.{ErrorKind}
 use Rattle.liquid_model.specs.Texts.{Text}
@@ -33,10 +36,14 @@ Both R (Ok a) (Err l) = ⊥
 Both R (Err k) (Ok b) = ⊥
 Both R (Err k) (Err l) = k ≡ l
 
--- of two values that are alike in what a call of a filter asks, the answers are alike in what was asked of them
+-- of two values that are alike in what a call of a filter asks, the answers are alike in what was
+-- asked of them
 abbrev pub Respects : FilterAnswers → Needs → Type 0
-Respects answers needs = (call : FilterCall) (v : Use) (e : Environment) (arguments : List Datum) → all_required call.arguments e ≡ Ok arguments
-    → (c d : Datum) → Alike (needs call v) (Some c) (Some d) → Both (λ a b. Alike v (Some a) (Some b)) (answers call.filter c arguments) (answers call.filter d arguments)
+Respects answers needs = (call : FilterCall) (v : Use) (e : Environment) (arguments : List Datum) →
+    all_required call.arguments e ≡ Ok arguments
+    → (c d : Datum) → Alike (needs call v) (Some c) (Some d) →
+        Both (λ a b. Alike v (Some a) (Some b)) (answers call.filter c arguments)
+            (answers call.filter d arguments)
 
 -- the text and the end are the same, and the environments that are left are alike again
 pub record SameRuns {A : Type 0} (U : Uses) (o p : Outcome A) : Type 0 where
@@ -45,8 +52,10 @@ pub record SameRuns {A : Type 0} (U : Uses) (o p : Outcome A) : Type 0 where
   pub left : AlikeIn U o.environment p.environment
 
 abbrev pub ReadsAlone : Type 0
-ReadsAlone = (needs : Needs) (U : Uses) (setting : Setting) (depth : ℕ) (nodes : Nodes) → Respects setting.answers needs → T (covers needs U setting nodes)
-    → (e f : Environment) → AlikeIn U e f → SameRuns U (meaning setting depth nodes e) (meaning setting depth nodes f)
+ReadsAlone = (needs : Needs) (U : Uses) (setting : Setting) (depth : ℕ) (nodes : Nodes) →
+    Respects setting.answers needs → T (covers needs U setting nodes)
+    → (e f : Environment) → AlikeIn U e f →
+        SameRuns U (meaning setting depth nodes e) (meaning setting depth nodes f)
 
 -- filters that see everything
 abbrev pub needs_all : Needs
@@ -61,4 +70,5 @@ whole_names N name = cond (N name) everything nothing
 
 -- these cover the run, so that isolation by names is a case of the law of reading
 abbrev pub NamesCover : Type 0
-NamesCover = (needs : Needs) (setting : Setting) (nodes : Nodes) → covers needs (whole_names (names_of_run setting nodes)) setting nodes ≡ true
+NamesCover = (needs : Needs) (setting : Setting) (nodes : Nodes) →
+    covers needs (whole_names (names_of_run setting nodes)) setting nodes ≡ true

@@ -10,7 +10,8 @@ use Rattle.liquid_core.specs.Expression.{Expression, literal, variable, no_steps
 use Rattle.liquid_model.specs.Maps.{empty, listed}
 use Rattle.liquid_core.specs.Environment.{Environment, new_environment}
 use Rattle.liquid_evaluation.specs.declared.comparison.ComparisonOperator.{ComparisonOperator}
-use Rattle.liquid_evaluation.specs.Tree.{Chain, compared, Source, counted, Window, Node, output, if_true, for_each, Nodes, no_nodes, node}
+use Rattle.liquid_evaluation.specs.Tree.{Chain, compared, Source, counted, Window, Node, output}
+use Rattle.liquid_evaluation.specs.Tree.{if_true, for_each, Nodes, no_nodes, node}
 use Rattle.liquid_evaluation.specs.Evaluation.{FilterAnswers}
 use Rattle.liquid_meaning.specs.Runs.{Nothing, Outcome}
 use Rattle.liquid_meaning.specs.Meaning.{meaning}
@@ -67,7 +68,8 @@ with_data pairs = record (new_environment empty) { globals = listed pairs }
 
 -- with one partial, a depth and data
 abbrev pub ran : List (Text × Nodes) → ℕ → Environment → List Node → Outcome Nothing
-ran partials depth e nodes = meaning (record { answers = no_filters; partials = partials }) depth (tree nodes) e
+ran partials depth e nodes = meaning (record { answers = no_filters;
+        partials = partials }) depth (tree nodes) e
 
 -- with nothing
 abbrev pub page : List Node → Outcome Nothing

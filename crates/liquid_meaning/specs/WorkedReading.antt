@@ -2,15 +2,19 @@
 use Prim.Native.String.{String}
 use Rattle.std.specs.Prelude.{◌≡◌, Bool, true, false, pos, List, [], ◌∷◌, None, codes}
 use Rattle.liquid_model.specs.Texts.{Text}
-use Rattle.liquid_model.specs.Data.{Datum, nil, number, text, array, object, no_items, item, no_pairs, pair}
+use Rattle.liquid_model.specs.Data.{Datum, nil, number, text, array, object, no_items, item}
+use Rattle.liquid_model.specs.Data.{no_pairs, pair}
 use Rattle.liquid_core.specs.Expression.{variable, no_steps, step}
 use Rattle.liquid_evaluation.specs.declared.comparison.ComparisonOperator.TheVariants.{Equals}
-use Rattle.liquid_evaluation.specs.Tree.{each_of, Node, assign, bare, if_true, increment, Nodes, no_nodes, render}
-use Rattle.liquid_model.specs.Uses.{Use, everything, parts, Fields, no_fields, field, uncounted, every, there, use_in}
+use Rattle.liquid_evaluation.specs.Tree.{each_of, Node, assign, bare, if_true, increment, Nodes}
+use Rattle.liquid_evaluation.specs.Tree.{no_nodes, render}
+use Rattle.liquid_model.specs.Uses.{Use, everything, parts, Fields, no_fields, field, uncounted}
+use Rattle.liquid_model.specs.Uses.{every, there, use_in}
 use Rattle.liquid_meaning.specs.Reading.{Uses, covers}
 use Rattle.liquid_meaning.specs.Reads.{needs_all}
 use Rattle.liquid_model.specs.Projected.{projected}
-use Rattle.liquid_meaning.specs.Worked.{name, property, quoted, integer, alone, show, tree, if_compared, for_in, no_filters}
+use Rattle.liquid_meaning.specs.Worked.{name, property, quoted, integer, alone, show, tree}
+use Rattle.liquid_meaning.specs.Worked.{if_compared, for_in, no_filters}
 
 -- of these names these uses
 abbrev pub fields : List (String × Use) → Fields
@@ -29,7 +33,8 @@ abbrev pub of_each : Use → Use
 of_each u = parts no_fields (every u)
 
 abbrev pub covered : List (String × Use) → List (Text × Nodes) → List Node → Bool
-covered fs partials nodes = covers needs_all (asking fs) (record { answers = no_filters; partials = partials }) (tree nodes)
+covered fs partials nodes = covers needs_all (asking fs) (record { answers = no_filters;
+        partials = partials }) (tree nodes)
 
 -- {% for p in products %}{{ p.title }}{% endfor %}
 abbrev pub titles : List Node
@@ -40,7 +45,9 @@ title = with_members (("title", everything) ∷ [])
 
 -- {"title": t, "price": 7, "tags": ["a", "b"]}
 abbrev pub product : String → Datum
-product t = object (pair (codes "price") (number (pos 7)) (pair (codes "tags") (array (item (text (codes "a")) (item (text (codes "b")) no_items))) (pair (codes "title") (text (codes t)) no_pairs)))
+product t = object (pair (codes "price") (number (pos 7))
+        (pair (codes "tags") (array (item (text (codes "a")) (item (text (codes "b")) no_items)))
+        (pair (codes "title") (text (codes t)) no_pairs)))
 
 abbrev pub two_products : Datum
 two_products = array (item (product "x") (item (product "y") no_items))
@@ -50,31 +57,48 @@ only_title t = object (pair (codes "title") (text (codes t)) no_pairs)
 
 pub record WorkedReading : Type 0 where
   pub a_loop : covered (("products", of_each title) ∷ ("p", title) ∷ []) [] titles ≡ true
-  pub a_loop_asks_its_variable : covered (("products", of_each title) ∷ ("p", there) ∷ []) [] titles ≡ false
-  pub a_loop_asks_its_source : covered (("products", of_each there) ∷ ("p", title) ∷ []) [] titles ≡ false
+  pub a_loop_asks_its_variable : covered (("products", of_each title) ∷ ("p", there) ∷
+          []) [] titles ≡ false
+  pub a_loop_asks_its_source : covered (("products", of_each there) ∷ ("p", title) ∷ []) [] titles ≡
+          false
   pub a_loop_asks_how_many : covered (("products", title) ∷ ("p", title) ∷ []) [] titles ≡ false
   -- {{ a.b.c }}
-  pub a_path : covered (("a", with_members (("b", with_members (("c", everything) ∷ [])) ∷ [])) ∷ []) []
+  pub a_path : covered (("a", with_members (("b", with_members (("c", everything) ∷ [])) ∷ [])) ∷
+          []) []
       (show (variable (codes "a") (step (quoted "b") (step (quoted "c") no_steps))) ∷ []) ≡ true
   -- {{ a[b] }}
-  pub a_step_that_is_computed : covered (("a", everything) ∷ ("b", everything) ∷ []) [] (show (variable (codes "a") (step (name "b") no_steps)) ∷ []) ≡ true
-  pub no_member_for_a_computed_step : covered (("a", with_members (("b", everything) ∷ [])) ∷ ("b", everything) ∷ []) [] (show (variable (codes "a") (step (name "b") no_steps)) ∷ []) ≡ false
+  pub a_step_that_is_computed : covered (("a", everything) ∷ ("b", everything) ∷ []) []
+          (show (variable (codes "a") (step (name "b") no_steps)) ∷ []) ≡ true
+  pub no_member_for_a_computed_step : covered (("a", with_members (("b", everything) ∷ [])) ∷
+          ("b", everything) ∷ []) [] (show (variable (codes "a") (step (name "b") no_steps)) ∷ []) ≡
+          false
   -- {% if a.b %}y{% endif %} and {% if a.b == 1 %}y{% endif %}
-  pub a_truth_is_a_kind : covered (("a", with_members (("b", there) ∷ [])) ∷ []) [] (if_true ((bare (property "a" "b") ∷ []) ∷ []) no_nodes no_nodes ∷ []) ≡ true
-  pub a_comparison_asks_all : covered (("a", with_members (("b", there) ∷ [])) ∷ []) [] (if_compared (property "a" "b") Equals (integer 1) [] ∷ []) ≡ false
+  pub a_truth_is_a_kind : covered (("a", with_members (("b", there) ∷ [])) ∷ []) []
+          (if_true ((bare (property "a" "b") ∷ []) ∷ []) no_nodes no_nodes ∷ []) ≡ true
+  pub a_comparison_asks_all : covered (("a", with_members (("b", there) ∷ [])) ∷ []) []
+          (if_compared (property "a" "b") Equals (integer 1) [] ∷ []) ≡ false
   -- {% assign x = a.b %}{{ x.c }}
-  pub an_assigned_value : covered (("a", with_members (("b", with_members (("c", everything) ∷ [])) ∷ [])) ∷ ("x", with_members (("c", everything) ∷ [])) ∷ []) []
+  pub an_assigned_value : covered
+          (("a", with_members (("b", with_members (("c", everything) ∷ [])) ∷ [])) ∷
+          ("x", with_members (("c", everything) ∷ [])) ∷ []) []
       (assign (codes "x") (alone (property "a" "b")) ∷ show (property "x" "c") ∷ []) ≡ true
   pub an_unread_value : covered [] [] (assign (codes "x") (alone (name "a")) ∷ []) ≡ false
   -- {% render 'p' v: a.b %} and a partial {{ v.c }}
-  pub a_partial : covered (("a", with_members (("b", with_members (("c", everything) ∷ [])) ∷ [])) ∷ ("v", with_members (("c", everything) ∷ [])) ∷ []) ((codes "p", tree (show (property "v" "c") ∷ [])) ∷ [])
+  pub a_partial : covered (("a", with_members (("b", with_members (("c", everything) ∷ [])) ∷ [])) ∷
+          ("v", with_members (("c", everything) ∷ [])) ∷ [])
+          ((codes "p", tree (show (property "v" "c") ∷ [])) ∷ [])
       (render (quoted "p") None ((codes "v", property "a" "b") ∷ []) ∷ []) ≡ true
   pub a_partial_is_looked_at : covered [] ((codes "p", tree (show (name "v") ∷ [])) ∷ []) [] ≡ false
   -- {% increment n %}
   pub a_counter : covered (("n", there) ∷ []) [] (increment (codes "n") ∷ []) ≡ true
   -- what is left
-  pub items_with_one_member : projected (of_each title) two_products ≡ array (item (only_title "x") (item (only_title "y") no_items))
-  pub a_length : projected (with_members (("size", everything) ∷ [])) two_products ≡ array (item nil (item nil no_items))
-  pub a_first_item : projected (with_members (("first", title) ∷ [])) two_products ≡ array (item (only_title "x") (item (only_title "y") no_items))
+  pub items_with_one_member : projected (of_each title) two_products ≡
+          array (item (only_title "x") (item (only_title "y") no_items))
+  pub a_length : projected (with_members (("size", everything) ∷ [])) two_products ≡
+          array (item nil (item nil no_items))
+  pub a_first_item : projected (with_members (("first", title) ∷ [])) two_products ≡
+          array (item (only_title "x") (item (only_title "y") no_items))
   pub only_whether : projected there two_products ≡ array no_items
-  pub a_map_gone_over : projected (of_each (with_members (("0", everything) ∷ []))) (product "x") ≡ object (pair (codes "price") nil (pair (codes "tags") nil (pair (codes "title") nil no_pairs)))
+  pub a_map_gone_over : projected (of_each (with_members (("0", everything) ∷ []))) (product "x") ≡
+          object (pair (codes "price") nil
+          (pair (codes "tags") nil (pair (codes "title") nil no_pairs)))

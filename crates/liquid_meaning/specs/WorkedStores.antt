@@ -1,17 +1,23 @@
 -- Worked runs of what stores: variables, counters, groups of `cycle`, and buffers.
 use Rattle.std.specs.Prelude.{◌≡◌, pos, negsuc, List, [], ◌∷◌, Some, None, codes}
 use Rattle.liquid_model.specs.Texts.{Text}
-use Rattle.liquid_model.specs.Data.{Datum, number, text, object, pair, no_pairs, array, item, no_items}
-use Rattle.liquid_model.specs.declared.error.ErrorKind.TheVariants.{UnknownVariable, CycleBounds, NumberRange}
+use Rattle.liquid_model.specs.Data.{Datum, number, text, object, pair, no_pairs, array, item}
+use Rattle.liquid_model.specs.Data.{no_items}
+use Rattle.liquid_model.specs.declared.error.ErrorKind.TheVariants.{UnknownVariable, CycleBounds}
+use Rattle.liquid_model.specs.declared.error.ErrorKind.TheVariants.{NumberRange}
 use Rattle.liquid_core.specs.declared.interrupt.Interrupt.TheVariants.{Break}
 use Rattle.liquid_core.specs.Expression.{Expression, variable, no_steps, step}
 use Rattle.liquid_model.specs.Maps.{empty, listed}
 use Rattle.liquid_core.specs.Environment.{Environment, new_environment}
 use Rattle.liquid_evaluation.specs.declared.comparison.ComparisonOperator.TheVariants.{GreaterThan}
-use Rattle.liquid_evaluation.specs.Tree.{Node, plain, assign, increment, decrement, break_loop, cycle, capture, ifchanged}
+use Rattle.liquid_evaluation.specs.Tree.{Node, plain, assign, increment, decrement, break_loop}
+use Rattle.liquid_evaluation.specs.Tree.{cycle, capture, ifchanged}
 use Rattle.liquid_evaluation.specs.Groups.{group_of}
 use Rattle.liquid_meaning.specs.Runs.{Nothing, Outcome}
-use Rattle.liquid_meaning.specs.Worked.{name, property, quoted, integer, alone, show, tree, if_compared, from_to, for_in, with_data, ran, page, Writes, WritesThen, assigned_after, counter_after, group_after, interrupt_after}
+use Rattle.liquid_meaning.specs.Worked.{name, property, quoted, integer, alone, show, tree}
+use Rattle.liquid_meaning.specs.Worked.{if_compared, from_to, for_in, with_data, ran, page, Writes}
+use Rattle.liquid_meaning.specs.Worked.{WritesThen, assigned_after, counter_after, group_after}
+use Rattle.liquid_meaning.specs.Worked.{interrupt_after}
 
 -- a `cycle` with a name, and one without
 abbrev pub cycle_named : Expression → List Expression → Node
@@ -32,11 +38,14 @@ from e nodes = ran [] 32 e nodes
 
 pub record WorkedStores : Type 0 where
   -- {% assign val = 9 %}{% increment val %}{% increment val %}{{ val }}
-  pub counters_are_their_own : Writes (page (assign (codes "val") (alone (integer 9)) ∷ increment (codes "val") ∷ increment (codes "val") ∷ show (name "val") ∷ [])) "019"
+  pub counters_are_their_own : Writes
+          (page (assign (codes "val") (alone (integer 9)) ∷ increment (codes "val") ∷
+          increment (codes "val") ∷ show (name "val") ∷ [])) "019"
   -- {% decrement val %}{{ val }}
   pub counters_are_found : Writes (page (decrement (codes "val") ∷ show (name "val") ∷ [])) "-1-1"
   -- {% increment val %}{% increment val %}{% decrement val %}{% decrement val %}
-  pub up_and_down : Writes (page (increment (codes "val") ∷ increment (codes "val") ∷ decrement (codes "val") ∷ decrement (codes "val") ∷ [])) "0110"
+  pub up_and_down : Writes (page (increment (codes "val") ∷ increment (codes "val") ∷
+          decrement (codes "val") ∷ decrement (codes "val") ∷ [])) "0110"
   -- {% increment n %} where the counter is the text 41
   pub text_counter :
       let o = from (with_counters ((codes "n", text (codes "41")) ∷ [])) (increment (codes "n") ∷ []) in
@@ -47,13 +56,20 @@ pub record WorkedStores : Type 0 where
       WritesThen o "" NumberRange × (counter_after o "n" ≡ Some (number (pos 9223372036854775807)))
   pub least :
       let o = from (with_counters ((codes "n", number (negsuc 9223372036854775807)) ∷ [])) (decrement (codes "n") ∷ []) in
-      WritesThen o "" NumberRange × (counter_after o "n" ≡ Some (number (negsuc 9223372036854775807)))
-  -- {% increment n %}{{ n }} where 5 is assigned to n, and where n is 5 in the data: these agree by look-up, and not layer by layer
-  pub assigned_first : Writes (from (with_assigned ((codes "n", number (pos 5)) ∷ [])) (increment (codes "n") ∷ show (name "n") ∷ [])) "05"
-  pub data_last : Writes (from (with_data ((codes "n", number (pos 5)) ∷ [])) (increment (codes "n") ∷ show (name "n") ∷ [])) "01"
-  -- {% assign a = 1 %}x{{ a.b }} where a is {"b": 2} in the data: the first layer that holds the name decides
-  pub first_layer_decides : WritesThen (from (with_data ((codes "a", object (pair (codes "b") (number (pos 2)) no_pairs)) ∷ []))
-      (assign (codes "a") (alone (integer 1)) ∷ plain (codes "x") ∷ show (property "a" "b") ∷ [])) "x" UnknownVariable
+      WritesThen o "" NumberRange ×
+          (counter_after o "n" ≡ Some (number (negsuc 9223372036854775807)))
+  -- {% increment n %}{{ n }} where 5 is assigned to n, and where n is 5 in the data: these agree by
+  -- look-up, and not layer by layer
+  pub assigned_first : Writes (from (with_assigned ((codes "n", number (pos 5)) ∷ []))
+          (increment (codes "n") ∷ show (name "n") ∷ [])) "05"
+  pub data_last : Writes (from (with_data ((codes "n", number (pos 5)) ∷ []))
+          (increment (codes "n") ∷ show (name "n") ∷ [])) "01"
+  -- {% assign a = 1 %}x{{ a.b }} where a is {"b": 2} in the data: the first layer that holds the
+  -- name decides
+  pub first_layer_decides : WritesThen
+          (from (with_data ((codes "a", object (pair (codes "b") (number (pos 2)) no_pairs)) ∷ []))
+      (assign (codes "a") (alone (integer 1)) ∷ plain (codes "x") ∷ show (property "a" "b") ∷ []))
+              "x" UnknownVariable
   -- {% cycle c: 1, 2 %}\n{% cycle c: 1 %}\n
   pub cycle_bounds :
       let o = page (cycle_named (name "c") (integer 1 ∷ integer 2 ∷ []) ∷ plain (codes "\n") ∷ cycle_named (name "c") (integer 1 ∷ []) ∷ plain (codes "\n") ∷ []) in
@@ -83,12 +99,16 @@ pub record WorkedStores : Type 0 where
   -- {% capture a %}x{% break %}y{% endcapture %}z
   pub interrupted_capture :
       let o = page (capture (codes "a") (tree (plain (codes "x") ∷ break_loop ∷ plain (codes "y") ∷ [])) ∷ plain (codes "z") ∷ []) in
-      Writes o "" × ((assigned_after o "a" ≡ Some (text (codes "x"))) × (interrupt_after o ≡ Some Break))
-  -- {% for a in (0..10) %}{% ifchanged %}\nHey! {% if a > 5 %}Numbers are now bigger than 5!{% endif %}{% endifchanged %}{% endfor %}
+      Writes o "" × ((assigned_after o "a" ≡ Some (text (codes "x"))) ×
+              (interrupt_after o ≡ Some Break))
+  -- {% for a in (0..10) %}{% ifchanged %}\nHey! {% if a > 5 %}Numbers are now bigger than 5!{%
+  -- endif %}{% endifchanged %}{% endfor %}
   pub changes_alone_are_written : Writes (page (for_in "a" (from_to 0 10)
-      (ifchanged (tree (plain (codes "\nHey! ") ∷ if_compared (name "a") GreaterThan (integer 5) (plain (codes "Numbers are now bigger than 5!") ∷ []) ∷ [])) ∷ []) ∷ []))
+      (ifchanged (tree (plain (codes "\nHey! ") ∷ if_compared (name "a") GreaterThan (integer 5)
+              (plain (codes "Numbers are now bigger than 5!") ∷ []) ∷ [])) ∷ []) ∷ []))
       "\nHey! \nHey! Numbers are now bigger than 5!"
-  -- {% for i in (1..2) %}{% ifchanged %}a{% ifchanged %}b{% endifchanged %}{% endifchanged %}{% endfor %}
+  -- {% for i in (1..2) %}{% ifchanged %}a{% ifchanged %}b{% endifchanged %}{% endifchanged %}{%
+  -- endfor %}
   pub nested_changes :
       let o = page (for_in "i" (from_to 1 2) (ifchanged (tree (plain (codes "a") ∷ ifchanged (tree (plain (codes "b") ∷ [])) ∷ [])) ∷ []) ∷ []) in
       Writes o "abab" × (o.environment.registers.changed ≡ Some (codes "ab"))

@@ -2,14 +2,18 @@
 
 ghost use Rattle.liquid_meaning.specs.Assigning.{AssignedAnywhere};
 ghost use Rattle.liquid_meaning.specs.FilterNeeds.{KnownRespected};
-ghost use Rattle.liquid_meaning.specs.Isolation.{Isolation, AgreeingRuns, OthersKept, RenderLeavesAll, RenderSeesItsValues, Headline};
+ghost use Rattle.liquid_meaning.specs.Isolation.{Isolation, AgreeingRuns, OthersKept};
+ghost use Rattle.liquid_meaning.specs.Isolation.{RenderLeavesAll, RenderSeesItsValues, Headline};
 ghost use Rattle.liquid_evaluation.specs.Laws.{CountedWindow};
 ghost use Rattle.liquid_meaning.specs.LoopLaws.{RangeLaw, RowLaw, WindowLaw};
 ghost use Rattle.liquid_meaning.specs.ProjectedRuns.{ProjectedRun, SameSight};
 ghost use Rattle.liquid_meaning.specs.Reads.{AllRespect, NamesCover, ReadsAlone};
-ghost use Rattle.liquid_meaning.specs.Laws.{AssignedInLoop, AssignedStay, ForloopCountsItems, KindsOfOwnRuns, KindsOfRuns, KindsWithHost, TextIsItself};
+ghost use Rattle.liquid_meaning.specs.Laws.{AssignedInLoop, AssignedStay, ForloopCountsItems};
+ghost use Rattle.liquid_meaning.specs.Laws.{KindsOfOwnRuns, KindsOfRuns, KindsWithHost};
+ghost use Rattle.liquid_meaning.specs.Laws.{TextIsItself};
 
-/// The laws of isolation: a run depends on the names that its template or a partial mentions, and leaves all others alone.
+/// The laws of isolation: a run depends on the names that its template or a partial mentions, and
+/// leaves all others alone.
 pub fn isolation_laws()
     ensures headline { Headline }
     ensures isolation { Isolation }
@@ -19,9 +23,10 @@ pub fn isolation_laws()
     ensures render_sees { RenderSeesItsValues }
 {}
 
-/// Further laws of runs. A text is itself; what is assigned stays, also after a loop (a `render` leaves nothing: [isolation_laws]);
-/// the numbers of `forloop` fit together; and every run ends by a kind that is one of runs, where the filters do, as all that
-/// exist do, or else by `Memory`, where a filter of a host answers that.
+/// Further laws of runs. A text is itself; what is assigned stays, also after a loop (a `render`
+/// leaves nothing: [isolation_laws]); the numbers of `forloop` fit together; and every run ends by
+/// a kind that is one of runs, where the filters do, as all that exist do, or else by `Memory`,
+/// where a filter of a host answers that.
 pub fn run_laws()
     ensures text { TextIsItself }
     ensures stays { AssignedStay }
@@ -33,7 +38,8 @@ pub fn run_laws()
     ensures host_kinds { KindsWithHost }
 {}
 
-/// Laws of a loop's items: which of them a window asks for, what a range counts, both together, and where the rows of a table end.
+/// Laws of a loop's items: which of them a window asks for, what a range counts, both together, and
+/// where the rows of a table end.
 pub fn loop_laws()
     ensures window { WindowLaw }
     ensures range { RangeLaw }
@@ -41,7 +47,8 @@ pub fn loop_laws()
     ensures rows { RowLaw }
 {}
 
-/// The law of reading: a run depends on those parts of its environment alone that its template or a partial can see.
+/// The law of reading: a run depends on those parts of its environment alone that its template or a
+/// partial can see.
 pub fn reading_laws()
     ensures reads { ReadsAlone }
     ensures all { AllRespect }

@@ -1,4 +1,4 @@
-//! Worked runs and names: templates whose meaning can be told by reading them.
+//! Worked runs and names: templates whose meaning can be seen by reading them.
 
 ghost use Rattle.liquid_meaning.specs.WorkedLoops.{WorkedLoops};
 ghost use Rattle.liquid_meaning.specs.WorkedNames.{WorkedNames};

@@ -4,7 +4,8 @@ use Rattle.std.specs.declared.cmp.Ordering.{Ordering}
 use Rattle.std.specs.declared.cmp.Ordering.TheVariants.{Less, Equal, Greater}
 use Rattle.std.specs.Ordering.{nat_cmp, int_cmp, bool_cmp}
 use Rattle.std.specs.Cmp.Lexicographic.{slice_cmp}
-use Rattle.liquid_model.specs.Data.{Datum, truth, number, text, array, object, Items, no_items, item, Pairs, no_pairs, pair}
+use Rattle.liquid_model.specs.Data.{Datum, truth, number, text, array, object, Items, no_items}
+use Rattle.liquid_model.specs.Data.{item, Pairs, no_pairs, pair}
 use Rattle.liquid_model.specs.Order.{same}
 
 -- what decides between two places that are not equal: the keys where they differ
@@ -13,7 +14,8 @@ by_key Less at_values = Some Less
 by_key Equal at_values = at_values
 by_key Greater at_values = Some Greater
 
--- an answer within truth values, numbers, texts, lists and maps alone; of lists and maps the first unequal place decides
+-- an answer within truth values, numbers, texts, lists and maps alone; of lists and maps the first
+-- unequal place decides
 abbrev mutual
   pub compare : Datum → Datum → Option Ordering
   compare (truth a) (truth b) = Some (bool_cmp a b)
@@ -33,4 +35,5 @@ abbrev mutual
   pairs_compare no_pairs no_pairs = Some Equal
   pairs_compare no_pairs (pair l e ns) = Some Less
   pairs_compare (pair k d ms) no_pairs = Some Greater
-  pairs_compare (pair k d ms) (pair l e ns) = by_key (slice_cmp nat_cmp k l) (if same d e then pairs_compare ms ns else compare d e)
+  pairs_compare (pair k d ms) (pair l e ns) =
+      by_key (slice_cmp nat_cmp k l) (if same d e then pairs_compare ms ns else compare d e)

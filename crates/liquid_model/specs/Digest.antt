@@ -2,7 +2,8 @@
 use Rattle.std.specs.Prelude.{◌≡◌, ℕ, suc, List, [], ◌++◌, true}
 use Rattle.std.specs.Hash as fed
 use Rattle.std.proofs.Common.{ap}
-use Rattle.liquid_model.specs.Data.{Datum, nil, truth, number, text, array, object, Items, no_items, item, Pairs, no_pairs, pair}
+use Rattle.liquid_model.specs.Data.{Datum, nil, truth, number, text, array, object, Items, no_items}
+use Rattle.liquid_model.specs.Data.{item, Pairs, no_pairs, pair}
 use Rattle.liquid_model.specs.Order.{same}
 use Rattle.liquid_model.specs.OrderLaws.{same_Decides}
 

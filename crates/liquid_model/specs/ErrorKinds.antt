@@ -1,7 +1,20 @@
 -- Kinds of faults: their numbers and names, and those that stand outside of a template's meaning.
 use Rattle.std.specs.Prelude.{◌≡◌, ℕ, Bool, true, false, List, codes, MatchBool, ⊤}
 use Rattle.liquid_model.specs.declared.error.ErrorKind.{ErrorKind}
-use Rattle.liquid_model.specs.declared.error.ErrorKind.TheVariants.{UnknownVariable, InvalidInput, InvalidArgument, UnexpectedValue, NumberRange, DivideByZero, Float, CycleBounds, ZeroColumns, RangeTooLong, UnknownPartial, PartialName, TooDeep, DateFormat, TimezoneRange, Unsupported, Memory, Write, Unclosed, BadItem, NumberLiteral, FloatLiteral, StateWord, UnknownTag, UnknownFilter, FilterArguments, Expected, MissingEnd, TooNested}
+use Rattle.liquid_model.specs.declared.error.ErrorKind.TheVariants.{UnknownVariable, InvalidInput}
+use Rattle.liquid_model.specs.declared.error.ErrorKind.TheVariants.{InvalidArgument}
+use Rattle.liquid_model.specs.declared.error.ErrorKind.TheVariants.{UnexpectedValue, NumberRange}
+use Rattle.liquid_model.specs.declared.error.ErrorKind.TheVariants.{DivideByZero, Float}
+use Rattle.liquid_model.specs.declared.error.ErrorKind.TheVariants.{CycleBounds, ZeroColumns}
+use Rattle.liquid_model.specs.declared.error.ErrorKind.TheVariants.{RangeTooLong, UnknownPartial}
+use Rattle.liquid_model.specs.declared.error.ErrorKind.TheVariants.{PartialName, TooDeep}
+use Rattle.liquid_model.specs.declared.error.ErrorKind.TheVariants.{DateFormat, TimezoneRange}
+use Rattle.liquid_model.specs.declared.error.ErrorKind.TheVariants.{Unsupported, Memory, Write}
+use Rattle.liquid_model.specs.declared.error.ErrorKind.TheVariants.{Unclosed, BadItem}
+use Rattle.liquid_model.specs.declared.error.ErrorKind.TheVariants.{NumberLiteral, FloatLiteral}
+use Rattle.liquid_model.specs.declared.error.ErrorKind.TheVariants.{StateWord, UnknownTag}
+use Rattle.liquid_model.specs.declared.error.ErrorKind.TheVariants.{UnknownFilter, FilterArguments}
+use Rattle.liquid_model.specs.declared.error.ErrorKind.TheVariants.{Expected, MissingEnd, TooNested}
 
 abbrev pub is_memory : ErrorKind → Bool
 is_memory Memory = true

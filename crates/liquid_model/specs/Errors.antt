@@ -11,7 +11,8 @@ use Rattle.liquid_model.specs.declared.location.Origin.TheVariants.{Template, Pa
 
 -- memory ran out, or the fault has this message
 abbrev pub HasMessageUnlessMemory : List ℕ → Error → Type 0
-HasMessageUnlessMemory message e = MatchBool (is_memory e.kind) ⊤ (option_map string_bytes e.message ≡ Some message)
+HasMessageUnlessMemory message e =
+    MatchBool (is_memory e.kind) ⊤ (option_map string_bytes e.message ≡ Some message)
 
 -- what stands before a line and a column: nothing for the template itself
 abbrev pub origin_text : Origin → List ℕ
@@ -21,26 +22,34 @@ origin_text Data = codes "in the data: "
 
 -- `line 3, column 5`, with the partial or the data named before it
 abbrev pub location_text : Location → List ℕ
-location_text l = origin_text l.origin ++ (codes "line " ++ (decimal l.line ++ (codes ", column " ++ decimal l.column)))
+location_text l = origin_text l.origin ++
+        (codes "line " ++ (decimal l.line ++ (codes ", column " ++ decimal l.column)))
 
--- the same of a fault that the partial of this name tells: what it tells as its own text is that of the partial
+-- the same of a fault that the partial of this name tells: what it tells as its own text is that of
+-- the partial
 abbrev pub partial_origin_text : List ℕ → Origin → List ℕ
 partial_origin_text name Template = codes "in the partial `" ++ (name ++ codes "`: ")
 partial_origin_text name (Partial inner) = origin_text (Partial inner)
 partial_origin_text name Data = origin_text Data
 
 abbrev pub partial_location_text : List ℕ → Location → List ℕ
-partial_location_text name l = partial_origin_text name l.origin ++ (codes "line " ++ (decimal l.line ++ (codes ", column " ++ decimal l.column)))
+partial_location_text name l = partial_origin_text name l.origin ++
+        (codes "line " ++ (decimal l.line ++ (codes ", column " ++ decimal l.column)))
 
 -- `KIND: LOCATION: MESSAGE`, without the parts that the fault doesn't have
 abbrev pub error_text : Error → List ℕ
-error_text e = name_of e.kind ++ (option_map_or (λ l. codes ": " ++ location_text l.value) e.location [] ++ option_map_or (λ m. codes ": " ++ string_bytes m) e.message [])
+error_text e =
+    name_of e.kind ++ (option_map_or (λ l. codes ": " ++ location_text l.value) e.location [] ++
+        option_map_or (λ m. codes ": " ++ string_bytes m) e.message [])
 
 -- what is said of an expression without a value, by its written form
 abbrev pub without_value_message : List ℕ → List ℕ
-without_value_message written = codes "`" ++ (written ++ codes "` has no value; look at its spelling, or give it one by `assign` or `default`")
+without_value_message written =
+    codes "`" ++ (written ++
+        codes "` has no value; look at its spelling, or give it one by `assign` or `default`")
 
 -- what is said of a path that leads to nothing
 abbrev pub nowhere_message : List Datum → List ℕ
 nowhere_message [] = codes "an empty path leads to no value"
-nowhere_message (name ∷ path) = codes "the path from `" ++ (text_of name ++ codes "` leads to no value")
+nowhere_message (name ∷ path) = codes "the path from `" ++
+        (text_of name ++ codes "` leads to no value")

@@ -1,6 +1,8 @@
 -- Finding along a path.
-use Rattle.std.specs.Prelude.{codes, ℕ, zero, suc, ◌-◌, min, ℤ, pos, negsuc, List, [], ◌∷◌, Option, Some, None, if◌then◌else◌, length, nat_le, option_and_then, bytes_eq}
-use Rattle.liquid_model.specs.Data.{Datum, nil, truth, number, text, array, object, Items, no_items, item, Pairs, no_pairs, pair, text_of, scalar}
+use Rattle.std.specs.Prelude.{codes, ℕ, zero, suc, ◌-◌, min, ℤ, pos, negsuc, List, [], ◌∷◌, Option}
+use Rattle.std.specs.Prelude.{Some, None, if◌then◌else◌, length, nat_le, option_and_then, bytes_eq}
+use Rattle.liquid_model.specs.Data.{Datum, nil, truth, number, text, array, object, Items, no_items}
+use Rattle.liquid_model.specs.Data.{item, Pairs, no_pairs, pair, text_of, scalar}
 use Rattle.liquid_model.specs.Digest.{items_len, pairs_len}
 use Rattle.liquid_model.specs.Whole.{whole}
 

@@ -1,7 +1,8 @@
 -- Lists and objects as lists of data.
 use Rattle.std.specs.Prelude.{List, [], ◌∷◌}
 use Rattle.liquid_model.specs.Texts.{Text}
-use Rattle.liquid_model.specs.Data.{Datum, text, array, object, Items, no_items, item, Pairs, no_pairs, pair, put}
+use Rattle.liquid_model.specs.Data.{Datum, text, array, object, Items, no_items, item, Pairs}
+use Rattle.liquid_model.specs.Data.{no_pairs, pair, put}
 
 abbrev pub list_of : Items → List Datum
 list_of no_items = []

@@ -4,7 +4,8 @@ use Rattle.std.specs.declared.cmp.Ordering.{Ordering}
 use Rattle.std.specs.declared.cmp.Ordering.TheVariants.{Less, Equal, Greater}
 use Rattle.std.specs.Ordering.{ordering_then, nat_cmp, int_cmp, bool_cmp, is_eq}
 use Rattle.std.specs.Cmp.Lexicographic.{slice_cmp}
-use Rattle.liquid_model.specs.Data.{Datum, nil, truth, number, text, array, object, Items, no_items, item, Pairs, no_pairs, pair}
+use Rattle.liquid_model.specs.Data.{Datum, nil, truth, number, text, array, object, Items, no_items}
+use Rattle.liquid_model.specs.Data.{item, Pairs, no_pairs, pair}
 
 -- the place of a kind among the six
 abbrev pub rank : Datum → ℕ
@@ -33,13 +34,16 @@ abbrev mutual
   items_order no_items no_items = Equal
   items_order no_items (item e es) = Less
   items_order (item d ds) no_items = Greater
-  items_order (item d ds) (item e es) = ordering_then (by_rank d e (order_within d e)) (items_order ds es)
+  items_order (item d ds) (item e es) = ordering_then (by_rank d e (order_within d e))
+          (items_order ds es)
 
   pub pairs_order : Pairs → Pairs → Ordering
   pairs_order no_pairs no_pairs = Equal
   pairs_order no_pairs (pair l e ns) = Less
   pairs_order (pair k d ms) no_pairs = Greater
-  pairs_order (pair k d ms) (pair l e ns) = ordering_then (slice_cmp nat_cmp k l) (ordering_then (by_rank d e (order_within d e)) (pairs_order ms ns))
+  pairs_order (pair k d ms) (pair l e ns) =
+      ordering_then (slice_cmp nat_cmp k l) (ordering_then (by_rank d e (order_within d e))
+          (pairs_order ms ns))
 
 -- kinds by their rank, then within the kind
 abbrev pub order : Datum → Datum → Ordering

@@ -5,7 +5,8 @@
 --     includes u v      u asks for all that v asks for;   join u v      all that both ask for
 --     items_wanted u      all that is asked of an item of a list of which u is asked
 --     IncludedAlike, JoinedAlike      the laws of `includes` and `join`
-use Rattle.std.specs.Prelude.{◌≡◌, T, Bool, true, false, cond, ◌&&◌, ◌||◌, is_some, codes, List, [], ◌∷◌, Option, Some, None}
+use Rattle.std.specs.Prelude.{◌≡◌, T, Bool, true, false, cond, ◌&&◌, ◌||◌, is_some, codes, List, []}
+use Rattle.std.specs.Prelude.{◌∷◌, Option, Some, None}
 use Rattle.std.specs.Option.{option_and_then}
 use Rattle.liquid_model.specs.Texts.{Text, same_text}
 use Rattle.liquid_model.specs.Data.{Datum, text, array, object, no_items, no_pairs}
@@ -21,12 +22,14 @@ mutual
     -- whether there is a value, its kind, the value itself where it is a scalar, and these parts
     parts : Fields → ItemUse → Use
 
-  -- what is asked of the members, which one step finds: keys, indexes, `first`, `last` and `size`, each by its text
+  -- what is asked of the members, which one step finds: keys, indexes, `first`, `last` and `size`,
+  -- each by its text
   pub data Fields : Type 0 where
     no_fields : Fields
     field : Text → Use → Fields → Fields
 
-  -- what is asked of the items that a loop goes over: nothing at all, or how many there are and this of each
+  -- what is asked of the items that a loop goes over: nothing at all, or how many there are and
+  -- this of each
   pub data ItemUse : Type 0 where
     uncounted : ItemUse
     every : Use → ItemUse
@@ -74,7 +77,8 @@ abbrev mutual
   pub Alike : Use → Option Datum → Option Datum → Type 0
   Alike nothing o p = Unit {0}
   Alike everything o p = o ≡ p
-  Alike (parts members turns) o p = (shape_of o ≡ shape_of p) × (AlikeFields members o p × AlikeItems turns o p)
+  Alike (parts members turns) o p = (shape_of o ≡ shape_of p) ×
+      (AlikeFields members o p × AlikeItems turns o p)
 
   pub AlikeFields : Fields → Option Datum → Option Datum → Type 0
   AlikeFields no_fields o p = Unit {0}
@@ -82,7 +86,8 @@ abbrev mutual
 
   pub AlikeItems : ItemUse → Option Datum → Option Datum → Type 0
   AlikeItems uncounted o p = Unit {0}
-  AlikeItems (every u) o p = Pairwise (λ d e. Alike u (Some d) (Some e)) (loop_items_of o) (loop_items_of p)
+  AlikeItems (every u) o p = Pairwise (λ d e. Alike u (Some d) (Some e)) (loop_items_of o)
+          (loop_items_of p)
 
 -- ---- what a use asks for
 
@@ -134,7 +139,8 @@ abbrev mutual
   pub includes : Use → Use → Bool
   includes u nothing = true
   includes u everything = is_everything u
-  includes u (parts members turns) = asks_whether u && (includes_fields u members && includes_items u turns)
+  includes u (parts members turns) = asks_whether u &&
+          (includes_fields u members && includes_items u turns)
 
   pub includes_fields : Use → Fields → Bool
   includes_fields u no_fields = true
@@ -157,7 +163,8 @@ abbrev mutual
   join everything v = everything
   join (parts members turns) nothing = parts members turns
   join (parts members turns) everything = everything
-  join (parts members turns) (parts others more) = parts (joined_fields members others) (join_turns turns more)
+  join (parts members turns) (parts others more) =
+      parts (joined_fields members others) (join_turns turns more)
 
   pub join_turns : ItemUse → ItemUse → ItemUse
   join_turns uncounted more = more
@@ -166,7 +173,8 @@ abbrev mutual
 
 -- whether a step by this text finds one item of a list
 abbrev pub is_place : Text → Bool
-is_place key = is_some (whole_text key) || (same_text key (codes "first") || same_text key (codes "last"))
+is_place key = is_some (whole_text key) ||
+        (same_text key (codes "first") || same_text key (codes "last"))
 
 -- what is asked of items that are found by their place
 abbrev pub of_places : Fields → Use

@@ -1,7 +1,8 @@
 -- The datum that a `Value` stands for.
 use Rattle.std.specs.Prelude.{List, [], ◌∷◌, map, String, string_bytes}
 use Rattle.std.specs.declared.alloc.Global.{Global}
-use Rattle.liquid_model.specs.Data.{Datum, nil, truth, number, text, array, object, Items, no_items, item, Pairs, no_pairs, pair}
+use Rattle.liquid_model.specs.Data.{Datum, nil, truth, number, text, array, object, Items, no_items}
+use Rattle.liquid_model.specs.Data.{item, Pairs, no_pairs, pair}
 use Rattle.liquid_model.specs.declared.value.Value.{Value, fold-Value}
 use Rattle.liquid_model.specs.declared.value.Value.TheOpen.{Value-F}
 

@@ -1,4 +1,4 @@
-//! The text of a value, put behind a text that is there, part by part.
+//! The text of a value, put after a text that is there, part by part.
 ghost use Rattle.std.specs.Prelude.{◌++◌, string_bytes};
 ghost use Rattle.liquid_model.specs.Answer.{IsValueOrMemory};
 ghost use Rattle.liquid_model.specs.Appended.{Appended, Begun};
@@ -10,11 +10,15 @@ use crate::value::{Object, Value};
 use itoa::Buffer;
 
 impl Value {
-    /// Appends the text of the value to `out`. Where there is no memory, a beginning of it may stand there, behind what
-    /// was there before.
+    /// Appends the text of the value to `out`. Where there is no memory, a beginning of it may
+    /// stand there, after what was there before.
     pub fn append_text(&self, out: &mut String) -> Result<()>
-        ensures appended { IsValueOrMemory (λ _. string_bytes out.new) result (string_bytes out.old ++ text_of (view self.now)) }
-        ensures begun { Begun (string_bytes out.old) (string_bytes out.new) (text_of (view self.now)) }
+        ensures appended {
+            IsValueOrMemory (λ _. string_bytes out.new) result (string_bytes out.old ++
+                text_of (view self.now))
+        }
+        ensures begun { Begun (string_bytes out.old) (string_bytes out.new)
+                    (text_of (view self.now)) }
     {
         append_value(self, out)
     }
@@ -29,7 +33,8 @@ pub fn append_str(out: &mut String, text: &str) -> Result<()>
 
 #[cycle(append_value)]
 fn append_value(value: &Value, out: &mut String) -> Result<()>
-    ensures { Appended result (string_bytes out.old) (string_bytes out.new) (text_of (view value.now)) }
+    ensures { Appended result (string_bytes out.old) (string_bytes out.new)
+                (text_of (view value.now)) }
 {
     match value {
         Value::Nil => Ok(()),
@@ -43,7 +48,10 @@ fn append_value(value: &Value, out: &mut String) -> Result<()>
 
 #[cycle(append_value)]
 fn append_items(items: &Vec<Value>, out: &mut String) -> Result<()>
-    ensures { Appended result (string_bytes out.old) (string_bytes out.new) (items_text (items_view items.now.items)) }
+    ensures {
+        Appended result (string_bytes out.old) (string_bytes out.new)
+            (items_text (items_view items.now.items))
+    }
 {
     for item in items {
         append_value(item, out)?;
@@ -53,7 +61,10 @@ fn append_items(items: &Vec<Value>, out: &mut String) -> Result<()>
 
 #[cycle(append_value)]
 fn append_pairs(pairs: &Object, out: &mut String) -> Result<()>
-    ensures { Appended result (string_bytes out.old) (string_bytes out.new) (pairs_text (pairs_view pairs.now.entries)) }
+    ensures {
+        Appended result (string_bytes out.old) (string_bytes out.new)
+            (pairs_text (pairs_view pairs.now.entries))
+    }
 {
     for (key, value) in pairs.iter() {
         append_str(out, key.as_str())?;

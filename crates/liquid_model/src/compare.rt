@@ -7,9 +7,9 @@ use crate::value::{Object, Value};
 use std::cmp::Ordering;
 
 impl Value {
-    /// The order of conditions, where there is one: within truth values, numbers and texts, and of two lists
-    /// or two maps by the first unequal place, a beginning being less than the whole. Two nils and unlike
-    /// kinds have none. It takes no memory.
+    /// The order of conditions, where there is one: within truth values, numbers and texts, and of
+    /// two lists or two maps by the first unequal place, a beginning being less than the whole. Two
+    /// nils and unlike kinds have none. It takes no memory.
     pub fn compare(&self, other: &Value) -> Option<Ordering>
         ensures { result ≡ compare (view self.now) (view other.now) }
     {

@@ -162,7 +162,8 @@ pub struct Error {
     pub ghost has_message: { (is_memory kind || is_some message) ≡ true },
 }
 
-/// Drops the fields. By hand, so that a way out of a function that owns one is one call to prove.
+/// Drops the fields. Written by hand, so that each early return drops the value by one call to
+/// prove.
 impl Drop for Error {
     fn drop(self) {
         let Error {
@@ -200,11 +201,12 @@ impl Error {
         }
     }
 
-    /// A fault of this kind with a message that is written out, as a `format_args!` is, or `Memory` where
-    /// there is no room for the message.
+    /// A fault of this kind with a message that is written out, as a `format_args!` is, or `Memory`
+    /// where there is no room for the message.
     pub fn formatted<M: fmt::Display + Drop>(alloc: Global, kind: ErrorKind, message: M) -> Error
         ensures told { IsKindOrMemory kind result.kind }
-        ensures message { IfSome (M.output message) (λ written. HasMessageUnlessMemory written result) }
+        ensures message { IfSome (M.output message)
+                    (λ written. HasMessageUnlessMemory written result) }
     {
         match message.to_string(alloc) {
             Ok(written) => Error::with_message(kind, written),
@@ -212,12 +214,13 @@ impl Error {
         }
     }
 
-    /// The same fault with where it stands. One that says where it stands already keeps that. `Memory`, without a message, where
-    /// there is no room for the location.
+    /// The same fault with where it stands. One that says where it stands already keeps that.
+    /// `Memory`, without a message, where there is no room for the location.
     pub fn located(self, alloc: Global, location: Location) -> Error
         ensures told { IsKindOrMemory self.kind result.kind }
         ensures whole { is_memory result.kind ≡ false → (result.message ≡ self.message)
-            × IsSomeAnd result.location (λ told. (self.location ≡ Some told) ⊎ (told.value ≡ location)) }
+            × IsSomeAnd result.location (λ told. (self.location ≡ Some told) ⊎
+                    (told.value ≡ location)) }
         ensures kept { IfSome self.location (λ known. result ≡ self) }
     {
         if self.location.is_some() {
@@ -238,12 +241,17 @@ impl Error {
         }
     }
 
-    /// The same fault, told by the partial of this name: where it stands in the partial's own text, its location says so now.
+    /// The same fault, reported by the partial of this name: where it stands in the partial's own
+    /// text, its location says so now.
     /// `Memory`, without a message, where there is no room for that.
     pub fn in_partial(self, alloc: Global, name: &str) -> Error
         ensures told { IsKindOrMemory self.kind result.kind }
         ensures message { is_memory result.kind ≡ false → result.message ≡ self.message }
-        ensures location { is_memory result.kind ≡ false → option_map (λ l. location_text l.value) result.location ≡ option_map (λ l. partial_location_text name.now l.value) self.location }
+        ensures location {
+            is_memory result.kind ≡ false →
+            option_map (λ l. location_text l.value) result.location ≡
+                option_map (λ l. partial_location_text name.now l.value) self.location
+        }
     {
         let Error {
             kind,

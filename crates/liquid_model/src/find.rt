@@ -4,7 +4,8 @@ ghost use Rattle.liquid_model.specs.Answer.{IsValueOrMemory};
 ghost use Rattle.liquid_model.specs.Cow.{cow_view};
 ghost use Rattle.liquid_model.specs.Data.{truth, number, array, object, text_of};
 ghost use Rattle.liquid_model.specs.Digest.{pairs_len};
-ghost use Rattle.liquid_model.specs.Find.{find, step, item_from, item_named, item_at, item_back, or_size, scalar_step, value_at, counted};
+ghost use Rattle.liquid_model.specs.Find.{find, step, item_from, item_named, item_at, item_back};
+ghost use Rattle.liquid_model.specs.Find.{or_size, scalar_step, value_at, counted};
 ghost use Rattle.liquid_model.specs.Found.{found_view};
 ghost use Rattle.liquid_model.specs.View.{view, items_view, pairs_view};
 
@@ -16,7 +17,8 @@ use crate::whole::whole_of;
 use itoa::Buffer;
 use std::alloc::Global;
 
-/// Where a path has led: to a value that is held somewhere, or to one that no value holds, as a length.
+/// Where a path has led: to a value that is held somewhere, or to one that no value holds, as a
+/// length.
 #[derive(Drop)]
 pub enum Found<'a> {
     /// A value that is lent.
@@ -30,17 +32,22 @@ pub enum Found<'a> {
 }
 
 impl Value {
-    /// What the path leads to, where it leads to anything; the empty path leads to the value itself.
+    /// What the path leads to, where it leads to anything; the empty path leads to the value
+    /// itself.
     ///
-    /// In a list a step with a whole number is an index (a negative one counts from the end), and `first`,
-    /// `last` and `size` name an end item and the number of items. In a map a step's text is a key, and `size`
-    /// the number of pairs where that key isn't there. In a scalar `size` alone is found: the number of bytes
-    /// of its text. A step that is no scalar finds nothing. Lengths beyond 9223372036854775807 count as that.
+    /// In a list a step with a whole number is an index (a negative one counts from the end), and
+    /// `first`, `last` and `size` name an end item and the number of items. In a map a step's text
+    /// is a key, and `size` the number of pairs where that key isn't there. In a scalar `size`
+    /// alone is found: the number of bytes of its text. A step that is no scalar finds nothing.
+    /// Lengths beyond 9223372036854775807 count as that.
     ///
-    /// What is found is lent, and a length is owned. It takes no memory and is never refused, though the
-    /// signature leaves room for it.
+    /// What is found is lent, and a length is owned. It takes no memory and is never refused,
+    /// though the signature leaves room for it.
     pub fn find<'a>(&'a self, _alloc: Global, path: &[Value]) -> Result<Option<ValueCow<'a>>>
-        ensures value { IsValueOrMemory (λ r. option_map cow_view r) result (find (view self.now) (map view path.now)) }
+        ensures value {
+            IsValueOrMemory (λ r. option_map cow_view r) result
+                (find (view self.now) (map view path.now))
+        }
         ensures no_memory { IsOk result }
     {
         Ok(found_along(self, path))
@@ -145,7 +152,8 @@ fn scalar_stepped<'a>(part: &Value, n: usize) -> Option<Found<'a>>
 }
 
 fn items_stepped<'a>(items: &'a Vec<Value>, part: &Value) -> Option<Found<'a>>
-    ensures { option_map found_view result ≡ step (array (items_view items.now.items)) (view part.now) }
+    ensures { option_map found_view result ≡ step (array (items_view items.now.items))
+                (view part.now) }
 {
     match part {
         Value::Integer(n) => item_from(items, *n),
@@ -159,7 +167,8 @@ fn items_stepped<'a>(items: &'a Vec<Value>, part: &Value) -> Option<Found<'a>>
 }
 
 fn pairs_stepped<'a>(pairs: &'a Object, part: &Value) -> Option<Found<'a>>
-    ensures { option_map found_view result ≡ step (object (pairs_view pairs.now.entries)) (view part.now) }
+    ensures { option_map found_view result ≡ step (object (pairs_view pairs.now.entries))
+                (view part.now) }
 {
     match part {
         Value::Integer(n) => pair_named(pairs, Buffer::new().format(*n)),
@@ -181,7 +190,10 @@ fn size_named<'a>(name: &str, n: usize) -> Option<Found<'a>>
 
 #[tactic(auto, using(crate::proofs::Views::pairs_len_view))]
 fn pair_named<'a>(pairs: &'a Object, name: &str) -> Option<Found<'a>>
-    ensures { option_map found_view result ≡ or_size (value_at name.now (pairs_view pairs.now.entries)) name.now (pairs_len (pairs_view pairs.now.entries)) }
+    ensures {
+        option_map found_view result ≡ or_size (value_at name.now (pairs_view pairs.now.entries))
+            name.now (pairs_len (pairs_view pairs.now.entries))
+    }
 {
     match look_up(pairs, name) {
         Some(value) => Some(Found::Held(value)),

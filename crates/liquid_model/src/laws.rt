@@ -1,5 +1,12 @@
 //! Laws of values and of finding along a path: each function's contract is the law.
-ghost use Rattle.liquid_model.specs.Laws.{EqualityIsAnEquivalence, EqualValuesHashAlike, OrderIsTotal, KindsAreRanked, ScalarsAreOrdered, FirstUnequalPlaceDecides, MapsGoPairByPair, ComparePairByPair, CompareAgreesWithEquality, CompareWithoutAnswer, CompareByFirstUnequalPlace, ListTextIsItemTexts, NumberTextIsRead, FindGoesOn, ScalarsAloneFind, ItemsByIndex, TextsIndexToo, ItemsByName, OwnKeysWin, PutIsFound};
+ghost use Rattle.liquid_model.specs.Laws.{EqualityIsAnEquivalence, EqualValuesHashAlike};
+ghost use Rattle.liquid_model.specs.Laws.{OrderIsTotal, KindsAreRanked, ScalarsAreOrdered};
+ghost use Rattle.liquid_model.specs.Laws.{FirstUnequalPlaceDecides, MapsGoPairByPair};
+ghost use Rattle.liquid_model.specs.Laws.{ComparePairByPair, CompareAgreesWithEquality};
+ghost use Rattle.liquid_model.specs.Laws.{CompareWithoutAnswer, CompareByFirstUnequalPlace};
+ghost use Rattle.liquid_model.specs.Laws.{ListTextIsItemTexts, NumberTextIsRead, FindGoesOn};
+ghost use Rattle.liquid_model.specs.Laws.{ScalarsAloneFind, ItemsByIndex, TextsIndexToo};
+ghost use Rattle.liquid_model.specs.Laws.{ItemsByName, OwnKeysWin, PutIsFound};
 ghost use Rattle.liquid_model.specs.Projected.{ProjectedAlike};
 ghost use Rattle.liquid_model.specs.Uses.{IncludedAlike, JoinedAlike};
 ghost use Rattle.liquid_model.specs.Skipping.{ListWithAllItems, ListWithoutItems};

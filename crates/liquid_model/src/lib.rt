@@ -1,4 +1,5 @@
-//! Values and faults: what values are, how they are ordered, what is found in them, and what a fault says.
+//! Values and faults: what values are, how they are ordered, what is found in them, and what a
+//! fault says.
 #![tactic(auto)]
 
 mod append;

@@ -16,7 +16,8 @@ pub enum Origin {
     Data,
 }
 
-/// Where a fault stands: in which text, and in which line and column there, counted in characters and each from 1.
+/// Where a fault stands: in which text, and in which line and column there, counted in characters
+/// and each from 1.
 #[derive(Debug, PartialEq, Eq, Drop)]
 pub struct Location {
     pub origin: Origin,
@@ -25,7 +26,8 @@ pub struct Location {
 }
 
 impl Location {
-    /// The same location of a fault that the partial of this name tells: what it tells as its own text is that of the partial.
+    /// The same location of a fault that the partial of this name tells: what it tells as its own
+    /// text is that of the partial.
     pub(crate) fn in_partial(self, alloc: Global, name: &str) -> Result<Location, AllocError>
         ensures { IfOk result (λ told. location_text told ≡ partial_location_text name.now self) }
     {

@@ -1,7 +1,9 @@
-//! Equality and the total order: kinds by rank, then by content, lists and maps by the first unequal place.
+//! Equality and the total order: kinds by rank, then by content, lists and maps by the first
+//! unequal place.
 ghost use Rattle.std.specs.Prelude.{◌≡◌, ◌↔◌, IsTrue};
 ghost use Rattle.std.specs.Ordering.{on, as_partial_cmp};
-ghost use Rattle.std.specs.Cmp.{on_equiv, on_total, eq_by_cmp_equiv, partial_equiv_from_equiv, partial_order_from_agreeing_total};
+ghost use Rattle.std.specs.Cmp.{on_equiv, on_total, eq_by_cmp_equiv, partial_equiv_from_equiv};
+ghost use Rattle.std.specs.Cmp.{partial_order_from_agreeing_total};
 ghost use Rattle.std.proofs.Common.{refl};
 ghost use Rattle.liquid_model.specs.Order.{order, items_order, pairs_order, same, rank};
 ghost use Rattle.liquid_model.specs.View.{view, items_view, pairs_view};
@@ -44,7 +46,8 @@ impl Ord for Value {
 impl PartialOrd for Value {
     ghost partial_cmp = { as_partial_cmp (on view order) };
 
-    ghost laws = { partial_order_from_agreeing_total (on view order) (on_total view order_total) (λ x y. refl) (λ x y. refl) };
+    ghost laws = { partial_order_from_agreeing_total (on view order) (on_total view order_total)
+            (λ x y. refl) (λ x y. refl) };
 
     fn partial_cmp(&self, other: &Value) -> Option<Ordering> {
         Some(ordered(self, other))

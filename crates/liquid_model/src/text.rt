@@ -22,8 +22,8 @@ impl fmt::Display for Value {
 }
 
 impl Value {
-    /// The text of the value: of nil it is empty, of a list its items' texts joined by nothing, and of a map
-    /// key and value text, pair after pair.
+    /// The text of the value: of nil it is empty, of a list its items' texts joined by nothing, and
+    /// of a map key and value text, pair after pair.
     pub fn text(&self, alloc: Global) -> Result<String>
         ensures { IsValueOrMemory (λ s. string_bytes s) result (text_of (view self.now)) }
     {
@@ -31,8 +31,9 @@ impl Value {
     }
 }
 
-/// Writes the text of a value: nothing for nil, and of a list or a map the texts of its parts, one behind the other. Where
-/// the writer refuses, a beginning of it may be written. It takes no memory.
+/// Writes the text of a value: nothing for nil, and of a list or a map the texts of its parts, one
+/// after the other. Where the writer refuses, a beginning of it may be written. It takes no
+/// memory.
 #[cycle(write_text)]
 pub fn write_text<W: Write>(value: &Value, f: &mut Formatter<W>) -> fmt::Result
     ensures { WritesOnOk W.write_str_gives f.old result (text_of (view value.now)) f.new }
@@ -49,7 +50,8 @@ pub fn write_text<W: Write>(value: &Value, f: &mut Formatter<W>) -> fmt::Result
 
 #[cycle(write_text)]
 fn write_items<W: Write>(items: &Vec<Value>, f: &mut Formatter<W>) -> fmt::Result
-    ensures { WritesOnOk W.write_str_gives f.old result (items_text (items_view items.now.items)) f.new }
+    ensures { WritesOnOk W.write_str_gives f.old result (items_text (items_view items.now.items))
+                f.new }
 {
     for item in items {
         write_text(item, f)?;
@@ -59,7 +61,8 @@ fn write_items<W: Write>(items: &Vec<Value>, f: &mut Formatter<W>) -> fmt::Resul
 
 #[cycle(write_text)]
 fn write_pairs<W: Write>(pairs: &Object, f: &mut Formatter<W>) -> fmt::Result
-    ensures { WritesOnOk W.write_str_gives f.old result (pairs_text (pairs_view pairs.now.entries)) f.new }
+    ensures { WritesOnOk W.write_str_gives f.old result (pairs_text (pairs_view pairs.now.entries))
+                f.new }
 {
     for (key, value) in pairs.iter() {
         f.write_str(key.as_str())?;

@@ -48,7 +48,8 @@ impl Value {
         }
     }
 
-    /// Whether the filter `default` replaces the value: nil, false and the empty text, list and map.
+    /// Whether the filter `default` replaces the value: nil, false and the empty text, list and
+    /// map.
     pub fn is_default(&self) -> bool
         ensures { result ≡ is_default_datum (view self.now) }
     {

@@ -6,8 +6,8 @@ ghost use Rattle.liquid_model.specs.View.{view};
 use crate::value::Value;
 
 impl Value {
-    /// The whole number of the value, where it has one: a number itself, and of a text that is an optional
-    /// sign and digits, its number where that is within 64 bits. It takes no memory.
+    /// The whole number of the value, where it has one: a number itself, and of a text that is an
+    /// optional sign and digits, its number where that is within 64 bits. It takes no memory.
     pub fn to_integer(&self) -> Option<i64>
         ensures { result ≡ whole (view self.now) }
     {
@@ -19,7 +19,8 @@ impl Value {
     }
 }
 
-/// The whole number that the text writes: an optional sign and digits, within 64 bits. It takes no memory.
+/// The whole number that the text writes: an optional sign and digits, within 64 bits. It takes no
+/// memory.
 pub fn whole_of(text: &str) -> Option<i64>
     ensures { result ≡ whole_text text.now }
 {

@@ -1,5 +1,6 @@
 -- Decimal texts: an optional sign, digits, and optionally a point and more digits.
-use Rattle.std.specs.Prelude.{◌≡◌, ℕ, ℤ, Option, Some, None, Bool, true, ◌&&◌, ◌==◌, false, nat_lt, List, length, if◌then◌else◌}
+use Rattle.std.specs.Prelude.{◌≡◌, ℕ, ℤ, Option, Some, None, Bool, true, ◌&&◌, ◌==◌, false, nat_lt}
+use Rattle.std.specs.Prelude.{List, length, if◌then◌else◌}
 use Rattle.std.specs.List.{position_or_len, before_first, after_first}
 use Rattle.std.specs.Str.{all_ascii_digits}
 use Rattle.std.specs.Str.Parse.{without_leading_sign, starts_with_minus}
@@ -22,7 +23,8 @@ has_point s = nat_lt (position_or_len is_point s) (length s)
 
 -- digits, and where a point follows, digits after it
 abbrev pub is_cut : List ℕ → Bool
-is_cut s = is_numeral (before_first is_point s) && (if has_point s then is_numeral (after_first is_point s) else true)
+is_cut s = is_numeral (before_first is_point s) &&
+        (if has_point s then is_numeral (after_first is_point s) else true)
 
 abbrev pub is_decimal : List ℕ → Bool
 is_decimal s = is_cut (without_leading_sign s)

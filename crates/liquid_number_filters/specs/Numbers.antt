@@ -1,12 +1,16 @@
 -- What the filters over numbers answer, and in what order they refuse.
-use Rattle.std.specs.Prelude.{ℤ, pos, ◌+ℤ◌, ◌-ℤ◌, ◌*ℤ◌, Bool, true, false, ◌&&◌, ◌||◌, not, List, [], ◌∷◌, Result, Ok, Err, Option, Some, None, int_div, int_rem, if◌then◌else◌, is_some, unsigned_abs}
+use Rattle.std.specs.Prelude.{ℤ, pos, ◌+ℤ◌, ◌-ℤ◌, ◌*ℤ◌, Bool, true, false, ◌&&◌, ◌||◌, not, List}
+use Rattle.std.specs.Prelude.{[], ◌∷◌, Result, Ok, Err, Option, Some, None, int_div, int_rem}
+use Rattle.std.specs.Prelude.{if◌then◌else◌, is_some, unsigned_abs}
 use Rattle.std.specs.Int.{int_max, int_min}
 use Rattle.std.specs.Ordering.{int_eq}
 use Rattle.liquid_model.specs.Data.{Datum, number, scalar}
 use Rattle.liquid_model.specs.Fallible.{◌>>=◌}
 use Rattle.liquid_model.specs.Whole.{whole}
 use Rattle.liquid_model.specs.declared.error.ErrorKind.{ErrorKind}
-use Rattle.liquid_model.specs.declared.error.ErrorKind.TheVariants.{InvalidInput, InvalidArgument, DivideByZero, NumberRange, Float}
+use Rattle.liquid_model.specs.declared.error.ErrorKind.TheVariants.{InvalidInput, InvalidArgument}
+use Rattle.liquid_model.specs.declared.error.ErrorKind.TheVariants.{DivideByZero, NumberRange}
+use Rattle.liquid_model.specs.declared.error.ErrorKind.TheVariants.{Float}
 use Rattle.liquid_filter_base.specs.Arguments.{Answer}
 use Rattle.liquid_number_filters.specs.Decimals.{is_decimal_text, if_fits}
 
@@ -35,8 +39,10 @@ abbrev pub both_or : ErrorKind → Option ℤ → Option ℤ → Result (ℤ × 
 both_or kind (Some a) (Some b) = Ok (a, b)
 both_or kind a b = Err kind
 
--- the steps of a filter with an operand, the first that applies: the input is no scalar; the operand is none; the operand is 0 where it divides; both have a whole number; else the last kind
-abbrev pub operands_of : Bool → Bool → Bool → ErrorKind → Option ℤ → Option ℤ → Result (ℤ × ℤ) ErrorKind
+-- the steps of a filter with an operand, the first that applies: the input is no scalar; the
+-- operand is none; the operand is 0 where it divides; both have a whole number; else the last kind
+abbrev pub operands_of : Bool → Bool → Bool → ErrorKind → Option ℤ → Option ℤ →
+    Result (ℤ × ℤ) ErrorKind
 operands_of divides input_scalar operand_scalar kind a b =
     if not input_scalar then Err InvalidInput
     else (if not operand_scalar then Err InvalidArgument

@@ -1,5 +1,7 @@
 -- A decimal text is a whole number over a power of ten, with a sign; brought to a whole number.
-use Rattle.std.specs.Prelude.{ℕ, ℤ, pos, neg_ℤ, ◌+◌, ◌-◌, ◌*◌, ◌^◌, ◌/◌, Bool, true, false, ◌==◌, not, nat_le, int_le, int_lt, List, [], ◌∷◌, ◌++◌, length, Option, Some, None, Ok, Err, if◌then◌else◌, slice_index}
+use Rattle.std.specs.Prelude.{ℕ, ℤ, pos, neg_ℤ, ◌+◌, ◌-◌, ◌*◌, ◌^◌, ◌/◌, Bool, true, false, ◌==◌}
+use Rattle.std.specs.Prelude.{not, nat_le, int_le, int_lt, List, [], ◌∷◌, ◌++◌, length, Option}
+use Rattle.std.specs.Prelude.{Some, None, Ok, Err, if◌then◌else◌, slice_index}
 use Rattle.std.specs.List.{list_any}
 use Rattle.std.specs.Str.Parse.{digits_value, starts_with_minus}
 use Rattle.liquid_model.specs.Data.{Datum, number, text}
@@ -7,10 +9,13 @@ use Rattle.liquid_model.specs.Fallible.{◌>>=◌}
 use Rattle.liquid_model.specs.Whole.{whole}
 use Rattle.liquid_model.specs.declared.error.ErrorKind.TheVariants.{InvalidInput, Float}
 use Rattle.liquid_filter_base.specs.Arguments.{Answer, whole_or_fault}
-use Rattle.liquid_number_filters.specs.Decimals.{is_decimal, is_decimal_text, whole_digits, fraction_digits}
+use Rattle.liquid_number_filters.specs.Decimals.{is_decimal, is_decimal_text, whole_digits}
+use Rattle.liquid_number_filters.specs.Decimals.{fraction_digits}
 use Rattle.liquid_number_filters.specs.Numbers.{in_range}
 use Rattle.liquid_number_filters.specs.declared.stdlib.filters.math.decimal.Rounding.{Rounding}
-use Rattle.liquid_number_filters.specs.declared.stdlib.filters.math.decimal.Rounding.TheVariants.{Nearest, Up, Down}
+use Rattle.liquid_number_filters.specs.declared.stdlib.filters.math.decimal.Rounding.TheVariants.{Nearest}
+use Rattle.liquid_number_filters.specs.declared.stdlib.filters.math.decimal.Rounding.TheVariants.{Up}
+use Rattle.liquid_number_filters.specs.declared.stdlib.filters.math.decimal.Rounding.TheVariants.{Down}
 
 -- n over s to a whole number: away from zero from a half on; away from zero; towards zero
 abbrev pub nearest : ℕ → ℕ → ℕ
@@ -33,13 +38,16 @@ magnitude Down false n s = towards n s
 abbrev pub signed : Bool → ℕ → ℤ
 signed negative m = if negative then neg_ℤ (pos m) else pos m
 
--- the size of the answer, of the digits before and after the point: all of them are the number, and the scale is ten to the number of the latter
+-- the size of the answer, of the digits before and after the point: all of them are the number, and
+-- the scale is ten to the number of the latter
 abbrev pub size : Rounding → Bool → List ℕ → List ℕ → ℕ
 size how negative ws fs = magnitude how negative (digits_value 10 (ws ++ fs)) (10 ^ length fs)
 
 -- the number that a decimal text is brought to, or NumberRange
 abbrev pub rounded_decimal : Rounding → List ℕ → Answer
-rounded_decimal how s = in_range (signed (starts_with_minus s) (size how (starts_with_minus s) (whole_digits s) (fraction_digits s)))
+rounded_decimal how s =
+    in_range (signed (starts_with_minus s) (size how (starts_with_minus s) (whole_digits s)
+        (fraction_digits s)))
 
 -- a whole number stays; a decimal text is brought to one; else refused
 abbrev pub rounded_of : Rounding → Option ℤ → Datum → Answer

@@ -1,5 +1,8 @@
 //! Laws of the filters over numbers. Each function does nothing: its contract is the law.
-ghost use Rattle.liquid_number_filters.specs.NumberLaws.{DivisionIsOne, PlusIsOne, MinusIsOne, TimesIsOne, DividedByIsOne, ModuloIsOne, AtLeastIsOne, AtMostIsOne, AbsIsOne, QuotientAndRemainder};
+ghost use Rattle.liquid_number_filters.specs.NumberLaws.{DivisionIsOne, PlusIsOne, MinusIsOne};
+ghost use Rattle.liquid_number_filters.specs.NumberLaws.{TimesIsOne, DividedByIsOne, ModuloIsOne};
+ghost use Rattle.liquid_number_filters.specs.NumberLaws.{AtLeastIsOne, AtMostIsOne, AbsIsOne};
+ghost use Rattle.liquid_number_filters.specs.NumberLaws.{QuotientAndRemainder};
 ghost use Rattle.liquid_number_filters.specs.RoundingLaws.{RoundIsOne, RoundedIsOne};
 
 /// `plus`: the sum, by the steps of two operands.
@@ -17,7 +20,8 @@ pub fn times_is_one()
     ensures { TimesIsOne }
 {}
 
-/// `divided_by`: the quotient that leaves a remainder nearer to 0 than the divisor, and 0 or of the input's sign.
+/// `divided_by`: the quotient that leaves a remainder nearer to 0 than the divisor, and 0 or of the
+/// input's sign.
 pub fn divided_by_is_one()
     ensures { DividedByIsOne }
 {}
@@ -52,7 +56,8 @@ pub fn division_is_one()
     ensures { DivisionIsOne }
 {}
 
-/// `round` without places, `ceil` and `floor`: the whole number whose product with a power of ten is the one that the digits are brought to.
+/// `round` without places, `ceil` and `floor`: the whole number whose product with a power of ten
+/// is the one that the digits are brought to.
 pub fn rounded_is_one()
     ensures { RoundedIsOne }
 {}

@@ -1,5 +1,6 @@
 -- What a call of the program does, over files whose texts are known.
-use Rattle.std.specs.Prelude.{◌≡◌, ℕ, List, [], ◌∷◌, ◌++◌, Option, Result, Ok, Err, MatchBool, ⊤, string_bytes}
+use Rattle.std.specs.Prelude.{◌≡◌, ℕ, List, [], ◌∷◌, ◌++◌, Option, Result, Ok, Err, MatchBool, ⊤}
+use Rattle.std.specs.Prelude.{string_bytes}
 use Rattle.std.specs.Io.KnownBytes.{Keeps}
 use Rattle.std.specs.Option.{ok_or}
 use Rattle.liquid_model.specs.Texts.{Text}
@@ -28,13 +29,16 @@ abbrev pub ◌>>=◌ : {A B : Type 0} → Result A Stop → (A → Result B Stop
 abbrev pub text_at : Files → Text → Result Text Stop
 text_at files path = ok_or (files path) (unread path)
 
--- the texts of named files, in order, behind those that are read
+-- the texts of named files, in order, after those that are read
 abbrev pub sources_from : Files → Named → Sources → Result Sources Stop
 sources_from files [] done = Ok done
-sources_from files (p ∷ ps) done = text_at files p.1 >>= λ t. sources_from files ps (done ++ (p.0, t) ∷ [])
+sources_from files (p ∷ ps) done = text_at files p.1 >>= λ t. sources_from files ps
+        (done ++ (p.0, t) ∷ [])
 
 abbrev pub texts_at : Files → NamedFiles → Result Texts Stop
-texts_at files c = text_at files c.template >>= λ t. text_at files c.facts >>= λ d. sources_from files c.partials [] >>= λ ps. Ok (record { template = t; facts = d; partials = ps })
+texts_at files c = text_at files c.template >>= λ t. text_at files c.facts >>= λ d.
+        sources_from files c.partials [] >>= λ ps. Ok (record { template = t; facts = d;
+        partials = ps })
 
 -- the words are judged first, then the files are read, in their order
 abbrev pub texts_of : Files → List Text → Result Texts Stop
@@ -53,9 +57,11 @@ abbrev pub Ends : Result Texts Stop → Outcome → Option (List ℕ) → Option
 Ends wanted Done old new = (texts : Texts) × (wanted ≡ Ok texts) × IsWritten texts (Ok tt) old new
 Ends wanted Usage old new = (wanted ≡ Err no_call) × Keeps old new
 Ends wanted (Unread file) old new = (wanted ≡ Err (unread (string_bytes file))) × Keeps old new
-Ends wanted (Fault e) old new = MatchBool (is_refusal e.kind) ⊤ ((texts : Texts) × (wanted ≡ Ok texts) × IsWritten texts (Err e) old new)
+Ends wanted (Fault e) old new = MatchBool (is_refusal e.kind) ⊤ ((texts : Texts) ×
+        (wanted ≡ Ok texts) × IsWritten texts (Err e) old new)
 
--- what a call leaves at its writer, however it ends: a beginning of the page of the texts that it is to read, or, where it is to begin no page, what was there
+-- what a call leaves at its writer, however it ends: a beginning of the page of the texts that it
+-- is to read, or, where it is to begin no page, what was there
 abbrev pub Leaves : Result Texts Stop → Option (List ℕ) → Option (List ℕ) → Type 0
 Leaves (Ok texts) old new = IsBegun texts old new
 Leaves (Err stop) old new = Keeps old new

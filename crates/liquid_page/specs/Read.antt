@@ -14,4 +14,5 @@ IsTextOf wanted (Err Memory) = ⊤
 IsTextOf wanted (Err File) = wanted ≡ None
 
 abbrev pub read_view : ReadTexts → Texts
-read_view r = record { template = string_bytes r.template; facts = string_bytes r.«data»; partials = sources_of r.partials.items }
+read_view r = record { template = string_bytes r.template; facts = string_bytes r.«data»;
+        partials = sources_of r.partials.items }

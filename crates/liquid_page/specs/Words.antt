@@ -1,5 +1,6 @@
 -- The call that the words after the program's own make.
-use Rattle.std.specs.Prelude.{ℕ, List, [], ◌∷◌, ◌++◌, length, ◌==◌, ◌&&◌, nat_lt, if◌then◌else◌, Option, Some, None, option_map, option_and_then, map}
+use Rattle.std.specs.Prelude.{ℕ, List, [], ◌∷◌, ◌++◌, length, ◌==◌, ◌&&◌, nat_lt, if◌then◌else◌}
+use Rattle.std.specs.Prelude.{Option, Some, None, option_map, option_and_then, map}
 use Rattle.std.specs.List.{position_or_len, before_first, after_first}
 use Rattle.std.specs.Borrow.{Bor}
 use Rattle.liquid_page.specs.declared.words.Call.{Call}
@@ -13,11 +14,13 @@ equals_at word = position_or_len (λ b. b == 61) word
 
 -- NAME=FILE, cut at the first `=`; the name isn't empty
 abbrev pub pair_of : List ℕ → Option (List ℕ × List ℕ)
-pair_of word = if nat_lt 0 (equals_at word) && nat_lt (equals_at word) (length word) then Some (before_first (λ b. b == 61) word, after_first (λ b. b == 61) word) else None
+pair_of word = if nat_lt 0 (equals_at word) && nat_lt (equals_at word) (length word) then Some
+        (before_first (λ b. b == 61) word, after_first (λ b. b == 61) word) else None
 
 abbrev pub pairs_from : List (List ℕ) → Named → Option Named
 pairs_from [] done = Some done
-pairs_from (word ∷ words) done = option_and_then (λ p. pairs_from words (done ++ p ∷ [])) (pair_of word)
+pairs_from (word ∷ words) done = option_and_then (λ p. pairs_from words (done ++ p ∷ []))
+        (pair_of word)
 
 abbrev pub lent : Bor (List ℕ) × Bor (List ℕ) → List ℕ × List ℕ
 lent p = (p.0.now, p.1.now)
@@ -28,8 +31,10 @@ pub record NamedFiles : Type 0 where
   pub partials : Named
 
 abbrev pub call_view : Call → NamedFiles
-call_view c = record { template = c.template.now; facts = c.«data».now; partials = map lent c.partials.items }
+call_view c = record { template = c.template.now; facts = c.«data».now;
+        partials = map lent c.partials.items }
 
 abbrev pub call_of : List (List ℕ) → Option NamedFiles
-call_of (template ∷ facts ∷ words) = option_map (λ ps. record { template = template; facts = facts; partials = ps }) (pairs_from words [])
+call_of (template ∷ facts ∷ words) = option_map (λ ps. record { template = template; facts = facts;
+        partials = ps }) (pairs_from words [])
 call_of _ = None

@@ -1,5 +1,6 @@
 //! The writer of the program: standard output behind a buffer.
-ghost use Rattle.std.specs.Prelude.{◌≡◌, ◌≤◌, [], length, take, drop, true, is_err, IfErr, IfOk, OnOk, vec_len};
+ghost use Rattle.std.specs.Prelude.{◌≡◌, ◌≤◌, [], length, take, drop, true, is_err, IfErr, IfOk};
+ghost use Rattle.std.specs.Prelude.{OnOk, vec_len};
 ghost use Rattle.std.specs.Io.{WritesAtMost};
 ghost use Rattle.std.specs.Io.KnownBytes.{Keeps, Appends, WriteAppends};
 
@@ -10,8 +11,9 @@ use std::io::Write;
 /// How many bytes are held back at most.
 const ROOM: usize = 65536;
 
-/// Holds small writes back and hands them on in large pieces, in their order. Where the writer behind fails or takes
-/// nothing, nothing is tried again: neither what was held back nor what comes after it.
+/// Holds small writes back and hands them on in large pieces, in their order. Where the writer
+/// behind fails or takes nothing, nothing is tried again: neither what was held back nor what comes
+/// after it.
 #[derive(Drop)]
 pub struct Buffered<W> {
     writer: W,
@@ -65,12 +67,13 @@ impl<W: Write> Buffered<W> {
         answer
     }
 
-    /// `write` where the buffer has no room for the bytes, or a write failed. It is never inlined, so that
-    /// the usual way through `write` stays short.
+    /// `write` where the buffer has no room for the bytes, or a write failed. It is never inlined,
+    /// so that the usual way through `write` stays short.
     #[inline(never)]
     fn write_cold(&mut self, bytes: &[u8]) -> io::Result<usize>
         ensures bound { WritesAtMost result bytes.now }
-        ensures bytes { WriteAppends (behind W.contents self.old) (behind W.contents self.new) result bytes.now }
+        ensures bytes { WriteAppends (behind W.contents self.old) (behind W.contents self.new)
+                    result bytes.now }
         ensures stopped { self.old.failed ≡ true → self.new ≡ self.old }
     {
         if bytes.len() > ROOM.saturating_sub(self.held.len()) {
@@ -90,7 +93,8 @@ impl<W: Write> Buffered<W> {
     fn write_past(&mut self, bytes: &[u8]) -> io::Result<usize>
         requires { self.old.held.items ≡ [] }
         ensures bound { WritesAtMost result bytes.now }
-        ensures bytes { WriteAppends (behind W.contents self.old) (behind W.contents self.new) result bytes.now }
+        ensures bytes { WriteAppends (behind W.contents self.old) (behind W.contents self.new)
+                    result bytes.now }
     {
         let answer = self.writer.write(bytes);
         self.failed = !matches!(&answer, Ok(1..));
@@ -105,7 +109,8 @@ impl<W: Write> Write for Buffered<W> {
 
     fn write(&mut self, bytes: &[u8]) -> io::Result<usize>
         ensures bound { WritesAtMost result bytes.now }
-        ensures bytes { WriteAppends (behind W.contents self.old) (behind W.contents self.new) result bytes.now }
+        ensures bytes { WriteAppends (behind W.contents self.old) (behind W.contents self.new)
+                    result bytes.now }
         ensures stopped { self.old.failed ≡ true → self.new ≡ self.old }
     {
         if self.failed || bytes.len() > ROOM.saturating_sub(self.held.len()) {
@@ -125,11 +130,13 @@ impl<W: Write> Write for Buffered<W> {
     }
 }
 
-/// Writes until all is written or a write fails or takes nothing: how many bytes were written, and whether that is all.
+/// Writes until all is written or a write fails or takes nothing: how many bytes were written, and
+/// whether that is all.
 fn write_once<W: Write>(bytes: &[u8], writer: &mut W) -> (usize, io::Result<()>)
     ensures bound { result.0 ≤ length bytes.now }
     ensures all { OnOk result.1 (result.0 ≡ length bytes.now) }
-    ensures bytes { Appends (W.contents writer.old) (W.contents writer.new) (take result.0 bytes.now) }
+    ensures bytes { Appends (W.contents writer.old) (W.contents writer.new)
+                (take result.0 bytes.now) }
 {
     let mut written = 0;
     while written < bytes.len() {

@@ -1,4 +1,5 @@
-//! The line of a text in which a fault stands, as it is shown behind the fault: with its number, and a mark under the column.
+//! The line of a text in which a fault stands, as it is shown after the fault: with its number,
+//! and a mark under the column.
 use liquid_core::Location;
 use std::fmt;
 use unicode_width::UnicodeWidthChar;
@@ -18,7 +19,8 @@ pub struct Excerpt<'t> {
 }
 
 impl<'t> Excerpt<'t> {
-    /// The line of the location, where the text has it. A mark of the byte order at the start is no part of the text.
+    /// The line of the location, where the text has it. A mark of the byte order at the start is no
+    /// part of the text.
     pub fn new(text: &'t str, location: &Location) -> Option<Excerpt<'t>> {
         let lines = text.strip_prefix('\u{feff}').unwrap_or(text);
         let before = location.line.checked_sub(1)?;
@@ -64,8 +66,8 @@ impl fmt::Display for Blank {
     }
 }
 
-/// A part of a line behind its hidden characters, with `..` where it goes on. What has no width or moves the cursor, as a tab,
-/// is a space.
+/// A part of a line after its hidden characters, with `..` where it goes on. What has no width or
+/// moves the cursor, as a tab, is a space.
 #[derive(Drop)]
 struct Shown<'t> {
     text: &'t str,
@@ -84,8 +86,9 @@ impl fmt::Display for Shown<'_> {
     }
 }
 
-/// How many columns of a terminal stand before a place, from the first character that is shown on. A letter of Chinese takes two,
-/// a combining mark none. Past the end of the line each character counts as one.
+/// How many columns of a terminal stand before a place, from the first character that is shown on.
+/// A letter of Chinese takes two, a combining mark none. Past the end of the line each character
+/// counts as one.
 fn columns(text: &str, hidden: usize, before: usize) -> usize {
     let mut columns: usize = 0;
     let mut left = before.saturating_sub(hidden);

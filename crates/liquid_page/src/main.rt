@@ -85,7 +85,7 @@ fn excerpt_of<'t>(outcome: &Outcome, read: &'t Option<ReadTexts>) -> Option<Exce
     Excerpt::new(texts.text_of(&location.origin)?, location)
 }
 
-/// The words behind the program's own. A word that isn't UTF-8 makes no call.
+/// The words after the program's own. A word that isn't UTF-8 makes no call.
 fn words_given(rt: &HostRuntime) -> Result<Vec<String>, Outcome> {
     let mut words: Vec<String> = Vec::new(rt.alloc());
     match env::args(rt) {

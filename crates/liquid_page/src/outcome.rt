@@ -33,7 +33,7 @@ impl Outcome {
     }
 }
 
-/// What is told on standard error: nothing where the page is written.
+/// What goes to standard error: nothing where the page is written.
 impl fmt::Display for Outcome {
     ghost output = { λ outcome. Some (told outcome) };
 

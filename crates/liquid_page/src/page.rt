@@ -1,7 +1,8 @@
 //! From the words of a call to its page.
 ghost use Rattle.std.specs.Prelude.{◌≡◌, [], None, Ok, Option, false, IfSome, map, string_bytes};
 ghost use Rattle.liquid_lib.specs.Performs.{is_refused};
-ghost use Rattle.liquid_page.specs.Files.{Files, Ends, Finds, Leaves, sources_from, text_at, texts_at, texts_of};
+ghost use Rattle.liquid_page.specs.Files.{Files, Ends, Finds, Leaves, sources_from, text_at};
+ghost use Rattle.liquid_page.specs.Files.{texts_at, texts_of};
 ghost use Rattle.liquid_page.specs.Read.{IsTextOf, read_view};
 ghost use Rattle.liquid_page.specs.Words.{call_view, lent};
 ghost use Rattle.liquid_page.specs.Written.{IsBegun, IsWritten};
@@ -45,7 +46,8 @@ pub struct ReadTexts {
 }
 
 impl ReadTexts {
-    /// The text that a location is in. A partial that is rendered may be found by its name with `.liquid`.
+    /// The text that a location is in. A partial that is rendered may be found by its name with
+    /// `.liquid`.
     pub fn text_of(&self, origin: &Origin) -> Option<&str> {
         match origin {
             Origin::Template => Some(self.template.as_str()),
@@ -69,18 +71,30 @@ impl ReadTexts {
     }
 }
 
-/// Judges the words, then reads the files in order, and then writes the page. It gives the writer back, which holds what it
-/// held and the page behind it. Where the writer refuses it holds a beginning of that, and where memory runs out too; no
-/// more than it held, where no page is begun. With it come how the call ended, and the texts, where all were read.
+/// Judges the words, then reads the files in order, and then writes the page. It gives the writer
+/// back, which holds what it held and the page after it. Where the writer refuses it holds a
+/// beginning of that, and where memory runs out too; no more than it held, where no page is begun.
+/// With it come how the call ended, and the texts, where all were read.
 pub fn page<T: Texts, W: Write + Drop>(
     alloc: Global,
     words: &[String],
     texts: &mut T,
     writer: W,
 ) -> (W, Outcome, Option<ReadTexts>)
-    ensures page { IfSome (T.known texts.old) (λ files. Ends (texts_of files (map string_bytes words.now)) result.1 (W.contents writer) (W.contents result.0)) }
-    ensures begun { IfSome (T.known texts.old) (λ files. Leaves (texts_of files (map string_bytes words.now)) (W.contents writer) (W.contents result.0)) }
-    ensures read { IfSome (T.known texts.old) (λ files. IfSome result.2 (λ read. texts_of files (map string_bytes words.now) ≡ Ok (read_view read))) }
+    ensures page {
+        IfSome (T.known texts.old)
+            (λ files. Ends (texts_of files (map string_bytes words.now)) result.1
+            (W.contents writer) (W.contents result.0))
+    }
+    ensures begun {
+        IfSome (T.known texts.old) (λ files. Leaves (texts_of files (map string_bytes words.now))
+            (W.contents writer) (W.contents result.0))
+    }
+    ensures read {
+        IfSome (T.known texts.old)
+            (λ files. IfSome result.2 (λ read. texts_of files (map string_bytes words.now) ≡
+            Ok (read_view read)))
+    }
 {
     match read_call(alloc, words, texts) {
         Ok(read) => {
@@ -102,7 +116,10 @@ fn read_call<T: Texts>(
     words: &[String],
     texts: &mut T,
 ) -> std::result::Result<ReadTexts, Outcome>
-    ensures { IfSome (T.known texts.old) (λ files. Finds read_view (texts_of files (map string_bytes words.now)) result) }
+    ensures {
+        IfSome (T.known texts.old)
+            (λ files. Finds read_view (texts_of files (map string_bytes words.now)) result)
+    }
 {
     match call_of(alloc, words)? {
         Some(call) => read_files(alloc, &call, texts),
@@ -115,7 +132,10 @@ fn read_files<T: Texts>(
     call: &Call<'_>,
     texts: &mut T,
 ) -> std::result::Result<ReadTexts, Outcome>
-    ensures { IfSome (T.known texts.old) (λ files. Finds read_view (texts_at files (call_view call.now)) result) }
+    ensures {
+        IfSome (T.known texts.old) (λ files. Finds read_view (texts_at files (call_view call.now))
+            result)
+    }
 {
     let template = text_of(alloc, call.template, texts)?;
     let data = text_of(alloc, call.data, texts)?;
@@ -132,7 +152,10 @@ fn read_partials<T: Texts>(
     partials: &[(&str, &str)],
     texts: &mut T,
 ) -> std::result::Result<Vec<(String, String)>, Outcome>
-    ensures { IfSome (T.known texts.old) (λ files. Finds (λ v. sources_of v.items) (sources_from files (map lent partials.now) []) result) }
+    ensures {
+        IfSome (T.known texts.old) (λ files. Finds (λ v. sources_of v.items)
+            (sources_from files (map lent partials.now) []) result)
+    }
 {
     let mut sources = Vec::new(alloc);
     for (name, path) in partials {
@@ -151,7 +174,8 @@ fn text_of<T: Texts>(
     path: &str,
     texts: &mut T,
 ) -> std::result::Result<String, Outcome>
-    ensures text { IfSome (T.known texts.old) (λ files. Finds string_bytes (text_at files path.now) result) }
+    ensures text { IfSome (T.known texts.old)
+                (λ files. Finds string_bytes (text_at files path.now) result) }
     ensures same { T.known texts.new ≡ T.known texts.old }
 {
     match texts.text_at(path) {
@@ -161,9 +185,10 @@ fn text_of<T: Texts>(
     }
 }
 
-/// Writes the page through a buffer, and gives the writer back. The program ends behind it, so what was read stays as it is. Where the run is done the writer is flushed, once; after a
-/// fault what the page had written is handed on too. A writer that refuses is `Write`. On every answer what the writer
-/// holds is a beginning of what it held and of the page's text behind that.
+/// Writes the page through a buffer, and gives the writer back. The program ends after it, so what
+/// was read stays as it is. Where the run is done the writer is flushed, once; after a fault what
+/// the page had written is handed on too. A writer that refuses is `Write`. On every answer what
+/// the writer holds is a beginning of what it held and of the page's text after that.
 pub fn write_page<W: Write + Drop>(
     alloc: Global,
     template: &str,
@@ -172,8 +197,13 @@ pub fn write_page<W: Write + Drop>(
     writer: W,
 ) -> (W, Result<()>)
     ensures page { is_refused result.1 ≡ false →
-        IsWritten (record { template = template.now; facts = «data».now; partials = sources_of partials.now }) result.1 (W.contents writer) (W.contents result.0) }
-    ensures begun { IsBegun (record { template = template.now; facts = «data».now; partials = sources_of partials.now }) (W.contents writer) (W.contents result.0) }
+        IsWritten (record { template = template.now; facts = «data».now;
+                partials = sources_of partials.now }) result.1 (W.contents writer)
+                (W.contents result.0) }
+    ensures begun {
+        IsBegun (record { template = template.now; facts = «data».now;
+            partials = sources_of partials.now }) (W.contents writer) (W.contents result.0)
+    }
 {
     let buffered = match Buffered::new(alloc, writer) {
         Ok(buffered) => buffered,

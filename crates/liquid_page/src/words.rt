@@ -30,7 +30,8 @@ pub fn pair_of(word: &str) -> Option<(&str, &str)>
 
 /// The call that the words after the program's own make, or none where they make none.
 pub fn call_of<'w>(alloc: Global, words: &'w [String]) -> Result<Option<Call<'w>>>
-    ensures { Answers (λ o. option_map call_view o) result (Ok (call_of (map string_bytes words.now))) }
+    ensures { Answers (λ o. option_map call_view o) result
+                (Ok (call_of (map string_bytes words.now))) }
 {
     if words.len() < 2 {
         return Ok(None);

@@ -38,7 +38,8 @@ Trees = List (Text × Nodes)
 -- the trees of these partials, put in order among those that are there; the later of one name wins
 abbrev pub ArePartials : Language → Sources → Trees → Trees → Type 0
 ArePartials l [] before all = all ≡ before
-ArePartials l (p ∷ ps) before all = (t : Nodes) × IsOnlyTree l t p.1 × ArePartials l ps (put p.0 t before) all
+ArePartials l (p ∷ ps) before all = (t : Nodes) × IsOnlyTree l t p.1 ×
+    ArePartials l ps (put p.0 t before) all
 
 -- the first of these partials that has no tree
 abbrev pub HasBadPartial : Language → Sources → Type 0
@@ -58,16 +59,22 @@ pub record IsRead (l : Language) (texts : Texts) (read : Read) : Type 0 where
 
 -- why texts are not read: the template, the data and the partials are looked at in this order
 pub data Refused (l : Language) (texts : Texts) : ErrorKind → Type 0 where
-  no_template : {kind : ErrorKind} → HasNoTree l texts.template → IsOfSource kind → Refused l texts kind
-  no_facts : {kind : ErrorKind} {tree : Nodes} → IsOnlyTree l tree texts.template → data_of texts.facts ≡ Err kind → Refused l texts kind
-  bad_partial : {kind : ErrorKind} {tree : Nodes} {facts : Pairs} → IsOnlyTree l tree texts.template → data_of texts.facts ≡ Ok facts → HasBadPartial l texts.partials → IsOfSource kind → Refused l texts kind
+  no_template : {kind : ErrorKind} → HasNoTree l texts.template → IsOfSource kind →
+      Refused l texts kind
+  no_facts : {kind : ErrorKind} {tree : Nodes} → IsOnlyTree l tree texts.template →
+      data_of texts.facts ≡ Err kind → Refused l texts kind
+  bad_partial : {kind : ErrorKind} {tree : Nodes} {facts : Pairs} →
+      IsOnlyTree l tree texts.template → data_of texts.facts ≡ Ok facts →
+      HasBadPartial l texts.partials → IsOfSource kind → Refused l texts kind
 
 -- how deep partials may be nested in a page
 abbrev pub page_outcome : Read → Outcome Nothing
-page_outcome read = meaning (record { answers = answers_with no_host; partials = read.partials }) 32 read.tree (merged_layers (new_layers (map_of read.facts)))
+page_outcome read = meaning (record { answers = answers_with no_host;
+        partials = read.partials }) 32 read.tree (merged_layers (new_layers (map_of read.facts)))
 
 pub data IsPage (l : Language) (texts : Texts) : Text → Result Nothing ErrorKind → Type 0 where
-  page : (read : Read) → IsRead l texts read → IsPage l texts (page_outcome read).text (page_outcome read).end
+  page : (read : Read) → IsRead l texts read →
+      IsPage l texts (page_outcome read).text (page_outcome read).end
   no_page : {kind : ErrorKind} → Refused l texts kind → IsPage l texts [] (Err kind)
 
 -- the page in the standard language

@@ -9,4 +9,5 @@ use Rattle.liquid_page_texts.specs.Page.{Texts, IsPage}
 
 -- the fault that a page ends by is one of a run or of a source: never `Memory` and never `Write`
 abbrev pub KindsOfPages : Type 0
-KindsOfPages = (l : Language) (texts : Texts) (text : Text) (kind : ErrorKind) → IsPage l texts text (Err kind) → T (is_run_kind kind) ⊎ IsOfSource kind
+KindsOfPages = (l : Language) (texts : Texts) (text : Text) (kind : ErrorKind) →
+    IsPage l texts text (Err kind) → T (is_run_kind kind) ⊎ IsOfSource kind

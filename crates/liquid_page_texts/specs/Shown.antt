@@ -15,24 +15,30 @@ use Rattle.liquid_lib.specs.Added.{AppendsPart}
 use Rattle.liquid_lib.specs.Performs.{answer_of, is_refused, unit}
 use Rattle.liquid_lib.specs.Standard.{IsStandard}
 use Rattle.liquid_meaning.specs.Runs.{Nothing}
-use Rattle.liquid_page_texts.specs.Page.{Sources, Texts, Trees, ArePartials, HasBadPartial, Read, IsRead, Refused, IsPage}
+use Rattle.liquid_page_texts.specs.Page.{Sources, Texts, Trees, ArePartials, HasBadPartial, Read}
+use Rattle.liquid_page_texts.specs.Page.{IsRead, Refused, IsPage}
 use Rattle.liquid_page_texts.specs.declared.page.ReadTexts.{ReadTexts}
 
 abbrev pub read_view : ReadTexts → Read
-read_view r = record { tree = tree_of r.template; facts = pairs_view r.«data».entries; partials = partials_of r.partials }
+read_view r = record { tree = tree_of r.template; facts = pairs_view r.«data».entries;
+        partials = partials_of r.partials }
 
 -- the texts, read; or why they are not, unless memory ran out
 abbrev pub Reads : Language → Texts → Result ReadTexts Error → Type 0
 Reads l texts (Ok r) = IsRead l texts (read_view r)
-Reads l texts (Err e) = MatchBool (is_memory e.kind) ⊤ (Refused l texts e.kind × (is_refusal e.kind ≡ false))
+Reads l texts (Err e) = MatchBool (is_memory e.kind) ⊤ (Refused l texts e.kind ×
+        (is_refusal e.kind ≡ false))
 
--- the partials behind those that are there; or that one of them has no tree, unless memory ran out
+-- the partials after those that are there; or that one of them has no tree, unless memory ran out
 abbrev pub ReadsPartials : Language → Sources → Trees → Result Partials Error → Type 0
 ReadsPartials l sources before (Ok p) = ArePartials l sources before (partials_of p)
-ReadsPartials l sources before (Err e) = MatchBool (is_memory e.kind) ⊤ (HasBadPartial l sources × IsOfSource e.kind)
+ReadsPartials l sources before (Err e) = MatchBool (is_memory e.kind) ⊤ (HasBadPartial l sources ×
+        IsOfSource e.kind)
 
--- what was written is a beginning of a page's text. Unless memory ran out or a write failed, it is all of that, and the answer is its end
-pub record Shows (l : Language) (texts : Texts) (r : Result (Unit {0}) Error) (old new : Option (List ℕ)) : Type 0 where
+-- what was written is a beginning of a page's text. Unless memory ran out or a write failed, it is
+-- all of that, and the answer is its end
+pub record Shows (l : Language) (texts : Texts) (r : Result (Unit {0}) Error)
+      (old new : Option (List ℕ)) : Type 0 where
   pub text : Text
   pub end : Result Nothing ErrorKind
   pub is_page : IsPage l texts text end
@@ -41,7 +47,8 @@ pub record Shows (l : Language) (texts : Texts) (r : Result (Unit {0}) Error) (o
   pub ended : is_refused r ≡ false → answer_of unit r ≡ end
 
 -- the page in the standard language is shown
-abbrev pub ShowsStandard : Texts → Result (Unit {0}) Error → Option (List ℕ) → Option (List ℕ) → Type 0
+abbrev pub ShowsStandard : Texts → Result (Unit {0}) Error → Option (List ℕ) → Option (List ℕ) →
+    Type 0
 ShowsStandard texts r old new = (l : Language) × IsStandard l × Shows l texts r old new
 
 -- before anything was written, memory ran out

@@ -6,7 +6,8 @@ ghost use Rattle.liquid_lib.specs.Added.{AppendsPart};
 ghost use Rattle.liquid_lib.specs.Failures.{OneFailed, AtMostOneFailed};
 ghost use Rattle.liquid_lib.specs.Performs.{answer_of, is_refused, unit};
 ghost use Rattle.liquid_page_texts.specs.Page.{page_outcome, sources_of};
-ghost use Rattle.liquid_page_texts.specs.Shown.{RanOut, Reads, ReadsPartials, ShowsStandard, read_view};
+ghost use Rattle.liquid_page_texts.specs.Shown.{RanOut, Reads, ReadsPartials, ShowsStandard};
+ghost use Rattle.liquid_page_texts.specs.Shown.{read_view};
 
 use liquid_core::{Error, ErrorKind, Object, Result};
 use liquid_json::data_from_json;
@@ -18,7 +19,8 @@ use std::mem;
 /// How deep partials may be nested in a page.
 const DEPTH: u32 = 32;
 
-/// What becomes of what was read, behind the page: to take large data apart is a tenth of the work of a page and more.
+/// What becomes of what was read, after the page: to take large data apart is a tenth of the work
+/// of a page and more.
 #[derive(Clone, Copy, Drop)]
 enum Afterwards {
     Freed,
@@ -33,13 +35,16 @@ struct ReadTexts {
     partials: Partials,
 }
 
-/// Writes the page of a template, of data in JSON, and of partials by name, of which the later of one name wins.
+/// Writes the page of a template, of data in JSON, and of partials by name, of which the later of
+/// one name wins.
 ///
-/// The template is parsed, then the data is read, then the partials are parsed in their order; the first that isn't read is
-/// the answer, and nothing is written: a kind of a source, or `InvalidInput` or `Float` of the data. A partial's
-/// fault says which partial it stands in. Then the page is rendered in a new runtime, with at most 32 nested partials: the answer is its first fault, and what was written is the
-/// text up to there. `Memory` where a growth was refused, and `Write` where a write failed or took nothing: then a
-/// beginning of the text is written, and no failed write is tried again.
+/// The template is parsed, then the data is read, then the partials are parsed in their order; the
+/// first that isn't read is the answer, and nothing is written: a kind of a source, or
+/// `InvalidInput` or `Float` of the data. A partial's fault says which partial it stands in. Then
+/// the page is rendered in a new runtime, with at most 32 nested partials: the answer is its first
+/// fault, and what was written is the text up to there. `Memory` where a growth was refused, and
+/// `Write` where a write failed or took nothing: then a beginning of the text is written, and no
+/// failed write is tried again.
 pub fn run<W: CountedWrite>(
     alloc: Global,
     template: &str,
@@ -48,9 +53,17 @@ pub fn run<W: CountedWrite>(
     writer: &mut W,
 ) -> Result<()>
     ensures page { RanOut result (W.contents writer.old) (W.contents writer.new)
-        ⊎ ShowsStandard (record { template = template.now; facts = «data».now; partials = sources_of partials.now }) result (W.contents writer.old) (W.contents writer.new) }
-    ensures write { IfErr result (λ e. e.kind ≡ ErrorKind.Write → OneFailed (W.failure_count writer.old) (W.failure_count writer.new)) }
-    ensures failed { W.failure_count writer.old < W.failure_count writer.new → IsErrAnd result (λ e. (e.kind ≡ ErrorKind.Memory) ⊎ (e.kind ≡ ErrorKind.Write)) }
+        ⊎ ShowsStandard (record { template = template.now; facts = «data».now;
+                partials = sources_of partials.now }) result (W.contents writer.old)
+                (W.contents writer.new) }
+    ensures write {
+        IfErr result (λ e. e.kind ≡ ErrorKind.Write →
+            OneFailed (W.failure_count writer.old) (W.failure_count writer.new))
+    }
+    ensures failed {
+        W.failure_count writer.old < W.failure_count writer.new →
+        IsErrAnd result (λ e. (e.kind ≡ ErrorKind.Memory) ⊎ (e.kind ≡ ErrorKind.Write))
+    }
     ensures once { AtMostOneFailed (W.failure_count writer.old) (W.failure_count writer.new) }
 {
     let language = language(alloc)?;
@@ -58,7 +71,8 @@ pub fn run<W: CountedWrite>(
     render_texts(alloc, read, writer, Afterwards::Freed)
 }
 
-/// As `run`, for a program that ends behind it: what was read isn't taken apart, so its memory stays until the process ends.
+/// As `run`, for a program that ends after it: what was read isn't taken apart, so its memory
+/// stays until the process ends.
 pub fn run_last<W: CountedWrite>(
     alloc: Global,
     template: &str,
@@ -67,9 +81,17 @@ pub fn run_last<W: CountedWrite>(
     writer: &mut W,
 ) -> Result<()>
     ensures page { RanOut result (W.contents writer.old) (W.contents writer.new)
-        ⊎ ShowsStandard (record { template = template.now; facts = «data».now; partials = sources_of partials.now }) result (W.contents writer.old) (W.contents writer.new) }
-    ensures write { IfErr result (λ e. e.kind ≡ ErrorKind.Write → OneFailed (W.failure_count writer.old) (W.failure_count writer.new)) }
-    ensures failed { W.failure_count writer.old < W.failure_count writer.new → IsErrAnd result (λ e. (e.kind ≡ ErrorKind.Memory) ⊎ (e.kind ≡ ErrorKind.Write)) }
+        ⊎ ShowsStandard (record { template = template.now; facts = «data».now;
+                partials = sources_of partials.now }) result (W.contents writer.old)
+                (W.contents writer.new) }
+    ensures write {
+        IfErr result (λ e. e.kind ≡ ErrorKind.Write →
+            OneFailed (W.failure_count writer.old) (W.failure_count writer.new))
+    }
+    ensures failed {
+        W.failure_count writer.old < W.failure_count writer.new →
+        IsErrAnd result (λ e. (e.kind ≡ ErrorKind.Memory) ⊎ (e.kind ≡ ErrorKind.Write))
+    }
     ensures once { AtMostOneFailed (W.failure_count writer.old) (W.failure_count writer.new) }
 {
     let language = language(alloc)?;
@@ -85,7 +107,10 @@ fn read_texts(
     data: &str,
     partials: &[(String, String)],
 ) -> Result<ReadTexts>
-    ensures { Reads language.now (record { template = template.now; facts = «data».now; partials = sources_of partials.now }) result }
+    ensures {
+        Reads language.now (record { template = template.now; facts = «data».now;
+            partials = sources_of partials.now }) result
+    }
 {
     let template = parse(alloc, template, language)?;
     let data = data_from_json(alloc, data)?;
@@ -132,11 +157,24 @@ fn render_texts<W: CountedWrite>(
     writer: &mut W,
     afterwards: Afterwards,
 ) -> Result<()>
-    ensures whole { is_refused result ≡ false → Appends (W.contents writer.old) (W.contents writer.new) (page_outcome (read_view read)).text }
-    ensures end { is_refused result ≡ false → answer_of unit result ≡ (page_outcome (read_view read)).end }
-    ensures begun { AppendsPart (W.contents writer.old) (W.contents writer.new) (page_outcome (read_view read)).text }
-    ensures write { IfErr result (λ e. e.kind ≡ ErrorKind.Write → OneFailed (W.failure_count writer.old) (W.failure_count writer.new)) }
-    ensures failed { W.failure_count writer.old < W.failure_count writer.new → IsErrAnd result (λ e. (e.kind ≡ ErrorKind.Memory) ⊎ (e.kind ≡ ErrorKind.Write)) }
+    ensures whole {
+        is_refused result ≡ false → Appends (W.contents writer.old) (W.contents writer.new)
+            (page_outcome (read_view read)).text
+    }
+    ensures end { is_refused result ≡ false → answer_of unit result ≡
+                (page_outcome (read_view read)).end }
+    ensures begun {
+        AppendsPart (W.contents writer.old) (W.contents writer.new)
+            (page_outcome (read_view read)).text
+    }
+    ensures write {
+        IfErr result (λ e. e.kind ≡ ErrorKind.Write →
+            OneFailed (W.failure_count writer.old) (W.failure_count writer.new))
+    }
+    ensures failed {
+        W.failure_count writer.old < W.failure_count writer.new →
+        IsErrAnd result (λ e. (e.kind ≡ ErrorKind.Memory) ⊎ (e.kind ≡ ErrorKind.Write))
+    }
     ensures once { AtMostOneFailed (W.failure_count writer.old) (W.failure_count writer.new) }
 {
     let ReadTexts {

@@ -8,16 +8,21 @@ use Rattle.liquid_evaluation.specs.Tree.{Nodes}
 use Rattle.liquid_syntax.specs.Parsing.{IsOnlyTree, HasNoTree, IsOfSource}
 use Rattle.liquid_language.specs.declared.language.Language.{Language}
 use Rattle.liquid_site.specs.SiteViews.{contents_of, language_of, count_of}
-use Rattle.liquid_site.specs.Steps.{Step, set_page, remove_page, set_partial, remove_partial, set_value, remove_value, stepped, rendered_by, raised}
+use Rattle.liquid_site.specs.Steps.{Step, set_page, remove_page, set_partial, remove_partial}
+use Rattle.liquid_site.specs.Steps.{set_value, remove_value, stepped, rendered_by, raised}
 use Rattle.liquid_site.specs.declared.change.Change.{Change}
-use Rattle.liquid_site.specs.declared.change.Change.TheVariants.{SetPage, RemovePage, SetPartial, RemovePartial, SetValue, RemoveValue}
+use Rattle.liquid_site.specs.declared.change.Change.TheVariants.{SetPage, RemovePage, SetPartial}
+use Rattle.liquid_site.specs.declared.change.Change.TheVariants.{RemovePartial, SetValue}
+use Rattle.liquid_site.specs.declared.change.Change.TheVariants.{RemoveValue}
 use Rattle.liquid_site.specs.declared.site.Site.{Site}
 
 -- the step that a change is, its source being the only tree that it is
 abbrev pub IsStep : Language → Change → Step → Type 0
-IsStep l (SetPage name source) s = (t : Nodes) × IsOnlyTree l t (string_bytes source) × (s ≡ set_page (string_bytes name) t)
+IsStep l (SetPage name source) s = (t : Nodes) × IsOnlyTree l t (string_bytes source) ×
+    (s ≡ set_page (string_bytes name) t)
 IsStep l (RemovePage name) s = s ≡ remove_page (string_bytes name)
-IsStep l (SetPartial name source) s = (t : Nodes) × IsOnlyTree l t (string_bytes source) × (s ≡ set_partial (string_bytes name) t)
+IsStep l (SetPartial name source) s = (t : Nodes) × IsOnlyTree l t (string_bytes source) ×
+    (s ≡ set_partial (string_bytes name) t)
 IsStep l (RemovePartial name) s = s ≡ remove_partial (string_bytes name)
 IsStep l (SetValue name value) s = s ≡ set_value (string_bytes name) (view value)
 IsStep l (RemoveValue name) s = s ≡ remove_value (string_bytes name)

@@ -19,8 +19,10 @@ pages_in pages = seen page_view pages.entries
 abbrev pub trees_in : BTreeMap (String Global) Template → Trees
 trees_in templates = seen tree_of templates.entries
 
-abbrev pub contents_in : ℕ → BTreeMap (String Global) Template → Partials → BTreeMap (String Global) Value → Contents
-contents_in depth templates partials facts = record { depth = depth; pages = trees_in templates; partials = partials_of partials; facts = held facts }
+abbrev pub contents_in : ℕ → BTreeMap (String Global) Template → Partials →
+    BTreeMap (String Global) Value → Contents
+contents_in depth templates partials facts = record { depth = depth; pages = trees_in templates;
+        partials = partials_of partials; facts = held facts }
 
 -- a page under its name, and pages in a list
 abbrev pub named_page : String Global × Page → Text × Shown

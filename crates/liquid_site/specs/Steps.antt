@@ -1,8 +1,10 @@
 -- Changes of a site, with their sources read.
 --     stepped s contents      the contents after the step
---     touched s contents      the test for the pages that it renders again;   rendered_by s contents      how many these are
+--     touched s contents      the test for the pages that it renders again;   rendered_by s
+--                             contents      how many these are
 --     kept_by s contents pages      the pages, of which those alone are rendered again
-use Rattle.std.specs.Prelude.{◌≡◌, ℕ, ◌+◌, min, Bool, true, false, cond, List, [], ◌∷◌, length, filter, Option, Some, None, is_some, bytes_eq}
+use Rattle.std.specs.Prelude.{◌≡◌, ℕ, ◌+◌, min, Bool, true, false, cond, List, [], ◌∷◌, length}
+use Rattle.std.specs.Prelude.{filter, Option, Some, None, is_some, bytes_eq}
 use Rattle.std.specs.Map.{update}
 use Rattle.liquid_model.specs.Texts.{Text}
 use Rattle.liquid_model.specs.Data.{Datum}
@@ -10,7 +12,8 @@ use Rattle.liquid_model.specs.Maps.{Map, empty, listed}
 use Rattle.liquid_evaluation.specs.Tree.{Nodes}
 use Rattle.liquid_language.specs.Entries.{put, without}
 use Rattle.liquid_lib.specs.Pages.{Shown, page_over}
-use Rattle.liquid_site.specs.Contents.{Trees, Contents, page_of, Pages, pages_from_scratch, mentions}
+use Rattle.liquid_site.specs.Contents.{Trees, Contents, page_of, Pages, pages_from_scratch}
+use Rattle.liquid_site.specs.Contents.{mentions}
 
 pub data Step : Type 0 where
   set_page : Text → Nodes → Step
@@ -56,30 +59,41 @@ raised count n = min (count + n) 18446744073709551615
 
 -- ---- rendering again what was touched alone
 
--- the pages of the templates, of which those that pass the test are shown anew, and the others as they were
+-- the pages of the templates, of which those that pass the test are shown anew, and the others as
+-- they were
 abbrev pub refreshed : (Nodes → Bool) → (Nodes → Shown) → Trees → Pages → Pages
-refreshed test show (p ∷ ps) (q ∷ qs) = (p.0, cond (test p.1) (show p.1) q.1) ∷ refreshed test show ps qs
+refreshed test show (p ∷ ps) (q ∷ qs) = (p.0, cond (test p.1) (show p.1) q.1) ∷
+        refreshed test show ps qs
 refreshed test show _ _ = []
 
 -- the pages after a step
 abbrev pub kept_by : Step → Contents → Pages → Pages
 kept_by (set_page name t) c pages = put name (page_of c t) pages
 kept_by (remove_page name) c pages = without name pages
-kept_by (set_partial name t) c pages = refreshed (λ n. true) (page_of (stepped (set_partial name t) c)) c.pages pages
-kept_by (remove_partial name) c pages = refreshed (λ n. is_some (listed c.partials name)) (page_of (stepped (remove_partial name) c)) c.pages pages
-kept_by (set_value name d) c pages = refreshed (mentions c.partials name) (page_of (stepped (set_value name d) c)) c.pages pages
-kept_by (remove_value name) c pages = refreshed (λ n. cond (is_some (c.facts name)) (mentions c.partials name n) false) (page_of (stepped (remove_value name) c)) c.pages pages
+kept_by (set_partial name t) c pages =
+    refreshed (λ n. true) (page_of (stepped (set_partial name t) c)) c.pages pages
+kept_by (remove_partial name) c pages = refreshed (λ n. is_some (listed c.partials name))
+        (page_of (stepped (remove_partial name) c)) c.pages pages
+kept_by (set_value name d) c pages =
+    refreshed (mentions c.partials name) (page_of (stepped (set_value name d) c)) c.pages pages
+kept_by (remove_value name) c pages =
+    refreshed (λ n. cond (is_some (c.facts name)) (mentions c.partials name n) false)
+        (page_of (stepped (remove_value name) c)) c.pages pages
 
 -- ---- the laws
 
--- a value under a name that neither the page's template nor a partial mentions changes nothing of the page
+-- a value under a name that neither the page's template nor a partial mentions changes nothing of
+-- the page
 abbrev pub UntouchedPages : Type 0
-UntouchedPages = (contents : Contents) (name : Text) (d : Option Datum) (nodes : Nodes) → mentions contents.partials name nodes ≡ false
-    → page_over contents.depth contents.partials (with_fact contents.facts name d) nodes ≡ page_of contents nodes
+UntouchedPages = (contents : Contents) (name : Text) (d : Option Datum) (nodes : Nodes) →
+    mentions contents.partials name nodes ≡ false
+    → page_over contents.depth contents.partials (with_fact contents.facts name d) nodes ≡
+            page_of contents nodes
 
 -- rendering again what a step touches gives what rendering all from scratch gives
 abbrev pub KeptIsFromScratch : Type 0
-KeptIsFromScratch = (s : Step) (contents : Contents) → kept_by s contents (pages_from_scratch contents) ≡ pages_from_scratch (stepped s contents)
+KeptIsFromScratch = (s : Step) (contents : Contents) →
+    kept_by s contents (pages_from_scratch contents) ≡ pages_from_scratch (stepped s contents)
 
 -- ---- whole runs
 
@@ -93,4 +107,5 @@ all_kept (s ∷ ss) c pages = all_kept ss (stepped s c) (kept_by s c pages)
 
 -- after any list of steps the pages are those that rendering the contents from scratch gives
 abbrev pub PagesKept : Type 0
-PagesKept = (depth : ℕ) (steps : List Step) → all_kept steps (no_contents depth) [] ≡ pages_from_scratch (all_stepped steps (no_contents depth))
+PagesKept = (depth : ℕ) (steps : List Step) → all_kept steps (no_contents depth) [] ≡
+        pages_from_scratch (all_stepped steps (no_contents depth))

@@ -2,8 +2,8 @@
 
 use liquid_core::Value;
 
-/// A change of what a site holds: names first, sources second. A set replaces, and a removal of what isn't there changes
-/// nothing.
+/// A change of what a site holds: names first, sources second. A set replaces, and a removal of
+/// what isn't there changes nothing.
 #[derive(Drop)]
 pub enum Change {
     /// A page's template.

@@ -28,7 +28,8 @@ pub(crate) fn changed(
     name: &str,
     value: Option<Value>,
 ) -> Result<Object>
-    ensures { IsValueOrMemory held result (with_fact (held facts.now) name.now (option_map view value)) }
+    ensures { IsValueOrMemory held result (with_fact (held facts.now) name.now
+                (option_map view value)) }
 {
     let copies = copied(alloc, facts)?;
     match value {

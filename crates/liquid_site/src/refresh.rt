@@ -26,7 +26,8 @@ pub(crate) struct RenderContext<'g> {
     pub facts: &'g Object,
 }
 
-/// Renders all pages, or those alone whose template mentions the name, and answers them in the order of their names.
+/// Renders all pages, or those alone whose template mentions the name, and answers them in the
+/// order of their names.
 pub(crate) fn rendered_pages(
     alloc: Global,
     templates: &BTreeMap<String, Template>,
@@ -35,7 +36,9 @@ pub(crate) fn rendered_pages(
     name: &str,
 ) -> Result<Vec<(String, Page)>>
     ensures pages { IsValueOrMemory (λ v. listed_pages v.items) result
-        (all_pages (page_over context.now.depth (partials_of context.now.partials.now) (held context.now.facts.now)) (wanted_of (wanted all name.now) (trees_in templates.now))) }
+        (all_pages (page_over context.now.depth (partials_of context.now.partials.now)
+                (held context.now.facts.now))
+                (wanted_of (wanted all name.now) (trees_in templates.now))) }
     ensures ascend { IsStrictlySortedBy string_cmp (keys_of templates.now.entries) }
 {
     let mut pages = Vec::new(alloc);
@@ -56,7 +59,8 @@ fn rendered_page(
     context: &RenderContext<'_>,
 ) -> Result<(String, Page)>
     ensures { IsValueOrMemory named_page result
-        (name.now, page_over context.now.depth (partials_of context.now.partials.now) (held context.now.facts.now) (tree_of template.now)) }
+        (name.now, page_over context.now.depth (partials_of context.now.partials.now)
+                (held context.now.facts.now) (tree_of template.now)) }
 {
     let own = String::from_str(alloc, name)?;
     let page = render_page(
@@ -97,8 +101,14 @@ pub(crate) fn put_page(
     rendered: (Template, Page),
 ) -> Result<()>
     requires { map (λ p. p.0) (trees_in templates.old) ≡ map (λ p. p.0) (pages_in pages.old) }
-    ensures templates { OnOk result (trees_in templates.new ≡ put (string_bytes name) (tree_of rendered.0) (trees_in templates.old)) }
-    ensures pages { OnOk result (pages_in pages.new ≡ put (string_bytes name) (page_view rendered.1) (pages_in pages.old)) }
+    ensures templates {
+        OnOk result (trees_in templates.new ≡ put (string_bytes name) (tree_of rendered.0)
+            (trees_in templates.old))
+    }
+    ensures pages {
+        OnOk result (pages_in pages.new ≡ put (string_bytes name) (page_view rendered.1)
+            (pages_in pages.old))
+    }
     ensures templates_unchanged { OnErr result (trees_in templates.new ≡ trees_in templates.old) }
     ensures pages_unchanged { OnErr result (pages_in pages.new ≡ pages_in pages.old) }
     ensures memory { IfErr result (λ e. e.kind ≡ ErrorKind.Memory) }

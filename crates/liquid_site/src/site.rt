@@ -15,8 +15,8 @@ use std::collections::BTreeMap;
 
 /// Pages, partials and data, and what each page shows.
 ///
-/// After any changes each page shows what rendering its template in a new runtime gives. A change renders again only the
-/// pages that it can touch.
+/// After any changes each page shows what rendering its template in a new runtime gives. A change
+/// renders again only the pages that it can touch.
 pub struct Site {
     alloc: Global,
     language: Language,
@@ -29,7 +29,8 @@ pub struct Site {
     ghost kept: { pages_in pages ≡ pages_from_scratch (contents_in depth templates partials facts) } by { Pages-prop (pages_in pages) (pages_from_scratch (contents_in depth templates partials facts)) },
 }
 
-/// Drops the fields. By hand, so that a way out of a function that owns one is one call to prove.
+/// Drops the fields. Written by hand, so that each early return drops the value by one call to
+/// prove.
 impl Drop for Site {
     fn drop(self) {
         let Site {
@@ -56,7 +57,8 @@ impl Site {
     ghost use Rattle.liquid_syntax.specs.Templates.{tree_of, slots_of};
     ghost use Rattle.liquid_site.specs.Applied.{Applies};
     ghost use Rattle.liquid_site.specs.SiteViews.{contents_of, language_of, count_of};
-    ghost use Rattle.liquid_site.specs.Steps.{no_contents, remove_page, stepped, raised, mentioning, with_fact};
+    ghost use Rattle.liquid_site.specs.Steps.{no_contents, remove_page, stepped, raised};
+    ghost use Rattle.liquid_site.specs.Steps.{mentioning, with_fact};
 
     /// A site without pages, partials and data, of so many nested partials. It takes no memory.
     pub fn new(alloc: Global, language: Language, depth: u32) -> Site
@@ -67,7 +69,8 @@ impl Site {
         Site::over(alloc, language, depth, Object::new(alloc))
     }
 
-    /// A site over this data, without pages and partials, of so many nested partials. It takes no memory.
+    /// A site over this data, without pages and partials, of so many nested partials. It takes no
+    /// memory.
     pub fn over(alloc: Global, language: Language, depth: u32, facts: Object) -> Site
         ensures contents { contents_of result ≡ record (no_contents depth) { facts = held facts } }
         ensures language { language_of result ≡ language }
@@ -106,11 +109,13 @@ impl Site {
         self.rendered
     }
 
-    /// Applies a change. A refused one changes nothing: a kind of a source where its source is no template, or `Memory`.
+    /// Applies a change. A refused one changes nothing: a kind of a source where its source is no
+    /// template, or `Memory`.
     ///
-    /// Rendered again are: by `SetPage` that page; by `SetPartial`, and by `RemovePartial` of one that is there, every
-    /// page; by `SetValue`, and by `RemoveValue` of one that is there, the pages that mention the name, or all where a
-    /// partial mentions it; by `RemovePage` none. A fault of a page is that page's end, and no refusal.
+    /// Rendered again are: by `SetPage` that page; by `SetPartial`, and by `RemovePartial` of one
+    /// that is there, every page; by `SetValue`, and by `RemoveValue` of one that is there, the
+    /// pages that mention the name, or all where a partial mentions it; by `RemovePage` none. A
+    /// fault of a page is that page's end, and no refusal.
     pub fn apply(&mut self, change: Change) -> Result<()>
         ensures applied { Applies change result self.old self.new }
         ensures language { language_of self.new ≡ language_of self.old }
@@ -150,7 +155,11 @@ impl Site {
 
     /// Renders a page and puts it, with its template, at its name.
     fn set_page(&mut self, name: String, template: Template) -> Result<()>
-        ensures set { IsValueOrMemory (λ _. contents_of self.new) result (record (contents_of self.old) { pages = put (string_bytes name) (tree_of template) (contents_of self.old).pages }) }
+        ensures set {
+            IsValueOrMemory (λ _. contents_of self.new) result
+                (record (contents_of self.old) { pages = put (string_bytes name) (tree_of template)
+                (contents_of self.old).pages })
+        }
         ensures counted { OnOk result (count_of self.new ≡ raised (count_of self.old) 1) }
         ensures unchanged { OnErr result (contents_of self.new ≡ contents_of self.old) }
         ensures uncounted { OnErr result (count_of self.new ≡ count_of self.old) }
@@ -176,7 +185,8 @@ impl Site {
 
     /// Takes a page and its template out. It takes no memory.
     fn remove_page(&mut self, name: &str)
-        ensures removed { contents_of self.new ≡ stepped (remove_page name.now) (contents_of self.old) }
+        ensures removed { contents_of self.new ≡ stepped (remove_page name.now)
+                    (contents_of self.old) }
         ensures uncounted { count_of self.new ≡ count_of self.old }
         ensures language { language_of self.new ≡ language_of self.old }
     {
@@ -184,12 +194,19 @@ impl Site {
         drop(self.pages.remove(name));
     }
 
-    /// Puts what is held into the place of a partial, and renders every page again. Where there is no memory the partial is
-    /// as it was.
+    /// Puts what is held into the place of a partial, and renders every page again. Where there is
+    /// no memory the partial is as it was.
     fn exchange_partial(&mut self, name: &str, held: Option<Template>) -> Result<()>
         requires { IsSome (listed (slots_of self.old.partials) name.now) }
-        ensures set { IsValueOrMemory (λ _. contents_of self.new) result (record (contents_of self.old) { partials = exchanged name.now (option_map tree_of held) (contents_of self.old).partials }) }
-        ensures counted { OnOk result (count_of self.new ≡ raised (count_of self.old) (length (contents_of self.old).pages)) }
+        ensures set {
+            IsValueOrMemory (λ _. contents_of self.new) result
+                (record (contents_of self.old) { partials = exchanged name.now
+                (option_map tree_of held) (contents_of self.old).partials })
+        }
+        ensures counted {
+            OnOk result (count_of self.new ≡
+                raised (count_of self.old) (length (contents_of self.old).pages))
+        }
         ensures unchanged { OnErr result (contents_of self.new ≡ contents_of self.old) }
         ensures uncounted { OnErr result (count_of self.new ≡ count_of self.old) }
         ensures language { language_of self.new ≡ language_of self.old }
@@ -216,8 +233,15 @@ impl Site {
 
     /// Sets a value of the data, or removes it, and renders again the pages that can see it.
     fn change_value(&mut self, name: &str, value: Option<Value>) -> Result<()>
-        ensures set { IsValueOrMemory (λ _. contents_of self.new) result (record (contents_of self.old) { facts = with_fact (contents_of self.old).facts name.now (option_map view value) }) }
-        ensures counted { OnOk result (count_of self.new ≡ raised (count_of self.old) (mentioning (contents_of self.old) name.now)) }
+        ensures set {
+            IsValueOrMemory (λ _. contents_of self.new) result
+                (record (contents_of self.old) { facts = with_fact (contents_of self.old).facts
+                name.now (option_map view value) })
+        }
+        ensures counted {
+            OnOk result (count_of self.new ≡
+                raised (count_of self.old) (mentioning (contents_of self.old) name.now))
+        }
         ensures unchanged { OnErr result (contents_of self.new ≡ contents_of self.old) }
         ensures uncounted { OnErr result (count_of self.new ≡ count_of self.old) }
         ensures language { language_of self.new ≡ language_of self.old }

@@ -1,5 +1,6 @@
 -- Files by their paths, and what reading and writing one does.
-use Rattle.std.specs.Prelude.{◌≡◌, cond, bytes_eq, Bool, false, Option, Some, None, Result, Ok, Err, ⊤, String, string_bytes}
+use Rattle.std.specs.Prelude.{◌≡◌, cond, bytes_eq, Bool, false, Option, Some, None, Result, Ok, Err}
+use Rattle.std.specs.Prelude.{⊤, String, string_bytes}
 use Rattle.std.specs.declared.alloc.Global.{Global}
 use Rattle.liquid_model.specs.Texts.{Text}
 use Rattle.liquid_site_files.specs.declared.disk.DiskFault.{DiskFault}
@@ -31,7 +32,8 @@ IsFound file (Err Refused) = file ≡ unread
 abbrev pub ChangesAt : Text → Files → Option Files → Type 0
 ChangesAt path old new = (file : File) × (new ≡ Some (with_file old path file))
 
--- what writing a text at a path leaves: the text at that path, or, where it is refused, anything there; and all other files
+-- what writing a text at a path leaves: the text at that path, or, where it is refused, anything
+-- there; and all other files
 abbrev pub IsPut : Text → Text → Files → Result (Unit {0}) DiskFault → Option Files → Type 0
 IsPut path text old (Ok u) new = new ≡ Some (with_file old path (holds text))
 IsPut path text old (Err e) new = ChangesAt path old new

@@ -1,5 +1,6 @@
 -- Which of the files that changed are refused, and why: what a round tells of them.
-use Rattle.std.specs.Prelude.{◌≡◌, List, [], ◌∷◌, ◌++◌, Option, Some, None, option_to_list, Result, Ok, Err, string_bytes}
+use Rattle.std.specs.Prelude.{◌≡◌, List, [], ◌∷◌, ◌++◌, Option, Some, None, option_to_list, Result}
+use Rattle.std.specs.Prelude.{Ok, Err, string_bytes}
 use Rattle.liquid_model.specs.Data.{Pairs}
 use Rattle.liquid_model.specs.Texts.{Text}
 use Rattle.liquid_model.specs.declared.error.ErrorKind.{ErrorKind}
@@ -16,7 +17,8 @@ use Rattle.liquid_site_files.specs.declared.take.Refusal.{Refusal}
 use Rattle.liquid_site_files.specs.declared.take.Why.{Why}
 use Rattle.liquid_site_files.specs.declared.take.Why.TheVariants.{Unread, Fault}
 
--- the text of a template: none is refused that is a template, and one that is none is, by a fault of a source
+-- the text of a template: none is refused that is a template, and one that is none is, by a fault
+-- of a source
 abbrev pub RefusesSource : Language → Text → Option Why → Type 0
 RefusesSource l source None = (t : Nodes) × IsOnlyTree l t source
 RefusesSource l source (Some (Fault e)) = HasNoTree l source × IsOfSource e.kind
@@ -50,10 +52,13 @@ Refuses l Facts file why = RefusesFacts file why
 -- what is told of a changed file: its own path with why it is refused, or nothing where it is not
 abbrev pub IsRefusal : Language → Folder → Files → Changed → Option Refusal → Type 0
 IsRefusal l folder files changed None = Refuses l changed (files (path_of folder changed)) None
-IsRefusal l folder files changed (Some refusal) = (string_bytes refusal.path ≡ path_of folder changed) × Refuses l changed (files (path_of folder changed)) (Some refusal.why)
+IsRefusal l folder files changed (Some refusal) =
+    (string_bytes refusal.path ≡ path_of folder changed) ×
+    Refuses l changed (files (path_of folder changed)) (Some refusal.why)
 
 -- what is told of all changed files, one after another
 abbrev pub AreRefusals : Language → Folder → Files → List Changed → List Refusal → Type 0
 AreRefusals l folder files [] told = told ≡ []
 AreRefusals l folder files (changed ∷ rest) told =
-    (refusal : Option Refusal) × (later : List Refusal) × IsRefusal l folder files changed refusal × AreRefusals l folder files rest later × (told ≡ option_to_list refusal ++ later)
+    (refusal : Option Refusal) × (later : List Refusal) × IsRefusal l folder files changed refusal ×
+        AreRefusals l folder files rest later × (told ≡ option_to_list refusal ++ later)

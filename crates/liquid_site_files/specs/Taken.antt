@@ -8,16 +8,19 @@ use Rattle.liquid_syntax.specs.Parsing.{IsOnlyTree, HasNoTree}
 use Rattle.liquid_language.specs.declared.language.Language.{Language}
 use Rattle.liquid_json.specs.Json.{data_of}
 use Rattle.liquid_site.specs.Contents.{Contents}
-use Rattle.liquid_site.specs.Steps.{Step, set_page, remove_page, set_partial, remove_partial, stepped}
+use Rattle.liquid_site.specs.Steps.{Step, set_page, remove_page, set_partial, remove_partial}
+use Rattle.liquid_site.specs.Steps.{stepped}
 use Rattle.liquid_site_files.specs.Files.{File, Files, gone, holds, unread}
 use Rattle.liquid_site_files.specs.Paths.{path_of}
 use Rattle.liquid_site_files.specs.declared.folder.Changed.{Changed}
 use Rattle.liquid_site_files.specs.declared.folder.Changed.TheVariants.{Page, Partial, Facts}
 use Rattle.liquid_site_files.specs.declared.folder.Folder.{Folder}
 
--- a template's file: its text is set, and it is removed where it is gone. A text that is no template, or a file that can't be read, changes nothing
+-- a template's file: its text is set, and it is removed where it is gone. A text that is no
+-- template, or a file that can't be read, changes nothing
 abbrev pub TakesTemplate : Language → (Nodes → Step) → Step → File → Contents → Contents → Type 0
-TakesTemplate l set remove (holds source) c d = ((t : Nodes) × IsOnlyTree l t source × (d ≡ stepped (set t) c)) ⊎ (HasNoTree l source × (d ≡ c))
+TakesTemplate l set remove (holds source) c d =
+    ((t : Nodes) × IsOnlyTree l t source × (d ≡ stepped (set t) c)) ⊎ (HasNoTree l source × (d ≡ c))
 TakesTemplate l set remove gone c d = d ≡ stepped remove c
 TakesTemplate l set remove unread c d = d ≡ c
 
@@ -26,18 +29,22 @@ abbrev pub with_facts : Result Pairs ErrorKind → Contents → Contents
 with_facts (Ok facts) c = record c { facts = map_of facts }
 with_facts (Err kind) c = c
 
--- the data's file: all that it gives, and nothing changes where it gives no data, is gone or can't be read
+-- the data's file: all that it gives, and nothing changes where it gives no data, is gone or can't
+-- be read
 abbrev pub TakesFacts : File → Contents → Contents → Type 0
 TakesFacts (holds source) c d = d ≡ with_facts (data_of source) c
 TakesFacts gone c d = d ≡ c
 TakesFacts unread c d = d ≡ c
 
 abbrev pub Takes : Language → Changed → File → Contents → Contents → Type 0
-Takes l (Page name) file = TakesTemplate l (set_page (string_bytes name)) (remove_page (string_bytes name)) file
-Takes l (Partial name) file = TakesTemplate l (set_partial (string_bytes name)) (remove_partial (string_bytes name)) file
+Takes l (Page name) file = TakesTemplate l (set_page (string_bytes name))
+        (remove_page (string_bytes name)) file
+Takes l (Partial name) file = TakesTemplate l (set_partial (string_bytes name))
+        (remove_partial (string_bytes name)) file
 Takes l Facts file = TakesFacts file
 
 -- the files are taken one after another
 abbrev pub AreTaken : Language → Folder → Files → List Changed → Contents → Contents → Type 0
 AreTaken l folder files [] c d = d ≡ c
-AreTaken l folder files (changed ∷ rest) c d = (m : Contents) × Takes l changed (files (path_of folder changed)) c m × AreTaken l folder files rest m d
+AreTaken l folder files (changed ∷ rest) c d = (m : Contents) ×
+    Takes l changed (files (path_of folder changed)) c m × AreTaken l folder files rest m d

@@ -1,5 +1,7 @@
 -- The files of pages: those that are written, and one that isn't.
-use Rattle.std.specs.Prelude.{◌≡◌, ◌⊎◌, ℕ, ⊤, MatchBool, cond, codes, bytes_eq, Bool, false, [], ◌∷◌, ◌++◌, Option, Some, None, option_map, Result, Ok, Err, string_bytes}
+use Rattle.std.specs.Prelude.{◌≡◌, ◌⊎◌, ℕ, ⊤, MatchBool, cond, codes, bytes_eq, Bool, false, []}
+use Rattle.std.specs.Prelude.{◌∷◌, ◌++◌, Option, Some, None, option_map, Result, Ok, Err}
+use Rattle.std.specs.Prelude.{string_bytes}
 use Rattle.std.specs.List.{list_any}
 use Rattle.liquid_model.specs.ErrorKinds.{is_memory}
 use Rattle.liquid_model.specs.Texts.{Text}
@@ -20,10 +22,12 @@ abbrev pub all_written : Text → Pages → Files → Files
 all_written out [] files = files
 all_written out (p ∷ ps) files = all_written out ps (with_file files (out ++ p.0) (holds p.1.text))
 
--- how many of the pages' files hold another text, behind a count
+-- how many of the pages' files hold another text, after a count
 abbrev pub count_from : ℕ → Text → Pages → Files → ℕ
 count_from n out [] files = n
-count_from n out (p ∷ ps) files = count_from (cond (is_held (files (out ++ p.0)) p.1.text) n (raised n 1)) out ps (with_file files (out ++ p.0) (holds p.1.text))
+count_from n out (p ∷ ps) files =
+    count_from (cond (is_held (files (out ++ p.0)) p.1.text) n (raised n 1)) out ps
+        (with_file files (out ++ p.0) (holds p.1.text))
 
 -- whether a path is that of a page's file
 abbrev pub is_page_path : Text → Pages → Text → Bool
@@ -38,9 +42,11 @@ KeepsOthers out ps old (Some new) = (q : Text) → is_page_path out ps q ≡ fal
 abbrev pub unwritten_message : Text → Text
 unwritten_message path = codes "the file `" ++ path ++ codes "` can't be written"
 
--- the writing ended at a page whose file was refused, and which is told by its path: this file held another text and may hold anything, those of
--- the pages in front hold their texts, and all others are as they were
-pub record IsUnwritten (out : Text) (ps : Pages) (old : Files) (new : Option Files) (e : Error) : Type 0 where
+-- the writing ended at a page whose file was refused, and which is told by its path: this file held
+-- another text and may hold anything, those of the pages in front hold their texts, and all others
+-- are as they were
+pub record IsUnwritten (out : Text) (ps : Pages) (old : Files) (new : Option Files)
+      (e : Error) : Type 0 where
   pub front : Pages
   pub page : Text × Shown
   pub back : Pages

@@ -20,7 +20,9 @@ pub trait Disk {
     fn read(&self, path: &str) -> std::result::Result<Option<String>, DiskFault>
         ensures { IfSome (files self.now) (λ f. IsFound (f path.now) result) };
 
-    /// Puts a text into the file at a path, in place of what it held. No other file changes, also where it is refused.
+    /// Puts a text into the file at a path, in place of what it held. No other file changes, also
+    /// where it is refused.
     fn write(&mut self, path: &str, text: &str) -> std::result::Result<(), DiskFault>
-        ensures { IfSome (files self.old) (λ f. IsPut path.now text.now f result (files self.new)) };
+        ensures { IfSome (files self.old) (λ f. IsPut path.now text.now f result
+                    (files self.new)) };
 }

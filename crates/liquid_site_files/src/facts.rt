@@ -12,10 +12,14 @@ use liquid_core::{Object, Result, Value, look_up};
 use liquid_site::{Change, Site};
 use std::alloc::Global;
 
-/// Gives a site this data in place of its own: removes the names that are gone, and sets the values that are new or other, so
-/// that only pages that can see a difference are rendered again. Where memory runs out some of it may be done.
+/// Gives a site this data in place of its own: removes the names that are gone, and sets the values
+/// that are new or other, so that only pages that can see a difference are rendered again. Where
+/// memory runs out some of it may be done.
 pub(crate) fn change_facts(alloc: Global, site: &mut Site, facts: Object) -> Result<()>
-    ensures contents { IsValueOrMemory (λ _. contents_of site.new) result (record (contents_of site.old) { facts = held facts }) }
+    ensures contents {
+        IsValueOrMemory (λ _. contents_of site.new) result
+            (record (contents_of site.old) { facts = held facts })
+    }
     ensures language { language_of site.new ≡ language_of site.old }
 {
     let gone = names_gone(alloc, site.facts(), &facts)?;
@@ -25,7 +29,10 @@ pub(crate) fn change_facts(alloc: Global, site: &mut Site, facts: Object) -> Res
 
 /// The names of the old data that the new data hasn't.
 fn names_gone(alloc: Global, old: &Object, new: &Object) -> Result<Vec<String>>
-    ensures { IsValueOrMemory (λ v. texts v.items) result (filter (λ name. not (is_some (held new.now name))) (texts (keys_of old.now.entries))) }
+    ensures {
+        IsValueOrMemory (λ v. texts v.items) result
+            (filter (λ name. not (is_some (held new.now name))) (texts (keys_of old.now.entries)))
+    }
 {
     let mut gone = Vec::new(alloc);
     for (name, _) in old.iter() {
@@ -38,7 +45,11 @@ fn names_gone(alloc: Global, old: &Object, new: &Object) -> Result<Vec<String>>
 
 /// Removes the values of these names.
 fn remove_names(site: &mut Site, names: Vec<String>) -> Result<()>
-    ensures contents { IsValueOrMemory (λ _. contents_of site.new) result (record (contents_of site.old) { facts = all_removed (texts names.items) (contents_of site.old).facts }) }
+    ensures contents {
+        IsValueOrMemory (λ _. contents_of site.new) result
+            (record (contents_of site.old) { facts = all_removed (texts names.items)
+            (contents_of site.old).facts })
+    }
     ensures language { language_of site.new ≡ language_of site.old }
 {
     for name in names {
@@ -49,7 +60,11 @@ fn remove_names(site: &mut Site, names: Vec<String>) -> Result<()>
 
 /// Sets each of these values that the site hasn't.
 fn set_values(site: &mut Site, facts: Object) -> Result<()>
-    ensures contents { IsValueOrMemory (λ _. contents_of site.new) result (record (contents_of site.old) { facts = merged (held facts) (contents_of site.old).facts }) }
+    ensures contents {
+        IsValueOrMemory (λ _. contents_of site.new) result
+            (record (contents_of site.old) { facts = merged (held facts)
+            (contents_of site.old).facts })
+    }
     ensures language { language_of site.new ≡ language_of site.old }
 {
     for (name, value) in facts {

@@ -4,7 +4,8 @@ ghost use Rattle.liquid_site.specs.Contents.{pages_from_scratch};
 ghost use Rattle.liquid_site.specs.SiteViews.{contents_of, language_of};
 ghost use Rattle.liquid_site_files.specs.Refusals.{AreRefusals};
 ghost use Rattle.liquid_site_files.specs.Taken.{AreTaken};
-ghost use Rattle.liquid_site_files.specs.Written.{IsStop, all_written, count_from, KeepsOthers, TellsUnwritten};
+ghost use Rattle.liquid_site_files.specs.Written.{IsStop, all_written, count_from, KeepsOthers};
+ghost use Rattle.liquid_site_files.specs.Written.{TellsUnwritten};
 
 use crate::disk::Disk;
 use crate::folder::{Changed, Folder};
@@ -19,17 +20,21 @@ use std::alloc::Global;
 pub struct RoundOutcome {
     /// The files that were refused, in the order of the changes.
     pub refusals: Vec<Refusal>,
-    /// How many pages were written, up to the greatest value; or the fault that ended the writing: `Write`, whose message names the
-    /// page's file that can't be written, or `Memory`. The pages in front of that one are written.
+    /// How many pages were written, up to the greatest value; or the fault that ended the writing:
+    /// `Write`, whose message names the page's file that can't be written, or `Memory`. The pages
+    /// in front of that one are written.
     pub written: Result<u64>,
 }
 
-/// Takes the files that changed, one after another, and then writes each page whose file holds another text.
+/// Takes the files that changed, one after another, and then writes each page whose file holds
+/// another text.
 ///
-/// A file that is gone takes its page or its partial with it. A file whose text is no template or no data, or which can't be
-/// read, is refused and changes nothing, and so is the data's file where it is gone. The file of a page that is gone stays.
-/// Where a page's file can't be written, the outcome has that fault beside the refusals; the next round writes the others. The
-/// answer is `Memory` where memory ran out before all changes were taken: some of them may be, and no file is written.
+/// A file that is gone takes its page or its partial with it. A file whose text is no template or
+/// no data, or which can't be read, is refused and changes nothing, and so is the data's file where
+/// it is gone. The file of a page that is gone stays.
+/// Where a page's file can't be written, the outcome has that fault beside the refusals; the next
+/// round writes the others. The answer is `Memory` where memory ran out before all changes were
+/// taken: some of them may be, and no file is written.
 pub fn round<D: Disk>(
     alloc: Global,
     site: &mut Site,
@@ -71,8 +76,17 @@ fn take_all<D: Disk>(
     changes: &[Changed],
     disk: &D,
 ) -> Result<Vec<Refusal>>
-    ensures taken { IfSome (D.files disk.now) (λ f. OnOk result (AreTaken (language_of site.old) folder.now f changes.now (contents_of site.old) (contents_of site.new))) }
-    ensures refusals { IfSome (D.files disk.now) (λ f. IfOk result (λ refusals. AreRefusals (language_of site.old) folder.now f changes.now refusals.items)) }
+    ensures taken {
+        IfSome (D.files disk.now)
+            (λ f. OnOk result (AreTaken (language_of site.old) folder.now f changes.now
+            (contents_of site.old) (contents_of site.new)))
+    }
+    ensures refusals {
+        IfSome (D.files disk.now)
+            (λ f. IfOk result
+            (λ refusals. AreRefusals (language_of site.old) folder.now f changes.now
+            refusals.items))
+    }
     ensures language { language_of site.new ≡ language_of site.old }
     ensures memory { IfErr result (λ e. e.kind ≡ ErrorKind.Memory) }
 {

@@ -15,8 +15,9 @@ use std::alloc::Global;
 /// How deep partials may be nested.
 const DEPTH: u32 = 32;
 
-/// A site in the standard language over the data of a text of JSON, without pages and partials, of at most 32 nested
-/// partials. The answer is the data's fault, `InvalidInput` or `Float`, where the text gives no data, or `Memory`.
+/// A site in the standard language over the data of a text of JSON, without pages and partials, of
+/// at most 32 nested partials. The answer is the data's fault, `InvalidInput` or `Float`, where the
+/// text gives no data, or `Memory`.
 pub fn site_of(alloc: Global, facts: &str) -> Result<Site>
     ensures contents { Answers contents_of result (site_over (data_of facts.now)) }
     ensures language { IfOk result (λ site. IsStandard (language_of site)) }

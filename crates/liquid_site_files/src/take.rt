@@ -1,5 +1,6 @@
 //! What a site takes of a file that changed.
-ghost use Rattle.std.specs.Prelude.{◌≡◌, false, Some, IfOk, OnOk, IfErr, IfSome, option_map, string_bytes};
+ghost use Rattle.std.specs.Prelude.{◌≡◌, false, Some, IfOk, OnOk, IfErr, IfSome, option_map};
+ghost use Rattle.std.specs.Prelude.{string_bytes};
 ghost use Rattle.liquid_model.specs.Answer.{IsValueOrMemory};
 ghost use Rattle.liquid_model.specs.ErrorKinds.{is_memory};
 ghost use Rattle.liquid_site.specs.SiteViews.{contents_of, language_of};
@@ -47,8 +48,8 @@ pub(crate) enum Found {
     Unread,
 }
 
-/// Takes what stands at the path of a changed file. A file that is gone takes its page or partial with it. The answer is the
-/// file where it is refused.
+/// Takes what stands at the path of a changed file. A file that is gone takes its page or partial
+/// with it. The answer is the file where it is refused.
 pub(crate) fn take<D: Disk>(
     alloc: Global,
     site: &mut Site,
@@ -56,9 +57,20 @@ pub(crate) fn take<D: Disk>(
     changed: &Changed,
     disk: &D,
 ) -> Result<Option<Refusal>>
-    ensures taken { IfSome (D.files disk.now) (λ f. OnOk result (Takes (language_of site.old) changed.now (f (path_of folder.now changed.now)) (contents_of site.old) (contents_of site.new))) }
-    ensures refused { IfSome (D.files disk.now) (λ f. IfOk result (λ r. Refuses (language_of site.old) changed.now (f (path_of folder.now changed.now)) (option_map (λ refusal. refusal.why) r))) }
-    ensures path { IfOk result (λ r. IfSome r (λ refusal. string_bytes refusal.path ≡ path_of folder.now changed.now)) }
+    ensures taken {
+        IfSome (D.files disk.now)
+            (λ f. OnOk result (Takes (language_of site.old) changed.now
+            (f (path_of folder.now changed.now)) (contents_of site.old) (contents_of site.new)))
+    }
+    ensures refused {
+        IfSome (D.files disk.now)
+            (λ f. IfOk result (λ r. Refuses (language_of site.old) changed.now
+            (f (path_of folder.now changed.now)) (option_map (λ refusal. refusal.why) r)))
+    }
+    ensures path {
+        IfOk result (λ r. IfSome r (λ refusal. string_bytes refusal.path ≡
+            path_of folder.now changed.now))
+    }
     ensures language { language_of site.new ≡ language_of site.old }
     ensures memory { IfErr result (λ e. e.kind ≡ ErrorKind.Memory) }
 {
@@ -72,7 +84,8 @@ pub(crate) fn take<D: Disk>(
 
 /// What stands at a path, or `Memory`.
 fn found_at<D: Disk>(disk: &D, path: &str) -> Result<Found>
-    ensures found { IfSome (D.files disk.now) (λ f. IsValueOrMemory found_view result (f path.now)) }
+    ensures found { IfSome (D.files disk.now) (λ f. IsValueOrMemory found_view result
+                (f path.now)) }
     ensures memory { IfErr result (λ e. e.kind ≡ ErrorKind.Memory) }
 {
     match disk.read(path) {
@@ -90,7 +103,10 @@ fn take_found(
     changed: &Changed,
     found: Found,
 ) -> Result<Option<Why>>
-    ensures taken { OnOk result (Takes (language_of site.old) changed.now (found_view found) (contents_of site.old) (contents_of site.new)) }
+    ensures taken {
+        OnOk result (Takes (language_of site.old) changed.now (found_view found)
+            (contents_of site.old) (contents_of site.new))
+    }
     ensures refused { IfOk result (Refuses (language_of site.old) changed.now (found_view found)) }
     ensures language { language_of site.new ≡ language_of site.old }
     ensures memory { IfErr result (λ e. e.kind ≡ ErrorKind.Memory) }
@@ -104,7 +120,10 @@ fn take_found(
 
 /// Sets a page, or removes it where its file is gone.
 fn take_page(alloc: Global, site: &mut Site, name: &str, found: Found) -> Result<Option<Why>>
-    ensures taken { OnOk result (TakesTemplate (language_of site.old) (set_page name.now) (remove_page name.now) (found_view found) (contents_of site.old) (contents_of site.new)) }
+    ensures taken {
+        OnOk result (TakesTemplate (language_of site.old) (set_page name.now) (remove_page name.now)
+            (found_view found) (contents_of site.old) (contents_of site.new))
+    }
     ensures refused { IfOk result (RefusesTemplate (language_of site.old) (found_view found)) }
     ensures language { language_of site.new ≡ language_of site.old }
     ensures memory { IfErr result (λ e. e.kind ≡ ErrorKind.Memory) }
@@ -119,7 +138,11 @@ fn take_page(alloc: Global, site: &mut Site, name: &str, found: Found) -> Result
 
 /// Sets a partial, or removes it where its file is gone.
 fn take_partial(alloc: Global, site: &mut Site, name: &str, found: Found) -> Result<Option<Why>>
-    ensures taken { OnOk result (TakesTemplate (language_of site.old) (set_partial name.now) (remove_partial name.now) (found_view found) (contents_of site.old) (contents_of site.new)) }
+    ensures taken {
+        OnOk result (TakesTemplate (language_of site.old) (set_partial name.now)
+            (remove_partial name.now) (found_view found) (contents_of site.old)
+            (contents_of site.new))
+    }
     ensures refused { IfOk result (RefusesTemplate (language_of site.old) (found_view found)) }
     ensures language { language_of site.new ≡ language_of site.old }
     ensures memory { IfErr result (λ e. e.kind ≡ ErrorKind.Memory) }
@@ -160,7 +183,8 @@ fn refused(error: Error) -> Result<Option<Why>>
 
 /// Takes the data of a file, value by value.
 fn take_facts(alloc: Global, site: &mut Site, found: Found) -> Result<Option<Why>>
-    ensures taken { OnOk result (TakesFacts (found_view found) (contents_of site.old) (contents_of site.new)) }
+    ensures taken { OnOk result (TakesFacts (found_view found) (contents_of site.old)
+                (contents_of site.new)) }
     ensures refused { IfOk result (RefusesFacts (found_view found)) }
     ensures language { language_of site.new ≡ language_of site.old }
     ensures memory { IfErr result (λ e. e.kind ≡ ErrorKind.Memory) }

@@ -1,10 +1,12 @@
 //! The files of pages.
-ghost use Rattle.std.specs.Prelude.{◌≡◌, ◌++◌, not, Some, IfSome, IfOk, IfErr, OnOk, option_map, string_bytes};
+ghost use Rattle.std.specs.Prelude.{◌≡◌, ◌++◌, not, Some, IfSome, IfOk, IfErr, OnOk, option_map};
+ghost use Rattle.std.specs.Prelude.{string_bytes};
 ghost use Rattle.liquid_model.specs.Answer.{IsValueOrMemory};
 ghost use Rattle.liquid_model.specs.Errors.{HasMessageUnlessMemory};
 ghost use Rattle.liquid_site.specs.Parts.{pages_in};
 ghost use Rattle.liquid_site_files.specs.Files.{ChangesAt, is_held, holds, with_file};
-ghost use Rattle.liquid_site_files.specs.Written.{IsStop, all_written, count_from, KeepsOthers, unwritten_message, TellsUnwritten};
+ghost use Rattle.liquid_site_files.specs.Written.{IsStop, all_written, count_from, KeepsOthers};
+ghost use Rattle.liquid_site_files.specs.Written.{unwritten_message, TellsUnwritten};
 ghost use Rattle.liquid_site_files.specs.inside.Needed.{NeededUnlessMemory};
 
 use crate::disk::{Disk, DiskFault};
@@ -14,18 +16,32 @@ use liquid_site::Page;
 use std::alloc::{AllocError, Global};
 use std::collections::BTreeMap;
 
-/// Writes each page into its file, unless the file holds the page's text already. The answer is how many were written, up
-/// to the greatest value; or the first file that was refused, as `Write`, or `Memory`.
+/// Writes each page into its file, unless the file holds the page's text already. The answer is how
+/// many were written, up to the greatest value; or the first file that was refused, as `Write`, or
+/// `Memory`.
 pub(crate) fn write_pages<D: Disk>(
     alloc: Global,
     pages: &BTreeMap<String, Page>,
     out: &str,
     disk: &mut D,
 ) -> Result<u64>
-    ensures written { IfSome (D.files disk.old) (λ f. OnOk result (D.files disk.new ≡ Some (all_written out.now (pages_in pages.now) f))) }
-    ensures count { IfSome (D.files disk.old) (λ f. IfOk result (λ n. n ≡ count_from 0 out.now (pages_in pages.now) f)) }
-    ensures others { IfSome (D.files disk.old) (λ f. KeepsOthers out.now (pages_in pages.now) f (D.files disk.new)) }
-    ensures unwritten { IfSome (D.files disk.old) (λ f. IfErr result (TellsUnwritten out.now (pages_in pages.now) f (D.files disk.new))) }
+    ensures written {
+        IfSome (D.files disk.old)
+            (λ f. OnOk result (D.files disk.new ≡
+            Some (all_written out.now (pages_in pages.now) f)))
+    }
+    ensures count {
+        IfSome (D.files disk.old)
+            (λ f. IfOk result (λ n. n ≡ count_from 0 out.now (pages_in pages.now) f))
+    }
+    ensures others {
+        IfSome (D.files disk.old) (λ f. KeepsOthers out.now (pages_in pages.now) f
+            (D.files disk.new))
+    }
+    ensures unwritten {
+        IfSome (D.files disk.old)
+            (λ f. IfErr result (TellsUnwritten out.now (pages_in pages.now) f (D.files disk.new)))
+    }
     ensures stop { IfErr result (λ e. IsStop e.kind) }
 {
     let mut written: u64 = 0;
@@ -45,11 +61,23 @@ fn write_page<D: Disk>(
     text: &str,
     disk: &mut D,
 ) -> Result<bool>
-    ensures written { IfSome (D.files disk.old) (λ f. OnOk result (D.files disk.new ≡ Some (with_file f (out.now ++ name.now) (holds text.now)))) }
-    ensures needed { IfSome (D.files disk.old) (λ f. IfOk result (λ b. b ≡ not (is_held (f (out.now ++ name.now)) text.now))) }
-    ensures others { IfSome (D.files disk.old) (λ f. ChangesAt (out.now ++ name.now) f (D.files disk.new)) }
-    ensures unwritten { IfSome (D.files disk.old) (λ f. IfErr result (NeededUnlessMemory (f (out.now ++ name.now)) text.now)) }
-    ensures message { IfErr result (HasMessageUnlessMemory (unwritten_message (out.now ++ name.now))) }
+    ensures written {
+        IfSome (D.files disk.old)
+            (λ f. OnOk result (D.files disk.new ≡
+            Some (with_file f (out.now ++ name.now) (holds text.now))))
+    }
+    ensures needed {
+        IfSome (D.files disk.old)
+            (λ f. IfOk result (λ b. b ≡ not (is_held (f (out.now ++ name.now)) text.now)))
+    }
+    ensures others { IfSome (D.files disk.old) (λ f. ChangesAt (out.now ++ name.now) f
+                (D.files disk.new)) }
+    ensures unwritten {
+        IfSome (D.files disk.old)
+            (λ f. IfErr result (NeededUnlessMemory (f (out.now ++ name.now)) text.now))
+    }
+    ensures message { IfErr result
+                (HasMessageUnlessMemory (unwritten_message (out.now ++ name.now))) }
     ensures stop { IfErr result (λ e. IsStop e.kind) }
 {
     let path = joined(alloc, out, name)?;
@@ -65,7 +93,10 @@ fn write_page<D: Disk>(
 
 /// Whether the file at a path holds this text.
 fn holds<D: Disk>(disk: &D, path: &str, text: &str) -> Result<bool>
-    ensures held { IfSome (D.files disk.now) (λ f. IsValueOrMemory (λ b. b) result (is_held (f path.now) text.now)) }
+    ensures held {
+        IfSome (D.files disk.now) (λ f. IsValueOrMemory (λ b. b) result
+            (is_held (f path.now) text.now))
+    }
     ensures memory { IfErr result (λ e. e.kind ≡ ErrorKind.Memory) }
 {
     match disk.read(path) {
@@ -78,7 +109,10 @@ fn holds<D: Disk>(disk: &D, path: &str, text: &str) -> Result<bool>
 /// The fault of a file that isn't written. Without memory there is none.
 fn unwritten(alloc: Global, path: &str) -> Result<Error>
     ensures kind { IsValueOrMemory (λ fault. fault.kind) result ErrorKind.Write }
-    ensures message { IfOk result (λ fault. option_map string_bytes fault.message ≡ Some (unwritten_message path.now)) }
+    ensures message {
+        IfOk result (λ fault. option_map string_bytes fault.message ≡
+            Some (unwritten_message path.now))
+    }
 {
     let message = format!(in alloc; "the file `{path}` can't be written")?;
     Ok(Error::with_message(ErrorKind::Write, message))

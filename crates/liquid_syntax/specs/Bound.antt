@@ -3,13 +3,15 @@ use Rattle.std.specs.Prelude.{◌≡◌, List, [], ◌∷◌, Bool, true, false,
 use Rattle.std.specs.Option.{option_and_then, option_map}
 use Rattle.liquid_core.specs.Expression.{Expression}
 use Rattle.liquid_model.specs.Texts.{Text}
-use Rattle.liquid_lexer.specs.Tokens.{Token, value, symbol, word, value_first, word_first, past, is_symbol}
+use Rattle.liquid_lexer.specs.Tokens.{Token, value, symbol, word, value_first, word_first, past}
+use Rattle.liquid_lexer.specs.Tokens.{is_symbol}
 use Rattle.liquid_lexer.specs.declared.symbol.Symbol.{Symbol}
 use Rattle.liquid_lexer.specs.declared.symbol.Symbol.TheVariants.{Assign, Colon, Comma}
 use Rattle.liquid_evaluation.specs.Tree.{Bindings}
 use Rattle.liquid_syntax.specs.Repeated.{AreRepeated, repeated_of}
 use Rattle.liquid_syntax.specs.declared.pair_items.PairStyle.{PairStyle}
-use Rattle.liquid_syntax.specs.declared.pair_items.PairStyle.TheVariants.{Include, JekyllInclude, Render}
+use Rattle.liquid_syntax.specs.declared.pair_items.PairStyle.TheVariants.{Include, JekyllInclude}
+use Rattle.liquid_syntax.specs.declared.pair_items.PairStyle.TheVariants.{Render}
 
 -- the symbol between a name and its value
 abbrev pub mark_of : PairStyle → Symbol
@@ -31,10 +33,12 @@ pub data IsPair (s : Symbol) : Text × Expression → List Token → Type 0 wher
 
 -- one of the pairs, with a `,` before it where they are separated
 pub data IsOneOf (k : PairStyle) : Text × Expression → List Token → Type 0 where
-  behind_comma : {p : Text × Expression} {ts : List Token} → is_separated k ≡ true → IsPair (mark_of k) p ts → IsOneOf k p (symbol Comma ∷ ts)
-  unseparated : {p : Text × Expression} {ts : List Token} → is_separated k ≡ false → IsPair (mark_of k) p ts → IsOneOf k p ts
+  behind_comma : {p : Text × Expression} {ts : List Token} → is_separated k ≡ true →
+      IsPair (mark_of k) p ts → IsOneOf k p (symbol Comma ∷ ts)
+  unseparated : {p : Text × Expression} {ts : List Token} → is_separated k ≡ false →
+      IsPair (mark_of k) p ts → IsOneOf k p ts
 
--- behind the last pair stands nothing, or one item of any kind (include), or one `,` (render)
+-- after the last pair stands nothing, or one item of any kind (include), or one `,` (render)
 pub data IsPairsEnd : PairStyle → List Token → Type 0 where
   no_item : {k : PairStyle} → IsPairsEnd k []
   any_item : (t : Token) → IsPairsEnd Include (t ∷ [])
@@ -47,9 +51,12 @@ ArePairs k ps ts = AreRepeated (IsOneOf k) (IsPairsEnd k) ps ts
 -- ---- reading
 
 abbrev pub pair_first : Symbol → List Token → Option ((Text × Expression) × List Token)
-pair_first s ts = option_and_then (λ w. option_and_then (λ rest. option_map (λ x. ((w.0, x.0), x.1)) (value_first rest)) (past s w.1)) (word_first ts)
+pair_first s ts =
+    option_and_then
+        (λ w. option_and_then (λ rest. option_map (λ x. ((w.0, x.0), x.1)) (value_first rest))
+        (past s w.1)) (word_first ts)
 
--- what stands behind a `,`, or where none is wanted all of it
+-- what follows a `,`, or where none is wanted all of it
 abbrev pub past_comma : Bool → List Token → Option (List Token)
 past_comma true ts = past Comma ts
 past_comma false ts = Some ts

@@ -11,8 +11,10 @@ use Rattle.liquid_language.specs.declared.language.Language.{Language}
 
 -- tokens are read as a chain exactly where the grammar says that they are it
 abbrev pub ReadsChains : Type 0
-ReadsChains = (known : Filters) (c : Chain) (ts : List Token) → (chain_of known ts ≡ Some c) ↔ IsChain known c ts
+ReadsChains = (known : Filters) (c : Chain) (ts : List Token) → (chain_of known ts ≡ Some c) ↔
+        IsChain known c ts
 
 -- so are the items of an `assign`
 abbrev pub ReadsAssigns : Type 0
-ReadsAssigns = (l : Language) (w : Text) (c : Chain) (ts : List Token) → (assign_of l ts ≡ Some (assign w c)) ↔ IsAssign (registered_in l.filters) w c ts
+ReadsAssigns = (l : Language) (w : Text) (c : Chain) (ts : List Token) →
+    (assign_of l ts ≡ Some (assign w c)) ↔ IsAssign (registered_in l.filters) w c ts

@@ -13,14 +13,15 @@ use Rattle.liquid_lexer.specs.declared.fault.FaultKind.{FaultKind}
 use Rattle.liquid_lexer.specs.declared.fault.FaultKind.TheVariants.{UnknownFilter, FilterArguments}
 use Rattle.liquid_lexer.specs.declared.symbol.Symbol.TheVariants.{Colon, Comma, Bar}
 
--- arguments, and the filters behind them
+-- arguments, and the filters after them
 abbrev pub Called : Type 0
 Called = List Expression × List FilterCall
 
 -- the name with these arguments, where it is registered and may be given their number
 abbrev pub accepted_call : Text → Option RegisteredFilter → List Expression → Option FilterCall
 accepted_call name None xs = None
-accepted_call name (Some filter) xs = cond (registered_counts filter (length xs)) (Some (record { filter = called_as name filter; arguments = xs })) None
+accepted_call name (Some filter) xs = cond (registered_counts filter (length xs)) (Some (record {
+        filter = called_as name filter; arguments = xs })) None
 
 -- why a call isn't accepted: no filter is registered, or it doesn't take so many arguments
 abbrev pub call_fault : Option RegisteredFilter → FaultKind
@@ -44,26 +45,32 @@ module _ (known : Filters) where
     filters_of [] = Some []
     filters_of (t ∷ ts) = cond (is_symbol Bar t) (call_of ts) None
 
-    -- behind a `|`
+    -- after a `|`
     pub call_of : List Token → Option (List FilterCall)
     call_of [] = None
-    call_of (t ∷ ts) = option_and_then (λ name. option_and_then (call_with name) (called_of ts)) (word_of t)
+    call_of (t ∷ ts) = option_and_then (λ name. option_and_then (call_with name) (called_of ts))
+            (word_of t)
 
-    -- behind a filter's name
+    -- after a filter's name
     pub called_of : List Token → Option Called
     called_of [] = Some ([], [])
-    called_of (t ∷ ts) = cond (is_symbol Colon t) (arguments_of ts) (no_arguments (cond (is_symbol Bar t) (call_of ts) None))
+    called_of (t ∷ ts) =
+        cond (is_symbol Colon t) (arguments_of ts)
+            (no_arguments (cond (is_symbol Bar t) (call_of ts) None))
 
-    -- behind a `:` or a `,`
+    -- after a `:` or a `,`
     pub arguments_of : List Token → Option Called
     arguments_of [] = None
     arguments_of (t ∷ ts) = if_value t (λ x. one_argument x (further_of ts))
 
-    -- behind an argument
+    -- after an argument
     pub further_of : List Token → Option Called
     further_of [] = Some ([], [])
-    further_of (t ∷ ts) = cond (is_symbol Comma t) (arguments_of ts) (no_arguments (cond (is_symbol Bar t) (call_of ts) None))
+    further_of (t ∷ ts) =
+        cond (is_symbol Comma t) (arguments_of ts)
+            (no_arguments (cond (is_symbol Bar t) (call_of ts) None))
 
   unfoldable pub chain_of : List Token → Option Chain
   chain_of [] = None
-  chain_of (t ∷ ts) = if_value t (λ x. option_map (λ calls. record { entry = x; filters = calls }) (filters_of ts))
+  chain_of (t ∷ ts) = if_value t (λ x. option_map (λ calls. record { entry = x;
+          filters = calls }) (filters_of ts))

@@ -7,7 +7,8 @@ use Rattle.liquid_evaluation.specs.Tree.{Filter, FilterCall, Chain, existing, ho
 use Rattle.liquid_lexer.specs.Tokens.{Token, value, symbol, word}
 use Rattle.liquid_language.specs.Registered.{registered_counts}
 use Rattle.liquid_language.specs.declared.registered_filter.RegisteredFilter.{RegisteredFilter}
-use Rattle.liquid_language.specs.declared.registered_filter.RegisteredFilter.TheVariants.{Kind, Host}
+use Rattle.liquid_language.specs.declared.registered_filter.RegisteredFilter.TheVariants.{Kind}
+use Rattle.liquid_language.specs.declared.registered_filter.RegisteredFilter.TheVariants.{Host}
 use Rattle.liquid_lexer.specs.declared.symbol.Symbol.TheVariants.{Assign, Colon, Comma, Bar}
 
 -- the filters that are registered, by name
@@ -32,16 +33,21 @@ arguments (x ∷ xs) = symbol Colon ∷ value x ∷ further_arguments xs
 -- `| name: v, v ..` for each: the name is registered, and may be given that number of arguments
 pub data AreFilters (known : Filters) : List FilterCall → List Token → Type 0 where
   none : AreFilters known [] []
-  filter : {filter : RegisteredFilter} {xs : List Expression} {calls : List FilterCall} {ts : List Token} (name : Text)
-      → listed known name ≡ Some filter → IsTrue (registered_counts filter (length xs)) → AreFilters known calls ts
-      → AreFilters known (record { filter = called_as name filter; arguments = xs } ∷ calls) (symbol Bar ∷ word name ∷ (arguments xs ++ ts))
+  filter : {filter : RegisteredFilter} {xs : List Expression} {calls : List FilterCall}
+          {ts : List Token} (name : Text)
+      → listed known name ≡ Some filter → IsTrue (registered_counts filter (length xs)) →
+          AreFilters known calls ts
+      → AreFilters known (record { filter = called_as name filter;
+              arguments = xs } ∷ calls) (symbol Bar ∷ word name ∷ (arguments xs ++ ts))
 
 -- a value, and filters
 abbrev pub IsChain : Filters → Chain → List Token → Type 0
-IsChain known chain ts = (rest : List Token) × (ts ≡ value chain.entry ∷ rest) × AreFilters known chain.filters rest
+IsChain known chain ts = (rest : List Token) × (ts ≡ value chain.entry ∷ rest) ×
+    AreFilters known chain.filters rest
 
 -- ---- `assign`
 
 -- a word, `=` and a chain
 abbrev pub IsAssign : Filters → Text → Chain → List Token → Type 0
-IsAssign known w c ts = (rest : List Token) × (ts ≡ word w ∷ symbol Assign ∷ rest) × IsChain known c rest
+IsAssign known w c ts = (rest : List Token) × (ts ≡ word w ∷ symbol Assign ∷ rest) ×
+    IsChain known c rest

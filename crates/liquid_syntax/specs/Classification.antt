@@ -1,5 +1,6 @@
 -- What a piece is, where it stands, by the names that a language has and by its items.
-use Rattle.std.specs.Prelude.{List, [], ◌∷◌, Bool, true, false, Option, Some, None, option_and_then, option_map}
+use Rattle.std.specs.Prelude.{List, [], ◌∷◌, Bool, true, false, Option, Some, None, option_and_then}
+use Rattle.std.specs.Prelude.{option_map}
 use Rattle.liquid_model.specs.Texts.{Text}
 use Rattle.liquid_lexer.specs.Items.{Item}
 use Rattle.liquid_lexer.specs.Pieces as pieces
@@ -10,23 +11,29 @@ use Rattle.liquid_lexer.specs.declared.symbol.Symbol.TheVariants as symbols
 use Rattle.liquid_syntax.specs.ChainReading.{chain_of}
 use Rattle.liquid_syntax.specs.ConditionReading.{condition_of}
 use Rattle.liquid_syntax.specs.Loops.{for_node, loop_of, row_node}
-use Rattle.liquid_syntax.specs.PartialItems.{include_node, include_of, jekyll_node, jekyll_of, render_node, render_of}
+use Rattle.liquid_syntax.specs.PartialItems.{include_node, include_of, jekyll_node, jekyll_of}
+use Rattle.liquid_syntax.specs.PartialItems.{render_node, render_of}
 use Rattle.liquid_language.specs.Registered.{registered_in}
-use Rattle.liquid_syntax.specs.Nesting.{of_one, of_two, of_many, Statement, leaf, closed, begins, elsif, arm, otherwise, ends, refused}
+use Rattle.liquid_syntax.specs.Nesting.{of_one, of_two, of_many, Statement, leaf, closed, begins}
+use Rattle.liquid_syntax.specs.Nesting.{elsif, arm, otherwise, ends, refused}
 use Rattle.liquid_language.specs.Roles.{role_of, unread_body}
-use Rattle.liquid_evaluation.specs.Tree.{Condition, Node, Nodes, plain, raw, comment, output, assign, if_true, unless, capture, case_of, ifchanged, break_loop, continue_loop, increment, decrement}
+use Rattle.liquid_evaluation.specs.Tree.{Condition, Node, Nodes, plain, raw, comment, output}
+use Rattle.liquid_evaluation.specs.Tree.{assign, if_true, unless, capture, case_of, ifchanged}
+use Rattle.liquid_evaluation.specs.Tree.{break_loop, continue_loop, increment, decrement}
 use Rattle.liquid_core.specs.Expression.{Expression}
 use Rattle.liquid_evaluation.specs.Tree.{Whens}
 use Rattle.liquid_syntax.specs.Cycles.{cycle_node, grouped_of}
 use Rattle.liquid_syntax.specs.ValueLists.{values_of}
 use Rattle.liquid_syntax.specs.declared.value_items.Separators.TheVariants.{CommasOr}
 use Rattle.liquid_language.specs.declared.block.Block.{Block}
-use Rattle.liquid_language.specs.declared.block.Block.TheVariants.{If, Unless, Capture, Case, IfChanged, For, TableRow}
+use Rattle.liquid_language.specs.declared.block.Block.TheVariants.{If, Unless, Capture, Case}
+use Rattle.liquid_language.specs.declared.block.Block.TheVariants.{IfChanged, For, TableRow}
 use Rattle.liquid_language.specs.declared.block.Control.{Control}
 use Rattle.liquid_language.specs.declared.block.Control.TheVariants as words
 use Rattle.liquid_language.specs.declared.block.BlockContext.{BlockContext}
 use Rattle.liquid_language.specs.declared.block.Role.{Role}
-use Rattle.liquid_language.specs.declared.block.Role.TheVariants.{End, Control as Word, Tag, Block as Start}
+use Rattle.liquid_language.specs.declared.block.Role.TheVariants.{End, Control as Word, Tag}
+use Rattle.liquid_language.specs.declared.block.Role.TheVariants.{Block as Start}
 use Rattle.liquid_language.specs.declared.language.BlockKind.{BlockKind}
 use Rattle.liquid_language.specs.declared.language.BlockKind.TheVariants as blocks
 use Rattle.liquid_language.specs.declared.language.Language.{Language}
@@ -40,7 +47,11 @@ leaf_or (Some n) = leaf n
 
 -- `w = chain`
 abbrev pub assign_of : Language → List Token → Option Node
-assign_of l ts = option_and_then (λ w. option_and_then (λ rest. option_map (assign w.0) (chain_of (registered_in l.filters) rest)) (past symbols.Assign w.1)) (word_first ts)
+assign_of l ts =
+    option_and_then
+        (λ w. option_and_then
+        (λ rest. option_map (assign w.0) (chain_of (registered_in l.filters) rest))
+        (past symbols.Assign w.1)) (word_first ts)
 
 -- an end takes no items
 abbrev pub ends_or : List Token → Statement
@@ -69,7 +80,7 @@ for_of ts = option_map for_node (loop_of Each ts)
 abbrev pub rows_of : List Token → Option (Nodes → Node)
 rows_of ts = option_map row_node (loop_of Rows ts)
 
--- one of a kind, and nothing behind it
+-- one of a kind, and nothing after it
 abbrev pub alone : {A : Type 0} → A × List Token → Option A
 alone (x, []) = Some x
 alone (x, t ∷ ts) = None
@@ -111,7 +122,8 @@ abbrev pub elsif_or : Option (Nodes → Nodes → Node) → Statement
 elsif_or None = refused
 elsif_or (Some make) = elsif make
 
--- The start of a block, by its items. A block whose body isn't read has none, and with its body it is a piece of its own.
+-- The start of a block, by its items. A block whose body isn't read has none, and with its body it
+-- is a piece of its own.
 abbrev pub block_statement : List Token → BlockKind → Statement
 block_statement ts blocks.If = two_or If (if_of ts)
 block_statement ts blocks.Unless = two_or Unless (unless_of ts)
@@ -130,7 +142,8 @@ control_statement ts words.Else = otherwise
 control_statement ts words.BareElse = bare otherwise ts
 control_statement ts words.When = arm_or (values_of CommasOr ts)
 
--- A tag that is a node without bodies, by its items and the tokens that they are. The name of a jekyll `include` is taken as it is spelled.
+-- A tag that is a node without bodies, by its items and the tokens that they are. The name of a
+-- jekyll `include` is taken as it is spelled.
 abbrev pub leaf_statement : Language → List Item → List Token → TagKind → Statement
 leaf_statement l is ts tags.Assign = leaf_or (assign_of l ts)
 leaf_statement l is ts tags.Break = bare (leaf break_loop) ts
@@ -162,7 +175,8 @@ comment_statement None = refused
 
 abbrev pub reads : Language → BlockContext → pieces.Piece → Statement
 reads l x (pieces.text t) = leaf (plain t)
-reads l x (pieces.output is) = leaf_or (option_map output (chain_of (registered_in l.filters) (tokens_of is)))
+reads l x (pieces.output is) =
+    leaf_or (option_map output (chain_of (registered_in l.filters) (tokens_of is)))
 reads l x (pieces.tag w is) = tag_statement l is (tokens_of is) (role_of l x w)
 reads l x (pieces.raw w t) = raw_statement t (unread_body (role_of l x w))
 reads l x (pieces.comment w) = comment_statement (unread_body (role_of l x w))

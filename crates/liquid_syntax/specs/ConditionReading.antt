@@ -34,12 +34,14 @@ abbrev pub with_atom : Atom → Condition → Condition
 with_atom a [] = (a ∷ []) ∷ []
 with_atom a (c ∷ cs) = (a ∷ c) ∷ cs
 
--- what an atom and the token behind it give, where a condition may be behind that
+-- what an atom and the token after it give, where a condition may be after that
 abbrev pub joined : Atom → Token → Option Condition → Option Condition
-joined a t o = cond (is_word (codes "and") t) (option_map (with_atom a) o) (option_map (λ cs. (a ∷ []) ∷ cs) (cond (is_word (codes "or") t) o None))
+joined a t o = cond (is_word (codes "and") t) (option_map (with_atom a) o)
+        (option_map (λ cs. (a ∷ []) ∷ cs) (cond (is_word (codes "or") t) o None))
 
 -- a comparison, where the token is an operator
-abbrev pub compared_or : Option ComparisonOperator → (ComparisonOperator → Option Condition) → Option Condition → Option Condition
+abbrev pub compared_or : Option ComparisonOperator → (ComparisonOperator → Option Condition) →
+    Option Condition → Option Condition
 compared_or None f o = o
 compared_or (Some operator) f o = f operator
 
@@ -50,22 +52,23 @@ unfoldable mutual
   condition_of [] = None
   condition_of (t ∷ ts) = if_value t (behind_value ts)
 
-  -- behind the first value of an atom
+  -- after the first value of an atom
   pub behind_value : List Token → Expression → Option Condition
   behind_value [] x = Some ((bare x ∷ []) ∷ [])
-  behind_value (t ∷ ts) x = compared_or (operator_of t) (behind_operator ts x) (joined (bare x) t (condition_of ts))
+  behind_value (t ∷ ts) x = compared_or (operator_of t) (behind_operator ts x)
+          (joined (bare x) t (condition_of ts))
 
-  -- behind an operator
+  -- after an operator
   pub behind_operator : List Token → Expression → ComparisonOperator → Option Condition
   behind_operator [] x operator = None
   behind_operator (t ∷ ts) x operator = if_value t (λ y. behind_atom ts (compared x operator y))
 
-  -- behind an atom
+  -- after an atom
   pub behind_atom : List Token → Atom → Option Condition
   behind_atom [] a = Some ((a ∷ []) ∷ [])
   behind_atom (t ∷ ts) a = joined a t (condition_of ts)
 
--- behind a conjunction: nothing, or `or` and a condition
+-- after a conjunction: nothing, or `or` and a condition
 unfoldable pub alternatives_of : List Token → Option Condition
 alternatives_of [] = Some []
 alternatives_of (t ∷ ts) = cond (is_word (codes "or") t) (condition_of ts) None

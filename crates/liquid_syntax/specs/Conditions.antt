@@ -31,14 +31,17 @@ pub data IsOperator : ComparisonOperator → Token → Type 0 where
 -- a value, or an operator between two
 pub data IsAtom : Atom → List Token → Type 0 where
   bare_value : (x : Expression) → IsAtom (bare x) (value x ∷ [])
-  comparison : {operator : ComparisonOperator} {t : Token} (x y : Expression) → IsOperator operator t → IsAtom (compared x operator y) (value x ∷ t ∷ value y ∷ [])
+  comparison : {operator : ComparisonOperator} {t : Token} (x y : Expression) →
+      IsOperator operator t → IsAtom (compared x operator y) (value x ∷ t ∷ value y ∷ [])
 
 -- one atom or more, the word `and` between each two
 pub data IsConjunction : List Atom → List Token → Type 0 where
   one_atom : {a : Atom} {ts : List Token} → IsAtom a ts → IsConjunction (a ∷ []) ts
-  and_more : {a : Atom} {more : List Atom} {ts us : List Token} → IsAtom a ts → IsConjunction more us → IsConjunction (a ∷ more) (ts ++ (and_word ∷ us))
+  and_more : {a : Atom} {more : List Atom} {ts us : List Token} → IsAtom a ts →
+      IsConjunction more us → IsConjunction (a ∷ more) (ts ++ (and_word ∷ us))
 
 -- one conjunction or more, the word `or` between each two
 pub data IsCondition : Condition → List Token → Type 0 where
   one_conjunction : {c : List Atom} {ts : List Token} → IsConjunction c ts → IsCondition (c ∷ []) ts
-  or_more : {c : List Atom} {more : Condition} {ts us : List Token} → IsConjunction c ts → IsCondition more us → IsCondition (c ∷ more) (ts ++ (or_word ∷ us))
+  or_more : {c : List Atom} {more : Condition} {ts us : List Token} → IsConjunction c ts →
+      IsCondition more us → IsCondition (c ∷ more) (ts ++ (or_word ∷ us))

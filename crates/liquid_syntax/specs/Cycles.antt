@@ -1,5 +1,6 @@
 -- The items of `cycle`: how they are written, and how they are read.
-use Rattle.std.specs.Prelude.{List, [], ◌∷◌, Bool, true, false, cond, Option, Some, None, String, Vec, map, string_bytes}
+use Rattle.std.specs.Prelude.{List, [], ◌∷◌, Bool, true, false, cond, Option, Some, None, String}
+use Rattle.std.specs.Prelude.{Vec, map, string_bytes}
 use Rattle.std.specs.Option.{option_and_then, option_map}
 use Rattle.std.specs.declared.alloc.Global.{Global}
 use Rattle.liquid_core.specs.Expression.{Expression, literal, variable, Steps, no_steps, step}
@@ -23,9 +24,12 @@ pub data IsName : Expression → Type 0 where
 
 -- values, or a name, a `:` and values, which may all be missing there
 pub data IsCycle : Option Expression → List Expression → List Token → Type 0 where
-  without_name : {xs : List Expression} {ts : List Token} → AreValues Commas xs ts → IsCycle None xs ts
-  with_name : {name : Expression} {xs : List Expression} {ts : List Token} → IsName name → AreValues Commas xs ts → IsCycle (Some name) xs (value name ∷ symbol Colon ∷ ts)
-  name_alone : {name : Expression} → IsName name → IsCycle (Some name) [] (value name ∷ symbol Colon ∷ [])
+  without_name : {xs : List Expression} {ts : List Token} → AreValues Commas xs ts →
+      IsCycle None xs ts
+  with_name : {name : Expression} {xs : List Expression} {ts : List Token} → IsName name →
+      AreValues Commas xs ts → IsCycle (Some name) xs (value name ∷ symbol Colon ∷ ts)
+  name_alone : {name : Expression} → IsName name →
+      IsCycle (Some name) [] (value name ∷ symbol Colon ∷ [])
 
 -- ---- reading
 
@@ -46,11 +50,11 @@ abbrev pub any_values_of : List Token → Option (List Expression)
 any_values_of [] = Some []
 any_values_of (t ∷ ts) = values_of Commas (t ∷ ts)
 
--- what stands behind a name and its `:`
+-- what follows a name and its `:`
 abbrev pub named_of : Expression → List Token → Option Cycle
 named_of name ts = cond (is_name name) (option_map (λ xs. (Some name, xs)) (any_values_of ts)) None
 
--- what stands behind a first value, from the `:` on where there is one
+-- what follows a first value, from the `:` on where there is one
 abbrev pub behind_first : Expression → List Token → Option (List Token) → Option Cycle
 behind_first x ts None = option_map (λ xs. (None, x ∷ xs)) (further_of Commas ts)
 behind_first x ts (Some rest) = named_of x rest

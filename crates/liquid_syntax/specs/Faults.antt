@@ -1,4 +1,5 @@
--- What a fault of a piece says: where it stands, and of which kind it is. Want of memory is no fault of a piece.
+-- What a fault of a piece says: where it stands, and of which kind it is. Want of memory is no
+-- fault of a piece.
 use Rattle.std.specs.Prelude.{◌≡◌, ℕ, Result, Ok, Err}
 use Rattle.liquid_lexer.specs.declared.fault.FaultKind.{FaultKind}
 use Rattle.liquid_lexer.specs.declared.fault.ParseError.{ParseError}

@@ -1,9 +1,11 @@
 -- The list of nodes of a template, seen as a tree.
 --     flat_of x      what a node of the list makes of the trees of its bodies, and where those end
 --     nodes_of f      the tree of a range of the list
---     IsRange ns from to      the nodes from `from` to `to` are whole: each with all the nodes of its bodies
+--     IsRange ns from to      the nodes from `from` to `to` are whole: each with all the nodes of
+--                             its bodies
 --     NodeAt ns at n next      the node at `at`, with its bodies, is n, and ends before `next`
-use Rattle.std.specs.Prelude.{◌≡◌, ℕ, ◌+◌, ◌≤◌, List, [], ◌∷◌, ◌++◌, map, Some, None, option_map, slice_get, string_bytes}
+use Rattle.std.specs.Prelude.{◌≡◌, ℕ, ◌+◌, ◌≤◌, List, [], ◌∷◌, ◌++◌, map, Some, None, option_map}
+use Rattle.std.specs.Prelude.{slice_get, string_bytes}
 use Rattle.liquid_evaluation.specs.ChainView.{chain_view}
 use Rattle.liquid_evaluation.specs.ConditionView.{condition_view}
 use Rattle.liquid_core.specs.Expression.{Expression}
@@ -20,7 +22,12 @@ use Rattle.liquid_syntax.specs.declared.loop_nodes.WindowExpression.{WindowExpre
 use Rattle.liquid_syntax.specs.declared.node.Binding.{Binding}
 use Rattle.liquid_syntax.specs.declared.node.Node.{Node}
 use Rattle.liquid_syntax.specs.declared.node.TwoBodies.{TwoBodies}
-use Rattle.liquid_syntax.specs.declared.node.Node.TheVariants.{Text as Plain, Output, Assign, Raw, Comment, If, Unless, Capture, Case, For, TableRow, Break, Continue, Increment, Decrement, Cycle, IfChanged, Include, JekyllInclude, Render, RenderEach}
+use Rattle.liquid_syntax.specs.declared.node.Node.TheVariants.{Text as Plain, Output, Assign, Raw}
+use Rattle.liquid_syntax.specs.declared.node.Node.TheVariants.{Comment, If, Unless, Capture, Case}
+use Rattle.liquid_syntax.specs.declared.node.Node.TheVariants.{For, TableRow, Break, Continue}
+use Rattle.liquid_syntax.specs.declared.node.Node.TheVariants.{Increment, Decrement, Cycle}
+use Rattle.liquid_syntax.specs.declared.node.Node.TheVariants.{IfChanged, Include, JekyllInclude}
+use Rattle.liquid_syntax.specs.declared.node.Node.TheVariants.{Render, RenderEach}
 
 -- a node of the tree, from the trees of its bodies
 abbrev pub Maker : Type 0
@@ -38,7 +45,8 @@ abbrev pub leaf : tree.Node → Flat Maker
 leaf n = record { head = (λ bodies. n); ends = [] }
 
 abbrev pub two_bodies : (tree.Nodes → tree.Nodes → tree.Node) → TwoBodies → Flat Maker
-two_bodies make bodies = record { head = with_two make; ends = bodies.first_end ∷ bodies.last_end ∷ [] }
+two_bodies make bodies = record { head = with_two make;
+        ends = bodies.first_end ∷ bodies.last_end ∷ [] }
 
 abbrev pub binding_view : Binding → Text × Expression
 binding_view b = (string_bytes b.name, expression_view b.value)
@@ -57,9 +65,11 @@ with_arms make [] _ = tree.comment
 with_arms make (vs ∷ vss) [] = tree.comment
 with_arms make (vs ∷ vss) (f ∷ fs) = with_arms (λ ws o. make (tree.when vs f ws) o) vss fs
 
--- a `case` with the values of its `when` parts, where their bodies end, and where its else list does
+-- a `case` with the values of its `when` parts, where their bodies end, and where its else list
+-- does
 abbrev pub case_flat : Expression → List (List Expression) → List ℕ → ℕ → Flat Maker
-case_flat target vss es z = record { head = with_arms (λ ws o. tree.case_of target ws o) vss; ends = es ++ z ∷ [] }
+case_flat target vss es z = record { head = with_arms (λ ws o. tree.case_of target ws o) vss;
+        ends = es ++ z ∷ [] }
 
 abbrev pub values_in : Arm → List Expression
 values_in arm = map expression_view arm.values.items
@@ -72,7 +82,8 @@ arm_ends arms = map (λ arm. arm.end) arms
 
 -- which of a loop's items are asked for
 abbrev pub window_view : WindowExpression → tree.Window
-window_view w = record { limit = option_map expression_view w.limit; offset = option_map expression_view w.offset; reversed = w.reversed }
+window_view w = record { limit = option_map expression_view w.limit;
+        offset = option_map expression_view w.offset; reversed = w.reversed }
 
 -- what a `render` runs for each item of, and the name of its variable
 abbrev pub each_view : Each → tree.Source × Text
@@ -88,19 +99,29 @@ flat_of Comment = leaf tree.comment
 flat_of (If condition bodies) = two_bodies (tree.if_true (condition_view condition)) bodies
 flat_of (Unless condition bodies) = two_bodies (tree.unless (condition_view condition)) bodies
 flat_of (Capture name end) = one_body (tree.capture (string_bytes name)) end
-flat_of (Case target arms end) = case_flat (expression_view target) (arm_values arms.items) (arm_ends arms.items) end
-flat_of (For f bodies) = two_bodies (tree.for_each (string_bytes f.value.variable) (source_view f.value.source) (window_view f.value.window)) bodies
-flat_of (TableRow r end) = one_body (tree.tablerow (string_bytes r.value.variable) (source_view r.value.source) (window_view r.value.window) (option_map expression_view r.value.cols)) end
+flat_of (Case target arms end) = case_flat (expression_view target) (arm_values arms.items)
+        (arm_ends arms.items) end
+flat_of (For f bodies) =
+    two_bodies (tree.for_each (string_bytes f.value.variable) (source_view f.value.source)
+        (window_view f.value.window)) bodies
+flat_of (TableRow r end) =
+    one_body (tree.tablerow (string_bytes r.value.variable) (source_view r.value.source)
+        (window_view r.value.window) (option_map expression_view r.value.cols)) end
 flat_of Break = leaf tree.break_loop
 flat_of Continue = leaf tree.continue_loop
 flat_of (Increment name) = leaf (tree.increment (string_bytes name))
 flat_of (Decrement name) = leaf (tree.decrement (string_bytes name))
-flat_of (Cycle group values) = leaf (tree.cycle (string_bytes group) (map expression_view values.items))
+flat_of (Cycle group values) =
+    leaf (tree.cycle (string_bytes group) (map expression_view values.items))
 flat_of (IfChanged end) = one_body tree.ifchanged end
-flat_of (Include name bindings) = leaf (tree.include (expression_view name) (bindings_view bindings.items))
-flat_of (JekyllInclude name bindings) = leaf (tree.jekyll_include (string_bytes name) (bindings_view bindings.items))
-flat_of (Render name bindings) = leaf (tree.render (expression_view name) None (bindings_view bindings.items))
-flat_of (RenderEach name each bindings) = leaf (tree.render (expression_view name) (Some (each_view each)) (bindings_view bindings.items))
+flat_of (Include name bindings) =
+    leaf (tree.include (expression_view name) (bindings_view bindings.items))
+flat_of (JekyllInclude name bindings) =
+    leaf (tree.jekyll_include (string_bytes name) (bindings_view bindings.items))
+flat_of (Render name bindings) =
+    leaf (tree.render (expression_view name) None (bindings_view bindings.items))
+flat_of (RenderEach name each bindings) =
+    leaf (tree.render (expression_view name) (Some (each_view each)) (bindings_view bindings.items))
 
 abbrev pub flats : List Node → List (Flat Maker)
 flats ns = map flat_of ns
@@ -122,7 +143,9 @@ IsRange ns from to = (f : Forest Maker) × StandsAt ns from f to
 
 abbrev pub NodeAt : List Node → ℕ → tree.Node → ℕ → Type 0
 NodeAt ns at n next =
-    (x : Flat Maker) × (bs : Bodies Maker) × (slice_get (flats ns) at ≡ Some x) × StandBodies (flats ns) (at + 1) x.ends bs × (n ≡ x.head (bodies_of bs)) × (next ≡ last_end (at + 1) x.ends)
+    (x : Flat Maker) × (bs : Bodies Maker) × (slice_get (flats ns) at ≡ Some x) ×
+        StandBodies (flats ns) (at + 1) x.ends bs × (n ≡ x.head (bodies_of bs)) ×
+        (next ≡ last_end (at + 1) x.ends)
 
 abbrev pub IsNode : List Node → ℕ → ℕ → Type 0
 IsNode ns at to = (n : tree.Node) × (next : ℕ) × NodeAt ns at n next × (next ≤ to)

@@ -1,8 +1,10 @@
--- A forest as one list of nodes in source order: a node is followed by the nodes of its bodies, body after body.
+-- A forest as one list of nodes in source order: a node is followed by the nodes of its bodies,
+-- body after body.
 use Rattle.std.specs.Prelude.{◌≡◌, ℕ, zero, suc, ◌+◌, ◌-◌, List, [], ◌∷◌, ◌++◌, Some, slice_get}
 use Rattle.liquid_syntax.specs.Forest.{Forest, Bodies, empty, node, no_bodies, body, size, sizes}
 
--- a node of the list: its head, and where each of its bodies ends. A body begins where the one before ends, and the first after the node
+-- a node of the list: its head, and where each of its bodies ends. A body begins where the one
+-- before ends, and the first after the node
 pub record Flat (A : Type 0) : Type 0 where
   pub head : A
   pub ends : List ℕ
@@ -17,7 +19,8 @@ abbrev mutual
   pub Stands : {A : Type 0} → List (Flat A) → ℕ → Forest A → ℕ → Type 0
   Stands ns at empty to = at ≡ to
   Stands ns at (node h bs rest) to =
-      (x : Flat _) × (slice_get ns at ≡ Some x) × (x.head ≡ h) × StandBodies ns (at + 1) x.ends bs × Stands ns (last_end (at + 1) x.ends) rest to
+      (x : Flat _) × (slice_get ns at ≡ Some x) × (x.head ≡ h) × StandBodies ns (at + 1) x.ends bs ×
+          Stands ns (last_end (at + 1) x.ends) rest to
 
   pub StandBodies : {A : Type 0} → List (Flat A) → ℕ → List ℕ → Bodies A → Type 0
   StandBodies ns at es no_bodies = es ≡ []
@@ -34,7 +37,8 @@ abbrev mutual
   pub laid : {A : Type 0} → ℕ → Forest A → List (Flat A)
   laid k empty = []
   laid k (node h bs rest) =
-      record { head = h; ends = ends_of (k + 1) bs } ∷ (laid_bodies (k + 1) bs ++ laid (k + 1 + sizes bs) rest)
+      record { head = h;
+              ends = ends_of (k + 1) bs } ∷ (laid_bodies (k + 1) bs ++ laid (k + 1 + sizes bs) rest)
 
   pub laid_bodies : {A : Type 0} → ℕ → Bodies A → List (Flat A)
   laid_bodies k no_bodies = []
@@ -64,7 +68,8 @@ rest_in k (e ∷ es) f = rest_in e es (back f (e - k))
 abbrev pub tree_at : {A : Type 0} → ℕ → List (Flat A) → Forest A
 tree_at k [] = empty
 tree_at k (x ∷ xs) =
-    node x.head (bodies_in (k + 1) x.ends (tree_at (k + 1) xs)) (rest_in (k + 1) x.ends (tree_at (k + 1) xs))
+    node x.head (bodies_in (k + 1) x.ends (tree_at (k + 1) xs))
+            (rest_in (k + 1) x.ends (tree_at (k + 1) xs))
 
 abbrev pub tree_of : {A : Type 0} → List (Flat A) → Forest A
 tree_of ns = tree_at 0 ns

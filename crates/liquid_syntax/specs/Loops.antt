@@ -1,13 +1,16 @@
 -- The items of `for` and `tablerow`: how they are written, and how they are read.
-use Rattle.std.specs.Prelude.{◌≡◌, List, [], ◌∷◌, Bool, true, false, codes, Option, Some, None, string_bytes}
+use Rattle.std.specs.Prelude.{◌≡◌, List, [], ◌∷◌, Bool, true, false, codes, Option, Some, None}
+use Rattle.std.specs.Prelude.{string_bytes}
 use Rattle.std.specs.Option.{option_and_then, option_map}
 use Rattle.liquid_core.specs.Expression.{Expression}
 use Rattle.liquid_core.specs.ExpressionView.{expression_view}
 use Rattle.liquid_model.specs.Texts.{Text}
-use Rattle.liquid_lexer.specs.Tokens.{Token, value, range, symbol, word, value_first, word_first, past, past_word}
+use Rattle.liquid_lexer.specs.Tokens.{Token, value, range, symbol, word, value_first, word_first}
+use Rattle.liquid_lexer.specs.Tokens.{past, past_word}
 use Rattle.liquid_lexer.specs.declared.symbol.Symbol.TheVariants.{Colon}
 use Rattle.liquid_evaluation.specs.SourceView.{source_view}
-use Rattle.liquid_evaluation.specs.Tree.{Source, each_of, counted, Window, Nodes, Node, for_each, tablerow}
+use Rattle.liquid_evaluation.specs.Tree.{Source, each_of, counted, Window, Nodes, Node, for_each}
+use Rattle.liquid_evaluation.specs.Tree.{tablerow}
 use Rattle.liquid_syntax.specs.Repeated.{AreRepeated, repeated_of}
 use Rattle.liquid_syntax.specs.declared.loop_items.LoopKind.{LoopKind}
 use Rattle.liquid_syntax.specs.declared.loop_items.LoopKind.TheVariants.{Each, Rows}
@@ -22,7 +25,7 @@ abbrev pub source_token : Source → Token
 source_token (each_of x) = value x
 source_token (counted x y) = range x y
 
--- what may stand behind the source
+-- what may follow the source
 pub data Part : Type 0 where
   limit_is offset_is cols_is : Expression → Part
   is_reversed : Part
@@ -48,10 +51,14 @@ no_parts = record { limit = None; offset = None; cols = None; reversed = false }
 
 -- a part takes the place of an earlier one of its kind
 abbrev pub with_part : Parts → Part → Parts
-with_part ps (limit_is x) = record { limit = Some x; offset = ps.offset; cols = ps.cols; reversed = ps.reversed }
-with_part ps (offset_is x) = record { limit = ps.limit; offset = Some x; cols = ps.cols; reversed = ps.reversed }
-with_part ps (cols_is x) = record { limit = ps.limit; offset = ps.offset; cols = Some x; reversed = ps.reversed }
-with_part ps is_reversed = record { limit = ps.limit; offset = ps.offset; cols = ps.cols; reversed = true }
+with_part ps (limit_is x) = record { limit = Some x; offset = ps.offset; cols = ps.cols;
+        reversed = ps.reversed }
+with_part ps (offset_is x) = record { limit = ps.limit; offset = Some x; cols = ps.cols;
+        reversed = ps.reversed }
+with_part ps (cols_is x) = record { limit = ps.limit; offset = ps.offset; cols = Some x;
+        reversed = ps.reversed }
+with_part ps is_reversed = record { limit = ps.limit; offset = ps.offset; cols = ps.cols;
+        reversed = true }
 
 abbrev pub settled : Parts → List Part → Parts
 settled ps [] = ps
@@ -70,8 +77,10 @@ in_word = word (codes "in")
 
 -- `w in R`, and any parts, of which the last of a kind counts
 pub data IsLoop (k : LoopKind) : Head → List Token → Type 0 where
-  a_loop : {ps : List Part} {ts : List Token} (w : Text) (s : Source) → AreRepeated (IsPart k) IsNothing ps ts
-      → IsLoop k (record { variable = w; source = s; parts = settled no_parts ps }) (word w ∷ in_word ∷ source_token s ∷ ts)
+  a_loop : {ps : List Part} {ts : List Token} (w : Text) (s : Source) →
+      AreRepeated (IsPart k) IsNothing ps ts
+      → IsLoop k (record { variable = w; source = s;
+              parts = settled no_parts ps }) (word w ∷ in_word ∷ source_token s ∷ ts)
 
 -- ---- reading
 
@@ -86,7 +95,8 @@ source_first (t ∷ ts) = option_map (λ s. (s, ts)) (source_of t)
 
 -- `: v`
 abbrev pub part_value : (Expression → Part) → List Token → Option (Part × List Token)
-part_value make ts = option_and_then (λ rest. option_map (λ x. (make x.0, x.1)) (value_first rest)) (past Colon ts)
+part_value make ts = option_and_then (λ rest. option_map (λ x. (make x.0, x.1)) (value_first rest))
+        (past Colon ts)
 
 abbrev pub or_else : {A B : Type 0} → Option A → (A → Option B) → Option B → Option B
 or_else None f o = o
@@ -98,7 +108,8 @@ own_part Rows ts = option_and_then (part_value cols_is) (past_word (codes "cols"
 
 abbrev pub part_first : LoopKind → List Token → Option (Part × List Token)
 part_first k ts =
-    or_else (past_word (codes "limit") ts) (part_value limit_is) (or_else (past_word (codes "offset") ts) (part_value offset_is) (own_part k ts))
+    or_else (past_word (codes "limit") ts) (part_value limit_is)
+            (or_else (past_word (codes "offset") ts) (part_value offset_is) (own_part k ts))
 
 abbrev pub is_nothing : List Token → Bool
 is_nothing [] = true
@@ -115,7 +126,11 @@ head_with w s ps = record { variable = w; source = s; parts = ps }
 
 abbrev pub loop_of : LoopKind → List Token → Option Head
 loop_of k ts =
-    option_and_then (λ w. option_and_then (λ rest. option_and_then (λ s. option_map (head_with w.0 s.0) (settled_of k no_parts s.1)) (source_first rest)) (past_word (codes "in") w.1)) (word_first ts)
+    option_and_then
+            (λ w. option_and_then
+            (λ rest. option_and_then (λ s. option_map (head_with w.0 s.0)
+            (settled_of k no_parts s.1)) (source_first rest)) (past_word (codes "in") w.1))
+            (word_first ts)
 
 -- ---- what the code's values say
 
@@ -126,10 +141,13 @@ part_view (code.Cols x) = cols_is (expression_view x)
 part_view code.Reversed = is_reversed
 
 abbrev pub parts_in : Loop → Parts
-parts_in l = record { limit = option_map expression_view l.window.limit; offset = option_map expression_view l.window.offset; cols = option_map expression_view l.cols; reversed = l.window.reversed }
+parts_in l = record { limit = option_map expression_view l.window.limit;
+        offset = option_map expression_view l.window.offset;
+        cols = option_map expression_view l.cols; reversed = l.window.reversed }
 
 abbrev pub head_view : Loop → Head
-head_view l = record { variable = string_bytes l.variable; source = source_view l.source; parts = parts_in l }
+head_view l = record { variable = string_bytes l.variable; source = source_view l.source;
+        parts = parts_in l }
 
 abbrev pub window_of : Parts → Window
 window_of ps = record { limit = ps.limit; offset = ps.offset; reversed = ps.reversed }

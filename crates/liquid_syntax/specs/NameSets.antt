@@ -15,10 +15,12 @@ held names name = contains_text names name
 unfoldable pub added : List Text → Names → Names
 added names before name = before name || mentioned names name
 
--- the visitor stays the same, and ends the telling where its wanted name is among those that it is told
+-- the visitor stays the same, and ends the telling where its wanted name is among those that it is
+-- told
 abbrev pub Looks : {V : Type 0} → (V → Text) → V → List Text → Bool → V → Type 0
 Looks wanted u names found v = (v ≡ u) × (found ≡ mentioned names (wanted u))
 
--- unless it ended the telling, the visitor has the names that it had, and those that it was told besides
+-- unless it ended the telling, the visitor has the names that it had, and those that it was told
+-- besides
 abbrev pub Gathers : {V : Type 0} → (V → Names) → V → List Text → Bool → V → Type 0
 Gathers has u names refused v = OnFalse refused (has v ≡ added names (has u))

@@ -8,8 +8,11 @@ use Rattle.liquid_language.specs.declared.block.BlockContext.TheVariants.{Outsid
 
 -- a list of pieces is read as the tree that the grammar gives it, and refused where it gives none
 abbrev pub ReadsTheGrammar : Type 0
-ReadsTheGrammar = (reads : BlockContext → ℕ → Statement) (ps : List ℕ) (t : Nodes) → (read reads ps [] no_nodes ≡ Some t) ↔ AreNodes (λ x p l. reads x p ≡ l) Outside 200 t ps []
+ReadsTheGrammar = (reads : BlockContext → ℕ → Statement) (ps : List ℕ) (t : Nodes) →
+    (read reads ps [] no_nodes ≡ Some t) ↔ AreNodes (λ x p l. reads x p ≡ l) Outside 200 t ps []
 
 -- the grammar gives a list of pieces at most one tree
 abbrev pub AtMostOneTree : Type 0
-AtMostOneTree = (reads : BlockContext → ℕ → Statement) (ps : List ℕ) (t u : Nodes) → AreNodes (λ x p l. reads x p ≡ l) Outside 200 t ps [] → AreNodes (λ x p l. reads x p ≡ l) Outside 200 u ps [] → t ≡ u
+AtMostOneTree = (reads : BlockContext → ℕ → Statement) (ps : List ℕ) (t u : Nodes) →
+    AreNodes (λ x p l. reads x p ≡ l) Outside 200 t ps [] →
+    AreNodes (λ x p l. reads x p ≡ l) Outside 200 u ps [] → t ≡ u

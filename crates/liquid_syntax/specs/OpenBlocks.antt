@@ -1,8 +1,10 @@
 -- Reading with a stack of open blocks, piece after piece.
-use Rattle.std.specs.Prelude.{ℕ, suc, List, [], ◌∷◌, Bool, true, false, cond, nat_lt, Option, Some, None, option_and_then, option_map}
+use Rattle.std.specs.Prelude.{ℕ, suc, List, [], ◌∷◌, Bool, true, false, cond, nat_lt, Option, Some}
+use Rattle.std.specs.Prelude.{None, option_and_then, option_map}
 use Rattle.liquid_core.specs.Expression.{Expression}
 use Rattle.liquid_evaluation.specs.Tree.{Node, Nodes, no_nodes, node, Whens, no_whens, when}
-use Rattle.liquid_syntax.specs.Nesting.{Opening, of_one, of_two, of_many, Statement, leaf, closed, begins, elsif, arm, otherwise, ends, refused}
+use Rattle.liquid_syntax.specs.Nesting.{Opening, of_one, of_two, of_many, Statement, leaf, closed}
+use Rattle.liquid_syntax.specs.Nesting.{begins, elsif, arm, otherwise, ends, refused}
 use Rattle.liquid_language.specs.declared.block.Block.{Block}
 use Rattle.liquid_language.specs.declared.block.BlockContext.{BlockContext}
 use Rattle.liquid_language.specs.declared.block.BlockContext.TheVariants.{Outside, InBody, InLast}
@@ -33,35 +35,37 @@ context_in (first b make) = InBody b
 context_in (unkept b make) = InBody b
 context_in (armed b make) = InBody b
 
--- the node, where the block ends behind the nodes f
+-- the node, where the block ends after the nodes f
 abbrev pub ended : Reading → Nodes → Node
 ended (last b make) f = make f
 ended (first b make) f = make f no_nodes
 ended (unkept b make) f = make no_whens no_nodes
 ended (armed b make) f = make f no_whens no_nodes
 
--- where an `else` stands behind the nodes f
+-- where an `else` follows the nodes f
 abbrev pub else_of : Reading → Nodes → Option Reading
 else_of (last b make) f = None
 else_of (first b make) f = Some (last b (make f))
 else_of (unkept b make) f = Some (last b (make no_whens))
 else_of (armed b make) f = Some (last b (make f no_whens))
 
--- where a `when` stands behind the nodes f
+-- where a `when` follows the nodes f
 abbrev pub when_of : List Expression → Reading → Nodes → Option Reading
 when_of vs (last b make) f = None
 when_of vs (first b make) f = None
 when_of vs (unkept b make) f = Some (armed b (λ g ws o. make (when vs g ws) o))
 when_of vs (armed b make) f = Some (armed b (λ g ws o. make f (when vs g ws) o))
 
--- where an `elsif` stands behind the nodes f: the block goes on with its else list, in which another begins
+-- where an `elsif` follows the nodes f: the block goes on with its else list, in which
+-- another begins
 abbrev pub elsif_of : (Nodes → Nodes → Node) → Reading → Nodes → Option (Reading × Reading)
 elsif_of next (last b make) f = None
 elsif_of next (first b make) f = Some (last b (make f), first b next)
 elsif_of next (unkept b make) f = None
 elsif_of next (armed b make) f = None
 
--- an open block: the body that is being read, the nodes before the block in its own list, and whether an `elsif` opened it
+-- an open block: the body that is being read, the nodes before the block in its own list, and
+-- whether an `elsif` opened it
 pub data Level : Type 0 where
   level : Reading → Nodes → Bool → Level
 
@@ -82,7 +86,8 @@ depth (level r f k ∷ ls) = deeper k (depth ls)
 abbrev pub State : Type 0
 State = List Level × Nodes
 
--- a block has ended with the last of the nodes since; where an `elsif` opened it, so has the one around it
+-- a block has ended with the last of the nodes since; where an `elsif` opened it, so has the one
+-- around it
 abbrev pub close : Bool → List Level → Nodes → Option State
 close false ls cur = Some (ls, cur)
 close true [] cur = None
@@ -104,11 +109,13 @@ to_else (level r f k ∷ ls) cur = option_map (λ s. (level s f k ∷ ls, no_nod
 
 abbrev pub to_when : List Expression → List Level → Nodes → Option State
 to_when vs [] cur = None
-to_when vs (level r f k ∷ ls) cur = option_map (λ s. (level s f k ∷ ls, no_nodes)) (when_of vs r cur)
+to_when vs (level r f k ∷ ls) cur = option_map (λ s. (level s f k ∷ ls, no_nodes))
+        (when_of vs r cur)
 
 abbrev pub to_elsif : (Nodes → Nodes → Node) → List Level → Nodes → Option State
 to_elsif next [] cur = None
-to_elsif next (level r f k ∷ ls) cur = option_map (λ s. (level s.1 no_nodes true ∷ level s.0 f k ∷ ls, no_nodes)) (elsif_of next r cur)
+to_elsif next (level r f k ∷ ls) cur =
+    option_map (λ s. (level s.1 no_nodes true ∷ level s.0 f k ∷ ls, no_nodes)) (elsif_of next r cur)
 
 -- a piece changes the state
 abbrev pub step : Statement → List Level → Nodes → Option State

@@ -19,7 +19,8 @@ use Rattle.liquid_lexer.specs.declared.fault.ParseError.TheVariants as errors
 
 -- The source is pieces, and they are the nodes, of which blocks nest at most 200 deep.
 unfoldable pub IsTemplate : Language → Nodes → Text → Type 0
-IsTemplate l t source = (ps : List Piece) × IsSource false ps source × AreNodes (IsStatement l) Outside 200 t ps []
+IsTemplate l t source = (ps : List Piece) × IsSource false ps source ×
+    AreNodes (IsStatement l) Outside 200 t ps []
 
 -- the tree is the source's, and none but it is
 abbrev pub IsOnlyTree : Language → Nodes → Text → Type 0
@@ -28,7 +29,8 @@ IsOnlyTree l t source = IsTheOne (λ u. IsTemplate l u source) t
 abbrev pub HasNoTree : Language → Text → Type 0
 HasNoTree l source = (t : Nodes) → IsTemplate l t source → ⊥
 
--- A template is the only tree of the source. A fault says that the source has none, unless memory ran out.
+-- A template is the only tree of the source. A fault says that the source has none, unless memory
+-- ran out.
 abbrev pub ParsesTo : Language → Text → Result Template Error → Type 0
 ParsesTo l source (Ok t) = IsOnlyTree l (tree_of t) source
 ParsesTo l source (Err e) = MatchBool (is_memory e.kind) ⊤ (HasNoTree l source)

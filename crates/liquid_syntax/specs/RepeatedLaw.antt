@@ -11,10 +11,12 @@ use Rattle.liquid_syntax.specs.declared.pair_items.PairStyle.{PairStyle}
 use Rattle.liquid_syntax.specs.declared.value_items.Separators.{Separators}
 
 abbrev pub ReadsValues : Type 0
-ReadsValues = (s : Separators) (xs : List Expression) (ts : List Token) → (values_of s ts ≡ Some xs) ↔ AreValues s xs ts
+ReadsValues = (s : Separators) (xs : List Expression) (ts : List Token) →
+    (values_of s ts ≡ Some xs) ↔ AreValues s xs ts
 
 abbrev pub ReadsLoops : Type 0
 ReadsLoops = (k : LoopKind) (h : Head) (ts : List Token) → (loop_of k ts ≡ Some h) ↔ IsLoop k h ts
 
 abbrev pub ReadsPairs : Type 0
-ReadsPairs = (k : PairStyle) (ps : Bindings) (ts : List Token) → (pairs_of k ts ≡ Some ps) ↔ ArePairs k ps ts
+ReadsPairs = (k : PairStyle) (ps : Bindings) (ts : List Token) → (pairs_of k ts ≡ Some ps) ↔
+        ArePairs k ps ts

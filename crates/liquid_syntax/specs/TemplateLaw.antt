@@ -10,7 +10,8 @@ use Rattle.liquid_evaluation.specs.Tree.{Nodes, no_nodes, node, plain}
 
 -- `{{` and `{%` stand nowhere in the text
 abbrev pub HasNoOpener : Text → Type 0
-HasNoOpener t = (k : Delimiter) (front behind : Text) → t ≡ front ++ (open_brace ∷ opener k ∷ behind) → ⊥
+HasNoOpener t = (k : Delimiter) (front behind : Text) →
+    t ≡ front ++ (open_brace ∷ opener k ∷ behind) → ⊥
 
 -- the template of one text; the empty text is the empty template
 abbrev pub text_alone : Text → Nodes
@@ -19,8 +20,10 @@ text_alone (b ∷ bs) = node (plain (b ∷ bs)) no_nodes
 
 -- a source without an opener is itself: that one text, in every language
 abbrev pub PlainSources : Type 0
-PlainSources = (l : Language) (source : Text) → HasNoOpener source → IsTemplate l (text_alone source) source
+PlainSources = (l : Language) (source : Text) → HasNoOpener source →
+    IsTemplate l (text_alone source) source
 
 -- the written grammar gives a source at most one tree
 abbrev pub AtMostOneTemplate : Type 0
-AtMostOneTemplate = (l : Language) (source : Text) (t u : Nodes) → IsTemplate l t source → IsTemplate l u source → t ≡ u
+AtMostOneTemplate = (l : Language) (source : Text) (t u : Nodes) → IsTemplate l t source →
+    IsTemplate l u source → t ≡ u

@@ -1,4 +1,5 @@
--- Values with something between each two, up to the end of a tag's items: how they are written, and how they are read.
+-- Values with something between each two, up to the end of a tag's items: how they are written, and
+-- how they are read.
 use Rattle.std.specs.Prelude.{List, [], ◌∷◌, Bool, true, false, cond, Option, Some, None}
 use Rattle.std.specs.Option.{option_and_then, option_map}
 use Rattle.liquid_core.specs.Expression.{Expression}
@@ -17,7 +18,7 @@ pub data IsSeparator : Separators → Token → Type 0 where
   a_comma : {s : Separators} → IsSeparator s (symbol Comma)
   an_or : IsSeparator CommasOr or_word
 
--- a value behind a separator
+-- a value after a separator
 pub data IsFurther (s : Separators) : Expression → List Token → Type 0 where
   a_further : {t : Token} (x : Expression) → IsSeparator s t → IsFurther s x (t ∷ value x ∷ [])
 
@@ -28,7 +29,8 @@ pub data IsValuesEnd : Separators → List Token → Type 0 where
 
 -- one value or more
 pub data AreValues (s : Separators) : List Expression → List Token → Type 0 where
-  some_values : {xs : List Expression} {ts : List Token} (x : Expression) → AreRepeated (IsFurther s) (IsValuesEnd s) xs ts → AreValues s (x ∷ xs) (value x ∷ ts)
+  some_values : {xs : List Expression} {ts : List Token} (x : Expression) →
+      AreRepeated (IsFurther s) (IsValuesEnd s) xs ts → AreValues s (x ∷ xs) (value x ∷ ts)
 
 -- ---- reading
 
@@ -56,4 +58,5 @@ abbrev pub further_of : Separators → List Token → Option (List Expression)
 further_of s ts = repeated_of (further_first s) (ends_values s) ts
 
 abbrev pub values_of : Separators → List Token → Option (List Expression)
-values_of s ts = option_and_then (λ x. option_map (λ xs. x.0 ∷ xs) (further_of s x.1)) (value_first ts)
+values_of s ts = option_and_then (λ x. option_map (λ xs. x.0 ∷ xs) (further_of s x.1))
+        (value_first ts)

@@ -1,7 +1,9 @@
-//! What is written into the nodes of blocks as their bodies end, and the further `when` parts of a `case`.
+//! What is written into the nodes of blocks as their bodies end, and the further `when` parts of a
+//! `case`.
 
 ghost use Rattle.std.specs.Prelude.{◌≡◌, ℕ, [], ◌∷◌, ◌++◌, map, OnOk};
-ghost use Rattle.liquid_syntax.specs.inside.Building.{IsAdded, IsMemory, before_last_ended, last_ended, set_before_last};
+ghost use Rattle.liquid_syntax.specs.inside.Building.{IsAdded, IsMemory, before_last_ended};
+ghost use Rattle.liquid_syntax.specs.inside.Building.{last_ended, set_before_last};
 ghost use Rattle.liquid_syntax.specs.Flats.{arm_ends, arm_values, flat_of};
 ghost use Rattle.liquid_core.specs.ExpressionView.{expression_view};
 
@@ -30,7 +32,10 @@ pub(crate) fn end_before_last(node: &mut Node, end: usize)
 /// Writes where the body of the last `when` ends, if there is one.
 fn end_last_arm(arms: &mut Vec<Arm>, end: usize)
     ensures values { arm_values arms.new.items ≡ arm_values arms.old.items }
-    ensures ends { (z : ℕ) → arm_ends arms.new.items ++ z ∷ [] ≡ set_before_last end (arm_ends arms.old.items ++ z ∷ []) }
+    ensures ends {
+        (z : ℕ) → arm_ends arms.new.items ++ z ∷ [] ≡
+            set_before_last end (arm_ends arms.old.items ++ z ∷ [])
+    }
 {
     if let Some(arm) = arms.last_mut() {
         arm.end = end;
@@ -59,7 +64,10 @@ pub(crate) fn end_last(node: &mut Node, end: usize)
 
 /// A further `when` of a `case`, of which it isn't known yet where its body ends.
 pub(crate) fn add_arm(node: &mut Node, values: Vec<Expression>) -> Result<(), ParseError>
-    ensures added { OnOk result (IsAdded (map expression_view values.items) (flat_of node.old) (flat_of node.new)) }
+    ensures added {
+        OnOk result (IsAdded (map expression_view values.items) (flat_of node.old)
+            (flat_of node.new))
+    }
     ensures fails { IsMemory result }
 {
     match node {

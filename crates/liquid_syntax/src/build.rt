@@ -1,11 +1,19 @@
-//! Building the list of nodes with a stack of open blocks: where a body ends is written into its block's node as it ends.
+//! Building the list of nodes with a stack of open blocks: where a body ends is written into its
+//! block's node as it ends.
 
-ghost use Rattle.std.specs.Prelude.{◌≡◌, ◌<◌, ◌-◌, IfSome, List, [], length, map, slice_get, Some, OnOk, true};
-ghost use Rattle.liquid_syntax.specs.inside.Building.{Begins, BodyEnded, Closes, EndsFirst, Finishes, IsBuilding, IsBuilt, IsFirst, IsMemory, IsPrepared, IsSound, IsStack, Steps, is_full, statement_view, of_bodies, context_at, opening, takes_else, takes_when, text_added};
+ghost use Rattle.std.specs.Prelude.{◌≡◌, ◌<◌, ◌-◌, IfSome, List, [], length, map, slice_get, Some};
+ghost use Rattle.std.specs.Prelude.{OnOk, true};
+ghost use Rattle.liquid_syntax.specs.inside.Building.{Begins, BodyEnded, Closes, EndsFirst};
+ghost use Rattle.liquid_syntax.specs.inside.Building.{Finishes, IsBuilding, IsBuilt, IsFirst};
+ghost use Rattle.liquid_syntax.specs.inside.Building.{IsMemory, IsPrepared, IsSound, IsStack};
+ghost use Rattle.liquid_syntax.specs.inside.Building.{Steps, is_full, statement_view, of_bodies};
+ghost use Rattle.liquid_syntax.specs.inside.Building.{context_at, opening, takes_else, takes_when};
+ghost use Rattle.liquid_syntax.specs.inside.Building.{text_added};
 ghost use Rattle.liquid_syntax.specs.Faults.{FaultsAt};
 ghost use Rattle.liquid_syntax.specs.Flats.{flat_of, flats};
 ghost use Rattle.liquid_core.specs.ExpressionView.{expression_view};
-ghost use Rattle.liquid_syntax.specs.OpenBlocks.{Level, at_end, close, step, to_begin, to_closed, to_else, to_elsif, to_when, with_node};
+ghost use Rattle.liquid_syntax.specs.OpenBlocks.{Level, at_end, close, step, to_begin, to_closed};
+ghost use Rattle.liquid_syntax.specs.OpenBlocks.{to_else, to_elsif, to_when, with_node};
 ghost use Rattle.liquid_evaluation.specs.Tree.{Nodes, no_nodes};
 ghost use Rattle.liquid_syntax.specs.declared.build.Stage.TheVariants as stages;
 
@@ -62,7 +70,7 @@ pub struct Open {
     pub chained: bool,
 }
 
-/// Nodes, and the blocks that are open behind them.
+/// Nodes, and the blocks that are open after them.
 #[derive(Drop)]
 pub struct Builder {
     pub nodes: Vec<Node>,
@@ -88,7 +96,9 @@ impl Builder {
 
     /// Where the next piece stands.
     pub fn context(&self) -> BlockContext
-        ensures { result ≡ context_at (slice_get self.now.blocks.items (length self.now.blocks.items - 1)) }
+        ensures { result ≡
+                    context_at (slice_get self.now.blocks.items
+                    (length self.now.blocks.items - 1)) }
     {
         match self.blocks.last() {
             None => BlockContext::Outside,
@@ -108,7 +118,10 @@ impl Builder {
 
     fn leaf(&mut self, node: Node) -> Result<(), ParseError>
         requires { (flat_of node).ends ≡ [] }
-        ensures stack { (ls : List Level) (cur : Nodes) → IsBuilding self.old ls cur → Steps (Some (ls, with_node cur ((flat_of node).head []))) self.new result }
+        ensures stack {
+            (ls : List Level) (cur : Nodes) → IsBuilding self.old ls cur →
+            Steps (Some (ls, with_node cur ((flat_of node).head []))) self.new result
+        }
         ensures fails { IsMemory result }
     {
         self.nodes.push(node)?;
@@ -117,7 +130,10 @@ impl Builder {
 
     /// A text; an empty one is no node.
     pub fn text(&mut self, alloc: Global, text: &str) -> Result<(), ParseError>
-        ensures { (ls : List Level) (cur : Nodes) → IsBuilding self.old ls cur → Steps (Some (ls, text_added text.now cur)) self.new result }
+        ensures {
+            (ls : List Level) (cur : Nodes) → IsBuilding self.old ls cur →
+            Steps (Some (ls, text_added text.now cur)) self.new result
+        }
     {
         if text.is_empty() {
             return Ok(());
@@ -125,7 +141,7 @@ impl Builder {
         self.leaf(Node::Text(String::from_str(alloc, text)?))
     }
 
-    /// Opens a block behind the nodes.
+    /// Opens a block after the nodes.
     fn open(
         &mut self,
         block: Block,
@@ -134,7 +150,10 @@ impl Builder {
         node: Node,
     ) -> Result<(), ParseError>
         ensures depth { OnOk result (self.new.depth ≡ self.old.depth) }
-        ensures stack { IsPrepared stage node → OnOk result ((ls : List Level) (cur : Nodes) → IsStack self.old ls cur → Begins block stage chained node ls cur self.new) }
+        ensures stack {
+            IsPrepared stage node → OnOk result ((ls : List Level) (cur : Nodes) →
+                IsStack self.old ls cur → Begins block stage chained node ls cur self.new)
+        }
         ensures fails { IsMemory result }
     {
         let node_index = self.nodes.len();
@@ -148,11 +167,14 @@ impl Builder {
         Ok(())
     }
 
-    /// The end of a body that an `else` may end, and the start of the last. So many bytes of the source are left from the
-    /// piece on.
+    /// The end of a body that an `else` may end, and the start of the last. So many bytes of the
+    /// source are left from the piece on.
     fn otherwise(&mut self, left: usize) -> Result<(), ParseError>
         requires { IsBuilt self.old }
-        ensures stack { (ls : List Level) (cur : Nodes) → IsBuilding self.old ls cur → Steps (to_else ls cur) self.new result }
+        ensures stack {
+            (ls : List Level) (cur : Nodes) → IsBuilding self.old ls cur →
+            Steps (to_else ls cur) self.new result
+        }
         ensures place { FaultsAt left result }
     {
         match self.blocks.pop() {
@@ -176,7 +198,10 @@ impl Builder {
     /// `when`: the body of the one before it ends, or what isn't kept, and its own begins.
     fn when(&mut self, values: Vec<Expression>, left: usize) -> Result<(), ParseError>
         requires { IsBuilt self.old }
-        ensures stack { (ls : List Level) (cur : Nodes) → IsBuilding self.old ls cur → Steps (to_when (map expression_view values.items) ls cur) self.new result }
+        ensures stack {
+            (ls : List Level) (cur : Nodes) → IsBuilding self.old ls cur →
+            Steps (to_when (map expression_view values.items) ls cur) self.new result
+        }
         ensures place { FaultsAt left result }
     {
         match self.blocks.pop() {
@@ -209,10 +234,14 @@ impl Builder {
         }
     }
 
-    /// The end of a first body, and the start of the last. It answers the block that they are bodies of.
+    /// The end of a first body, and the start of the last. It answers the block that they are
+    /// bodies of.
     fn end_first(&mut self, left: usize) -> Result<Block, ParseError>
         requires { IsBuilt self.old }
-        ensures stack { (ls : List Level) (cur : Nodes) → IsBuilding self.old ls cur → EndsFirst ls cur self.new result }
+        ensures stack {
+            (ls : List Level) (cur : Nodes) → IsBuilding self.old ls cur →
+            EndsFirst ls cur self.new result
+        }
         ensures place { FaultsAt left result }
     {
         let Some(block) = self.first_block() else {
@@ -225,7 +254,11 @@ impl Builder {
     /// `elsif`: the last body begins, and in it a block that ends with the one around it.
     fn elsif(&mut self, node: Node, left: usize) -> Result<(), ParseError>
         requires { IsBuilt self.old }
-        ensures stack { IsPrepared stages.First node → (ls : List Level) (cur : Nodes) → IsBuilding self.old ls cur → Steps (to_elsif (of_bodies (flat_of node)) ls cur) self.new result }
+        ensures stack {
+            IsPrepared stages.First node → (ls : List Level) (cur : Nodes) →
+            IsBuilding self.old ls cur →
+            Steps (to_elsif (of_bodies (flat_of node)) ls cur) self.new result
+        }
         ensures place { FaultsAt left result }
     {
         match self.end_first(left) {
@@ -240,9 +273,13 @@ impl Builder {
     /// The end of the innermost block: whether an `elsif` opened it.
     fn close_one(&mut self) -> Option<bool>
         requires { (ls : List Level) × (cur : Nodes) × IsStack self.old ls cur }
-        ensures closes { (ls : List Level) (cur : Nodes) → IsStack self.old ls cur → Closes ls cur self.new result }
+        ensures closes {
+            (ls : List Level) (cur : Nodes) → IsStack self.old ls cur →
+            Closes ls cur self.new result
+        }
         ensures depth { self.new.depth ≡ self.old.depth }
-        ensures shorter { IfSome result (λ _. length self.new.blocks.items < length self.old.blocks.items) }
+        ensures shorter { IfSome result (λ _. length self.new.blocks.items <
+                    length self.old.blocks.items) }
     {
         let open = self.blocks.pop()?;
         end_body(&mut self.nodes, open);
@@ -254,7 +291,10 @@ impl Builder {
     /// The end of a block. Where an `elsif` opened it, the block around it ends too.
     fn close(&mut self, left: usize) -> Result<(), ParseError>
         requires { IsBuilt self.old }
-        ensures stack { (ls : List Level) (cur : Nodes) → IsBuilding self.old ls cur → Steps (close true ls cur) self.new result }
+        ensures stack {
+            (ls : List Level) (cur : Nodes) → IsBuilding self.old ls cur →
+            Steps (close true ls cur) self.new result
+        }
         ensures place { FaultsAt left result }
     {
         let mut chained = true;
@@ -271,11 +311,14 @@ impl Builder {
     /// A block whose body isn't read, where the blocks around it aren't too deep already.
     fn closed(&mut self, node: Node, left: usize) -> Result<(), ParseError>
         requires { (flat_of node).ends ≡ [] }
-        ensures stack { (ls : List Level) (cur : Nodes) → IsBuilding self.old ls cur → Steps (to_closed ((flat_of node).head []) ls cur) self.new result }
+        ensures stack {
+            (ls : List Level) (cur : Nodes) → IsBuilding self.old ls cur →
+            Steps (to_closed ((flat_of node).head []) ls cur) self.new result
+        }
         ensures place { FaultsAt left result }
     {
-        // the node goes in before the depth is looked at: a fault ends the reading anyhow, and a node that is dropped on a way out
-        // takes the prover longer than all else here
+        // the node goes in before the depth is looked at: a fault ends the reading anyhow, and a
+        // node that is dropped on a way out takes the prover longer than all else here
         self.leaf(node)?;
         if self.is_full() {
             return Err(too_nested(left));
@@ -291,7 +334,10 @@ impl Builder {
         node: Node,
         left: usize,
     ) -> Result<(), ParseError>
-        ensures stack { IsPrepared stage node → (ls : List Level) (cur : Nodes) → IsBuilding self.old ls cur → Steps (to_begin (opening block stage node) ls cur) self.new result }
+        ensures stack {
+            IsPrepared stage node → (ls : List Level) (cur : Nodes) → IsBuilding self.old ls cur →
+            Steps (to_begin (opening block stage node) ls cur) self.new result
+        }
         ensures place { FaultsAt left result }
     {
         // here too the node goes in first
@@ -307,7 +353,10 @@ impl Builder {
     pub fn add(&mut self, statement: Statement, left: usize) -> Result<(), ParseError>
         requires built { IsBuilt self.old }
         requires sound { IsSound statement }
-        ensures stack { (ls : List Level) (cur : Nodes) → IsBuilding self.old ls cur → Steps (step (statement_view statement) ls cur) self.new result }
+        ensures stack {
+            (ls : List Level) (cur : Nodes) → IsBuilding self.old ls cur →
+            Steps (step (statement_view statement) ls cur) self.new result
+        }
         ensures place { FaultsAt left result }
     {
         match statement {
@@ -324,7 +373,10 @@ impl Builder {
     /// The template, where no block is open. The positions are those of the nodes.
     pub fn finish(self, positions: Vec<Position>) -> Result<Template, ParseError>
         requires { IsBuilt self }
-        ensures { (ls : List Level) (cur : Nodes) → IsBuilding self ls cur → Finishes (at_end ls cur) result }
+        ensures {
+            (ls : List Level) (cur : Nodes) → IsBuilding self ls cur →
+            Finishes (at_end ls cur) result
+        }
     {
         match self.blocks.last() {
             None => Ok(Template {
@@ -360,10 +412,12 @@ fn takes_when(stage: Stage) -> bool
     }
 }
 
-/// Ends the body that is being read, where another may follow it: writes where it ends, or drops what isn't kept.
+/// Ends the body that is being read, where another may follow it: writes where it ends, or drops
+/// what isn't kept.
 fn end_body(nodes: &mut Vec<Node>, block: Open)
     requires { block.node_index < length nodes.old.items }
-    ensures ended { BodyEnded block.stage block.node_index (flats nodes.old.items) (flats nodes.new.items) }
+    ensures ended { BodyEnded block.stage block.node_index (flats nodes.old.items)
+                (flats nodes.new.items) }
     ensures inside { block.node_index < length nodes.new.items }
 {
     let end = nodes.len();

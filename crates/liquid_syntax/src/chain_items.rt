@@ -20,7 +20,8 @@ use liquid_lexer::{
 use std::alloc::Global;
 use std::collections::VecDeque;
 
-/// A chain of all the items: a value, and any number of filters behind it. `at` is the source from the piece on.
+/// A chain of all the items: a value, and any number of filters after it. `at` is the source from
+/// the piece on.
 #[tactic(auto, unfolding(crate::specs::ChainReading::chain_of))]
 pub fn read_chain(
     alloc: Global,
@@ -28,7 +29,10 @@ pub fn read_chain(
     items: VecDeque<Item<'_>>,
     at: &str,
 ) -> Result<FilterChain, ParseError>
-    ensures chain { Parses chain_view result (chain_of (registered_in filters.now) (tokens_view items.entry.items)) }
+    ensures chain {
+        Parses chain_view result (chain_of (registered_in filters.now)
+            (tokens_view items.entry.items))
+    }
     ensures place { FaultsAt (length at.now) result }
 {
     let mut items = items;
@@ -46,7 +50,10 @@ fn read_filters(
     items: &mut VecDeque<Item<'_>>,
     at: &str,
 ) -> Result<Vec<ChainFilter>, ParseError>
-    ensures filters { Parses (λ fs. map chain_filter_view fs.items) result (filters_of (registered_in known.now) (tokens_view items.old.items)) }
+    ensures filters {
+        Parses (λ fs. map chain_filter_view fs.items) result (filters_of (registered_in known.now)
+            (tokens_view items.old.items))
+    }
     ensures place { FaultsAt (length at.now) result }
 {
     let mut filters = Vec::new(alloc);
@@ -59,14 +66,17 @@ fn read_filters(
     Ok(filters)
 }
 
-/// The filter at the front, behind its `|`: its name, and the arguments that it is given.
+/// The filter at the front, after its `|`: its name, and the arguments that it is given.
 fn read_filter(
     alloc: Global,
     known: &FilterRegistry,
     items: &mut VecDeque<Item<'_>>,
     at: &str,
 ) -> Result<ChainFilter, ParseError>
-    ensures taken { TakesFilter (registered_in known.now) (tokens_view items.old.items) (tokens_view items.new.items) result }
+    ensures taken {
+        TakesFilter (registered_in known.now) (tokens_view items.old.items)
+            (tokens_view items.new.items) result
+    }
     ensures shorter { length items.new.items ≤ length items.old.items }
     ensures place { FaultsAt (length at.now) result }
 {
@@ -77,16 +87,24 @@ fn read_filter(
     accepted(known, name, arguments, at)
 }
 
-/// The filter of the name with these arguments. `UnknownFilter` where none is registered, and `FilterArguments` where it
-/// doesn't take their number.
+/// The filter of the name with these arguments. `UnknownFilter` where none is registered, and
+/// `FilterArguments` where it doesn't take their number.
 fn accepted(
     known: &FilterRegistry,
     name: String,
     arguments: Vec<Expression>,
     at: &str,
 ) -> Result<ChainFilter, ParseError>
-    ensures call { Parses chain_filter_view result (accepted_call (string_bytes name) (listed (registered_in known.now) (string_bytes name)) (map expression_view arguments.items)) }
-    ensures kind { IfErr result (λ e. IsOfKind (call_fault (listed (registered_in known.now) (string_bytes name))) e) }
+    ensures call {
+        Parses chain_filter_view result
+            (accepted_call (string_bytes name)
+            (listed (registered_in known.now) (string_bytes name))
+            (map expression_view arguments.items))
+    }
+    ensures kind {
+        IfErr result (λ e.
+            IsOfKind (call_fault (listed (registered_in known.now) (string_bytes name))) e)
+    }
     ensures place { IfErr result (λ e. IsAt (length at.now) e) }
 {
     let Some(filter) = known.get(name.as_str()) else {
@@ -115,13 +133,16 @@ fn accepted(
     }
 }
 
-/// The arguments behind a filter's name.
+/// The arguments after a filter's name.
 fn read_arguments(
     alloc: Global,
     items: &mut VecDeque<Item<'_>>,
     at: &str,
 ) -> Result<Vec<Expression>, ParseError>
-    ensures called { (known : Filters) → Calls known (tokens_view items.old.items) (tokens_view items.new.items) result }
+    ensures called {
+        (known : Filters) → Calls known (tokens_view items.old.items) (tokens_view items.new.items)
+            result
+    }
     ensures shorter { length items.new.items ≤ length items.old.items }
     ensures kind { FaultsAs FaultKind.Expected result }
     ensures place { FaultsAt (length at.now) result }
@@ -141,7 +162,8 @@ fn read_arguments(
     }
 }
 
-/// The fault that something else is wanted in the piece, at the item from which on so many of its items are left.
+/// The fault that something else is wanted in the piece, at the item from which on so many of its
+/// items are left.
 pub fn expected(at: &str, items_left: usize, wanted: &'static str) -> ParseError
     ensures kind { IsOfKind FaultKind.Expected result }
     ensures place { IsAt (length at.now) result }

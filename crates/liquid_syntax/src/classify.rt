@@ -1,11 +1,13 @@
-//! What a piece is, where it stands: the statement of an output or a tag, by the language and by its items.
+//! What a piece is, where it stands: the statement of an output or a tag, by the language and by
+//! its items.
 ghost use Rattle.std.specs.Prelude.{◌≡◌, length};
 ghost use Rattle.liquid_lexer.specs.PieceView.{items_view, piece_view};
 ghost use Rattle.liquid_lexer.specs.Readers.{IsAt, IsOfKind};
 ghost use Rattle.liquid_lexer.specs.Tokens.{tokens_view};
 ghost use Rattle.liquid_syntax.specs.Faults.{FaultsAs, FaultsAt};
 ghost use Rattle.liquid_syntax.specs.inside.Classifies.{Classifies};
-ghost use Rattle.liquid_syntax.specs.Classification.{comment_statement, ends_or, opens, raw_statement, reads, tag_statement};
+ghost use Rattle.liquid_syntax.specs.Classification.{comment_statement, ends_or, opens};
+ghost use Rattle.liquid_syntax.specs.Classification.{raw_statement, reads, tag_statement};
 ghost use Rattle.liquid_language.specs.Roles.{role_of};
 
 mod blocks;
@@ -100,7 +102,10 @@ fn read_tag(
     items: VecDeque<Item<'_>>,
     at: &str,
 ) -> Result<Statement, ParseError>
-    ensures statement { Classifies (tag_statement language.now (items_view items.entry.items) (tokens_view items.entry.items) (role_of language.now context name.now)) result }
+    ensures statement {
+        Classifies (tag_statement language.now (items_view items.entry.items)
+            (tokens_view items.entry.items) (role_of language.now context name.now)) result
+    }
     ensures place { FaultsAt (length at.now) result }
 {
     match role_of(language, context, name) {

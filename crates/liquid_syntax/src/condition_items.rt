@@ -1,6 +1,7 @@
 //! Conditions, read from the items of a piece.
 ghost use Rattle.std.specs.Prelude.{◌≡◌, ◌≤◌, length};
-ghost use Rattle.liquid_syntax.specs.inside.ConditionAnswers.{TakesOperator, TakesAtom, TakesConjunction};
+ghost use Rattle.liquid_syntax.specs.inside.ConditionAnswers.{TakesOperator, TakesAtom};
+ghost use Rattle.liquid_syntax.specs.inside.ConditionAnswers.{TakesConjunction};
 ghost use Rattle.liquid_syntax.specs.ConditionReading.{symbol_operator, operator_of, condition_of};
 ghost use Rattle.liquid_evaluation.specs.ConditionView.{condition_view};
 ghost use Rattle.liquid_syntax.specs.Faults.{FaultsAs, FaultsAt};
@@ -14,14 +15,15 @@ use liquid_lexer::{FaultKind, Item, ParseError, Symbol, is_over, is_word, next_v
 use std::alloc::Global;
 use std::collections::VecDeque;
 
-/// A condition of all the items: conjunctions joined by `or`. `Expected` where they are none. `at` is the source from
-/// the piece on.
+/// A condition of all the items: conjunctions joined by `or`. `Expected` where they are none. `at`
+/// is the source from the piece on.
 pub fn read_condition(
     alloc: Global,
     items: VecDeque<Item<'_>>,
     at: &str,
 ) -> Result<Condition, ParseError>
-    ensures condition { Parses condition_view result (condition_of (tokens_view items.entry.items)) }
+    ensures condition { Parses condition_view result
+                (condition_of (tokens_view items.entry.items)) }
     ensures kind { FaultsAs FaultKind.Expected result }
     ensures place { FaultsAt (length at.now) result }
 {
@@ -45,7 +47,8 @@ fn read_conjunction(
     items: &mut VecDeque<Item<'_>>,
     at: &str,
 ) -> Result<Vec<Atom>, ParseError>
-    ensures taken { TakesConjunction (tokens_view items.old.items) (tokens_view items.new.items) result }
+    ensures taken { TakesConjunction (tokens_view items.old.items) (tokens_view items.new.items)
+                result }
     ensures shorter { length items.new.items ≤ length items.old.items }
     ensures kind { FaultsAs FaultKind.Expected result }
     ensures place { FaultsAt (length at.now) result }

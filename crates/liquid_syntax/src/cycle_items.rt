@@ -4,7 +4,8 @@ ghost use Rattle.std.specs.Option.{option_map};
 ghost use Rattle.liquid_core.specs.ExpressionView.{expression_view};
 ghost use Rattle.liquid_lexer.specs.Readers.{Parses};
 ghost use Rattle.liquid_lexer.specs.Tokens.{tokens_view};
-ghost use Rattle.liquid_syntax.specs.Cycles.{any_values_of, grouped_of, grouped_view, is_name, named_of, with_group};
+ghost use Rattle.liquid_syntax.specs.Cycles.{any_values_of, grouped_of, grouped_view, is_name};
+ghost use Rattle.liquid_syntax.specs.Cycles.{named_of, with_group};
 ghost use Rattle.liquid_syntax.specs.Faults.{FaultsAs, FaultsAt};
 
 use crate::chain_items::{expected, expected_before};
@@ -15,7 +16,8 @@ use liquid_lexer::{FaultKind, Item, ParseError, Symbol, next_value, skip};
 use std::alloc::Global;
 use std::collections::VecDeque;
 
-/// The group and the values that all the items say: values, or a name, a `:` and values, which may all be missing there.
+/// The group and the values that all the items say: values, or a name, a `:` and values, which may
+/// all be missing there.
 /// `Expected` where they are no such thing.
 pub fn read_cycle(
     alloc: Global,
@@ -38,14 +40,18 @@ pub fn read_cycle(
     Ok((group, values))
 }
 
-/// The group and the values, where all the items stand behind a name and its `:`.
+/// The group and the values, where all the items follow a name and its `:`.
 fn read_named(
     alloc: Global,
     name: Expression,
     items: VecDeque<Item<'_>>,
     at: &str,
 ) -> Result<(String, Vec<Expression>), ParseError>
-    ensures cycle { Parses grouped_view result (option_map with_group (named_of (expression_view name) (tokens_view items.entry.items))) }
+    ensures cycle {
+        Parses grouped_view result
+            (option_map with_group
+            (named_of (expression_view name) (tokens_view items.entry.items)))
+    }
     ensures kind { FaultsAs FaultKind.Expected result }
     ensures place { FaultsAt (length at.now) result }
 {
@@ -78,7 +84,10 @@ fn read_any_values(
     items: VecDeque<Item<'_>>,
     at: &str,
 ) -> Result<Vec<Expression>, ParseError>
-    ensures values { Parses (λ xs. map expression_view xs.items) result (any_values_of (tokens_view items.entry.items)) }
+    ensures values {
+        Parses (λ xs. map expression_view xs.items) result
+            (any_values_of (tokens_view items.entry.items))
+    }
     ensures kind { FaultsAs FaultKind.Expected result }
     ensures place { FaultsAt (length at.now) result }
 {

@@ -1,4 +1,5 @@
-//! The faults of blocks: of an end that isn't one, of one that is missing, and of blocks that nest too deep.
+//! The faults of blocks: of an end that isn't one, of one that is missing, and of blocks that nest
+//! too deep.
 ghost use Rattle.std.specs.Prelude.{◌≡◌};
 ghost use Rattle.liquid_lexer.specs.Readers.{IsAt, IsOfKind};
 ghost use Rattle.liquid_language.specs.Controls.{end_word};
@@ -6,8 +7,8 @@ ghost use Rattle.liquid_language.specs.Controls.{end_word};
 use liquid_language::{Block, end_tag};
 use liquid_lexer::{Fault, FaultKind, ParseError};
 
-/// The fault of an end, an `else` or an `elsif` that stands where no body is to end; so many bytes of the source are left
-/// from it on.
+/// The fault of an end, an `else` or an `elsif` that stands where no body is to end; so many bytes
+/// of the source are left from it on.
 pub(crate) fn no_body(left: usize) -> Fault
     ensures kind { result.kind ≡ FaultKind.UnknownTag }
     ensures place { result.left ≡ left }

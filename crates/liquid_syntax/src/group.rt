@@ -14,7 +14,10 @@ pub fn named_group(
     name: &Expression,
     values: &[Expression],
 ) -> Result<String, AllocError>
-    ensures { IfOk result (λ group. string_bytes group ≡ group_of (Some (expression_view name.now)) (map expression_view values.now)) }
+    ensures {
+        IfOk result (λ group. string_bytes group ≡ group_of (Some (expression_view name.now))
+            (map expression_view values.now))
+    }
 {
     let text = name_text(alloc, name)?;
     if text.is_empty() {
@@ -35,7 +38,8 @@ fn name_text(alloc: Global, name: &Expression) -> Result<String, AllocError>
 
 /// The group of a `cycle` without a name: the values' written forms with `-` between them.
 pub fn values_group(alloc: Global, values: &[Expression]) -> Result<String, AllocError>
-    ensures { IfOk result (λ group. string_bytes group ≡ values_group (map expression_view values.now)) }
+    ensures { IfOk result (λ group. string_bytes group ≡
+                values_group (map expression_view values.now)) }
 {
     let mut group = String::new(alloc);
     match values.split_first() {
@@ -50,9 +54,12 @@ pub fn values_group(alloc: Global, values: &[Expression]) -> Result<String, Allo
     }
 }
 
-/// Writes a value behind others, with a `-` before it.
+/// Writes a value after others, with a `-` before it.
 fn write_further(group: &mut String, value: &Expression) -> Result<(), AllocError>
-    ensures { OnOk result (string_bytes group.new ≡ string_bytes group.old ++ (codes "-" ++ written_form (expression_view value.now))) }
+    ensures {
+        OnOk result (string_bytes group.new ≡ string_bytes group.old ++
+            (codes "-" ++ written_form (expression_view value.now)))
+    }
 {
     write!(group, "-{value}")?;
     Ok(())

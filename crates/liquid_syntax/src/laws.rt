@@ -6,24 +6,28 @@ ghost use Rattle.liquid_syntax.specs.RepeatedLaw.{ReadsLoops, ReadsPairs, ReadsV
 ghost use Rattle.liquid_syntax.specs.NestingLaw.{ReadsTheGrammar, AtMostOneTree};
 ghost use Rattle.liquid_syntax.specs.TemplateLaw.{PlainSources, AtMostOneTemplate};
 
-/// A source without `{{` and `{%` is itself, one text, in every language; and a source has at most one tree in a language.
+/// A source without `{{` and `{%` is itself, one text, in every language; and a source has at most
+/// one tree in a language.
 pub fn template_laws()
     ensures plain { PlainSources }
     ensures unique { AtMostOneTemplate }
 {}
 
-/// Reading with a stack of open blocks gives a list of pieces the tree of the written grammar, and there is at most one.
+/// Reading with a stack of open blocks gives a list of pieces the tree of the written grammar, and
+/// there is at most one.
 pub fn nesting_laws()
     ensures reads { ReadsTheGrammar }
     ensures unique { AtMostOneTree }
 {}
 
-/// A piece is read as a statement, by the names of a language, exactly where the written grammar says that it is that.
+/// A piece is read as a statement, by the names of a language, exactly where the written grammar
+/// says that it is that.
 pub fn statement_law()
     ensures { ReadsStatements }
 {}
 
-/// A chain of filters and an `assign` are read exactly where the written grammar says that the items are it.
+/// A chain of filters and an `assign` are read exactly where the written grammar says that the
+/// items are it.
 pub fn chain_laws()
     ensures chains { ReadsChains }
     ensures assigns { ReadsAssigns }

@@ -5,7 +5,9 @@ ghost use Rattle.liquid_lexer.specs.Tokens.{tokens_view};
 ghost use Rattle.liquid_syntax.specs.Faults.{FaultsAs, FaultsAt};
 ghost use Rattle.liquid_core.specs.Expression.{Expression as Meant};
 ghost use Rattle.liquid_core.specs.ExpressionView.{expression_view};
-ghost use Rattle.liquid_syntax.specs.Loops.{head_view, loop_of, own_part, part_first, part_value, part_view, parts_in, settled_of, source_first, with_part, Part};
+ghost use Rattle.liquid_syntax.specs.Loops.{head_view, loop_of, own_part, part_first, part_value};
+ghost use Rattle.liquid_syntax.specs.Loops.{part_view, parts_in, settled_of, source_first};
+ghost use Rattle.liquid_syntax.specs.Loops.{with_part, Part};
 ghost use Rattle.liquid_evaluation.specs.SourceView.{source_view};
 
 use crate::chain_items::expected_before;
@@ -17,7 +19,7 @@ use liquid_lexer::{
 };
 use std::collections::VecDeque;
 
-/// Which parts may stand behind a loop's source.
+/// Which parts may follow a loop's source.
 #[derive(Clone, Copy, Debug, PartialEq, Eq)]
 pub enum LoopKind {
     /// Those of `for`: `limit`, `offset` and `reversed`.
@@ -26,7 +28,7 @@ pub enum LoopKind {
     Rows,
 }
 
-/// A part behind a loop's source.
+/// A part after a loop's source.
 #[derive(Drop)]
 pub enum LoopPart {
     Limit(Expression),
@@ -46,7 +48,10 @@ pub struct Loop {
 
 /// Takes the source at the front, if one stands there.
 pub(crate) fn next_source(items: &mut VecDeque<Item<'_>>) -> Option<RangeExpression>
-    ensures value { option_map (λ s. (source_view s, tokens_view items.new.items)) result ≡ source_first (tokens_view items.old.items) }
+    ensures value {
+        option_map (λ s. (source_view s, tokens_view items.new.items)) result ≡
+            source_first (tokens_view items.old.items)
+    }
     ensures shorter { length items.new.items ≤ length items.old.items }
 {
     if matches!(items.front()?, Item::Symbol(_)) {
@@ -59,9 +64,13 @@ pub(crate) fn next_source(items: &mut VecDeque<Item<'_>>) -> Option<RangeExpress
     }
 }
 
-/// Takes a `:` and the value behind it off the front, if they stand there.
+/// Takes a `:` and the value after it off the front, if they stand there.
 fn behind_colon(items: &mut VecDeque<Item<'_>>) -> Option<Expression>
-    ensures value { (make : Meant → Part) → option_map (λ x. (make (expression_view x), tokens_view items.new.items)) result ≡ part_value make (tokens_view items.old.items) }
+    ensures value {
+        (make : Meant → Part) →
+        option_map (λ x. (make (expression_view x), tokens_view items.new.items)) result ≡
+            part_value make (tokens_view items.old.items)
+    }
     ensures shorter { length items.new.items ≤ length items.old.items }
 {
     if !skip(items, Symbol::Colon) {
@@ -70,7 +79,7 @@ fn behind_colon(items: &mut VecDeque<Item<'_>>) -> Option<Expression>
     next_value(items)
 }
 
-/// What may stand behind a loop's source.
+/// What may follow a loop's source.
 fn part_wanted(kind: LoopKind) -> &'static str {
     match kind {
         LoopKind::Each => "`limit: 1`, `offset: 1`, `reversed` or the closer",
@@ -80,7 +89,10 @@ fn part_wanted(kind: LoopKind) -> &'static str {
 
 /// Takes the part at the front, if one stands there that the loop may have.
 fn next_part(items: &mut VecDeque<Item<'_>>, kind: LoopKind) -> Option<LoopPart>
-    ensures value { option_map (λ p. (part_view p, tokens_view items.new.items)) result ≡ part_first kind (tokens_view items.old.items) }
+    ensures value {
+        option_map (λ p. (part_view p, tokens_view items.new.items)) result ≡
+            part_first kind (tokens_view items.old.items)
+    }
     ensures shorter { IfSome result (λ _. length items.new.items < length items.old.items) }
 {
     if skip_word(items, "limit") {
@@ -94,7 +106,10 @@ fn next_part(items: &mut VecDeque<Item<'_>>, kind: LoopKind) -> Option<LoopPart>
 
 /// Takes the part at the front, if one stands there that only a loop of this kind may have.
 fn own_part(items: &mut VecDeque<Item<'_>>, kind: LoopKind) -> Option<LoopPart>
-    ensures value { option_map (λ p. (part_view p, tokens_view items.new.items)) result ≡ own_part kind (tokens_view items.old.items) }
+    ensures value {
+        option_map (λ p. (part_view p, tokens_view items.new.items)) result ≡
+            own_part kind (tokens_view items.old.items)
+    }
     ensures shorter { IfSome result (λ _. length items.new.items < length items.old.items) }
 {
     match kind {
@@ -117,7 +132,8 @@ impl Loop {
     /// A part takes the place of an earlier one of its kind.
     fn set(&mut self, part: LoopPart)
         ensures parts { parts_in self.new ≡ with_part (parts_in self.old) (part_view part) }
-        ensures rest { (self.new.variable ≡ self.old.variable) × (self.new.source ≡ self.old.source) }
+        ensures rest { (self.new.variable ≡ self.old.variable) ×
+                (self.new.source ≡ self.old.source) }
     {
         match part {
             LoopPart::Limit(value) => self.window.limit = Some(value),
@@ -134,8 +150,12 @@ impl Loop {
         kind: LoopKind,
         at: &str,
     ) -> Result<(), ParseError>
-        ensures parts { Parses (λ _. parts_in self.new) result (settled_of kind (parts_in self.old) (tokens_view items.entry.items)) }
-        ensures rest { (self.new.variable ≡ self.old.variable) × (self.new.source ≡ self.old.source) }
+        ensures parts {
+            Parses (λ _. parts_in self.new) result (settled_of kind (parts_in self.old)
+                (tokens_view items.entry.items))
+        }
+        ensures rest { (self.new.variable ≡ self.old.variable) ×
+                (self.new.source ≡ self.old.source) }
         ensures kind { FaultsAs FaultKind.Expected result }
         ensures place { FaultsAt (length at.now) result }
     {
@@ -150,8 +170,8 @@ impl Loop {
     }
 }
 
-/// The loop that all the items are: `variable in source`, and any parts that its kind may have, of which the last of a
-/// kind counts.
+/// The loop that all the items are: `variable in source`, and any parts that its kind may have, of
+/// which the last of a kind counts.
 pub fn read_loop(items: VecDeque<Item<'_>>, kind: LoopKind, at: &str) -> Result<Loop, ParseError>
     ensures head { Parses head_view result (loop_of kind (tokens_view items.entry.items)) }
     ensures kind { FaultsAs FaultKind.Expected result }

@@ -13,7 +13,8 @@ pub struct WindowExpression {
     pub reversed: bool,
 }
 
-/// Drops the fields. By hand, so that a way out of a function that owns one is one call to prove.
+/// Drops the fields. Written by hand, so that each early return drops the value by one call to
+/// prove.
 impl Drop for WindowExpression {
     fn drop(self) {
         let WindowExpression {
@@ -31,7 +32,8 @@ pub struct For {
     pub window: WindowExpression,
 }
 
-/// Drops the fields. By hand, so that a way out of a function that owns one is one call to prove.
+/// Drops the fields. Written by hand, so that each early return drops the value by one call to
+/// prove.
 impl Drop for For {
     fn drop(self) {
         let For {
@@ -51,7 +53,8 @@ pub struct TableRow {
     pub cols: Option<Expression>,
 }
 
-/// Drops the fields. By hand, so that a way out of a function that owns one is one call to prove.
+/// Drops the fields. Written by hand, so that each early return drops the value by one call to
+/// prove.
 impl Drop for TableRow {
     fn drop(self) {
         let TableRow {
@@ -69,7 +72,8 @@ pub struct Each {
     pub variable: String,
 }
 
-/// Drops the fields. By hand, so that a way out of a function that owns one is one call to prove.
+/// Drops the fields. Written by hand, so that each early return drops the value by one call to
+/// prove.
 impl Drop for Each {
     fn drop(self) {
         let Each {

@@ -1,4 +1,5 @@
-//! The visitors that are told the names that templates mention: one looks for a name, and one gathers all.
+//! The visitors that are given the names that templates mention: one looks for a name, and one
+//! gathers all.
 ghost use Rattle.std.specs.Prelude.{◌≡◌, [], ◌∷◌, OnOk};
 ghost use Rattle.liquid_syntax.specs.inside.NameVisitors.{gathers, looks};
 ghost use Rattle.liquid_syntax.specs.NameSets.{Gathers, Looks, added, held};
@@ -7,7 +8,7 @@ use liquid_evaluation::NameVisitor;
 use std::alloc::{AllocError, Global};
 use std::collections::BTreeSet;
 
-/// Looks for a name, and ends the telling where it is told that name.
+/// Looks for a name, and ends the visit where it is given that name.
 #[derive(Clone, Copy, Drop)]
 pub(crate) struct Search<'n> {
     pub wanted: &'n str,
@@ -23,7 +24,7 @@ impl NameVisitor for Search<'_> {
     ghost laws = { looks (λ search. search.wanted.now) };
 }
 
-/// Gathers the names that it is told, and ends the telling where there is no room for one.
+/// Gathers the names that it is given, and ends the visit where there is no room for one.
 #[derive(Drop)]
 pub(crate) struct Gather {
     pub alloc: Global,

@@ -12,7 +12,8 @@ pub struct Binding {
     pub value: Expression,
 }
 
-/// Drops the fields. By hand, so that a way out of a function that owns one is one call to prove.
+/// Drops the fields. Written by hand, so that each early return drops the value by one call to
+/// prove.
 impl Drop for Binding {
     fn drop(self) {
         let Binding { name: _, value: _ } = self;
@@ -50,8 +51,8 @@ pub struct Arm {
 /// A node of a template's list.
 ///
 /// The list is in source order: a node is followed by the nodes of its bodies, body after body.
-/// A node with bodies says where each of them ends, as an index of the list; the first begins right after the node,
-/// each other one where the one before it ends.
+/// A node with bodies says where each of them ends, as an index of the list; the first begins right
+/// after the node, each other one where the one before it ends.
 pub enum Node {
     /// Text outside of outputs and tags. It is never empty.
     Text(String),
@@ -66,15 +67,16 @@ pub enum Node {
     /// `{% if condition %}`, with the body that runs where the condition holds, and that of `else`.
     /// An `elsif` is an `If` alone in the body of `else`.
     If(Condition, TwoBodies),
-    /// `{% unless condition %}`, with the body that runs where the condition doesn't hold, and that of `else`.
+    /// `{% unless condition %}`, with the body that runs where the condition doesn't hold, and that
+    /// of `else`.
     Unless(Condition, TwoBodies),
     /// `{% capture name %}`, and where its body ends.
     Capture(String, usize),
-    /// `{% case target %}`, with its `when` parts, and where the body of `else` ends. What stands before the first of them
-    /// is not kept.
+    /// `{% case target %}`, with its `when` parts, and where the body of `else` ends. What stands
+    /// before the first of them is not kept.
     Case(Expression, Vec<Arm>, usize),
-    /// `{% for variable in source %}`, with the body that runs for each item, and that of `else`, which runs where there is
-    /// no item.
+    /// `{% for variable in source %}`, with the body that runs for each item, and that of `else`,
+    /// which runs where there is no item.
     For(Box<For>, TwoBodies),
     /// `{% tablerow variable in source %}`, and where its body ends.
     TableRow(Box<TableRow>, usize),
@@ -100,7 +102,8 @@ pub enum Node {
     RenderEach(Expression, Each, Vec<Binding>),
 }
 
-/// Drops what it holds. By hand, so that a way out of a function that owns one is one call to prove.
+/// Drops what it holds. By hand, so that a way out of a function that owns one is one call to
+/// prove.
 impl Drop for Node {
     fn drop(self) {
         match self {

@@ -2,7 +2,8 @@
 ghost use Rattle.std.specs.Prelude.{◌≡◌, ◌<◌, ◌++◌, IfSome, length, option_map};
 ghost use Rattle.liquid_lexer.specs.Readers.{Parses};
 ghost use Rattle.liquid_lexer.specs.Tokens.{tokens_view};
-ghost use Rattle.liquid_syntax.specs.Bound.{ends_pairs, is_separated, mark_of, one_first, pair_first, pairs_of};
+ghost use Rattle.liquid_syntax.specs.Bound.{ends_pairs, is_separated, mark_of, one_first};
+ghost use Rattle.liquid_syntax.specs.Bound.{pair_first, pairs_of};
 ghost use Rattle.liquid_syntax.specs.Faults.{FaultsAs, FaultsAt};
 ghost use Rattle.liquid_syntax.specs.Flats.{binding_view, bindings_view};
 
@@ -15,11 +16,12 @@ use std::collections::VecDeque;
 /// How the pairs of a tag are written.
 #[derive(Clone, Copy, Debug, PartialEq, Eq)]
 pub enum PairStyle {
-    /// `, name: value`, as behind the first pair of an `include`. One item of any kind may stand behind the last of them.
+    /// `, name: value`, as after the first pair of an `include`. One item of any kind may stand
+    /// after the last of them.
     Include,
     /// `name=value`, as in Jekyll's `include`.
     JekyllInclude,
-    /// `, name: value`, as in a `render`. One more `,` may stand behind the last of them.
+    /// `, name: value`, as in a `render`. One more `,` may follow the last of them.
     Render,
 }
 
@@ -55,7 +57,10 @@ fn pair_wanted(style: PairStyle) -> &'static str {
 
 /// Takes a name, the symbol and a value off the front, if they stand there.
 pub(crate) fn next_pair(items: &mut VecDeque<Item<'_>>, symbol: Symbol) -> Option<Binding>
-    ensures value { option_map (λ p. (binding_view p, tokens_view items.new.items)) result ≡ pair_first symbol (tokens_view items.old.items) }
+    ensures value {
+        option_map (λ p. (binding_view p, tokens_view items.new.items)) result ≡
+            pair_first symbol (tokens_view items.old.items)
+    }
     ensures shorter { IfSome result (λ _. length items.new.items < length items.old.items) }
 {
     let name = next_word(items)?;
@@ -68,7 +73,10 @@ pub(crate) fn next_pair(items: &mut VecDeque<Item<'_>>, symbol: Symbol) -> Optio
 
 /// Takes one of the pairs off the front, if it stands there.
 fn next_of(items: &mut VecDeque<Item<'_>>, style: PairStyle) -> Option<Binding>
-    ensures value { option_map (λ p. (binding_view p, tokens_view items.new.items)) result ≡ one_first style (tokens_view items.old.items) }
+    ensures value {
+        option_map (λ p. (binding_view p, tokens_view items.new.items)) result ≡
+            one_first style (tokens_view items.old.items)
+    }
     ensures shorter { IfSome result (λ _. length items.new.items < length items.old.items) }
 {
     if is_separated(style) {
@@ -90,14 +98,18 @@ fn ends_pairs(items: &VecDeque<Item<'_>>, style: PairStyle) -> bool
     }
 }
 
-/// The pairs that all the items are, behind those that stand before them.
+/// The pairs that all the items are, after those that stand before them.
 pub(crate) fn read_pairs(
     first: Vec<Binding>,
     items: VecDeque<Item<'_>>,
     style: PairStyle,
     at: &str,
 ) -> Result<Vec<Binding>, ParseError>
-    ensures pairs { Parses (λ ps. bindings_view ps.items) result (option_map (λ ps. bindings_view first.items ++ ps) (pairs_of style (tokens_view items.entry.items))) }
+    ensures pairs {
+        Parses (λ ps. bindings_view ps.items) result
+            (option_map (λ ps. bindings_view first.items ++ ps)
+            (pairs_of style (tokens_view items.entry.items)))
+    }
     ensures kind { FaultsAs FaultKind.Expected result }
     ensures place { FaultsAt (length at.now) result }
 {

@@ -6,7 +6,8 @@ ghost use Rattle.liquid_lexer.specs.SourceReading.{source_at};
 ghost use Rattle.liquid_syntax.specs.OpenBlocks.{Level};
 ghost use Rattle.liquid_syntax.specs.Parsing.{MayRefuse, ParsesTo, ReadsTo};
 ghost use Rattle.liquid_syntax.specs.inside.Building.{IsBuilding, IsBuilt, Steps, text_added};
-ghost use Rattle.liquid_syntax.specs.inside.TemplateReading.{AddsPiece, begun_with, body_of, piece_step};
+ghost use Rattle.liquid_syntax.specs.inside.TemplateReading.{AddsPiece, begun_with, body_of};
+ghost use Rattle.liquid_syntax.specs.inside.TemplateReading.{piece_step};
 ghost use Rattle.liquid_evaluation.specs.Tree.{Nodes, no_nodes};
 
 use crate::build::Builder;
@@ -23,12 +24,13 @@ use std::alloc::{AllocError, Global};
 
 /// The template that a source is, in a language.
 ///
-/// The pieces are read and classified from left to right, and the first fault is the answer, with its location (line and column in
-/// characters, each from 1) and a message that says what is found there and what is wanted, or what to write instead. A block
-/// without its end is told where it opens, and so is an output or a tag without its closer. The kinds are:
-/// `Unclosed`, `BadItem`, `NumberLiteral`, `FloatLiteral` and `StateWord` of items; `Expected`, `UnknownTag`,
-/// `UnknownFilter` and `FilterArguments` of outputs and tags; `MissingEnd` and `TooNested` of blocks. `Memory` where there
-/// is no room for the nodes or for a fault's message.
+/// The pieces are read and classified from left to right, and the first fault is the answer, with
+/// its location (line and column in characters, each from 1) and a message that says what is found
+/// there and what is wanted, or what to write instead. A block without its end is told where it
+/// opens, and so is an output or a tag without its closer. The kinds are:
+/// `Unclosed`, `BadItem`, `NumberLiteral`, `FloatLiteral` and `StateWord` of items; `Expected`,
+/// `UnknownTag`, `UnknownFilter` and `FilterArguments` of outputs and tags; `MissingEnd` and
+/// `TooNested` of blocks. `Memory` where there is no room for the nodes or for a fault's message.
 pub fn parse(alloc: Global, source: &str, language: &Language) -> Result<Template>
     ensures parses { ParsesTo language.now source.now result }
     ensures kinds { IfErr result (λ e. MayRefuse e.kind) }
@@ -39,7 +41,8 @@ pub fn parse(alloc: Global, source: &str, language: &Language) -> Result<Templat
     }
 }
 
-/// The error that tells why the source could not be read: which fault it has, where, and what to write instead.
+/// The error that tells why the source could not be read: which fault it has, where, and what to
+/// write instead.
 fn told(alloc: Global, source: &str, language: &Language, error: ParseError) -> Error
     ensures { TellsOf error result.kind }
 {
@@ -87,7 +90,10 @@ impl Reader<'_> {
         language: &Language,
     ) -> std::result::Result<(), ParseError>
         requires { IsBuilding self.old.builder [] no_nodes }
-        ensures { Steps (source_at (body_of language.now) (piece_step language.now) (length source.now) false begun_with source.now) self.new.builder result }
+        ensures {
+            Steps (source_at (body_of language.now) (piece_step language.now)
+                (length source.now) false begun_with source.now) self.new.builder result
+        }
     {
         let mut strip_next = false;
         let mut rest = source;
@@ -115,15 +121,19 @@ impl Reader<'_> {
         text: &str,
         left: usize,
     ) -> std::result::Result<(), ParseError>
-        ensures { (ls : List Level) (cur : Nodes) → IsBuilding self.old.builder ls cur → Steps (Some (ls, text_added text.now cur)) self.new.builder result }
+        ensures {
+            (ls : List Level) (cur : Nodes) → IsBuilding self.old.builder ls cur →
+            Steps (Some (ls, text_added text.now cur)) self.new.builder result
+        }
     {
         self.builder.text(alloc, text)?;
         self.positions.mark(left, self.builder.nodes.len())?;
         Ok(())
     }
 
-    /// An output or a tag and what follows it, read on by the body that is to stand there. The answer is whether the closer
-    /// strips what is left, and what that is. `at` is the source from the piece on.
+    /// An output or a tag and what follows it, read on by the body that is to stand there. The
+    /// answer is whether the closer strips what is left, and what that is. `at` is the source from
+    /// the piece on.
     fn piece<'t>(
         &mut self,
         alloc: Global,
@@ -132,7 +142,11 @@ impl Reader<'_> {
         at: &str,
     ) -> std::result::Result<(bool, &'t str), ParseError>
         requires { IsBuilt self.old.builder }
-        ensures { (ls : List Level) (cur : Nodes) → IsBuilding self.old.builder ls cur → AddsPiece language.now (markup_view found.entry.0, found.entry.1.now) (ls, cur) self.new.builder result }
+        ensures {
+            (ls : List Level) (cur : Nodes) → IsBuilding self.old.builder ls cur →
+            AddsPiece language.now (markup_view found.entry.0, found.entry.1.now)
+                (ls, cur) self.new.builder result
+        }
     {
         let context = self.builder.context();
         let (markup, after) = found;

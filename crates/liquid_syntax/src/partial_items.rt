@@ -7,9 +7,14 @@ ghost use Rattle.liquid_lexer.specs.Tokens.{tokens_view, value_first};
 ghost use Rattle.liquid_syntax.specs.Faults.{FaultsAs, FaultsAt};
 ghost use Rattle.liquid_syntax.specs.Flats.{binding_view, bindings_view, each_view, flat_of, leaf};
 ghost use Rattle.liquid_syntax.specs.inside.Classifies.{Classifies};
-ghost use Rattle.liquid_syntax.specs.inside.PartialAnswers.{first_spelling, rendered_view, spelling_of};
+ghost use Rattle.liquid_syntax.specs.inside.PartialAnswers.{first_spelling, rendered_view};
+ghost use Rattle.liquid_syntax.specs.inside.PartialAnswers.{spelling_of};
 ghost use Rattle.liquid_syntax.specs.Classification.{leaf_or};
-ghost use Rattle.liquid_syntax.specs.PartialItems.{each_first, include_node, include_of, included_pairs, jekyll_node, jekyll_of, render_node, render_of, rendered_each, rendered_of, rendered_with, spelled_name, with_first};
+ghost use Rattle.liquid_syntax.specs.PartialItems.{each_first, include_node, include_of};
+ghost use Rattle.liquid_syntax.specs.PartialItems.{included_pairs, jekyll_node, jekyll_of};
+ghost use Rattle.liquid_syntax.specs.PartialItems.{render_node, render_of, rendered_each};
+ghost use Rattle.liquid_syntax.specs.PartialItems.{rendered_of, rendered_with, spelled_name};
+ghost use Rattle.liquid_syntax.specs.PartialItems.{with_first};
 
 use crate::build::Statement;
 use crate::chain_items::expected_before;
@@ -30,7 +35,10 @@ pub(crate) fn read_include(
     items: VecDeque<Item<'_>>,
     at: &str,
 ) -> Result<Statement, ParseError>
-    ensures statement { Classifies (leaf_or (option_map include_node (include_of (tokens_view items.entry.items)))) result }
+    ensures statement {
+        Classifies (leaf_or (option_map include_node (include_of (tokens_view items.entry.items))))
+            result
+    }
     ensures kind { FaultsAs FaultKind.Expected result }
     ensures place { FaultsAt (length at.now) result }
 {
@@ -47,13 +55,16 @@ pub(crate) fn read_include(
     }
 }
 
-/// `w: v, w: v`, behind the name of an `include`: no pairs, or a first one and those behind it.
+/// `w: v, w: v`, after the name of an `include`: no pairs, or a first one and those after it.
 fn read_included_pairs(
     alloc: Global,
     items: VecDeque<Item<'_>>,
     at: &str,
 ) -> Result<Vec<Binding>, ParseError>
-    ensures pairs { Parses (λ ps. bindings_view ps.items) result (included_pairs (tokens_view items.entry.items)) }
+    ensures pairs {
+        Parses (λ ps. bindings_view ps.items) result
+            (included_pairs (tokens_view items.entry.items))
+    }
     ensures kind { FaultsAs FaultKind.Expected result }
     ensures place { FaultsAt (length at.now) result }
 {
@@ -68,20 +79,24 @@ fn read_included_pairs(
     read_pairs(first, items, PairStyle::Include, at)
 }
 
-/// What stands behind the name of a `render`: what it runs for each item of, if `for` stands there, and its pairs.
+/// What follows the name of a `render`: what it runs for each item of, if `for` stands there,
+/// and its pairs.
 #[derive(Drop)]
 struct Rendered {
     each: Option<Each>,
     pairs: Vec<Binding>,
 }
 
-/// `name w: v`, with `with v as w` or `for R as w` behind the name: the node of a `render`.
+/// `name w: v`, with `with v as w` or `for R as w` after the name: the node of a `render`.
 pub(crate) fn read_render(
     alloc: Global,
     items: VecDeque<Item<'_>>,
     at: &str,
 ) -> Result<Statement, ParseError>
-    ensures statement { Classifies (leaf_or (option_map render_node (render_of (tokens_view items.entry.items)))) result }
+    ensures statement {
+        Classifies (leaf_or (option_map render_node (render_of (tokens_view items.entry.items))))
+            result
+    }
     ensures kind { FaultsAs FaultKind.Expected result }
     ensures place { FaultsAt (length at.now) result }
 {
@@ -98,7 +113,7 @@ pub(crate) fn read_render(
     }
 }
 
-/// The node of a `render` of this name, by what stands behind the name.
+/// The node of a `render` of this name, by what follows the name.
 fn render_node(name: Expression, rendered: Rendered) -> Node
     ensures { flat_of result ≡ leaf (render_node (expression_view name, rendered_view rendered)) }
 {
@@ -109,7 +124,7 @@ fn render_node(name: Expression, rendered: Rendered) -> Node
     }
 }
 
-/// What all the items are, behind the name of a `render`.
+/// What all the items are, after the name of a `render`.
 fn read_rendered(alloc: Global, items: VecDeque<Item<'_>>, at: &str) -> Result<Rendered, ParseError>
     ensures rendered { Parses rendered_view result (rendered_of (tokens_view items.entry.items)) }
     ensures kind { FaultsAs FaultKind.Expected result }
@@ -126,7 +141,7 @@ fn read_rendered(alloc: Global, items: VecDeque<Item<'_>>, at: &str) -> Result<R
     Ok(Rendered { each: None, pairs })
 }
 
-/// `v as w, w: v`, behind `with`: a `render` that runs once.
+/// `v as w, w: v`, after `with`: a `render` that runs once.
 fn read_rendered_with(
     alloc: Global,
     items: VecDeque<Item<'_>>,
@@ -145,7 +160,7 @@ fn read_rendered_with(
     Ok(Rendered { each: None, pairs })
 }
 
-/// `R as w, w: v`, behind `for`: a `render` that runs for each item.
+/// `R as w, w: v`, after `for`: a `render` that runs for each item.
 fn read_rendered_each(
     alloc: Global,
     items: VecDeque<Item<'_>>,
@@ -171,9 +186,13 @@ fn read_rendered_each(
     }
 }
 
-/// Takes what stands behind `for` off the front, if it stands there: a source, `as` and the name of an item.
+/// Takes what follows `for` off the front, if it stands there: a source, `as` and the name of
+/// an item.
 fn next_each(items: &mut VecDeque<Item<'_>>) -> Option<Each>
-    ensures { option_map (λ e. (each_view e, tokens_view items.new.items)) result ≡ each_first (tokens_view items.old.items) }
+    ensures {
+        option_map (λ e. (each_view e, tokens_view items.new.items)) result ≡
+            each_first (tokens_view items.old.items)
+    }
 {
     let source = next_source(items)?;
     if !skip_word(items, "as") {
@@ -183,9 +202,12 @@ fn next_each(items: &mut VecDeque<Item<'_>>) -> Option<Each>
     Some(Each { source, variable })
 }
 
-/// Takes the pair behind `with` off the front, if it stands there: a value, `as` and its name.
+/// Takes the pair after `with` off the front, if it stands there: a value, `as` and its name.
 fn next_with(items: &mut VecDeque<Item<'_>>) -> Option<Binding>
-    ensures { option_map (λ p. (binding_view p, tokens_view items.new.items)) result ≡ with_first (tokens_view items.old.items) }
+    ensures {
+        option_map (λ p. (binding_view p, tokens_view items.new.items)) result ≡
+            with_first (tokens_view items.old.items)
+    }
 {
     let value = next_value(items)?;
     if !skip_word(items, "as") {
@@ -201,7 +223,10 @@ pub(crate) fn read_jekyll_include(
     items: VecDeque<Item<'_>>,
     at: &str,
 ) -> Result<Statement, ParseError>
-    ensures statement { Classifies (leaf_or (option_map jekyll_node (jekyll_of (items_view items.entry.items)))) result }
+    ensures statement {
+        Classifies (leaf_or (option_map jekyll_node (jekyll_of (items_view items.entry.items))))
+            result
+    }
     ensures kind { FaultsAs FaultKind.Expected result }
     ensures place { FaultsAt (length at.now) result }
 {
@@ -216,8 +241,12 @@ pub(crate) fn read_jekyll_include(
 
 /// Takes the value at the front, with how it is spelled, if one stands there; else takes nothing.
 fn next_spelled<'s>(items: &mut VecDeque<Item<'s>>) -> Option<(Expression, &'s str)>
-    ensures value { option_map (λ x. (expression_view x.0, tokens_view items.new.items)) result ≡ value_first (tokens_view items.old.items) }
-    ensures spelling { option_map (λ x. x.1.now) result ≡ first_spelling (items_view items.old.items) }
+    ensures value {
+        option_map (λ x. (expression_view x.0, tokens_view items.new.items)) result ≡
+            value_first (tokens_view items.old.items)
+    }
+    ensures spelling { option_map (λ x. x.1.now) result ≡
+                first_spelling (items_view items.old.items) }
 {
     let spelling = spelling_of(items.front()?)?;
     Some((next_value(items)?, spelling))
@@ -245,7 +274,8 @@ fn only(alloc: Global, pair: Binding) -> Result<Vec<Binding>, AllocError>
 
 /// The text of a text literal, or else the value as it is spelled.
 fn spelled_name(alloc: Global, value: Expression, spelling: &str) -> Result<String, AllocError>
-    ensures { IfOk result (λ t. string_bytes t ≡ spelled_name (expression_view value) spelling.now) }
+    ensures { IfOk result (λ t. string_bytes t ≡
+                spelled_name (expression_view value) spelling.now) }
 {
     match value {
         Expression::Literal(Value::Text(text)) => Ok(text),

@@ -1,12 +1,14 @@
 //! Templates by name.
-ghost use Rattle.std.specs.Prelude.{◌≡◌, [], option_map, ◌≤◌, Some, IfErr, IfSome, IsSome, OnErr, OnOk, string_bytes};
+ghost use Rattle.std.specs.Prelude.{◌≡◌, [], option_map, ◌≤◌, Some, IfErr, IfSome, IsSome, OnErr};
+ghost use Rattle.std.specs.Prelude.{OnOk, string_bytes};
 ghost use Rattle.std.specs.Map.{values_of};
 ghost use Rattle.liquid_model.specs.Answer.{IsValueOrMemory};
 ghost use Rattle.liquid_model.specs.Maps.{listed, insert};
 ghost use Rattle.liquid_language.specs.Entries.{put, placed};
 ghost use Rattle.liquid_syntax.specs.Slots.{reserved, exchanged};
 ghost use Rattle.liquid_syntax.specs.inside.Mentions.{held_names, partials_list_names};
-ghost use Rattle.liquid_syntax.specs.Templates.{most_of, node_count_of, tree_of, partials_of, slots_of};
+ghost use Rattle.liquid_syntax.specs.Templates.{most_of, node_count_of, tree_of, partials_of};
+ghost use Rattle.liquid_syntax.specs.Templates.{slots_of};
 ghost use Rattle.liquid_evaluation.specs.Names.{mentioned, partials_names};
 
 use crate::names::Search;
@@ -18,7 +20,8 @@ use std::alloc::Global;
 use std::collections::BTreeMap;
 use std::mem;
 
-/// Templates by name. A name may also have a slot that holds no template: it is kept for one, and nothing else sees it.
+/// Templates by name. A name may also have a slot that holds no template: it is kept for one, and
+/// nothing else sees it.
 #[derive(Drop)]
 pub struct Partials {
     templates: BTreeMap<String, Option<Template>>,
@@ -34,10 +37,17 @@ impl Partials {
         }
     }
 
-    /// Puts a template at a name; the one of that name before is dropped. Where there is no memory nothing changes.
+    /// Puts a template at a name; the one of that name before is dropped. Where there is no memory
+    /// nothing changes.
     pub fn insert(&mut self, name: String, template: Template) -> Result<()>
-        ensures inserted { IsValueOrMemory (λ _. partials_of self.new) result (put (string_bytes name) (tree_of template) (partials_of self.old)) }
-        ensures looked_up { IsValueOrMemory (λ _. listed (partials_of self.new)) result (insert (listed (partials_of self.old)) (string_bytes name) (tree_of template)) }
+        ensures inserted {
+            IsValueOrMemory (λ _. partials_of self.new) result
+                (put (string_bytes name) (tree_of template) (partials_of self.old))
+        }
+        ensures looked_up {
+            IsValueOrMemory (λ _. listed (partials_of self.new)) result
+                (insert (listed (partials_of self.old)) (string_bytes name) (tree_of template))
+        }
         ensures unchanged { OnErr result (partials_of self.new ≡ partials_of self.old) }
         ensures slots { OnErr result (slots_of self.new ≡ slots_of self.old) }
     {
@@ -47,7 +57,8 @@ impl Partials {
 
     /// The template of this name, without memory.
     pub fn get(&self, name: &str) -> Option<&Template>
-        ensures found { option_map (λ t. tree_of t.now) result ≡ listed (partials_of self.now) name.now }
+        ensures found { option_map (λ t. tree_of t.now) result ≡
+                    listed (partials_of self.now) name.now }
         ensures small { IfSome result (λ t. node_count_of t.now ≤ most_of self.now) }
     {
         // No effect at run time. The proof reads from this use that the names ascend.
@@ -58,12 +69,14 @@ impl Partials {
         }
     }
 
-    /// Makes a slot that holds no template, where the name has no slot. Where there is no memory nothing changes.
+    /// Makes a slot that holds no template, where the name has no slot. Where there is no memory
+    /// nothing changes.
     ///
     /// `exchange` then puts a template there without memory.
     pub fn reserve(&mut self, name: String) -> Result<()>
         ensures slot { OnOk result (IsSome (listed (slots_of self.new) (string_bytes name))) }
-        ensures others { OnOk result (slots_of self.new ≡ reserved (string_bytes name) (slots_of self.old)) }
+        ensures others { OnOk result (slots_of self.new ≡
+                    reserved (string_bytes name) (slots_of self.old)) }
         ensures memory { IfErr result (λ e. e.kind ≡ ErrorKind.Memory) }
         ensures same { partials_of self.new ≡ partials_of self.old }
         ensures unchanged { OnErr result (slots_of self.new ≡ slots_of self.old) }
@@ -75,14 +88,19 @@ impl Partials {
         Ok(())
     }
 
-    /// Puts what is held, a template or none, into the slot of a name, and hands out what stood there. It takes no memory.
+    /// Puts what is held, a template or none, into the slot of a name, and hands out what stood
+    /// there. It takes no memory.
     ///
     /// There has to be a slot: `reserve` makes one, and so does `insert`.
     pub fn exchange(&mut self, name: &str, held: Option<Template>) -> Option<Template>
         requires { IsSome (listed (slots_of self.old) name.now) }
         ensures out { listed (slots_of self.old) name.now ≡ Some (option_map tree_of result) }
-        ensures slot { slots_of self.new ≡ placed name.now (option_map tree_of held) (slots_of self.old) }
-        ensures held { partials_of self.new ≡ exchanged name.now (option_map tree_of held) (partials_of self.old) }
+        ensures slot { slots_of self.new ≡ placed name.now (option_map tree_of held)
+                    (slots_of self.old) }
+        ensures held {
+            partials_of self.new ≡ exchanged name.now (option_map tree_of held)
+                (partials_of self.old)
+        }
     {
         match self.templates.get_mut(name) {
             Some(slot) => mem::replace(slot, held),
@@ -90,9 +108,13 @@ impl Partials {
         }
     }
 
-    /// The names that the templates mention, told to a visitor. The answer is whether it ended the telling.
+    /// The names that the templates mention, given to a visitor. The answer is whether it ended the
+    /// telling.
     pub(crate) fn visit_names<V: NameVisitor>(&self, visitor: &mut V) -> bool
-        ensures { V.tells visitor.old (partials_list_names (values_of self.now.templates.entries)) result visitor.new }
+        ensures {
+            V.tells visitor.old (partials_list_names (values_of self.now.templates.entries)) result
+                visitor.new
+        }
     {
         for slot in self.templates.values() {
             if visit_slot(slot, visitor) {

@@ -1,8 +1,8 @@
-//! Where the nodes of a template begin in its source, which a fault of a run tells.
+//! Where the nodes of a template begin in its source, which a fault of a run reports.
 use std::alloc::{AllocError, Global};
 
-/// A place in a source: its line and its column, in characters and each from 1. A mark of the byte order at the very start
-/// of a source is no column.
+/// A place in a source: its line and its column, in characters and each from 1. A mark of the byte
+/// order at the very start of a source is no column.
 #[derive(Clone, Copy, Debug, PartialEq, Eq, Drop)]
 pub struct Position {
     pub line: u32,
@@ -10,7 +10,8 @@ pub struct Position {
 }
 
 impl Position {
-    /// The place after a text that begins here. Each byte is a character but those that only continue one.
+    /// The place after a text that begins here. Each byte is a character but those that only
+    /// continue one.
     fn after(self, text: &str) -> Position {
         let mut lines: usize = 0;
         let mut characters: usize = 0;
@@ -54,7 +55,8 @@ impl<'s> Positions<'s> {
         }
     }
 
-    /// A piece begins where so many bytes of the source are left, and the list has so many nodes with it.
+    /// A piece begins where so many bytes of the source are left, and the list has so many nodes
+    /// with it.
     pub(crate) fn mark(&mut self, left: usize, count: usize) -> Result<(), AllocError> {
         let passed = self.rest.len().saturating_sub(left);
         if let Some((before, rest)) = self.rest.split_at_checked(passed) {

@@ -14,12 +14,14 @@ use std::collections::BTreeSet;
 /// A parsed template: one flat list of its nodes, in source order.
 pub struct Template {
     pub(crate) nodes: Vec<Node>,
-    /// Where each node begins in the source, for the faults of runs. The meaning of a template doesn't depend on it.
+    /// Where each node begins in the source, for the faults of runs. The meaning of a template
+    /// doesn't depend on it.
     pub(crate) positions: Vec<Position>,
     ghost nested: { AreNested (ends_of_nodes nodes.items) } by { AreNested-prop (ends_of_nodes nodes.items) },
 }
 
-/// Drops the fields. By hand, so that a way out of a function that owns one is one call to prove.
+/// Drops the fields. Written by hand, so that each early return drops the value by one call to
+/// prove.
 impl Drop for Template {
     fn drop(self) {
         let Template {
@@ -61,13 +63,17 @@ impl Template {
         self.nodes.len()
     }
 
-    /// The names that the template or one of the partials mentions, ascending and each once: the first name of each
-    /// variable, also in the steps of another, each name that a tag sets or binds, and `include` where a jekyll `include`
-    /// binds pairs. A run depends on no other names, and changes no others.
+    /// The names that the template or one of the partials mentions, ascending and each once: the
+    /// first name of each variable, also in the steps of another, each name that a tag sets or
+    /// binds, and `include` where a jekyll `include` binds pairs. A run depends on no other names,
+    /// and changes no others.
     ///
     /// `Memory` where there is no room for them.
     pub fn names(&self, alloc: Global, partials: &Partials) -> Result<BTreeSet<String>>
-        ensures exact { IsValueOrMemory held result (mentioned (run_names (partials_of partials.now) (tree_of self.now))) }
+        ensures exact {
+            IsValueOrMemory held result
+                (mentioned (run_names (partials_of partials.now) (tree_of self.now)))
+        }
         ensures ascending { IfOk result (λ names. IsOrdered string_cmp names) }
     {
         let mut gather = Gather {
@@ -83,7 +89,8 @@ impl Template {
         Ok(names)
     }
 
-    /// Whether the template itself mentions the name, and not a partial that it names. It takes no memory.
+    /// Whether the template itself mentions the name, and not a partial that it names. It takes no
+    /// memory.
     pub fn mentions(&self, name: &str) -> bool
         ensures { result ≡ mentioned (nodes_names (tree_of self.now)) name.now }
     {

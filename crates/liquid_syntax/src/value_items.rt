@@ -16,7 +16,7 @@ use std::collections::VecDeque;
 /// What stands between the values of a tag.
 #[derive(Clone, Copy, Debug, PartialEq, Eq)]
 pub enum Separators {
-    /// A `,`, and one of them may stand behind the last value.
+    /// A `,`, and one of them may follow the last value.
     Commas,
     /// A `,` or the word `or`.
     CommasOr,
@@ -32,9 +32,12 @@ fn skip_separator(items: &mut VecDeque<Item<'_>>, separators: Separators) -> boo
     }
 }
 
-/// Takes a separator and the value behind it off the front, if they stand there.
+/// Takes a separator and the value after it off the front, if they stand there.
 fn next_further(items: &mut VecDeque<Item<'_>>, separators: Separators) -> Option<Expression>
-    ensures value { option_map (λ x. (expression_view x, tokens_view items.new.items)) result ≡ further_first separators (tokens_view items.old.items) }
+    ensures value {
+        option_map (λ x. (expression_view x, tokens_view items.new.items)) result ≡
+            further_first separators (tokens_view items.old.items)
+    }
     ensures shorter { IfSome result (λ _. length items.new.items < length items.old.items) }
 {
     if !skip_separator(items, separators) {
@@ -64,7 +67,7 @@ fn ends_values(items: &VecDeque<Item<'_>>, separators: Separators) -> bool
     }
 }
 
-/// What is wanted behind a value.
+/// What is wanted after a value.
 fn further_wanted(separators: Separators) -> &'static str {
     match separators {
         Separators::Commas => "`,` and a value",
@@ -79,7 +82,10 @@ pub fn read_values(
     separators: Separators,
     at: &str,
 ) -> Result<Vec<Expression>, ParseError>
-    ensures values { Parses (λ xs. map expression_view xs.items) result (values_of separators (tokens_view items.entry.items)) }
+    ensures values {
+        Parses (λ xs. map expression_view xs.items) result
+            (values_of separators (tokens_view items.entry.items))
+    }
     ensures kind { FaultsAs FaultKind.Expected result }
     ensures place { FaultsAt (length at.now) result }
 {
@@ -90,7 +96,7 @@ pub fn read_values(
     read_further(alloc, first, items, separators, at)
 }
 
-/// The first value, and those that all the items are behind it, each with a separator before it.
+/// The first value, and those that all the items are after it, each with a separator before it.
 pub fn read_further(
     alloc: Global,
     first: Expression,
@@ -98,7 +104,11 @@ pub fn read_further(
     separators: Separators,
     at: &str,
 ) -> Result<Vec<Expression>, ParseError>
-    ensures values { Parses (λ xs. map expression_view xs.items) result (option_map (λ xs. expression_view first ∷ xs) (further_of separators (tokens_view items.entry.items))) }
+    ensures values {
+        Parses (λ xs. map expression_view xs.items) result
+            (option_map (λ xs. expression_view first ∷ xs)
+            (further_of separators (tokens_view items.entry.items)))
+    }
     ensures kind { FaultsAs FaultKind.Expected result }
     ensures place { FaultsAt (length at.now) result }
 {

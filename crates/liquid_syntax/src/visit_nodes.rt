@@ -1,10 +1,15 @@
-//! The names that nodes mention, told to a visitor. Each function answers whether the visitor ended the telling.
+//! The names that nodes mention, given to a visitor. Each function answers whether the visitor
+//! ended the telling.
 ghost use Rattle.std.specs.Prelude.{◌∷◌, ◌++◌, option_map, string_bytes};
 ghost use Rattle.liquid_core.specs.ExpressionView.{expression_view};
 ghost use Rattle.liquid_syntax.specs.Flats.{arm_values, bindings_view, window_view};
-ghost use Rattle.liquid_syntax.specs.inside.Mentions.{arms_names, each_names, for_names, head_names, jekyll_names, list_names, own_names, pairs_names, row_names};
+ghost use Rattle.liquid_syntax.specs.inside.Mentions.{arms_names, each_names, for_names};
+ghost use Rattle.liquid_syntax.specs.inside.Mentions.{head_names, jekyll_names, list_names};
+ghost use Rattle.liquid_syntax.specs.inside.Mentions.{own_names, pairs_names, row_names};
 ghost use Rattle.liquid_evaluation.specs.ChainView.{chain_view};
-ghost use Rattle.liquid_evaluation.specs.Names.{bound_names, chain_names, include_name, optional_names, source_names, target_names, window_names};
+ghost use Rattle.liquid_evaluation.specs.Names.{bound_names, chain_names, include_name};
+ghost use Rattle.liquid_evaluation.specs.Names.{optional_names, source_names, target_names};
+ghost use Rattle.liquid_evaluation.specs.Names.{window_names};
 ghost use Rattle.liquid_evaluation.specs.SourceView.{source_view};
 
 use crate::loop_nodes::{Each, For, TableRow, WindowExpression};
@@ -61,7 +66,10 @@ fn visit_node<V: NameVisitor>(node: &Node, visitor: &mut V) -> bool
 
 /// The name that an `assign` sets, and those of its chain.
 fn visit_assign<V: NameVisitor>(name: &String, chain: &FilterChain, visitor: &mut V) -> bool
-    ensures { V.tells visitor.old (string_bytes name.now ∷ chain_names (chain_view chain.now)) result visitor.new }
+    ensures {
+        V.tells visitor.old (string_bytes name.now ∷ chain_names (chain_view chain.now)) result
+            visitor.new
+    }
 {
     visitor.visit(name.as_str()) || visit_chain(chain, visitor)
 }
@@ -87,7 +95,8 @@ fn visit_for<V: NameVisitor>(head: &For, visitor: &mut V) -> bool
         || visit_window(&head.window, visitor)
 }
 
-/// The names of a `tablerow`: `tablerow`, those of its head, of its columns and of the items that are asked for.
+/// The names of a `tablerow`: `tablerow`, those of its head, of its columns and of the items that
+/// are asked for.
 #[tactic(auto, unfolding(crate::specs::inside::Mentions::row_names))]
 fn visit_table_row<V: NameVisitor>(head: &TableRow, visitor: &mut V) -> bool
     ensures { V.tells visitor.old (row_names head.now) result visitor.new }
@@ -97,7 +106,10 @@ fn visit_table_row<V: NameVisitor>(head: &TableRow, visitor: &mut V) -> bool
 
 /// The names in the number of columns, and of the items that are asked for.
 fn visit_layout<V: NameVisitor>(head: &TableRow, visitor: &mut V) -> bool
-    ensures { V.tells visitor.old (optional_names (option_map expression_view head.now.cols) ++ window_names (window_view head.now.window)) result visitor.new }
+    ensures {
+        V.tells visitor.old (optional_names (option_map expression_view head.now.cols) ++
+            window_names (window_view head.now.window)) result visitor.new
+    }
 {
     visit_optional(&head.cols, visitor) || visit_window(&head.window, visitor)
 }
@@ -105,7 +117,10 @@ fn visit_layout<V: NameVisitor>(head: &TableRow, visitor: &mut V) -> bool
 /// The names of the `for` of a `render`, and those of its pairs.
 #[tactic(auto, unfolding(crate::specs::inside::Mentions::each_names))]
 fn visit_each<V: NameVisitor>(each: &Each, pairs: &[Binding], visitor: &mut V) -> bool
-    ensures { V.tells visitor.old (each_names each.now ++ pairs_names (bindings_view pairs.now)) result visitor.new }
+    ensures {
+        V.tells visitor.old (each_names each.now ++ pairs_names (bindings_view pairs.now)) result
+            visitor.new
+    }
 {
     visit_head("forloop", &each.variable, &each.source, visitor) || visit_pairs(pairs, visitor)
 }
@@ -117,7 +132,10 @@ fn visit_head<V: NameVisitor>(
     source: &RangeExpression,
     visitor: &mut V,
 ) -> bool
-    ensures { V.tells visitor.old (head_names shown.now (string_bytes variable.now) (source_view source.now)) result visitor.new }
+    ensures {
+        V.tells visitor.old (head_names shown.now (string_bytes variable.now)
+            (source_view source.now)) result visitor.new
+    }
 {
     visitor.visit(shown) || visit_variable(variable, source, visitor)
 }
@@ -128,7 +146,10 @@ fn visit_variable<V: NameVisitor>(
     source: &RangeExpression,
     visitor: &mut V,
 ) -> bool
-    ensures { V.tells visitor.old (string_bytes variable.now ∷ source_names (source_view source.now)) result visitor.new }
+    ensures {
+        V.tells visitor.old (string_bytes variable.now ∷ source_names (source_view source.now))
+            result visitor.new
+    }
 {
     visitor.visit(variable.as_str()) || visit_source(source, visitor)
 }

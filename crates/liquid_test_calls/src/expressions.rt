@@ -49,7 +49,7 @@ fn copied(alloc: Global, expression: &Expression) -> Result<Value> {
     written(alloc, &expression.copy(alloc)?)
 }
 
-/// The written form of the expression behind a text.
+/// The written form of the expression after a text.
 fn written_behind(alloc: Global, expression: &Expression) -> Result<String> {
     let mut out = String::from_str(alloc, "cycle ")?;
     expression.append_written_form(&mut out)?;

@@ -1,5 +1,5 @@
-//! Filters, by their names in rows: what one answers alone and in a chain, which numbers of arguments it accepts, and which
-//! filters no row calls.
+//! Filters, by their names in rows: what one answers alone and in a chain, which numbers of
+//! arguments it accepts, and which filters no row calls.
 use crate::faults::{no_call, unknown};
 use liquid_core::{Expression, Filter, Object, Result, State, Value};
 use liquid_filters::{FilterKind, jekyll};
@@ -32,7 +32,8 @@ fn filter_named(alloc: Global, name: &str) -> Result<FilterKind> {
     Err(unknown(alloc))
 }
 
-/// Makes the call of a row of a filter, which is noted: by the filter alone, and then by a chain of it.
+/// Makes the call of a row of a filter, which is noted: by the filter alone, and then by a chain of
+/// it.
 pub(crate) fn filter_made<R: Print>(
     told: &Told<'_, R>,
     called: &mut Vec<&'static str>,
@@ -112,7 +113,8 @@ fn literals(alloc: Global, args: &[Value]) -> Result<Vec<Expression>> {
     Ok(literals)
 }
 
-/// Whether the filter of the name accepts the numbers of arguments from the row's first value to its second one, and no others.
+/// Whether the filter of the name accepts the numbers of arguments from the row's first value to
+/// its second one, and no others.
 pub(crate) fn accepts_call(alloc: Global, name: &str, row: &Row) -> Result<Value> {
     let filter = filter_named(alloc, name)?;
     match (&row.on, &row.with) {
@@ -123,7 +125,8 @@ pub(crate) fn accepts_call(alloc: Global, name: &str, row: &Row) -> Result<Value
     }
 }
 
-/// Whether the filter accepts the numbers of arguments from the least to the most and no others, up to four.
+/// Whether the filter accepts the numbers of arguments from the least to the most and no others, up
+/// to four.
 fn accepts_only(filter: FilterKind, least: i64, most: i64) -> bool {
     for count in 0..5u8 {
         let is_wanted = least <= i64::from(count) && i64::from(count) <= most;
@@ -134,7 +137,8 @@ fn accepts_only(filter: FilterKind, least: i64, most: i64) -> bool {
     true
 }
 
-/// Tells each filter that isn't among the called ones, unless no row called any: then no row of a filter was given.
+/// Tells each filter that isn't among the called ones, unless no row called any: then no row of a
+/// filter was given.
 pub(crate) fn each_is_called<R: Print>(told: &Told<'_, R>, called: &[&str]) {
     if called.is_empty() {
         return;

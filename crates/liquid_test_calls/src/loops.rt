@@ -38,7 +38,8 @@ fn is_counted(range: Result<Range<'_>>) -> Result<Value> {
     Ok(Value::Bool(matches!(range?, Range::Counted(_, _))))
 }
 
-/// The items of the range that the source comes to, all or the one at the row's place, and how many they are.
+/// The items of the range that the source comes to, all or the one at the row's place, and how many
+/// they are.
 fn range_call(
     alloc: Global,
     row: &Row,

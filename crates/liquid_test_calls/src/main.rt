@@ -1,36 +1,47 @@
 //! Makes calls that rows tell, and tells each that doesn't end as its row says.
 //!
-//! A row is a line of JSON on standard input, with these fields; one that it lacks is nil, or empty:
+//! A row is a line of JSON on standard input, with these fields; one that it lacks is nil, or
+//! empty:
 //!
 //! - `call`, the type and the name of a call, as `Value::text`;
-//! - what it is made with: `on`, a value; `with`, a second value or a list; `source`, a template's source or another text; and
+//! - what it is made with: `on`, a value; `with`, a second value or a list; `source`, a template's
+//!   source or another text; and
 //!   `data`, that of the state;
-//! - `answer`, what the call answers; or in its place `fault`, the kind of the fault that it ends by;
+//! - `answer`, what the call answers; or in its place `fault`, the kind of the fault that it ends
+//!   by;
 //! - `none`, where the call takes no memory.
 //!
 //! The calls:
 //!
-//! - `Filter::NAME`: the filter with the input `on` and the arguments of the list `with`. It is called alone, and then by a chain
-//!   of this one filter, which takes memory of its own for two arguments or more. Jekyll's `sort` is `jekyll sort` in rows, for
+//! - `Filter::NAME`: the filter with the input `on` and the arguments of the list `with`. It is
+//!   called alone, and then by a chain
+//!   of this one filter, which takes memory of its own for two arguments or more. Jekyll's `sort`
+//!     is `jekyll sort` in rows, for
 //!   `sort` is the standard one.
 //! - `apply_filters`: the call of it without any filter, over `on`.
-//! - `Accepts::NAME`: whether that filter accepts the numbers of arguments from `on` to `with`, and no others, up to four.
+//! - `Accepts::NAME`: whether that filter accepts the numbers of arguments from `on` to `with`, and
+//!   no others, up to four.
 //! - `argument::NAME`: the reader of arguments of that name, over `on`. `date` and `is_date` call
 //!   `read_date`.
-//! - `Value::NAME` and `Test::NAME`: the method of the value `on`. `Order::NAME`: that of `on` beside the value `with`.
+//! - `Value::NAME` and `Test::NAME`: the method of the value `on`. `Order::NAME`: that of `on`
+//!   beside the value `with`.
 //! - `Error::NAME`: a fault with the message `source`, as it is told.
-//! - `State`: calls of the state, one after another, as `src/states.rt` tells. `Site`: changes of a site, as `src/sites.rt` tells.
+//! - `State`: calls of the state, one after another, as `src/states.rt` tells. `Site`: changes of a
+//!   site, as `src/sites.rt` tells.
 //! - `Example::shop`: the README's example of a site.
-//! - `Template::NAME`: the method of the template `source`. That of a part of its first node: `Expression::NAME`,
-//!   `Variable::NAME`, `FilterChain::NAME`, `Condition::NAME`, `RangeExpression::NAME`, `Range::NAME`, `Window::NAME` and
+//! - `Template::NAME`: the method of the template `source`. That of a part of its first node:
+//!   `Expression::NAME`,
+//!   `Variable::NAME`, `FilterChain::NAME`, `Condition::NAME`, `RangeExpression::NAME`,
+//!     `Range::NAME`, `Window::NAME` and
 //!   `Cycle::NAME`.
 //!
-//! With a word each call stands between marks, for `tests/refusals/run`, and how it ended behind them. Where there is a row of a
-//! filter, each standard filter without one is told at the end.
+//! With a word each call stands between marks, for `tests/refusals/run`, and how it ended after
+//! them. Where there is a row of a filter, each standard filter without one is told at the end.
 //!
-//! What rows of `date` and `date_in_tz` print was written by another program, `date` of the GNU core utilities, in the zone of
-//! each date. What directives print which that program lacks or prints in another way (`%C`, `%c`, `%f`, `%.f`, `%N`, `%^P`,
-//! `%Q`, `%r`, `%3u`, `%X`, `%x`, `%Z`) is told by the documentation of jiff.
+//! What rows of `date` and `date_in_tz` print was written by another program, `date` of the GNU
+//! core utilities, in the zone of each date. What directives print which that program lacks or
+//! prints in another way (`%C`, `%c`, `%f`, `%.f`, `%N`, `%^P`, `%Q`, `%r`, `%3u`, `%X`, `%x`,
+//! `%Z`) is told by the documentation of jiff.
 #![tactic(auto)]
 
 mod arguments;

@@ -18,7 +18,8 @@ fn fill(alloc: Global, site: &mut Site) -> Result<()> {
     site.apply(Change::SetValue(name, Value::Integer(4)))
 }
 
-/// The page `tea` of a site of two pages, of which one shows a price, and how many pages were rendered in all.
+/// The page `tea` of a site of two pages, of which one shows a price, and how many pages were
+/// rendered in all.
 pub(crate) fn shop(alloc: Global) -> Result<String> {
     let mut site = Site::new(alloc, language(alloc)?, 32);
     fill(alloc, &mut site)?;

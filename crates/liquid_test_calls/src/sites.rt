@@ -1,12 +1,13 @@
-//! Sites: one change after another, and what the site shows behind each.
+//! Sites: one change after another, and what the site shows after each.
 use liquid_core::{ErrorKind, Object, Result, Value, look_up};
 use liquid_lib::{Page, language};
 use liquid_site::{Change, Site};
 use liquid_test_refusals::{Row, Told, items, kind_of, member, name_of, optional, text_member};
 use std::alloc::Global;
 
-/// Applies the changes of the row. Each is a list: the change, its name, its source or its value, the kind of its fault or an
-/// empty text, what the site shows behind it, and words by which `tests/refusals/run` tells changes that make other requests.
+/// Applies the changes of the row. Each is a list: the change, its name, its source or its value,
+/// the kind of its fault or an empty text, what the site shows after it, and words by which
+/// `tests/refusals/run` tells changes that make other requests.
 pub(crate) fn site_made<R: Print>(told: &Told<'_, R>, row: &Row) -> Result<()> {
     let mut site = Site::new(told.alloc, language(told.alloc)?, 32);
     applied_in_turn(told, &mut site, items(&row.with))
@@ -21,8 +22,8 @@ fn applied_in_turn<R: Print>(told: &Told<'_, R>, site: &mut Site, steps: &[Value
     Ok(())
 }
 
-/// Applies a change. Where memory was refused, the site is as it was behind the step before, and takes the change when it comes
-/// again.
+/// Applies a change. Where memory was refused, the site is as it was after the step before, and
+/// takes the change when it comes again.
 fn applied<R: Print>(
     told: &Told<'_, R>,
     site: &mut Site,
@@ -62,7 +63,7 @@ fn tell_end<R: Print>(told: &Told<'_, R>, step: &Value, end: &str) -> Result<()>
     Ok(())
 }
 
-/// Tells the step where the site shows other pages behind it.
+/// Tells the step where the site shows other pages after it.
 fn tell_pages<R: Print>(told: &Told<'_, R>, site: &Site, step: &Value) -> Result<()> {
     if !shows(site, Some(step)) {
         let at = named(told.alloc, step)?;
@@ -99,8 +100,9 @@ fn change_of(alloc: Global, step: &Value) -> Result<Change> {
     })
 }
 
-/// Whether the site shows just what the step says: each page with its text, a `:` and the kind of its fault, and how many were
-/// `rendered`. Without a step, whether it shows no page, and none was rendered.
+/// Whether the site shows just what the step says: each page with its text, a `:` and the kind of
+/// its fault, and how many were `rendered`. Without a step, whether it shows no page, and none was
+/// rendered.
 fn shows(site: &Site, step: Option<&Value>) -> bool {
     let Some(step) = step else {
         return site.pages().is_empty() && site.rendered() == 0;

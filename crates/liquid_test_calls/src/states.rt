@@ -6,8 +6,9 @@ use liquid_test_refusals::{
 };
 use std::alloc::Global;
 
-/// Makes the calls of the list, one after another, on a state of this data. Each is a list: its name, a name or a path of the
-/// state, a value, and what it answers, which is the kind of its fault as a text where it ends by one.
+/// Makes the calls of the list, one after another, on a state of this data. Each is a list: its
+/// name, a name or a path of the state, a value, and what it answers, which is the kind of its
+/// fault as a text where it ends by one.
 pub(crate) fn made_in_turn<R: Print>(
     told: &Told<'_, R>,
     steps: &Value,
@@ -20,7 +21,8 @@ pub(crate) fn made_in_turn<R: Print>(
     Ok(())
 }
 
-/// Makes the call of the step. One that was refused memory is made again, so that those behind it find what it does.
+/// Makes the call of the step. One that was refused memory is made again, so that those after it
+/// find what it does.
 fn step_made<'d, R: Print>(told: &Told<'_, R>, state: &mut State<'d>, step: &'d Value) {
     told.begin();
     let answer = called(told.alloc, state, step);

@@ -49,7 +49,7 @@ fn names(alloc: Global, template: &Template, partials: &Partials) -> Result<Valu
     Ok(Value::Array(names))
 }
 
-/// Puts a copy of the text behind the others.
+/// Puts a copy of the text after the others.
 fn push_text(alloc: Global, texts: &mut Vec<Value>, text: &str) -> Result<()> {
     texts.push(Value::Text(String::from_str(alloc, text)?))?;
     Ok(())

@@ -38,7 +38,7 @@ fn led_to(alloc: Global, value: &Value, path: &[Value]) -> Result<Value> {
     }
 }
 
-/// The value's text behind another one.
+/// The value's text after another one.
 fn appended(alloc: Global, front: &str, value: &Value) -> Result<String> {
     let mut out = String::from_str(alloc, front)?;
     value.append_text(&mut out)?;

@@ -2,7 +2,7 @@
 use liquid_core::{Error, ErrorKind, Filter, Result, Value};
 use std::alloc::Global;
 
-/// The input's text with this one behind it.
+/// The input's text with this one after it.
 #[derive(Drop)]
 pub(crate) struct Suffix {
     pub(crate) text: &'static str,

@@ -42,7 +42,8 @@ pub(crate) fn depth(options: &Value) -> u32 {
     u32::try_from(number_option(options, "depth", 32)).unwrap_or(32)
 }
 
-/// The standard language with what the options register in it: tags, and names that stand for filters of the host.
+/// The standard language with what the options register in it: tags, and names that stand for
+/// filters of the host.
 pub(crate) fn language_with(alloc: Global, options: &Value) -> Result<Language> {
     let mut language = language(alloc)?;
     register(alloc, &mut language, options)?;

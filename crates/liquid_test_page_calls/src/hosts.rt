@@ -9,8 +9,8 @@ use liquid_syntax::{FilterCall, apply_filters};
 use liquid_test_refusals::{Row, Told, items, items_member, member, text_member};
 use std::alloc::Global;
 
-/// The calls of the row, or its page, with the filters of a host: `shout`, which puts a `!` behind (an earlier one of that name
-/// puts a `0`), `upcase`, which puts a `?`, and `bad`.
+/// The calls of the row, or its page, with the filters of a host: `shout`, which puts a `!` after
+/// (an earlier one of that name puts a `0`), `upcase`, which puts a `?`, and `bad`.
 pub(crate) fn hosted<R: Print>(told: &Told<'_, R>, row: &Row) -> Result<()> {
     let alloc = told.alloc;
     let mut filters = Vec::new(alloc);
@@ -36,8 +36,8 @@ fn hosted_pages<R: Print>(told: &Told<'_, R>, row: &Row, host: &HostFilters) -> 
     pages_made(told, row, Object::new(told.alloc), lent)
 }
 
-/// Calls the filters of the host. Each step is a list: the call, the filter's name, the input, the arguments, and the answer or
-/// the kind of the fault.
+/// Calls the filters of the host. Each step is a list: the call, the filter's name, the input, the
+/// arguments, and the answer or the kind of the fault.
 pub(crate) fn called_in_turn<R: Print>(
     told: &Told<'_, R>,
     host: &HostFilters,

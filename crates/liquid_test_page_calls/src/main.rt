@@ -1,5 +1,5 @@
-//! Makes calls of languages, runtimes, pages and filters of a host as rows tell them, and those of the README's examples, and tells
-//! each that doesn't end as its row says.
+//! Makes calls of languages, runtimes, pages and filters of a host as rows tell them, and those of
+//! the README's examples, and tells each that doesn't end as its row says.
 //!
 //! A row is a line of JSON on standard input: `call`, and of a page its `source`, its `data`, and
 //! `on`, with `partials`, `tags` that are registered beside the standard ones, `host` (names that
@@ -9,9 +9,9 @@
 //! a rendering of it is refused memory, `written` is what it has written, and `refused` what is
 //! rendered in place of `then`, each with all that it may show. A `rendering` is a page whose
 //! template is parsed before its calls. A `limited page` also has the `bytes` and the `turns` of
-//! its limits, and the limit that it is `ended_by`. The `source` of an `example` is its name. `jekyll
-//! filters` are over a site of the `address` and the `base` path that `on` has. Of all other calls
-//! `with` is a list of steps. With a word each call stands between marks, for
+//! its limits, and the limit that it is `ended_by`. The `source` of an `example` is its name.
+//! `jekyll filters` are over a site of the `address` and the `base` path that `on` has. Of all
+//! other calls `with` is a list of steps. With a word each call stands between marks, for
 //! `tests/refusals/run`, and how it ended after them.
 #![tactic(auto)]
 

@@ -96,7 +96,8 @@ fn rendered_twice<R: Print>(told: &Told<'_, R>, given: &Given<'_>) -> Result<()>
     rendered_by(told, given, "render")
 }
 
-/// The template, parsed again where memory was refused, or none where the row's source is refused by its fault.
+/// The template, parsed again where memory was refused, or none where the row's source is refused
+/// by its fault.
 fn parsed<R: Print>(told: &Told<'_, R>, row: &Row, language: &Language) -> Option<Template> {
     let source = row.source.as_str();
     told.begin();
@@ -140,8 +141,8 @@ fn rendered_by<R: Print>(told: &Told<'_, R>, given: &Given<'_>, call: &str) -> R
     rendered_over(told, given, call, data, written)
 }
 
-/// The page by a call over a runtime of the data, which is made here: of one that is handed on to `render_source` rt ci takes it
-/// that filters of a host are made for it.
+/// The page by a call over a runtime of the data, which is made here: of one that is handed on to
+/// `render_source` rt ci takes it that filters of a host are made for it.
 fn rendered_over<R: Print>(
     told: &Told<'_, R>,
     given: &Given<'_>,

@@ -9,7 +9,8 @@ use liquid_syntax::{BlockKind, TagKind};
 use liquid_test_refusals::{Row, Told, items, text_of};
 use std::alloc::Global;
 
-/// Whether the standard language, as it is made, has a filter of the row's source that takes so many arguments.
+/// Whether the standard language, as it is made, has a filter of the row's source that takes so
+/// many arguments.
 pub(crate) fn has_filter(alloc: Global, row: &Row) -> Result<bool> {
     let language = language(alloc)?;
     Ok(accepts(&language, row.source.as_str(), number_or(&row.on, 0)))
@@ -32,7 +33,8 @@ const CALLS: [&str; 5] = [
     "Partials::insert",
 ];
 
-/// Registers a kind of each sort under each name of the row, in a language of its own, and puts a partial in under it.
+/// Registers a kind of each sort under each name of the row, in a language of its own, and puts a
+/// partial in under it.
 pub(crate) fn registered<R: Print>(told: &Told<'_, R>, row: &Row) -> Result<()> {
     let mut language = Language::new(told.alloc);
     let mut partials = Partials::new(told.alloc);

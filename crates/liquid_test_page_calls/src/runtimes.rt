@@ -8,9 +8,10 @@ use liquid_test_refusals::{
 };
 use std::alloc::Global;
 
-/// Makes the calls of the row, one after another, on the same runtime. Each is a list: its name, a name or a path of the
-/// runtime, a value, and what it answers, which is the kind of its fault as a text where it ends by one. A call that was refused
-/// memory is made again, so that those behind it find what it does.
+/// Makes the calls of the row, one after another, on the same runtime. Each is a list: its name, a
+/// name or a path of the runtime, a value, and what it answers, which is the kind of its fault as a
+/// text where it ends by one. A call that was refused memory is made again, so that those after it
+/// find what it does.
 pub(crate) fn runtime_made<R: Print>(told: &Told<'_, R>, row: &Row, data: Object) -> Result<()> {
     let partials = Partials::new(told.alloc);
     let mut runtime = RuntimeBuilder::new(told.alloc)
@@ -21,7 +22,8 @@ pub(crate) fn runtime_made<R: Print>(told: &Told<'_, R>, row: &Row, data: Object
     for step in items(&row.with) {
         told.begin();
         for is_first in [true, false] {
-            // made here: of a runtime that is handed on rt ci takes it that filters of a host are made for it
+            // made here: of a runtime that is handed on rt ci takes it that filters of a host are
+            // made for it
             let answer = match change_of(told.alloc, step) {
                 Ok(Some(Change::Index(name, value))) => nil(runtime.set_index(name, value)),
                 Ok(Some(Change::Global(name, value))) => nil(runtime.set_global(name, value)),

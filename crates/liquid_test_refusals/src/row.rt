@@ -19,7 +19,8 @@ pub struct Row {
     pub fault: String,
 }
 
-/// Drops the fields. By hand, so that a way out of a function that owns one is one call to prove.
+/// Drops the fields. Written by hand, so that each early return drops the value by one call to
+/// prove.
 impl Drop for Row {
     fn drop(self) {
         let Row {
@@ -34,7 +35,7 @@ impl Drop for Row {
 }
 
 impl Row {
-    /// The type of the call, or the whole call where no name stands behind a `::`.
+    /// The type of the call, or the whole call where no name follows a `::`.
     pub fn kind(&self) -> &str {
         match self.call.as_str().split_once("::") {
             Some((kind, _)) => kind,
@@ -42,7 +43,7 @@ impl Row {
         }
     }
 
-    /// The name of the call behind its type, or an empty one.
+    /// The name of the call after its type, or an empty one.
     pub fn name(&self) -> &str {
         match self.call.as_str().split_once("::") {
             Some((_, name)) => name,

@@ -17,7 +17,8 @@ pub enum Change {
     Pop,
 }
 
-/// What the step's call changes, or none where it looks something up. A step is a list of the call's name, a name, and a value.
+/// What the step's call changes, or none where it looks something up. A step is a list of the
+/// call's name, a name, and a value.
 pub fn change_of(alloc: Global, step: &Value) -> Result<Option<Change>> {
     match text_member(step, 0) {
         "set_index" => index(alloc, step),

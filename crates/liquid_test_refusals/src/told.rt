@@ -16,7 +16,7 @@ pub struct Told<'r, R> {
 }
 
 impl<R: Print> Told<'_, R> {
-    /// The first mark, behind which requests for memory count.
+    /// The first mark, after which requests for memory count.
     pub fn begin(&self) {
         if self.marked {
             let _ = println!(self.rt; "@refuse");
@@ -44,8 +44,8 @@ impl<R: Print> Told<'_, R> {
         self.ended(call, line, ending(answer, &row.answer, wanted));
     }
 
-    /// How the call of a step ended. A step is a list of the call's name, what it names, and more, with its answer or the kind of
-    /// its fault at the place.
+    /// How the call of a step ended. A step is a list of the call's name, what it names, and more,
+    /// with its answer or the kind of its fault at the place.
     pub fn step_ended(&self, step: &Value, place: usize, answer: &Result<Value>) {
         let wanted = member(step, place).unwrap_or(&Value::Nil);
         let fault = match answer {
@@ -59,7 +59,7 @@ impl<R: Print> Told<'_, R> {
         );
     }
 
-    /// How a call ended: behind the second mark, or without marks only where it isn't as wanted.
+    /// How a call ended: after the second mark, or without marks only where it isn't as wanted.
     pub fn ended(&self, call: &str, at: &str, end: &str) {
         if self.marked {
             self.tell_end(call, at, end);
@@ -74,10 +74,11 @@ impl<R: Print> Told<'_, R> {
     }
 }
 
-/// `done` where the answer is the wanted value and no fault is wanted, or where it is a fault of the wanted name, which isn't
-/// `Memory`. Of any other fault its kind.
+/// `done` where the answer is the wanted value and no fault is wanted, or where it is a fault of
+/// the wanted name, which isn't `Memory`. Of any other fault its kind.
 pub fn ending(answer: &Result<Value>, wanted: &Value, fault: Option<&str>) -> &'static str
-    ensures { result.now ≡ ending_of answer.now (view wanted.now) (option_map (λ x. x.now) fault.entry) }
+    ensures { result.now ≡ ending_of answer.now (view wanted.now)
+                (option_map (λ x. x.now) fault.entry) }
 {
     match (answer, fault) {
         (Ok(value), None) => if *value == *wanted {

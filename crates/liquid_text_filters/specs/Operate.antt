@@ -1,4 +1,5 @@
--- Filters that join texts, and that replace parts of them. A missing argument counts as the empty text.
+-- Filters that join texts, and that replace parts of them. A missing argument counts as the empty
+-- text.
 use Rattle.std.specs.Prelude.{List, [], ◌∷◌, ◌++◌, length, drop, Ok, if◌then◌else◌}
 use Rattle.liquid_model.specs.Data.{Datum, text, text_of}
 use Rattle.liquid_model.specs.Texts.{Text}
@@ -22,13 +23,16 @@ replaced p r s = joined r (split_by p s)
 -- s with r in place of the first occurrence of p; the empty text occurs at the start
 abbrev pub replaced_first : Text → Text → Text → Text
 replaced_first p r [] = if begins p [] then r else []
-replaced_first p r (b ∷ s) = if begins p (b ∷ s) then r ++ drop (length p) (b ∷ s) else b ∷ replaced_first p r s
+replaced_first p r (b ∷ s) = if begins p (b ∷ s) then r ++ drop (length p) (b ∷ s) else b ∷
+        replaced_first p r s
 
 abbrev pub replace_answer : Datum → List Datum → Answer
-replace_answer d args = Ok (text (replaced (text_or [] args) (text_or [] (drop 1 args)) (text_of d)))
+replace_answer d args =
+    Ok (text (replaced (text_or [] args) (text_or [] (drop 1 args)) (text_of d)))
 
 abbrev pub replace_first_answer : Datum → List Datum → Answer
-replace_first_answer d args = Ok (text (replaced_first (text_or [] args) (text_or [] (drop 1 args)) (text_of d)))
+replace_first_answer d args =
+    Ok (text (replaced_first (text_or [] args) (text_or [] (drop 1 args)) (text_of d)))
 
 abbrev pub remove_answer : Datum → List Datum → Answer
 remove_answer d args = Ok (text (replaced (text_or [] args) [] (text_of d)))

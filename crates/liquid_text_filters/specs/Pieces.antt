@@ -14,9 +14,11 @@ push b (x ∷ xs) = (b ∷ x) ∷ xs
 abbrev pub pieces : Text → ℕ → Text → List Text
 pieces p k [] = [] ∷ []
 pieces p (suc k) (b ∷ s) = pieces p k s
-pieces p zero (b ∷ s) = if begins p (b ∷ s) then [] ∷ pieces p (length p - 1) s else push b (pieces p zero s)
+pieces p zero (b ∷ s) = if begins p (b ∷ s) then [] ∷ pieces p (length p - 1) s else push b
+        (pieces p zero s)
 
--- by the empty text, which occurs before each character and at the end: an empty piece, each character, an empty piece
+-- by the empty text, which occurs before each character and at the end: an empty piece, each
+-- character, an empty piece
 abbrev pub single_characters : Text → List Text
 single_characters s = [] ∷ (map encode_utf8 (chars s) ++ ([] ∷ []))
 

@@ -1,7 +1,9 @@
 -- Parts of lists and texts by place.
-use Rattle.std.specs.Prelude.{ℕ, ℤ, pos, negsuc, suc, ◌-◌, min, nat_le, List, [], take, drop, Option, Some, None, if◌then◌else◌}
+use Rattle.std.specs.Prelude.{ℕ, ℤ, pos, negsuc, suc, ◌-◌, min, nat_le, List, [], take, drop}
+use Rattle.std.specs.Prelude.{Option, Some, None, if◌then◌else◌}
 
--- the first place of a part of n places: an offset is at most n, and one below 0 counts from the end; none where it stays below 0
+-- the first place of a part of n places: an offset is at most n, and one below 0 counts from the
+-- end; none where it stays below 0
 abbrev pub start : ℕ → ℤ → Option ℕ
 start n (pos z) = Some (min z n)
 start n (negsuc z) = if nat_le (suc z) n then Some (n - suc z) else None

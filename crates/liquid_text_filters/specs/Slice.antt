@@ -17,7 +17,8 @@ items_part offset count ds = taken (length ds) (start (length ds) offset) count 
 
 -- the characters from an offset on, which is among as many places as there are bytes
 abbrev pub text_part : ℤ → ℕ → Text → Text
-text_part offset count s = encode_utf8_all (taken (length s) (start (length s) offset) count (chars s))
+text_part offset count s =
+    encode_utf8_all (taken (length s) (start (length s) offset) count (chars s))
 
 -- of a list its items, of anything else the characters of its text
 abbrev pub part : ℤ → ℕ → Datum → Datum
@@ -32,4 +33,6 @@ sliced d offset (negsuc n) = Err InvalidArgument
 
 -- an offset, and a length which is 1 where none is given
 abbrev pub slice_answer : Datum → List Datum → Answer
-slice_answer d args = whole_or (pos 0) args >>= (λ offset. whole_or (pos 1) (drop 1 args) >>= (λ count. sliced d offset count))
+slice_answer d args =
+    whole_or (pos 0) args >>= (λ offset. whole_or (pos 1) (drop 1 args) >>=
+        (λ count. sliced d offset count))

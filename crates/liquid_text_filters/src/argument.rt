@@ -18,7 +18,8 @@ pub fn text_or<'a>(
     index: usize,
     fallback: &'a str,
 ) -> Result<CowStr<'a>>
-    ensures { IsValueOrMemory cow_str_bytes result (text_or fallback.now (drop index (map view args.now))) }
+    ensures { IsValueOrMemory cow_str_bytes result
+                (text_or fallback.now (drop index (map view args.now))) }
 {
     match args.get(index) {
         Some(value) => text_of(alloc, value),

@@ -1,9 +1,14 @@
-//! What is proved of the text filters beyond their answers: each law is the contract of a function without a body.
+//! What is proved of the text filters beyond their answers: each law is the contract of a function
+//! without a body.
 //!
-//! `NAME_is_one` says what the filter's answer is without the filter's own steps, and that nothing else is. The answers
-//! of `size`, `default`, `append` and `prepend` are told in such words from the beginning: a length, one of two values,
-//! two texts joined.
-ghost use Rattle.liquid_text_filters.specs.Laws.{CapitalizeIsOne, DowncaseIsOne, LstripIsOne, RemoveFirstIsOne, RemoveIsOne, ReplaceFirstIsOne, ReplaceIsOne, RstripIsOne, SliceIsOne, SplitIsOne, StripIsOne, StripNewlinesIsOne, TruncateIsOne, TruncateWordsIsOne, UpcaseIsOne};
+//! `NAME_is_one` says what the filter's answer is without the filter's own steps, and that nothing
+//! else is. The answers of `size`, `default`, `append` and `prepend` are told in such words from
+//! the beginning: a length, one of two values, two texts joined.
+ghost use Rattle.liquid_text_filters.specs.Laws.{CapitalizeIsOne, DowncaseIsOne, LstripIsOne};
+ghost use Rattle.liquid_text_filters.specs.Laws.{RemoveFirstIsOne, RemoveIsOne, ReplaceFirstIsOne};
+ghost use Rattle.liquid_text_filters.specs.Laws.{ReplaceIsOne, RstripIsOne, SliceIsOne, SplitIsOne};
+ghost use Rattle.liquid_text_filters.specs.Laws.{StripIsOne, StripNewlinesIsOne, TruncateIsOne};
+ghost use Rattle.liquid_text_filters.specs.Laws.{TruncateWordsIsOne, UpcaseIsOne};
 
 /// `split`: the pieces between the occurrences, from left to right and without overlap.
 pub fn split_is_one()
@@ -60,7 +65,8 @@ pub fn capitalize_is_one()
     ensures { CapitalizeIsOne }
 {}
 
-/// `strip`: white space, what is kept, and white space, where what is kept neither begins nor ends with it.
+/// `strip`: white space, what is kept, and white space, where what is kept neither begins nor ends
+/// with it.
 pub fn strip_is_one()
     ensures { StripIsOne }
 {}

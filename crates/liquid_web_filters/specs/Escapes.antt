@@ -1,5 +1,7 @@
--- The escapes of HTML. Each of them is of ASCII letters alone, so a text is seen byte by byte, each with the rest after it.
-use Rattle.std.specs.Prelude.{ℕ, Bool, ◌&&◌, ◌||◌, ◌==◌, List, [], ◌∷◌, ◌++◌, Option, Some, None, Ok, codes, if◌then◌else◌}
+-- The escapes of HTML. Each of them is of ASCII letters alone, so a text is seen byte by byte, each
+-- with the rest after it.
+use Rattle.std.specs.Prelude.{ℕ, Bool, ◌&&◌, ◌||◌, ◌==◌, List, [], ◌∷◌, ◌++◌, Option, Some, None}
+use Rattle.std.specs.Prelude.{Ok, codes, if◌then◌else◌}
 use Rattle.std.specs.Char.{encode_utf8}
 use Rattle.std.specs.List.{flat_map}
 use Rattle.liquid_model.specs.Data.{Datum, nil, text, text_of}
@@ -10,8 +12,10 @@ use Rattle.liquid_filter_base.specs.Text.{begins}
 -- `<`, `>`, `'`, `"` and `&` have an escape
 abbrev pub escape_of : ℕ → Option Text
 escape_of c =
-    if c == 60 then Some (codes "&lt;") else (if c == 62 then Some (codes "&gt;") else (if c == 39 then Some (codes "&#39;")
-    else (if c == 34 then Some (codes "&quot;") else (if c == 38 then Some (codes "&amp;") else None))))
+    if c == 60 then Some (codes "&lt;") else (if c == 62 then Some
+            (codes "&gt;") else (if c == 39 then Some (codes "&#39;")
+    else (if c == 34 then Some (codes "&quot;") else (if c == 38 then Some
+            (codes "&amp;") else None))))
 
 abbrev pub escape_or : Option Text → Text → Text
 escape_or (Some e) own = e
@@ -30,7 +34,8 @@ escaped = flat_map escaped_byte
 
 -- the text begins with what follows the `&` of an escape
 abbrev pub ends_escape : Text → Bool
-ends_escape s = begins (codes "lt;") s || begins (codes "gt;") s || begins (codes "#39;") s || begins (codes "quot;") s || begins (codes "amp;") s
+ends_escape s = begins (codes "lt;") s || begins (codes "gt;") s || begins (codes "#39;") s ||
+        begins (codes "quot;") s || begins (codes "amp;") s
 
 -- an `&` that begins an escape stays
 abbrev pub once_byte : ℕ → Text → Text

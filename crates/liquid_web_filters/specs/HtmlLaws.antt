@@ -1,5 +1,7 @@
--- What the filters over HTML answer, told without them: relations that hold of the answer and of nothing else, and laws.
-use Rattle.std.specs.Prelude.{◌≡◌, ℕ, ◌+◌, ◌<◌, ◌≤◌, Bool, true, false, ◌&&◌, ◌||◌, ◌==◌, List, [], ◌∷◌, ◌++◌, length, take, drop, codes, Ok}
+-- What the filters over HTML answer, told without them: relations that hold of the answer and of
+-- nothing else, and laws.
+use Rattle.std.specs.Prelude.{◌≡◌, ℕ, ◌+◌, ◌<◌, ◌≤◌, Bool, true, false, ◌&&◌, ◌||◌, ◌==◌, List, []}
+use Rattle.std.specs.Prelude.{◌∷◌, ◌++◌, length, take, drop, codes, Ok}
 use Rattle.std.specs.Str.{chars, encode_utf8_all, IsUtf8}
 use Rattle.liquid_model.specs.Answer.{IsTheOne}
 use Rattle.liquid_model.specs.Data.{Datum, nil, text_of}
@@ -9,7 +11,8 @@ use Rattle.liquid_model.specs.View.{view}
 use Rattle.liquid_model.specs.declared.value.Value.{Value}
 use Rattle.liquid_filter_base.specs.Arguments.{Answer}
 use Rattle.liquid_filter_base.specs.Text.{Texts}
-use Rattle.liquid_web_filters.specs.Escapes.{escape_answer, escape_once_answer, escaped_letter, once_letter}
+use Rattle.liquid_web_filters.specs.Escapes.{escape_answer, escape_once_answer, escaped_letter}
+use Rattle.liquid_web_filters.specs.Escapes.{once_letter}
 use Rattle.liquid_web_filters.specs.LineBreaks.{broken_letter, newline_to_br_answer}
 use Rattle.liquid_web_filters.specs.Tags.{begins_mark, strip_html, strip_html_answer}
 
@@ -28,28 +31,34 @@ abbrev pub EscapesText : Datum → Answer → Type 0
 EscapesText d = NilOrTexts (λ s. Concatenates (λ c cs. escaped_letter c) (chars s)) d
 
 abbrev pub EscapeIsOne : Type 0
-EscapeIsOne = (input : Value) (args : List Datum) → IsTheOne (EscapesText (view input)) (escape_answer (view input) args)
+EscapeIsOne = (input : Value) (args : List Datum) →
+    IsTheOne (EscapesText (view input)) (escape_answer (view input) args)
 
 -- `escape_once`: each character in turn, or its escape, seen with the text after it
 abbrev pub EscapesOnce : Datum → Answer → Type 0
-EscapesOnce d = NilOrTexts (λ s. Concatenates (λ c cs. once_letter c (encode_utf8_all cs)) (chars s)) d
+EscapesOnce d =
+    NilOrTexts (λ s. Concatenates (λ c cs. once_letter c (encode_utf8_all cs)) (chars s)) d
 
 abbrev pub EscapeOnceIsOne : Type 0
-EscapeOnceIsOne = (input : Value) (args : List Datum) → IsTheOne (EscapesOnce (view input)) (escape_once_answer (view input) args)
+EscapeOnceIsOne = (input : Value) (args : List Datum) →
+    IsTheOne (EscapesOnce (view input)) (escape_once_answer (view input) args)
 
 -- `newline_to_br`: each character in turn, and a break before each LF
 abbrev pub BreaksLines : Datum → Answer → Type 0
 BreaksLines d = Texts (Concatenates (λ c cs. broken_letter c) (chars (text_of d)))
 
 abbrev pub NewlineToBrIsOne : Type 0
-NewlineToBrIsOne = (input : Value) (args : List Datum) → IsTheOne (BreaksLines (view input)) (newline_to_br_answer (view input) args)
+NewlineToBrIsOne = (input : Value) (args : List Datum) →
+    IsTheOne (BreaksLines (view input)) (newline_to_br_answer (view input) args)
 
 abbrev pub EscapeOnceTwiceIsOnce : Type 0
-EscapeOnceTwiceIsOnce = (d : Datum) → escape_once_answer d [] >>= (λ e. escape_once_answer e []) ≡ escape_once_answer d []
+EscapeOnceTwiceIsOnce = (d : Datum) → escape_once_answer d [] >>= (λ e. escape_once_answer e []) ≡
+        escape_once_answer d []
 
 -- what is escaped already stays
 abbrev pub EscapeOnceKeepsEscapes : Type 0
-EscapeOnceKeepsEscapes = (d : Datum) → escape_answer d [] >>= (λ e. escape_once_answer e []) ≡ escape_answer d []
+EscapeOnceKeepsEscapes = (d : Datum) → escape_answer d [] >>= (λ e. escape_once_answer e []) ≡
+        escape_answer d []
 
 -- ---- tags
 abbrev pub StandsAt : List ℕ → List ℕ → ℕ → Type 0
@@ -67,10 +76,13 @@ pub record IsFirstPair (o e s : List ℕ) (i j : ℕ) : Type 0 where
   pub leftmost : (k : ℕ) → k < i → OpensPair o e s k → ⊥
   pub first : (k : ℕ) → i + length o ≤ k → k < j → StandsAt e s k → ⊥
 
--- t is s without what stands from the opener to the end of the closer of its first pair, and then of the first pair of what follows, until none is left; xs are the parts that are kept before the pairs
+-- t is s without what stands from the opener to the end of the closer of its first pair, and then
+-- of the first pair of what follows, until none is left; xs are the parts that are kept before the
+-- pairs
 abbrev pub CutsPairs : List ℕ → List ℕ → List (List ℕ) → List ℕ → List ℕ → Type 0
 CutsPairs o e [] s t = ((i : ℕ) → OpensPair o e s i → ⊥) × (t ≡ s)
-CutsPairs o e (x ∷ xs) s t = (i : ℕ) × (j : ℕ) × (rest : List ℕ) × IsFirstPair o e s i j × (x ≡ take i s) × (t ≡ x ++ rest) × CutsPairs o e xs (drop (j + length e) s) rest
+CutsPairs o e (x ∷ xs) s t = (i : ℕ) × (j : ℕ) × (rest : List ℕ) × IsFirstPair o e s i j ×
+    (x ≡ take i s) × (t ≡ x ++ rest) × CutsPairs o e xs (drop (j + length e) s) rest
 
 abbrev pub Passes : List ℕ → List ℕ → List ℕ → List ℕ → Type 0
 Passes o e s t = (xs : List (List ℕ)) × CutsPairs o e xs s t
@@ -89,7 +101,8 @@ abbrev pub StripsTags : Datum → Answer → Type 0
 StripsTags d = Texts (StripsHtml (text_of d))
 
 abbrev pub StripHtmlIsOne : Type 0
-StripHtmlIsOne = (d : Datum) (args : List Datum) → IsTheOne (StripsTags d) (strip_html_answer d args)
+StripHtmlIsOne = (d : Datum) (args : List Datum) →
+    IsTheOne (StripsTags d) (strip_html_answer d args)
 
 -- a `>` stands in the text
 abbrev pub has_close : List ℕ → Bool

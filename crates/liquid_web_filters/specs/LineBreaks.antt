@@ -1,4 +1,5 @@
--- A break of HTML before each newline. A newline is an ASCII letter, so a text is seen byte by byte.
+-- A break of HTML before each newline. A newline is an ASCII letter, so a text is seen byte by
+-- byte.
 use Rattle.std.specs.Prelude.{ℕ, ◌==◌, List, [], ◌∷◌, ◌++◌, codes, if◌then◌else◌}
 use Rattle.std.specs.Char.{encode_utf8}
 use Rattle.std.specs.List.{flat_map}

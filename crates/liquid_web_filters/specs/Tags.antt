@@ -1,5 +1,8 @@
--- Four passes over the characters of a text. Each cuts from an opener to the end of the first closer after it.
-use Rattle.std.specs.Prelude.{◌≡◌, ℕ, zero, suc, ◌-◌, ◌+◌, Bool, true, false, ◌&&◌, ◌||◌, ◌==◌, not, List, [], ◌∷◌, length, take, drop, MatchOption, Option, Some, None, option_map, if◌then◌else◌, codes}
+-- Four passes over the characters of a text. Each cuts from an opener to the end of the first
+-- closer after it.
+use Rattle.std.specs.Prelude.{◌≡◌, ℕ, zero, suc, ◌-◌, ◌+◌, Bool, true, false, ◌&&◌, ◌||◌, ◌==◌, not}
+use Rattle.std.specs.Prelude.{List, [], ◌∷◌, length, take, drop, MatchOption, Option, Some, None}
+use Rattle.std.specs.Prelude.{option_map, if◌then◌else◌, codes}
 use Rattle.std.specs.Char.{to_ascii_lowercase}
 use Rattle.std.specs.List.{list_all}
 use Rattle.std.specs.Str.{chars, encode_utf8_all}
@@ -27,8 +30,11 @@ has_mark p (c ∷ s) = begins_mark p (c ∷ s) || has_mark p s
 abbrev pub kept : List ℕ → List ℕ → Bool → ℕ → List ℕ → List ℕ
 kept o e inside k [] = []
 kept o e inside (suc k) (c ∷ s) = kept o e inside k s
-kept o e false zero (c ∷ s) = if begins_mark o (c ∷ s) && has_mark e (drop (length o) (c ∷ s)) then kept o e true (length o - 1) s else c ∷ kept o e false zero s
-kept o e true zero (c ∷ s) = if begins_mark e (c ∷ s) then kept o e false (length e - 1) s else kept o e true zero s
+kept o e false zero (c ∷ s) = if begins_mark o (c ∷ s) &&
+        has_mark e (drop (length o) (c ∷ s)) then kept o e true (length o - 1) s else c ∷
+        kept o e false zero s
+kept o e true zero (c ∷ s) = if begins_mark e (c ∷ s) then kept o e false (length e - 1) s else kept
+        o e true zero s
 
 -- the text without what stands from an opener to a closer
 abbrev pub without_pairs : List ℕ → List ℕ → List ℕ → List ℕ
@@ -47,11 +53,13 @@ strip_html_answer = of_text strip_html
 -- the first place of a mark
 abbrev pub first_mark : List ℕ → List ℕ → Option ℕ
 first_mark p [] = None
-first_mark p (c ∷ s) = if begins_mark p (c ∷ s) then Some 0 else option_map (λ k. k + 1) (first_mark p s)
+first_mark p (c ∷ s) = if begins_mark p (c ∷ s) then Some 0 else option_map (λ k. k + 1)
+        (first_mark p s)
 
 -- what stands before the first place of a mark, and what follows the mark there
 abbrev pub SplitsAtFirst : List ℕ → List ℕ → Option (List ℕ × List ℕ) → Type 0
-SplitsAtFirst p s r = MatchOption r (first_mark p s ≡ None) (λ q. (i : ℕ) × (first_mark p s ≡ Some i) × (q.0 ≡ take i s) × (q.1 ≡ drop (i + length p) s))
+SplitsAtFirst p s r = MatchOption r (first_mark p s ≡ None) (λ q. (i : ℕ) ×
+        (first_mark p s ≡ Some i) × (q.0 ≡ take i s) × (q.1 ≡ drop (i + length p) s))
 
 -- an opener begins with `<`, and has no other
 abbrev pub is_opener : List ℕ → Bool

@@ -1,5 +1,6 @@
 -- Escapes of bytes in a URL.
-use Rattle.std.specs.Prelude.{ℕ, Bool, ◌||◌, ◌&&◌, ◌==◌, nat_le, List, [], ◌∷◌, map, Result, Ok, Err, if◌then◌else◌}
+use Rattle.std.specs.Prelude.{ℕ, Bool, ◌||◌, ◌&&◌, ◌==◌, nat_le, List, [], ◌∷◌, map, Result, Ok}
+use Rattle.std.specs.Prelude.{Err, if◌then◌else◌}
 use Rattle.std.specs.List.{flat_map}
 use Rattle.std.specs.Str.{is_utf8}
 use Rattle.percent_encoding.specs.Percent.{percent_encode_byte, percent_decode}
@@ -12,7 +13,8 @@ use Rattle.liquid_filter_base.specs.Arguments.{Answer}
 
 -- an ASCII letter or digit, `-`, `.` or `_`
 abbrev pub is_kept : ℕ → Bool
-is_kept b = (nat_le 97 b && nat_le b 122) || (nat_le 65 b && nat_le b 90) || (nat_le 48 b && nat_le b 57) || b == 45 || b == 46 || b == 95
+is_kept b = (nat_le 97 b && nat_le b 122) || (nat_le 65 b && nat_le b 90) ||
+        (nat_le 48 b && nat_le b 57) || b == 45 || b == 46 || b == 95
 
 -- a byte that is not kept becomes `%` and two upper-case hexadecimal digits
 abbrev pub url_escaped_byte : ℕ → Text

@@ -3,7 +3,8 @@ ghost use Rattle.std.specs.Prelude.{◌≡◌, ◌*ℤ◌, pos, nat_eq, true, So
 ghost use Rattle.liquid_model.specs.Answer.{Answers};
 ghost use Rattle.liquid_model.specs.View.{view};
 ghost use Rattle.liquid_date_filters.specs.Clock.{instant};
-ghost use Rattle.liquid_date_filters.specs.Dates.{as_text, date_in_tz_answer, date_of, in_zone, is_zone};
+ghost use Rattle.liquid_date_filters.specs.Dates.{as_text, date_in_tz_answer, date_of, in_zone};
+ghost use Rattle.liquid_date_filters.specs.Dates.{is_zone};
 ghost use Rattle.liquid_date_filters.specs.Instant.{clock_at};
 ghost use Rattle.liquid_date_filters.specs.Printed.{printed};
 ghost use Rattle.liquid_date_filters.specs.Spelling.{zoned_clock};
@@ -29,8 +30,9 @@ impl Filter for DateInTz {
         count == 2
     }
 
-    /// `InvalidArgument` where the hours are no whole number, then `InvalidInput` where the input is no date, then
-    /// `TimezoneRange` where the hours aren't from -23 to 23, then `DateFormat` where the pattern is refused.
+    /// `InvalidArgument` where the hours are no whole number, then `InvalidInput` where the input
+    /// is no date, then `TimezoneRange` where the hours aren't from -23 to 23, then `DateFormat`
+    /// where the pattern is refused.
     fn evaluate(&self, alloc: Global, input: &Value, args: &[Value]) -> Result<Value> {
         let pattern = text_of(alloc, &args[0])?;
         let hours = whole_argument(alloc, &args[1])?;
@@ -69,7 +71,11 @@ fn is_zone(hours: i64) -> bool
 
 fn print_moved(alloc: Global, date: &Zoned<'_>, pattern: &str, hours: i64) -> Result<Value>
     requires { is_zone hours ≡ true }
-    ensures { Answers view result (as_text (printed (clock_at (instant (zoned_clock date.now)) (hours *ℤ pos 3600)) pattern.now)) }
+    ensures {
+        Answers view result
+            (as_text (printed (clock_at (instant (zoned_clock date.now)) (hours *ℤ pos 3600))
+            pattern.now))
+    }
 {
     let there = moved(date, hours);
     print_value(alloc, &there, pattern)

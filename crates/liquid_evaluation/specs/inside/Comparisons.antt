@@ -9,7 +9,8 @@ use Rattle.liquid_core.specs.Expressions.{required}
 use Rattle.liquid_evaluation.specs.Evaluation.{comparison_truth}
 use Rattle.liquid_evaluation.specs.declared.comparison.ComparisonOperator.{ComparisonOperator}
 
-abbrev pub truth_beside : Datum → ComparisonOperator → Expression → Environment → Result Bool ErrorKind
+abbrev pub truth_beside : Datum → ComparisonOperator → Expression → Environment →
+    Result Bool ErrorKind
 truth_beside l comparison right e = do
   r ← required right e
   comparison_truth comparison l r

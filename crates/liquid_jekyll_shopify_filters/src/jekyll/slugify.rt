@@ -1,17 +1,21 @@
 //! The filter that makes slugs.
-ghost use Rattle.std.specs.Prelude.{◌≡◌, ◌++◌, ◌<◌, MatchOption, false, length, nat_le, string_bytes};
+ghost use Rattle.std.specs.Prelude.{◌≡◌, ◌++◌, ◌<◌, MatchOption, false, length, nat_le};
+ghost use Rattle.std.specs.Prelude.{string_bytes};
 ghost use Rattle.std.specs.Str.{chars, encode_utf8_all};
 ghost use Rattle.liquid_model.specs.Answer.{Answers, IsValueOrMemory};
 ghost use Rattle.liquid_model.specs.View.{view};
-ghost use Rattle.liquid_jekyll_shopify_filters.specs.Slugs.{hyphened, inner, is_pretty, keeps, mode_named, shown, slug, slug_in, slugify_answer, without_first, without_last};
+ghost use Rattle.liquid_jekyll_shopify_filters.specs.Slugs.{hyphened, inner, is_pretty, keeps};
+ghost use Rattle.liquid_jekyll_shopify_filters.specs.Slugs.{mode_named, shown, slug, slug_in};
+ghost use Rattle.liquid_jekyll_shopify_filters.specs.Slugs.{slugify_answer, without_first};
+ghost use Rattle.liquid_jekyll_shopify_filters.specs.Slugs.{without_last};
 
 use liquid_core::{Error, ErrorKind, Filter, Result, Value};
 use liquid_filter_base::text_of;
 use std::alloc::Global;
 use unicode::properties::is_alphabetic;
 
-/// `slugify`: the input's text without the white space at its ends, with a `-` for each longest run of characters
-/// that the mode doesn't keep, without the `-` at both ends, in lower case.
+/// `slugify`: the input's text without the white space at its ends, with a `-` for each longest run
+/// of characters that the mode doesn't keep, without the `-` at both ends, in lower case.
 #[derive(Clone, Copy, Drop)]
 pub struct Slugify;
 
@@ -103,7 +107,10 @@ fn is_pretty(letter: char) -> bool
 
 /// A text with each longest run of characters that aren't kept as one hyphen.
 fn hyphened(alloc: Global, text: &str, mode: Mode) -> Result<String>
-    ensures { IsValueOrMemory (λ s. string_bytes s) result (encode_utf8_all (hyphened (keeps mode) false (chars text.now))) }
+    ensures {
+        IsValueOrMemory (λ s. string_bytes s) result
+            (encode_utf8_all (hyphened (keeps mode) false (chars text.now)))
+    }
 {
     let mut out = String::with_capacity(alloc, text.len())?;
     let mut rest = text.chars();
@@ -118,7 +125,10 @@ fn hyphened(alloc: Global, text: &str, mode: Mode) -> Result<String>
 
 /// Appends a character that is kept, or a hyphen where none was put for the character before it.
 fn push_shown(out: &mut String, letter: char, kept: bool, after: bool) -> Result<()>
-    ensures { IsValueOrMemory (λ _. string_bytes out.new) result (string_bytes out.old ++ encode_utf8_all (shown kept after letter)) }
+    ensures {
+        IsValueOrMemory (λ _. string_bytes out.new) result (string_bytes out.old ++
+            encode_utf8_all (shown kept after letter))
+    }
 {
     if kept {
         return Ok(out.push(letter)?);
@@ -158,7 +168,11 @@ fn without_last(text: &str) -> &str
 
 /// What follows a hyphen, where a text begins with it.
 fn past_hyphen(text: &str) -> Option<&str>
-    ensures { MatchOption result (without_first (chars text.now) ≡ chars text.now) (λ rest. (without_first (chars text.now) ≡ without_first (chars rest.now)) × (length rest.now < length text.now)) }
+    ensures {
+        MatchOption result (without_first (chars text.now) ≡ chars text.now)
+            (λ rest. (without_first (chars text.now) ≡ without_first (chars rest.now)) ×
+            (length rest.now < length text.now))
+    }
 {
     let mut letters = text.chars();
     match letters.next() {
@@ -172,7 +186,11 @@ fn past_hyphen(text: &str) -> Option<&str>
 
 /// What stands before a hyphen, where a text ends with it.
 fn before_hyphen(text: &str) -> Option<&str>
-    ensures { MatchOption result (without_last (chars text.now) ≡ chars text.now) (λ rest. (without_last (chars text.now) ≡ without_last (chars rest.now)) × (length rest.now < length text.now)) }
+    ensures {
+        MatchOption result (without_last (chars text.now) ≡ chars text.now)
+            (λ rest. (without_last (chars text.now) ≡ without_last (chars rest.now)) ×
+            (length rest.now < length text.now))
+    }
 {
     let mut letters = text.chars();
     match letters.next_back() {

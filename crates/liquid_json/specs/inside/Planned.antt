@@ -10,10 +10,14 @@ use Rattle.liquid_json.specs.inside.Tokens.{datum_at, items_at, pairs_at}
 
 -- d is alike with the value that stands in front of the rest
 abbrev pub IsPlanned : Use → ℕ → List Token → Datum → List Token → Type 0
-IsPlanned u depth ts d rest = (c : Datum) × (datum_at depth ts ≡ Some (c, rest)) × Alike u (Some c) (Some d)
+IsPlanned u depth ts d rest = (c : Datum) × (datum_at depth ts ≡ Some (c, rest)) ×
+    Alike u (Some c) (Some d)
 
 abbrev pub ArePlanned : Use → ℕ → List Token → Items → List Token → Type 0
-ArePlanned u depth ts ds rest = (cs : Items) × (items_at depth (length ts) ts ≡ Some (cs, rest)) × Pairwise (λ c d. Alike u (Some c) (Some d)) (list_of cs) (list_of ds)
+ArePlanned u depth ts ds rest = (cs : Items) × (items_at depth (length ts) ts ≡ Some (cs, rest)) ×
+    Pairwise (λ c d. Alike u (Some c) (Some d)) (list_of cs) (list_of ds)
 
 abbrev pub PairsPlanned : Fields → ℕ → List Token → Pairs → List Token → Type 0
-PairsPlanned members depth ts ps rest = (qs : Pairs) × (pairs_at depth no_pairs (length ts) ts ≡ Some (qs, rest)) × AlikeKeys (pairs_wanted members uncounted) qs ps
+PairsPlanned members depth ts ps rest = (qs : Pairs) ×
+    (pairs_at depth no_pairs (length ts) ts ≡ Some (qs, rest)) ×
+    AlikeKeys (pairs_wanted members uncounted) qs ps

@@ -4,7 +4,8 @@ use Rattle.json.specs.Token.{Token}
 use Rattle.liquid_model.specs.Data.{Datum, Items, Pairs}
 use Rattle.liquid_json.specs.inside.Tokens.{datum_at, items_at, pairs_at}
 
--- a value stands in front of the rest; the items of a list; the pairs of a map, which go into those that were found
+-- a value stands in front of the rest; the items of a list; the pairs of a map, which go into those
+-- that were found
 abbrev pub IsValue : ℕ → List Token → List Token → Type 0
 IsValue depth ts rest = (d : Datum) × (datum_at depth ts ≡ Some (d, rest))
 
@@ -12,4 +13,5 @@ abbrev pub IsItems : ℕ → List Token → List Token → Type 0
 IsItems depth ts rest = (ds : Items) × (items_at depth (length ts) ts ≡ Some (ds, rest))
 
 abbrev pub IsPairs : ℕ → List Token → List Token → Type 0
-IsPairs depth ts rest = (found : Pairs) → (ps : Pairs) × (pairs_at depth found (length ts) ts ≡ Some (ps, rest))
+IsPairs depth ts rest = (found : Pairs) → (ps : Pairs) ×
+    (pairs_at depth found (length ts) ts ≡ Some (ps, rest))

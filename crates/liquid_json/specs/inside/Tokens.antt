@@ -1,6 +1,7 @@
 -- The data that tokens of JSON give where each number is whole.
 use Rattle.std.specs.Prelude.{ℕ, ℤ, List, Option, Some, option_map, option_and_then}
-use Rattle.liquid_model.specs.Data.{Datum, nil, truth, number, text, array, object, Items, no_items, item, Pairs, no_pairs, put}
+use Rattle.liquid_model.specs.Data.{Datum, nil, truth, number, text, array, object, Items, no_items}
+use Rattle.liquid_model.specs.Data.{item, Pairs, no_pairs, put}
 use Rattle.json.specs.Token.{Token}
 use Rattle.json.specs.Json as json
 use Rattle.serde_json.specs.Find.{as_i64}
@@ -25,9 +26,10 @@ abbrev mutual
 
   pub pairs_of : json.Members → Pairs → Option Pairs
   pairs_of json.no_members found = Some found
-  pairs_of (json.member k j ms) found = option_and_then (λ d. pairs_of ms (put k d found)) (datum_of j)
+  pairs_of (json.member k j ms) found = option_and_then (λ d. pairs_of ms (put k d found))
+          (datum_of j)
 
--- what stands at the front of the tokens, and the tokens behind it
+-- what stands at the front of the tokens, and the tokens after it
 abbrev pub datum_at : ℕ → List Token → Option (Datum × List Token)
 datum_at depth ts = converted datum_of (json.value depth ts)
 
@@ -35,4 +37,5 @@ abbrev pub items_at : ℕ → ℕ → List Token → Option (Items × List Token
 items_at depth n ts = converted items_of (json.items (json.value depth) n ts)
 
 abbrev pub pairs_at : ℕ → Pairs → ℕ → List Token → Option (Pairs × List Token)
-pairs_at depth found n ts = converted (λ ms. pairs_of ms found) (json.members (json.value depth) n ts)
+pairs_at depth found n ts =
+    converted (λ ms. pairs_of ms found) (json.members (json.value depth) n ts)

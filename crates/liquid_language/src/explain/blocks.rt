@@ -8,7 +8,8 @@ use crate::language::Language;
 use liquid_lexer::Fault;
 use std::alloc::{AllocError, Global};
 
-/// Of a tag whose name isn't known where it stands: an end or a control word in the wrong place, or a name that no tag has.
+/// Of a tag whose name isn't known where it stands: an end or a control word in the wrong place, or
+/// a name that no tag has.
 pub fn unknown_tag<'s>(
     alloc: Global,
     language: &'s Language,
@@ -36,7 +37,8 @@ fn is_control(name: &str) -> bool {
     matches!(name, "else" | "elsif" | "when")
 }
 
-/// Of a source that ends in a block, at the tag that begins it. The name is that of the piece which the fault is in, if it is in one:
+/// Of a source that ends in a block, at the tag that begins it. The name is that of the piece which
+/// the fault is in, if it is in one:
 /// then that piece begins a verbatim body.
 pub fn missing_end<'s>(fault: &Fault, outline: &Outline<'s>, name: &'s str) -> Told<'s> {
     if !outline.at.is_empty() {
@@ -76,7 +78,8 @@ fn wrong_end<'s>(outline: &Outline<'s>, name: &'s str) -> Told<'s> {
     }
 }
 
-/// A control word that the innermost block doesn't know, or knows no longer, or that stands in no block.
+/// A control word that the innermost block doesn't know, or knows no longer, or that stands in no
+/// block.
 fn wrong_control<'s>(outline: &Outline<'s>, name: &'s str) -> Told<'s> {
     let Some(opener) = outline.open.last() else {
         let words = "found `{% ¤ %}`, and no block is open here";

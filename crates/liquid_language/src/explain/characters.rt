@@ -36,7 +36,7 @@ pub fn ends_value(c: char) -> bool {
     is_in_word(c) || is_quote(c) || c == ']' || c == ')'
 }
 
-/// What stands behind the `.` of a step, or of one with white space in it.
+/// What follows the `.` of a step, or of one with white space in it.
 pub fn follows_dot(c: char) -> bool {
     is_letter(c) || c == '_' || c == ' '
 }

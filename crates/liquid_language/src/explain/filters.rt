@@ -1,4 +1,5 @@
-//! Faults of filters: of one that isn't known, and of one with more or fewer arguments than it takes.
+//! Faults of filters: of one that isn't known, and of one with more or fewer arguments than it
+//! takes.
 use super::names::{lacking_filter, meant_filter};
 use super::near::nearest;
 use super::told::Told;
@@ -16,9 +17,9 @@ struct Call<'s> {
     /// The source from its name on.
     from: &'s str,
     arguments: usize,
-    /// Whether a `:` stands behind its name.
+    /// Whether a `:` follows its name.
     has_colon: bool,
-    /// Whether a `:` stands behind an argument.
+    /// Whether a `:` follows an argument.
     names_arguments: bool,
 }
 
@@ -96,7 +97,8 @@ pub fn miscounted<'s>(
     })
 }
 
-/// Of a filter that takes a least and a greatest number of arguments, and other ones are given, or without a `:`.
+/// Of a filter that takes a least and a greatest number of arguments, and other ones are given, or
+/// without a `:`.
 fn miscount<'s>(call: &Call<'s>, (least, most): (usize, usize)) -> Told<'s> {
     let count = taken(call);
     let bound = if count > most { most } else { least };
@@ -109,7 +111,8 @@ fn miscount<'s>(call: &Call<'s>, (least, most): (usize, usize)) -> Told<'s> {
     }
 }
 
-/// The words for how many arguments a filter takes that takes so many at least and at most, but not this count.
+/// The words for how many arguments a filter takes that takes so many at least and at most, but not
+/// this count.
 fn words_of_bounds(least: usize, most: usize, count: usize) -> &'static str {
     if most == 0 {
         "`…` takes no argument"
@@ -183,8 +186,8 @@ fn refused<'s>(
     None
 }
 
-/// The filters of a chain, in order. The values behind a name count as its arguments, also where the `:` is missing, up to the
-/// value of an argument with a name.
+/// The filters of a chain, in order. The values after a name count as its arguments, also where
+/// the `:` is missing, up to the value of an argument with a name.
 fn calls<'s>(alloc: Global, items: &[PlacedItem<'s>]) -> Result<Vec<Call<'s>>, AllocError> {
     let mut calls = Vec::new(alloc);
     let mut is_name = false;

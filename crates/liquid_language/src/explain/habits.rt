@@ -48,7 +48,7 @@ pub struct Spot<'s> {
     pub at_item: bool,
 }
 
-/// What is told of a habit, where one is met.
+/// What the message says of a habit, where one is met.
 pub fn advice(spot: &Spot<'_>) -> Option<&'static str> {
     match spot.site {
         Site::Name => first_of(NAME, spot),
@@ -120,7 +120,7 @@ fn of_sum(spot: &Spot<'_>) -> Option<&'static str> {
     None
 }
 
-/// What is told of the first of these habits that fits, each on a line.
+/// What the message says of the first of these habits that fits, each on a line.
 fn first_of(habits: &'static str, spot: &Spot<'_>) -> Option<&'static str> {
     for habit in habits.lines() {
         if let Some(told) = told_of(habit, spot) {
@@ -130,8 +130,9 @@ fn first_of(habits: &'static str, spot: &Spot<'_>) -> Option<&'static str> {
     None
 }
 
-/// What is told of a habit, where it fits: what stands before the fault (`^` for no item, empty for any), what stands at it (empty
-/// for anything), and what is told, with a `¦` between them.
+/// What the message says of a habit, where it fits: what stands before the fault (`^` for no item,
+/// empty for any), what stands at it (empty for anything), and what the message says, with a `¦`
+/// between them.
 fn told_of(habit: &'static str, spot: &Spot<'_>) -> Option<&'static str> {
     let (before, behind) = habit.split_once('¦')?;
     let (found, told) = behind.split_once('¦')?;
@@ -141,7 +142,8 @@ fn told_of(habit: &'static str, spot: &Spot<'_>) -> Option<&'static str> {
     None
 }
 
-/// Whether what a habit has at a fault stands there: all of the item that is found, and no beginning of a longer word.
+/// Whether what a habit has at a fault stands there: all of the item that is found, and no
+/// beginning of a longer word.
 fn is_found(found: &str, spot: &Spot<'_>) -> bool {
     if found.is_empty() {
         return true;

@@ -75,7 +75,8 @@ fn tag_in_output<'s>(language: &Language, spot: &Spot<'s>) -> Option<Told<'s>> {
     Some(Told::quoting(spot.rest, words, spot.before, spot.before))
 }
 
-/// What is meant by what stands where the arguments of a filter may; the bar stands two items before it.
+/// What is meant by what stands where the arguments of a filter may; the bar stands two items
+/// before it.
 fn in_arguments<'s>(spot: &Spot<'s>, bar: &str) -> Option<Told<'s>> {
     if let Some(words) = sign_in_arguments(bar, spot.found) {
         return Some(Told::plain(spot.rest, words));
@@ -87,7 +88,7 @@ fn in_arguments<'s>(spot: &Spot<'s>, bar: &str) -> Option<Told<'s>> {
     Some(Told::quoting(spot.rest, words, spot.before, spot.found))
 }
 
-/// What is told of a sign behind a filter or an argument of one.
+/// What the message says of a sign after a filter or an argument of one.
 fn sign_in_arguments(bar: &str, found: &str) -> Option<&'static str> {
     match (found, bar) {
         (":", _) => Some("arguments of a filter have no names here"),
@@ -96,7 +97,8 @@ fn sign_in_arguments(bar: &str, found: &str) -> Option<&'static str> {
     }
 }
 
-/// What is told of a value behind a filter's name (`|` stands before that) or behind an argument.
+/// What the message says of a value after a filter's name (`|` stands before that) or after an
+/// argument.
 fn one_more_argument(bar: &str) -> Option<&'static str> {
     match bar {
         "|" => Some("arguments stand behind a `:`: write `…: …`"),

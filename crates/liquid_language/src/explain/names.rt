@@ -1,6 +1,6 @@
 //! Names of tags and filters of other languages, and what to write here.
 
-/// The name of a tag, and what is told of it.
+/// The name of a tag, and what the message says of it.
 static TAGS: &str = "\
 elseif: `elseif` is written `elsif`
 elif: `elif` is written `elsif`
@@ -136,7 +136,7 @@ merge: concat
 remove_all: remove
 ";
 
-/// The name of a filter that has no like here, and what is told of it.
+/// The name of a filter that has no like here, and what the message says of it.
 static LACKING: &str = "\
 json: a `for` shows a list or a map piece by piece
 to_json: a `for` shows a list or a map piece by piece
@@ -224,7 +224,7 @@ base64_decode: let the data bring the decoded text
 to_s: an output shows any value as a text
 ";
 
-/// What is told of a tag of another language.
+/// What the message says of a tag of another language.
 pub fn meant_tag(name: &str) -> Option<&'static str> {
     told_in(TAGS, name)
 }
@@ -234,12 +234,12 @@ pub fn meant_filter(name: &str) -> Option<&'static str> {
     told_in(FILTERS, name)
 }
 
-/// What is told of a filter of another language that has no like here.
+/// What the message says of a filter of another language that has no like here.
 pub fn lacking_filter(name: &str) -> Option<&'static str> {
     told_in(LACKING, name)
 }
 
-/// What a table has for a name. Each of its lines is a name, and what is told of it.
+/// What a table has for a name. Each of its lines is a name, and what the message says of it.
 fn told_in(table: &'static str, name: &str) -> Option<&'static str> {
     for line in table.lines() {
         match line.split_once(": ") {

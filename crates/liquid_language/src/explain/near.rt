@@ -27,8 +27,8 @@ pub fn nearest<'n, K: Drop>(
     Ok(near)
 }
 
-/// The nearer of two names. Names whose lengths differ by more than the edits that are allowed are never near, so that no
-/// distance is taken of a name that is much longer than all others.
+/// The nearer of two names. Names whose lengths differ by more than the edits that are allowed are
+/// never near, so that no distance is taken of a name that is much longer than all others.
 pub fn nearer<'n>(
     alloc: Global,
     name: &'n str,

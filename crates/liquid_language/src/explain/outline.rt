@@ -9,7 +9,7 @@ use std::alloc::{AllocError, Global};
 pub struct Otherwise<'s> {
     /// The source from it on.
     pub from: &'s str,
-    /// Whether items stand behind its name.
+    /// Whether items follow its name.
     pub has_items: bool,
 }
 
@@ -54,8 +54,8 @@ fn is_last(opener: &Opener<'_>) -> bool {
     }
 }
 
-/// What stands around the place with so many bytes of the source left: the pieces before it are read from the start, and can
-/// be.
+/// What stands around the place with so many bytes of the source left: the pieces before it are
+/// read from the start, and can be.
 pub fn outline_at<'s>(
     alloc: Global,
     source: &'s str,

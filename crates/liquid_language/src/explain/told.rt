@@ -1,10 +1,12 @@
-//! What is told of a fault, before it is a message: its words, and the texts that stand in them.
+//! What the message says of a fault, before it is a message: its words, and the texts that stand in
+//! them.
 use liquid_lexer::{excerpt, location};
 use std::alloc::{AllocError, Global};
 use std::fmt::Write;
 
-/// What is told of a place of a source. In the words `…` stands for a text that is quoted as an `excerpt`, `¤` for a text as
-/// it is, `¹` and `²` for the numbers, and `§` for another place, as `line 2, column 3`.
+/// What the message says of a place of a source. In the words `…` stands for a text that is quoted
+/// as an `excerpt`, `¤` for a text as it is, `¹` and `²` for the numbers, and `§` for another
+/// place, as `line 2, column 3`.
 #[derive(Clone, Copy)]
 pub struct Told<'s> {
     /// The source from the place on.
@@ -16,7 +18,7 @@ pub struct Told<'s> {
     pub third: &'s str,
     /// The numbers that stand in the words.
     pub numbers: (usize, usize),
-    /// The words behind these, in which no text stands.
+    /// The words after these, in which no text stands.
     pub then: &'static str,
     /// The source from the other place on.
     pub other: &'s str,
@@ -57,7 +59,7 @@ impl<'s> Told<'s> {
     }
 }
 
-/// The message that tells it.
+/// The message that says it.
 pub fn message_of(alloc: Global, source: &str, told: &Told<'_>) -> Result<String, AllocError> {
     let mut message = String::new(alloc);
     let mut count: usize = 0;

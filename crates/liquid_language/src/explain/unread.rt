@@ -1,4 +1,5 @@
-//! Faults of pieces that can't be read: of what stands where an item can't begin or go on, and of a source that ends inside one.
+//! Faults of pieces that can't be read: of what stands where an item can't begin or go on, and of a
+//! source that ends inside one.
 use super::characters::{ends_value, is_digit, is_letter_beyond, is_sign};
 use super::habits::{Site, Spot, advice, site_of};
 use super::items::{closer_of, closer_word, front_before, not_wanted, spelling_before};
@@ -50,7 +51,8 @@ fn number_front(text: &str) -> &str {
     front_before(text, behind)
 }
 
-/// Of a source that ends inside a piece, which is told at its opener, or inside a text, which is told at its quote.
+/// Of a source that ends inside a piece, which is reported at its opener, or inside a text, which
+/// is told at its quote.
 fn unclosed<'s>(outline: &Outline<'s>, piece: &PlacedPiece<'s>) -> Told<'s> {
     match outline.from.get(..1) {
         Some(quote) => unclosed_text(outline.from, quote, piece),
@@ -116,8 +118,8 @@ fn spot_of<'s>(fault: &Fault, from: &'s str, piece: &PlacedPiece<'s>) -> Spot<'s
     }
 }
 
-/// What is told of the end of the source, or of the value that the fault is in. The piece begins at the one place, and the
-/// value at the other.
+/// What the message says of the end of the source, or of the value that the fault is in. The piece
+/// begins at the one place, and the value at the other.
 fn in_value<'s>(spot: &Spot<'s>, at: &'s str, value: &'s str) -> Option<Told<'s>> {
     if matches!(spot.rest.trim_end(), "-" | ".") {
         return Some(at_end(spot, at));
@@ -150,7 +152,7 @@ fn at_end<'s>(spot: &Spot<'s>, at: &'s str) -> Told<'s> {
     }
 }
 
-/// Of a step behind a literal, with which the front ends.
+/// Of a step after a literal, with which the front ends.
 fn step_of_literal<'s>(from: &'s str, front: &str) -> Told<'s> {
     let step = from.get(..1).unwrap_or("");
     let words = "`¤` is a value without parts; a name is wanted before `¤`";
@@ -167,7 +169,7 @@ fn literal_at_end(text: &str) -> &'static str {
     "nil"
 }
 
-/// Whether a number begins by a `.`, behind no value that this could be a step of.
+/// Whether a number begins by a `.`, after no value that this could be a step of.
 fn is_fraction(spot: &Spot<'_>) -> bool {
     match spot.rest.strip_prefix(".") {
         Some(behind) if spot.at_item => {
@@ -219,7 +221,7 @@ fn in_parentheses<'s>(spot: &Spot<'s>, piece: &PlacedPiece<'s>) -> Option<Told<'
     Some(Told::plain(piece.rest, no_range(spot)?))
 }
 
-/// Of a filter with parentheses behind its name.
+/// Of a filter with parentheses after its name.
 fn called<'s>(spot: &Spot<'s>, opening: &'s str) -> Told<'s> {
     let words = if front_before(opening, spot.rest) == "(" && spot.rest.starts_with(")") {
         "`…()` is written `…`, without parentheses"
@@ -229,7 +231,7 @@ fn called<'s>(spot: &Spot<'s>, opening: &'s str) -> Told<'s> {
     Told::quoting(opening, words, spot.before, spot.before)
 }
 
-/// What is told of parentheses that hold no range, where no filter is called.
+/// What the message says of parentheses that hold no range, where no filter is called.
 fn no_range(spot: &Spot<'_>) -> Option<&'static str> {
     match spot.site {
         Site::Condition => {
@@ -246,7 +248,7 @@ fn no_range(spot: &Spot<'_>) -> Option<&'static str> {
     }
 }
 
-/// Whether a letter beyond ASCII stands at the front, also behind a `.`.
+/// Whether a letter beyond ASCII stands at the front, also after a `.`.
 fn begins_beyond(text: &str) -> bool {
     text.strip_prefix(".")
         .unwrap_or(text)

@@ -10,4 +10,6 @@ written_unless_last last t = cond (is_last_text last t) (done tt) (write t)
 
 -- and it is the last one from then on
 abbrev pub shown_if_changed : Text → Run Nothing
-shown_if_changed t = read (λ e. e.registers.changed) >>= (λ last. written_unless_last last t >>= (λ a. change (changed_to t)))
+shown_if_changed t =
+    read (λ e. e.registers.changed) >>= (λ last. written_unless_last last t >>=
+        (λ a. change (changed_to t)))

@@ -15,4 +15,5 @@ in_i64 n = ok_or (if fits n then Some n else None) NumberRange
 
 -- a number is written, and then one is stored as the counter
 abbrev pub shown_and_stored : Text → ℤ → ℤ → Run Nothing
-shown_and_stored name shown stored = write (signed_decimal shown) >>= (λ a. change (counted_to name stored))
+shown_and_stored name shown stored =
+    write (signed_decimal shown) >>= (λ a. change (counted_to name stored))

@@ -13,7 +13,8 @@ use Rattle.liquid_meaning.specs.Meaning.{Setting, node_meaning, nodes_meaning, d
 
 -- the filters that exist, those of the host by name, and the partials
 abbrev pub setting_of : {H : Type 0} → (H → Text → FilterAnswer) → RunContext H → Setting
-setting_of named context = record { answers = answers_with (named context.host.now); partials = partials_of context.partials.now }
+setting_of named context = record { answers = answers_with (named context.host.now);
+        partials = partials_of context.partials.now }
 
 -- what a node means, and a list of nodes, with so many nested partials left
 abbrev pub node_meant : Setting → ℕ → tree.Node → Run Nothing
@@ -23,15 +24,18 @@ abbrev pub nodes_meant : Setting → ℕ → tree.Nodes → Run Nothing
 nodes_meant setting depth nodes = nodes_meaning setting (deeper_meaning setting depth) nodes
 
 -- the same with what a run is given
-abbrev pub node_in : {H : Type 0} → (H → Text → FilterAnswer) → RunContext H → tree.Node → Run Nothing
+abbrev pub node_in : {H : Type 0} → (H → Text → FilterAnswer) → RunContext H → tree.Node →
+    Run Nothing
 node_in named context n = node_meant (setting_of named context) context.depth n
 
-abbrev pub nodes_in : {H : Type 0} → (H → Text → FilterAnswer) → RunContext H → tree.Nodes → Run Nothing
+abbrev pub nodes_in : {H : Type 0} → (H → Text → FilterAnswer) → RunContext H → tree.Nodes →
+    Run Nothing
 nodes_in named context nodes = nodes_meant (setting_of named context) context.depth nodes
 
 -- a run into a buffer that holds this text, which no writer sees
 abbrev pub in_buffer : Text → Environment → Configuration
-in_buffer text environment = record { sink = record { buffer = Some text; contents = None; failures = 0 }; environment = environment }
+in_buffer text environment = record { sink = record { buffer = Some text; contents = None;
+        failures = 0 }; environment = environment }
 
 -- a run into a buffer that holds this text, beside a writer
 module _ {W : Type 0} (contents : W → Option (List ℕ)) (failure_count : W → ℕ) where

@@ -1,12 +1,15 @@
 -- What the turns of a loop do, behind the scope that the loop is.
---     turns_meant t local body      the turns of a `for`;   cells_meant t columns local body      those of a `tablerow`
---     StartsAt m s before t      the innermost scope of s is the loop t, at the first of its m items
+--     turns_meant t local body      the turns of a `for`;   cells_meant t columns local body
+--                                   those of a `tablerow`
+--     StartsAt m s before t      the innermost scope of s is the loop t, at the first of its m
+--                                items
 use Rattle.std.specs.Prelude.{◌≡◌, ℕ, List, Option}
 use Rattle.liquid_model.specs.Data.{Datum}
 use Rattle.liquid_model.specs.Maps.{Map}
 use Rattle.liquid_model.specs.Texts.{Text}
 use Rattle.liquid_core.specs.Environment.{Names, local_of}
-use Rattle.liquid_core.specs.States.{layers_of, loops_of, merged_layers, scopes_behind, with_scope_popped}
+use Rattle.liquid_core.specs.States.{layers_of, loops_of, merged_layers, scopes_behind}
+use Rattle.liquid_core.specs.States.{with_scope_popped}
 use Rattle.liquid_core.specs.LoopFrames.{EndsIn, frame_map_at}
 use Rattle.liquid_core.specs.declared.interrupt.Interrupt.{Interrupt}
 use Rattle.liquid_core.specs.declared.state.State.{State}
@@ -29,8 +32,11 @@ abbrev pub behind : State → Map Datum
 behind s = local_of (scopes_behind (layers_of s).scopes)
 
 -- where a run stands, without the innermost scope
-abbrev pub configuration_behind : {W : Type 0} → (W → Option (List ℕ)) → (W → ℕ) → Output W → State → Configuration
-configuration_behind contents failure_count out s = record { sink = sink_of contents failure_count out; environment = merged_layers (with_scope_popped (layers_of s)) }
+abbrev pub configuration_behind : {W : Type 0} → (W → Option (List ℕ)) → (W → ℕ) → Output W →
+    State → Configuration
+configuration_behind contents failure_count out s = record {
+        sink = sink_of contents failure_count out;
+        environment = merged_layers (with_scope_popped (layers_of s)) }
 
 pub record StartsAt (m : ℕ) (s : State) (before : List Scope) (t : LoopFrame) : Type 0 where
   pub innermost : EndsIn (loops_of s) before t
@@ -39,7 +45,9 @@ pub record StartsAt (m : ℕ) (s : State) (before : List Scope) (t : LoopFrame) 
 
 -- what is kept of the layers without the innermost scope
 abbrev pub KeepsBehind : List Text → Setting → State → State → Type 0
-KeepsBehind names setting old new = (N : Names) → Within N names → Within N (partials_names setting.partials) → LayersKept N (with_scope_popped (layers_of old)) (with_scope_popped (layers_of new))
+KeepsBehind names setting old new = (N : Names) → Within N names →
+    Within N (partials_names setting.partials) → LayersKept N (with_scope_popped (layers_of old))
+        (with_scope_popped (layers_of new))
 
 -- ---- for
 
@@ -54,7 +62,9 @@ turns_meant t local body = until_break (one_turn t local body) 0 (turn_items t)
 
 -- the cell of item k
 abbrev pub one_cell : LoopFrame → ℕ → Map Datum → Run Nothing → ℕ → Datum → Run Nothing
-one_cell t columns local body k d = write (cell_start k columns) >>= (λ a. with_scope (frame_map_at t k local) body >>= (λ b. write (cell_end k t.count columns)))
+one_cell t columns local body k d =
+    write (cell_start k columns) >>= (λ a. with_scope (frame_map_at t k local) body >>=
+        (λ b. write (cell_end k t.count columns)))
 
 abbrev pub cells_meant : LoopFrame → ℕ → Map Datum → Run Nothing → Run Nothing
 cells_meant t columns local body = for_all (one_cell t columns local body) 0 (turn_items t)

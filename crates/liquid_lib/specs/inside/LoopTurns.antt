@@ -1,9 +1,12 @@
 -- What stands before the first turn of a loop: which items are asked for, and what its turns bind.
 --     items_asked source window e      the items that the window asks for of the source
---     cells_asked source window columns e      those with the number of columns, or nothing where there are none
---     turn_items t      the items of the turns of a loop;   turns_of, cells_of      the same of what a loop begins with
+--     cells_asked source window columns e      those with the number of columns, or nothing where
+--       there are none
+--     turn_items t      the items of the turns of a loop;   turns_of, cells_of      the same of
+--                       what a loop begins with
 --     IsFor, IsRow      the loop is at its first item, and binds what a `for` or a `tablerow` binds
-use Rattle.std.specs.Prelude.{◌≡◌, ℕ, zero, suc, ◌==◌, Bool, cond, List, [], ◌∷◌, length, get_or, Option, Some, None, Result, Ok, Err, codes}
+use Rattle.std.specs.Prelude.{◌≡◌, ℕ, zero, suc, ◌==◌, Bool, cond, List, [], ◌∷◌, length, get_or}
+use Rattle.std.specs.Prelude.{Option, Some, None, Result, Ok, Err, codes}
 use Rattle.liquid_model.specs.Data.{Datum, nil}
 use Rattle.liquid_model.specs.Fallible.{◌>>=◌}
 use Rattle.liquid_model.specs.Maps.{Map}
@@ -46,7 +49,9 @@ turns_of (Some t) = turn_items t
 
 pub record IsFor (name : Text) (e : Environment) (t : LoopFrame) : Type 0 where
   pub first : t.at ≡ 0
-  pub names : (k : ℕ) → frame_map_at t k e.local ≡ loop_scope (codes "forloop") (forloop_object k t.count (value_or_nil (codes "forloop") e)) name (frame_item_at t k)
+  pub names : (k : ℕ) → frame_map_at t k e.local ≡
+          loop_scope (codes "forloop") (forloop_object k t.count (value_or_nil (codes "forloop") e))
+          name (frame_item_at t k)
 
 -- ---- tablerow
 
@@ -60,8 +65,12 @@ in_columns [] columns = Ok None
 in_columns (d ∷ ds) columns = some_columns columns >>= (λ some. Ok (Some (d ∷ ds, some)))
 
 -- the source first, then `cols`, limit and offset
-abbrev pub cells_asked : Source → Window → Option Expression → Environment → Result (Option (List Datum × ℕ)) ErrorKind
-cells_asked source window columns e = source_items source e >>= (λ all. amount columns e >>= (λ asked. asked_for window all e >>= (λ items. in_columns items (columns_of (length items) asked))))
+abbrev pub cells_asked : Source → Window → Option Expression → Environment →
+    Result (Option (List Datum × ℕ)) ErrorKind
+cells_asked source window columns e =
+    source_items source e >>=
+        (λ all. amount columns e >>= (λ asked. asked_for window all e >>=
+        (λ items. in_columns items (columns_of (length items) asked))))
 
 abbrev pub cells_of : Option (LoopFrame × Columns) → Option (List Datum × ℕ)
 cells_of None = None
@@ -69,7 +78,8 @@ cells_of (Some r) = Some (turn_items r.0, r.1.count)
 
 pub record IsRow (name : Text) (columns : ℕ) (t : LoopFrame) : Type 0 where
   pub first : t.at ≡ 0
-  pub names : (k : ℕ) (local : Map Datum) → frame_map_at t k local ≡ loop_scope (codes "tablerow") (tablerow_object k t.count columns) name (frame_item_at t k)
+  pub names : (k : ℕ) (local : Map Datum) → frame_map_at t k local ≡
+          loop_scope (codes "tablerow") (tablerow_object k t.count columns) name (frame_item_at t k)
 
 -- of what a `tablerow` begins with
 abbrev pub AreRows : Text → Option (LoopFrame × Columns) → Type 0

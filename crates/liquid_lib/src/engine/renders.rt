@@ -31,7 +31,9 @@ pub(super) fn run_render<'d, W: CountedWrite, H: NamedFilters>(
     out: &mut Output<'_, W>,
     state: &State<'d>,
 ) -> Result<()>
-    ensures performs { Performs result (node_in H.named context.now (tree.render (expression_view name.now) None (bindings_view bindings.now)))
+    ensures performs { Performs result
+                (node_in H.named context.now (tree.render (expression_view name.now) None
+                (bindings_view bindings.now)))
         (configuration_of W.contents W.failure_count out.old state.now)
         (configuration_of W.contents W.failure_count out.new state.now) }
     ensures same_writer { out.new.writer.ghost_name ≡ out.old.writer.ghost_name }
@@ -45,7 +47,8 @@ pub(super) fn run_render<'d, W: CountedWrite, H: NamedFilters>(
     in_partial(alloc, called.as_str(), answer)
 }
 
-/// Runs a partial once for each item, up to one that leaves a break. The caller's state is only read.
+/// Runs a partial once for each item, up to one that leaves a break. The caller's state is only
+/// read.
 #[cycle(run)]
 #[inline(never)]
 pub(super) fn run_render_each<'d, W: CountedWrite, H: NamedFilters>(
@@ -57,7 +60,9 @@ pub(super) fn run_render_each<'d, W: CountedWrite, H: NamedFilters>(
     out: &mut Output<'_, W>,
     state: &State<'d>,
 ) -> Result<()>
-    ensures performs { Performs result (node_in H.named context.now (tree.render (expression_view name.now) (Some (each_view each.now)) (bindings_view bindings.now)))
+    ensures performs { Performs result
+                (node_in H.named context.now (tree.render (expression_view name.now)
+                (Some (each_view each.now)) (bindings_view bindings.now)))
         (configuration_of W.contents W.failure_count out.old state.now)
         (configuration_of W.contents W.failure_count out.new state.now) }
     ensures same_writer { out.new.writer.ghost_name ≡ out.old.writer.ghost_name }
@@ -86,7 +91,8 @@ pub(super) fn run_render_each<'d, W: CountedWrite, H: NamedFilters>(
     Ok(())
 }
 
-/// Runs a partial for one item, apart: it sees the pairs, and the loop over them. The answer is the interrupt that it leaves.
+/// Runs a partial for one item, apart: it sees the pairs, and the loop over them. The answer is the
+/// interrupt that it leaves.
 #[cycle(run)]
 #[inline(never)]
 fn run_item<'d, W: CountedWrite, H: NamedFilters>(
@@ -100,7 +106,9 @@ fn run_item<'d, W: CountedWrite, H: NamedFilters>(
 ) -> Result<Option<Interrupt>>
     requires item { item.now.at < item.now.source.now.count }
     requires within { item.now.source.now.count ≤ 9223372036854775807 }
-    ensures performs { Meets (λ i. i) result (render_apart (setting_of H.named context.now) (deeper_meaning (setting_of H.named context.now) context.now.depth) name.now (bindings_view bindings.now) (item_scope item.now))
+    ensures performs { Meets (λ i. i) result (render_apart (setting_of H.named context.now)
+                (deeper_meaning (setting_of H.named context.now) context.now.depth) name.now
+                (bindings_view bindings.now) (item_scope item.now))
         (configuration_of W.contents W.failure_count out.old state.now)
         (configuration_of W.contents W.failure_count out.new state.now) }
     ensures same_writer { out.new.writer.ghost_name ≡ out.old.writer.ghost_name }

@@ -11,7 +11,8 @@ use Rattle.liquid_site_files.specs.declared.take.Why.{Why}
 
 -- a change was accepted, or its source is no template and nothing changed
 abbrev pub TakesChange : Change → Site → Site → Type 0
-TakesChange change old new = Accepted change old new ⊎ (HasBadSource (language_of old) change × (contents_of new ≡ contents_of old))
+TakesChange change old new = Accepted change old new ⊎ (HasBadSource (language_of old) change ×
+        (contents_of new ≡ contents_of old))
 
 -- a change is refused for its source, and one without a source is not
 abbrev pub RefusesChange : Language → Change → Option Why → Type 0

@@ -1,10 +1,13 @@
 -- A list of nodes that is being built, with blocks that are still open.
-use Rattle.std.specs.Prelude.{◌≡◌, ℕ, ◌+◌, List, [], ◌∷◌, ◌++◌, map, take, get_or, slice_set, Bool, true, false, nat_le, Option, Some, None, length, reverse, Result, Ok, Err}
+use Rattle.std.specs.Prelude.{◌≡◌, ℕ, ◌+◌, List, [], ◌∷◌, ◌++◌, map, take, get_or, slice_set, Bool}
+use Rattle.std.specs.Prelude.{true, false, nat_le, Option, Some, None, length, reverse, Result, Ok}
+use Rattle.std.specs.Prelude.{Err}
 use Rattle.liquid_syntax.specs.Flats.{Maker, case_flat, flat_of, flats, nodes_of, bodies_of}
 use Rattle.liquid_syntax.specs.Forest.{Forest, Bodies, no_bodies, sizes}
 use Rattle.liquid_syntax.specs.Laid.{Flat, ends_of, laid, laid_bodies}
 use Rattle.liquid_syntax.specs.Nesting as nesting
-use Rattle.liquid_syntax.specs.OpenBlocks.{Reading, last, first, unkept, armed, begun, ended, Level, level, State, depth, to_elsif, with_node}
+use Rattle.liquid_syntax.specs.OpenBlocks.{Reading, last, first, unkept, armed, begun, ended, Level}
+use Rattle.liquid_syntax.specs.OpenBlocks.{level, State, depth, to_elsif, with_node}
 use Rattle.liquid_lexer.specs.Readers.{Fails}
 use Rattle.liquid_syntax.specs.Templates.{tree_of}
 use Rattle.liquid_evaluation.specs.Tree.{Node, Nodes, no_nodes, plain}
@@ -56,11 +59,13 @@ statement_view (statements.When values) = nesting.arm (map expression_view value
 statement_view statements.Otherwise = nesting.otherwise
 statement_view statements.Ends = nesting.ends
 
--- the node has room for where its bodies end: two of them, or one, or as many as the `when` parts that will come
+-- the node has room for where its bodies end: two of them, or one, or as many as the `when` parts
+-- that will come
 abbrev pub IsPrepared : Stage → code.Node → Type 0
 IsPrepared First n = (y z : ℕ) × ((flat_of n).ends ≡ y ∷ z ∷ [])
 IsPrepared Last n = (z : ℕ) × ((flat_of n).ends ≡ z ∷ [])
-IsPrepared Unkept n = (t : Expression) × (z : ℕ) × (flat_of n ≡ case_flat t [] [] z) × ((ws : tree.Whens) (o : Nodes) → of_arms n ws o ≡ tree.case_of t ws o)
+IsPrepared Unkept n = (t : Expression) × (z : ℕ) × (flat_of n ≡ case_flat t [] [] z) ×
+    ((ws : tree.Whens) (o : Nodes) → of_arms n ws o ≡ tree.case_of t ws o)
 IsPrepared Armed n = ⊥
 
 abbrev pub IsSound : Statement → Type 0
@@ -93,7 +98,8 @@ last_ended e x = record { head = x.head; ends = set_last e x.ends }
 
 -- the node at a place tells where the body before its last ends: at the end of the list
 abbrev pub EndIsSet : ℕ → List (Flat Maker) → List (Flat Maker) → Type 0
-EndIsSet at ns ms = (old : Flat Maker) × (old ≡ get_or ns at old) × (ms ≡ slice_set ns at (before_last_ended (length ns) old))
+EndIsSet at ns ms = (old : Flat Maker) × (old ≡ get_or ns at old) ×
+    (ms ≡ slice_set ns at (before_last_ended (length ns) old))
 
 -- the body that was being read has ended, unless it is the last; what isn't kept is dropped
 abbrev pub BodyEnded : Stage → ℕ → List (Flat Maker) → List (Flat Maker) → Type 0
@@ -116,15 +122,20 @@ takes_when Armed = true
 
 -- a `case` has one `when` more, whose body begins now
 abbrev pub IsAdded : List Expression → Flat Maker → Flat Maker → Type 0
-IsAdded vs x y = (t : Expression) (vss : List (List Expression)) (es : List ℕ) (z : ℕ) → length vss ≡ length es → x ≡ case_flat t vss es z → y ≡ case_flat t (vss ++ vs ∷ []) (es ++ 0 ∷ []) z
+IsAdded vs x y = (t : Expression) (vss : List (List Expression)) (es : List ℕ) (z : ℕ) →
+    length vss ≡ length es → x ≡ case_flat t vss es z →
+    y ≡ case_flat t (vss ++ vs ∷ []) (es ++ 0 ∷ []) z
 
 -- ---- the nodes and the open blocks
 
--- what a `case` makes of further `when` parts behind those with these values and bodies, and of its else list
-abbrev pub behind_arms : (tree.Whens → Nodes → Node) → List (List Expression) → List Nodes → tree.Whens → Nodes → Node
+-- what a `case` makes of further `when` parts after those with these values and bodies, and of its
+-- else list
+abbrev pub behind_arms : (tree.Whens → Nodes → Node) → List (List Expression) → List Nodes →
+    tree.Whens → Nodes → Node
 behind_arms make [] fs ws o = make ws o
 behind_arms make (vs ∷ vss) [] ws o = make ws o
-behind_arms make (vs ∷ vss) (f ∷ fs) ws o = behind_arms (λ ws o. make (tree.when vs f ws) o) vss fs ws o
+behind_arms make (vs ∷ vss) (f ∷ fs) ws o =
+    behind_arms (λ ws o. make (tree.when vs f ws) o) vss fs ws o
 
 abbrev pub armed_with : Expression → List (List Expression) → List Nodes → tree.Whens → Nodes → Node
 armed_with t vss fs ws o = behind_arms (λ ws o. tree.case_of t ws o) vss fs ws o
@@ -132,20 +143,27 @@ armed_with t vss fs ws o = behind_arms (λ ws o. tree.case_of t ws o) vss fs ws 
 -- a `case` with as many `when` parts as closed bodies, which begin at k
 abbrev pub IsCase : Flat Maker → Bodies Maker → ℕ → (tree.Whens → Nodes → Node) → Type 0
 IsCase x bs k make =
-    (t : Expression) × (vss : List (List Expression)) × (z : ℕ) × (length vss ≡ length (bodies_of bs)) × (x ≡ case_flat t vss (ends_of k bs) z)
+    (t : Expression) × (vss : List (List Expression)) × (z : ℕ) ×
+        (length vss ≡ length (bodies_of bs)) × (x ≡ case_flat t vss (ends_of k bs) z)
     × ((ws : tree.Whens) (o : Nodes) → make ws o ≡ armed_with t vss (bodies_of bs) ws o)
 
--- An open block, of which the closed bodies begin at k: where those end stands in its node, and its node makes of them and of what follows what is to be made.
+-- An open block, of which the closed bodies begin at k: where those end stands in its node, and its
+-- node makes of them and of what follows what is to be made.
 abbrev pub Fits : Open → Reading → Flat Maker → Bodies Maker → ℕ → Type 0
 Fits o (last b make) x bs k =
-    (o.stage ≡ Last) × (o.block ≡ b) × ((z : ℕ) × (x.ends ≡ ends_of k bs ++ z ∷ [])) × ((g : Nodes) → make g ≡ x.head (bodies_of bs ++ g ∷ []))
+    (o.stage ≡ Last) × (o.block ≡ b) × ((z : ℕ) × (x.ends ≡ ends_of k bs ++ z ∷ [])) ×
+        ((g : Nodes) → make g ≡ x.head (bodies_of bs ++ g ∷ []))
 Fits o (first b make) x bs k =
-    (o.stage ≡ First) × (o.block ≡ b) × (bs ≡ no_bodies) × ((y z : ℕ) × (x.ends ≡ y ∷ z ∷ [])) × ((g h : Nodes) → make g h ≡ x.head (g ∷ h ∷ []))
+    (o.stage ≡ First) × (o.block ≡ b) × (bs ≡ no_bodies) × ((y z : ℕ) × (x.ends ≡ y ∷ z ∷ [])) ×
+        ((g h : Nodes) → make g h ≡ x.head (g ∷ h ∷ []))
 Fits o (unkept b make) x bs k =
     (o.stage ≡ Unkept) × (o.block ≡ b) × (bs ≡ no_bodies) × IsCase x no_bodies k make
 Fits o (armed b make) x bs k =
-    (o.stage ≡ Armed) × (o.block ≡ b) × (t : Expression) × (vss : List (List Expression)) × (vs : List Expression) × (y z : ℕ) × (length vss ≡ length (bodies_of bs)) × (x ≡ case_flat t (vss ++ vs ∷ []) (ends_of k bs ++ y ∷ []) z)
-    × ((g : Nodes) (ws : tree.Whens) (o : Nodes) → make g ws o ≡ armed_with t vss (bodies_of bs) (tree.when vs g ws) o)
+    (o.stage ≡ Armed) × (o.block ≡ b) × (t : Expression) × (vss : List (List Expression)) ×
+        (vs : List Expression) × (y z : ℕ) × (length vss ≡ length (bodies_of bs)) ×
+        (x ≡ case_flat t (vss ++ vs ∷ []) (ends_of k bs ++ y ∷ []) z)
+    × ((g : Nodes) (ws : tree.Whens) (o : Nodes) → make g ws o ≡ armed_with t vss (bodies_of bs)
+            (tree.when vs g ws) o)
 
 -- the list, the blocks that are open (the innermost first), and the nodes since
 abbrev pub Builds : List (Flat Maker) → List Open → List Level → Nodes → Type 0
@@ -153,8 +171,11 @@ Builds ns [] [] cur = (c : Forest Maker) × (cur ≡ nodes_of c) × (ns ≡ laid
 Builds ns (o ∷ os) [] cur = ⊥
 Builds ns [] (l ∷ ls) cur = ⊥
 Builds ns (o ∷ os) (level r f k ∷ ls) cur =
-    (pre : List (Flat Maker)) × (x : Flat Maker) × (bs : Bodies Maker) × (c : Forest Maker) × (cur ≡ nodes_of c) × (o.node_index ≡ length pre) × (o.chained ≡ k) × Fits o r x bs (length pre + 1)
-    × (ns ≡ pre ++ x ∷ (laid_bodies (length pre + 1) bs ++ laid (length pre + 1 + sizes bs) c)) × Builds pre os ls f
+    (pre : List (Flat Maker)) × (x : Flat Maker) × (bs : Bodies Maker) × (c : Forest Maker) ×
+        (cur ≡ nodes_of c) × (o.node_index ≡ length pre) × (o.chained ≡ k) ×
+        Fits o r x bs (length pre + 1)
+    × (ns ≡ pre ++ x ∷ (laid_bodies (length pre + 1) bs ++ laid (length pre + 1 + sizes bs) c)) ×
+        Builds pre os ls f
 
 abbrev pub IsStack : Builder → List Level → Nodes → Type 0
 IsStack b ls cur = Builds (flats b.nodes.items) (reverse b.blocks.items) ls cur
@@ -171,7 +192,8 @@ is_full b = nat_le 200 b.depth
 
 -- ---- what the builder's calls do
 
--- The builder went on to the state that was to come, memory aside. No fault is answered where there is one.
+-- The builder went on to the state that was to come, memory aside. No fault is answered where there
+-- is one.
 abbrev pub Steps : Option State → Builder → Result (Unit {0}) ParseError → Type 0
 Steps read b (Ok _) = (s : State) × (read ≡ Some s) × IsBuilding b s.0 s.1
 Steps read b (Err e) = Fails e read
@@ -193,16 +215,21 @@ text_added [] cur = cur
 text_added (b ∷ bs) cur = with_node cur (plain (b ∷ bs))
 
 abbrev pub Begins : Block → Stage → Bool → code.Node → List Level → Nodes → Builder → Type 0
-Begins block stage chained n ls cur b = IsStack b (level (begun (opening block stage n)) cur chained ∷ ls) no_nodes
+Begins block stage chained n ls cur b =
+    IsStack b (level (begun (opening block stage n)) cur chained ∷ ls) no_nodes
 
 -- the block of which the first body is being read, if one is: no `elsif` stands elsewhere
 abbrev pub IsFirst : List Level → Option Block → Type 0
-IsFirst ls (Some b) = (make : Nodes → Nodes → Node) × (f : Nodes) × (k : Bool) × (rest : List Level) × (ls ≡ level (first b make) f k ∷ rest)
+IsFirst ls (Some b) = (make : Nodes → Nodes → Node) × (f : Nodes) × (k : Bool) ×
+    (rest : List Level) × (ls ≡ level (first b make) f k ∷ rest)
 IsFirst ls None = (next : Nodes → Nodes → Node) (cur : Nodes) → to_elsif next ls cur ≡ None
 
--- The first body of the block that is answered has ended, and its last has begun. No `elsif` stands where there is a fault.
+-- The first body of the block that is answered has ended, and its last has begun. No `elsif` stands
+-- where there is a fault.
 abbrev pub EndsFirst : List Level → Nodes → Builder → Result Block ParseError → Type 0
-EndsFirst ls cur b (Ok block) = (s : State) × IsBuilding b s.0 s.1 × ((next : Nodes → Nodes → Node) → to_elsif next ls cur ≡ Some (level (first block next) s.1 true ∷ s.0, no_nodes))
+EndsFirst ls cur b (Ok block) = (s : State) × IsBuilding b s.0 s.1 ×
+    ((next : Nodes → Nodes → Node) → to_elsif next ls cur ≡
+        Some (level (first block next) s.1 true ∷ s.0, no_nodes))
 EndsFirst ls cur b (Err e) = (next : Nodes → Nodes → Node) → Fails e (to_elsif next ls cur)
 
 -- no refusal but that of memory

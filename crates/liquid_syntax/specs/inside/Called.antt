@@ -12,12 +12,15 @@ use Rattle.liquid_evaluation.specs.ChainView.{chain_filter_view}
 use Rattle.liquid_evaluation.specs.declared.chain.ChainFilter.{ChainFilter}
 use Rattle.liquid_lexer.specs.declared.fault.ParseError.{ParseError}
 
--- the arguments behind a filter's name, and the tokens that are left
-abbrev pub Calls : Filters → List Token → List Token → Result (Vec Expression Global) ParseError → Type 0
-Calls known old new (Ok xs) = called_of known old ≡ option_map (λ calls. (map expression_view xs.items, calls)) (filters_of known new)
+-- the arguments after a filter's name, and the tokens that are left
+abbrev pub Calls : Filters → List Token → List Token → Result (Vec Expression Global) ParseError →
+    Type 0
+Calls known old new (Ok xs) = called_of known old ≡
+        option_map (λ calls. (map expression_view xs.items, calls)) (filters_of known new)
 Calls known old new (Err e) = Fails e (called_of known old)
 
--- the filter behind a `|`: what stands there reads as it and the filters that are left
+-- the filter after a `|`: what stands there reads as it and the filters that are left
 abbrev pub TakesFilter : Filters → List Token → List Token → Result ChainFilter ParseError → Type 0
-TakesFilter known old new (Ok filter) = call_of known old ≡ option_map (λ calls. chain_filter_view filter ∷ calls) (filters_of known new)
+TakesFilter known old new (Ok filter) = call_of known old ≡
+        option_map (λ calls. chain_filter_view filter ∷ calls) (filters_of known new)
 TakesFilter known old new (Err e) = Fails e (call_of known old)

@@ -8,7 +8,8 @@ use Rattle.liquid_evaluation.specs.Names.{mentioned}
 use Rattle.liquid_evaluation.specs.Telling.{IsTelling}
 use Rattle.liquid_syntax.specs.NameSets.{added, Looks, Gathers}
 
-pub mentioned_both : (xs ys : List Text) (name : Text) → mentioned (xs ++ ys) name ≡ (mentioned xs name || mentioned ys name)
+pub mentioned_both : (xs ys : List Text) (name : Text) → mentioned (xs ++ ys) name ≡
+        (mentioned xs name || mentioned ys name)
 mentioned_both xs ys name = list_any-append (same_text name) xs ys
 
 pub or_assoc : (a b c : Bool) → ((a || b) || c) ≡ (a || (b || c))
@@ -25,13 +26,17 @@ added_none h = fun_ext (λ name. or_false (h name))
 
 pub added_both : (xs ys : List Text) (h : Names) → added (xs ++ ys) h ≡ added ys (added xs h)
 unfolding added
-added_both xs ys h = fun_ext (λ name. ap (λ b. h name || b) (mentioned_both xs ys name) ∙ sym (or_assoc (h name) (mentioned xs name) (mentioned ys name)))
+added_both xs ys h =
+    fun_ext (λ name. ap (λ b. h name || b) (mentioned_both xs ys name) ∙ sym
+        (or_assoc (h name) (mentioned xs name) (mentioned ys name)))
 
 pub looks : {V : Type 0} (wanted : V → Text) → IsTelling (Looks wanted)
 looks wanted = record {
   none = λ v. (refl, refl);
-  both = λ u v w xs ys b h k. (k.0 ∙ h.0, k.1 ∙ ap (λ x. mentioned ys (wanted x)) h.0 ∙ ap (λ a. a || mentioned ys (wanted u)) h.1 ∙ sym (mentioned_both xs ys (wanted u)));
-  ends = λ u v xs ys h. (h.0, ap (λ a. a || mentioned ys (wanted u)) h.1 ∙ sym (mentioned_both xs ys (wanted u)));
+  both = λ u v w xs ys b h k. (k.0 ∙ h.0, k.1 ∙ ap (λ x. mentioned ys (wanted x)) h.0 ∙ ap
+          (λ a. a || mentioned ys (wanted u)) h.1 ∙ sym (mentioned_both xs ys (wanted u)));
+  ends = λ u v xs ys h. (h.0, ap (λ a. a || mentioned ys (wanted u)) h.1 ∙ sym
+          (mentioned_both xs ys (wanted u)));
 }
 
 pub gathers : {V : Type 0} (has : V → Names) → IsTelling (Gathers has)
@@ -41,6 +46,7 @@ gathers has = record {
   ends = λ u v xs ys h. tt;
 }
   where
-    on : (u v w : _) (xs ys : List Text) (b : Bool) → has v ≡ added xs (has u) → Gathers has v ys b w → Gathers has u (xs ++ ys) b w
+    on : (u v w : _) (xs ys : List Text) (b : Bool) → has v ≡ added xs (has u) →
+        Gathers has v ys b w → Gathers has u (xs ++ ys) b w
     on u v w xs ys true h k = tt
     on u v w xs ys false h k = k ∙ ap (added ys) h ∙ sym (added_both xs ys (has u))

@@ -17,6 +17,6 @@ abbrev pub first_spelling : List items.Item → Option Text
 first_spelling [] = None
 first_spelling (i ∷ is) = spelling_of i
 
--- what stands behind the name of a `render`
+-- what follows the name of a `render`
 abbrev pub rendered_view : Rendered → partials.Rendered
 rendered_view r = (option_map each_view r.each, bindings_view r.pairs.items)

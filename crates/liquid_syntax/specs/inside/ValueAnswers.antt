@@ -7,5 +7,6 @@ use Rattle.liquid_syntax.specs.declared.value_items.Separators.{Separators}
 
 -- whether a separator was taken off the front
 abbrev pub SkipsSeparator : Separators → List Item → List Item → Bool → Type 0
-SkipsSeparator s old new true = (past_separator s (tokens_view old) ≡ Some (tokens_view new)) × (length new < length old)
+SkipsSeparator s old new true = (past_separator s (tokens_view old) ≡ Some (tokens_view new)) ×
+    (length new < length old)
 SkipsSeparator s old new false = (past_separator s (tokens_view old) ≡ None) × (new ≡ old)

@@ -5,7 +5,9 @@ ghost use Rattle.liquid_syntax.specs.Faults.{FaultsAs, FaultsAt};
 ghost use Rattle.liquid_language.specs.declared.block.Block.TheVariants as BlockOf;
 ghost use Rattle.liquid_syntax.specs.declared.build.Stage.TheVariants as StageOf;
 ghost use Rattle.liquid_syntax.specs.inside.Classifies.{begins, Classifies, ReadsBlock, ReadsTwo};
-ghost use Rattle.liquid_syntax.specs.Classification.{block_statement, capture_of, case_for, control_statement, for_of, if_of, many_or, one_or, rows_of, unless_of};
+ghost use Rattle.liquid_syntax.specs.Classification.{block_statement, capture_of, case_for};
+ghost use Rattle.liquid_syntax.specs.Classification.{control_statement, for_of, if_of, many_or};
+ghost use Rattle.liquid_syntax.specs.Classification.{one_or, rows_of, unless_of};
 
 use super::tags::{BareTag, read_bare, read_word};
 use crate::build::{Stage, Statement};
@@ -70,7 +72,8 @@ pub(super) fn read_control(
     items: VecDeque<Item<'_>>,
     at: &str,
 ) -> Result<Statement, ParseError>
-    ensures statement { Classifies (control_statement (tokens_view items.entry.items) control) result }
+    ensures statement { Classifies (control_statement (tokens_view items.entry.items) control)
+                result }
     ensures kind { FaultsAs FaultKind.Expected result }
     ensures place { FaultsAt (length at.now) result }
 {
@@ -126,7 +129,10 @@ fn read_for(alloc: Global, items: VecDeque<Item<'_>>, at: &str) -> Result<Node, 
 
 /// The node of a `tablerow`, before its body is read.
 fn read_table_row(alloc: Global, items: VecDeque<Item<'_>>, at: &str) -> Result<Node, ParseError>
-    ensures node { ReadsBlock BlockOf.TableRow StageOf.Last (one_or BlockOf.TableRow (rows_of (tokens_view items.entry.items))) result }
+    ensures node {
+        ReadsBlock BlockOf.TableRow StageOf.Last
+            (one_or BlockOf.TableRow (rows_of (tokens_view items.entry.items))) result
+    }
     ensures kind { FaultsAs FaultKind.Expected result }
     ensures place { FaultsAt (length at.now) result }
 {
@@ -143,7 +149,10 @@ fn read_table_row(alloc: Global, items: VecDeque<Item<'_>>, at: &str) -> Result<
 
 /// The node of a `capture`, before its body is read.
 fn read_capture(items: VecDeque<Item<'_>>, at: &str) -> Result<Node, ParseError>
-    ensures node { ReadsBlock BlockOf.Capture StageOf.Last (one_or BlockOf.Capture (capture_of (tokens_view items.entry.items))) result }
+    ensures node {
+        ReadsBlock BlockOf.Capture StageOf.Last
+            (one_or BlockOf.Capture (capture_of (tokens_view items.entry.items))) result
+    }
     ensures kind { FaultsAs FaultKind.Expected result }
     ensures place { FaultsAt (length at.now) result }
 {
@@ -153,7 +162,10 @@ fn read_capture(items: VecDeque<Item<'_>>, at: &str) -> Result<Node, ParseError>
 
 /// The node of a `case`, before its `when` parts are read.
 fn read_case(alloc: Global, items: VecDeque<Item<'_>>, at: &str) -> Result<Node, ParseError>
-    ensures node { ReadsBlock BlockOf.Case StageOf.Unkept (many_or BlockOf.Case (case_for (tokens_view items.entry.items))) result }
+    ensures node {
+        ReadsBlock BlockOf.Case StageOf.Unkept
+            (many_or BlockOf.Case (case_for (tokens_view items.entry.items))) result
+    }
     ensures kind { FaultsAs FaultKind.Expected result }
     ensures place { FaultsAt (length at.now) result }
 {

@@ -24,7 +24,10 @@ pub(super) fn read_leaf(
     items: VecDeque<Item<'_>>,
     at: &str,
 ) -> Result<Statement, ParseError>
-    ensures statement { Classifies (leaf_statement language.now (items_view items.entry.items) (tokens_view items.entry.items) kind) result }
+    ensures statement {
+        Classifies (leaf_statement language.now (items_view items.entry.items)
+            (tokens_view items.entry.items) kind) result
+    }
     ensures place { FaultsAt (length at.now) result }
 {
     match kind {

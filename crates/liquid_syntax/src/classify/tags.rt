@@ -39,7 +39,8 @@ fn statement_of(tag: BareTag) -> Statement
     }
 }
 
-/// A tag without items. Its statement is made where there are none, so that none has to be dropped where there are.
+/// A tag without items. Its statement is made where there are none, so that none has to be dropped
+/// where there are.
 pub(super) fn read_bare(
     tag: BareTag,
     items: VecDeque<Item<'_>>,
@@ -79,7 +80,8 @@ pub(super) fn read_assign(
     items: VecDeque<Item<'_>>,
     at: &str,
 ) -> Result<Statement, ParseError>
-    ensures statement { Classifies (leaf_or (assign_of language.now (tokens_view items.entry.items))) result }
+    ensures statement { Classifies
+                (leaf_or (assign_of language.now (tokens_view items.entry.items))) result }
     ensures place { FaultsAt (length at.now) result }
 {
     let mut items = items;

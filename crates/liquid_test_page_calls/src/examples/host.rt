@@ -2,7 +2,7 @@
 use liquid_lib::{Filter, HostFilters, Renderable, Result, RuntimeBuilder, Value, language, parse};
 use std::alloc::Global;
 
-/// The input's text with a unit behind it.
+/// The input's text with a unit after it.
 #[derive(Drop)]
 struct WithUnit {
     unit: &'static str,
@@ -15,7 +15,8 @@ impl Filter for WithUnit {
     // How many arguments it takes: none.
     ghost counts = { λ _ count. nat_eq count 0 };
 
-    // What it answers to an input and arguments. Each call is proved to answer this, or `Memory` where there is no room.
+    // What it answers to an input and arguments. Each call is proved to answer this, or `Memory`
+    // where there is no room.
     ghost answer = { λ filter input _. Ok (text (text_of input ++ filter.unit.now)) };
 
     fn accepts(&self, count: usize) -> bool {

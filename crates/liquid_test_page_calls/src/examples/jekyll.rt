@@ -9,7 +9,9 @@ pub(crate) fn jekyll_page(alloc: Global) -> Result<String> {
     let mut language = language(alloc)?;
     for filter in JEKYLL_FILTERS {
         let name = String::from_str(alloc, filter.name())?;
-        language.filters.register_host(name, filter.least(), filter.most())?;
+        language
+            .filters
+            .register_host(name, filter.least(), filter.most())?;
     }
     let source = "{{ 'a page' | relative_url }} {{ 'x' | absolute_url }}";
     let template = parse(alloc, source, &language)?;

@@ -1,5 +1,8 @@
 //! Laws of the filters over HTML.
-ghost use Rattle.liquid_web_filters.specs.HtmlLaws.{EscapeIsOne, EscapeOnceIsOne, EscapeOnceKeepsEscapes, EscapeOnceTwiceIsOnce, NewlineToBrIsOne, StripHtmlIsOne, StripHtmlLeavesNoTag, StripHtmlTwiceIsOnce};
+ghost use Rattle.liquid_web_filters.specs.HtmlLaws.{EscapeIsOne, EscapeOnceIsOne};
+ghost use Rattle.liquid_web_filters.specs.HtmlLaws.{EscapeOnceKeepsEscapes, EscapeOnceTwiceIsOnce};
+ghost use Rattle.liquid_web_filters.specs.HtmlLaws.{NewlineToBrIsOne, StripHtmlIsOne};
+ghost use Rattle.liquid_web_filters.specs.HtmlLaws.{StripHtmlLeavesNoTag, StripHtmlTwiceIsOnce};
 
 /// `escape`: each character in turn, or its escape.
 pub fn escape_is_one()
@@ -26,8 +29,8 @@ pub fn escape_once_keeps_escapes()
     ensures { EscapeOnceKeepsEscapes }
 {}
 
-/// `strip_html`: four passes, each of which cuts from the leftmost opener that has a closer after it to the end of the
-/// first such closer, and goes on after it.
+/// `strip_html`: four passes, each of which cuts from the leftmost opener that has a closer after
+/// it to the end of the first such closer, and goes on after it.
 pub fn strip_html_is_one()
     ensures { StripHtmlIsOne }
 {}

@@ -10,8 +10,8 @@ use liquid_core::{Filter, Result, Value};
 use liquid_filter_base::text_of;
 use std::alloc::Global;
 
-/// `date`: the input printed by a pattern of strftime, at the offset that the date is written with; the input itself
-/// where it is no date, or where the pattern is empty.
+/// `date`: the input printed by a pattern of strftime, at the offset that the date is written with;
+/// the input itself where it is no date, or where the pattern is empty.
 #[derive(Clone, Copy, Drop)]
 pub struct Date;
 

@@ -3,7 +3,8 @@ ghost use Rattle.std.specs.Prelude.{◌++◌, ◌∷◌, [], drop, map, nat_eq};
 ghost use Rattle.liquid_model.specs.Answer.{IsValueOrMemory};
 ghost use Rattle.liquid_model.specs.Lists.{list_of};
 ghost use Rattle.liquid_model.specs.View.{view, items_view};
-ghost use Rattle.liquid_jekyll_shopify_filters.specs.Ends.{pop_answer, push_answer, shift_answer, unshift_answer, without_last};
+ghost use Rattle.liquid_jekyll_shopify_filters.specs.Ends.{pop_answer, push_answer, shift_answer};
+ghost use Rattle.liquid_jekyll_shopify_filters.specs.Ends.{unshift_answer, without_last};
 
 use liquid_core::{Filter, Result, Value};
 use liquid_filter_base::invalid_input;
@@ -99,7 +100,10 @@ impl Filter for Shift {
 }
 
 fn pushed(alloc: Global, items: &[Value], item: &Value) -> Result<Vec<Value>>
-    ensures { IsValueOrMemory (λ v. map view v.items) result (list_of (items_view items.now) ++ view item.now ∷ []) }
+    ensures {
+        IsValueOrMemory (λ v. map view v.items) result (list_of (items_view items.now) ++
+            view item.now ∷ [])
+    }
 {
     let mut more = Vec::with_capacity(alloc, items.len().saturating_add(1))?;
     push_copies(&mut more, items, alloc)?;
@@ -108,7 +112,10 @@ fn pushed(alloc: Global, items: &[Value], item: &Value) -> Result<Vec<Value>>
 }
 
 fn unshifted(alloc: Global, items: &[Value], item: &Value) -> Result<Vec<Value>>
-    ensures { IsValueOrMemory (λ v. map view v.items) result (view item.now ∷ list_of (items_view items.now)) }
+    ensures {
+        IsValueOrMemory (λ v. map view v.items) result
+            (view item.now ∷ list_of (items_view items.now))
+    }
 {
     let mut more = Vec::with_capacity(alloc, items.len().saturating_add(1))?;
     more.push(item.copy(alloc)?)?;
@@ -117,7 +124,10 @@ fn unshifted(alloc: Global, items: &[Value], item: &Value) -> Result<Vec<Value>>
 }
 
 fn popped(alloc: Global, items: &[Value]) -> Result<Vec<Value>>
-    ensures { IsValueOrMemory (λ v. map view v.items) result (without_last (list_of (items_view items.now))) }
+    ensures {
+        IsValueOrMemory (λ v. map view v.items) result
+            (without_last (list_of (items_view items.now)))
+    }
 {
     match items.split_last() {
         Some((_last, rest)) => copied(alloc, rest),
@@ -126,7 +136,8 @@ fn popped(alloc: Global, items: &[Value]) -> Result<Vec<Value>>
 }
 
 fn shifted(alloc: Global, items: &[Value]) -> Result<Vec<Value>>
-    ensures { IsValueOrMemory (λ v. map view v.items) result (drop 1 (list_of (items_view items.now))) }
+    ensures { IsValueOrMemory (λ v. map view v.items) result
+                (drop 1 (list_of (items_view items.now))) }
 {
     match items.split_first() {
         Some((_first, rest)) => copied(alloc, rest),

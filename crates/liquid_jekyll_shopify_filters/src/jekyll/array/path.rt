@@ -2,7 +2,8 @@
 ghost use Rattle.std.specs.Prelude.{map};
 ghost use Rattle.liquid_model.specs.Answer.{IsValueOrMemory};
 ghost use Rattle.liquid_model.specs.View.{view};
-ghost use Rattle.liquid_jekyll_shopify_filters.specs.Path.{bracketed_at, member_at, path, step_at, with_steps};
+ghost use Rattle.liquid_jekyll_shopify_filters.specs.Path.{bracketed_at, member_at, path, step_at};
+ghost use Rattle.liquid_jekyll_shopify_filters.specs.Path.{with_steps};
 ghost use Rattle.liquid_lexer.specs.ValueReading.{literal_at};
 ghost use Rattle.liquid_jekyll_shopify_filters.specs.inside.PathView.{path_view, step_view};
 
@@ -52,7 +53,7 @@ fn read_step(alloc: Global, text: &str) -> Result<Option<(Value, &str)>>
     }
 }
 
-/// The word behind a `.`.
+/// The word after a `.`.
 #[tactic(auto, unfolding(crate::specs::Path::member_at))]
 fn read_member(alloc: Global, text: &str) -> Result<Option<(Value, &str)>>
     ensures { IsValueOrMemory step_view result (member_at text.now) }
@@ -63,7 +64,7 @@ fn read_member(alloc: Global, text: &str) -> Result<Option<(Value, &str)>>
     }
 }
 
-/// The literal behind a `[`, up to its `]`.
+/// The literal after a `[`, up to its `]`.
 #[tactic(auto, unfolding(crate::specs::Path::bracketed_at))]
 fn read_bracketed(alloc: Global, text: &str) -> Result<Option<(Value, &str)>>
     ensures { IsValueOrMemory step_view result (bracketed_at text.now) }

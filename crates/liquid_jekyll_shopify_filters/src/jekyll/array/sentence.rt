@@ -4,14 +4,15 @@ ghost use Rattle.liquid_model.specs.Answer.{Answers, IsValueOrMemory};
 ghost use Rattle.liquid_model.specs.Data.{text_of};
 ghost use Rattle.liquid_model.specs.Lists.{list_of};
 ghost use Rattle.liquid_model.specs.View.{view, items_view};
-ghost use Rattle.liquid_jekyll_shopify_filters.specs.Sentence.{array_to_sentence_string_answer, next_text, sentence, sentence_by};
+ghost use Rattle.liquid_jekyll_shopify_filters.specs.Sentence.{array_to_sentence_string_answer};
+ghost use Rattle.liquid_jekyll_shopify_filters.specs.Sentence.{next_text, sentence, sentence_by};
 
 use liquid_core::{Filter, Result, Value};
 use liquid_filter_base::{invalid_input, text_of};
 use std::alloc::Global;
 
-/// `array_to_sentence_string`: the texts of a list's items with `, ` between them, and the argument's text, or `and`,
-/// and a space before the last of several.
+/// `array_to_sentence_string`: the texts of a list's items with `, ` between them, and the
+/// argument's text, or `and`, and a space before the last of several.
 #[derive(Clone, Copy, Drop)]
 pub struct ArrayToSentenceString;
 
@@ -43,7 +44,10 @@ fn sentence_of(alloc: Global, input: &Value, connector: &str) -> Result<Value>
 }
 
 fn sentence(alloc: Global, items: &[Value], connector: &str) -> Result<String>
-    ensures { IsValueOrMemory (λ s. string_bytes s) result (sentence connector.now (map text_of (list_of (items_view items.now)))) }
+    ensures {
+        IsValueOrMemory (λ s. string_bytes s) result
+            (sentence connector.now (map text_of (list_of (items_view items.now))))
+    }
 {
     let mut out = String::new(alloc);
     let Some((first, rest)) = items.split_first() else {
@@ -60,7 +64,10 @@ fn sentence(alloc: Global, items: &[Value], connector: &str) -> Result<String>
 
 /// Appends an item that isn't the first.
 fn push_next(out: &mut String, item: &Value, connector: &str, is_last: bool) -> Result<()>
-    ensures { IsValueOrMemory (λ _. string_bytes out.new) result (string_bytes out.old ++ next_text connector.now is_last (text_of (view item.now))) }
+    ensures {
+        IsValueOrMemory (λ _. string_bytes out.new) result (string_bytes out.old ++
+            next_text connector.now is_last (text_of (view item.now)))
+    }
 {
     out.push_str(", ")?;
     if is_last {

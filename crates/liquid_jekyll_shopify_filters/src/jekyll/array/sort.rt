@@ -8,7 +8,9 @@ ghost use Rattle.liquid_model.specs.View.{view, items_view};
 ghost use Rattle.liquid_list_filters.specs.Keyed.{keyed_view};
 ghost use Rattle.liquid_list_filters.specs.Sequences.{list, sequence};
 ghost use Rattle.liquid_list_filters.specs.Sorting.{sort_by};
-ghost use Rattle.liquid_jekyll_shopify_filters.specs.Sorting.{found, found_key, nils_given, nils_key, nils_named, path_given, sort_answer, sort_items, sort_maps};
+ghost use Rattle.liquid_jekyll_shopify_filters.specs.Sorting.{found, found_key, nils_given};
+ghost use Rattle.liquid_jekyll_shopify_filters.specs.Sorting.{nils_key, nils_named, path_given};
+ghost use Rattle.liquid_jekyll_shopify_filters.specs.Sorting.{sort_answer, sort_items, sort_maps};
 
 use super::path::read_path;
 use liquid_core::{Error, ErrorKind, Filter, Result, Value, ValueCow};
@@ -18,8 +20,8 @@ use std::alloc::Global;
 
 /// `sort`: the input's sequence in the total order of values; items alike keep their order.
 ///
-/// With a property, a path as `a.b[0]`, the items are sorted by what they have along it, and nil where they have
-/// nothing there. Nils come first, or where the second argument says.
+/// With a property, a path as `a.b[0]`, the items are sorted by what they have along it, and nil
+/// where they have nothing there. Nils come first, or where the second argument says.
 #[derive(Clone, Copy, Drop)]
 pub struct Sort;
 
@@ -32,8 +34,9 @@ impl Filter for Sort {
         count <= 2
     }
 
-    /// `InvalidInput` where the sequence is empty, then where with a property an item is no map, then where the second
-    /// argument is neither `first` nor `last`; then `InvalidArgument` where the property is no path.
+    /// `InvalidInput` where the sequence is empty, then where with a property an item is no map,
+    /// then where the second argument is neither `first` nor `last`; then `InvalidArgument` where
+    /// the property is no path.
     fn evaluate(&self, alloc: Global, input: &Value, args: &[Value]) -> Result<Value> {
         if is_nothing(input) {
             return Err(invalid_input(alloc, "a list with an item", input));
@@ -67,7 +70,10 @@ fn sort_items(alloc: Global, input: &Value, args: &[Value]) -> Result<Value>
 }
 
 fn sorted_maps(alloc: Global, input: &Value, name: &Value, nils: Option<&Value>) -> Result<Value>
-    ensures { Answers view result (sort_maps (sequence (view input.now)) (text_of (view name.now)) (option_map (λ d. view d.now) nils.entry)) }
+    ensures {
+        Answers view result (sort_maps (sequence (view input.now)) (text_of (view name.now))
+            (option_map (λ d. view d.now) nils.entry))
+    }
 {
     let items = sequence(input);
     if !all_maps(items) {
@@ -117,13 +123,20 @@ fn path_given(alloc: Global, name: &str) -> Result<Vec<Value>>
 }
 
 fn sorted(alloc: Global, items: &[Value], path: &[Value], nils: Nils) -> Result<Value>
-    ensures { Answers view result (Ok (list (sort_by (found_key nils (map view path.now)) (list_of (items_view items.now))))) }
+    ensures {
+        Answers view result
+            (Ok (list (sort_by (found_key nils (map view path.now))
+            (list_of (items_view items.now)))))
+    }
 {
     Ok(Value::Array(items_sorted(alloc, items, path, nils)?))
 }
 
 fn items_sorted(alloc: Global, items: &[Value], path: &[Value], nils: Nils) -> Result<Vec<Value>>
-    ensures { IsValueOrMemory (λ v. map view v.items) result (sort_by (found_key nils (map view path.now)) (list_of (items_view items.now))) }
+    ensures {
+        IsValueOrMemory (λ v. map view v.items) result (sort_by (found_key nils (map view path.now))
+            (list_of (items_view items.now)))
+    }
 {
     let keyed = with_keys(alloc, items, path, nils)?;
     items_by_key(alloc, keyed)
@@ -135,7 +148,10 @@ fn with_keys<'a>(
     path: &[Value],
     nils: Nils,
 ) -> Result<Vec<Keyed<'a>>>
-    ensures { IsValueOrMemory (λ v. map keyed_view v.items) result (map (λ d. (found_key nils (map view path.now) d, d)) (list_of (items_view items.now))) }
+    ensures {
+        IsValueOrMemory (λ v. map keyed_view v.items) result
+            (map (λ d. (found_key nils (map view path.now) d, d)) (list_of (items_view items.now)))
+    }
 {
     let mut keyed = Vec::with_capacity(alloc, items.len())?;
     for item in items {

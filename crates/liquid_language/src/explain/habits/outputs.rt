@@ -38,7 +38,7 @@ with¦.¦`{{ with .a }}` isn't known; write `a.b` for a part of `a`
 ¦,¦an output shows one value; write `{{ a }}{{ b }}`
 ";
 
-/// In an output or behind the `=` of an `assign`.
+/// In an output or after the `=` of an `assign`.
 pub static VALUE: &str = "\
 |¦>¦`|>` is written `|`
 not¦¦`not` isn't known; `{% unless a %}` asks for the opposite

@@ -8,7 +8,7 @@ pub static NAME: &str = "\
 ¦=¦`{%= a %}` is written `{{ a }}`
 ";
 
-/// In any tag, behind its name.
+/// In any tag, after its name.
 pub static TAG: &str = "\
 ¦{{¦inside a tag a name stands without `{{` and `}}`
 ¦{%¦the tag before this `{%` has no `%}`

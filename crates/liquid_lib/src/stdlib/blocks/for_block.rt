@@ -34,7 +34,8 @@ impl<'p> ForloopObject<'p> {
         }
     }
 
-    /// The same with this as its `parentloop`: what `forloop` was before the loop, where it was anything.
+    /// The same with this as its `parentloop`: what `forloop` was before the loop, where it was
+    /// anything.
     pub fn parentloop(self, parentloop: Option<&'p Value>) -> ForloopObject<'p>
         ensures place { (result.index0 ≡ self.entry.index0) × (result.length ≡ self.entry.length) }
         ensures parent { parent_seen result.parentloop ≡ parent_seen parentloop.entry }
@@ -50,7 +51,10 @@ impl<'p> ForloopObject<'p> {
 
     /// The map that a template sees. It takes memory, and nothing else can be refused.
     pub fn to_object(&self, alloc: Global) -> Result<Object>
-        ensures { IsValueOrMemory (λ o. object (pairs_view o.entries)) result (forloop_object self.now.index0 self.now.length (parent_seen self.now.parentloop)) }
+        ensures {
+            IsValueOrMemory (λ o. object (pairs_view o.entries)) result
+                (forloop_object self.now.index0 self.now.length (parent_seen self.now.parentloop))
+        }
     {
         let mut object: Object = BTreeMap::new(alloc);
         put_number(alloc, &mut object, "length", self.length)?;
@@ -64,8 +68,11 @@ impl<'p> ForloopObject<'p> {
     /// The place of the item, counted from both ends, from 0 and from 1.
     fn put_places(&self, alloc: Global, object: &mut Object) -> Result<()>
         ensures { IsValueOrMemory (λ _. pairs_view object.new.entries) result
-            (put (codes "rindex") (count (self.now.length - self.now.index0)) (put (codes "rindex0") (count (self.now.length - self.now.index0 - 1))
-            (put (codes "index") (count (self.now.index0 + 1)) (put (codes "index0") (count self.now.index0) (pairs_view object.old.entries))))) }
+            (put (codes "rindex") (count (self.now.length - self.now.index0))
+                    (put (codes "rindex0") (count (self.now.length - self.now.index0 - 1))
+            (put (codes "index") (count (self.now.index0 + 1))
+                    (put (codes "index0") (count self.now.index0)
+                    (pairs_view object.old.entries))))) }
     {
         let behind = self.length - self.index0;
         put_number(alloc, object, "index0", self.index0)?;
@@ -77,7 +84,9 @@ impl<'p> ForloopObject<'p> {
     /// Whether the item is the first, and the last.
     fn put_ends(&self, alloc: Global, object: &mut Object) -> Result<()>
         ensures { IsValueOrMemory (λ _. pairs_view object.new.entries) result
-            (put (codes "last") (truth (self.now.index0 + 1 == self.now.length)) (put (codes "first") (truth (self.now.index0 == 0)) (pairs_view object.old.entries))) }
+            (put (codes "last") (truth (self.now.index0 + 1 == self.now.length))
+                    (put (codes "first") (truth (self.now.index0 == 0))
+                    (pairs_view object.old.entries))) }
     {
         let first = Value::Bool(self.index0 == 0);
         put(alloc, object, "first", first)?;
@@ -98,13 +107,19 @@ impl<'p> ForloopObject<'p> {
 
 fn put_number(alloc: Global, object: &mut Object, name: &str, number: usize) -> Result<()>
     requires { number ≤ 9223372036854775807 }
-    ensures { IsValueOrMemory (λ _. pairs_view object.new.entries) result (put name.now (count number) (pairs_view object.old.entries)) }
+    ensures {
+        IsValueOrMemory (λ _. pairs_view object.new.entries) result
+            (put name.now (count number) (pairs_view object.old.entries))
+    }
 {
     put(alloc, object, name, Value::Integer(number as i64))
 }
 
 fn put(alloc: Global, object: &mut Object, name: &str, value: Value) -> Result<()>
-    ensures { IsValueOrMemory (λ _. pairs_view object.new.entries) result (put name.now (view value) (pairs_view object.old.entries)) }
+    ensures {
+        IsValueOrMemory (λ _. pairs_view object.new.entries) result
+            (put name.now (view value) (pairs_view object.old.entries))
+    }
 {
     store(object, String::from_str(alloc, name)?, value)
 }

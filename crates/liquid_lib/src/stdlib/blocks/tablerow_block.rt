@@ -1,5 +1,6 @@
 //! What a `tablerow` writes around its cells.
-ghost use Rattle.std.specs.Prelude.{◌≡◌, ◌≤◌, ◌+◌, ◌/◌, ◌%◌, ◌==◌, ◌++◌, [], codes, decimal, if◌then◌else◌};
+ghost use Rattle.std.specs.Prelude.{◌≡◌, ◌≤◌, ◌+◌, ◌/◌, ◌%◌, ◌==◌, ◌++◌, [], codes, decimal};
+ghost use Rattle.std.specs.Prelude.{if◌then◌else◌};
 ghost use Rattle.liquid_core.specs.Loops.{is_last_column};
 ghost use Rattle.liquid_lib.specs.Performs.{Writes};
 ghost use Rattle.liquid_lib.specs.Sinks.{sink_of};
@@ -45,7 +46,9 @@ impl Row {
         out: &mut Output<'_, W>,
     ) -> Result<()>
         requires { place ≤ 9223372036854775807 }
-        ensures writes { Writes result (if place % self.columns.count == 0 then codes "<tr class=\"row" ++ (decimal (place / self.columns.count + 1) ++ codes "\">") else [])
+        ensures writes { Writes result
+                    (if place % self.columns.count == 0 then codes "<tr class=\"row" ++
+                    (decimal (place / self.columns.count + 1) ++ codes "\">") else [])
             (sink_of W.contents W.failure_count out.old)
             (sink_of W.contents W.failure_count out.new) }
         ensures same_writer { out.new.writer.ghost_name ≡ out.old.writer.ghost_name }

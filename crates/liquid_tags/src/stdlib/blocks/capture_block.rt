@@ -4,7 +4,8 @@ ghost use Rattle.std.specs.Prelude.{◌≡◌, codes};
 use crate::reflection::BlockReflection;
 use liquid_language::BlockKind;
 
-/// `{% capture name %}`: runs its body into a buffer, and stores the text under the name, among the assigned variables.
+/// `{% capture name %}`: runs its body into a buffer, and stores the text under the name, among the
+/// assigned variables.
 /// After a fault in the body nothing is stored.
 #[derive(Clone, Copy, Debug, Default)]
 pub struct CaptureBlock;

@@ -4,8 +4,9 @@ ghost use Rattle.std.specs.Prelude.{◌≡◌, codes};
 use crate::reflection::BlockReflection;
 use liquid_language::BlockKind;
 
-/// `{% case target %}`, with any number of `when` and one `else`: runs the body of the first `when` with a value that equals
-/// the target, or else that of `else`. What stands before the first of them is parsed and not kept.
+/// `{% case target %}`, with any number of `when` and one `else`: runs the body of the first `when`
+/// with a value that equals the target, or else that of `else`. What stands before the first of
+/// them is parsed and not kept.
 #[derive(Clone, Copy, Debug, Default)]
 pub struct CaseBlock;
 

@@ -4,7 +4,8 @@ ghost use Rattle.std.specs.Prelude.{◌≡◌, codes};
 use crate::reflection::BlockReflection;
 use liquid_language::BlockKind;
 
-/// `{% for variable in source %}`, with one `else`: runs its body for each item, and that of `else` where there is none.
+/// `{% for variable in source %}`, with one `else`: runs its body for each item, and that of `else`
+/// where there is none.
 #[derive(Clone, Copy, Debug, Default)]
 pub struct ForBlock;
 

@@ -4,8 +4,8 @@ ghost use Rattle.std.specs.Prelude.{◌≡◌, codes};
 use crate::reflection::BlockReflection;
 use liquid_language::BlockKind;
 
-/// `{% if condition %}`, with any number of `elsif` and one `else`: runs the first body whose condition holds, or else that
-/// of `else`.
+/// `{% if condition %}`, with any number of `elsif` and one `else`: runs the first body whose
+/// condition holds, or else that of `else`.
 #[derive(Clone, Copy, Debug, Default)]
 pub struct IfBlock;
 

@@ -4,7 +4,8 @@ ghost use Rattle.std.specs.Prelude.{◌≡◌, codes};
 use crate::reflection::BlockReflection;
 use liquid_language::BlockKind;
 
-/// `{% ifchanged %}`: runs its body into a buffer, and writes the text where it differs from that of the last `ifchanged`.
+/// `{% ifchanged %}`: runs its body into a buffer, and writes the text where it differs from that
+/// of the last `ifchanged`.
 #[derive(Clone, Copy, Debug, Default)]
 pub struct IfChangedBlock;
 

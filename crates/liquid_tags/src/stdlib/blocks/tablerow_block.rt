@@ -4,7 +4,8 @@ ghost use Rattle.std.specs.Prelude.{◌≡◌, codes};
 use crate::reflection::BlockReflection;
 use liquid_language::BlockKind;
 
-/// `{% tablerow variable in source %}`: runs its body for each item, each in a cell of a table's rows.
+/// `{% tablerow variable in source %}`: runs its body for each item, each in a cell of a table's
+/// rows.
 #[derive(Clone, Copy, Debug, Default)]
 pub struct TableRowBlock;
 

@@ -4,7 +4,8 @@ ghost use Rattle.std.specs.Prelude.{◌≡◌, codes};
 use crate::reflection::BlockReflection;
 use liquid_language::BlockKind;
 
-/// `{% unless condition %}`, with one `else`: runs its body where the condition doesn't hold, and else that of `else`.
+/// `{% unless condition %}`, with one `else`: runs its body where the condition doesn't hold, and
+/// else that of `else`.
 #[derive(Clone, Copy, Debug, Default)]
 pub struct UnlessBlock;
 

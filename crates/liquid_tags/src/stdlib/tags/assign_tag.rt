@@ -4,7 +4,8 @@ ghost use Rattle.std.specs.Prelude.{◌≡◌, codes};
 use crate::reflection::TagReflection;
 use liquid_language::TagKind;
 
-/// `{% assign name = chain %}`: stores the chain's value under the name, among the assigned variables.
+/// `{% assign name = chain %}`: stores the chain's value under the name, among the assigned
+/// variables.
 #[derive(Clone, Copy, Debug, Default)]
 pub struct AssignTag;
 

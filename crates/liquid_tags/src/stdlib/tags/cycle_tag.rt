@@ -4,8 +4,9 @@ ghost use Rattle.std.specs.Prelude.{◌≡◌, codes};
 use crate::reflection::TagReflection;
 use liquid_language::TagKind;
 
-/// `{% cycle name: value, value %}`, also without a name: writes one of the values, the next one each time that a tag of its
-/// group runs. The group is the name, or without one what the values look like.
+/// `{% cycle name: value, value %}`, also without a name: writes one of the values, the next one
+/// each time that a tag of its group runs. The group is the name, or without one what the values
+/// look like.
 #[derive(Clone, Copy, Debug, Default)]
 pub struct CycleTag;
 

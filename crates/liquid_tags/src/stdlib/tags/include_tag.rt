@@ -4,7 +4,8 @@ ghost use Rattle.std.specs.Prelude.{◌≡◌, codes};
 use crate::reflection::TagReflection;
 use liquid_language::TagKind;
 
-/// `{% include name w: v, w: v %}`: runs a partial over the caller's names, with the pairs as a scope.
+/// `{% include name w: v, w: v %}`: runs a partial over the caller's names, with the pairs as a
+/// scope.
 #[derive(Clone, Copy, Debug, Default)]
 pub struct IncludeTag;
 

@@ -4,7 +4,8 @@ ghost use Rattle.std.specs.Prelude.{◌≡◌, codes};
 use crate::reflection::TagReflection;
 use liquid_language::TagKind;
 
-/// `{% increment name %}`: writes the counter of the name, which is 0 at first, and then counts one up.
+/// `{% increment name %}`: writes the counter of the name, which is 0 at first, and then counts one
+/// up.
 #[derive(Clone, Copy, Debug, Default)]
 pub struct IncrementTag;
 

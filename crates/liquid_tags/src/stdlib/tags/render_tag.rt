@@ -4,8 +4,9 @@ ghost use Rattle.std.specs.Prelude.{◌≡◌, codes};
 use crate::reflection::TagReflection;
 use liquid_language::TagKind;
 
-/// `{% render name with v as w, w: v %}`: runs a partial apart, where it sees the pairs alone. With `for R as w` in the
-/// place of `with v as w` it runs for each item, which the partial sees as w, and `forloop` beside it.
+/// `{% render name with v as w, w: v %}`: runs a partial apart, where it sees the pairs alone. With
+/// `for R as w` in the place of `with v as w` it runs for each item, which the partial sees as w,
+/// and `forloop` beside it.
 #[derive(Clone, Copy, Debug, Default)]
 pub struct RenderTag;
 

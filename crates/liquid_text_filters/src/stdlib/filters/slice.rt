@@ -13,9 +13,10 @@ use liquid_core::{Error, ErrorKind, Filter, Result, Value};
 use liquid_filter_base::text_of;
 use std::alloc::Global;
 
-/// `slice`: the items of a list, or the characters of another value's text, from an offset on, as many as the length
-/// says, or 1. The offset is among as many places as the list has items or the text bytes; one below 0 counts from
-/// the end, and one that stays below 0 gives the empty list or text.
+/// `slice`: the items of a list, or the characters of another value's text, from an offset on, as
+/// many as the length says, or 1. The offset is among as many places as the list has items or the
+/// text bytes; one below 0 counts from the end, and one that stays below 0 gives the empty list or
+/// text.
 #[derive(Clone, Copy, Drop)]
 pub struct Slice;
 
@@ -80,7 +81,10 @@ fn start(places: usize, offset: i64) -> Option<usize>
 }
 
 fn items_part(alloc: Global, items: &[Value], offset: i64, count: usize) -> Result<Vec<Value>>
-    ensures { IsValueOrMemory (λ v. map view v.items) result (items_part offset count (map view items.now)) }
+    ensures {
+        IsValueOrMemory (λ v. map view v.items) result
+            (items_part offset count (map view items.now))
+    }
 {
     match start(items.len(), offset) {
         Some(from) => {

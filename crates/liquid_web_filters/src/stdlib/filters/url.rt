@@ -1,7 +1,9 @@
 //! Filters over URLs.
-ghost use Rattle.std.specs.Prelude.{◌≡◌, ◌==◌, if◌then◌else◌, map, nat_eq, string_bytes, IsTrue, length};
+ghost use Rattle.std.specs.Prelude.{◌≡◌, ◌==◌, if◌then◌else◌, map, nat_eq, string_bytes, IsTrue};
+ghost use Rattle.std.specs.Prelude.{length};
 ghost use Rattle.liquid_model.specs.Answer.{Answers, IsValueOrMemory};
-ghost use Rattle.liquid_web_filters.specs.Urls.{plus_to_space, text_of_bytes, unescaped, url_decode_answer, url_encode_answer, url_escaped};
+ghost use Rattle.liquid_web_filters.specs.Urls.{plus_to_space, text_of_bytes, unescaped};
+ghost use Rattle.liquid_web_filters.specs.Urls.{url_decode_answer, url_encode_answer, url_escaped};
 ghost use Rattle.liquid_model.specs.View.{view};
 ghost use Rattle.liquid_filter_base.specs.Stands.{Stands};
 ghost use Rattle.liquid_web_filters.specs.UrlLaws.{EncodesUrl, UrlDecodes};
@@ -16,7 +18,8 @@ const ESCAPED: AsciiSet = percent_encoding::ascii_set!(
     NON_ALPHANUMERIC.remove(b'-').remove(b'.').remove(b'_')
 );
 
-/// `url_encode`: the input's text, in which each byte but ASCII letters, digits, `-`, `.` and `_` is `%` and two upper-case hexadecimal digits. Nil stays.
+/// `url_encode`: the input's text, in which each byte but ASCII letters, digits, `-`, `.` and `_`
+/// is `%` and two upper-case hexadecimal digits. Nil stays.
 #[derive(Clone, Copy, Drop)]
 pub struct UrlEncode;
 
@@ -31,7 +34,8 @@ impl Filter for UrlEncode {
 
     fn evaluate(&self, alloc: Global, input: &Value, args: &[Value]) -> Result<Value>
         requires { IsTrue (nat_eq (length args.now) 0) }
-        ensures answer { Answers view result (url_encode_answer (view input.now) (map view args.now)) }
+        ensures answer { Answers view result (url_encode_answer (view input.now)
+                    (map view args.now)) }
         ensures relation { Stands (EncodesUrl (view input.now)) result }
     {
         url_encode_answer(alloc, input, args)
@@ -51,7 +55,8 @@ fn url_encode_answer(alloc: Global, input: &Value, _args: &[Value]) -> Result<Va
     }
 }
 
-/// `url_decode`: the input's text, in which `+` is a space and `%` with two hexadecimal digits a byte. Nil stays.
+/// `url_decode`: the input's text, in which `+` is a space and `%` with two hexadecimal digits a
+/// byte. Nil stays.
 #[derive(Clone, Copy, Drop)]
 pub struct UrlDecode;
 
@@ -67,7 +72,8 @@ impl Filter for UrlDecode {
     /// `InvalidInput` where the bytes aren't UTF-8.
     fn evaluate(&self, alloc: Global, input: &Value, args: &[Value]) -> Result<Value>
         requires { IsTrue (nat_eq (length args.now) 0) }
-        ensures answer { Answers view result (url_decode_answer (view input.now) (map view args.now)) }
+        ensures answer { Answers view result (url_decode_answer (view input.now)
+                    (map view args.now)) }
         ensures relation { Stands (UrlDecodes (view input.now)) result }
     {
         url_decode_answer(alloc, input, args)

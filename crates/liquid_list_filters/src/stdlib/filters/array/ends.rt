@@ -1,12 +1,15 @@
 //! The filters that take an end of a list or a text.
-ghost use Rattle.std.specs.Prelude.{◌≡◌, ◌++◌, ◌∷◌, [], MatchOption, map, nat_eq, option_map, string_bytes, IsTrue, length};
+ghost use Rattle.std.specs.Prelude.{◌≡◌, ◌++◌, ◌∷◌, [], MatchOption, map, nat_eq, option_map};
+ghost use Rattle.std.specs.Prelude.{string_bytes, IsTrue, length};
 ghost use Rattle.std.specs.Str.{chars};
 ghost use Rattle.liquid_model.specs.Answer.{Answers, IsValueOrMemory};
 ghost use Rattle.liquid_model.specs.View.{view, items_view};
 ghost use Rattle.liquid_filter_base.specs.Stands.{Stands};
 ghost use Rattle.liquid_list_filters.specs.Laws.{OfEnds};
 ghost use Rattle.liquid_list_filters.specs.Places.{EndsWith, StartsWith};
-ghost use Rattle.liquid_list_filters.specs.Ends.{first_answer, last_answer, first_item, last_item, first_character, last_character, character, or_nil};
+ghost use Rattle.liquid_list_filters.specs.Ends.{first_answer, last_answer, first_item, last_item};
+ghost use Rattle.liquid_list_filters.specs.Ends.{first_character, last_character, character};
+ghost use Rattle.liquid_list_filters.specs.Ends.{or_nil};
 
 use liquid_core::{Filter, Result, Value};
 use liquid_filter_base::{invalid_input, text_of};
@@ -118,7 +121,10 @@ fn last_character(alloc: Global, text: &str) -> Result<String>
 
 /// The last character, and the text before it.
 fn split_last(text: &str) -> Option<(&str, char)>
-    ensures { MatchOption result (chars text.now ≡ []) (λ (before, letter). chars text.now ≡ chars before.now ++ letter ∷ []) }
+    ensures {
+        MatchOption result (chars text.now ≡ []) (λ (before, letter). chars text.now ≡
+            chars before.now ++ letter ∷ [])
+    }
 {
     let mut letters = text.chars();
     match letters.next_back() {

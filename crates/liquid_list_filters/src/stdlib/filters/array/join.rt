@@ -57,7 +57,10 @@ fn joined_list(alloc: Global, input: &Value, separator: &str) -> Result<Value>
 }
 
 fn joined(alloc: Global, items: &[Value], separator: &str) -> Result<String>
-    ensures { IsValueOrMemory (λ s. string_bytes s) result (joined separator.now (map text_of (list_of (items_view items.now)))) }
+    ensures {
+        IsValueOrMemory (λ s. string_bytes s) result
+            (joined separator.now (map text_of (list_of (items_view items.now))))
+    }
 {
     let mut out = String::new(alloc);
     match items.split_first() {

@@ -7,7 +7,10 @@ ghost use Rattle.liquid_model.specs.View.{view, items_view};
 ghost use Rattle.liquid_filter_base.specs.Arguments.{first_of};
 ghost use Rattle.liquid_filter_base.specs.Stands.{Stands, WithFirst};
 ghost use Rattle.liquid_list_filters.specs.Laws.{Compacts, Maps, Uniqs, Wheres};
-ghost use Rattle.liquid_list_filters.specs.Keeping.{compact, compact_of, compact_by, compact_answer, is_given, is_wanted, where_of, where_by, where_answer, map_of, map_answer, uniq, uniq_answer};
+ghost use Rattle.liquid_list_filters.specs.Keeping.{compact, compact_of, compact_by};
+ghost use Rattle.liquid_list_filters.specs.Keeping.{compact_answer, is_given, is_wanted, where_of};
+ghost use Rattle.liquid_list_filters.specs.Keeping.{where_by, where_answer, map_of, map_answer};
+ghost use Rattle.liquid_list_filters.specs.Keeping.{uniq, uniq_answer};
 ghost use Rattle.liquid_list_filters.specs.Sequences.{of_list};
 
 use super::sequence::{all_maps, property};
@@ -17,7 +20,8 @@ use std::alloc::Global;
 use std::collections::BTreeSet;
 use std::slice;
 
-/// `compact`: the items of a list that aren't nil; with a property, the maps that have it and not nil.
+/// `compact`: the items of a list that aren't nil; with a property, the maps that have it and not
+/// nil.
 #[derive(Clone, Copy, Drop)]
 pub struct Compact;
 
@@ -60,7 +64,8 @@ fn compacted(alloc: Global, input: &Value) -> Result<Value>
 }
 
 fn without_nils(alloc: Global, items: &[Value]) -> Result<Vec<Value>>
-    ensures { IsValueOrMemory (λ v. map view v.items) result (compact (list_of (items_view items.now))) }
+    ensures { IsValueOrMemory (λ v. map view v.items) result
+                (compact (list_of (items_view items.now))) }
 {
     let mut kept = Vec::new(alloc);
     for item in items {
@@ -87,7 +92,10 @@ fn compacted_by(alloc: Global, input: &Value, name: &str) -> Result<Value>
 }
 
 fn compact_of(alloc: Global, items: &[Value], name: &str) -> Result<Vec<Value>>
-    ensures { IsValueOrMemory (λ v. map view v.items) result (compact_of name.now (list_of (items_view items.now))) }
+    ensures {
+        IsValueOrMemory (λ v. map view v.items) result
+            (compact_of name.now (list_of (items_view items.now)))
+    }
 {
     let mut kept = Vec::new(alloc);
     for item in items {
@@ -107,7 +115,8 @@ fn is_given(found: Option<&Value>) -> bool
     }
 }
 
-/// `where`: the maps of a list whose property is there and truthy, or equals the target where one is given.
+/// `where`: the maps of a list whose property is there and truthy, or equals the target where one
+/// is given.
 ///
 /// A list with an item that is no map gives nil, and a map counts as a list of itself.
 #[derive(Clone, Copy, Drop)]
@@ -126,7 +135,10 @@ impl Filter for Where {
     fn evaluate(&self, alloc: Global, input: &Value, args: &[Value]) -> Result<Value>
         requires { IsTrue (nat_le 1 (length args.now) && nat_le (length args.now) 2) }
         ensures answer { Answers view result (where_answer (view input.now) (map view args.now)) }
-        ensures relation { Stands (WithFirst (λ name rest. Wheres (text_of name) (first_of rest) (view input.now)) (map view args.now)) result }
+        ensures relation {
+            Stands (WithFirst (λ name rest. Wheres (text_of name) (first_of rest) (view input.now))
+                (map view args.now)) result
+        }
     {
         where_answer(alloc, input, args)
     }
@@ -141,7 +153,10 @@ fn where_answer(alloc: Global, input: &Value, args: &[Value]) -> Result<Value>
 }
 
 fn where_by(alloc: Global, input: &Value, name: &str, target: Option<&Value>) -> Result<Value>
-    ensures { Answers view result (where_by name.now (option_map (λ v. view v.now) target.entry) (view input.now)) }
+    ensures {
+        Answers view result (where_by name.now (option_map (λ v. view v.now) target.entry)
+            (view input.now))
+    }
 {
     match input {
         Value::Array(items) => {
@@ -167,7 +182,11 @@ fn where_of(
     name: &str,
     target: Option<&Value>,
 ) -> Result<Vec<Value>>
-    ensures { IsValueOrMemory (λ v. map view v.items) result (where_of name.now (option_map (λ v. view v.now) target.entry) (list_of (items_view items.now))) }
+    ensures {
+        IsValueOrMemory (λ v. map view v.items) result
+            (where_of name.now (option_map (λ v. view v.now) target.entry)
+            (list_of (items_view items.now)))
+    }
 {
     let mut kept = Vec::new(alloc);
     for item in items {
@@ -179,7 +198,10 @@ fn where_of(
 }
 
 fn is_wanted(found: Option<&Value>, target: Option<&Value>) -> bool
-    ensures { result ≡ is_wanted (option_map (λ v. view v.now) target.entry) (option_map (λ v. view v.now) found.entry) }
+    ensures {
+        result ≡ is_wanted (option_map (λ v. view v.now) target.entry)
+            (option_map (λ v. view v.now) found.entry)
+    }
 {
     match (target, found) {
         (None, Some(value)) => value.is_truthy(),
@@ -205,7 +227,10 @@ impl Filter for Map {
     fn evaluate(&self, alloc: Global, input: &Value, args: &[Value]) -> Result<Value>
         requires { IsTrue (nat_eq (length args.now) 1) }
         ensures answer { Answers view result (map_answer (view input.now) (map view args.now)) }
-        ensures relation { Stands (WithFirst (λ name rest. Maps (text_of name) (view input.now)) (map view args.now)) result }
+        ensures relation {
+            Stands (WithFirst (λ name rest. Maps (text_of name) (view input.now))
+                (map view args.now)) result
+        }
     {
         map_answer(alloc, input, args)
     }
@@ -229,7 +254,10 @@ fn mapped(alloc: Global, input: &Value, name: &str) -> Result<Value>
 }
 
 fn map_of(alloc: Global, items: &[Value], name: &str) -> Result<Vec<Value>>
-    ensures { IsValueOrMemory (λ v. map view v.items) result (map_of name.now (list_of (items_view items.now))) }
+    ensures {
+        IsValueOrMemory (λ v. map view v.items) result
+            (map_of name.now (list_of (items_view items.now)))
+    }
 {
     let mut values = Vec::new(alloc);
     for item in items {
@@ -242,7 +270,8 @@ fn map_of(alloc: Global, items: &[Value], name: &str) -> Result<Vec<Value>>
 
 /// `uniq`: the items of a list that equal no kept one before.
 ///
-/// The kept items are in an ordered set too, so an item is compared with few of them, and the work grows as a sort's.
+/// The kept items are in an ordered set too, so an item is compared with few of them, and the work
+/// grows as a sort's.
 #[derive(Clone, Copy, Drop)]
 pub struct Uniq;
 
@@ -276,7 +305,8 @@ fn uniq_answer(alloc: Global, input: &Value, _args: &[Value]) -> Result<Value>
 }
 
 fn unique(alloc: Global, items: &[Value]) -> Result<Vec<Value>>
-    ensures { IsValueOrMemory (λ v. map view v.items) result (uniq (list_of (items_view items.now))) }
+    ensures { IsValueOrMemory (λ v. map view v.items) result
+                (uniq (list_of (items_view items.now))) }
 {
     let mut seen = BTreeSet::new(alloc);
     let mut kept = Vec::new(alloc);

@@ -45,7 +45,8 @@ fn reverse_answer(alloc: Global, input: &Value, _args: &[Value]) -> Result<Value
 }
 
 fn reversed(alloc: Global, items: &[Value]) -> Result<Vec<Value>>
-    ensures { IsValueOrMemory (λ v. map view v.items) result (reverse (list_of (items_view items.now))) }
+    ensures { IsValueOrMemory (λ v. map view v.items) result
+                (reverse (list_of (items_view items.now))) }
 {
     let mut copies = copied(alloc, items)?;
     copies.reverse();
@@ -73,11 +74,13 @@ impl Filter for Concat {
         count == 1
     }
 
-    /// `InvalidInput` where the input is no list, then `InvalidArgument` where the argument is none.
+    /// `InvalidInput` where the input is no list, then `InvalidArgument` where the argument is
+    /// none.
     fn evaluate(&self, alloc: Global, input: &Value, args: &[Value]) -> Result<Value>
         requires { IsTrue (nat_eq (length args.now) 1) }
         ensures answer { Answers view result (concat_answer (view input.now) (map view args.now)) }
-        ensures relation { Stands (WithFirst (λ e rest. Concats e (view input.now)) (map view args.now)) result }
+        ensures relation { Stands (WithFirst (λ e rest. Concats e (view input.now))
+                    (map view args.now)) result }
     {
         concat_answer(alloc, input, args)
     }
@@ -97,16 +100,23 @@ fn concat_answer(alloc: Global, input: &Value, args: &[Value]) -> Result<Value>
 }
 
 fn concatenated(alloc: Global, items: &[Value], more: &[Value]) -> Result<Vec<Value>>
-    ensures { IsValueOrMemory (λ v. map view v.items) result (list_of (items_view items.now) ++ list_of (items_view more.now)) }
+    ensures {
+        IsValueOrMemory (λ v. map view v.items) result (list_of (items_view items.now) ++
+            list_of (items_view more.now))
+    }
 {
     let mut copies = copied(alloc, items)?;
     push_copies(&mut copies, more, alloc)?;
     Ok(copies)
 }
 
-/// Appends an equal item for each item. `Memory` alone where there is no room, and then some may have been appended.
+/// Appends an equal item for each item. `Memory` alone where there is no room, and then some may
+/// have been appended.
 pub fn push_copies(copies: &mut Vec<Value>, items: &[Value], alloc: Global) -> Result<()>
-    ensures { IsValueOrMemory (λ _. map view copies.new.items) result (map view copies.old.items ++ list_of (items_view items.now)) }
+    ensures {
+        IsValueOrMemory (λ _. map view copies.new.items) result (map view copies.old.items ++
+            list_of (items_view items.now))
+    }
 {
     for item in items {
         copies.push(item.copy(alloc)?)?;

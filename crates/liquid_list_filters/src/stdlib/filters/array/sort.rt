@@ -7,7 +7,9 @@ ghost use Rattle.liquid_model.specs.View.{view, items_view};
 ghost use Rattle.liquid_filter_base.specs.Stands.{Stands};
 ghost use Rattle.liquid_list_filters.specs.Laws.{Sorts};
 ghost use Rattle.liquid_list_filters.specs.Keyed.{key_view, keyed_view, keyed_below};
-ghost use Rattle.liquid_list_filters.specs.Sorting.{given, key_order, key_of, natural_key_of, sort_by, sorted, sort_answer, sort_natural_answer, sort_named};
+ghost use Rattle.liquid_list_filters.specs.Sorting.{given, key_order, key_of, natural_key_of};
+ghost use Rattle.liquid_list_filters.specs.Sorting.{sort_by, sorted, sort_answer};
+ghost use Rattle.liquid_list_filters.specs.Sorting.{sort_natural_answer, sort_named};
 
 use super::sequence::{all_maps, property, sequence};
 use liquid_core::{Filter, Result, Value, ValueCow};
@@ -15,7 +17,8 @@ use liquid_filter_base::{invalid_input, text_of};
 use std::alloc::Global;
 use std::cmp::Ordering;
 
-/// `sort`: the input's sequence in the total order of values, nils last; items alike keep their order.
+/// `sort`: the input's sequence in the total order of values, nils last; items alike keep their
+/// order.
 ///
 /// With a property the items are sorted by the property's values, a missing one being nil.
 #[derive(Clone, Copy, Drop)]
@@ -62,7 +65,11 @@ fn sorted_maps(alloc: Global, input: &Value, name: &str) -> Result<Value>
 }
 
 fn sorted(alloc: Global, items: &[Value], property: Option<&str>) -> Result<Vec<Value>>
-    ensures { IsValueOrMemory (λ v. map view v.items) result (sort_by (key_of (option_map (λ s. s.now) property.entry)) (list_of (items_view items.now))) }
+    ensures {
+        IsValueOrMemory (λ v. map view v.items) result
+            (sort_by (key_of (option_map (λ s. s.now) property.entry))
+            (list_of (items_view items.now)))
+    }
 {
     items_by_key(alloc, with_keys(alloc, items, property)?)
 }
@@ -83,8 +90,10 @@ impl Filter for SortNatural {
     /// `InvalidInput` where with a property an item is no map.
     fn evaluate(&self, alloc: Global, input: &Value, args: &[Value]) -> Result<Value>
         requires { IsTrue (nat_le (length args.now) 1) }
-        ensures answer { Answers view result (sort_natural_answer (view input.now) (map view args.now)) }
-        ensures relation { Stands (Sorts natural_key_of (view input.now) (map view args.now)) result }
+        ensures answer { Answers view result (sort_natural_answer (view input.now)
+                    (map view args.now)) }
+        ensures relation { Stands (Sorts natural_key_of (view input.now) (map view args.now))
+                    result }
     {
         sort_natural_answer(alloc, input, args)
     }
@@ -112,7 +121,11 @@ fn naturally_sorted_maps(alloc: Global, input: &Value, name: &str) -> Result<Val
 }
 
 fn naturally_sorted(alloc: Global, items: &[Value], property: Option<&str>) -> Result<Vec<Value>>
-    ensures { IsValueOrMemory (λ v. map view v.items) result (sort_by (natural_key_of (option_map (λ s. s.now) property.entry)) (list_of (items_view items.now))) }
+    ensures {
+        IsValueOrMemory (λ v. map view v.items) result
+            (sort_by (natural_key_of (option_map (λ s. s.now) property.entry))
+            (list_of (items_view items.now)))
+    }
 {
     items_by_key(alloc, with_natural_keys(alloc, items, property)?)
 }
@@ -129,7 +142,11 @@ fn with_keys<'a>(
     items: &'a [Value],
     property: Option<&str>,
 ) -> Result<Vec<Keyed<'a>>>
-    ensures { IsValueOrMemory (λ v. map keyed_view v.items) result (map (λ d. (key_of (option_map (λ s. s.now) property.entry) d, d)) (list_of (items_view items.now))) }
+    ensures {
+        IsValueOrMemory (λ v. map keyed_view v.items) result
+            (map (λ d. (key_of (option_map (λ s. s.now) property.entry) d, d))
+            (list_of (items_view items.now)))
+    }
 {
     let mut keyed = Vec::with_capacity(alloc, items.len())?;
     for item in items {
@@ -147,7 +164,11 @@ fn with_natural_keys<'a>(
     items: &'a [Value],
     property: Option<&str>,
 ) -> Result<Vec<Keyed<'a>>>
-    ensures { IsValueOrMemory (λ v. map keyed_view v.items) result (map (λ d. (natural_key_of (option_map (λ s. s.now) property.entry) d, d)) (list_of (items_view items.now))) }
+    ensures {
+        IsValueOrMemory (λ v. map keyed_view v.items) result
+            (map (λ d. (natural_key_of (option_map (λ s. s.now) property.entry) d, d))
+            (list_of (items_view items.now)))
+    }
 {
     let mut keyed = Vec::with_capacity(alloc, items.len())?;
     for item in items {
@@ -162,7 +183,10 @@ fn natural_key_of<'a>(
     item: &Value,
     property: Option<&str>,
 ) -> Result<Option<ValueCow<'a>>>
-    ensures { IsValueOrMemory (λ k. option_map cow_view k) result (natural_key_of (option_map (λ s. s.now) property.entry) (view item.now)) }
+    ensures {
+        IsValueOrMemory (λ k. option_map cow_view k) result
+            (natural_key_of (option_map (λ s. s.now) property.entry) (view item.now))
+    }
 {
     match key_of(item, property) {
         Some(value) => {
@@ -175,7 +199,10 @@ fn natural_key_of<'a>(
 }
 
 fn key_of<'a>(item: &'a Value, name: Option<&str>) -> Option<&'a Value>
-    ensures { option_map (λ v. view v.now) result ≡ key_of (option_map (λ s. s.now) name.entry) (view item.now) }
+    ensures {
+        option_map (λ v. view v.now) result ≡ key_of (option_map (λ s. s.now) name.entry)
+            (view item.now)
+    }
 {
     match name {
         None => given(item),
@@ -195,10 +222,13 @@ fn given(value: &Value) -> Option<&Value>
     }
 }
 
-/// The items, sorted by their keys in the total order of values, those without a key last; items alike keep their
-/// order. `Memory` alone where they can't be made.
+/// The items, sorted by their keys in the total order of values, those without a key last; items
+/// alike keep their order. `Memory` alone where they can't be made.
 pub fn items_by_key(alloc: Global, mut keyed: Vec<Keyed<'_>>) -> Result<Vec<Value>>
-    ensures { IsValueOrMemory (λ v. map view v.items) result (map (λ k. view k.item.now) (sorted keyed_below keyed.entry.items)) }
+    ensures {
+        IsValueOrMemory (λ v. map view v.items) result
+            (map (λ k. view k.item.now) (sorted keyed_below keyed.entry.items))
+    }
 {
     sort_keyed(&mut keyed)?;
     items_of(alloc, &keyed)
@@ -223,7 +253,8 @@ fn ordered(a: &Keyed<'_>, b: &Keyed<'_>) -> Ordering
 }
 
 fn items_of(alloc: Global, keyed: &[Keyed<'_>]) -> Result<Vec<Value>>
-    ensures { IsValueOrMemory (λ v. map view v.items) result (map (λ k. view k.item.now) keyed.now) }
+    ensures { IsValueOrMemory (λ v. map view v.items) result
+                (map (λ k. view k.item.now) keyed.now) }
 {
     let mut items = Vec::with_capacity(alloc, keyed.len())?;
     for entry in keyed {

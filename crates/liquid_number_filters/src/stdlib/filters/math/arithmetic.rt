@@ -1,11 +1,14 @@
 //! Sums, differences, products, quotients and remainders.
-ghost use Rattle.std.specs.Prelude.{◌≡◌, ◌≢◌, IsTrue, false, length, map, nat_eq, pos, int_div, true};
+ghost use Rattle.std.specs.Prelude.{◌≡◌, ◌≢◌, IsTrue, false, length, map, nat_eq, pos, int_div};
+ghost use Rattle.std.specs.Prelude.{true};
 ghost use Rattle.liquid_model.specs.Answer.{Answers, TakesNoMemory};
 ghost use Rattle.liquid_model.specs.View.{view};
 ghost use Rattle.liquid_filter_base.specs.Stands.{Stands};
 ghost use Rattle.liquid_number_filters.specs.Decimals.{if_fits};
-ghost use Rattle.liquid_number_filters.specs.NumberLaws.{IsDifference, IsProduct, IsQuotient, IsRemainder, IsSum, StepsWith};
-ghost use Rattle.liquid_number_filters.specs.Numbers.{of_one, plus, minus, times, divided_by, modulo};
+ghost use Rattle.liquid_number_filters.specs.NumberLaws.{IsDifference, IsProduct, IsQuotient};
+ghost use Rattle.liquid_number_filters.specs.NumberLaws.{IsRemainder, IsSum, StepsWith};
+ghost use Rattle.liquid_number_filters.specs.Numbers.{of_one, plus, minus, times, divided_by};
+ghost use Rattle.liquid_number_filters.specs.Numbers.{modulo};
 
 use super::operands::{operands, within_range};
 use liquid_core::{Filter, Result, Value};
@@ -28,8 +31,10 @@ impl Filter for Plus {
     fn evaluate(&self, alloc: Global, input: &Value, args: &[Value]) -> Result<Value>
         requires { IsTrue (nat_eq (length args.now) 1) }
         ensures answer { Answers view result (of_one plus (view input.now) (map view args.now)) }
-        ensures relation { Stands (StepsWith IsSum false (view input.now) (map view args.now)) result }
-        ensures no_memory { TakesNoMemory result (of_one plus (view input.now) (map view args.now)) }
+        ensures relation { Stands (StepsWith IsSum false (view input.now) (map view args.now))
+                    result }
+        ensures no_memory { TakesNoMemory result
+                    (of_one plus (view input.now) (map view args.now)) }
     {
         plus_answer(alloc, input, args)
     }
@@ -68,8 +73,10 @@ impl Filter for Minus {
     fn evaluate(&self, alloc: Global, input: &Value, args: &[Value]) -> Result<Value>
         requires { IsTrue (nat_eq (length args.now) 1) }
         ensures answer { Answers view result (of_one minus (view input.now) (map view args.now)) }
-        ensures relation { Stands (StepsWith IsDifference false (view input.now) (map view args.now)) result }
-        ensures no_memory { TakesNoMemory result (of_one minus (view input.now) (map view args.now)) }
+        ensures relation { Stands (StepsWith IsDifference false (view input.now)
+                    (map view args.now)) result }
+        ensures no_memory { TakesNoMemory result
+                    (of_one minus (view input.now) (map view args.now)) }
     {
         minus_answer(alloc, input, args)
     }
@@ -108,8 +115,10 @@ impl Filter for Times {
     fn evaluate(&self, alloc: Global, input: &Value, args: &[Value]) -> Result<Value>
         requires { IsTrue (nat_eq (length args.now) 1) }
         ensures answer { Answers view result (of_one times (view input.now) (map view args.now)) }
-        ensures relation { Stands (StepsWith IsProduct false (view input.now) (map view args.now)) result }
-        ensures no_memory { TakesNoMemory result (of_one times (view input.now) (map view args.now)) }
+        ensures relation { Stands (StepsWith IsProduct false (view input.now) (map view args.now))
+                    result }
+        ensures no_memory { TakesNoMemory result
+                    (of_one times (view input.now) (map view args.now)) }
     {
         times_answer(alloc, input, args)
     }
@@ -144,13 +153,16 @@ impl Filter for DividedBy {
         count == 1
     }
 
-    /// Faults: those of two operands, `DivideByZero` where the divisor is the whole number 0, and `NumberRange` where
-    /// the least number is divided by -1.
+    /// Faults: those of two operands, `DivideByZero` where the divisor is the whole number 0, and
+    /// `NumberRange` where the least number is divided by -1.
     fn evaluate(&self, alloc: Global, input: &Value, args: &[Value]) -> Result<Value>
         requires { IsTrue (nat_eq (length args.now) 1) }
-        ensures answer { Answers view result (of_one divided_by (view input.now) (map view args.now)) }
-        ensures relation { Stands (StepsWith IsQuotient true (view input.now) (map view args.now)) result }
-        ensures no_memory { TakesNoMemory result (of_one divided_by (view input.now) (map view args.now)) }
+        ensures answer { Answers view result (of_one divided_by (view input.now)
+                    (map view args.now)) }
+        ensures relation { Stands (StepsWith IsQuotient true (view input.now) (map view args.now))
+                    result }
+        ensures no_memory { TakesNoMemory result (of_one divided_by (view input.now)
+                    (map view args.now)) }
     {
         divided_by_answer(alloc, input, args)
     }
@@ -159,7 +171,8 @@ impl Filter for DividedBy {
 fn divided_by_answer(alloc: Global, input: &Value, args: &[Value]) -> Result<Value>
     requires { IsTrue (nat_eq (length args.now) 1) }
     ensures answer { Answers view result (of_one divided_by (view input.now) (map view args.now)) }
-    ensures no_memory { TakesNoMemory result (of_one divided_by (view input.now) (map view args.now)) }
+    ensures no_memory { TakesNoMemory result (of_one divided_by (view input.now)
+                (map view args.now)) }
 {
     division(alloc, input, &args[0])
 }
@@ -189,8 +202,10 @@ impl Filter for Modulo {
     fn evaluate(&self, alloc: Global, input: &Value, args: &[Value]) -> Result<Value>
         requires { IsTrue (nat_eq (length args.now) 1) }
         ensures answer { Answers view result (of_one modulo (view input.now) (map view args.now)) }
-        ensures relation { Stands (StepsWith IsRemainder true (view input.now) (map view args.now)) result }
-        ensures no_memory { TakesNoMemory result (of_one modulo (view input.now) (map view args.now)) }
+        ensures relation { Stands (StepsWith IsRemainder true (view input.now) (map view args.now))
+                    result }
+        ensures no_memory { TakesNoMemory result
+                    (of_one modulo (view input.now) (map view args.now)) }
     {
         modulo_answer(alloc, input, args)
     }

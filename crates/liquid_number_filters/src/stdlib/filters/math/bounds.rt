@@ -6,7 +6,8 @@ ghost use Rattle.liquid_model.specs.View.{view};
 ghost use Rattle.liquid_model.specs.Whole.{whole};
 ghost use Rattle.liquid_filter_base.specs.Stands.{Stands};
 ghost use Rattle.liquid_number_filters.specs.Decimals.{is_decimal_text};
-ghost use Rattle.liquid_number_filters.specs.NumberLaws.{AbsoluteOf, IsGreater, IsLesser, StepsWith};
+ghost use Rattle.liquid_number_filters.specs.NumberLaws.{AbsoluteOf, IsGreater, IsLesser};
+ghost use Rattle.liquid_number_filters.specs.NumberLaws.{StepsWith};
 ghost use Rattle.liquid_number_filters.specs.Numbers.{of_none, of_one, at_least, at_most, abs};
 
 use super::operands::{decimal_refused, is_decimal_text, operands, within_range};
@@ -30,9 +31,12 @@ impl Filter for AtLeast {
     /// Faults: those of two operands.
     fn evaluate(&self, alloc: Global, input: &Value, args: &[Value]) -> Result<Value>
         requires { IsTrue (nat_eq (length args.now) 1) }
-        ensures answer { Answers view result (of_one at_least (view input.now) (map view args.now)) }
-        ensures relation { Stands (StepsWith IsGreater false (view input.now) (map view args.now)) result }
-        ensures no_memory { TakesNoMemory result (of_one at_least (view input.now) (map view args.now)) }
+        ensures answer { Answers view result
+                    (of_one at_least (view input.now) (map view args.now)) }
+        ensures relation { Stands (StepsWith IsGreater false (view input.now) (map view args.now))
+                    result }
+        ensures no_memory { TakesNoMemory result
+                    (of_one at_least (view input.now) (map view args.now)) }
     {
         at_least_answer(alloc, input, args)
     }
@@ -41,7 +45,8 @@ impl Filter for AtLeast {
 fn at_least_answer(alloc: Global, input: &Value, args: &[Value]) -> Result<Value>
     requires { IsTrue (nat_eq (length args.now) 1) }
     ensures answer { Answers view result (of_one at_least (view input.now) (map view args.now)) }
-    ensures no_memory { TakesNoMemory result (of_one at_least (view input.now) (map view args.now)) }
+    ensures no_memory { TakesNoMemory result
+                (of_one at_least (view input.now) (map view args.now)) }
 {
     greater(alloc, input, &args[0])
 }
@@ -71,8 +76,10 @@ impl Filter for AtMost {
     fn evaluate(&self, alloc: Global, input: &Value, args: &[Value]) -> Result<Value>
         requires { IsTrue (nat_eq (length args.now) 1) }
         ensures answer { Answers view result (of_one at_most (view input.now) (map view args.now)) }
-        ensures relation { Stands (StepsWith IsLesser false (view input.now) (map view args.now)) result }
-        ensures no_memory { TakesNoMemory result (of_one at_most (view input.now) (map view args.now)) }
+        ensures relation { Stands (StepsWith IsLesser false (view input.now) (map view args.now))
+                    result }
+        ensures no_memory { TakesNoMemory result
+                    (of_one at_most (view input.now) (map view args.now)) }
     {
         at_most_answer(alloc, input, args)
     }
@@ -107,13 +114,17 @@ impl Filter for Abs {
         count == 0
     }
 
-    /// Faults: `InvalidInput` where the input is no scalar, `NumberRange` at the least number, `Float` where the input is
-    /// a decimal text, and else `InvalidInput`.
+    /// Faults: `InvalidInput` where the input is no scalar, `NumberRange` at the least number,
+    /// `Float` where the input is a decimal text, and else `InvalidInput`.
     fn evaluate(&self, alloc: Global, input: &Value, args: &[Value]) -> Result<Value>
         requires { IsTrue (nat_eq (length args.now) 0) }
         ensures answer { Answers view result (of_none abs (view input.now) (map view args.now)) }
-        ensures relation { Stands (AbsoluteOf (scalar (view input.now)) (whole (view input.now)) (is_decimal_text (view input.now))) result }
-        ensures no_memory { TakesNoMemory result (of_none abs (view input.now) (map view args.now)) }
+        ensures relation {
+            Stands (AbsoluteOf (scalar (view input.now)) (whole (view input.now))
+                (is_decimal_text (view input.now))) result
+        }
+        ensures no_memory { TakesNoMemory result
+                    (of_none abs (view input.now) (map view args.now)) }
     {
         abs_answer(alloc, input, args)
     }

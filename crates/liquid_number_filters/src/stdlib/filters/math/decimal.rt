@@ -1,5 +1,6 @@
 //! Decimal texts: an optional sign, digits, and optionally a point and more digits.
-ghost use Rattle.std.specs.Prelude.{◌≡◌, ◌<◌, ◌≤◌, ◌^◌, ◌==◌, IsTrue, MatchOption, Some, None, false, not};
+ghost use Rattle.std.specs.Prelude.{◌≡◌, ◌<◌, ◌≤◌, ◌^◌, ◌==◌, IsTrue, MatchOption, Some, None};
+ghost use Rattle.std.specs.Prelude.{false, not};
 ghost use Rattle.std.specs.Char.{is_ascii_digit};
 ghost use Rattle.std.specs.List.{list_all, list_any};
 ghost use Rattle.std.specs.Str.{all_ascii_digits};
@@ -18,7 +19,8 @@ pub enum Rounding {
     Down,
 }
 
-/// A decimal text that was read: whether it is signed by a minus, and its digits before and after the point.
+/// A decimal text that was read: whether it is signed by a minus, and its digits before and after
+/// the point.
 #[derive(Clone, Copy)]
 pub struct Decimal<'a> {
     negative: bool,
@@ -31,7 +33,10 @@ pub struct Decimal<'a> {
 impl<'a> Decimal<'a> {
     /// The parts of a decimal text, or none where the text is no such.
     pub fn read(text: &'a str) -> Option<Decimal<'a>>
-        ensures { MatchOption result (is_decimal text.now ≡ false) (λ d. IsReadFrom text.now d.negative d.whole.now d.fraction.now) }
+        ensures {
+            MatchOption result (is_decimal text.now ≡ false)
+                (λ d. IsReadFrom text.now d.negative d.whole.now d.fraction.now)
+        }
     {
         let negative = text.starts_with('-');
         let digits = unsigned(text);
@@ -59,9 +64,14 @@ impl<'a> Decimal<'a> {
         }
     }
 
-    /// The whole number to which the decimal is brought, or none beyond 64 bits. The digits are looked at once.
+    /// The whole number to which the decimal is brought, or none beyond 64 bits. The digits are
+    /// looked at once.
     pub fn rounded(self, how: Rounding) -> Option<i64>
-        ensures { result ≡ if_fits (signed self.entry.negative (size how self.entry.negative self.entry.whole.now self.entry.fraction.now)) }
+        ensures {
+            result ≡ if_fits
+                (signed self.entry.negative
+                (size how self.entry.negative self.entry.whole.now self.entry.fraction.now))
+        }
     {
         match size_of(self.whole) {
             Some(size) => {
@@ -135,7 +145,10 @@ fn signed(negative: bool, size: u64) -> Option<i64>
 /// The number that the digits write, or none beyond 2 to the power of 63.
 fn size_of(digits: &str) -> Option<u64>
     requires { IsTrue (is_numeral digits.now) }
-    ensures { MatchOption result (2 ^ 63 < digits_value 10 digits.now) (λ n. (n ≡ digits_value 10 digits.now) × (n ≤ 2 ^ 63)) }
+    ensures {
+        MatchOption result (2 ^ 63 < digits_value 10 digits.now)
+            (λ n. (n ≡ digits_value 10 digits.now) × (n ≤ 2 ^ 63))
+    }
 {
     match digits.parse::<u64>() {
         Ok(number) if number <= 0x8000_0000_0000_0000 => Some(number),

@@ -28,12 +28,15 @@ fn is_numeric(value: &Value) -> bool
     value.to_integer().is_some() || is_decimal_text(value)
 }
 
-/// The whole numbers of the input and the operand. The first that applies: `InvalidInput` where the input is no
-/// scalar, `InvalidArgument` where the operand is none, `DivideByZero` where a divisor is the whole number 0,
-/// `Float` where one is a decimal text and the other that or a whole number, and else `InvalidArgument`.
+/// The whole numbers of the input and the operand. The first that applies: `InvalidInput` where the
+/// input is no scalar, `InvalidArgument` where the operand is none, `DivideByZero` where a divisor
+/// is the whole number 0, `Float` where one is a decimal text and the other that or a whole number,
+/// and else `InvalidArgument`.
 pub fn operands(alloc: Global, input: &Value, operand: &Value, divides: bool) -> Result<(i64, i64)>
-    ensures answer { Answers (λ p. p) result (operands divides (view input.now) (view operand.now)) }
-    ensures no_memory { TakesNoMemory result (operands divides (view input.now) (view operand.now)) }
+    ensures answer { Answers (λ p. p) result
+                (operands divides (view input.now) (view operand.now)) }
+    ensures no_memory { TakesNoMemory result
+                (operands divides (view input.now) (view operand.now)) }
 {
     if !input.is_scalar() {
         return Err(invalid_input(alloc, "a number", input));

@@ -5,7 +5,9 @@ ghost use Rattle.liquid_model.specs.View.{view};
 ghost use Rattle.liquid_model.specs.Whole.{whole};
 ghost use Rattle.liquid_filter_base.specs.Stands.{Stands};
 ghost use Rattle.liquid_number_filters.specs.Numbers.{of_none};
-ghost use Rattle.liquid_number_filters.specs.declared.stdlib.filters.math.decimal.Rounding.TheVariants.{Nearest, Up, Down};
+ghost use Rattle.liquid_number_filters.specs.declared.stdlib.filters.math.decimal.Rounding.TheVariants.{Nearest};
+ghost use Rattle.liquid_number_filters.specs.declared.stdlib.filters.math.decimal.Rounding.TheVariants.{Up};
+ghost use Rattle.liquid_number_filters.specs.declared.stdlib.filters.math.decimal.Rounding.TheVariants.{Down};
 ghost use Rattle.liquid_number_filters.specs.Rounding.{round, rounded, rounded_to};
 ghost use Rattle.liquid_number_filters.specs.RoundingLaws.{IsRounded, Rounds};
 
@@ -18,7 +20,8 @@ use std::alloc::Global;
 /// The most places to which `round` is asked to round.
 const MOST_PLACES: i64 = 2147483647;
 
-/// `round`: a decimal text brought to the nearest whole number, and from a half on away from 0; a whole number stays.
+/// `round`: a decimal text brought to the nearest whole number, and from a half on away from 0; a
+/// whole number stays.
 #[derive(Clone, Copy, Drop)]
 pub struct Round;
 
@@ -31,10 +34,12 @@ impl Filter for Round {
         count == 0 || count == 1
     }
 
-    /// The argument is the number of places after the point, 0 without it or below it; more are not computed.
-    /// Faults: `InvalidArgument` where the argument has no whole number, `InvalidInput` where it is above
-    /// 2147483647 or the input is neither a whole number nor a decimal text, `Float` where the input is a decimal
-    /// text and places are asked for, and `NumberRange` where the result is beyond 64 bits.
+    /// The argument is the number of places after the point, 0 without it or below it; more are not
+    /// computed.
+    /// Faults: `InvalidArgument` where the argument has no whole number, `InvalidInput` where it is
+    /// above 2147483647 or the input is neither a whole number nor a decimal text, `Float` where
+    /// the input is a decimal text and places are asked for, and `NumberRange` where the result is
+    /// beyond 64 bits.
     fn evaluate(&self, alloc: Global, input: &Value, args: &[Value]) -> Result<Value>
         requires { IsTrue (nat_eq (length args.now) 0 || nat_eq (length args.now) 1) }
         ensures answer { Answers view result (round (view input.now) (map view args.now)) }
@@ -69,13 +74,15 @@ impl Filter for Ceil {
         count == 0
     }
 
-    /// Faults: `InvalidInput` where the input is neither a whole number nor a decimal text, and `NumberRange` where
-    /// the result is beyond 64 bits.
+    /// Faults: `InvalidInput` where the input is neither a whole number nor a decimal text, and
+    /// `NumberRange` where the result is beyond 64 bits.
     fn evaluate(&self, alloc: Global, input: &Value, args: &[Value]) -> Result<Value>
         requires { IsTrue (nat_eq (length args.now) 0) }
-        ensures answer { Answers view result (of_none (rounded Up) (view input.now) (map view args.now)) }
+        ensures answer { Answers view result (of_none (rounded Up) (view input.now)
+                    (map view args.now)) }
         ensures relation { Stands (IsRounded Up (whole (view input.now)) (view input.now)) result }
-        ensures no_memory { TakesNoMemory result (of_none (rounded Up) (view input.now) (map view args.now)) }
+        ensures no_memory { TakesNoMemory result (of_none (rounded Up) (view input.now)
+                    (map view args.now)) }
     {
         ceil_answer(alloc, input, args)
     }
@@ -83,13 +90,16 @@ impl Filter for Ceil {
 
 fn ceil_answer(alloc: Global, input: &Value, _args: &[Value]) -> Result<Value>
     requires { IsTrue (nat_eq (length _args.now) 0) }
-    ensures answer { Answers view result (of_none (rounded Up) (view input.now) (map view _args.now)) }
-    ensures no_memory { TakesNoMemory result (of_none (rounded Up) (view input.now) (map view _args.now)) }
+    ensures answer { Answers view result (of_none (rounded Up) (view input.now)
+                (map view _args.now)) }
+    ensures no_memory { TakesNoMemory result (of_none (rounded Up) (view input.now)
+                (map view _args.now)) }
 {
     rounded(alloc, input, Rounding::Up)
 }
 
-/// `floor`: a decimal text brought to the greatest whole number that isn't above; a whole number stays.
+/// `floor`: a decimal text brought to the greatest whole number that isn't above; a whole number
+/// stays.
 #[derive(Clone, Copy, Drop)]
 pub struct Floor;
 
@@ -102,13 +112,16 @@ impl Filter for Floor {
         count == 0
     }
 
-    /// Faults: `InvalidInput` where the input is neither a whole number nor a decimal text, and `NumberRange` where
-    /// the result is beyond 64 bits.
+    /// Faults: `InvalidInput` where the input is neither a whole number nor a decimal text, and
+    /// `NumberRange` where the result is beyond 64 bits.
     fn evaluate(&self, alloc: Global, input: &Value, args: &[Value]) -> Result<Value>
         requires { IsTrue (nat_eq (length args.now) 0) }
-        ensures answer { Answers view result (of_none (rounded Down) (view input.now) (map view args.now)) }
-        ensures relation { Stands (IsRounded Down (whole (view input.now)) (view input.now)) result }
-        ensures no_memory { TakesNoMemory result (of_none (rounded Down) (view input.now) (map view args.now)) }
+        ensures answer { Answers view result (of_none (rounded Down) (view input.now)
+                    (map view args.now)) }
+        ensures relation { Stands (IsRounded Down (whole (view input.now)) (view input.now))
+                    result }
+        ensures no_memory { TakesNoMemory result (of_none (rounded Down) (view input.now)
+                    (map view args.now)) }
     {
         floor_answer(alloc, input, args)
     }
@@ -116,8 +129,10 @@ impl Filter for Floor {
 
 fn floor_answer(alloc: Global, input: &Value, _args: &[Value]) -> Result<Value>
     requires { IsTrue (nat_eq (length _args.now) 0) }
-    ensures answer { Answers view result (of_none (rounded Down) (view input.now) (map view _args.now)) }
-    ensures no_memory { TakesNoMemory result (of_none (rounded Down) (view input.now) (map view _args.now)) }
+    ensures answer { Answers view result (of_none (rounded Down) (view input.now)
+                (map view _args.now)) }
+    ensures no_memory { TakesNoMemory result (of_none (rounded Down) (view input.now)
+                (map view _args.now)) }
 {
     rounded(alloc, input, Rounding::Down)
 }

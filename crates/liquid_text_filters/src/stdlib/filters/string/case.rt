@@ -1,7 +1,8 @@
 //! Filters that change the case of letters, `A` to `Z` and `a` to `z` alone.
 ghost use Rattle.std.specs.Prelude.{nat_eq, string_bytes, IsTrue, length, map};
 ghost use Rattle.liquid_model.specs.Answer.{IsValueOrMemory, Answers};
-ghost use Rattle.liquid_text_filters.specs.Case.{capitalize_answer, capitalized, downcase_answer, upcase_answer};
+ghost use Rattle.liquid_text_filters.specs.Case.{capitalize_answer, capitalized, downcase_answer};
+ghost use Rattle.liquid_text_filters.specs.Case.{upcase_answer};
 ghost use Rattle.liquid_model.specs.View.{view};
 ghost use Rattle.liquid_filter_base.specs.Stands.{Stands};
 ghost use Rattle.liquid_text_filters.specs.Laws.{CapitalizesText, Downcases, Upcases};
@@ -25,7 +26,8 @@ impl Filter for Downcase {
 
     fn evaluate(&self, alloc: Global, input: &Value, args: &[Value]) -> Result<Value>
         requires { IsTrue (nat_eq (length args.now) 0) }
-        ensures answer { Answers view result (downcase_answer (view input.now) (map view args.now)) }
+        ensures answer { Answers view result
+                    (downcase_answer (view input.now) (map view args.now)) }
         ensures relation { Stands (Downcases (view input.now) (map view args.now)) result }
     {
         downcase_answer(alloc, input, args)
@@ -85,7 +87,8 @@ impl Filter for Capitalize {
 
     fn evaluate(&self, alloc: Global, input: &Value, args: &[Value]) -> Result<Value>
         requires { IsTrue (nat_eq (length args.now) 0) }
-        ensures answer { Answers view result (capitalize_answer (view input.now) (map view args.now)) }
+        ensures answer { Answers view result (capitalize_answer (view input.now)
+                    (map view args.now)) }
         ensures relation { Stands (CapitalizesText (view input.now) (map view args.now)) result }
     {
         capitalize_answer(alloc, input, args)

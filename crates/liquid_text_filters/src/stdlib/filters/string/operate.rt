@@ -1,7 +1,9 @@
 //! Filters that join texts, and that replace parts of them.
 ghost use Rattle.std.specs.Prelude.{◌&&◌, nat_eq, nat_le, string_bytes, IsTrue, length, map};
 ghost use Rattle.liquid_model.specs.Answer.{IsValueOrMemory, Answers};
-ghost use Rattle.liquid_text_filters.specs.Operate.{append_answer, prepend_answer, remove_answer, remove_first_answer, replace_answer, replace_first_answer, replaced, replaced_first};
+ghost use Rattle.liquid_text_filters.specs.Operate.{append_answer, prepend_answer, remove_answer};
+ghost use Rattle.liquid_text_filters.specs.Operate.{remove_first_answer, replace_answer};
+ghost use Rattle.liquid_text_filters.specs.Operate.{replace_first_answer, replaced, replaced_first};
 ghost use Rattle.liquid_model.specs.View.{view};
 ghost use Rattle.liquid_filter_base.specs.Stands.{Stands};
 ghost use Rattle.liquid_text_filters.specs.Laws.{RemovesAll, RemovesOne, ReplacesAll, ReplacesOne};
@@ -52,8 +54,9 @@ impl Filter for Prepend {
     }
 }
 
-/// `replace`: the input's text with each occurrence of the first argument's text, from left to right and without
-/// overlap, replaced by the second's, or by nothing. The empty text occurs before each character and at the end.
+/// `replace`: the input's text with each occurrence of the first argument's text, from left to
+/// right and without overlap, replaced by the second's, or by nothing. The empty text occurs before
+/// each character and at the end.
 #[derive(Clone, Copy, Drop)]
 pub struct Replace;
 
@@ -85,8 +88,8 @@ fn replace_answer(alloc: Global, input: &Value, args: &[Value]) -> Result<Value>
     Ok(Value::Text(replaced(alloc, text.as_str(), search.as_str(), replacement.as_str())?))
 }
 
-/// `replace_first`: the input's text with the first occurrence of the first argument's text replaced by the second's, or
-/// by nothing. The empty text occurs at the start.
+/// `replace_first`: the input's text with the first occurrence of the first argument's text
+/// replaced by the second's, or by nothing. The empty text occurs at the start.
 #[derive(Clone, Copy, Drop)]
 pub struct ReplaceFirst;
 
@@ -101,7 +104,8 @@ impl Filter for ReplaceFirst {
 
     fn evaluate(&self, alloc: Global, input: &Value, args: &[Value]) -> Result<Value>
         requires { IsTrue (nat_le 1 (length args.now) && nat_le (length args.now) 2) }
-        ensures answer { Answers view result (replace_first_answer (view input.now) (map view args.now)) }
+        ensures answer { Answers view result (replace_first_answer (view input.now)
+                    (map view args.now)) }
         ensures relation { Stands (ReplacesOne (view input.now) (map view args.now)) result }
     {
         replace_first_answer(alloc, input, args)
@@ -164,7 +168,8 @@ impl Filter for RemoveFirst {
 
     fn evaluate(&self, alloc: Global, input: &Value, args: &[Value]) -> Result<Value>
         requires { IsTrue (nat_eq (length args.now) 1) }
-        ensures answer { Answers view result (remove_first_answer (view input.now) (map view args.now)) }
+        ensures answer { Answers view result (remove_first_answer (view input.now)
+                    (map view args.now)) }
         ensures relation { Stands (RemovesOne (view input.now) (map view args.now)) result }
     {
         remove_first_answer(alloc, input, args)
@@ -182,14 +187,18 @@ fn remove_first_answer(alloc: Global, input: &Value, args: &[Value]) -> Result<V
 
 /// The text with each occurrence of another replaced.
 fn replaced(alloc: Global, text: &str, search: &str, replacement: &str) -> Result<String>
-    ensures { IsValueOrMemory (λ s. string_bytes s) result (replaced search.now replacement.now text.now) }
+    ensures { IsValueOrMemory (λ s. string_bytes s) result
+                (replaced search.now replacement.now text.now) }
 {
     Ok(text.replace(alloc, search, replacement)?)
 }
 
 /// The text with the first occurrence of another replaced.
 fn replaced_first(alloc: Global, text: &str, search: &str, replacement: &str) -> Result<String>
-    ensures { IsValueOrMemory (λ s. string_bytes s) result (replaced_first search.now replacement.now text.now) }
+    ensures {
+        IsValueOrMemory (λ s. string_bytes s) result
+            (replaced_first search.now replacement.now text.now)
+    }
 {
     Ok(text.replacen(alloc, search, replacement, 1)?)
 }

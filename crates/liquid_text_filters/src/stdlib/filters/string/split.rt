@@ -13,8 +13,9 @@ use liquid_core::{Filter, Result, Value};
 use liquid_filter_base::text_of;
 use std::alloc::Global;
 
-/// `split`: the pieces of the input's text between the occurrences of the argument's, from left to right. By the
-/// empty text it is an empty piece, each character and an empty piece; the empty text itself gives the empty list.
+/// `split`: the pieces of the input's text between the occurrences of the argument's, from left to
+/// right. By the empty text it is an empty piece, each character and an empty piece; the empty text
+/// itself gives the empty list.
 #[derive(Clone, Copy, Drop)]
 pub struct Split;
 
@@ -46,7 +47,10 @@ fn split_answer(alloc: Global, input: &Value, args: &[Value]) -> Result<Value>
 }
 
 fn divided(alloc: Global, text: &str, separator: &str) -> Result<Vec<Value>>
-    ensures { IsValueOrMemory (λ v. map view v.items) result (map (λ t. text_datum t) (divided separator.now text.now)) }
+    ensures {
+        IsValueOrMemory (λ v. map view v.items) result
+            (map (λ t. text_datum t) (divided separator.now text.now))
+    }
 {
     if text.is_empty() {
         Ok(Vec::new(alloc))
@@ -60,7 +64,10 @@ fn divided(alloc: Global, text: &str, separator: &str) -> Result<Vec<Value>>
 /// The pieces between the occurrences of a text that isn't empty.
 fn pieces(alloc: Global, text: &str, separator: &str) -> Result<Vec<Value>>
     requires { 0 < length separator.now }
-    ensures { IsValueOrMemory (λ v. map view v.items) result (map (λ t. text_datum t) (pieces separator.now 0 text.now)) }
+    ensures {
+        IsValueOrMemory (λ v. map view v.items) result
+            (map (λ t. text_datum t) (pieces separator.now 0 text.now))
+    }
 {
     let mut found = Vec::new(alloc);
     let mut rest = text;
@@ -74,7 +81,10 @@ fn pieces(alloc: Global, text: &str, separator: &str) -> Result<Vec<Value>>
 
 /// An empty piece, each character, an empty piece.
 fn single_characters(alloc: Global, text: &str) -> Result<Vec<Value>>
-    ensures { IsValueOrMemory (λ v. map view v.items) result (map (λ t. text_datum t) (single_characters text.now)) }
+    ensures {
+        IsValueOrMemory (λ v. map view v.items) result
+            (map (λ t. text_datum t) (single_characters text.now))
+    }
 {
     let mut found = Vec::new(alloc);
     let start = Value::Text(String::new(alloc));

@@ -1,10 +1,13 @@
 //! Filters that cut white space, which is Unicode's White_Space, and newlines.
 ghost use Rattle.std.specs.Prelude.{◌++◌, nat_eq, string_bytes, IsTrue, length, map};
 ghost use Rattle.liquid_model.specs.Answer.{IsValueOrMemory, Answers};
-ghost use Rattle.liquid_text_filters.specs.Strip.{lstrip_answer, rstrip_answer, strip_answer, strip_newlines_answer, without_newlines, without_returns};
+ghost use Rattle.liquid_text_filters.specs.Strip.{lstrip_answer, rstrip_answer, strip_answer};
+ghost use Rattle.liquid_text_filters.specs.Strip.{strip_newlines_answer, without_newlines};
+ghost use Rattle.liquid_text_filters.specs.Strip.{without_returns};
 ghost use Rattle.liquid_model.specs.View.{view};
 ghost use Rattle.liquid_filter_base.specs.Stands.{Stands};
-ghost use Rattle.liquid_text_filters.specs.Laws.{StripsLines, StripsText, StripsTextAtEnd, StripsTextAtStart};
+ghost use Rattle.liquid_text_filters.specs.Laws.{StripsLines, StripsText, StripsTextAtEnd};
+ghost use Rattle.liquid_text_filters.specs.Laws.{StripsTextAtStart};
 
 use liquid_core::{Filter, Result, Value};
 use liquid_filter_base::text_of;
@@ -115,7 +118,8 @@ impl Filter for StripNewlines {
 
     fn evaluate(&self, alloc: Global, input: &Value, args: &[Value]) -> Result<Value>
         requires { IsTrue (nat_eq (length args.now) 0) }
-        ensures answer { Answers view result (strip_newlines_answer (view input.now) (map view args.now)) }
+        ensures answer { Answers view result (strip_newlines_answer (view input.now)
+                    (map view args.now)) }
         ensures relation { Stands (StripsLines (view input.now) (map view args.now)) result }
     {
         strip_newlines_answer(alloc, input, args)
@@ -145,7 +149,10 @@ fn without_newlines(alloc: Global, text: &str) -> Result<String>
 
 /// Appends a text without its CRs. What stays is copied in runs.
 fn push_without_returns(out: &mut String, text: &str) -> Result<()>
-    ensures { IsValueOrMemory (λ _. string_bytes out.new) result (string_bytes out.old ++ without_returns text.now) }
+    ensures {
+        IsValueOrMemory (λ _. string_bytes out.new) result (string_bytes out.old ++
+            without_returns text.now)
+    }
 {
     let mut rest = text;
     while let Some((before, after)) = rest.split_once('\r') {

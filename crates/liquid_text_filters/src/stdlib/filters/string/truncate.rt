@@ -1,6 +1,8 @@
 //! Filters that shorten texts.
-ghost use Rattle.std.specs.Prelude.{◌≡◌, Some, None, if◌then◌else◌, length, nat_le, nat_lt, option_map, IsTrue, map};
-ghost use Rattle.liquid_text_filters.specs.Truncate.{first_clusters, first_words, truncate_answer, truncatewords_answer, words_of};
+ghost use Rattle.std.specs.Prelude.{◌≡◌, Some, None, if◌then◌else◌, length, nat_le, nat_lt};
+ghost use Rattle.std.specs.Prelude.{option_map, IsTrue, map};
+ghost use Rattle.liquid_text_filters.specs.Truncate.{first_clusters, first_words, truncate_answer};
+ghost use Rattle.liquid_text_filters.specs.Truncate.{truncatewords_answer, words_of};
 ghost use Rattle.liquid_model.specs.Answer.{Answers};
 ghost use Rattle.liquid_model.specs.View.{view};
 ghost use Rattle.liquid_filter_base.specs.Stands.{Stands};
@@ -13,9 +15,9 @@ use liquid_filter_base::text_of;
 use std::alloc::Global;
 use unicode_segmentation::UnicodeSegmentation;
 
-/// `truncate`: where the first argument, or 50, is below the bytes of the input's text, the first grapheme clusters,
-/// as many as that number less the bytes of the second argument's text, or of `...`, and then that text; else the
-/// input. A number below 0 is huge.
+/// `truncate`: where the first argument, or 50, is below the bytes of the input's text, the first
+/// grapheme clusters, as many as that number less the bytes of the second argument's text, or of
+/// `...`, and then that text; else the input. A number below 0 is huge.
 #[derive(Clone, Copy, Drop)]
 pub struct Truncate;
 
@@ -31,7 +33,8 @@ impl Filter for Truncate {
     /// `InvalidArgument` where the first argument has no whole number.
     fn evaluate(&self, alloc: Global, input: &Value, args: &[Value]) -> Result<Value>
         requires { IsTrue (nat_le (length args.now) 2) }
-        ensures answer { Answers view result (truncate_answer (view input.now) (map view args.now)) }
+        ensures answer { Answers view result
+                    (truncate_answer (view input.now) (map view args.now)) }
         ensures relation { Stands (TruncatesText (view input.now) (map view args.now)) result }
     {
         truncate_answer(alloc, input, args)
@@ -52,9 +55,9 @@ fn truncate_answer(alloc: Global, input: &Value, args: &[Value]) -> Result<Value
     Ok(Value::Text(joined(alloc, kept, end.as_str())?))
 }
 
-/// `truncatewords`: where the first argument, or 50, is below the count of the pieces of the input's text that single
-/// spaces part, the first ones and then the second argument's text, or `...`; else the input. A number below 0 is
-/// huge.
+/// `truncatewords`: where the first argument, or 50, is below the count of the pieces of the
+/// input's text that single spaces part, the first ones and then the second argument's text, or
+/// `...`; else the input. A number below 0 is huge.
 #[derive(Clone, Copy, Drop)]
 pub struct TruncateWords;
 
@@ -70,8 +73,10 @@ impl Filter for TruncateWords {
     /// `InvalidArgument` where the first argument has no whole number.
     fn evaluate(&self, alloc: Global, input: &Value, args: &[Value]) -> Result<Value>
         requires { IsTrue (nat_le (length args.now) 2) }
-        ensures answer { Answers view result (truncatewords_answer (view input.now) (map view args.now)) }
-        ensures relation { Stands (TruncatesTextByWords (view input.now) (map view args.now)) result }
+        ensures answer { Answers view result (truncatewords_answer (view input.now)
+                    (map view args.now)) }
+        ensures relation { Stands (TruncatesTextByWords (view input.now) (map view args.now))
+                    result }
     {
         truncatewords_answer(alloc, input, args)
     }
@@ -108,7 +113,11 @@ fn first_clusters(text: &str, count: usize) -> &str
 
 /// The first words of a text that has more.
 fn first_words(text: &str, count: usize) -> Option<&str>
-    ensures { option_map (λ t. t.now) result ≡ (if nat_lt count (length (words_of text.now)) then Some (first_words count text.now) else None) }
+    ensures {
+        option_map (λ t. t.now) result ≡
+            (if nat_lt count (length (words_of text.now)) then Some (first_words count text.now)
+            else None)
+    }
 {
     let mut end = 0;
     let mut rest = text;

@@ -1,7 +1,11 @@
 //! Filters that write the letters with a meaning in HTML by their escapes.
-ghost use Rattle.std.specs.Prelude.{◌≡◌, ◌<◌, ◌≤◌, ◌∷◌, ◌++◌, All, IfNone, IfSome, IsSome, IsTrue, None, length, map, nat_eq, option_map, slice_index, string_bytes, take};
+ghost use Rattle.std.specs.Prelude.{◌≡◌, ◌<◌, ◌≤◌, ◌∷◌, ◌++◌, All, IfNone, IfSome, IsSome, IsTrue};
+ghost use Rattle.std.specs.Prelude.{None, length, map, nat_eq, option_map, slice_index};
+ghost use Rattle.std.specs.Prelude.{string_bytes, take};
 ghost use Rattle.liquid_model.specs.Answer.{IsValueOrMemory, Answers};
-ghost use Rattle.liquid_web_filters.specs.Escapes.{ends_escape, escape_answer, escape_of, escape_once_answer, escaped, escaped_once, once_byte};
+ghost use Rattle.liquid_web_filters.specs.Escapes.{ends_escape, escape_answer, escape_of};
+ghost use Rattle.liquid_web_filters.specs.Escapes.{escape_once_answer, escaped, escaped_once};
+ghost use Rattle.liquid_web_filters.specs.Escapes.{once_byte};
 ghost use Rattle.liquid_model.specs.View.{view};
 ghost use Rattle.liquid_filter_base.specs.Stands.{Stands};
 ghost use Rattle.liquid_web_filters.specs.HtmlLaws.{EscapesOnce, EscapesText};
@@ -10,7 +14,8 @@ use liquid_core::{Filter, Result, Value};
 use liquid_filter_base::text_of;
 use std::alloc::Global;
 
-/// `escape`: the input's text with `&lt;`, `&gt;`, `&#39;`, `&quot;` and `&amp;` for `<`, `>`, `'`, `"` and `&`. Nil stays.
+/// `escape`: the input's text with `&lt;`, `&gt;`, `&#39;`, `&quot;` and `&amp;` for `<`, `>`, `'`,
+/// `"` and `&`. Nil stays.
 #[derive(Clone, Copy, Drop)]
 pub struct Escape;
 
@@ -60,7 +65,8 @@ impl Filter for EscapeOnce {
 
     fn evaluate(&self, alloc: Global, input: &Value, args: &[Value]) -> Result<Value>
         requires { IsTrue (nat_eq (length args.now) 0) }
-        ensures answer { Answers view result (escape_once_answer (view input.now) (map view args.now)) }
+        ensures answer { Answers view result (escape_once_answer (view input.now)
+                    (map view args.now)) }
         ensures relation { Stands (EscapesOnce (view input.now)) result }
     {
         escape_once_answer(alloc, input, args)
@@ -108,8 +114,8 @@ fn escaped_once(alloc: Global, text: &str) -> Result<String>
     Ok(out)
 }
 
-/// The text before the first byte that has an escape, that byte, and the text behind it. Texts with few marks and texts of
-/// little else both cost a few instructions for each byte.
+/// The text before the first byte that has an escape, that byte, and the text after it. Texts with
+/// few marks and texts of little else both cost a few instructions for each byte.
 fn split_at_mark(text: &str) -> Option<(&str, u8, &str)>
     ensures none { IfNone result (All (λ b. escape_of b ≡ None) text.now) }
     ensures splits { IfSome result (λ p. text.now ≡ p.0.now ++ (p.1 ∷ p.2.now)) }
@@ -173,7 +179,8 @@ fn mark_before(mark: u8, after: &str) -> &'static str
     }
 }
 
-/// What stands for an `&`: itself where it begins an escape with the text after it, and else its own escape.
+/// What stands for an `&`: itself where it begins an escape with the text after it, and else its
+/// own escape.
 fn and_before(after: &str) -> &'static str
     ensures { result.now ≡ once_byte 38 after.now }
 {

@@ -26,7 +26,8 @@ impl Filter for NewlineToBr {
 
     fn evaluate(&self, alloc: Global, input: &Value, args: &[Value]) -> Result<Value>
         requires { IsTrue (nat_eq (length args.now) 0) }
-        ensures answer { Answers view result (newline_to_br_answer (view input.now) (map view args.now)) }
+        ensures answer { Answers view result (newline_to_br_answer (view input.now)
+                    (map view args.now)) }
         ensures relation { Stands (BreaksLines (view input.now)) result }
     {
         newline_to_br_answer(alloc, input, args)

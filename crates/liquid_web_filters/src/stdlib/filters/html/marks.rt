@@ -1,9 +1,11 @@
 //! Marks of HTML, which open and close what is cut: found in characters, in either case.
-ghost use Rattle.std.specs.Prelude.{◌≡◌, ◌++◌, ◌<◌, ◌≤◌, IfSome, IsTrue, MatchOption, drop, false, length, option_map, string_bytes, true};
+ghost use Rattle.std.specs.Prelude.{◌≡◌, ◌++◌, ◌<◌, ◌≤◌, IfSome, IsTrue, MatchOption, drop, false};
+ghost use Rattle.std.specs.Prelude.{length, option_map, string_bytes, true};
 ghost use Rattle.std.specs.Cow.{cow_str_bytes};
 ghost use Rattle.std.specs.Str.{chars, encode_utf8_all};
 ghost use Rattle.liquid_model.specs.Answer.{IsValueOrMemory};
-ghost use Rattle.liquid_web_filters.specs.Tags.{SplitsAtFirst, begins_mark, is_mark, is_opener, stands_for, strip_html, without_pairs};
+ghost use Rattle.liquid_web_filters.specs.Tags.{SplitsAtFirst, begins_mark, is_mark, is_opener};
+ghost use Rattle.liquid_web_filters.specs.Tags.{stands_for, strip_html, without_pairs};
 
 use liquid_core::Result;
 use std::alloc::Global;
@@ -25,7 +27,8 @@ const TAG: [char; 1] = ['<'];
 
 const TAG_END: [char; 1] = ['>'];
 
-/// The text without scripts, then without styles, comments and tags. Each of them ends by a `>`, so a text without one stays.
+/// The text without scripts, then without styles, comments and tags. Each of them ends by a `>`, so
+/// a text without one stays.
 pub fn without_tags(alloc: Global, text: &str) -> Result<String>
     ensures { IsValueOrMemory (λ s. string_bytes s) result (strip_html text.now) }
 {
@@ -39,8 +42,8 @@ pub fn without_tags(alloc: Global, text: &str) -> Result<String>
     Ok(no_tags.into_owned(alloc)?)
 }
 
-/// One pass: each opener is cut with what follows it, up to the end of the first closer after it. A text without a pair of
-/// them is lent.
+/// One pass: each opener is cut with what follows it, up to the end of the first closer after it. A
+/// text without a pair of them is lent.
 fn without_pairs<'a>(
     alloc: Global,
     text: &'a str,
@@ -49,7 +52,10 @@ fn without_pairs<'a>(
 ) -> Result<CowStr<'a>>
     requires opens { IsTrue (is_opener opener.now) }
     requires closes { IsTrue (is_mark closer.now) }
-    ensures { IsValueOrMemory (λ s. cow_str_bytes s) result (encode_utf8_all (without_pairs opener.now closer.now (chars text.now))) }
+    ensures {
+        IsValueOrMemory (λ s. cow_str_bytes s) result
+            (encode_utf8_all (without_pairs opener.now closer.now (chars text.now)))
+    }
 {
     let Some((before, after)) = split_at_pair(text, opener, closer) else {
         return Ok(CowStr::Borrowed(text));
@@ -64,7 +70,10 @@ fn without_pairs<'a>(
 fn push_without_pairs(out: &mut String, text: &str, opener: &[char], closer: &[char]) -> Result<()>
     requires opens { IsTrue (is_opener opener.now) }
     requires closes { IsTrue (is_mark closer.now) }
-    ensures { IsValueOrMemory (λ _. string_bytes out.new) result (string_bytes out.old ++ encode_utf8_all (without_pairs opener.now closer.now (chars text.now))) }
+    ensures {
+        IsValueOrMemory (λ _. string_bytes out.new) result (string_bytes out.old ++
+            encode_utf8_all (without_pairs opener.now closer.now (chars text.now)))
+    }
 {
     let mut rest = text;
     while let Some((before, after)) = split_at_pair(rest, opener, closer) {
@@ -74,13 +83,15 @@ fn push_without_pairs(out: &mut String, text: &str, opener: &[char], closer: &[c
     Ok(out.push_str(rest)?)
 }
 
-/// The text before the first opener and the text after the first closer that follows it. Where none follows the first
-/// opener, none follows a later one, so the search ends there.
+/// The text before the first opener and the text after the first closer that follows it. Where none
+/// follows the first opener, none follows a later one, so the search ends there.
 fn split_at_pair<'a>(text: &'a str, opener: &[char], closer: &[char]) -> Option<(&'a str, &'a str)>
     requires opens { IsTrue (is_opener opener.now) }
     requires closes { IsTrue (is_mark closer.now) }
-    ensures cases { MatchOption result (without_pairs opener.now closer.now (chars text.now) ≡ chars text.now)
-        (λ p. without_pairs opener.now closer.now (chars text.now) ≡ chars p.0.now ++ without_pairs opener.now closer.now (chars p.1.now)) }
+    ensures cases { MatchOption result (without_pairs opener.now closer.now (chars text.now) ≡
+                chars text.now)
+        (λ p. without_pairs opener.now closer.now (chars text.now) ≡ chars p.0.now ++
+                without_pairs opener.now closer.now (chars p.1.now)) }
     ensures shorter { IfSome result (λ p. length p.1.now < length text.now) }
 {
     match split_at_mark(text, opener) {
@@ -92,11 +103,14 @@ fn split_at_pair<'a>(text: &'a str, opener: &[char], closer: &[char]) -> Option<
     }
 }
 
-/// The text before the first place of the mark, and what follows the mark there. Only where the mark's first character
-/// stands is the rest of it looked for.
+/// The text before the first place of the mark, and what follows the mark there. Only where the
+/// mark's first character stands is the rest of it looked for.
 fn split_at_mark<'a>(text: &'a str, mark: &[char]) -> Option<(&'a str, &'a str)>
     requires { IsTrue (is_mark mark.now) }
-    ensures splits { SplitsAtFirst mark.now (chars text.now) (option_map (λ p. (chars p.0.now, chars p.1.now)) result) }
+    ensures splits {
+        SplitsAtFirst mark.now (chars text.now)
+            (option_map (λ p. (chars p.0.now, chars p.1.now)) result)
+    }
     ensures shorter { IfSome result (λ p. length p.1.now < length text.now) }
 {
     let (first, others) = mark.split_first()?;
@@ -114,7 +128,8 @@ fn split_at_mark<'a>(text: &'a str, mark: &[char]) -> Option<(&'a str, &'a str)>
 /// What follows the mark, where the text begins with it.
 fn after_mark<'a>(text: &'a str, mark: &[char]) -> Option<&'a str>
     ensures cases { MatchOption result (begins_mark mark.now (chars text.now) ≡ false)
-        (λ r. (begins_mark mark.now (chars text.now) ≡ true) × (chars r.now ≡ drop (length mark.now) (chars text.now))) }
+        (λ r. (begins_mark mark.now (chars text.now) ≡ true) ×
+                (chars r.now ≡ drop (length mark.now) (chars text.now))) }
     ensures within { IfSome result (λ r. length r.now ≤ length text.now) }
 {
     let mut rest = text.chars();

@@ -11,8 +11,9 @@ use liquid_core::{Filter, Result, Value};
 use liquid_filter_base::text_of;
 use std::alloc::Global;
 
-/// `strip_html`: the input's text without scripts, then without styles, comments and tags, each from its opener to the
-/// end of the first closer after it. An opener without a closer after it stays.
+/// `strip_html`: the input's text without scripts, then without styles, comments and tags, each
+/// from its opener to the end of the first closer after it. An opener without a closer after it
+/// stays.
 #[derive(Clone, Copy, Drop)]
 pub struct StripHtml;
 
@@ -27,7 +28,8 @@ impl Filter for StripHtml {
 
     fn evaluate(&self, alloc: Global, input: &Value, args: &[Value]) -> Result<Value>
         requires { IsTrue (nat_eq (length args.now) 0) }
-        ensures answer { Answers view result (strip_html_answer (view input.now) (map view args.now)) }
+        ensures answer { Answers view result (strip_html_answer (view input.now)
+                    (map view args.now)) }
         ensures relation { Stands (StripsTags (view input.now)) result }
     {
         strip_html_answer(alloc, input, args)
