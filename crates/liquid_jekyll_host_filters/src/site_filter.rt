@@ -142,7 +142,8 @@ impl SiteFilter {
 impl Filter for SiteFilter {
     ghost counts = { λ site. filter_counts site.filter };
 
-    ghost answer = { λ site. filter_answer site.filter (string_bytes site.address) (string_bytes site.base) };
+    ghost answer = { λ site.
+        filter_answer site.filter (string_bytes site.address) (string_bytes site.base) };
 
     fn accepts(&self, count: usize) -> bool {
         match self.filter {

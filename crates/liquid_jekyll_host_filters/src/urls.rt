@@ -48,7 +48,8 @@ pub struct AbsoluteUrl {
 impl Filter for AbsoluteUrl {
     ghost counts = { λ _ n. nat_eq n 0 };
 
-    ghost answer = { λ filter. absolute_url_answer (string_bytes filter.address) (string_bytes filter.base) };
+    ghost answer = { λ filter.
+        absolute_url_answer (string_bytes filter.address) (string_bytes filter.base) };
 
     fn accepts(&self, count: usize) -> bool {
         count == 0
