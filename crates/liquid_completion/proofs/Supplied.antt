@@ -7,7 +7,7 @@ use Rattle.liquid_model.specs.Texts.{Text, same_text}
 use Rattle.liquid_model.specs.Data.{Datum, nil, truth, number, text, array, object, Pairs, put, text_of, scalar}
 use Rattle.liquid_model.specs.Digest.{pairs_len}
 use Rattle.liquid_model.specs.Find.{find, step, value_at, or_size}
-use Rattle.liquid_model.specs.Uses.{Use, nothing, everything, parts, Fields, no_fields, field, use_in, asks_whether}
+use Rattle.liquid_model.specs.Uses.{Use, nothing, everything, parts, Fields, ItemUse, no_fields, field, use_in, asks_whether}
 use Rattle.liquid_model.specs.declared.error.ErrorKind.TheVariants.{UnknownVariable}
 use Rattle.liquid_model.proofs.Maps.{value_at_put, value_at_put_other}
 use Rattle.liquid_core.specs.Environment.{Environment}
