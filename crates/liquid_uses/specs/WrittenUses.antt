@@ -16,7 +16,7 @@ use Rattle.liquid_model.specs.Uses.{ItemUse, uncounted, every}
 
 -- a letter or a digit, `_`, `-`, or a byte of a character outside of ASCII
 abbrev pub is_word_byte : ℕ → Bool
-is_word_byte b = is_ascii_alphanumeric b || (b == 95 || (b == 45 || nat_le 128 b))
+is_word_byte b = is_ascii_alphanumeric b || (b == 95) || (b == 45) || nat_le 128 b
 
 abbrev pub is_word : Text → Bool
 is_word key = not (length key == 0) && list_all is_word_byte key
