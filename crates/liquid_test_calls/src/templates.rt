@@ -1,10 +1,8 @@
-//! Templates: their nodes, the names that they and a partial mention, what they ask of their data,
-//! and the group of a `cycle`.
+//! Templates: their nodes, the names that they and a partial mention, and the group of a `cycle`.
 use crate::faults::no_call;
 use liquid_core::{Expression, Result, Value};
 use liquid_syntax::{Language, Partials, Template, parse};
 use liquid_test_refusals::{Row, number, text_member};
-use liquid_uses::{uses_of, written_uses};
 use std::alloc::Global;
 
 /// A call of the template. The row has a partial with its name and its source.
@@ -18,7 +16,6 @@ pub(crate) fn template_call(
         "node_count" => Ok(node_count(template)),
         "mentions" => Ok(Value::Bool(template.mentions(text_member(&row.with, 0)))),
         "names" => names(alloc, template, &partials(alloc, row, language)?),
-        "uses" => uses(alloc, template, &partials(alloc, row, language)?),
         "partial" => Ok(held(row, &partials(alloc, row, language)?)),
         _ => no_call(alloc),
     }
@@ -50,12 +47,6 @@ fn names(alloc: Global, template: &Template, partials: &Partials) -> Result<Valu
         }
     }
     Ok(Value::Array(names))
-}
-
-/// What the template and the partial ask of their data, a line for each path.
-fn uses(alloc: Global, template: &Template, partials: &Partials) -> Result<Value> {
-    let uses = uses_of(alloc, template, partials)?;
-    Ok(Value::Text(written_uses(alloc, &uses)?))
 }
 
 /// Puts a copy of the text after the others.

@@ -3,4 +3,3 @@ pub mod Sight
 pub mod Steps
 pub mod TreeGrants
 pub mod WholeNames
-pub mod WrittenLines

@@ -11,8 +11,6 @@ mod places;
 mod rounds;
 mod uses;
 mod whole_names;
-mod written;
 
 pub use covering::covers;
 pub use uses::uses_of;
-pub use written::written_uses;
