@@ -1,9 +1,11 @@
 //! The examples of the README of pages, each called by its name. The README shows their files.
 mod host;
+mod jekyll;
 mod pages;
 mod shop;
 
 use crate::examples::host::hosted_page;
+use crate::examples::jekyll::jekyll_page;
 use crate::examples::pages::{language_of_ones_own, page, page_in_bytes, page_with_fault};
 use crate::examples::shop::shop_page;
 use liquid_core::Result;
@@ -20,6 +22,7 @@ pub(crate) fn example(alloc: Global, name: &str) -> Result<String> {
         "page_with_fault" => page_with_fault(alloc),
         "language_of_ones_own" => language_of_ones_own(alloc),
         "shop_page" => shop_page(alloc),
+        "jekyll_page" => jekyll_page(alloc),
         _ => hosted_page(alloc),
     }
 }

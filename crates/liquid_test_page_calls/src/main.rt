@@ -9,8 +9,9 @@
 //! a rendering of it is refused memory, `written` is what it has written, and `refused` what is
 //! rendered in place of `then`, each with all that it may show. A `rendering` is a page whose
 //! template is parsed before its calls. A `limited page` also has the `bytes` and the `turns` of
-//! its limits, and the limit that it is `ended_by`. The `source` of an `example` is its name. Of
-//! all other calls `with` is a list of steps. With a word each call stands between marks, for
+//! its limits, and the limit that it is `ended_by`. The `source` of an `example` is its name.
+//! `jekyll filters` are over a site of the `address` and the `base` path that `on` has. Of all
+//! other calls `with` is a list of steps. With a word each call stands between marks, for
 //! `tests/refusals/run`, and how it ended after them.
 #![tactic(auto)]
 
@@ -18,6 +19,7 @@ mod examples;
 mod filters;
 mod given;
 mod hosts;
+mod jekyll;
 mod limits;
 mod pages;
 mod registers;
@@ -27,6 +29,7 @@ mod writers;
 
 use crate::examples::example;
 use crate::hosts::hosted;
+use crate::jekyll::jekyll_called;
 use crate::limits::limited_made;
 use crate::pages::{pages_made, rendering_made};
 use crate::registers::{forloop, has_filter, registered};
@@ -74,6 +77,7 @@ fn row_made<R: Print>(told: &Told<'_, R>, line: &str, row: &Row, data: Object) -
         "rendering" => rendering_made(told, row, data, None),
         "hosted page" | "filters" => hosted(told, row),
         "shopify filters" | "shopify page" => shop_made(told, row),
+        "jekyll filters" => jekyll_called(told, row),
         "limited page" => limited_made(told, row, data),
         "runtime" => runtime_made(told, row, data),
         "registers" => registered(told, row),

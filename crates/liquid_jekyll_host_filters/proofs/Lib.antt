@@ -1,0 +1,9 @@
+pub mod Fronts
+pub mod GroupedItems
+pub mod MarkedTexts
+pub mod NamePaths
+pub mod Sentences
+pub mod SplitWords
+pub mod UrlTexts
+pub mod UrlsAgain
+pub mod WordLaws

@@ -1,0 +1,7 @@
+use Rattle.std.proofs.Common.{take}
+use Rattle.std.specs.Prelude.{All}
+use Rattle.liquid_jekyll_host_filters.proofs.MarkedTexts.{IsPlain}
+use Rattle.liquid_jekyll_host_filters.proofs.escapes.plain_len.Given as goal
+
+abbrev pub invariant-loop-i : goal.invariant-loop-i
+invariant-loop-i l = All (IsPlain l.marks) (take l.i l.bytes)

@@ -1,0 +1,13 @@
+pub mod Dates
+pub mod Escapes
+pub mod Groups
+pub mod Json
+pub mod Laws
+pub mod Numbers
+pub mod Properties
+pub mod Searches
+pub mod Sentence
+pub mod SiteFilters
+pub mod Urls
+pub mod Words
+pub mod inside

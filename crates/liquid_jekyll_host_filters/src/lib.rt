@@ -1,0 +1,28 @@
+//! The filters that Jekyll has beside Liquid's, as filters of a host.
+#![tactic(auto)]
+
+mod dates;
+mod escapes;
+mod groups;
+mod json;
+pub mod laws;
+mod numbers;
+mod percent;
+mod properties;
+mod searches;
+mod sentence;
+mod site_filter;
+mod texts;
+mod urls;
+mod words;
+
+pub use dates::{DateToLongString, DateToRfc822, DateToString, DateToXmlschema};
+pub use groups::GroupBy;
+pub use json::Jsonify;
+pub use numbers::ToInteger;
+pub use searches::{Find, Where};
+pub use sentence::ArrayToSentenceString;
+pub use site_filter::{JEKYLL_FILTERS, JekyllFilter, SiteFilter};
+pub use texts::{CgiEscape, UriEscape, XmlEscape};
+pub use urls::{AbsoluteUrl, RelativeUrl};
+pub use words::{NormalizeWhitespace, NumberOfWords};

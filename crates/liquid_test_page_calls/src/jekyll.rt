@@ -1,0 +1,27 @@
+//! The filters of Jekyll, called by their names.
+use crate::given::option;
+use crate::hosts::called_in_turn;
+use liquid_core::{Filter, HostFilters, Result, Value};
+use liquid_jekyll_host_filters::{JEKYLL_FILTERS, SiteFilter};
+use liquid_test_refusals::{Row, Told, text_of};
+use std::alloc::Global;
+
+/// The calls of the row, with the filters over the site that it tells.
+pub(crate) fn jekyll_called<R: Print>(told: &Told<'_, R>, row: &Row) -> Result<()> {
+    let alloc = told.alloc;
+    let address = text_option(&row.on, "address");
+    let base = text_option(&row.on, "base");
+    let mut filters = Vec::new(alloc);
+    for filter in JEKYLL_FILTERS {
+        let site = SiteFilter::new(alloc, filter, address, base)?;
+        let boxed: Box<dyn Filter> = Box::new(alloc, site)?;
+        filters.push((String::from_str(alloc, filter.name())?, boxed))?;
+    }
+    let host = HostFilters::new(filters);
+    called_in_turn(told, &host, &row.with)
+}
+
+/// A text of the options, or the empty one.
+fn text_option<'o>(options: &'o Value, name: &str) -> &'o str {
+    option(options, name).map_or("", text_of)
+}
