@@ -144,7 +144,7 @@ fn shows<S: AnySite>(site: &S, step: Option<&Value>) -> bool {
 /// Whether each page of the site is shown as it is wanted, and none is wanted beside them.
 fn has_pages<S: AnySite>(site: &S, wanted: &Object) -> bool {
     match site.shown_of(Some(wanted)) {
-        Some(count) => wanted.len() == count + 1,
+        Some(count) => wanted.len().checked_sub(1) == Some(count),
         None => false,
     }
 }
