@@ -128,8 +128,10 @@ fn read_texts(
             })
         }
         Err(fault) => {
-            let checked = data_from_json(alloc, data)?;
-            drop(checked);
+            if fault.kind != ErrorKind::Memory {
+                let checked = data_from_json(alloc, data)?;
+                drop(checked);
+            }
             Err(fault)
         }
     }

@@ -1,9 +1,12 @@
+use Rattle.std.proofs.Common.{◌≡◌, rules}
 use Rattle.std.proofs.lemmas.Result.{err_from_is_err_and}
+use Rattle.liquid_model.specs.declared.error.ErrorKind.TheVariants.{Memory}
 use Rattle.liquid_model.specs.View.{pairs_view}
 use Rattle.liquid_syntax.specs.Templates.{tree_of}
 use Rattle.liquid_page_texts.specs.Page.{Texts, sources_of}
-use Rattle.liquid_page_texts.proofs.Reading.{template_refused, facts_refused, partials_refused, seen_shown}
+use Rattle.liquid_page_texts.proofs.Reading.{template_refused, facts_refused, memory_refused, partials_refused, seen_shown}
 use Rattle.liquid_page_texts.proofs.page.read_texts.Goals as goal
+use Rattle.liquid_page_texts.proofs.page.read_texts.Goals.{then-ne+in_ok-checked-in-Err, else-ne}
 
 pub returns-in_err-template : goal.returns-in_err-template
 returns-in_err-template c =
@@ -29,7 +32,10 @@ returns-in_err-checked-in-Err c =
     let p = err_from_is_err_and c.from_residual-in_err-checked-in-Err.result c.from_residual-in_err-checked-in-Err.ensures.1 in
     rw (p.1, p.2) (facts_refused c.args.language.now texts (tree_of c.in_ok-template.template) c.in_err-checked-in-Err.field-0.0 c.in_ok-template.ensures.parses c.in_err-checked-in-Err.ensures)
 
-pub returns-in_ok-checked-in-Err : goal.returns-in_ok-checked-in-Err
-returns-in_ok-checked-in-Err c =
+pub returns-after-ne : goal.returns-after-ne
+returns-after-ne c =
     let texts : Texts = record { template = c.args.template.now; facts = c.args.«data».now; partials = sources_of c.args.partials.now } in
-    partials_refused c.args.language.now texts (tree_of c.in_ok-template.template) (pairs_view c.in_ok-checked-in-Err.checked.entries) c.in-Err.fault c.in_ok-template.ensures.parses c.in_ok-checked-in-Err.ensures c.in-Err.ensures
+    elim c.if-ne.branch [
+      | then-ne+in_ok-checked-in-Err w ↦ partials_refused c.args.language.now texts (tree_of c.in_ok-template.template) (pairs_view w.in_ok-checked-in-Err.checked.entries) c.in-Err.fault c.in_ok-template.ensures.parses w.in_ok-checked-in-Err.ensures c.in-Err.ensures
+      | else-ne w ↦ (let is : c.in-Err.fault.kind ≡ Memory = search rules in memory_refused c.args.language.now texts c.in-Err.fault is)
+    ]
