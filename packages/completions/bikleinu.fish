@@ -7,7 +7,7 @@ complete -c bikleinu -n '__fish_seen_subcommand_from render' -s o -l out -r -F -
 complete -c bikleinu -n '__fish_seen_subcommand_from render' -l max-bytes -x -d 'The most bytes of text'
 complete -c bikleinu -n '__fish_seen_subcommand_from render' -l max-turns -x -d 'The most bodies of tags'
 complete -c bikleinu -n '__fish_seen_subcommand_from merge' -s o -l out -x -d 'A template of the name of a record\'s file'
-complete -c bikleinu -n '__fish_seen_subcommand_from merge' -l separator -x -d 'What stands behind each page'
+complete -c bikleinu -n '__fish_seen_subcommand_from merge' -l separator -x -d 'What to write after each page'
 complete -c bikleinu -n '__fish_seen_subcommand_from merge' -l from -x -d 'The number of the first record'
 complete -c bikleinu -n '__fish_seen_subcommand_from merge' -l count -x -d 'The most records'
 complete -c bikleinu -n '__fish_seen_subcommand_from merge' -l dry-run -d 'Write no file'

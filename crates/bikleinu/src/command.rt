@@ -115,7 +115,7 @@ fn with_merge_options<'a>(alloc: Global, command: Command<'a>) -> Result<Command
         .value_name("TEXT")
         .allow_hyphen_values(true)
         .default_value("\n")
-        .help("What stands behind each page on standard output");
+        .help("What to write after each page on standard output");
     command
         .arg(separator)?
         .arg(limit_option(alloc, "from", "Begins with this record; the first is 1"))?
