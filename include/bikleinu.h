@@ -35,7 +35,11 @@ typedef struct {
     void *at;
 } bikleinu_handle;
 
+#ifdef __cplusplus
+#define BIKLEINU_NONE {}
+#else
 #define BIKLEINU_NONE {0}
+#endif
 
 /* Kinds of faults. */
 enum {
@@ -78,14 +82,26 @@ enum {
     BIKLEINU_NO_TEXT = 101,        /* bytes that are no UTF-8 */
     BIKLEINU_OTHER_HANDLE = 102,   /* a handle that holds another kind of thing than the call needs, or nothing */
     BIKLEINU_TOO_MANY_LEVELS = 103, /* a run that could reach more levels than are allowed (below) */
+    BIKLEINU_NO_SUCH_CALL = 107,   /* no call of this number behind the handle */
 
     /* of a page that a limit of the caller's ended: it holds the text up to there, and a fault of the kind Write (18) */
     BIKLEINU_BYTES_REACHED = 104,
-    BIKLEINU_TURNS_REACHED = 105
+    BIKLEINU_TURNS_REACHED = 105,
+
+    /* of a run that needs answers of the caller's filters: the handle for the page holds the calls, and no page */
+    BIKLEINU_LACKING = 106
 };
 
 /* Makes the standard language. */
 uint32_t bikleinu_language(bikleinu_handle *made);
+
+/* Makes Jekyll's language: the standard one with Jekyll's include and sort in place of its own. */
+uint32_t bikleinu_jekyll_language(bikleinu_handle *made);
+
+/* Registers a filter of the caller's in a language, by its name, with the least and the greatest number of arguments that a template may
+ * give it. What the name stood for before is forgotten. After anything but 0 nothing changed. What the filter answers, a table tells
+ * (below): a page without one ends by BIKLEINU_UNSUPPORTED where it calls the filter. */
+uint32_t bikleinu_register(bikleinu_handle *language, const uint8_t *name, size_t length, size_t least, size_t most);
 
 /* Parses the source of a template in a language. The template doesn't need the language any more, or the source. */
 uint32_t bikleinu_parse(bikleinu_handle *language, const uint8_t *source, size_t length, bikleinu_handle *made);
@@ -129,9 +145,51 @@ typedef struct {
 uint32_t bikleinu_render_within(bikleinu_handle *template_, bikleinu_handle *data, bikleinu_handle *partials, uint32_t depth,
                                 const bikleinu_limits *limits, bikleinu_handle *page);
 
+/* Makes the names that a template mentions, with those that the partials mention; a handle that holds nothing stands for none. They are
+ * read as BIKLEINU_TEXT: a list of texts in JSON, ascending and each once. A page depends on no other names of the data. */
+uint32_t bikleinu_names(bikleinu_handle *template_, bikleinu_handle *partials, bikleinu_handle *made);
+
+/* Filters of the caller's.
+ *
+ * No code of the caller's runs while a page is rendered. The answers of its filters stand in a table: each is the answer to one call,
+ * which is the filter's name, the input and the arguments. Where a run needs an answer that the table lacks, there is no page; the
+ * caller is told the calls, puts the answers into the table and renders again. A table is kept for further pages, which mostly need no
+ * second run. So a filter is to be a function of its input and arguments: it isn't asked again what the table has. */
+
+/* Makes a table without filters and answers. */
+uint32_t bikleinu_answers(bikleinu_handle *made);
+
+/* Adds a filter to a table by its name, unless it is there. After anything but 0 nothing changed. A page that calls a registered filter
+ * which the table hasn't ends by BIKLEINU_UNSUPPORTED. */
+uint32_t bikleinu_answers_filter(bikleinu_handle *answers, const uint8_t *name, size_t length);
+
+/* Renders as bikleinu_render_within, with the filters of a table. Where the answer is BIKLEINU_LACKING, page holds calls that the table
+ * lacks: at least one, at most BIKLEINU_CALLS, and each once. Each is to be answered (below), and then the same call made again.
+ *
+ * The run that finds them goes on after the first with nil in its place. So a call may be told that only this nil led to: it is
+ * answered as any other. A filter over the answer of another is told a round later. Once the calls that a run keeps take about
+ * BIKLEINU_CALLS_BYTES bytes, it keeps no further one. A caller bounds the rounds, as a template that takes its time may need many. */
+uint32_t bikleinu_render_with(bikleinu_handle *template_, bikleinu_handle *data, bikleinu_handle *partials, uint32_t depth,
+                              const bikleinu_limits *limits, bikleinu_handle *answers, bikleinu_handle *page);
+
+enum { BIKLEINU_CALLS = 1000, BIKLEINU_CALLS_BYTES = 1048576 };
+
+/* How many calls a handle holds; 0 where it holds something else. As BIKLEINU_TEXT they are a list in JSON, in which each call is a list
+ * of the filter's name, the input and the arguments: [["money",1999,"EUR"],["shout","a"]] */
+size_t bikleinu_calls(bikleinu_handle *calls);
+
+/* Puts the answer to a call into a table, in place of the one that is there. The call is the one of this number, from 0, among those
+ * that calls holds. The answer is what data has as its member "answer", and nil where it has none. Both are copied. After anything but
+ * 0 nothing changed. */
+uint32_t bikleinu_answer(bikleinu_handle *answers, bikleinu_handle *calls, size_t number, bikleinu_handle *data);
+
+/* The same with a fault as the answer: a page that makes the call ends by it, and shows its message (of a message that is longer than
+ * 1,000 bytes or more than a line, a beginning). Its kind is one of 1 to 16, and BIKLEINU_INVALID_INPUT for any other number. */
+uint32_t bikleinu_refuse(bikleinu_handle *answers, bikleinu_handle *calls, size_t number, uint32_t kind, const uint8_t *message, size_t length);
+
 /* Parts of what a handle holds, each as UTF-8. */
 enum {
-    BIKLEINU_TEXT = 0,    /* the text of a page */
+    BIKLEINU_TEXT = 0,    /* the text of a page; calls or names, in JSON */
     BIKLEINU_MESSAGE = 1, /* the message of a fault, or of a page's fault */
     BIKLEINU_NAME = 2,    /* the name of its kind, as UnknownVariable */
     BIKLEINU_PARTIAL = 3  /* the name of the partial that it stands in */

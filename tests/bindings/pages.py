@@ -2,6 +2,7 @@
 import copy
 import os
 import pickle
+import re
 import sys
 import threading
 
@@ -11,7 +12,8 @@ sys.dont_write_bytecode = True
 sys.path[:0] = [HERE, f"{TOP}/bindings/python"]
 
 import bikleinu
-from bikleinu import Data, Language, LimitError, LiquidError, Partials, Template
+from bikleinu import Data, Kind, Language, LimitError, LiquidError, Partials, Template
+from checks import fails, first, raises, told
 from texts import rows, whole
 
 LANGUAGE = Language()
@@ -49,26 +51,6 @@ def wrong_in(row):
     if (fault.name if fault else None) != kind:
         return f"{fault}, and {kind} is wanted"
     return None
-
-
-def fails(call, number):
-    try:
-        call()
-    except LiquidError as fault:
-        return None if fault.number == number and fault.message else f"{fault.number}: {fault.message}, and {number} with a message is wanted"
-    return f"no fault, and {number} is wanted"
-
-
-def raises(call, kind):
-    try:
-        call()
-    except kind as error:
-        return None if str(error) else "no message"
-    return f"no error, and {kind.__name__} is wanted"
-
-
-def first(checks):
-    return next(filter(None, checks), None)
 
 
 def places():
@@ -201,15 +183,25 @@ def limits():
     return None
 
 
-def uncopied():
-    """An object of the library's can't be copied, and stays as it was."""
+def kinds():
+    """Each kind has its number in the header, and an error has its kind."""
+    with open(f"{TOP}/include/bikleinu.h", encoding="utf-8") as file:
+        told = dict(re.findall(r"^    BIKLEINU_(\w+) = (\d+),?(?: |$)", file.read().partition("/* Makes the standard")[0], re.M))
+    named = {kind.name: str(kind.value) for kind in Kind}
+    fault = Template("{{ a }}").page().fault
+    if fault.kind is not Kind.UNKNOWN_VARIABLE or LiquidError(999, "New").kind is not None:
+        return f"{fault.kind!r}"
+    return None if named.items() <= told.items() else f"{set(named.items()) - set(told.items())}"
+
+
+def copies():
+    """What can be copied and pickled shows the same pages; data can't, and stay as they were."""
     data, partials, template = Data({"n": 1}), Partials({"p": "{{ n }}"}), Template("{% include 'p' %}")
-    for it in (data, partials, template, LANGUAGE):
-        for call in (copy.copy, copy.deepcopy, pickle.dumps):
-            wrong = raises(lambda: call(it), TypeError)
-            if wrong:
-                return wrong
-    return None if template.render(data, partials) == "1" else "another page"
+    for copied in (copy.copy, copy.deepcopy, lambda it: pickle.loads(pickle.dumps(it))):
+        wrong = raises(lambda: copied(data), TypeError)
+        if wrong or copied(template).render(data, copied(partials)) != "1" or Template("x", copied(LANGUAGE)).render() != "x":
+            return wrong or "another page"
+    return None if template.render(data, partials) == "1" else "another page at the end"
 
 
 def numbers():
@@ -217,7 +209,7 @@ def numbers():
     return first(
         [
             *(raises(lambda: template.page({}, None, depth), ValueError) for depth in (-1, 2**32, 2**70)),
-            *(raises(lambda: template.page({}, None, depth), TypeError) for depth in (1.5, "3", None)),
+            *(raises(lambda: template.page({}, None, depth), TypeError) for depth in (1.5, "3")),
             *(raises(lambda: template.page(levels=levels), ValueError) for levels in (0, -1, 2**32)),
             *(raises(lambda: template.page(max_turns=turns), ValueError) for turns in (0, -1, 2**64)),
             *(raises(lambda: template.page(max_bytes=count), ValueError) for count in (0, -1, 2**64)),
@@ -230,7 +222,8 @@ CHECKS = {
     "how many levels a run could reach": levels,
     "partials that run themselves": deep_threads,
     "limits on bytes and turns": limits,
-    "copies": uncopied,
+    "kinds": kinds,
+    "copies": copies,
     "numbers out of their bounds": numbers,
     "partials as a mapping": lambda: None if Template("{% render 'p' %}").render({}, {"p": "2"}) == "2" else "another page",
     "partials of another kind": lambda: raises(lambda: Template("").page({}, ["p"]), TypeError),
@@ -247,18 +240,5 @@ CHECKS = {
 }
 
 
-def main():
-    passed = failed = 0
-    named = [*((row["name"], lambda row=row: wrong_in(row)) for row in rows()), *CHECKS.items()]
-    for name, check in named:
-        try:
-            wrong = check()
-        except Exception as error:
-            wrong = repr(error)
-        passed, failed = passed + (not wrong), failed + bool(wrong)
-        if wrong:
-            print(f"{name}: {wrong}")
-    print(f"{passed} passed, {failed} failed")
-
-
-main()
+if __name__ == "__main__":
+    told([*((row["name"], lambda row=row: wrong_in(row)) for row in rows()), *CHECKS.items()])

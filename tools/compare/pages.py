@@ -106,6 +106,18 @@ def people(dice, items):
     return {"people": [one(number) for number in range(items)]}
 
 
+def records(dice, items):
+    """Records of 30 members, of which a page shows four."""
+
+    def one(number):
+        known = {"id": number, "name": person(dice), "city": dice.choice(["Linz", "Graz", "Wien", "Brno"])}
+        known["points"] = dice.randrange(5_000)
+        texts = {f"note_{place}": line(dice, 2, 6) for place in range(20)}
+        return known | texts | {f"count_{place}": dice.randrange(10**6) for place in range(6)}
+
+    return {"records": [one(number) for number in range(items)]}
+
+
 def data_of(page):
     """The data of a page. Its dice are its own, so that it is the same whichever pages are asked for."""
     return page.data(random.Random(page.template), page.items)
@@ -118,5 +130,6 @@ ONCE = [
     Page("report", "report", 1, 40_000, report),
     Page("site page", "site", 1, 2_000, site, ("card",)),
     Page("large data", "large", 1, 11_000, people),
+    Page("wide records", "wide", 1, 4_000, records),
 ]
 PAGES = [page for once in ONCE for page in (once, once.tenfold())]

@@ -1,4 +1,10 @@
 //! The command line.
+use crate::check::check_command;
+use crate::filters::{FilterSet, filter_set, filters_option};
+use crate::forms::{Forms, with_form_options};
+use crate::missing::{Missing, missing_of, missing_option};
+use crate::paths::paths_command;
+use crate::records::{are_in_csv, format_option};
 use crate::stop::Stop;
 use clap::{Arg, ArgAction, ArgMatches, Command, value_parser};
 use liquid_lib::Limits;
@@ -20,8 +26,12 @@ pub struct Inputs<'w> {
     pub template: &'w str,
     /// In the order in which the later wins.
     pub data: Vec<DataFile<'w>>,
+    /// How the data is read.
+    pub forms: Forms<'w>,
     /// Folders, and files as NAME=FILE, in the order in which the later wins.
     pub partials: Vec<&'w str>,
+    /// The set of filters that templates call.
+    pub filters: Option<FilterSet>,
 }
 
 /// A call of `render`.
@@ -30,6 +40,7 @@ pub struct RenderCall<'w> {
     pub inputs: Inputs<'w>,
     pub out: Option<&'w str>,
     pub limits: Limits,
+    pub missing: Missing,
 }
 
 /// A call of `merge`.
@@ -37,6 +48,7 @@ pub struct RenderCall<'w> {
 pub struct MergeCall<'w> {
     pub inputs: Inputs<'w>,
     pub records: &'w str,
+    pub in_csv: bool,
     /// The pattern of the files' names; without one all pages go to standard output.
     pub out: Option<&'w str>,
     pub separator: &'w str,
@@ -57,19 +69,23 @@ pub fn program<'a>(alloc: Global) -> Result<Command<'a>, AllocError> {
         .subcommand_required(true)
         .arg_required_else_help(true)
         .subcommand(render_command(alloc)?)?
-        .subcommand(merge_command(alloc)?)
+        .subcommand(merge_command(alloc)?)?
+        .subcommand(check_command(alloc)?)?
+        .subcommand(paths_command(alloc)?)
 }
 
 fn render_command<'a>(alloc: Global) -> Result<Command<'a>, AllocError> {
     let data = Arg::new(alloc, "DATA").help("The data, as a JSON object; - is standard input");
-    Command::new(alloc, "render")
+    let command = Command::new(alloc, "render")
         .about("Writes the page of a template")
         .after_help(STATUSES)
         .arg(template_word(alloc))?
         .arg(data)?
         .arg(data_option(alloc))?
         .arg(partials_option(alloc))?
+        .arg(filters_option(alloc))?
         .arg(out_option(alloc))?
+        .arg(missing_option(alloc))?
         .arg(limit_option(
             alloc,
             "max-bytes",
@@ -79,12 +95,13 @@ fn render_command<'a>(alloc: Global) -> Result<Command<'a>, AllocError> {
             alloc,
             "max-turns",
             "Ends a page that would run more bodies of tags",
-        ))
+        ))?;
+    with_form_options(alloc, command)
 }
 
 fn merge_command<'a>(alloc: Global) -> Result<Command<'a>, AllocError> {
     let records = Arg::new(alloc, "RECORDS").required(true).help(
-        "The records, a JSON object on each line; - is standard input",
+        "The records: a JSON object on each line, or CSV; - is standard input",
     );
     let command = Command::new(alloc, "merge")
         .about(
@@ -96,7 +113,7 @@ fn merge_command<'a>(alloc: Global) -> Result<Command<'a>, AllocError> {
         .arg(pattern_option(alloc))?
         .arg(data_option(alloc))?
         .arg(partials_option(alloc))?;
-    with_merge_options(alloc, command)
+    with_form_options(alloc, with_merge_options(alloc, command)?)
 }
 
 fn pattern_option<'a>(alloc: Global) -> Arg<'a> {
@@ -117,6 +134,7 @@ fn with_merge_options<'a>(alloc: Global, command: Command<'a>) -> Result<Command
         .default_value("\n")
         .help("What to write after each page on standard output");
     command
+        .arg(format_option(alloc))?
         .arg(separator)?
         .arg(limit_option(alloc, "from", "Begins with this record; the first is 1"))?
         .arg(limit_option(alloc, "count", "Takes so many records at most"))?
@@ -135,15 +153,17 @@ fn flag<'a>(alloc: Global, name: &'static str, help: &'static str) -> Arg<'a> {
         .help(help)
 }
 
-const STATUSES: &str = "Exit status: 0 done, 1 a fault was reported, 2 the command line is wrong.";
+/// What each command's help ends with.
+pub const STATUSES: &str =
+    "Exit status: 0 done, 1 a fault was reported, 2 the command line is wrong.";
 
-fn template_word<'a>(alloc: Global) -> Arg<'a> {
+pub fn template_word<'a>(alloc: Global) -> Arg<'a> {
     Arg::new(alloc, "TEMPLATE")
         .required(true)
         .help("The template; - is standard input")
 }
 
-fn data_option<'a>(alloc: Global) -> Arg<'a> {
+pub fn data_option<'a>(alloc: Global) -> Arg<'a> {
     Arg::new(alloc, "data")
         .short('d')
         .long("data")
@@ -154,7 +174,7 @@ fn data_option<'a>(alloc: Global) -> Arg<'a> {
         )
 }
 
-fn partials_option<'a>(alloc: Global) -> Arg<'a> {
+pub fn partials_option<'a>(alloc: Global) -> Arg<'a> {
     Arg::new(alloc, "partials")
         .short('p')
         .long("partials")
@@ -187,10 +207,13 @@ pub fn render_call<'w>(alloc: Global, given: &ArgMatches<'w>) -> Result<RenderCa
         bytes: given.get_one::<u64>("max-bytes"),
         turns: given.get_one::<u64>("max-turns"),
     };
+    let mut inputs = inputs_of(alloc, given, None)?;
+    inputs.filters = filter_set(given.get_str("filters"));
     Ok(RenderCall {
-        inputs: inputs_of(alloc, given, None)?,
+        inputs,
         out: given.get_str("out"),
         limits,
+        missing: missing_of(given),
     })
 }
 
@@ -202,6 +225,7 @@ pub fn merge_call<'w>(alloc: Global, given: &ArgMatches<'w>) -> Result<MergeCall
     Ok(MergeCall {
         inputs: inputs_of(alloc, given, Some(records))?,
         records,
+        in_csv: are_in_csv(given, records),
         out: given.get_str("out"),
         separator: given.get_str("separator").unwrap_or("\n"),
         from: given.get_one::<u64>("from").unwrap_or(1).max(1),
@@ -211,8 +235,8 @@ pub fn merge_call<'w>(alloc: Global, given: &ArgMatches<'w>) -> Result<MergeCall
     })
 }
 
-/// The files that both commands name, of which one may be standard input, as the records may.
-fn inputs_of<'w>(
+/// The files that a command names, of which one may be standard input, as the records may.
+pub fn inputs_of<'w>(
     alloc: Global,
     given: &ArgMatches<'w>,
     records: Option<&'w str>,
@@ -236,7 +260,9 @@ fn inputs_of<'w>(
     let inputs = Inputs {
         template,
         data,
+        forms: Forms::given(given),
         partials,
+        filters: None,
     };
     let others = (records == Some("-")) as usize;
     if inputs.from_standard_input().saturating_add(others) > 1 {
@@ -246,7 +272,7 @@ fn inputs_of<'w>(
 }
 
 /// A word FILE or NAME=FILE.
-fn data_file<'w>(word: &'w str) -> DataFile<'w> {
+pub fn data_file<'w>(word: &'w str) -> DataFile<'w> {
     match word.split_once('=') {
         Some((name, path)) => DataFile {
             name: Some(name),

@@ -1,6 +1,7 @@
 //! The texts of files.
 use crate::stop::Stop;
 use liquid_excerpts::Reason;
+use std::alloc::Global;
 use std::io::Read;
 use std::{fs, io};
 
@@ -12,13 +13,7 @@ pub fn called(path: &str) -> &str {
 /// The text of the file at a path, or of standard input where the path is `-`.
 pub fn text_at(rt: &HostRuntime, path: &str) -> Result<String, Stop> {
     match bytes_at(rt, path) {
-        Ok(bytes) => match String::from_utf8(bytes) {
-            Ok(text) => Ok(text),
-            Err(refused) => {
-                let reason = Reason::of_bytes(&refused);
-                Err(Stop::unread(rt.alloc(), called(path), reason))
-            }
-        },
+        Ok(bytes) => text_of(rt.alloc(), path, bytes),
         Err(refused) => {
             let reason = Reason::from(refused.kind());
             Err(Stop::unread(rt.alloc(), called(path), reason))
@@ -26,7 +21,19 @@ pub fn text_at(rt: &HostRuntime, path: &str) -> Result<String, Stop> {
     }
 }
 
-fn bytes_at(rt: &HostRuntime, path: &str) -> io::Result<Vec<u8>> {
+/// The text that the bytes of a path are.
+pub fn text_of(alloc: Global, path: &str, bytes: Vec<u8>) -> Result<String, Stop> {
+    match String::from_utf8(bytes) {
+        Ok(text) => Ok(text),
+        Err(refused) => {
+            let reason = Reason::of_bytes(&refused);
+            Err(Stop::unread(alloc, called(path), reason))
+        }
+    }
+}
+
+/// The bytes of the file at a path, or of standard input where the path is `-`.
+pub fn bytes_at(rt: &HostRuntime, path: &str) -> io::Result<Vec<u8>> {
     if path != "-" {
         return fs::read(rt, path);
     }

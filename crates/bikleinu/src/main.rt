@@ -1,22 +1,34 @@
-//! Liquid templates on the command line: `bikleinu render ..` and `bikleinu merge ..`.
+//! Liquid templates on the command line: `bikleinu render ..`, `merge ..`, `check ..` and
+//! `paths ..`.
 #![tactic(auto)]
 
+mod check;
 mod command;
 mod files;
+mod filters;
 mod folder;
+mod forms;
 mod input;
+mod lines;
 mod merge;
+mod missing;
 mod output;
+mod paths;
 mod progress;
 mod records;
 mod render;
 mod report;
+mod rows;
+mod schema;
+mod settings;
 mod sources;
 mod stop;
 mod target;
 
+use crate::check::{check, check_call};
 use crate::command::{merge_call, program, render_call};
 use crate::merge::merge;
+use crate::paths::{paths, paths_call};
 use crate::render::render;
 use crate::stop::Stop;
 use clap::error::ErrorKind;
@@ -45,6 +57,8 @@ fn run(rt: &HostRuntime) -> Result<(), Stop> {
     match matches.subcommand() {
         Some(("render", given)) => render(rt, &render_call(rt.alloc(), given)?),
         Some(("merge", given)) => merge(rt, &merge_call(rt.alloc(), given)?),
+        Some(("check", given)) => check(rt, &check_call(rt.alloc(), given)?),
+        Some(("paths", given)) => paths(rt, &paths_call(rt.alloc(), given)?),
         _ => Err(Stop::Usage("there is no such command")),
     }
 }

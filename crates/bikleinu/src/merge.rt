@@ -3,12 +3,13 @@ use crate::command::MergeCall;
 use crate::input::called;
 use crate::progress::Progress;
 use crate::records::Records;
-use crate::report::Report;
+use crate::rows::HeadFault;
 use crate::sources::{Parts, Sources, read_parts, read_pattern};
 use crate::stop::Stop;
 use crate::target::Target;
 use liquid_excerpts::Reason;
 use liquid_records::{Job, Merge};
+use std::alloc::AllocError;
 use std::io::Read;
 use std::{fs, io};
 
@@ -59,16 +60,33 @@ impl Run<'_> {
     /// Merges the records that a reader gives, and prints how many pages there are and how many
     /// records failed.
     fn all<R: Read + Drop>(&self, target: Target<'_>, reader: R) -> Result<(), Stop> {
-        let mut records = Records::new(self.rt.alloc(), reader)?;
+        let mut records = self.records(reader)?;
         let mut target = target;
         let mut progress = Progress::new(self.rt, self.call.progress);
         for _ in 0..u64::MAX {
             if !self.advance(&mut records)? {
                 break;
             }
-            target = self.one(target, records.number(), records.line(), &mut progress)?;
+            target = self.one(target, &records, &mut progress)?;
         }
         progress.end(self.rt)
+    }
+
+    /// The records that a reader gives. A fault of their head is printed.
+    fn records<R: Read + Drop>(&self, reader: R) -> Result<Records<R>, Stop> {
+        if !self.call.in_csv {
+            return Ok(Records::lines(self.rt.alloc(), reader)?);
+        }
+        match Records::rows(self.rt.alloc(), reader) {
+            Ok(records) => Ok(records),
+            Err(HeadFault::Memory) => Err(Stop::from(AllocError)),
+            Err(HeadFault::Unread(kind)) => Err(self.unread(kind)),
+            Err(fault) => {
+                let path = called(self.call.records);
+                let _ = eprintln!(self.rt; "error: {path}: {fault}");
+                Err(Stop::Faulted)
+            }
+        }
     }
 
     /// Reads the next record that is asked for. Whether there is one.
@@ -87,23 +105,21 @@ impl Run<'_> {
     }
 
     /// Merges one record.
-    fn one<'r>(
+    fn one<'r, R: Read + Drop>(
         &self,
         target: Target<'r>,
-        number: u64,
-        line: &[u8],
+        records: &Records<R>,
         progress: &mut Progress,
     ) -> Result<Target<'r>, Stop> {
-        let Ok(text) = str::from_utf8(line) else {
-            Report::NotUtf8.print(self.rt, &self.sources, number, "");
-            progress.failed(self.rt);
-            return Ok(target);
+        let number = records.number();
+        let (target, outcome) = match records.facts(self.rt.alloc(), self.call.inputs.forms)? {
+            Ok(facts) => target.take(self.rt, self.call.separator, number as usize, facts)?,
+            Err(report) => (target, Err(report)),
         };
-        let (target, outcome) = target.take(self.rt, self.call.separator, number as usize, text)?;
         match outcome {
             Ok(()) => progress.done(self.rt),
             Err(report) => {
-                report.print(self.rt, &self.sources, number, text);
+                report.print(self.rt, &self.sources, number, records.text());
                 progress.failed(self.rt);
             }
         }

@@ -1,25 +1,17 @@
 //! The command `render`.
 use crate::command::RenderCall;
+use crate::filters::page_with;
 use crate::output::{print_text, put_file};
 use crate::sources::{Sources, read_parts};
 use crate::stop::Stop;
-use liquid_lib::{LimitReached, LimitedPage, Limits, Page, render_page_within};
-
-/// How deep partials may be nested.
-const DEPTH: u32 = 32;
+use liquid_lib::{LimitReached, LimitedPage, Limits, Page};
 
 /// Writes the page of a template. A page that ends by a fault goes to standard output up to there,
 /// and into no file.
 pub fn render(rt: &HostRuntime, call: &RenderCall<'_>) -> Result<(), Stop> {
-    let parts = read_parts(rt, &call.inputs)?;
-    let shown = render_page_within(
-        rt.alloc(),
-        &parts.template,
-        &parts.partials,
-        DEPTH,
-        &parts.data,
-        call.limits,
-    )?;
+    let mut parts = read_parts(rt, &call.inputs)?;
+    parts.complete(rt.alloc(), call.missing)?;
+    let shown = page_with(rt.alloc(), call.inputs.filters, &parts, call.limits)?;
     let LimitedPage { page, limit } = shown;
     let Page { text, fault } = page;
     if call.out.is_none() {

@@ -1,5 +1,6 @@
 //! What is printed of a record that has no page.
 use crate::sources::{Sources, print_excerpt};
+use liquid_core::Quoted;
 use liquid_records::{Failure, Why};
 use std::{fmt, io};
 
@@ -8,6 +9,10 @@ use std::{fmt, io};
 pub enum Report {
     /// Its line isn't UTF-8.
     NotUtf8,
+    /// A cell of its row isn't UTF-8.
+    CellNotUtf8,
+    /// Its row has so many cells, and there are so many columns.
+    Cells(usize, usize),
     /// There is no page.
     NoPage(Why),
     /// The page is in no file; and why the last file that was refused was.
@@ -34,21 +39,35 @@ impl fmt::Display for Report {
     fn fmt<W: fmt::Write>(&self, f: &mut fmt::Formatter<W>) -> fmt::Result {
         match self {
             Report::NotUtf8 => f.write_str("its line isn't UTF-8"),
+            Report::CellNotUtf8 => f.write_str("a cell isn't UTF-8"),
+            Report::Cells(found, wanted) => {
+                let cells = if *found == 1 { "cell" } else { "cells" };
+                let columns = if *wanted == 1 { "column" } else { "columns" };
+                write!(
+                    f,
+                    "it has {found} {cells}, and the first row names {wanted} {columns}"
+                )
+            }
             Report::NoPage(why) => write_why(f, why),
             Report::NoFile(failure, reason) => match failure {
                 Failure::NoPage(why) => write_why(f, why),
                 Failure::Again(name, before) => {
-                    let name = Quoted(name.as_str());
+                    let text = name.as_str();
                     write!(
                         f,
-                        "the file `{name}` is that of record {before}: give each record another name"
+                        "the file `{}` is that of record {before}: give each record another name",
+                        Quoted { text }
                     )
                 }
                 Failure::Unwritten(name) => {
-                    let name = Quoted(name.as_str());
+                    let text = name.as_str();
                     match reason {
-                        Some(kind) => write!(f, "the file `{name}` can't be written: {kind}"),
-                        None => write!(f, "the file `{name}` can't be written"),
+                        Some(kind) => write!(
+                            f,
+                            "the file `{}` can't be written: {kind}",
+                            Quoted { text }
+                        ),
+                        None => write!(f, "the file `{}` can't be written", Quoted { text }),
                     }
                 }
             },
@@ -61,30 +80,12 @@ fn write_why<W: fmt::Write>(f: &mut fmt::Formatter<W>, why: &Why) -> fmt::Result
         Why::NoData(fault) | Why::Faulted(fault) => write!(f, "{fault}"),
         Why::Unnamed(fault) => write!(f, "the name of its file: {fault}"),
         Why::BadName(name) => {
-            let name = Quoted(name.as_str());
+            let text = name.as_str();
             write!(
                 f,
-                "the name of its file is `{name}`: a part between slashes needs more than dots"
+                "the name of its file is `{}`: a part between slashes needs more than dots",
+                Quoted { text }
             )
         }
-    }
-}
-
-/// How many characters of a name are shown at most.
-const SHOWN: usize = 60;
-
-/// A name in a message: its beginning, in which a control character is a question mark.
-#[derive(Drop)]
-struct Quoted<'n>(&'n str);
-
-impl fmt::Display for Quoted<'_> {
-    fn fmt<W: fmt::Write>(&self, f: &mut fmt::Formatter<W>) -> fmt::Result {
-        for (place, c) in self.0.chars().enumerate() {
-            if place == SHOWN {
-                return f.write_str("..");
-            }
-            f.write_char(if c.is_control() { '?' } else { c })?;
-        }
-        Ok(())
     }
 }

@@ -1,11 +1,12 @@
 //! A template and its partials with their sources, and what is printed of a fault in one of them.
 use crate::command::{DataFile, Inputs};
+use crate::filters::language_with;
 use crate::folder::{files_below, joined, without_suffix};
+use crate::forms::Forms;
 use crate::input::{called, text_at};
 use crate::stop::Stop;
 use liquid_core::{Error, Location, Object, Origin, Value, store};
-use liquid_excerpts::Excerpt;
-use liquid_json::data_from_json;
+use liquid_excerpts::{Excerpt, ShownPath};
 use liquid_lib::{Language, Partials, Template, language, parse};
 use liquid_records::with_members;
 use std::alloc::Global;
@@ -37,14 +38,14 @@ pub struct Parts {
 
 /// Reads the template, the data and the partials. A fault of one of them is printed.
 pub fn read_parts(rt: &HostRuntime, inputs: &Inputs<'_>) -> Result<Parts, Stop> {
-    let language = language(rt.alloc())?;
+    let language = language_with(rt.alloc(), inputs.filters)?;
     let mut sources = Sources {
         template: source_at(rt, inputs.template)?,
         partials: Vec::new(rt.alloc()),
         names: Vec::new(rt.alloc()),
     };
     let template = parsed(rt, &sources.template, &language)?;
-    let data = read_data(rt, &inputs.data)?;
+    let data = read_data(rt, &inputs.data, inputs.forms)?;
     for word in &inputs.partials {
         sources.add_partials(rt, word)?;
     }
@@ -75,14 +76,19 @@ fn parsed(rt: &HostRuntime, source: &Source, language: &Language) -> Result<Temp
     }
 }
 
-/// The data of all files: the members of each, or its object under its name; the later wins.
-fn read_data(rt: &HostRuntime, files: &[DataFile<'_>]) -> Result<Object, Stop> {
+/// The data of all files: the members of each, or its object under its name; the later wins. The
+/// name `now` is given last.
+pub fn read_data(
+    rt: &HostRuntime,
+    files: &[DataFile<'_>],
+    forms: Forms<'_>,
+) -> Result<Object, Stop> {
     let mut data = Object::new(rt.alloc());
     for file in files {
-        let more = data_at(rt, file.path)?;
+        let more = data_at(rt, file.path, forms)?;
         data = added(rt.alloc(), data, file.name, more)?;
     }
-    Ok(data)
+    forms.with_now(rt.alloc(), data)
 }
 
 fn added(alloc: Global, data: Object, name: Option<&str>, more: Object) -> Result<Object, Stop> {
@@ -101,9 +107,9 @@ fn added(alloc: Global, data: Object, name: Option<&str>, more: Object) -> Resul
 }
 
 /// The data of one file. Its fault is printed.
-fn data_at(rt: &HostRuntime, path: &str) -> Result<Object, Stop> {
+fn data_at(rt: &HostRuntime, path: &str, forms: Forms<'_>) -> Result<Object, Stop> {
     let text = text_at(rt, path)?;
-    match data_from_json(rt.alloc(), text.as_str()) {
+    match forms.data_from(rt.alloc(), text.as_str()) {
         Ok(data) => Ok(data),
         Err(fault) => {
             print_fault(rt, called(path), &fault, Some(text.as_str()));
@@ -125,6 +131,7 @@ pub fn read_pattern(rt: &HostRuntime, pattern: &str) -> Result<Template, Stop> {
 /// Prints a fault in one line, and the line of the text that it is in. What standard error refuses
 /// is lost.
 fn print_fault(rt: &HostRuntime, path: &str, fault: &Error, text: Option<&str>) {
+    let path = ShownPath { path };
     let _ = eprintln!(rt; "error: {path}: {fault}");
     print_excerpt(rt, fault, text);
 }
@@ -142,7 +149,7 @@ impl Sources {
     /// Prints the fault of a page in one line, and the line of the template or the partial that it
     /// is in.
     pub fn print_page_fault(&self, rt: &HostRuntime, fault: &Error) {
-        let path = self.template.path.as_str();
+        let path = self.template_path();
         let _ = eprintln!(rt; "error: {path}: {fault}");
         self.print_excerpt_of(rt, fault);
     }
@@ -156,9 +163,11 @@ impl Sources {
         print_excerpt(rt, fault, text);
     }
 
-    /// The path of the template.
-    pub fn template_path(&self) -> &str {
-        self.template.path.as_str()
+    /// The path of the template, as a message shows it.
+    pub fn template_path(&self) -> ShownPath<'_> {
+        ShownPath {
+            path: self.template.path.as_str(),
+        }
     }
 
     /// The text that a location is in. A partial that is rendered may be found by its name with

@@ -3,7 +3,7 @@ ghost use Rattle.std.specs.Prelude.{◌≡◌};
 ghost use Rattle.bikleinu.specs.Stops.{status_of};
 
 use liquid_core::Error;
-use liquid_excerpts::Reason;
+use liquid_excerpts::{Reason, ShownPath};
 use std::alloc::{AllocError, AllocFailed, Global};
 use std::{fmt, io};
 
@@ -65,6 +65,12 @@ impl Stop {
     }
 }
 
+fn shown(path: &String) -> ShownPath<'_> {
+    ShownPath {
+        path: path.as_str(),
+    }
+}
+
 /// What follows `error: `.
 impl fmt::Display for Stop {
     fn fmt<W: fmt::Write>(&self, f: &mut fmt::Formatter<W>) -> fmt::Result {
@@ -72,8 +78,14 @@ impl fmt::Display for Stop {
             Stop::Refused | Stop::Faulted => Ok(()),
             Stop::Usage(told) => f.write_str(told),
             Stop::Fault(fault) => write!(f, "{fault}"),
-            Stop::Unread(path, reason) => write!(f, "{path}: {reason}"),
-            Stop::Unwritten(path, kind) => write!(f, "{path}: it can't be written: {kind}"),
+            Stop::Unread(path, reason) => {
+                let path = shown(path);
+                write!(f, "{path}: {reason}")
+            }
+            Stop::Unwritten(path, kind) => {
+                let path = shown(path);
+                write!(f, "{path}: it can't be written: {kind}")
+            }
             Stop::Output(kind) => write!(f, "standard output: {kind}"),
         }
     }

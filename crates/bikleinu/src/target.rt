@@ -1,9 +1,11 @@
 //! Where the pages of a merge go.
 use crate::files::{Files, Nowhere};
 use crate::output::print_text;
+use crate::records::Facts;
 use crate::report::Report;
 use crate::stop::Stop;
-use liquid_records::{Fate, Job, Made, Merge, Outcome};
+use liquid_records::{Disk, Fate, Job, Made, Merge, Outcome};
+use std::alloc::Global;
 
 /// Whether a record's page is there, or why not.
 pub type Taken = Result<(), Report>;
@@ -35,24 +37,41 @@ impl<'r> Target<'r> {
         rt: &HostRuntime,
         separator: &str,
         number: usize,
-        text: &str,
+        facts: Facts<'_>,
     ) -> Result<(Target<'r>, Taken), Stop> {
         match self {
             Target::Files(merge, files) => {
                 let mut files = files;
-                let (merge, fate) = merge.take_json(rt.alloc(), number, text, &mut files)?;
+                let (merge, fate) = merged(rt.alloc(), merge, number, facts, &mut files)?;
                 let taken = written(fate, &files);
                 Ok((Target::Files(merge, files), taken))
             }
             Target::Names(merge) => {
-                let (merge, fate) = merge.take_json(rt.alloc(), number, text, &mut Nowhere)?;
+                let (merge, fate) = merged(rt.alloc(), merge, number, facts, &mut Nowhere)?;
                 Ok((Target::Names(merge), named(rt, fate)?))
             }
             Target::Output(job) => {
-                let (job, outcome) = job.made_of_json(rt.alloc(), text, None)?;
+                let (job, outcome) = match facts {
+                    Facts::Text(text) => job.made_of_json(rt.alloc(), text, None)?,
+                    Facts::Data(data) => job.made(rt.alloc(), data, None)?,
+                };
                 Ok((Target::Output(job), printed(rt, separator, outcome)?))
             }
         }
+    }
+}
+
+/// A record that a merge takes.
+fn merged<D: Disk>(
+    alloc: Global,
+    merge: Merge,
+    number: usize,
+    facts: Facts<'_>,
+    disk: &mut D,
+) -> Result<(Merge, Fate), Stop> {
+    match facts {
+        Facts::Text(text) => Ok(merge.take_json(alloc, number, text, disk)?),
+        Facts::Data(data) => Ok(merge.take(alloc, number, data, disk)?),
     }
 }
 

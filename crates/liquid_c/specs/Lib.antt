@@ -1,6 +1,10 @@
 pub mod Calls
+pub mod Hosted
+pub mod Languages
 pub mod Levels
+pub mod Named
 pub mod Numbers
 pub mod Owned
 pub mod Parts
 pub mod Settled
+pub mod Tables

@@ -9,6 +9,7 @@ use Rattle.liquid_c.specs.declared.held.Held.{Held}
 use Rattle.liquid_c.specs.declared.held.Held.TheVariants as held
 use Rattle.liquid_c.specs.declared.refusal.Refusal.{Refusal}
 use Rattle.liquid_c.specs.declared.refusal.Refusal.TheVariants.{NoText, OtherHandle, TooManyLevels}
+use Rattle.liquid_c.specs.declared.refusal.Refusal.TheVariants.{NoSuchCall}
 
 -- the fault, also that of a page
 abbrev pub fault_behind : Held → Option Error
@@ -25,20 +26,24 @@ abbrev pub number_of_limit : LimitReached → ℕ
 number_of_limit Bytes = 104
 number_of_limit Turns = 105
 
--- 0, or the number of the limit that ended a page, or of the fault's kind
+-- 0, or the number of the limit that ended a page, of lacking answers, or of the fault's kind
 abbrev pub number_of_held : Held → ℕ
 number_of_held (held.Ended p limit) = number_of_limit limit
+number_of_held (held.Lacking calls) = 106
 number_of_held h = number_of_fault (fault_behind h)
 
--- the text of a page
+-- the text of a page, or of calls or names in JSON
 abbrev pub text_behind : Held → Text
 text_behind (held.Page p) = string_bytes p.text
 text_behind (held.Ended p limit) = string_bytes p.text
+text_behind (held.Lacking calls) = string_bytes calls.text
+text_behind (held.Names names) = string_bytes names
 text_behind _ = []
 
--- a call that can't be: bytes that are no UTF-8, a handle of another kind, and a run that could
--- reach too many levels
+-- a call that can't be: bytes that are no UTF-8, a handle of another kind, a run that could reach
+-- too many levels, and no call of the number
 abbrev pub number_of_refusal : Refusal → ℕ
 number_of_refusal NoText = 101
 number_of_refusal OtherHandle = 102
 number_of_refusal TooManyLevels = 103
+number_of_refusal NoSuchCall = 107

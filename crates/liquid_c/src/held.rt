@@ -1,9 +1,10 @@
 //! What lies behind a handle.
 ghost use Rattle.std.specs.Prelude.{◌≡◌, option_map};
 ghost use Rattle.liquid_c.specs.Numbers.{fault_behind, text_behind};
-ghost use Rattle.liquid_c.specs.Numbers.{number_of_held, number_of_limit};
+ghost use Rattle.liquid_c.specs.Numbers.{number_of_fault, number_of_held, number_of_limit};
 
 use crate::levels::Levels;
+use liquid_answers::{Answers, Lacking};
 use liquid_core::{Error, Object};
 use liquid_lib::{Language, LimitReached, Page, Partials, Template};
 
@@ -19,31 +20,37 @@ pub enum Held {
     Page(Page),
     /// A page that a limit of the caller's ended.
     Ended(Page, LimitReached),
+    /// Answers to calls of the caller's filters.
+    Answers(Answers),
+    /// Calls that such a table lacks, in place of a page.
+    Lacking(Lacking),
+    /// Names, as a list of texts in JSON.
+    Names(String),
     /// Why there is none of these.
     Fault(Error),
 }
 
 impl Held {
-    /// 0, or the number of the limit that ended a page, or of the fault's kind.
+    /// 0, or the number of the limit that ended a page, of lacking answers, or of the fault's kind.
     pub(crate) fn number(&self) -> u32
         ensures { result ≡ number_of_held self.now }
     {
-        if let Held::Ended(_, limit) = self {
-            return limit_number(*limit);
-        }
-        match self.fault() {
-            Some(fault) => u32::from(fault.kind.number()),
-            None => 0,
+        match self {
+            Held::Ended(_, limit) => limit_number(*limit),
+            Held::Lacking(_) => 106,
+            _ => fault_number(self.fault()),
         }
     }
 
-    /// The text of a page.
+    /// The text of a page, or of calls or names in JSON.
     pub(crate) fn text(&self) -> &str
         ensures { result.now ≡ text_behind self.now }
     {
         match self {
             Held::Page(page) => page.text.as_str(),
             Held::Ended(page, _) => page.text.as_str(),
+            Held::Lacking(calls) => calls.text(),
+            Held::Names(text) => text.as_str(),
             _ => "",
         }
     }
@@ -58,6 +65,15 @@ impl Held {
             Held::Fault(fault) => Some(fault),
             _ => None,
         }
+    }
+}
+
+fn fault_number(fault: Option<&Error>) -> u32
+    ensures { result ≡ number_of_fault (option_map (λ e. e.now) fault.entry) }
+{
+    match fault {
+        Some(fault) => u32::from(fault.kind.number()),
+        None => 0,
     }
 }
 

@@ -6,13 +6,18 @@
 //! changes nothing else.
 #![tactic(auto)]
 
+mod answering;
 mod handle;
 mod held;
+mod hosted;
 mod insert;
 mod kept;
 mod levels;
 mod make;
+mod named;
 mod parse;
 mod read;
 mod refusal;
+mod register;
 mod render;
+mod tables;

@@ -17,6 +17,8 @@ pub enum Refusal {
     OtherHandle,
     /// A run could reach more levels than the caller allows.
     TooManyLevels,
+    /// No call of such a number.
+    NoSuchCall,
 }
 
 impl Refusal {
@@ -28,6 +30,7 @@ impl Refusal {
             Refusal::NoText => 101,
             Refusal::OtherHandle => 102,
             Refusal::TooManyLevels => 103,
+            Refusal::NoSuchCall => 107,
         }
     }
 }

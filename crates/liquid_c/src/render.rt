@@ -36,11 +36,11 @@ pub struct Limits {
 
 /// What a run may do.
 #[derive(Clone, Copy, Drop)]
-struct Allowed {
+pub(crate) struct Allowed {
     /// How many partials it may nest.
-    depth: u32,
+    pub(crate) depth: u32,
     /// How many levels it may reach.
-    levels: u32,
+    pub(crate) levels: u32,
     /// How many bytes it may write; 0 for any number.
     bytes: u64,
     /// How many lists of nodes it may run; 0 for any number.
@@ -99,14 +99,24 @@ pub extern "C" fn bikleinu_render_within(
     ensures facts { facts.new.held ≡ facts.old.held }
     ensures partials { partials.new.held ≡ partials.old.held }
 {
-    let allowed = Allowed {
+    let allowed = allowed_by(depth, limits);
+    let answer = rendered(alloc, template, facts, partials, allowed);
+    settle(alloc, answer, made)
+}
+
+/// What these limits allow.
+pub(crate) fn allowed_by(depth: u32, limits: &Limits) -> Allowed
+    ensures depth { result.depth ≡ depth }
+    ensures levels { result.levels ≡ bound_of limits.now.levels }
+    ensures bytes { result.bytes ≡ limits.now.bytes }
+    ensures turns { result.turns ≡ limits.now.turns }
+{
+    Allowed {
         depth,
         levels: bound_of(limits.levels),
         bytes: limits.bytes,
         turns: limits.turns,
-    };
-    let answer = rendered(alloc, template, facts, partials, allowed);
-    settle(alloc, answer, made)
+    }
 }
 
 fn bound_of(asked: u32) -> u32
@@ -233,11 +243,14 @@ fn limited(
     ensures { ShowsWithin (tree_of template.now) allowed.depth
         (map_held facts.now) (partials_of partials.now) (Ok result) }
 {
-    let limits = liquid_lib::Limits {
-        bytes: limit_of(allowed.bytes),
-        turns: limit_of(allowed.turns),
-    };
-    match render_page_within(alloc, template, partials, allowed.depth, facts, limits) {
+    match render_page_within(
+        alloc,
+        template,
+        partials,
+        allowed.depth,
+        facts,
+        limits_of(allowed),
+    ) {
         Ok(LimitedPage { page, limit }) => match limit {
             None => Held::Page(page),
             Some(limit) => Held::Ended(page, limit),
@@ -246,18 +259,26 @@ fn limited(
     }
 }
 
+/// The limits on bytes and turns.
+pub(crate) fn limits_of(allowed: Allowed) -> liquid_lib::Limits {
+    liquid_lib::Limits {
+        bytes: limit_of(allowed.bytes),
+        turns: limit_of(allowed.turns),
+    }
+}
+
 fn limit_of(asked: u64) -> Option<u64> {
     if asked == 0 { None } else { Some(asked) }
 }
 
-fn empty_facts(alloc: Global) -> Object
+pub(crate) fn empty_facts(alloc: Global) -> Object
     ensures { map_held result ≡ empty }
 {
     BTreeMap::new(alloc)
 }
 
 /// The data behind a handle, or none where it holds something else.
-fn facts_held<'a>(held: Option<&'a Held>, none: &'a Object) -> Option<&'a Object>
+pub(crate) fn facts_held<'a>(held: Option<&'a Held>, none: &'a Object) -> Option<&'a Object>
     requires { map_held none.now ≡ empty }
     ensures { option_map (λ d. map_held d.now) result ≡
         facts_behind (option_map (λ h. h.now) held.entry) }
@@ -270,7 +291,7 @@ fn facts_held<'a>(held: Option<&'a Held>, none: &'a Object) -> Option<&'a Object
 }
 
 /// The partials behind a handle, or none where it holds something else.
-fn partials_held<'a>(held: Option<&'a Held>, none: &'a Partials) -> Option<&'a Partials>
+pub(crate) fn partials_held<'a>(held: Option<&'a Held>, none: &'a Partials) -> Option<&'a Partials>
     requires { partials_of none.now ≡ [] }
     ensures { option_map (λ p. partials_of p.now) result ≡
         partials_behind (option_map (λ h. h.now) held.entry) }
@@ -283,7 +304,7 @@ fn partials_held<'a>(held: Option<&'a Held>, none: &'a Partials) -> Option<&'a P
 }
 
 /// The most levels that one of the partials behind a handle reaches by itself.
-fn levels_held(held: Option<&Held>) -> Levels
+pub(crate) fn levels_held(held: Option<&Held>) -> Levels
     ensures { result ≡ levels_behind (option_map (λ h. h.now) held.entry) }
 {
     match held {

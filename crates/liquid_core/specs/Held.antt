@@ -11,7 +11,7 @@ use Rattle.liquid_model.specs.declared.value.Value.{Value}
 unfoldable pub map_of : Pairs → Map Datum
 map_of ps name = value_at name ps
 
--- an object, as a scope behind all loops is one
+-- an object, as a scope outside every loop is one
 abbrev pub Outer : Type 0
 Outer = BTreeMap (String Global) Value
 

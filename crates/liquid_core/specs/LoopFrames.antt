@@ -1,7 +1,7 @@
 -- What the scopes of a state hold: names, or a loop at one of its items.
 --     item_of items i      item i of a loop's source, nil where there is none
---     frame_map frame local      what a loop binds at its item, where local are the names behind it
---     standing scopes behind      the scopes, the innermost first, over those behind
+--     frame_map frame local      what a loop binds at its item, where local are the outer names
+--     standing scopes behind      the scopes, the innermost first, over the outer ones
 use Rattle.std.specs.Prelude.{◌≡◌, ◌<◌, ◌++◌, ℕ, ◌+◌, ◌-◌, List, [], ◌∷◌, length, take, map, get_or}
 use Rattle.std.specs.Prelude.{Option, Some, None, String, codes}
 use Rattle.std.specs.BTreeMap.{BTreeMap}
@@ -29,7 +29,7 @@ item_of (Lent r) i = get_or (map view r.now) i nil
 item_of (Owned v) i = get_or (map view v.items) i nil
 item_of (Numbers a b) i = number_at a b i
 
--- what `forloop` is before a loop: that of the names behind it, else what was found elsewhere
+-- what `forloop` is before a loop: that of the names outside it, else what was found elsewhere
 abbrev pub parent_of : Option Datum → Datum → Datum
 parent_of (Some d) elsewhere = d
 parent_of None elsewhere = elsewhere

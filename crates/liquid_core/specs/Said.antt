@@ -5,7 +5,7 @@ use Rattle.liquid_model.specs.View.{view}
 use Rattle.liquid_core.specs.declared.resolved.Near.{Near}
 use Rattle.liquid_core.specs.declared.resolved.Near.TheVariants.{Held, Number, Nothing, Unsaid}
 
--- what it is, or that it is what stands behind, or nothing is said
+-- what it is, or that it is what the outer scopes have, or nothing is said
 abbrev pub Says : Near → Option Datum → Option Datum → Type 0
 Says (Held v) is behind = Some (view v.now) ≡ is
 Says (Number n) is behind = Some (number n) ≡ is

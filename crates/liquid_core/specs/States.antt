@@ -26,7 +26,7 @@ pub record Layers : Type 0 where
   pub scopes : List (Map Datum)
   pub assigned : Map Datum
   pub counters : Map Datum
-  -- what was handed in
+  -- the data of the run
   pub globals : Map Datum
   pub registers : Registers
 

@@ -26,8 +26,7 @@ use liquid_model::{Error, ErrorKind, Found, Quoted, Result, Value, ValueCow, lin
 use std::alloc::Global;
 use std::fmt::Display;
 
-/// What follows the spelling in the message of an expression without a value has so many bytes at
-/// most.
+/// The most bytes that follow the spelling in the message of an expression without a value.
 const MOST_WORDS: usize = 600;
 
 /// A literal, or a variable.

@@ -13,8 +13,8 @@ pub enum Items<'d> {
     Numbers(i64, i64),
 }
 
-/// Drops what it holds. By hand, so that a way out of a function that owns one is one call to
-/// prove.
+/// Drops what it holds. Written by hand, so that each early return drops the value by one call
+/// to prove.
 impl Drop for Items<'_> {
     fn drop(self) {
         match self {
@@ -35,8 +35,8 @@ pub enum LoopKind {
     TableRow(Columns),
 }
 
-/// Drops what it holds. By hand, so that a way out of a function that owns one is one call to
-/// prove.
+/// Drops what it holds. Written by hand, so that each early return drops the value by one call
+/// to prove.
 impl Drop for LoopKind {
     fn drop(self) {
         match self {
@@ -98,8 +98,8 @@ pub enum Scope<'d> {
     LoopFrame(LoopFrame<'d>),
 }
 
-/// Drops what it holds. By hand, so that a way out of a function that owns one is one call to
-/// prove.
+/// Drops what it holds. Written by hand, so that each early return drops the value by one call
+/// to prove.
 impl Drop for Scope<'_> {
     fn drop(self) {
         match self {

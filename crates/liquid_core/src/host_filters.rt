@@ -1,4 +1,4 @@
-//! Filters that a host hands in.
+//! Filters that a host provides.
 ghost use Rattle.std.specs.Option.{option_map_or};
 ghost use Rattle.std.specs.Prelude.{◌≡◌, IsTrue, Err, MatchOption, Some, length, map, option_map};
 ghost use Rattle.std.specs.Prelude.{true, Result as Answered};

@@ -1,13 +1,12 @@
-//! Laws of look-up: each function's contract is the law.
+//! Laws of look-up: each clause is a law, and the function does nothing.
 ghost use Rattle.liquid_core.specs.Laws.{InnermostScopeDecides, FirstLayerDecides};
 
-/// The innermost scope that holds a name decides.
-pub fn innermost_scope_decides()
-    ensures { InnermostScopeDecides }
-{}
-
-/// The first layer that holds a path's first name decides, also where the rest of the path leads to
-/// nothing there.
-pub fn first_layer_decides()
-    ensures { FirstLayerDecides }
+/// Looking up a name.
+///
+/// - The innermost scope that holds a name decides.
+/// - The first layer that holds a path's first name decides, also where the rest of the path leads
+///   to nothing there.
+pub fn lookup_laws()
+    ensures innermost_scope_decides { InnermostScopeDecides }
+    ensures first_layer_decides { FirstLayerDecides }
 {}

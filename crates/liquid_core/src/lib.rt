@@ -5,7 +5,9 @@
 mod append_written;
 mod expression;
 mod filter;
+mod foreign_name;
 mod frame;
+mod frame_names;
 mod host_filters;
 mod interrupt;
 pub mod laws;
@@ -15,6 +17,7 @@ mod near_name;
 mod resolved;
 mod spelled;
 mod state;
+mod step_kind;
 mod written;
 
 pub use expression::{Expression, Variable};

@@ -1,13 +1,15 @@
-//! What is said of an expression that has no value, after its spelling: which step leads nowhere,
-//! and which name may be meant.
+//! What a message says of an expression that has no value, after its spelling: which step leads
+//! nowhere, and which name may be meant.
 //! It is made only where a run ends by that fault.
 use crate::expression::{Expression, Variable, expression_value};
+use crate::foreign_name::{filter_meant, is_file_suffix, name_meant};
 use crate::frame::{LoopFrame, LoopKind, Scope};
 use crate::near_name::{NearName, nearer};
 use crate::resolved::Resolved;
 use crate::spelled::{Spelled, SpelledPath};
 use crate::state::State;
-use liquid_model::{Found, Object, Quoted, Value};
+use crate::step_kind::{Kind, kind_of, kind_word};
+use liquid_model::{Object, Quoted, Value};
 use std::alloc::{AllocError, Global};
 use std::fmt::Write;
 
@@ -15,8 +17,14 @@ use std::fmt::Write;
 /// holds.
 const MOST_NAMES: usize = 2000;
 
+/// What to do about a path that has no value.
+const CHECK_SPELLING: &str = "; check its spelling, or test for it with `if`";
+
 /// Words, or refused memory.
 pub(crate) type Words = Result<String, AllocError>;
+
+/// So many keys of a map are named at most.
+const MOST_KEYS: usize = 4;
 
 /// The parts of a loop's object.
 static LOOP_PARTS: [&str; 8] = [
@@ -29,18 +37,6 @@ static LOOP_PARTS: [&str; 8] = [
     "rindex",
     "rindex0",
 ];
-
-/// What a value is to a step.
-#[derive(Clone, Copy)]
-enum Kind<'a> {
-    Nil,
-    Truth,
-    Number(i64),
-    Text(&'a str),
-    List(usize),
-    Map(&'a Object),
-    Loop,
-}
 
 /// A search for the name nearest to one that is meant.
 #[derive(Drop)]
@@ -80,10 +76,10 @@ impl<'n, 'm> Search<'n, 'm> {
     }
 }
 
-/// A name that is near to one that is meant, where fewer than half of its letters are edited.
+/// A name that is near to one that is meant, where at most a third of its letters are edited.
 fn likely<'n>(near: Option<NearName<'n>>, meant: &str) -> Option<NearName<'n>> {
     match near {
-        Some(found) if found.edits.saturating_mul(2) < meant.len() => Some(found),
+        Some(found) if found.edits.saturating_mul(3) <= meant.len() => Some(found),
         _ => None,
     }
 }
@@ -135,8 +131,7 @@ pub(crate) fn words_of_variable<'a, 'd>(
 fn without_name(alloc: Global, variable: &Variable, state: &State<'_>) -> Words {
     let name = variable.name.as_str();
     let quoted = Quoted { text: name };
-    let alone = variable.indexes.is_empty();
-    let mut words = if alone {
+    let mut words = if variable.indexes.is_empty() {
         String::new(alloc)
     } else {
         format!(in alloc; ": there is no `{quoted}`")?
@@ -145,15 +140,51 @@ fn without_name(alloc: Global, variable: &Variable, state: &State<'_>) -> Words 
     look_in_state(alloc, &mut search, state)?;
     match search.near {
         Some(near) => push_near(&mut words, &near)?,
-        None if state.sees_alone() => words.push_str(
-            "; a partial that `render` runs sees only what it is handed, as by `name: name`",
-        )?,
-        None if alone => words.push_str(
-            "; look at its spelling, ask for it by `if`, or put a text in quotes",
-        )?,
-        None => words.push_str("; look at its spelling, or ask for it by `if`")?,
+        None => push_advice(&mut words, variable, state)?,
     }
     Ok(words)
+}
+
+/// Of a name that nothing is called by, and that is near to none.
+fn push_advice(
+    words: &mut String,
+    variable: &Variable,
+    state: &State<'_>,
+) -> Result<(), AllocError> {
+    let text = variable.name.as_str();
+    let quoted = Quoted { text };
+    if let Some(meant) = name_meant(text) {
+        return write!(words, "; {meant}");
+    }
+    if let Some(suffix) = file_suffix(variable) {
+        return write!(
+            words,
+            "; the name of a file stands in quotes, as `'{quoted}.{suffix}'`"
+        );
+    }
+    if state.sees_alone() {
+        return write!(
+            words,
+            "; a partial that `render` runs sees only what it is handed, as by `{quoted}: {quoted}`"
+        );
+    }
+    if variable.indexes.is_empty() {
+        return write!(
+            words,
+            "; check its spelling, test for it with `if`, or write `'{quoted}'` for a text"
+        );
+    }
+    words.push_str(CHECK_SPELLING)
+}
+
+/// The suffix of a file's name that isn't quoted.
+fn file_suffix(variable: &Variable) -> Option<&str> {
+    match variable.indexes.as_slice() {
+        [Expression::Literal(Value::Text(step))] if is_file_suffix(step.as_str()) => {
+            Some(step.as_str())
+        }
+        _ => None,
+    }
 }
 
 /// Of a step whose own value is missing.
@@ -183,13 +214,51 @@ fn without_step(alloc: Global, path: &SpelledPath<'_>, base: Kind<'_>, key: Kind
         },
         Kind::Truth | Kind::Number(_) => {}
     }
+    let mut words = without_parts(alloc, &quoted, base)?;
+    push_other_step(&mut words, &quoted, base, key)?;
+    Ok(words)
+}
+
+/// What it is that a step leads nowhere from.
+fn without_parts(alloc: Global, path: &Quoted<'_>, base: Kind<'_>) -> Words {
     match base {
-        Kind::List(1) => format!(in alloc; ": `{quoted}` is a list of 1 item"),
-        Kind::List(count) => format!(in alloc; ": `{quoted}` is a list of {count} items"),
+        Kind::List(1) => format!(in alloc; ": `{path}` is a list of 1 item"),
+        Kind::List(count) => format!(in alloc; ": `{path}` is a list of {count} items"),
         _ => {
             let what = kind_word(base);
-            format!(in alloc; ": `{quoted}` is {what}")
+            format!(in alloc; ": `{path}` is {what}")
         }
+    }
+}
+
+/// What to write in place of a step that leads nowhere.
+fn push_other_step(
+    words: &mut String,
+    path: &Quoted<'_>,
+    base: Kind<'_>,
+    key: Kind<'_>,
+) -> Result<(), AllocError> {
+    match (base, key) {
+        (Kind::Nil, _) => Ok(()),
+        (_, Kind::Text(name)) if filter_meant(name).is_some() => push_filter(words, path, name),
+        (Kind::List(0), _) => Ok(()),
+        (Kind::List(_), Kind::Text(_)) => {
+            write!(
+                words,
+                "; its first is `{path}[0]`, and a `for` goes over all"
+            )
+        }
+        (Kind::List(_), _) => words.push_str(", whose places count from 0"),
+        _ => Ok(()),
+    }
+}
+
+/// Of a step with the name of a filter.
+fn push_filter(words: &mut String, path: &Quoted<'_>, name: &str) -> Result<(), AllocError> {
+    match filter_meant(name) {
+        Some("size") => write!(words, "; write `{path}.size`"),
+        Some(filter) => write!(words, "; write `{path} | {filter}`"),
+        None => Ok(()),
     }
 }
 
@@ -208,9 +277,33 @@ fn without_key(alloc: Global, path: &Quoted<'_>, name: &str, map: Option<&Object
     }
     match search.near {
         Some(near) => push_near(&mut words, &near)?,
-        None => words.push_str("; look at its spelling, or ask for it by `if`")?,
+        None if filter_meant(name).is_some() => push_filter(&mut words, path, name)?,
+        None => push_keys(&mut words, map)?,
     }
     Ok(words)
+}
+
+/// The keys that a map or the object of a loop has, or some of them.
+fn push_keys(words: &mut String, map: Option<&Object>) -> Result<(), AllocError> {
+    let Some(object) = map else {
+        return words.push_str(
+            "; it has `first`, `index`, `index0`, `last`, `length`, `parentloop`, `rindex` and `rindex0`",
+        );
+    };
+    for (count, name) in object.keys().enumerate() {
+        if count == MOST_KEYS {
+            return words.push_str(" and others");
+        }
+        let quoted = Quoted {
+            text: name.as_str(),
+        };
+        words.push_str(if count == 0 { "; it has `" } else { ", `" })?;
+        write!(words, "{quoted}`")?;
+    }
+    if object.is_empty() {
+        words.push_str(CHECK_SPELLING)?;
+    }
+    Ok(())
 }
 
 fn push_near(words: &mut String, near: &NearName<'_>) -> Result<(), AllocError> {
@@ -224,10 +317,13 @@ fn look_in_state<'n>(
     search: &mut Search<'n, '_>,
     state: &'n State<'_>,
 ) -> Result<(), AllocError> {
-    for word in &["true", "false", "nil"] {
+    for word in &["true", "false", "nil", "null"] {
         if word.eq_ignore_ascii_case(search.meant) {
             search.look(alloc, *word)?;
         }
+    }
+    if search.meant != "forloop" {
+        search.look(alloc, "forloop")?;
     }
     for scope in state.frames() {
         match scope {
@@ -252,45 +348,5 @@ fn look_in_frame<'n>(
     match &frame.kind {
         LoopKind::For(_) | LoopKind::Render => search.look(alloc, "forloop"),
         LoopKind::TableRow(_) => search.look(alloc, "tablerow"),
-    }
-}
-
-fn kind_of<'a>(resolved: &Resolved<'a, '_>) -> Kind<'a> {
-    match resolved {
-        Resolved::Lent(found) => kind_of_found(found),
-        Resolved::Near(found) => kind_of_found(found),
-        Resolved::Loop(_, _) => Kind::Loop,
-    }
-}
-
-fn kind_of_found<'a>(found: &Found<'a>) -> Kind<'a> {
-    match found {
-        Found::Held(value) => kind_of_value(*value),
-        Found::Length(n) => Kind::Number(*n),
-        Found::Truth(_) => Kind::Truth,
-        Found::Nil => Kind::Nil,
-    }
-}
-
-fn kind_of_value<'a>(value: &'a Value) -> Kind<'a> {
-    match value {
-        Value::Nil => Kind::Nil,
-        Value::Bool(_) => Kind::Truth,
-        Value::Integer(n) => Kind::Number(*n),
-        Value::Text(text) => Kind::Text(text.as_str()),
-        Value::Array(items) => Kind::List(items.len()),
-        Value::Object(object) => Kind::Map(object),
-    }
-}
-
-/// What a value is, in a word with its article.
-fn kind_word(kind: Kind<'_>) -> &'static str {
-    match kind {
-        Kind::Nil => "nil",
-        Kind::Truth => "a truth value",
-        Kind::Number(_) => "a number",
-        Kind::Text(_) => "a text",
-        Kind::List(_) => "a list",
-        Kind::Map(_) | Kind::Loop => "a map",
     }
 }

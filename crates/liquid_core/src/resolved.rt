@@ -4,32 +4,29 @@ ghost use Rattle.std.specs.Prelude.{IfSome, IsOk, option_map, map, reverse, Some
 ghost use Rattle.liquid_model.specs.Answer.{IsValueOrMemory};
 ghost use Rattle.liquid_model.specs.Cow.{cow_view};
 ghost use Rattle.liquid_model.specs.Find.{step};
-ghost use Rattle.liquid_model.specs.Found.{found_view};
 ghost use Rattle.liquid_model.specs.View.{view, pairs_view};
 ghost use Rattle.liquid_model.specs.Data.{Datum, object};
 ghost use Rattle.liquid_core.specs.Environment.{local_of};
 ghost use Rattle.liquid_core.specs.Held.{Outer, held};
-ghost use Rattle.liquid_core.specs.Places.{number_at};
 ghost use Rattle.liquid_core.specs.Resolved.{scopes_view, resolved_view, IsAmong, IsHeld, depth};
 ghost use Rattle.liquid_core.specs.Said.{Says};
 ghost use Rattle.liquid_model.specs.Maps.{Map};
 ghost use Rattle.liquid_core.specs.declared.frame.Scope.{Scope};
 ghost use Rattle.liquid_core.specs.declared.frame.Scope.TheVariants as scope;
 ghost use Rattle.liquid_core.specs.declared.frame.LoopFrame.{LoopFrame};
-ghost use Rattle.liquid_core.specs.LoopFrames.{IsNext, parent_of, frame_item, frame_map};
-ghost use Rattle.liquid_core.specs.LoopFrames.{frame_object, object_part, loop_name, scope_map};
+ghost use Rattle.liquid_core.specs.LoopFrames.{IsNext};
+ghost use Rattle.liquid_core.specs.LoopFrames.{frame_object, scope_map};
 ghost use Rattle.liquid_core.specs.LoopFrames.{standing};
 
-use crate::frame::{Items, LoopFrame, LoopKind, Scope};
+use crate::frame::{LoopFrame, LoopKind, Scope};
 use crate::loop_object::{forloop_object, tablerow_object};
-use itoa::Buffer;
 use liquid_model::{Found, Object, Result, Value, ValueCow, look_up};
 use std::alloc::Global;
 
 /// The scopes of a state, lent.
 #[derive(Clone, Copy, Drop)]
 pub struct Scopes<'a, 'd> {
-    /// The scopes behind each loop.
+    /// The scopes outside every loop.
     pub outer: &'a [Object],
     /// The loops, and the scopes that stand over one.
     pub frames: &'a [Scope<'d>],
@@ -60,157 +57,6 @@ pub enum Near<'a> {
 }
 
 impl<'d> LoopFrame<'d> {
-    /// The item, where a value holds it, or it is a number.
-    fn near_item<'a>(&'a self) -> Near<'a>
-        ensures { Says result (Some (frame_item self.now)) None }
-    {
-        let forwards = self.at;
-        let place = if self.reversed {
-            self.count - forwards - 1
-        } else {
-            forwards
-        };
-        let place = self.from + place;
-        let items: &'a [Value] = match &self.items {
-            Items::Lent(items) => *items,
-            Items::Owned(items) => items.as_slice(),
-            Items::Numbers(first, last) => {
-                return match number_at(*first, *last, place) {
-                    Found::Length(n) => Near::Number(n),
-                    _ => Near::Unsaid,
-                };
-            }
-        };
-        if place < items.len() {
-            Near::Held(&items[place])
-        } else {
-            Near::Unsaid
-        }
-    }
-
-    /// `find` of what a value holds, and of numbers.
-    fn near<'a>(&'a self, name: &str) -> Near<'a>
-        ensures { (local : Map Datum) → Says result (frame_map self.now local name.now) None }
-    {
-        if name == self.name {
-            self.near_item()
-        } else if name == self.kind.name() {
-            Near::Unsaid
-        } else {
-            Near::Nothing
-        }
-    }
-
-    /// The item.
-    fn item<'a>(&'a self) -> Resolved<'a, 'd>
-        ensures value { resolved_view result ≡ frame_item self.now }
-        ensures held { depth result ≡ 0 }
-    {
-        let forwards = self.at;
-        let place = if self.reversed {
-            self.count - forwards - 1
-        } else {
-            forwards
-        };
-        let place = self.from + place;
-        match &self.items {
-            Items::Lent(items) => {
-                let items: &'d [Value] = *items;
-                if place < items.len() {
-                    Resolved::Lent(Found::Held(&items[place]))
-                } else {
-                    Resolved::Near(Found::Nil)
-                }
-            }
-            Items::Owned(items) => {
-                if place < items.len() {
-                    Resolved::Near(Found::Held(&items[place]))
-                } else {
-                    Resolved::Near(Found::Nil)
-                }
-            }
-            Items::Numbers(first, last) => Resolved::Near(number_at(*first, *last, place)),
-        }
-    }
-
-    /// What the frame binds to the name.
-    fn find<'a>(&'a self, name: &str, behind: Scopes<'a, 'd>) -> Option<Resolved<'a, 'd>>
-        ensures value { option_map resolved_view result ≡
-            frame_map self.now (local_of (scopes_view behind.entry)) name.now }
-        ensures among { IfSome result
-            (IsAmong (behind.entry.frames.now ++ scope.LoopFrame self.now ∷
-            []) behind.entry.outer.now) }
-        ensures nested { IfSome result (λ s. depth s ≤ length behind.entry.frames.now + 1) }
-    {
-        if name == self.name {
-            Some(self.item())
-        } else if name == self.kind.name() {
-            Some(Resolved::Loop(self, behind))
-        } else {
-            None
-        }
-    }
-
-    /// A step from the loop's object.
-    fn stepped<'a>(&'a self, part: &Value, behind: Scopes<'a, 'd>) -> Option<Resolved<'a, 'd>>
-        ensures value { option_map resolved_view result ≡
-            step (frame_object self.now (local_of (scopes_view behind.entry))) (view part.now) }
-        ensures among { IfSome result (IsAmong behind.entry.frames.now behind.entry.outer.now) }
-    {
-        match part {
-            Value::Integer(n) => self.part(Buffer::new().format(*n), behind),
-            Value::Bool(true) => self.part("true", behind),
-            Value::Bool(false) => self.part("false", behind),
-            Value::Text(name) => self.part(name.as_str(), behind),
-            _ => None,
-        }
-    }
-
-    /// A part of the loop's object, or how many it has.
-    fn part<'a>(&'a self, name: &str, behind: Scopes<'a, 'd>) -> Option<Resolved<'a, 'd>>
-        ensures value { option_map resolved_view result ≡
-            object_part (frame_object self.now (local_of (scopes_view behind.entry))) name.now }
-        ensures among { IfSome result (IsAmong behind.entry.frames.now behind.entry.outer.now) }
-    {
-        let k = self.at;
-        let m = self.count;
-        match name {
-            "length" => Some(Resolved::Near(Found::Length(m as i64))),
-            "index0" => Some(Resolved::Near(Found::Length(k as i64))),
-            "index" => Some(Resolved::Near(Found::Length((k + 1) as i64))),
-            "rindex0" => Some(Resolved::Near(Found::Length((m - k - 1) as i64))),
-            "rindex" => Some(Resolved::Near(Found::Length((m - k) as i64))),
-            "first" => Some(Resolved::Near(Found::Truth(k == 0))),
-            "last" => Some(Resolved::Near(Found::Truth(k + 1 == m))),
-            _ => match &self.kind {
-                LoopKind::For(elsewhere) => match name {
-                    "parentloop" => Some(parent(behind.find("forloop"), elsewhere)),
-                    "size" => Some(Resolved::Near(Found::Length(8))),
-                    _ => None,
-                },
-                LoopKind::Render => match name {
-                    "parentloop" => Some(Resolved::Near(Found::Nil)),
-                    "size" => Some(Resolved::Near(Found::Length(8))),
-                    _ => None,
-                },
-                LoopKind::TableRow(columns) => {
-                    let columns = columns.count;
-                    let column = k % columns;
-                    match name {
-                        "col0" => Some(Resolved::Near(Found::Length(column as i64))),
-                        "col" => Some(Resolved::Near(Found::Length((column + 1) as i64))),
-                        "col_first" => Some(Resolved::Near(Found::Truth(column == 0))),
-                        "col_last" => Some(Resolved::Near(Found::Truth(
-                            column + 1 == columns || k + 1 == m,
-                        ))),
-                        "size" => Some(Resolved::Near(Found::Length(11))),
-                        _ => None,
-                    }
-                }
-            },
-        }
-    }
-
     /// The loop's object.
     #[cycle(object)]
     fn object<'a>(&'a self, alloc: Global, behind: Scopes<'a, 'd>) -> Result<Object>
@@ -232,43 +78,6 @@ impl<'d> LoopFrame<'d> {
                 self.count,
                 columns.count,
             ),
-        }
-    }
-}
-
-/// What `forloop` was before a loop.
-fn parent<'a, 'd>(found: Option<Resolved<'a, 'd>>, elsewhere: &'a Value) -> Resolved<'a, 'd>
-    ensures value { resolved_view result ≡ parent_of (option_map resolved_view found.entry)
-        (view elsewhere.now) }
-    ensures among { (scopes : List Scope) (outer : List Outer) →
-        IfSome found.entry (IsAmong scopes outer) →
-        IsAmong scopes outer result }
-{
-    match found {
-        Some(resolved) => resolved,
-        None => Resolved::Near(Found::Held(elsewhere)),
-    }
-}
-
-/// The number at a place from the first on, up to the last.
-fn number_at<'a>(first: i64, last: i64, place: usize) -> Found<'a>
-    ensures { found_view result ≡ number_at first last place }
-{
-    let n = first as i128 + place as i128;
-    if n <= last as i128 {
-        Found::Length(n as i64)
-    } else {
-        Found::Nil
-    }
-}
-
-impl LoopKind {
-    fn name(&self) -> &'static str
-        ensures { result.now ≡ loop_name self.now }
-    {
-        match self {
-            LoopKind::For(_) | LoopKind::Render => "forloop",
-            LoopKind::TableRow(_) => "tablerow",
         }
     }
 }
@@ -378,8 +187,8 @@ impl<'a, 'd> Resolved<'a, 'd> {
 }
 
 impl<'a, 'd> Scopes<'a, 'd> {
-    /// `find` of what a value holds, and of numbers; where no loop says anything, the scopes behind
-    /// each loop do.
+    /// `find` of what a value holds, and of numbers; where no loop says anything, the scopes
+    /// outside every loop do.
     #[inline(never)]
     pub(crate) fn near(self, name: &str) -> Near<'a>
         ensures { Says result (local_of (scopes_view self.entry) name.now)

@@ -8,7 +8,7 @@ use Rattle.jiff_strtime.specs.Directive.{read_extension, read_width}
 use Rattle.jiff_strtime.specs.Number.{match_result}
 use Rattle.jiff_strtime.specs.Show.{text_of, items_from, directive_text, percent_text, shown_then, show_f, show_letter, step_text, show_steps, show_format}
 use Rattle.liquid_date_filters.specs.Clock.{clock_of, week_year_of, week_of}
-use Rattle.liquid_date_filters.specs.Printed.{strict, context, shown}
+use Rattle.liquid_date_filters.specs.Printed.{strict, context, show_clock}
 use Rattle.liquid_date_filters.specs.Own.{own, IsWeekOf}
 use Rattle.liquid_date_filters.proofs.Weeks.{year_is, week_is}
 
@@ -62,5 +62,5 @@ steps_same zero fmt dt o i out h = refl
 steps_same (suc fuel) fmt dt o i out h = bind_same _ _ _ _ (step_same fmt dt o i h) (λ t. steps_same fuel t.1 dt o i (out ++ t.0) h)
 
 -- the whole pattern
-pub own_is : (pattern : List ℕ) (dt : DateTime) (o : ℤ) (i : ISOWeekDate) → IsWeekOf i dt → show_format strict pattern (own dt o i) ≡ shown (clock_of dt o) pattern
+pub own_is : (pattern : List ℕ) (dt : DateTime) (o : ℤ) (i : ISOWeekDate) → IsWeekOf i dt → show_format strict pattern (own dt o i) ≡ show_clock (clock_of dt o) pattern
 own_is pattern dt o i h = steps_same _ pattern dt o i [] h

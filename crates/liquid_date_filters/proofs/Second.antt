@@ -11,7 +11,7 @@ use Rattle.jiff_strtime.specs.Directive.{read_extension, read_width}
 use Rattle.jiff_strtime.specs.Number.{match_result}
 use Rattle.jiff_strtime.specs.Show.{Context, Shown, text_of, items_from, directive_text, percent_text, shown_then, show_f, show_letter, step_text, show_steps, show_format}
 use Rattle.liquid_date_filters.specs.Clock.{Clock, parts, unix_second}
-use Rattle.liquid_date_filters.specs.Printed.{strict, context, shown}
+use Rattle.liquid_date_filters.specs.Printed.{strict, context, show_clock}
 
 -- the two are the same, or the first lacks the instant
 abbrev pub Same : {A : Type 0} → Result A Error → Result A Error → Type 0
@@ -102,5 +102,5 @@ steps_same zero fmt c f out h = inl refl
 steps_same (suc fuel) fmt c f out h = bind_same _ _ _ _ (step_same fmt c f h) (λ t. steps_same fuel t.1 c f (out ++ t.0) h)
 
 -- the whole pattern
-pub shown_same : (pattern : List ℕ) (c : Clock) (f : Found) → IsSecond c f.second → Same (show_format strict pattern (with_found c f)) (shown c pattern)
+pub shown_same : (pattern : List ℕ) (c : Clock) (f : Found) → IsSecond c f.second → Same (show_format strict pattern (with_found c f)) (show_clock c pattern)
 shown_same pattern c f h = steps_same _ pattern c f [] h

@@ -17,7 +17,7 @@ use Rattle.std.proofs.lemmas.Str.{IsUtf8-from_is_utf8, is_utf8-from_IsUtf8}
 use Rattle.liquid_model.specs.declared.error.ErrorKind.TheVariants.{DateFormat}
 use Rattle.jiff_core.specs.declared.error.Error.TheVariants.{OutOfMemory}
 use Rattle.jiff_strtime.specs.Show.{IsBadText}
-use Rattle.liquid_date_filters.specs.Printed.{strict, shown, printed, is_short}
+use Rattle.liquid_date_filters.specs.Printed.{strict, show_clock, printed, is_short}
 use Rattle.liquid_date_filters.proofs.Second.{Same, IsSecond, Found, with_found, shown_same}
 
 held : (tm : BrokenDownTime) (c : Clock) (o : Option Timestamp) (t : Timestamp) → tm.timestamp ≡ o → option_map (λ x. x.nanosecond) o ≡ Some (instant c) → IsInstantOf tm t → t.nanosecond ≡ instant c
@@ -32,7 +32,7 @@ config_is : (config : Config) → config.locale ≡ Default → config.lenient �
 config_is config locale lenient = rw (locale, lenient) refl
 
 shown_in : (format : List ℕ) (tm : BrokenDownTime) (c : Clock) (r : Shown) (cx : Context) → cx.parts ≡ parts c → SecondResult tm cx.second → parts_of tm ≡ parts c
-    → show_format strict format cx ≡ r → Same r (shown c format)
+    → show_format strict format cx ≡ r → Same r (show_clock c format)
 shown_in format tm c r cx is second same e =
     let found : Found = record { date = cx.date; iso = cx.iso; second = cx.second } in
     let whole : cx ≡ with_found c found = rw is refl in
@@ -40,12 +40,12 @@ shown_in format tm c r cx is second same e =
     rw (← e, whole) all
 
 pub shown_of : (config : Config) (format : List ℕ) (tm : BrokenDownTime) (c : Clock) (r : Shown) → config.locale ≡ Default → config.lenient ≡ false → parts_of tm ≡ parts c
-    → IsShownAs config format tm r → Same r (shown c format)
+    → IsShownAs config format tm r → Same r (show_clock c format)
 shown_of config format tm c r locale lenient same h =
     shown_in format tm c r h.context (h.is_context.parts ∙ same) h.is_context.second same (rw (← config_is config locale lenient) h.shown_is)
 
 -- what the text is, and what a refusal is
-pub printed_ok : (c : Clock) (format bs : List ℕ) → IsUtf8 bs → Same (Ok bs) (shown c format) → printed c format ≡ Ok bs
+pub printed_ok : (c : Clock) (format bs : List ℕ) → IsUtf8 bs → Same (Ok bs) (show_clock c format) → printed c format ≡ Ok bs
 printed_ok c format bs text (inl e) = rw (← e, is_utf8-from_IsUtf8 bs text) refl
 printed_ok c format bs text (inr e) = search (rules, e)
 
@@ -55,11 +55,11 @@ no_text bs h = elim (is_utf8 bs) as (λ v. is_utf8 bs ≡ v → v ≡ false) [
   | false ↦ λ e. refl
 ] refl
 
-printed_bad : (c : Clock) (format bs : List ℕ) → (IsUtf8 bs → ⊥) → Same (Ok bs) (shown c format) → printed c format ≡ Err DateFormat
+printed_bad : (c : Clock) (format bs : List ℕ) → (IsUtf8 bs → ⊥) → Same (Ok bs) (show_clock c format) → printed c format ≡ Err DateFormat
 printed_bad c format bs bad (inl e) = rw (← e, no_text bs bad) refl
 printed_bad c format bs bad (inr e) = search (rules, e)
 
-printed_err : (c : Clock) (format : List ℕ) (e : Error) → is_short e ≡ false → Same (Err e) (shown c format) → printed c format ≡ Err DateFormat
+printed_err : (c : Clock) (format : List ℕ) (e : Error) → is_short e ≡ false → Same (Err e) (show_clock c format) → printed c format ≡ Err DateFormat
 printed_err c format e long (inl same) = rw (← same) refl
 printed_err c format e long (inr short) = search (rules, short, long)
 

@@ -2,7 +2,7 @@
 use Rattle.std.proofs.Common.{◌≡◌, refl, ℕ, zero, suc, pos, ◌+◌, ◌-◌, ◌*◌, ◌/◌, ◌%◌, ◌==◌, ◌<◌, ◌≤◌, Bool, true, false, List, [], ◌∷◌, ◌++◌, Some, None, arith}
 use Rattle.std.proofs.lemmas.Bool.Decides.{nat_tests}
 use Rattle.std.specs.Char.{is_ascii_digit}
-use Rattle.liquid_date_filters.specs.Written.{two_digits, four_digits, letters, named_written, plain_written, short_written, time_written, sign_of, offset_written, written}
+use Rattle.liquid_date_filters.specs.Written.{two_digits, four_digits, letters, named_written, plain_written, short_written, time_written, sign_of, offset_written, date_written}
 use Rattle.liquid_date_filters.specs.Spelling.{clock, digit, exists, two, four, past, one_or_two, month, named_day, plain_day, read, Day, Time, time, sign, offset, Offset, spelled, Spelled}
 use Rattle.liquid_date_filters.specs.Laws.{NamedIsRead, PlainIsRead, ShortIsRead}
 use Rattle.jiff_core.proofs.CalendarLemmas.{days_in_month_bounds}
@@ -109,8 +109,8 @@ short_read d s k low high y =
     let after = 32 ∷ four_digits d.year s in
     rw (one_alone d.day (letters d.month ++ after) k, month_read d.month after low high, four_read d.year s y) refl
 
-spelled_by : (x : Spelled) (day : Day → List ℕ → List ℕ) → named_day (written day x) ≡ Some (x.date, 32 ∷ time_written x.time (32 ∷ offset_written x.offset []))
-    → x.time.hour < 100 → x.time.minute < 100 → x.time.second < 100 → x.offset.hours < 100 → x.offset.minutes < 100 → spelled (written day x) ≡ Some x
+spelled_by : (x : Spelled) (day : Day → List ℕ → List ℕ) → named_day (date_written day x) ≡ Some (x.date, 32 ∷ time_written x.time (32 ∷ offset_written x.offset []))
+    → x.time.hour < 100 → x.time.minute < 100 → x.time.second < 100 → x.offset.hours < 100 → x.offset.minutes < 100 → spelled (date_written day x) ≡ Some x
 unfolding spelled
 spelled_by x day e h n s o q = rw (e, time_read x.time (32 ∷ offset_written x.offset []) h n s, offset_read x.offset [] o q) refl
 
@@ -148,18 +148,18 @@ exists_read x s e h = rw (h, e) refl
 pub plain_is_read : PlainIsRead
 plain_is_read x e =
     let w = within x e in
-    exists_read x (written plain_written x) e (spelled_read x w.year (omega (arith, w.month_high)) w.day w.hour w.minute w.second w.hours w.minutes)
+    exists_read x (date_written plain_written x) e (spelled_read x w.year (omega (arith, w.month_high)) w.day w.hour w.minute w.second w.hours w.minutes)
 
 pub named_is_read : NamedIsRead
 named_is_read x e =
     let w = within x e in
     let after = 32 ∷ time_written x.time (32 ∷ offset_written x.offset []) in
-    exists_read x (written named_written x) e
+    exists_read x (date_written named_written x) e
     (spelled_by x named_written (named_read x.date after w.day w.month_low w.month_high w.year) w.hour w.minute w.second w.hours w.minutes)
 
 pub short_is_read : ShortIsRead
 short_is_read x e l =
     let w = within x e in
     let after = 32 ∷ time_written x.time (32 ∷ offset_written x.offset []) in
-    exists_read x (written short_written x) e
+    exists_read x (date_written short_written x) e
     (spelled_by x short_written (short_read x.date after l w.month_low w.month_high w.year) w.hour w.minute w.second w.hours w.minutes)

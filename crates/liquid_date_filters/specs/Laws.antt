@@ -15,23 +15,24 @@ use Rattle.liquid_date_filters.specs.Dates.{as_text, date_answer, date_in_tz_ans
 use Rattle.liquid_date_filters.specs.Instant.{clock_at}
 use Rattle.liquid_date_filters.specs.Printed.{printed}
 use Rattle.liquid_date_filters.specs.Spelling.{Spelled, clock, exists, read}
-use Rattle.liquid_date_filters.specs.Written.{named_written, plain_written, short_written, written}
+use Rattle.liquid_date_filters.specs.Written.{named_written, plain_written, short_written}
+use Rattle.liquid_date_filters.specs.Written.{date_written}
 
 -- a date that exists is read in each way in which it may be written
 abbrev pub PlainIsRead : Type 0
-PlainIsRead = (x : Spelled) → exists x ≡ true → read (written plain_written x) ≡ Some (clock x)
+PlainIsRead = (x : Spelled) → exists x ≡ true → read (date_written plain_written x) ≡ Some (clock x)
 
 abbrev pub NamedIsRead : Type 0
-NamedIsRead = (x : Spelled) → exists x ≡ true → read (written named_written x) ≡ Some (clock x)
+NamedIsRead = (x : Spelled) → exists x ≡ true → read (date_written named_written x) ≡ Some (clock x)
 
 abbrev pub ShortIsRead : Type 0
-ShortIsRead = (x : Spelled) → exists x ≡ true → x.date.day < 10 → read (written short_written x) ≡
-    Some (clock x)
+ShortIsRead = (x : Spelled) → exists x ≡ true → x.date.day < 10 →
+    read (date_written short_written x) ≡ Some (clock x)
 
 -- the text is the date in one of its spellings
 abbrev pub IsWritten : Spelled → Text → Type 0
-IsWritten x s = (s ≡ written plain_written x) ⊎
-    ((s ≡ written named_written x) ⊎ ((x.date.day < 10) × (s ≡ written short_written x)))
+IsWritten x s = (s ≡ date_written plain_written x) ⊎
+    ((s ≡ date_written named_written x) ⊎ ((x.date.day < 10) × (s ≡ date_written short_written x)))
 
 -- and no other text is read: a clock that is read is that of a date that exists, and the text is
 -- written so

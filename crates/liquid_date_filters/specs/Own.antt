@@ -8,7 +8,7 @@ use Rattle.jiff_core.specs.IsoWeekDate.{iso_epoch_day}
 use Rattle.jiff_strtime.specs.Text.{date_parts, time_parts}
 use Rattle.jiff_strtime.specs.Show.{Context, show_format}
 use Rattle.liquid_date_filters.specs.Clock.{clock_of, instant, unix_second, zone_text, zone_name}
-use Rattle.liquid_date_filters.specs.Printed.{strict, shown}
+use Rattle.liquid_date_filters.specs.Printed.{strict, show_clock}
 
 -- the parts of a zoned datetime as jiff fills them, with its date, its week date and its second
 abbrev pub own : DateTime → ℤ → ISOWeekDate → Context
@@ -31,4 +31,4 @@ IsWeekOf i dt = iso_epoch_day i ≡ epoch_day dt.date
 -- a pattern shows the same of them
 abbrev pub ShowsOwn : DateTime → ℤ → List ℕ → Type 0
 ShowsOwn dt o pattern = (i : ISOWeekDate) → IsWeekOf i dt →
-    show_format strict pattern (own dt o i) ≡ shown (clock_of dt o) pattern
+    show_format strict pattern (own dt o i) ≡ show_clock (clock_of dt o) pattern

@@ -25,13 +25,13 @@ context c = record {
   second = Ok (unix_second c);
 }
 
-abbrev pub shown : Clock → List ℕ → Shown
-shown c pattern = show_format strict pattern (context c)
+abbrev pub show_clock : Clock → List ℕ → Shown
+show_clock c pattern = show_format strict pattern (context c)
 
 -- the text, or a pattern that is refused
 abbrev pub printed : Clock → List ℕ → Result (List ℕ) ErrorKind
 printed c pattern =
-    match_result (shown c pattern) (λ bs. if is_utf8 bs then Ok bs else Err DateFormat)
+    match_result (show_clock c pattern) (λ bs. if is_utf8 bs then Ok bs else Err DateFormat)
     (λ e. Err DateFormat)
 
 -- memory ran out, or jiff lacks the instant: parts that hold one never lack it, which jiff's

@@ -46,5 +46,5 @@ abbrev pub offset_written : Offset → Text → Text
 offset_written o s = sign_of o.behind ∷ two_digits o.hours (two_digits o.minutes s)
 
 -- the date in one of its spellings, and then time and offset
-abbrev pub written : (Day → Text → Text) → Spelled → Text
-written day x = day x.date (32 ∷ time_written x.time (32 ∷ offset_written x.offset []))
+abbrev pub date_written : (Day → Text → Text) → Spelled → Text
+date_written day x = day x.date (32 ∷ time_written x.time (32 ∷ offset_written x.offset []))

@@ -19,7 +19,7 @@ use jiff_core::error::Part;
 use jiff_core::{Offset, Timestamp};
 use jiff_strtime::{BrokenDownTime, Config, Meridiem};
 use jiff_tz::TimeZone;
-use liquid_core::{Error, ErrorKind, Result, Value};
+use liquid_core::{Error, ErrorKind, Quoted, Result, Value};
 use std::alloc::Global;
 
 /// The text of a date, at its offset, by a pattern: `DateFormat` where the pattern is refused.
@@ -114,7 +114,7 @@ fn print_parts(
             if is_short(&error) {
                 Err(short())
             } else {
-                Err(refused(alloc))
+                Err(refused(alloc, pattern))
             }
         }
     }
@@ -141,12 +141,15 @@ fn short() -> Error
     }
 }
 
-fn refused(alloc: Global) -> Error
+fn refused(alloc: Global, pattern: &str) -> Error
     ensures { IsKindOrMemory DateFormat result.kind }
 {
-    Error::new(
+    let quoted = Quoted { text: pattern };
+    Error::formatted(
         alloc,
         ErrorKind::DateFormat,
-        "the pattern of a date has a directive that strftime refuses",
+        format_args!(
+            "the pattern `{quoted}` has a directive that isn't known; a percent sign is written `%%`"
+        ),
     )
 }

@@ -10,7 +10,7 @@ use Rattle.liquid_evaluation.specs.Evaluation.{source_items, count_to, numbers_f
 use Rattle.liquid_evaluation.specs.Evaluation.{wanted, window_items}
 use Rattle.liquid_evaluation.specs.Ranges.{Range, range_of, range_items, range_item}
 
--- a source's items are those of what it comes to
+-- a source's items are those of its value
 abbrev pub SourceInTwoSteps : Type 0
 SourceInTwoSteps = (source : Source) (e : Environment) → source_items source e ≡
     (range_of source e >>= range_items)

@@ -29,8 +29,8 @@ pub enum Atom {
     Compared(Expression, ComparisonOperator, Expression),
 }
 
-/// Drops what it holds. By hand, so that a way out of a function that owns one is one call to
-/// prove.
+/// Drops what it holds. Written by hand, so that each early return drops the value by one call
+/// to prove.
 impl Drop for Atom {
     fn drop(self) {
         match self {

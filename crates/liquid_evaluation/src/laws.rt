@@ -2,7 +2,7 @@
 ghost use Rattle.liquid_evaluation.specs.Laws.{CountedWindow, ItemsByPlace, SourceInTwoSteps};
 ghost use Rattle.liquid_evaluation.specs.Laws.{WindowByPlace};
 
-/// A source's items are those of the range that it comes to, together or one by one.
+/// A source's items are those of its range, together or one by one.
 pub fn range_laws()
     ensures steps { SourceInTwoSteps }
     ensures places { ItemsByPlace }

@@ -1,4 +1,4 @@
-//! What a template is as a tree, and what its chains and conditions come to.
+//! A template as a tree, and the values of its chains and conditions.
 #![tactic(auto)]
 
 mod any_filter;

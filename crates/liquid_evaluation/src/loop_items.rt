@@ -113,7 +113,7 @@ fn copied_items(alloc: Global, value: &Value) -> Result<Vec<Value>>
         Value::Nil => Ok(Vec::new(alloc)),
         Value::Array(items) => copy_items(alloc, items),
         Value::Object(pairs) => copied_pairs(alloc, pairs),
-        _ => Err(without_items(alloc)),
+        _ => Err(without_items(alloc, value)),
     }
 }
 

@@ -14,7 +14,7 @@ ghost use Rattle.liquid_evaluation.specs.Ranges.{range_count, range_item, range_
 ghost use Rattle.liquid_evaluation.specs.Ranges.{checked_count, value_count, value_item};
 ghost use Rattle.liquid_evaluation.specs.SourceView.{range_view};
 
-use liquid_core::{Error, ErrorKind, Object, Result, Value, ValueCow};
+use liquid_core::{Error, ErrorKind, Object, Quoted, Result, Value, ValueCow};
 use std::alloc::Global;
 
 /// What a loop goes over in a run.
@@ -100,7 +100,7 @@ fn value_items(alloc: Global, value: &Value) -> Result<Vec<ValueCow<'_>>>
         Value::Nil => Ok(Vec::new(alloc)),
         Value::Array(items) => lent(alloc, items),
         Value::Object(pairs) => pair_lists(alloc, pairs),
-        _ => Err(without_items(alloc)),
+        _ => Err(without_items(alloc, value)),
     }
 }
 
@@ -113,7 +113,7 @@ fn value_count(alloc: Global, value: &Value) -> Result<usize>
         Value::Nil => Ok(0),
         Value::Array(items) => Ok(items.len()),
         Value::Object(pairs) => Ok(pairs.len()),
-        _ => Err(without_items(alloc)),
+        _ => Err(without_items(alloc, value)),
     }
 }
 
@@ -240,14 +240,25 @@ pub(crate) fn checked_count(alloc: Global, count: u128) -> Result<usize>
     }
 }
 
-pub(crate) fn without_items(alloc: Global) -> Error
+/// The fault of a value that a loop doesn't go over: a text, a number or a truth value.
+pub(crate) fn without_items(alloc: Global, value: &Value) -> Error
     ensures { IsKindOrMemory UnexpectedValue result.kind }
 {
-    Error::new(
-        alloc,
-        ErrorKind::UnexpectedValue,
-        "a loop goes over a list, a map or a range",
-    )
+    if let Value::Text(text) = value {
+        let text = text.as_str();
+        let quoted = Quoted { text };
+        return Error::formatted(
+            alloc,
+            ErrorKind::UnexpectedValue,
+            format_args!("a loop goes over a list, a map or a range, not over the text `{quoted}`"),
+        );
+    }
+    let words = if matches!(value, Value::Bool(_)) {
+        "a loop goes over a list, a map or a range, not over a truth value"
+    } else {
+        "a loop goes over a list, a map or a range, not over a number"
+    };
+    Error::new(alloc, ErrorKind::UnexpectedValue, words)
 }
 
 fn too_long(alloc: Global) -> Error

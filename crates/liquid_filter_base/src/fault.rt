@@ -1,34 +1,34 @@
 //! Faults of filters, with what was wanted and what was found.
-ghost use Rattle.std.specs.Prelude.{◌≡◌, IsTrue, codes};
+ghost use Rattle.std.specs.Prelude.{IsTrue, Some, codes};
 ghost use Rattle.liquid_model.specs.Errors.{HasMessageUnlessMemory};
 ghost use Rattle.liquid_model.specs.Quotes.{is_line, most_bytes};
 ghost use Rattle.liquid_model.specs.ErrorKinds.{IsKindOrMemory};
 ghost use Rattle.liquid_model.specs.View.{view};
 ghost use Rattle.liquid_model.specs.declared.error.ErrorKind.TheVariants.{InvalidArgument};
 ghost use Rattle.liquid_model.specs.declared.error.ErrorKind.TheVariants.{InvalidInput};
-ghost use Rattle.liquid_filter_base.specs.Faults.{kind_name, must_be};
+ghost use Rattle.liquid_filter_base.specs.Faults.{found_name, must_be};
 
-use liquid_core::{Error, ErrorKind, Value};
+use liquid_core::{Error, ErrorKind, Quoted, Value};
 use std::alloc::Global;
+use std::fmt;
+use std::fmt::{Formatter, Write};
 
-/// An input that is another thing than what is wanted, which is told in a few words with an
-/// article.
+/// The fault of an input that isn't what is wanted, which a few words with an article name.
 pub fn invalid_input(alloc: Global, wanted: &str, found: &Value) -> Error
     ensures told { IsKindOrMemory InvalidInput result.kind }
     ensures message { IsTrue
         (is_line most_bytes (must_be (codes "the input") wanted.now (view found.now)))
         → HasMessageUnlessMemory (must_be (codes "the input") wanted.now (view found.now)) result }
 {
-    let found_kind = kind_name(found);
+    let found = FoundValue { value: found };
     Error::formatted(
         alloc,
         ErrorKind::InvalidInput,
-        format_args!("the input must be {wanted}, not {found_kind}"),
+        format_args!("the input must be {wanted}, not {found}"),
     )
 }
 
-/// An argument that is another thing than what is wanted, which is told in a few words with an
-/// article.
+/// The fault of an argument that isn't what is wanted, which a few words with an article name.
 pub fn invalid_argument(alloc: Global, wanted: &str, found: &Value) -> Error
     ensures told { IsKindOrMemory InvalidArgument result.kind }
     ensures message { IsTrue
@@ -36,24 +36,35 @@ pub fn invalid_argument(alloc: Global, wanted: &str, found: &Value) -> Error
         → HasMessageUnlessMemory (must_be (codes "the argument") wanted.now (view found.now))
         result }
 {
-    let found_kind = kind_name(found);
+    let found = FoundValue { value: found };
     Error::formatted(
         alloc,
         ErrorKind::InvalidArgument,
-        format_args!("the argument must be {wanted}, not {found_kind}"),
+        format_args!("the argument must be {wanted}, not {found}"),
     )
 }
 
-/// What a value is, in a few words with an article.
-pub fn kind_name(value: &Value) -> &'static str
-    ensures { result.now ≡ kind_name (view value.now) }
-{
-    match value {
-        Value::Nil => "nil",
-        Value::Bool(_) => "a truth value",
-        Value::Integer(_) => "a number",
-        Value::Text(_) => "a text",
-        Value::Array(_) => "a list",
-        Value::Object(_) => "a map",
+/// A value as a message names it: what it is, and of a text its beginning.
+#[derive(Clone, Copy)]
+pub struct FoundValue<'v> {
+    /// The value.
+    pub value: &'v Value,
+}
+
+impl fmt::Display for FoundValue<'_> {
+    ghost output = { λ f. Some (found_name (view f.value.now)) };
+
+    fn fmt<W: Write>(&self, f: &mut Formatter<W>) -> fmt::Result {
+        match self.value {
+            Value::Nil => f.write_str("nil"),
+            Value::Bool(_) => f.write_str("a truth value"),
+            Value::Integer(_) => f.write_str("a number"),
+            Value::Text(text) => {
+                let text = text.as_str();
+                write!(f, "the text `{}`", Quoted { text })
+            }
+            Value::Array(_) => f.write_str("a list"),
+            Value::Object(_) => f.write_str("a map"),
+        }
     }
 }

@@ -7,7 +7,7 @@ use Rattle.liquid_folder.specs.declared.stop.Stop.TheVariants.{Fault, Streams}
 abbrev pub status_of : Stop → ℕ
 status_of Usage = 2
 status_of (Missing path) = 1
-status_of (Unread path) = 1
+status_of (Unread path reason) = 1
 status_of (Inside path) = 1
 status_of (Fault e) = 1
 status_of (Streams e) = 1

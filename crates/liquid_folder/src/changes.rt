@@ -1,9 +1,9 @@
 //! The files of a site: all of them, and the one that a line names.
 use crate::paths::{file_in, is_left_out, is_same};
-use crate::quoted::Quoted;
 use crate::stop::Stop;
 use crate::words::Call;
 use liquid_core::Result;
+use liquid_excerpts::ShownPath;
 use liquid_site_files::{Changed, Folder};
 use std::alloc::Global;
 use std::fs::DirEntry;
@@ -104,7 +104,7 @@ fn names_in(rt: &HostRuntime, path: &str) -> std::result::Result<Names, Stop> {
         Ok(entries) => entries,
         Err(refused) => match refused.kind() {
             io::ErrorKind::NotFound => return Ok(Names { names, is_whole }),
-            _ => return Err(Stop::unread(rt.alloc(), path)),
+            _ => return Err(Stop::unread(rt.alloc(), path, None)),
         },
     };
     for entry in entries {
@@ -116,11 +116,8 @@ fn names_in(rt: &HostRuntime, path: &str) -> std::result::Result<Names, Stop> {
                 if refused.kind() != io::ErrorKind::InvalidFilename {
                     return Err(Stop::from(refused));
                 }
-                let text = path;
-                eprintln!(rt;
-                    "error: Read: {}: a name in it isn't UTF-8",
-                    Quoted { text }
-                )?;
+                let path = ShownPath { path };
+                eprintln!(rt; "error: Read: {path}: a name in it isn't UTF-8")?;
                 is_whole = false;
             }
         }
@@ -141,12 +138,14 @@ fn is_taken(rt: &HostRuntime, entry: &DirEntry) -> io::Result<bool> {
     if found.is_file() {
         return Ok(true);
     }
-    let text = entry.path().as_str();
+    let path = ShownPath {
+        path: entry.path().as_str(),
+    };
     let what = if found.is_dir() {
         "a folder"
     } else {
         "no file"
     };
-    eprintln!(rt; "passed over: {} is {what}", Quoted { text })?;
+    eprintln!(rt; "passed over: {path} is {what}")?;
     Ok(false)
 }

@@ -1,4 +1,5 @@
 //! The files of the system.
+use liquid_excerpts::Reason;
 use liquid_site_files::{Disk, DiskFault};
 use std::{fs, io};
 
@@ -25,6 +26,17 @@ impl<'r> Disk for Files<'r> {
             Ok(()) => Ok(()),
             Err(refused) => Err(fault_of(refused.kind())),
         }
+    }
+}
+
+/// Why a file has no text, by another look at it, or none where it has one now.
+pub fn reason_of(rt: &HostRuntime, path: &str) -> Option<Reason> {
+    match fs::read(rt, path) {
+        Ok(bytes) => match String::from_utf8(bytes) {
+            Ok(_) => None,
+            Err(refused) => Some(Reason::of_bytes(&refused)),
+        },
+        Err(refused) => Some(Reason::from(refused.kind())),
     }
 }
 

@@ -5,7 +5,6 @@ mod changes;
 mod files;
 mod folders;
 mod paths;
-mod quoted;
 mod rounds;
 mod stop;
 mod tell;

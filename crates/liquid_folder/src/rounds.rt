@@ -1,9 +1,9 @@
 //! The rounds over a folder.
 use crate::changes::{Line, Listing, all_files, line_of};
-use crate::files::Files;
-use crate::quoted::Quoted;
+use crate::files::{Files, reason_of};
 use crate::stop::Stop;
 use crate::tell::tell_round;
+use liquid_core::Quoted;
 use liquid_site_files::{Changed, Disk, DiskFault, Folder, Site, round, site_of};
 use std::alloc::AllocError;
 use std::fs;
@@ -108,7 +108,7 @@ impl<'r> Rounds<'r> {
 /// All files of the folder, once there is one for the pages' files.
 fn changes_at_first(rt: &HostRuntime, folder: &Folder, out: &str) -> Result<Listing, Stop> {
     if fs::create_dir_all(rt, out).is_err() {
-        return Err(Stop::unread(rt.alloc(), out));
+        return Err(Stop::unread(rt.alloc(), out, None));
     }
     all_files(rt, folder)
 }
@@ -118,7 +118,8 @@ fn first_site(rt: &HostRuntime, folder: &Folder, files: &Files<'_>) -> Result<Si
     match files.read(folder.facts.as_str()) {
         Ok(Some(text)) => Ok(site_of(rt.alloc(), text.as_str())?),
         Ok(None) | Err(DiskFault::Refused) => {
-            Err(Stop::unread(rt.alloc(), folder.facts.as_str()))
+            let path = folder.facts.as_str();
+            Err(Stop::unread(rt.alloc(), path, reason_of(rt, path)))
         }
         Err(DiskFault::Memory) => Err(Stop::from(AllocError)),
     }

@@ -2,8 +2,8 @@
 ghost use Rattle.std.specs.Prelude.{◌≡◌};
 ghost use Rattle.liquid_folder.specs.Stops.{status_of};
 
-use crate::quoted::Quoted;
 use liquid_core::Error;
+use liquid_excerpts::{Reason, ShownPath};
 use std::alloc::{AllocError, AllocFailed, Global};
 use std::{fmt, io};
 
@@ -14,8 +14,8 @@ pub enum Stop {
     Usage,
     /// The folder of this path isn't there.
     Missing(String),
-    /// The file or folder of this path can't be read or made.
-    Unread(String),
+    /// The file or folder of this path can't be read or made, and why, where that is known.
+    Unread(String, Option<Reason>),
     /// The pages would be written into the folder of this path, where templates are.
     Inside(String),
     /// The data has a fault, or memory ran out.
@@ -26,9 +26,9 @@ pub enum Stop {
 
 impl Stop {
     /// A path that can't be read.
-    pub fn unread(alloc: Global, path: &str) -> Stop {
+    pub fn unread(alloc: Global, path: &str, reason: Option<Reason>) -> Stop {
         match String::from_str(alloc, path) {
-            Ok(path) => Stop::Unread(path),
+            Ok(path) => Stop::Unread(path, reason),
             Err(refused) => Stop::from(refused),
         }
     }
@@ -56,11 +56,17 @@ impl Stop {
         match self {
             Stop::Usage => 2,
             Stop::Missing(_)
-            | Stop::Unread(_)
+            | Stop::Unread(_, _)
             | Stop::Inside(_)
             | Stop::Fault(_)
             | Stop::Streams(_) => 1,
         }
+    }
+}
+
+fn shown(path: &String) -> ShownPath<'_> {
+    ShownPath {
+        path: path.as_str(),
     }
 }
 
@@ -70,23 +76,22 @@ impl fmt::Display for Stop {
         match self {
             Stop::Usage => f.write_str("usage: liquid_folder FOLDER DATA OUT"),
             Stop::Missing(path) => {
-                let text = path.as_str();
-                write!(
-                    f,
-                    "error: Read: {}\n  there is no such folder",
-                    Quoted { text }
-                )
+                let path = shown(path);
+                write!(f, "error: Read: {path}\n  there is no such folder")
             }
-            Stop::Unread(path) => {
-                let text = path.as_str();
-                write!(f, "error: Read: {}", Quoted { text })
+            Stop::Unread(path, reason) => {
+                let path = shown(path);
+                write!(f, "error: Read: {path}")?;
+                match reason {
+                    Some(reason) => write!(f, "\n  {reason}"),
+                    None => Ok(()),
+                }
             }
             Stop::Inside(path) => {
-                let text = path.as_str();
+                let path = shown(path);
                 write!(
                     f,
-                    "error: OUT lies in {}, where templates are; name another folder",
-                    Quoted { text }
+                    "error: OUT lies in {path}, where templates are; name another folder"
                 )
             }
             Stop::Fault(fault) => write!(f, "error: {fault}"),

@@ -1,7 +1,8 @@
 //! The lines that a round prints.
-use crate::quoted::Quoted;
+use crate::files::reason_of;
 use crate::stop::Stop;
 use liquid_core::ErrorKind;
+use liquid_excerpts::ShownPath;
 use liquid_site_files::{Folder, Refusal, RoundOutcome, Site, Why};
 use std::io;
 
@@ -36,10 +37,17 @@ pub fn tell_round(
 }
 
 fn tell_refusal(rt: &HostRuntime, refusal: &Refusal) -> io::Result<()> {
-    let text = refusal.path.as_str();
-    let path = Quoted { text };
+    let path = ShownPath {
+        path: refusal.path.as_str(),
+    };
     match &refusal.why {
-        Why::Unread => eprintln!(rt; "error: Read: {path}"),
+        Why::Unread => {
+            eprintln!(rt; "error: Read: {path}")?;
+            match reason_of(rt, path.path) {
+                Some(reason) => eprintln!(rt; "  {reason}"),
+                None => Ok(()),
+            }
+        }
         Why::Fault(fault) => eprintln!(rt; "error: {path}: {fault}"),
     }
 }
@@ -51,8 +59,10 @@ fn tell_faults(rt: &HostRuntime, site: &Site, folder: &Folder) -> Result<bool, S
         if let Some(fault) = &page.fault {
             let mut path = String::from_str(rt.alloc(), folder.pages.as_str())?;
             path.push_str(name.as_str())?;
-            let text = path.as_str();
-            eprintln!(rt; "error: {}: {fault}", Quoted { text })?;
+            let path = ShownPath {
+                path: path.as_str(),
+            };
+            eprintln!(rt; "error: {path}: {fault}")?;
             faultless = false;
         }
     }

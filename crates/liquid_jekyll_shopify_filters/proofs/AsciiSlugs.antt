@@ -10,7 +10,7 @@ use Rattle.liquid_model.specs.Data.{Datum, text, text_of}
 use Rattle.liquid_filter_base.specs.Arguments.{Answer}
 use Rattle.liquid_jekyll_shopify_filters.specs.Laws.{AsciiSlugs}
 use Rattle.liquid_jekyll_shopify_filters.specs.Runs.{AreSingle, AreSlugLetters, EndsOther, IsSlug, StartsOther, is_slug_letter}
-use Rattle.liquid_jekyll_shopify_filters.specs.Slugs.{hyphened, inner, keeps, shown, slug, without_last}
+use Rattle.liquid_jekyll_shopify_filters.specs.Slugs.{hyphened, without_outer, keeps, slug_character, slug, without_last}
 use Rattle.liquid_jekyll_shopify_filters.specs.declared.jekyll.slugify.Mode.TheVariants.{Ascii}
 use Rattle.liquid_jekyll_shopify_filters.proofs.Hyphens.{cuts_stand, first_stays, last_stays}
 
@@ -25,7 +25,7 @@ AreKept (c ∷ cs) = ((ascii c || c == 45) ≡ true) × AreKept cs
 apart : (c : ℕ) → ascii c ≡ true → (c == 45) ≡ false
 apart c h = grind (arith, nat_tests)
 
-kept_by : (b after : Bool) (c : ℕ) (rest : List ℕ) → ascii c ≡ b → AreKept rest → AreKept (shown b after c ++ rest)
+kept_by : (b after : Bool) (c : ℕ) (rest : List ℕ) → ascii c ≡ b → AreKept rest → AreKept (slug_character b after c ++ rest)
 kept_by true after c rest e h = (ap (λ b. b || c == 45) e, h)
 kept_by false true c rest e h = h
 kept_by false false c rest e h = (refl, h)
@@ -45,7 +45,7 @@ hyphen_single (d ∷ cs) e h = (e, h)
 abbrev Single : Bool → List ℕ → Type 0
 Single after ds = AreSingle ds × (after ≡ true → StartsOther ds)
 
-single_by : (b after : Bool) (c : ℕ) (rest : List ℕ) → ascii c ≡ b → Single (not b) rest → Single after (shown b after c ++ rest)
+single_by : (b after : Bool) (c : ℕ) (rest : List ℕ) → ascii c ≡ b → Single (not b) rest → Single after (slug_character b after c ++ rest)
 single_by true after c rest e h = (letter_single c rest (apart c e) h.0, λ a. apart c e)
 single_by false true c rest e h = (h.0, λ a. h.1 refl)
 single_by false false c rest e h = (hyphen_single rest (h.1 refl) h.0, λ a. absurd (let u : ⊥ = cc in u))
@@ -109,10 +109,10 @@ lowered_single (c ∷ []) h = tt
 lowered_single (c ∷ (d ∷ cs)) h =
     (ap (λ b. b && (to_ascii_lowercase d == 45)) (lower_hyphen c) ∙ ap (λ b. (c == 45) && b) (lower_hyphen d) ∙ h.0, lowered_single (d ∷ cs) h.1)
 
-cut_slug : (ds : List ℕ) → AreKept ds → AreSingle ds → IsSlug (map to_ascii_lowercase (encode_utf8_all (inner ds)))
+cut_slug : (ds : List ℕ) → AreKept ds → AreSingle ds → IsSlug (map to_ascii_lowercase (encode_utf8_all (without_outer ds)))
 cut_slug ds h k =
     let c = cuts_stand ds in
-    let cut = inner ds in
+    let cut = without_outer ds in
     let all : AreKept cut = kept_front cut c.1 (kept_after c.0 (cut ++ c.1) (subst AreKept c.2 h)) in
     let one : AreSingle cut = single_front cut c.1 (single_after c.0 (cut ++ c.1) (subst AreSingle c.2 k)) in
     subst (λ t. IsSlug (map to_ascii_lowercase t)) (sym (encodes_low cut all))
@@ -173,7 +173,7 @@ after_hyphen : (c : ℕ) (t : List ℕ) → c ≡ 45 → AreSingle (c ∷ t) →
 after_hyphen c [] e h = tt
 after_hyphen c (d ∷ t) e h = ap (λ n. (n == 45) && (d == 45)) (sym e) ∙ h.0
 
-stays_by : (b after : Bool) (c : ℕ) (t rest : List ℕ) → ascii c ≡ b → is_slug_letter c ≡ true → (after ≡ true → (c == 45) ≡ false) → rest ≡ t → shown b after c ++ rest ≡ c ∷ t
+stays_by : (b after : Bool) (c : ℕ) (t rest : List ℕ) → ascii c ≡ b → is_slug_letter c ≡ true → (after ≡ true → (c == 45) ≡ false) → rest ≡ t → slug_character b after c ++ rest ≡ c ∷ t
 stays_by true after c t rest e h s r = ap (λ u. c ∷ u) r
 stays_by false true c t rest e h s r =
     let k : (45 == 45) ≡ false = subst (λ n. (n == 45) ≡ false) (letter_hyphen c h e) (s refl) in absurd (let u : ⊥ = cc in u)
@@ -192,8 +192,8 @@ slug_stays : (t : List ℕ) → IsSlug t → slug Ascii t ≡ t
 slug_stays t h =
     let cs : chars (trim t) ≡ t = ap chars (trimmed t h.letters) ∙ letters_chars t h.letters in
     let ds : hyphened ascii false t ≡ t = stays false t h.letters (h.single, λ e. absurd (let u : ⊥ = cc in u)) in
-    ap (λ l. map to_ascii_lowercase (encode_utf8_all (inner (hyphened ascii false l)))) cs
-    ∙ ap (λ l. map to_ascii_lowercase (encode_utf8_all (inner l))) ds
+    ap (λ l. map to_ascii_lowercase (encode_utf8_all (without_outer (hyphened ascii false l)))) cs
+    ∙ ap (λ l. map to_ascii_lowercase (encode_utf8_all (without_outer l))) ds
     ∙ ap (λ l. map to_ascii_lowercase (encode_utf8_all l)) (ap (λ l. without_last l) (first_stays t h.starts) ∙ last_stays t h.ends)
     ∙ ap (map to_ascii_lowercase) (encodes_low t (letters_kept t h.letters))
     ∙ letters_lower t h.letters

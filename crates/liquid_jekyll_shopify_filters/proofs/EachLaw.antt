@@ -22,10 +22,10 @@ use Rattle.liquid_list_filters.proofs.Sorts.{sorted_twice, all_sorted}
 use Rattle.liquid_list_filters.proofs.SortsByKey.{sort_one}
 use Rattle.liquid_list_filters.proofs.EachLaw.{list_of_items}
 use Rattle.liquid_jekyll_shopify_filters.specs.Ends.{without_last}
-use Rattle.liquid_jekyll_shopify_filters.specs.Laws.{Reads, LosesLast, LosesFirst, GoesOn, IsSentence, SortsItems, mode_given, PushIsOne, UnshiftIsOne, PopIsOne, ShiftIsOne, PopUndoesPush, ShiftUndoesUnshift, SentenceIsOne, SortIsOne, SortTwiceIsOnce, SlugifyIsOne}
+use Rattle.liquid_jekyll_shopify_filters.specs.Laws.{ReadThen, LosesLast, LosesFirst, GoesOn, IsSentence, SortsItems, mode_given, PushIsOne, UnshiftIsOne, PopIsOne, ShiftIsOne, PopUndoesPush, ShiftUndoesUnshift, SentenceIsOne, SortIsOne, SortTwiceIsOnce, SlugifyIsOne}
 use Rattle.liquid_jekyll_shopify_filters.specs.Runs.{IsSlugOf}
 use Rattle.liquid_jekyll_shopify_filters.specs.Sentence.{next_text, next_texts, sentence}
-use Rattle.liquid_jekyll_shopify_filters.specs.Slugs.{hyphened, inner, keeps, slug}
+use Rattle.liquid_jekyll_shopify_filters.specs.Slugs.{hyphened, without_outer, keeps, slug}
 use Rattle.liquid_jekyll_shopify_filters.specs.Sorting.{found_key, nils_given, path_given, sort_items}
 use Rattle.liquid_jekyll_shopify_filters.specs.declared.jekyll.array.sort.Nils.{Nils}
 use Rattle.liquid_jekyll_shopify_filters.specs.declared.jekyll.array.sort.Nils.TheVariants.{First}
@@ -42,7 +42,7 @@ lists_one : (R : List Datum → Type 0) (ds : List Datum) → IsTheOne R ds → 
 lists_one R ds h = image_one R (λ l. answer (list l)) ds h
 
 -- what is read, and then done with it
-read_one : {X : Type 0} (r : Result X ErrorKind) (R : X → Answer → Type 0) (f : X → Answer) → ((x : X) → IsTheOne (R x) (f x)) → IsTheOne (Reads r R) (r >>= f)
+read_one : {X : Type 0} (r : Result X ErrorKind) (R : X → Answer → Type 0) (f : X → Answer) → ((x : X) → IsTheOne (R x) (f x)) → IsTheOne (ReadThen r R) (r >>= f)
 read_one (Ok x) R f h = h x
 read_one (Err kind) R f h = same_one (Err kind)
 
@@ -225,12 +225,12 @@ slug_one mode s = λ t. (slug_unique t, slug_stands t)
   where
     slug_unique : (t : Text) → IsSlugOf mode s t → t ≡ slug mode s
     slug_unique t h =
-        h.4 ∙ ap (λ cs. map to_ascii_lowercase (encode_utf8_all cs)) ((cuts_one h.0 h.1).0 h.3 ∙ ap inner ((hyphens_one (keeps mode) (chars (trim s)) h.0).0 h.2))
+        h.4 ∙ ap (λ cs. map to_ascii_lowercase (encode_utf8_all cs)) ((cuts_one h.0 h.1).0 h.3 ∙ ap without_outer ((hyphens_one (keeps mode) (chars (trim s)) h.0).0 h.2))
 
     slug_stands : (t : Text) → t ≡ slug mode s → IsSlugOf mode s t
     slug_stands t e =
         let ds = hyphened (keeps mode) false (chars (trim s)) in
-        (ds, inner ds, (hyphens_one (keeps mode) (chars (trim s)) ds).1 refl, (cuts_one ds (inner ds)).1 refl, e)
+        (ds, without_outer ds, (hyphens_one (keeps mode) (chars (trim s)) ds).1 refl, (cuts_one ds (without_outer ds)).1 refl, e)
 
 pub slugify_is_one : SlugifyIsOne
 slugify_is_one d [] = image_one (IsSlugOf Default (text_of d)) (λ s. Ok (text s)) _ (slug_one Default (text_of d))

@@ -5,7 +5,7 @@ use Rattle.std.specs.List.{concat}
 use Rattle.std.proofs.Math.Bool.{and-false}
 use Rattle.liquid_model.specs.Answer.{IsTheOne}
 use Rattle.liquid_jekyll_shopify_filters.specs.Runs.{Part, kept, other, characters_of, shown_of, AreOther, EndsRun, AreParts, Hyphens, AreHyphens, StartsOther, EndsOther, CutsHyphens}
-use Rattle.liquid_jekyll_shopify_filters.specs.Slugs.{hyphened, inner, shown, without_first, without_last}
+use Rattle.liquid_jekyll_shopify_filters.specs.Slugs.{hyphened, without_outer, slug_character, without_first, without_last}
 
 -- ---- runs
 abbrev flat : List Part → List ℕ
@@ -18,19 +18,19 @@ module _ (keeps : ℕ → Bool) where
   past_others : (cs rest : List ℕ) → AreOther keeps cs → hyphened keeps true (cs ++ rest) ≡ hyphened keeps true rest
   past_others [] rest h = refl
   past_others (c ∷ cs) rest h =
-      ap (λ b. shown b true c ++ hyphened keeps (not b) (cs ++ rest)) h.0 ∙ past_others cs rest h.1
+      ap (λ b. slug_character b true c ++ hyphened keeps (not b) (cs ++ rest)) h.0 ∙ past_others cs rest h.1
 
   after_run : (ps : List Part) → EndsRun ps → AreParts keeps ps → hyphened keeps true (flat ps) ≡ hyphened keeps false (flat ps)
   after_run [] e h = refl
   after_run (kept c ∷ ps) e h =
-      ap (λ b. shown b true c ++ hyphened keeps (not b) (flat ps)) h.0 ∙ sym (ap (λ b. shown b false c ++ hyphened keeps (not b) (flat ps)) h.0)
+      ap (λ b. slug_character b true c ++ hyphened keeps (not b) (flat ps)) h.0 ∙ sym (ap (λ b. slug_character b false c ++ hyphened keeps (not b) (flat ps)) h.0)
   after_run (other c cs ∷ ps) e h = absurd e
 
   shown_parts : (ps : List Part) → AreParts keeps ps → hyphened keeps false (flat ps) ≡ seen ps
   shown_parts [] h = refl
-  shown_parts (kept c ∷ ps) h = ap (λ b. shown b false c ++ hyphened keeps (not b) (flat ps)) h.0 ∙ ap (λ l. c ∷ l) (shown_parts ps h.1)
+  shown_parts (kept c ∷ ps) h = ap (λ b. slug_character b false c ++ hyphened keeps (not b) (flat ps)) h.0 ∙ ap (λ l. c ∷ l) (shown_parts ps h.1)
   shown_parts (other c cs ∷ ps) h =
-      ap (λ b. shown b false c ++ hyphened keeps (not b) (cs ++ flat ps)) h.0.0
+      ap (λ b. slug_character b false c ++ hyphened keeps (not b) (cs ++ flat ps)) h.0.0
       ∙ ap (λ l. 45 ∷ l) (past_others cs (flat ps) h.0.1 ∙ after_run ps h.1 h.2 ∙ shown_parts ps h.2)
 
   add : Bool → ℕ → List Part → List Part
@@ -143,11 +143,11 @@ starts_front : (cut after : List ℕ) → StartsOther (cut ++ after) → StartsO
 starts_front [] after p = tt
 starts_front (c ∷ cs) after p = p
 
-cuts_unique : (ds cut : List ℕ) → CutsHyphens ds cut → cut ≡ inner ds
+cuts_unique : (ds cut : List ℕ) → CutsHyphens ds cut → cut ≡ without_outer ds
 cuts_unique ds cut h =
-    sym (both_stay cut h.1 h.4 h.5 h.6) ∙ ap without_last (sym (skip_hyphens h.0 (cut ++ h.1) h.3)) ∙ ap inner (sym h.2)
+    sym (both_stay cut h.1 h.4 h.5 h.6) ∙ ap without_last (sym (skip_hyphens h.0 (cut ++ h.1) h.3)) ∙ ap without_outer (sym h.2)
 
-pub cuts_stand : (ds : List ℕ) → CutsHyphens ds (inner ds)
+pub cuts_stand : (ds : List ℕ) → CutsHyphens ds (without_outer ds)
 cuts_stand ds =
     let first = skip_stands ds in
     let last = drop_stands (without_first ds) in (
@@ -156,9 +156,9 @@ cuts_stand ds =
       first.1 ∙ ap (λ cs. first.0 ++ cs) last.1,
       first.2,
       last.2,
-      starts_front (inner ds) last.0 (subst StartsOther last.1 first.3),
+      starts_front (without_outer ds) last.0 (subst StartsOther last.1 first.3),
       last.3,
     )
 
-pub cuts_one : (ds : List ℕ) → IsTheOne (CutsHyphens ds) (inner ds)
+pub cuts_one : (ds : List ℕ) → IsTheOne (CutsHyphens ds) (without_outer ds)
 cuts_one ds = λ cut. (cuts_unique ds cut, λ e. subst (CutsHyphens ds) (sym e) (cuts_stand ds))

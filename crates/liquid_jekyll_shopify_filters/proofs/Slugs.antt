@@ -6,26 +6,26 @@ use Rattle.std.specs.Str.{all_scalars, chars, encode_utf8_all, IsUtf8, trim}
 use Rattle.std.proofs.lemmas.Bool.{and_parts}
 use lib.Utf8.{scalar}
 use Rattle.liquid_list_filters.proofs.Ends.{chars_last}
-use Rattle.liquid_jekyll_shopify_filters.specs.Slugs.{hyphened, inner, keeps, shown, slug, without_first, without_last}
+use Rattle.liquid_jekyll_shopify_filters.specs.Slugs.{hyphened, without_outer, keeps, slug_character, slug, without_first, without_last}
 use Rattle.liquid_jekyll_shopify_filters.specs.declared.jekyll.slugify.Mode.{Mode}
 use Rattle.liquid_jekyll_shopify_filters.proofs.Hyphens.{ends_before, first_stays, last_stays, without_end}
 
 -- ---- runs
 hyphened_past : (keeps : ℕ → Bool) (after : Bool) (s rest : List ℕ) (c : ℕ) → IsUtf8 s → s ≡ encode_utf8 c ++ rest
-    → encode_utf8_all (hyphened keeps after (chars s)) ≡ encode_utf8_all (shown (keeps c) after c) ++ encode_utf8_all (hyphened keeps (not (keeps c)) (chars rest))
+    → encode_utf8_all (hyphened keeps after (chars s)) ≡ encode_utf8_all (slug_character (keeps c) after c) ++ encode_utf8_all (hyphened keeps (not (keeps c)) (chars rest))
 hyphened_past keeps after s rest c u e =
-    ap (λ cs. encode_utf8_all (hyphened keeps after cs)) (chars_past_char s rest c u e) ∙ encodes-append (shown (keeps c) after c) (hyphened keeps (not (keeps c)) (chars rest))
+    ap (λ cs. encode_utf8_all (hyphened keeps after cs)) (chars_past_char s rest c u e) ∙ encodes-append (slug_character (keeps c) after c) (hyphened keeps (not (keeps c)) (chars rest))
 
 -- one turn of the loop over the characters
 pub hyphened_turn : (keeps : ℕ → Bool) (after k : Bool) (s rest out next all : List ℕ) (c : ℕ) → s ≡ encode_utf8 c ++ rest → k ≡ keeps c
-    → next ≡ out ++ encode_utf8_all (shown k after c)
+    → next ≡ out ++ encode_utf8_all (slug_character k after c)
     → IsUtf8 s × (all ≡ out ++ encode_utf8_all (hyphened keeps after (chars s)))
     → IsUtf8 rest × (all ≡ next ++ encode_utf8_all (hyphened keeps (not k) (chars rest)))
 hyphened_turn keeps after k s rest out next all c e q g h = (
   IsUtf8-past_char s rest c h.0 e,
   h.1 ∙ ap (λ t. out ++ t) (hyphened_past keeps after s rest c h.0 e)
-      ∙ ap (λ b. out ++ (encode_utf8_all (shown b after c) ++ encode_utf8_all (hyphened keeps (not b) (chars rest)))) (sym q)
-      ∙ sym (append_assoc out (encode_utf8_all (shown k after c)) (encode_utf8_all (hyphened keeps (not k) (chars rest))))
+      ∙ ap (λ b. out ++ (encode_utf8_all (slug_character b after c) ++ encode_utf8_all (hyphened keeps (not b) (chars rest)))) (sym q)
+      ∙ sym (append_assoc out (encode_utf8_all (slug_character k after c)) (encode_utf8_all (hyphened keeps (not k) (chars rest))))
       ∙ ap (λ t. t ++ encode_utf8_all (hyphened keeps (not k) (chars rest))) (sym g),
 )
 
@@ -69,7 +69,7 @@ last_none [] z = ap without_last chars-nil ∙ sym chars-nil
 last_none (b ∷ s) z = absurd (omega arith)
 
 -- ---- the whole slug
-shown_scalars : (b after : Bool) (c : ℕ) (cs : List ℕ) → scalar c ≡ true → all_scalars cs ≡ true → all_scalars (shown b after c ++ cs) ≡ true
+shown_scalars : (b after : Bool) (c : ℕ) (cs : List ℕ) → scalar c ≡ true → all_scalars cs ≡ true → all_scalars (slug_character b after c ++ cs) ≡ true
 shown_scalars true after c cs h k = ap (λ b. b && all_scalars cs) h ∙ k
 shown_scalars false true c cs h k = k
 shown_scalars false false c cs h k = k
@@ -81,9 +81,9 @@ hyphened_scalars keeps after (c ∷ cs) h =
     shown_scalars (keeps c) after c (hyphened keeps (not (keeps c)) cs) p.0 (hyphened_scalars keeps (not (keeps c)) cs p.1)
 
 pub slug_is : (mode : Mode) (s trimmed all cut out : List ℕ) → IsUtf8 trimmed → trimmed ≡ trim s → all ≡ encode_utf8_all (hyphened (keeps mode) false (chars trimmed))
-    → IsUtf8 cut → chars cut ≡ inner (chars all) → out ≡ map to_ascii_lowercase cut → out ≡ slug mode s
+    → IsUtf8 cut → chars cut ≡ without_outer (chars all) → out ≡ map to_ascii_lowercase cut → out ≡ slug mode s
 slug_is mode s trimmed all cut out u t a v c o =
     let letters : chars all ≡ hyphened (keeps mode) false (chars trimmed) =
     ap chars a ∙ chars-encodes (hyphened (keeps mode) false (chars trimmed)) (hyphened_scalars (keeps mode) false (chars trimmed) (scalars-chars trimmed u)) in
     o ∙ ap (map to_ascii_lowercase)
-    (sym (encodes-chars cut v) ∙ ap encode_utf8_all (c ∙ ap inner letters) ∙ ap (λ l. encode_utf8_all (inner (hyphened (keeps mode) false (chars l)))) t)
+    (sym (encodes-chars cut v) ∙ ap encode_utf8_all (c ∙ ap without_outer letters) ∙ ap (λ l. encode_utf8_all (without_outer (hyphened (keeps mode) false (chars l)))) t)

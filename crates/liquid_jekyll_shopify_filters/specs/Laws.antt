@@ -28,9 +28,9 @@ use Rattle.liquid_jekyll_shopify_filters.specs.declared.jekyll.slugify.Mode.{Mod
 use Rattle.liquid_jekyll_shopify_filters.specs.declared.jekyll.slugify.Mode.TheVariants.{Default}
 
 -- where something was read R holds of it and the answer, else the fault is the answer
-abbrev pub Reads : {X : Type 0} → Result X ErrorKind → (X → Answer → Type 0) → Answer → Type 0
-Reads (Ok x) R a = R x a
-Reads (Err kind) R a = a ≡ Err kind
+abbrev pub ReadThen : {X : Type 0} → Result X ErrorKind → (X → Answer → Type 0) → Answer → Type 0
+ReadThen (Ok x) R a = R x a
+ReadThen (Err kind) R a = a ≡ Err kind
 
 -- ---- numbers
 
@@ -119,7 +119,7 @@ abbrev pub SortsItems : List Datum → List Datum → Answer → Type 0
 SortsItems ds [] = Lists (IsSort (found_key First []) ds)
 SortsItems ds (name ∷ args) =
     OfMaps ds
-    (Reads (nils_given (first_of args))
+    (ReadThen (nils_given (first_of args))
     (λ nils. AtPath (text_of name) (λ p. Lists (IsSort (found_key nils p) ds))))
     (λ a. a ≡ Err InvalidInput)
 
@@ -142,7 +142,7 @@ mode_given (name ∷ args) = mode_named (text_of name)
 
 abbrev pub SlugifyIsOne : Type 0
 SlugifyIsOne = (d : Datum) (args : List Datum) →
-    IsTheOne (Reads (mode_given args) (λ mode. Texts (IsSlugOf mode (text_of d))))
+    IsTheOne (ReadThen (mode_given args) (λ mode. Texts (IsSlugOf mode (text_of d))))
     (slugify_answer d args)
 
 -- what the mode `ascii` makes of a text is a slug, and stays as it is

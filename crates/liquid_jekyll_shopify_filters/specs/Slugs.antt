@@ -41,16 +41,16 @@ keeps Ascii c = is_ascii_alphanumeric c
 keeps Nothing c = true
 
 -- a character that is kept, or a hyphen for the first of a run that isn't
-abbrev pub shown : Bool → Bool → ℕ → List ℕ
-shown true after c = c ∷ []
-shown false true c = []
-shown false false c = 45 ∷ []
+abbrev pub slug_character : Bool → Bool → ℕ → List ℕ
+slug_character true after c = c ∷ []
+slug_character false true c = []
+slug_character false false c = 45 ∷ []
 
 -- each longest run of characters that aren't kept as one hyphen; the truth value says whether one
 -- was just before
 abbrev pub hyphened : (ℕ → Bool) → Bool → List ℕ → List ℕ
 hyphened kept after [] = []
-hyphened kept after (c ∷ cs) = shown (kept c) after c ++ hyphened kept (not (kept c)) cs
+hyphened kept after (c ∷ cs) = slug_character (kept c) after c ++ hyphened kept (not (kept c)) cs
 
 abbrev pub without_first : List ℕ → List ℕ
 without_first [] = []
@@ -62,14 +62,15 @@ without_last (c ∷ cs) = if (c == 45) && (length (without_last cs) == 0) then [
     without_last cs
 
 -- without the hyphens at both ends
-abbrev pub inner : List ℕ → List ℕ
-inner cs = without_last (without_first cs)
+abbrev pub without_outer : List ℕ → List ℕ
+without_outer cs = without_last (without_first cs)
 
 -- white space cut at both ends, runs that aren't kept as hyphens, hyphens cut at both ends, lower
 -- case
 abbrev pub slug : Mode → Text → Text
 slug mode s =
-    map to_ascii_lowercase (encode_utf8_all (inner (hyphened (keeps mode) false (chars (trim s)))))
+    map to_ascii_lowercase
+    (encode_utf8_all (without_outer (hyphened (keeps mode) false (chars (trim s)))))
 
 abbrev pub slug_in : Datum → Mode → Answer
 slug_in d mode = Ok (text (slug mode (text_of d)))

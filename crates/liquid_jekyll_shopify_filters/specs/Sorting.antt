@@ -34,8 +34,8 @@ abbrev pub path_given : Text → Result (List Datum) ErrorKind
 path_given name = or_no_path (path name)
 
 -- what a value has along a path, or nil
-abbrev pub found : List Datum → Datum → Datum
-found p d = or_nil (find d p)
+abbrev pub value_or_nil : List Datum → Datum → Datum
+value_or_nil p d = or_nil (find d p)
 
 -- nil is the least value, and an item without a key comes last
 abbrev pub nils_key : Nils → Datum → Key
@@ -44,7 +44,7 @@ nils_key Last d = given d
 
 -- what an item is sorted by
 abbrev pub found_key : Nils → List Datum → Datum → Key
-found_key nils p d = nils_key nils (found p d)
+found_key nils p d = nils_key nils (value_or_nil p d)
 
 abbrev pub sort_maps : List Datum → Text → Option Datum → Answer
 sort_maps ds name nils =

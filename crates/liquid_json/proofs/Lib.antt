@@ -1,6 +1,6 @@
-mod After
+pub mod After
 mod Members
-mod Plain
+pub mod Plain
 mod PlainCopies
 mod PlainUses
-mod Turns
+pub mod Turns

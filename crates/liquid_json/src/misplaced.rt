@@ -8,6 +8,7 @@ use crate::scalars::{is_in_word, word_front};
 static SIGNS: &str = "\
 //¦found `//`; JSON has no comments: leave it out
 /*¦found `/*`; JSON has no comments: leave it out
+---¦found `---`; the data is JSON, as `{\"name\": \"Ada\"}`, and no YAML
 #¦found `#`; JSON has no comments: leave it out
 <!--¦found `<!--`; JSON has no comments: leave it out
 “¦found `“`; a text stands in plain double quotes, `\"`
@@ -90,6 +91,12 @@ fn other_quotes(from: &str, quote: char) -> Flaw<'_> {
 fn words_of(from: &str, sign: char, wants: Wants) -> &'static str {
     match wants {
         Wants::Data => "found `…` where ¤ is wanted, as `{\"name\": \"Ada\"}`",
+        Wants::Nothing if sign == ':' => {
+            "found `…` after the end of the data; an object stands between `{` and `}`"
+        }
+        Wants::Nothing if begins_part(sign) || sign == ',' => {
+            "found `…` after the end of the data, which is one object"
+        }
         Wants::Nothing => "found `…` after the end of the data",
         Wants::Key if sign.is_ascii_digit() => {
             "found `…` where ¤ is wanted; a number has no `,` in it"
@@ -99,6 +106,9 @@ fn words_of(from: &str, sign: char, wants: Wants) -> &'static str {
         }
         Wants::CommaOrEnd if begins_part(sign) => {
             "found `…` where ¤ is wanted; is a `,` missing before it?"
+        }
+        _ if wants.takes_value() && !matches!(sign, ',' | ':' | '}' | ']' | '=') => {
+            "found `…` where ¤ is wanted; a text stands in double quotes"
         }
         _ => "found `…` where ¤ is wanted",
     }

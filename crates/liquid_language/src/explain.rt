@@ -1,4 +1,4 @@
-//! What a refused source is told: where its fault stands, what is found there, and what to write
+//! The message of a refused source: where its fault stands, what is found there, and what to write
 //! instead. The source is read once more for that, and only then.
 mod blocks;
 mod characters;
@@ -7,9 +7,11 @@ mod habits;
 mod items;
 mod names;
 mod near;
+mod numbers;
 mod outline;
-mod told;
+mod parentheses;
 mod unread;
+mod wording;
 
 use crate::language::Language;
 use blocks::{missing_end, unknown_tag};
@@ -18,8 +20,8 @@ use items::misplaced;
 use liquid_lexer::{Fault, FaultKind, PlacedPiece, placed_piece};
 use outline::{Outline, outline_at};
 use std::alloc::{AllocError, Global};
-use told::{Told, message_of};
 use unread::unread;
+use wording::{Wording, message_of};
 
 /// What the message says of a fault: of which place, as so many bytes of the source from it on, and
 /// the message.
@@ -38,24 +40,24 @@ pub fn explanation_of(
 ) -> Result<Explanation, AllocError> {
     let outline = outline_at(alloc, source, language, fault.left)?;
     let piece = placed_piece(alloc, outline.at)?;
-    let told = told_of(alloc, language, &fault, &outline, &piece)?;
-    let message = message_of(alloc, source, &told)?;
+    let wording = wording_of(alloc, language, &fault, &outline, &piece)?;
+    let message = message_of(alloc, source, &wording)?;
     Ok(Explanation {
-        left: told.from.len(),
+        left: wording.from.len(),
         message,
     })
 }
 
 /// What the message says of a fault in a piece.
-fn told_of<'s>(
+fn wording_of<'s>(
     alloc: Global,
     language: &'s Language,
     fault: &Fault,
     outline: &Outline<'s>,
     piece: &PlacedPiece<'s>,
-) -> Result<Told<'s>, AllocError> {
+) -> Result<Wording<'s>, AllocError> {
     match fault.kind {
-        FaultKind::UnknownTag => unknown_tag(alloc, language, outline, piece.name),
+        FaultKind::UnknownTag => unknown_tag(alloc, language, outline, piece),
         FaultKind::UnknownFilter => unknown_filter(alloc, &language.filters, piece, outline.at),
         FaultKind::FilterArguments => miscounted(alloc, &language.filters, piece, outline.at),
         FaultKind::MissingEnd => Ok(missing_end(fault, outline, piece.name)),
@@ -68,16 +70,16 @@ fn told_of<'s>(
         | FaultKind::NumberLiteral
         | FaultKind::FloatLiteral
         | FaultKind::StateWord
-        | FaultKind::Expected => Ok(unread(fault, outline, piece)),
+        | FaultKind::Expected => Ok(unread(language, fault, outline, piece)),
     }
 }
 
 /// Of brackets or blocks, whichever begin there.
-fn too_nested(from: &str) -> Told<'_> {
+fn too_nested(from: &str) -> Wording<'_> {
     let words = if from.starts_with("[") {
         "brackets nest at most 200 deep"
     } else {
         "blocks nest at most 200 deep"
     };
-    Told::plain(from, words)
+    Wording::plain(from, words)
 }

@@ -1,5 +1,4 @@
-//! What a language holds: tags, blocks and filters under their names; and what a refused source is
-//! told that it refuses.
+//! Languages: tags, blocks and filters under their names; and how a refused source is explained.
 #![tactic(auto)]
 
 mod block;

@@ -17,7 +17,7 @@ use std::collections::btree_map::Keys;
 pub enum RegisteredFilter {
     /// One of the filters that exist.
     Kind(FilterKind),
-    /// A filter that the host hands in, with the least and the greatest number of arguments that a
+    /// A filter that the host provides, with the least and the greatest number of arguments that a
     /// template may give it.
     Host { least: usize, most: usize },
 }
@@ -60,7 +60,7 @@ impl FilterRegistry {
         self.entries.register(name, RegisteredFilter::Kind(kind))
     }
 
-    /// Registers a filter that the host hands in, by its name, with the least and the greatest
+    /// Registers a filter that the host provides, by its name, with the least and the greatest
     /// number of arguments; what the name stood for before is forgotten. Where there is no memory
     /// nothing changes.
     pub fn register_host(&mut self, name: String, least: usize, most: usize) -> Result<()>

@@ -2,7 +2,7 @@
 use Rattle.std.specs.Prelude.{ℕ, List, [], ◌∷◌, ◌++◌, Bool, true, false}
 use Rattle.liquid_lexer.specs.Bytes.{plain, open_brace}
 use Rattle.liquid_lexer.specs.Words.{IsRun, Blank, Word}
-use Rattle.liquid_lexer.specs.ValueReading.{past_white, trimmed}
+use Rattle.liquid_lexer.specs.ValueReading.{past_white, without_trailing_white}
 use Rattle.liquid_lexer.specs.Items.{Item, AreItems}
 use Rattle.liquid_lexer.specs.Openers.{IsOpener}
 use Rattle.liquid_lexer.specs.Verbatim.{IsRaw, IsComment}
@@ -21,7 +21,7 @@ strip_front true t = past_white t
 strip_front false t = t
 
 abbrev pub strip_back : Bool → List ℕ → List ℕ
-strip_back true t = trimmed t
+strip_back true t = without_trailing_white t
 strip_back false t = t
 
 -- a text without the whitespace that a mark before it and a mark after it strip

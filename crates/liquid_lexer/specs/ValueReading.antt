@@ -129,5 +129,5 @@ abbrev pub text_at : List ℕ → List ℕ × List ℕ
 text_at bs = (take (run_len plain bs) bs, drop (run_len plain bs) bs)
 
 -- without the whitespace at the end
-abbrev pub trimmed : List ℕ → List ℕ
-trimmed bs = take (length bs - suffix_len (λ b. is_white b []) bs) bs
+abbrev pub without_trailing_white : List ℕ → List ℕ
+without_trailing_white bs = take (length bs - suffix_len (λ b. is_white b []) bs) bs

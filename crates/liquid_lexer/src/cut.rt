@@ -1,7 +1,7 @@
 //! Parts of a text, cut at its front: each borrows from the text, and nothing is copied.
 ghost use Rattle.std.specs.Prelude.{◌≡◌, ◌≤◌, List, ℕ, ◌++◌, option_map};
 ghost use Rattle.liquid_lexer.specs.ValueReading.{past_white, past_byte, word_at, until_quote};
-ghost use Rattle.liquid_lexer.specs.ValueReading.{quoted_at, text_at, trimmed};
+ghost use Rattle.liquid_lexer.specs.ValueReading.{quoted_at, text_at, without_trailing_white};
 ghost use Rattle.liquid_lexer.specs.ItemReading.{before};
 ghost use Rattle.liquid_lexer.specs.Pieces.{stripped};
 
@@ -80,7 +80,7 @@ pub fn before<'s>(text: &'s str, rest: &str) -> &'s str
 
 #[tactic(auto, using(crate::proofs::Cuts::trim_cut))]
 fn trimmed(text: &str) -> &str
-    ensures { result.now ≡ trimmed text.now }
+    ensures { result.now ≡ without_trailing_white text.now }
 {
     let bytes = text.as_bytes();
     &text[..bytes.len() - white_end(bytes)]

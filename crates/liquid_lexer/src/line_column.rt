@@ -1,9 +1,8 @@
-//! Where a place of a source is, for its reader.
+//! The line and the column of a place in a source.
 use liquid_core::{Location, Origin};
 
-/// Where the place of a source is from which on so many bytes are left: its line and its column in
-/// characters, each from 1.
-/// A byte order mark at the start of the source is no column.
+/// The line and the column, in characters and each from 1, of the place with `left` bytes of the
+/// source after it. A byte order mark at the start of the source is no column.
 pub fn location(source: &str, left: usize) -> Location {
     let front = source
         .get(..source.len().saturating_sub(left))

@@ -7,6 +7,7 @@ pub mod Choices
 pub mod Counting
 pub mod Cycles
 pub mod Going
+pub mod HostedPages
 pub mod Interrupts
 pub mod ItemRuns
 pub mod Joined

@@ -1,4 +1,4 @@
--- What rendering a source comes to.
+-- What rendering a source does.
 use Rattle.std.specs.Prelude.{◌≡◌, Result, IsErrAnd}
 use Rattle.liquid_model.specs.Texts.{Text}
 use Rattle.liquid_model.specs.declared.error.Error.{Error}

@@ -3,6 +3,7 @@ pub mod CountedParts
 pub mod Failures
 pub mod Forloop
 pub mod Headline
+pub mod HostedPages
 pub mod Kept
 pub mod LimitedPages
 pub mod LimitedParts

@@ -26,7 +26,7 @@ module _ {D : Type 0} {P : D → Type 0} where
     abbrev pub run_in : Runtime D P → Nodes → Run Nothing
     run_in runtime nodes = meaning (setting_in counts answer runtime) (depth_in runtime) nodes
 
-    -- what they come to, from what the runtime holds
+    -- their run, from what the runtime holds
     abbrev pub outcome_in : Runtime D P → Nodes → Outcome Nothing
     outcome_in runtime nodes = run_in runtime nodes (environment_in runtime)
 

@@ -1,4 +1,4 @@
--- What stands behind an output, and what is added to it.
+-- What an output writes to, and what is added to it.
 use Rattle.std.specs.Prelude.{◌≡◌, ℕ, List, ◌++◌, Option, Some, None, IsSome, is_some}
 use Rattle.std.specs.String.{string_bytes}
 use Rattle.std.specs.Option.{option_map}

@@ -1,4 +1,4 @@
-//! Which nodes an `if`, an `unless` or a `case` comes to.
+//! Which nodes an `if`, an `unless` or a `case` runs.
 ghost use Rattle.std.specs.Prelude.{◌+◌, ◌<◌, ◌≤◌, IfOk, List, map};
 ghost use Rattle.liquid_model.specs.Answer.{Answers};
 ghost use Rattle.liquid_model.specs.Texts.{Text};
@@ -18,8 +18,8 @@ use liquid_core::{Expression, Result, State, Value};
 use liquid_syntax::{Arm, Condition, Node, Position, TwoBodies};
 use std::alloc::Global;
 
-/// The range that the `if` at `at` comes to: its body, where the condition holds, else what the
-/// nodes of `else` come to.
+/// The range that the `if` at `at` runs: its body, where the condition holds, else what its
+/// `else` runs.
 #[inline(never)]
 pub(crate) fn chosen_range(
     alloc: Global,
@@ -52,7 +52,7 @@ pub(crate) fn chosen_range(
     }
 }
 
-/// The range that the `unless` at `at` comes to: its body, where the condition doesn't hold, else
+/// The range that the `unless` at `at` runs: its body, where the condition doesn't hold, else
 /// the nodes of `else`.
 #[inline(never)]
 pub(crate) fn unless_range(
@@ -80,7 +80,7 @@ pub(crate) fn unless_range(
     }
 }
 
-/// The range that the `case` at `at` comes to: the body of the first `when` that has a value equal
+/// The range that the `case` at `at` runs: the body of the first `when` that has a value equal
 /// to the target, else the nodes of `else`. Values are evaluated in order, up to the one that is
 /// equal.
 #[inline(never)]
@@ -147,8 +147,8 @@ fn is_among(alloc: Global, target: &Value, values: &[Expression], state: &State<
     Ok(false)
 }
 
-/// The range that the nodes of an `else` come to. An `elsif` is an `if` that is all of them: then
-/// it is its body, where its condition holds, or else what the nodes of its own `else` come to.
+/// The range that an `else` runs. An `elsif` is an `if` that is all of its nodes: then it is its
+/// body, where its condition holds, or else what its own `else` runs.
 fn else_range(
     alloc: Global,
     nodes: &[Node],

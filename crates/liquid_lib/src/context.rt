@@ -44,6 +44,6 @@ fn too_deep(alloc: Global) -> Error
     Error::new(
         alloc,
         ErrorKind::TooDeep,
-        "a partial runs in as many others as may be",
+        "partials are nested too deep; does one of them run itself?",
     )
 }

@@ -47,8 +47,8 @@ pub trait CountedWrite {
             OneFailed (failure_count self.old) (failure_count self.new) }
         ensures kept { result ≡ false → left self.new ≡ left self.old };
 
-    /// Whether a run may add so many bytes to a text that it holds in a buffer, as the body of a
-    /// `capture` or an `ifchanged`, which it asks before it adds them.
+    /// Whether a run may add this many bytes to a text that it holds in a buffer, as the body of a
+    /// `capture` or an `ifchanged`. A run asks before it adds them.
     fn room(&mut self, bytes: usize) -> bool
         ensures same { contents self.new ≡ contents self.old }
         ensures goes_on { result ≡ true → failure_count self.new ≡ failure_count self.old }

@@ -1,8 +1,8 @@
 //! Runs of nodes.
 //!
-//! A node in blocks in partials stands as deep in these calls as it is nested. So that a level
-//! takes little of the stack, what a node does beside calling on is kept out of the frames of
-//! [run_range], [run_node] and [run_chosen], by `#[inline(never)]`.
+//! These calls recurse as deep as the nodes are nested, through blocks and partials. To keep a
+//! level small on the stack, `#[inline(never)]` keeps everything but the recursive calls out of
+//! the frames of [run_range], [run_node] and [run_chosen].
 ghost use Rattle.std.specs.Prelude.{◌≡◌, ℕ, ◌+◌, ◌<◌, ◌≤◌, IfOk, IsOk};
 ghost use Rattle.liquid_core.specs.ExpressionView.{expression_view};
 ghost use Rattle.liquid_core.specs.States.{environment_of, layers_of, loops_of};

@@ -56,7 +56,7 @@ pub(crate) fn run_template<W: CountedWrite>(
 /// Runs the nodes of a template, whose positions the context has. The data is taken out of the
 /// state, so that loops can go over its lists while the run changes the rest, and is put back after
 /// any answer.
-fn run_lent<W: CountedWrite, H: NamedFilters>(
+pub(crate) fn run_lent<W: CountedWrite, H: NamedFilters>(
     alloc: Global,
     template: &Template,
     context: &RunContext<'_, H>,

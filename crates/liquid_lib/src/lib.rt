@@ -13,6 +13,7 @@ mod cycle;
 mod engine;
 pub mod extra;
 mod fault_location;
+mod hosted_page;
 mod ifchanged;
 pub mod jekyll;
 mod leaves;
@@ -35,9 +36,11 @@ pub mod stdlib;
 mod write_all;
 
 pub use counted::{Counted, CountedWrite};
+pub use hosted_page::{Surroundings, render_hosted_page};
 pub use limits::{LimitReached, Limited, Limits};
 pub use liquid_core::{
-    Error, ErrorKind, Filter, HostFilters, Location, Object, Origin, Result, State, Value, ValueCow,
+    Error, ErrorKind, Filter, HostFilters, Location, NamedFilters, Object, Origin, Result, State,
+    Value, ValueCow,
 };
 pub use liquid_filters::FilterKind;
 pub use liquid_meaning::{

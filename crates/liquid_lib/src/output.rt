@@ -1,4 +1,4 @@
-//! The caller's writer, behind open buffers.
+//! The caller's writer, and the buffers that are open over it.
 ghost use Rattle.std.specs.Prelude.{◌≡◌, [], length, Some, IsSome, OnOk, OnErr};
 ghost use Rattle.std.specs.Option.{option_map};
 ghost use Rattle.std.specs.String.{string_bytes};

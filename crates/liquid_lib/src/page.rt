@@ -5,6 +5,7 @@ ghost use Rattle.liquid_model.specs.ErrorKinds.{is_memory};
 ghost use Rattle.liquid_core.specs.Held.{held};
 ghost use Rattle.liquid_core.specs.States.{layers_of, loops_of, new_layers};
 ghost use Rattle.liquid_syntax.specs.Templates.{partials_of, tree_of};
+ghost use Rattle.liquid_lib.specs.HostedPages.{EndsOtherwise};
 ghost use Rattle.liquid_lib.specs.LimitedPages.{PageWithin};
 ghost use Rattle.liquid_lib.specs.Pages.{ended_page, page_over, page_view};
 
@@ -103,7 +104,7 @@ pub fn render_page_within(
 }
 
 /// A new state over data that is lent. It takes no memory.
-fn state_over<'d>(alloc: Global, facts: &'d Object) -> State<'d>
+pub(crate) fn state_over<'d>(alloc: Global, facts: &'d Object) -> State<'d>
     ensures layers { layers_of result ≡ new_layers (held facts.now) }
     ensures loops { loops_of result ≡ [] }
 {
@@ -113,9 +114,10 @@ fn state_over<'d>(alloc: Global, facts: &'d Object) -> State<'d>
 }
 
 /// The page of a run that wrote this text and ended so.
-fn page_of_end(text: String, answer: Result<()>) -> Result<Page>
+pub(crate) fn page_of_end(text: String, answer: Result<()>) -> Result<Page>
     ensures page { IfOk result (λ page. page_view page ≡ ended_page (string_bytes text) answer) }
     ensures ran { IfOk result (λ _. IfErr answer (λ e. is_memory e.kind ≡ false)) }
+    ensures ended { IfOk result EndsOtherwise }
     ensures memory { IfErr result (λ e. e.kind ≡ ErrorKind.Memory) }
 {
     match answer {

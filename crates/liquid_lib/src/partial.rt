@@ -204,6 +204,8 @@ fn unknown(alloc: Global, name: &str) -> Error
     Error::formatted(
         alloc,
         ErrorKind::UnknownPartial,
-        format_args!("no partial is named `{quoted}`; hand one in by this name"),
+        format_args!(
+            "no partial is named `{quoted}`; hand it in by this name, as `{quoted}=FILE` on a command line"
+        ),
     )
 }

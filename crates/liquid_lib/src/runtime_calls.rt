@@ -151,7 +151,7 @@ impl<'p> Runtime<'p> {
         self.state.get(alloc, path)
     }
 
-    /// Sets an assigned variable. Without the memory for it nothing changes.
+    /// Sets an assigned variable. Where memory runs out nothing changes.
     pub fn set_global(&mut self, name: String, value: Value) -> Result<()>
         ensures set { IsValueOrMemory (λ _. layers_in self.new) result
             (with_assigned (string_bytes name) (view value) (layers_in self.old)) }
@@ -168,7 +168,7 @@ impl<'p> Runtime<'p> {
         self.state.get_index(name)
     }
 
-    /// Sets a counter. Without the memory for it nothing changes.
+    /// Sets a counter. Where memory runs out nothing changes.
     pub fn set_index(&mut self, name: String, value: Value) -> Result<()>
         ensures set { IsValueOrMemory (λ _. layers_in self.new) result
             (with_counter (string_bytes name) (view value) (layers_in self.old)) }
@@ -178,7 +178,7 @@ impl<'p> Runtime<'p> {
         self.state.set_index(name, value)
     }
 
-    /// Adds an innermost scope. Without the memory for it nothing changes.
+    /// Adds an innermost scope. Where memory runs out nothing changes.
     pub fn push_scope(&mut self, scope: Object) -> Result<()>
         ensures pushed { IsValueOrMemory (λ _. layers_in self.new) result
             (with_scope_pushed (held scope) (layers_in self.old)) }

@@ -16,7 +16,7 @@ use Rattle.liquid_filter_base.proofs.Ones.{image_one, same_one, either_one}
 use Rattle.liquid_list_filters.specs.Ends.{character, or_nil}
 use Rattle.liquid_list_filters.specs.Keeping.{is_nil, is_given, is_wanted, compact_of, where_of}
 use Rattle.liquid_list_filters.specs.Laws.{Lists, Has, Wants, JoinIsOne, SortIsOne, SortNaturalIsOne, SortTwiceIsOnce, SortNaturalTwiceIsOnce, CompactIsOne, WhereIsOne, MapIsOne, UniqIsOne, ReverseIsOne, ConcatIsOne, FirstIsOne, LastIsOne}
-use Rattle.liquid_list_filters.specs.Places.{IsJoined, Keeps, StartsWith, EndsWith}
+use Rattle.liquid_list_filters.specs.Places.{IsJoined, KeepsItems, StartsWith, EndsWith}
 use Rattle.liquid_list_filters.specs.Sequences.{list, sequence, all_maps, is_map, property}
 use Rattle.liquid_list_filters.specs.Sorting.{Key, key_of, natural_key_of, sort_by}
 use Rattle.liquid_list_filters.proofs.Keys.{keys_order}
@@ -89,10 +89,10 @@ wanted_at target None = (λ h. absurd (let u : ⊥ = cc in u), λ m. absurd (let
 wanted_at None (Some d) = (λ h. (d, refl, h), λ m. let k = m.1 in let f : d ≡ m.0 = cc in ap truthy f ∙ m.2)
 wanted_at (Some t) (Some d) = (λ h. (d, refl, (same_Decides d t).0 h), λ m. let k = m.1 in let f : d ≡ m.0 = cc in (same_Decides d t).1 (f ∙ m.2))
 
-given_one : (name : Text) (ds : List Datum) → IsTheOne (Keeps (Has name (λ e. e ≢ nil)) ds) (compact_of name ds)
+given_one : (name : Text) (ds : List Datum) → IsTheOne (KeepsItems (Has name (λ e. e ≢ nil)) ds) (compact_of name ds)
 given_one name ds = keeps_one (Has name (λ e. e ≢ nil)) (λ d. is_given (property name d)) (λ d. given_at (property name d)) ds
 
-wanted_one : (name : Text) (target : Option Datum) (ds : List Datum) → IsTheOne (Keeps (Has name (Wants target)) ds) (where_of name target ds)
+wanted_one : (name : Text) (target : Option Datum) (ds : List Datum) → IsTheOne (KeepsItems (Has name (Wants target)) ds) (where_of name target ds)
 wanted_one name target ds = keeps_one (Has name (Wants target)) (λ d. is_wanted target (property name d)) (λ d. wanted_at target (property name d)) ds
 
 pub compact_is_one : CompactIsOne

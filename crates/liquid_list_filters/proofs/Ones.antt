@@ -12,15 +12,15 @@ use Rattle.liquid_model.specs.Texts.{Text}
 use Rattle.liquid_filter_base.specs.Joined.{joined}
 use Rattle.liquid_filter_base.proofs.Ones.{one, same_one}
 use Rattle.liquid_list_filters.specs.Keeping.{has_same, uniq_after}
-use Rattle.liquid_list_filters.specs.Places.{StartsWith, EndsWith, IsFollowed, IsJoined, Keeps, KeepsValues, IsAmong, KeepsFirsts}
+use Rattle.liquid_list_filters.specs.Places.{StartsWith, EndsWith, IsFollowed, IsJoined, KeepsItems, KeepsValues, IsItemOf, KeepsFirsts}
 use Rattle.liquid_list_filters.proofs.Ends.{slice_get_last}
 
 -- ---- the items of which a test holds
-kept_at : (P : Datum → Type 0) (d : Datum) (ds rest : List Datum) (b : Bool) → Decides b (P d) → Keeps P ds rest → Keeps P (d ∷ ds) (cond b (d ∷ rest) rest)
+kept_at : (P : Datum → Type 0) (d : Datum) (ds rest : List Datum) (b : Bool) → Decides b (P d) → KeepsItems P ds rest → KeepsItems P (d ∷ ds) (cond b (d ∷ rest) rest)
 kept_at P d ds rest true h k = inl (h.0 refl, rest, refl, k)
 kept_at P d ds rest false h k = inr (λ p. absurd (let e : false ≡ true = h.1 p in cc), k)
 
-kept : (P : Datum → Type 0) (test : Datum → Bool) → ((d : Datum) → Decides (test d) (P d)) → (ds : List Datum) → Keeps P ds (filter test ds)
+kept : (P : Datum → Type 0) (test : Datum → Bool) → ((d : Datum) → Decides (test d) (P d)) → (ds : List Datum) → KeepsItems P ds (filter test ds)
 kept P test decides [] = refl
 kept P test decides (d ∷ ds) = kept_at P d ds _ (test d) (decides d) (kept P test decides ds)
 
@@ -28,13 +28,13 @@ not_kept : (P : Datum → Type 0) (d : Datum) (b : Bool) → Decides b (P d) →
 not_kept P d true h n = absurd (n (h.0 refl))
 not_kept P d false h n = refl
 
-kept_only : (P : Datum → Type 0) (test : Datum → Bool) → ((d : Datum) → Decides (test d) (P d)) → (ds out : List Datum) → Keeps P ds out → out ≡ filter test ds
+kept_only : (P : Datum → Type 0) (test : Datum → Bool) → ((d : Datum) → Decides (test d) (P d)) → (ds out : List Datum) → KeepsItems P ds out → out ≡ filter test ds
 kept_only P test decides [] out k = k
 kept_only P test decides (d ∷ ds) out (inl k) = k.2 ∙ ap (λ l. d ∷ l) (kept_only P test decides ds k.1 k.3) ∙ sym (ap (λ b. cond b (d ∷ filter test ds) (filter test ds)) ((decides d).1 k.0))
 kept_only P test decides (d ∷ ds) out (inr k) = kept_only P test decides ds out k.1 ∙ sym (ap (λ b. cond b (d ∷ filter test ds) (filter test ds)) (not_kept P d (test d) (decides d) k.0))
 
-pub keeps_one : (P : Datum → Type 0) (test : Datum → Bool) → ((d : Datum) → Decides (test d) (P d)) → (ds : List Datum) → IsTheOne (Keeps P ds) (filter test ds)
-keeps_one P test decides ds = one (Keeps P ds) (filter test ds) (kept P test decides ds) (kept_only P test decides ds)
+pub keeps_one : (P : Datum → Type 0) (test : Datum → Bool) → ((d : Datum) → Decides (test d) (P d)) → (ds : List Datum) → IsTheOne (KeepsItems P ds) (filter test ds)
+keeps_one P test decides ds = one (KeepsItems P ds) (filter test ds) (kept P test decides ds) (kept_only P test decides ds)
 
 -- ---- the values of the items that have one
 valued : (value : Datum → Option Datum) (ds : List Datum) → KeepsValues value ds (filter_map value ds)
@@ -54,19 +54,19 @@ pub values_one : (value : Datum → Option Datum) (ds : List Datum) → IsTheOne
 values_one value ds = one (KeepsValues value ds) (filter_map value ds) (valued value ds) (valued_only value ds)
 
 -- ---- the first of items alike
-among_either : (d e : Datum) (es : List Datum) (t u : Bool) → Decides t (e ≡ d) → Decides u (IsAmong d es) → Decides (t || u) ((e ≡ d) ⊎ IsAmong d es)
+among_either : (d e : Datum) (es : List Datum) (t u : Bool) → Decides t (e ≡ d) → Decides u (IsItemOf d es) → Decides (t || u) ((e ≡ d) ⊎ IsItemOf d es)
 among_either d e es true u f g = (λ h. inl (f.0 refl), λ h. refl)
 among_either d e es false u f g = (λ h. inr (g.0 h), ⊎_elim (λ q. let z : false ≡ true = f.1 q in cc) (λ q. g.1 q))
 
-among : (d : Datum) (es : List Datum) → Decides (has_same d es) (IsAmong d es)
+among : (d : Datum) (es : List Datum) → Decides (has_same d es) (IsItemOf d es)
 among d [] = (λ h. let u : ⊥ = cc in u, λ h. absurd h)
 among d (e ∷ es) = among_either d e es (same e d) (has_same d es) (same_Decides e d) (among d es)
 
-not_among : (d : Datum) (es : List Datum) (b : Bool) → Decides b (IsAmong d es) → ¬ (IsAmong d es) → b ≡ false
+not_among : (d : Datum) (es : List Datum) (b : Bool) → Decides b (IsItemOf d es) → ¬ (IsItemOf d es) → b ≡ false
 not_among d es true h n = absurd (n (h.0 refl))
 not_among d es false h n = refl
 
-first_at : (before : List Datum) (d : Datum) (ds one two : List Datum) (b : Bool) → Decides b (IsAmong d before) → KeepsFirsts before ds one → KeepsFirsts (before ++ d ∷ []) ds two
+first_at : (before : List Datum) (d : Datum) (ds one two : List Datum) (b : Bool) → Decides b (IsItemOf d before) → KeepsFirsts before ds one → KeepsFirsts (before ++ d ∷ []) ds two
     → KeepsFirsts before (d ∷ ds) (cond b one (d ∷ two))
 first_at before d ds one two true h k m = inr (h.0 refl, k)
 first_at before d ds one two false h k m = inl (λ p. absurd (let e : false ≡ true = h.1 p in cc), two, refl, m)

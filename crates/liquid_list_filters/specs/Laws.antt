@@ -13,7 +13,7 @@ use Rattle.liquid_list_filters.specs.Ends.{character, or_nil, first_answer, last
 use Rattle.liquid_list_filters.specs.Joined.{join_answer}
 use Rattle.liquid_list_filters.specs.Keeping.{compact_answer, where_answer, map_answer, uniq_answer}
 use Rattle.liquid_list_filters.specs.Places.{StartsWith, EndsWith, IsReversed, IsFollowed, IsJoined}
-use Rattle.liquid_list_filters.specs.Places.{Keeps, KeepsValues, KeepsFirsts}
+use Rattle.liquid_list_filters.specs.Places.{KeepsItems, KeepsValues, KeepsFirsts}
 use Rattle.liquid_list_filters.specs.Rows.{reverse_answer, concat_answer}
 use Rattle.liquid_list_filters.specs.Sequences.{list, sequence, all_maps, property}
 use Rattle.liquid_list_filters.specs.Sorting.{Key, key_of, natural_key_of, sort_answer}
@@ -68,9 +68,9 @@ abbrev pub Has : Text → (Datum → Type 0) → Datum → Type 0
 Has name P d = (e : Datum) × (property name d ≡ Some e) × P e
 
 abbrev pub Compacts : Datum → List Datum → Answer → Type 0
-Compacts d [] a = OfList (λ ds. Lists (Keeps (λ e. e ≢ nil) ds)) d a
+Compacts d [] a = OfList (λ ds. Lists (KeepsItems (λ e. e ≢ nil) ds)) d a
 Compacts d (name ∷ args) a =
-    OfList (λ ds. OfMaps ds (Lists (Keeps (Has (text_of name) (λ e. e ≢ nil)) ds)) (λ b. b ≡
+    OfList (λ ds. OfMaps ds (Lists (KeepsItems (Has (text_of name) (λ e. e ≢ nil)) ds)) (λ b. b ≡
     Err InvalidInput)) d a
 
 abbrev pub CompactIsOne : Type 0
@@ -81,7 +81,8 @@ Wants None e = IsTrue (truthy e)
 Wants (Some target) e = e ≡ target
 
 abbrev pub Chooses : Text → Option Datum → List Datum → Answer → Type 0
-Chooses name target ds = OfMaps ds (Lists (Keeps (Has name (Wants target)) ds)) (λ b. b ≡ Ok nil)
+Chooses name target ds = OfMaps ds (Lists (KeepsItems (Has name (Wants target)) ds))
+    (λ b. b ≡ Ok nil)
 
 abbrev pub Wheres : Text → Option Datum → Datum → Answer → Type 0
 Wheres name target (object ps) a = Chooses name target (object ps ∷ []) a

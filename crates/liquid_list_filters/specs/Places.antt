@@ -31,10 +31,10 @@ IsJoined separator (t ∷ u ∷ ts) s = (rest : Text) × (s ≡ t ++ (separator 
     IsJoined separator (u ∷ ts) rest
 
 -- the items of which P holds, in their order
-abbrev pub Keeps : (Datum → Type 0) → List Datum → List Datum → Type 0
-Keeps P [] out = out ≡ []
-Keeps P (d ∷ ds) out = (P d × (rest : List Datum) × (out ≡ d ∷ rest) × Keeps P ds rest) ⊎
-    (¬ (P d) × Keeps P ds out)
+abbrev pub KeepsItems : (Datum → Type 0) → List Datum → List Datum → Type 0
+KeepsItems P [] out = out ≡ []
+KeepsItems P (d ∷ ds) out = (P d × (rest : List Datum) × (out ≡ d ∷ rest) × KeepsItems P ds rest) ⊎
+    (¬ (P d) × KeepsItems P ds out)
 
 -- the values of the items that have one, in their order
 abbrev pub KeepsValues : (Datum → Option Datum) → List Datum → List Datum → Type 0
@@ -43,12 +43,12 @@ KeepsValues value (d ∷ ds) out = ((e : Datum) × (value d ≡ Some e) × (rest
     (out ≡ e ∷ rest) × KeepsValues value ds rest) ⊎
     ((value d ≡ None) × KeepsValues value ds out)
 
-abbrev pub IsAmong : Datum → List Datum → Type 0
-IsAmong d [] = ⊥
-IsAmong d (e ∷ es) = (e ≡ d) ⊎ IsAmong d es
+abbrev pub IsItemOf : Datum → List Datum → Type 0
+IsItemOf d [] = ⊥
+IsItemOf d (e ∷ es) = (e ≡ d) ⊎ IsItemOf d es
 
 -- an item is kept exactly where no kept item before it equals it
 abbrev pub KeepsFirsts : List Datum → List Datum → List Datum → Type 0
 KeepsFirsts kept [] out = out ≡ []
-KeepsFirsts kept (d ∷ ds) out = (¬ (IsAmong d kept) × (rest : List Datum) × (out ≡ d ∷ rest) ×
-    KeepsFirsts (kept ++ d ∷ []) ds rest) ⊎ (IsAmong d kept × KeepsFirsts kept ds out)
+KeepsFirsts kept (d ∷ ds) out = (¬ (IsItemOf d kept) × (rest : List Datum) × (out ≡ d ∷ rest) ×
+    KeepsFirsts (kept ++ d ∷ []) ds rest) ⊎ (IsItemOf d kept × KeepsFirsts kept ds out)

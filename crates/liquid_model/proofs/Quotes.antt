@@ -17,20 +17,20 @@ use Rattle.liquid_model.specs.declared.error.ErrorKind.{ErrorKind}
 use Rattle.liquid_model.specs.declared.error.Error.{Error}
 use Rattle.liquid_model.specs.ErrorKinds.{is_memory, is_write}
 use Rattle.liquid_model.specs.Errors.{HasMessageUnlessMemory}
-use Rattle.liquid_model.specs.Quotes.{cost, escaped, is_hidden, is_line, is_line_byte, is_unseen, is_message, most_bytes, quotation, quoted, shown, PlainTextsAreShownWhole, QuotationsAreLines}
+use Rattle.liquid_model.specs.Quotes.{cost, hidden_escape, is_hidden, is_line, is_line_byte, is_unseen, is_message, most_bytes, quotation, quoted, character_shown, PlainTextsAreShownWhole, QuotationsAreLines}
 
 -- ---- the loop over the characters
 
 pub quoted_stop : (n k c : ℕ) (s rest : List ℕ) → IsUtf8 s → s ≡ encode_utf8 c ++ rest → k ≡ cost c → n < k → quoted n (chars s) ≡ codes "..."
 quoted_stop n k c s rest u e q h =
     ap (quoted n) (chars_past_char s rest c u e)
-    ∙ ap (λ b. cond b (codes "...") (shown c ++ quoted (n - cost c) (chars rest))) (lt-ltb n (cost c) (subst (λ x. n < x) q h))
+    ∙ ap (λ b. cond b (codes "...") (character_shown c ++ quoted (n - cost c) (chars rest))) (lt-ltb n (cost c) (subst (λ x. n < x) q h))
 
-pub quoted_turn : (n k c : ℕ) (s rest : List ℕ) → IsUtf8 s → s ≡ encode_utf8 c ++ rest → k ≡ cost c → k ≤ n → quoted n (chars s) ≡ shown c ++ quoted (n - k) (chars rest)
+pub quoted_turn : (n k c : ℕ) (s rest : List ℕ) → IsUtf8 s → s ≡ encode_utf8 c ++ rest → k ≡ cost c → k ≤ n → quoted n (chars s) ≡ character_shown c ++ quoted (n - k) (chars rest)
 quoted_turn n k c s rest u e q h =
     ap (quoted n) (chars_past_char s rest c u e)
-    ∙ ap (λ b. cond b (codes "...") (shown c ++ quoted (n - cost c) (chars rest))) (le-ltb n (cost c) (subst (λ x. x ≤ n) q h))
-    ∙ ap (λ x. shown c ++ quoted (n - x) (chars rest)) (sym q)
+    ∙ ap (λ b. cond b (codes "...") (character_shown c ++ quoted (n - cost c) (chars rest))) (le-ltb n (cost c) (subst (λ x. x ≤ n) q h))
+    ∙ ap (λ x. character_shown c ++ quoted (n - x) (chars rest)) (sym q)
 
 pub quoted_end : (n : ℕ) (s : List ℕ) → length s ≡ 0 → quoted n (chars s) ≡ []
 quoted_end n [] z = ap (quoted n) chars-nil
@@ -113,7 +113,7 @@ hidden_below c e = elim (cases_lt c 65536) [
       absurd (true≢false (sym e ∙ or_from (is_control c) (is_unseen c) control unseen))
 ]
 
-escaped_is_line : (c : ℕ) → c < 65536 → is_line 32 (escaped c) ≡ true
+escaped_is_line : (c : ℕ) → c < 65536 → is_line 32 (hidden_escape c) ≡ true
 escaped_is_line c h =
     let number : is_line 32 (codes "\\u{" ++ (digits 16 false c ++ codes "}")) ≡ true =
     line_wider 8 32 (codes "\\u{" ++ (digits 16 false c ++ codes "}")) (omega arith) (line_append 3 5 (codes "\\u{") (digits 16 false c ++ codes "}") refl (line_append 4 1 (digits 16 false c) (codes "}") (hex_is_line c h) refl)) in
@@ -165,10 +165,10 @@ plain_is_line c e =
     (λ low. two_is_line c)
     (λ higher. cond_both (nat_lt c 65536) (three c) (four c) (λ t. is_line 4 t ≡ true) (λ low. three_is_line c) (λ highest. four_is_line c)))
 
-shown_is_line : (c : ℕ) → is_line (4 * cost c) (shown c) ≡ true
+shown_is_line : (c : ℕ) → is_line (4 * cost c) (character_shown c) ≡ true
 shown_is_line c = by (is_hidden c) refl
   where
-    by : (b : Bool) → is_hidden c ≡ b → is_line (4 * cond b 8 1) (cond b (escaped c) (encode_utf8 c)) ≡ true
+    by : (b : Bool) → is_hidden c ≡ b → is_line (4 * cond b 8 1) (cond b (hidden_escape c) (encode_utf8 c)) ≡ true
     by true e = escaped_is_line c (hidden_below c e)
     by false e = plain_is_line c e
 
@@ -182,7 +182,7 @@ quoted_is_line n (c ∷ cs) =
     (λ e. line_wider 3 (4 * n + 3) (codes "...") (omega arith) refl)
     (λ e.
     let enough : cost c ≤ n = ltb-false n (cost c) e in
-    line_wider (4 * cost c + (4 * (n - cost c) + 3)) (4 * n + 3) _ (omega arith) (line_append (4 * cost c) (4 * (n - cost c) + 3) (shown c) _ (shown_is_line c) more))
+    line_wider (4 * cost c + (4 * (n - cost c) + 3)) (4 * n + 3) _ (omega arith) (line_append (4 * cost c) (4 * (n - cost c) + 3) (character_shown c) _ (shown_is_line c) more))
 
 -- a quotation is a line of 243 bytes at most
 pub quotation_is_line : (t : List ℕ) → is_line 243 (quotation t) ≡ true
@@ -198,10 +198,10 @@ quoted_whole n (c ∷ cs) h e =
     let both = and_parts (not (is_hidden c)) (list_all (λ c. not (is_hidden c)) cs) e in
     let plain : is_hidden c ≡ false = not-true (is_hidden c) both.0 in
     let one : cost c ≡ 1 = ap (λ b. cond b 8 1) plain in
-    let as_it_is : shown c ≡ encode_utf8 c = ap (λ b. cond b (escaped c) (encode_utf8 c)) plain in
+    let as_it_is : character_shown c ≡ encode_utf8 c = ap (λ b. cond b (hidden_escape c) (encode_utf8 c)) plain in
     let more : quoted (n - 1) cs ≡ encode_utf8_all cs = quoted_whole (n - 1) cs (omega arith) both.1 in
-    ap (λ b. cond b (codes "...") (shown c ++ quoted (n - cost c) cs)) (le-ltb n (cost c) (omega arith))
-    ∙ ap (λ k. shown c ++ quoted (n - k) cs) one
+    ap (λ b. cond b (codes "...") (character_shown c ++ quoted (n - cost c) cs)) (le-ltb n (cost c) (omega arith))
+    ∙ ap (λ k. character_shown c ++ quoted (n - k) cs) one
     ∙ ap₂ (λ (xs ys : List ℕ). xs ++ ys) as_it_is more
 
 pub plain_texts_are_shown_whole : PlainTextsAreShownWhole

@@ -33,14 +33,14 @@ abbrev pub is_hidden : ℕ → Bool
 is_hidden c = is_control c || is_unseen c
 
 -- `\n`, `\r`, `\t`, and of any other the number, as `\u{1b}`
-abbrev pub escaped : ℕ → Text
-escaped c = cond (c == 10) (codes "\\n")
+abbrev pub hidden_escape : ℕ → Text
+hidden_escape c = cond (c == 10) (codes "\\n")
     (cond (c == 13) (codes "\\r")
     (cond (c == 9) (codes "\\t") (codes "\\u{" ++ (digits 16 false c ++ codes "}"))))
 
 -- a character as it is shown
-abbrev pub shown : ℕ → Text
-shown c = cond (is_hidden c) (escaped c) (encode_utf8 c)
+abbrev pub character_shown : ℕ → Text
+character_shown c = cond (is_hidden c) (hidden_escape c) (encode_utf8 c)
 
 -- as how many characters it counts
 abbrev pub cost : ℕ → ℕ
@@ -49,7 +49,8 @@ cost c = cond (is_hidden c) 8 1
 -- the beginning of the characters that counts as n at most, with `...` where more follow
 abbrev pub quoted : ℕ → List ℕ → Text
 quoted n [] = []
-quoted n (c ∷ cs) = cond (nat_lt n (cost c)) (codes "...") (shown c ++ quoted (n - cost c) cs)
+quoted n (c ∷ cs) = cond (nat_lt n (cost c)) (codes "...")
+    (character_shown c ++ quoted (n - cost c) cs)
 
 -- what a message shows of a text
 abbrev pub quotation : Text → Text

@@ -11,7 +11,7 @@ use crate::location::Location;
 use std::alloc::{AllocError, AllocFailed, Global};
 use std::fmt;
 
-/// A message has so many bytes at most.
+/// The most bytes that a message has.
 const MOST_BYTES: usize = 1000;
 
 /// What a call answers that can meet a fault.

@@ -23,10 +23,10 @@ use std::alloc::Global;
 pub enum Found<'a> {
     /// A value that is lent.
     Held(&'a Value),
-    /// A length, which is a number.
-    Length(i64),
+    /// A whole number that was counted, as a length.
+    Integer(i64),
     /// A truth value that was computed.
-    Truth(bool),
+    Bool(bool),
     /// A place without an item.
     Nil,
 }
@@ -86,8 +86,8 @@ impl<'a> Found<'a> {
     {
         match self {
             Found::Held(value) => stepped(value, part),
-            Found::Length(n) => scalar_stepped(part, number_length(n)),
-            Found::Truth(b) => scalar_stepped(part, truth_text(b).len()),
+            Found::Integer(n) => scalar_stepped(part, number_length(n)),
+            Found::Bool(b) => scalar_stepped(part, truth_text(b).len()),
             Found::Nil => None,
         }
     }
@@ -98,8 +98,8 @@ impl<'a> Found<'a> {
     {
         match self {
             Found::Held(value) => ValueCow::Borrowed(value),
-            Found::Length(n) => ValueCow::Owned(Value::Integer(n)),
-            Found::Truth(b) => ValueCow::Owned(Value::Bool(b)),
+            Found::Integer(n) => ValueCow::Owned(Value::Integer(n)),
+            Found::Bool(b) => ValueCow::Owned(Value::Bool(b)),
             Found::Nil => ValueCow::Owned(Value::Nil),
         }
     }
@@ -107,7 +107,7 @@ impl<'a> Found<'a> {
     fn of_length(n: usize) -> Found<'a>
         ensures { found_view result ≡ counted n }
     {
-        Found::Length(n.min(9223372036854775807) as i64)
+        Found::Integer(n.min(9223372036854775807) as i64)
     }
 }
 

@@ -1,4 +1,4 @@
-//! Laws of values and of finding along a path: each function's contract is the law.
+//! Laws of values and of finding along a path: each clause is a law, and the functions do nothing.
 ghost use Rattle.liquid_model.specs.Laws.{EqualityIsAnEquivalence, EqualValuesHashAlike};
 ghost use Rattle.liquid_model.specs.Laws.{OrderIsTotal, KindsAreRanked, ScalarsAreOrdered};
 ghost use Rattle.liquid_model.specs.Laws.{FirstUnequalPlaceDecides, MapsGoPairByPair};
@@ -14,104 +14,69 @@ ghost use Rattle.liquid_model.specs.Skipping.{ListWithAllItems, ListWithoutItems
 ghost use Rattle.liquid_model.specs.Skipping.{MapWithAllKeys, MapWithSomeKeys};
 ghost use Rattle.liquid_model.specs.Skipping.{PutAtSameKey, PutInBoth, PutInOne};
 
-/// Equality of values is an equivalence.
-pub fn equality_is_an_equivalence()
-    ensures { EqualityIsAnEquivalence }
+/// Equality and hashing of values.
+///
+/// - Equality of values is an equivalence.
+/// - Equal values feed a hasher alike.
+pub fn equality_laws()
+    ensures equality_is_an_equivalence { EqualityIsAnEquivalence }
+    ensures equal_values_hash_alike { EqualValuesHashAlike }
 {}
 
-/// Equal values feed a hasher alike.
-pub fn equal_values_hash_alike()
-    ensures { EqualValuesHashAlike }
+/// The total order of values.
+///
+/// - The order of values is total, and answers `Equal` exactly at equal values.
+/// - The order ranks kinds: nil, truth values, numbers, texts, lists, maps.
+/// - Within a kind, false stands before true, numbers go by value and texts by bytes.
+/// - Of two lists the first unequal place decides, and a beginning stands before the whole.
+/// - Maps are ordered pair by pair, key first.
+pub fn order_laws()
+    ensures order_is_total { OrderIsTotal }
+    ensures kinds_are_ranked { KindsAreRanked }
+    ensures scalars_are_ordered { ScalarsAreOrdered }
+    ensures first_unequal_place_decides { FirstUnequalPlaceDecides }
+    ensures maps_go_pair_by_pair { MapsGoPairByPair }
 {}
 
-/// The order of values is total, and answers `Equal` exactly at equal values.
-pub fn order_is_total()
-    ensures { OrderIsTotal }
+/// The order of conditions.
+///
+/// - Where `compare` answers, it answers `Equal` exactly at equal values.
+/// - `compare` has no answer for two nils and for unlike kinds.
+/// - Of two lists the first unequal place decides `compare` too.
+/// - `compare` takes maps pair by pair, key first.
+pub fn compare_laws()
+    ensures compare_agrees_with_equality { CompareAgreesWithEquality }
+    ensures compare_without_answer { CompareWithoutAnswer }
+    ensures compare_by_first_unequal_place { CompareByFirstUnequalPlace }
+    ensures compare_pair_by_pair { ComparePairByPair }
 {}
 
-/// The order ranks kinds: nil, truth values, numbers, texts, lists, maps.
-pub fn kinds_are_ranked()
-    ensures { KindsAreRanked }
+/// The text of a value.
+///
+/// - The text of a list is its items' texts, joined by nothing.
+/// - The whole number of a number's text is that number.
+pub fn value_text_laws()
+    ensures list_text_is_item_texts { ListTextIsItemTexts }
+    ensures number_text_is_whole { NumberTextIsRead }
 {}
 
-/// Within a kind, false stands before true, numbers go by value and texts by bytes.
-pub fn scalars_are_ordered()
-    ensures { ScalarsAreOrdered }
-{}
-
-/// Of two lists the first unequal place decides, and a beginning stands before the whole.
-pub fn first_unequal_place_decides()
-    ensures { FirstUnequalPlaceDecides }
-{}
-
-/// Maps are ordered pair by pair, key first.
-pub fn maps_go_pair_by_pair()
-    ensures { MapsGoPairByPair }
-{}
-
-/// Where `compare` answers, it answers `Equal` exactly at equal values.
-pub fn compare_agrees_with_equality()
-    ensures { CompareAgreesWithEquality }
-{}
-
-/// `compare` has no answer for two nils and for unlike kinds.
-pub fn compare_without_answer()
-    ensures { CompareWithoutAnswer }
-{}
-
-/// Of two lists the first unequal place decides `compare` too.
-pub fn compare_by_first_unequal_place()
-    ensures { CompareByFirstUnequalPlace }
-{}
-
-/// `compare` takes maps pair by pair, key first.
-pub fn compare_pair_by_pair()
-    ensures { ComparePairByPair }
-{}
-
-/// The text of a list is its items' texts, joined by nothing.
-pub fn list_text_is_item_texts()
-    ensures { ListTextIsItemTexts }
-{}
-
-/// The whole number of a number's text is that number.
-pub fn number_text_is_whole()
-    ensures { NumberTextIsRead }
-{}
-
-/// The empty path finds the value itself, and a path goes on from where its beginning leads.
-pub fn find_goes_on()
-    ensures { FindGoesOn }
-{}
-
-/// A step that is no scalar finds nothing, and in nil nothing is found.
-pub fn scalars_alone_find()
-    ensures { ScalarsAloneFind }
-{}
-
-/// An index counts from 0, and a negative one from the end: item -k of n items is item n - k.
-pub fn items_by_index()
-    ensures { ItemsByIndex }
-{}
-
-/// A text with a whole number is an index into a list.
-pub fn texts_index_too()
-    ensures { TextsIndexToo }
-{}
-
-/// `first`, `last` and `size` of a list.
-pub fn items_by_name()
-    ensures { ItemsByName }
-{}
-
-/// A map's own key wins, also one named `size`.
-pub fn own_keys_win()
-    ensures { OwnKeysWin }
-{}
-
-/// What was put at a key of a map is found there, and the other keys keep their values.
-pub fn put_is_found()
-    ensures { PutIsFound }
+/// Finding along a path, and maps by name.
+///
+/// - The empty path finds the value itself, and a path goes on from where its beginning leads.
+/// - A step that is no scalar finds nothing, and in nil nothing is found.
+/// - An index counts from 0, and a negative one from the end: item -k of n items is item n - k.
+/// - A text with a whole number is an index into a list.
+/// - `first`, `last` and `size` of a list.
+/// - A map's own key wins, also one named `size`.
+/// - What was put at a key of a map is found there, and the other keys keep their values.
+pub fn find_laws()
+    ensures find_goes_on { FindGoesOn }
+    ensures scalars_alone_find { ScalarsAloneFind }
+    ensures items_by_index { ItemsByIndex }
+    ensures texts_index_too { TextsIndexToo }
+    ensures items_by_name { ItemsByName }
+    ensures own_keys_win { OwnKeysWin }
+    ensures put_is_found { PutIsFound }
 {}
 
 /// Laws of uses: what is alike in a use is alike in each that it includes, and what is alike in two
@@ -134,12 +99,11 @@ pub fn skipping_laws()
     ensures no_items { ListWithoutItems }
 {}
 
-/// What a message shows of a text is a short line.
-pub fn quotations_are_lines()
-    ensures { QuotationsAreLines }
-{}
-
-/// A short text of characters that each stand for themselves is shown as it is.
-pub fn plain_texts_are_shown_whole()
-    ensures { PlainTextsAreShownWhole }
+/// Quotations in messages.
+///
+/// - What a message shows of a text is a short line.
+/// - A short text of characters that each stand for themselves is shown as it is.
+pub fn quotation_laws()
+    ensures quotations_are_lines { QuotationsAreLines }
+    ensures plain_texts_are_shown_whole { PlainTextsAreShownWhole }
 {}

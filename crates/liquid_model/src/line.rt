@@ -2,8 +2,8 @@
 ghost use Rattle.std.specs.Prelude.{◌≡◌, ◌≤◌, IsTrue, length, string_bytes, take, true};
 ghost use Rattle.liquid_model.specs.Quotes.{is_line, is_line_byte};
 
-/// The text, where it is a line of at most so many bytes; else its beginning up to the first
-/// control character, or to the last character that ends within so many bytes. It takes no memory.
+/// The text, where it is a line of at most `most` bytes; else its beginning up to the first
+/// control character, or to the last character that ends within `most` bytes. It takes no memory.
 pub fn line_of(most: usize, text: String) -> String
     ensures line { is_line most (string_bytes result) ≡ true }
     ensures same { IsTrue (is_line most (string_bytes text)) → result ≡ text }

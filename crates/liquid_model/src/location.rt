@@ -27,8 +27,8 @@ pub struct Location {
 }
 
 impl Location {
-    /// The same location of a fault that the partial of this name tells: what it tells as its own
-    /// text is that of the partial.
+    /// The same location, seen from outside the partial of this name: its own text is that of the
+    /// partial.
     pub(crate) fn in_partial(self, alloc: Global, name: &str) -> Result<Location, AllocError>
         ensures { IfOk result (λ told. location_text told ≡ partial_location_text name.now self) }
     {

@@ -8,7 +8,7 @@ ghost use Rattle.liquid_model.specs.View.{view, pairs_view};
 use crate::error::Result;
 use crate::value::{Object, Value};
 
-/// Puts the value at the key, in place of one that stands there. Without the memory for it nothing
+/// Puts the value at the key, in place of one that stands there. Where memory runs out nothing
 /// changes.
 pub fn store(object: &mut Object, key: String, value: Value) -> Result<()>
     ensures stored { IsValueOrMemory (λ _. pairs_view object.new.entries) result

@@ -2,7 +2,8 @@
 //! terminal would obey.
 ghost use Rattle.std.specs.Prelude.{◌≡◌, Some, IfOk, string_bytes};
 ghost use Rattle.std.specs.Fmt.{WritesOnOk};
-ghost use Rattle.liquid_model.specs.Quotes.{cost, escaped, is_hidden, quotation, shown};
+ghost use Rattle.liquid_model.specs.Quotes.{character_shown, cost, hidden_escape, is_hidden};
+ghost use Rattle.liquid_model.specs.Quotes.{quotation};
 
 use std::alloc::{AllocError, Global};
 use std::fmt;
@@ -61,7 +62,7 @@ fn cost(letter: char) -> usize
 
 /// Writes a character as it is shown.
 fn write_shown<W: Write>(letter: char, f: &mut Formatter<W>) -> fmt::Result
-    ensures { WritesOnOk W.write_str_gives f.old result (shown letter) f.new }
+    ensures { WritesOnOk W.write_str_gives f.old result (character_shown letter) f.new }
 {
     if is_hidden(letter) {
         write_escaped(letter, f)
@@ -71,7 +72,7 @@ fn write_shown<W: Write>(letter: char, f: &mut Formatter<W>) -> fmt::Result
 }
 
 fn write_escaped<W: Write>(letter: char, f: &mut Formatter<W>) -> fmt::Result
-    ensures { WritesOnOk W.write_str_gives f.old result (escaped letter) f.new }
+    ensures { WritesOnOk W.write_str_gives f.old result (hidden_escape letter) f.new }
 {
     match letter {
         '\n' => f.write_str("\\n"),

@@ -2,6 +2,7 @@
 use Rattle.std.specs.Prelude.{◌≡◌, ℕ, List, [], ◌++◌, codes, string_bytes}
 use Rattle.liquid_model.specs.Errors.{error_text}
 use Rattle.liquid_model.specs.declared.error.ErrorKind.TheVariants.{Memory}
+use Rattle.liquid_excerpts.specs.Paths.{shown_path}
 use Rattle.liquid_page.specs.declared.outcome.Outcome.{Outcome}
 use Rattle.liquid_page.specs.declared.outcome.Outcome.TheVariants.{Done, Usage, Unread, Fault}
 
@@ -13,7 +14,7 @@ status_of Usage = 2
 
 abbrev pub told : Outcome → List ℕ
 told Done = []
-told (Unread file) = codes "error: Read: " ++ string_bytes file
+told (Unread file) = codes "error: Read: " ++ shown_path (string_bytes file)
 told (Fault e) = codes "error: " ++ error_text e
 told Usage = codes "usage: liquid_page TEMPLATE DATA [NAME=FILE ..]"
 

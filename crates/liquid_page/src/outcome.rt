@@ -4,6 +4,7 @@ ghost use Rattle.liquid_page.specs.Outcomes.{IsMemory, status_of, told};
 ghost use Rattle.liquid_page.specs.declared.outcome.Outcome.TheVariants.{Done, Fault};
 
 use liquid_core::{Error, Result};
+use liquid_excerpts::ShownPath;
 use std::alloc::{AllocError, AllocFailed};
 use std::fmt;
 
@@ -41,7 +42,12 @@ impl fmt::Display for Outcome {
         match self {
             Outcome::Done => Ok(()),
             Outcome::Usage => f.write_str("usage: liquid_page TEMPLATE DATA [NAME=FILE ..]"),
-            Outcome::Unread(file) => write!(f, "error: Read: {file}"),
+            Outcome::Unread(file) => {
+                let path = ShownPath {
+                    path: file.as_str(),
+                };
+                write!(f, "error: Read: {path}")
+            }
             Outcome::Fault(fault) => write!(f, "error: {fault}"),
         }
     }

@@ -1,4 +1,4 @@
--- Which of the files that changed are refused, and why: what a round tells of them.
+-- Which of the files that changed are refused, and why.
 use Rattle.std.specs.Prelude.{◌≡◌, List, [], ◌∷◌, ◌++◌, Option, Some, None, option_to_list, Result}
 use Rattle.std.specs.Prelude.{Ok, Err, string_bytes}
 use Rattle.liquid_model.specs.Data.{Pairs}
@@ -49,14 +49,14 @@ Refuses l (Page name) file why = RefusesTemplate l file why
 Refuses l (Partial name) file why = RefusesTemplate l file why
 Refuses l Facts file why = RefusesFacts file why
 
--- what is told of a changed file: its own path with why it is refused, or nothing where it is not
+-- what a round says of a changed file: its path with why it is refused, or nothing
 abbrev pub IsRefusal : Language → Folder → Files → Changed → Option Refusal → Type 0
 IsRefusal l folder files changed None = Refuses l changed (files (path_of folder changed)) None
 IsRefusal l folder files changed (Some refusal) =
     (string_bytes refusal.path ≡ path_of folder changed) ×
     Refuses l changed (files (path_of folder changed)) (Some refusal.why)
 
--- what is told of all changed files, one after another
+-- what a round says of all changed files, one after another
 abbrev pub AreRefusals : Language → Folder → Files → List Changed → List Refusal → Type 0
 AreRefusals l folder files [] told = told ≡ []
 AreRefusals l folder files (changed ∷ rest) told =

@@ -38,7 +38,7 @@ abbrev pub KeepsOthers : Text → Pages → Files → Option Files → Type 0
 KeepsOthers out ps old None = ⊥
 KeepsOthers out ps old (Some new) = (q : Text) → is_page_path out ps q ≡ false → new q ≡ old q
 
--- what is told of a file that isn't written
+-- what a message says of a file that isn't written
 abbrev pub unwritten_message : Text → Text
 unwritten_message path = codes "the file `" ++ path ++ codes "` can't be written"
 

@@ -12,11 +12,11 @@ use Rattle.liquid_lexer.specs.declared.symbol.Symbol.TheVariants.{Colon, Comma}
 use Rattle.liquid_lexer.proofs.WordLaws.{bind_some, map_some, from_some}
 use Rattle.liquid_evaluation.specs.Tree.{Bindings, Source, each_of, counted}
 use Rattle.liquid_syntax.specs.Bound.{ArePairs, IsOneOf, IsPair, IsPairsEnd, a_pair, any_item, behind_comma, ends_pairs, is_separated, last_comma, mark_of, no_item, one_first, pair_first, pairs_of, past_comma, unseparated}
-use Rattle.liquid_syntax.specs.Loops.{source_token, source_of, source_first, Part, limit_is, offset_is, cols_is, is_reversed, IsPart, a_limit, an_offset, a_reversal, a_width, Parts, no_parts, settled, with_part, IsNothing, is_nothing, Head, head_with, IsLoop, a_loop, part_value, or_else, own_part, part_first, parts_of, settled_of, loop_of}
+use Rattle.liquid_syntax.specs.Loops.{source_token, source_of, source_first, Part, limit_is, offset_is, cols_is, is_reversed, IsPart, a_limit, an_offset, a_reversal, a_width, Parts, no_parts, with_parts, with_part, IsNothing, is_nothing, Head, head_with, IsLoop, a_loop, part_value, or_else, own_part, part_first, parts_of, parts_after, loop_of}
 use Rattle.liquid_syntax.specs.Repeated.{AreRepeated}
 use Rattle.liquid_syntax.specs.ValueLists.{IsSeparator, a_comma, an_or, IsFurther, a_further, IsValuesEnd, no_value, a_last_comma, AreValues, some_values, is_separator, past_separator, further_first, ends_values, further_of, values_of}
-use Rattle.liquid_syntax.specs.declared.loop_items.LoopKind.{LoopKind}
-use Rattle.liquid_syntax.specs.declared.loop_items.LoopKind.TheVariants.{Each, Rows}
+use Rattle.liquid_syntax.specs.declared.loop_items.LoopTag.{LoopTag}
+use Rattle.liquid_syntax.specs.declared.loop_items.LoopTag.TheVariants.{Each, Rows}
 use Rattle.liquid_syntax.specs.declared.pair_items.PairStyle.{PairStyle}
 use Rattle.liquid_syntax.specs.declared.pair_items.PairStyle.TheVariants.{Include, JekyllInclude, Render}
 use Rattle.liquid_syntax.specs.declared.value_items.Separators.{Separators}
@@ -102,13 +102,13 @@ part_value_is make ts p rest h =
     let (x, front, same) = map_some (value_first mid) (λ x. (make x.0, x.1)) (p, rest) more in
     (x.0, past_is Colon ts mid behind ∙ ap (λ (ts : List Token). symbol Colon ∷ ts) (first_value mid x.0 x.1 front) ∙ ap (λ (y : Part × List Token). symbol Colon ∷ value x.0 ∷ y.1) same, ap (λ (y : Part × List Token). y.0) same)
 
-valued_takes : (k : LoopKind) (w : Text) (make : Expression → Part) (rule : (x : Expression) → IsPart k (make x) (word w ∷ symbol Colon ∷ value x ∷ [])) (ts mid : List Token) (p : Part) (rest : List Token)
+valued_takes : (k : LoopTag) (w : Text) (make : Expression → Part) (rule : (x : Expression) → IsPart k (make x) (word w ∷ symbol Colon ∷ value x ∷ [])) (ts mid : List Token) (p : Part) (rest : List Token)
     → past_word w ts ≡ Some mid → part_value make mid ≡ Some (p, rest) → (us : List Token) × (ts ≡ us ++ rest) × IsPart k p us
 valued_takes k w make rule ts mid p rest e h =
     let (x, cut, same) = part_value_is make mid p rest h in
     (word w ∷ symbol Colon ∷ value x ∷ [], past_word_is w ts mid e ∙ ap (λ (ts : List Token). word w ∷ ts) cut, subst (λ (p : Part). IsPart k p (word w ∷ symbol Colon ∷ value x ∷ [])) same (rule x))
 
-own_takes : (k : LoopKind) (ts : List Token) (p : Part) (rest : List Token) → own_part k ts ≡ Some (p, rest) → (us : List Token) × (ts ≡ us ++ rest) × IsPart k p us
+own_takes : (k : LoopTag) (ts : List Token) (p : Part) (rest : List Token) → own_part k ts ≡ Some (p, rest) → (us : List Token) × (ts ≡ us ++ rest) × IsPart k p us
 own_takes Each ts p rest h =
     let (mid, front, same) = map_some (past_word (codes "reversed") ts) (λ rest. (is_reversed, rest)) (p, rest) h in
     let is : is_reversed ≡ p = ap (λ (y : Part × List Token). y.0) same in
@@ -117,31 +117,31 @@ own_takes Rows ts p rest h =
     let (mid, front, more) = bind_some (past_word (codes "cols") ts) (part_value cols_is) (p, rest) h in
     valued_takes Rows (codes "cols") cols_is (λ x. a_width x) ts mid p rest front more
 
-offset_takes : (k : LoopKind) (ts : List Token) (p : Part) (rest : List Token) (o : Option (List Token)) → past_word (codes "offset") ts ≡ o → or_else o (part_value offset_is) (own_part k ts) ≡ Some (p, rest) → (us : List Token) × (ts ≡ us ++ rest) × IsPart k p us
+offset_takes : (k : LoopTag) (ts : List Token) (p : Part) (rest : List Token) (o : Option (List Token)) → past_word (codes "offset") ts ≡ o → or_else o (part_value offset_is) (own_part k ts) ≡ Some (p, rest) → (us : List Token) × (ts ≡ us ++ rest) × IsPart k p us
 offset_takes k ts p rest None e h = own_takes k ts p rest h
 offset_takes k ts p rest (Some mid) e h = valued_takes k (codes "offset") offset_is (λ x. an_offset x) ts mid p rest e h
 
-limit_takes : (k : LoopKind) (ts : List Token) (p : Part) (rest : List Token) (o : Option (List Token)) → past_word (codes "limit") ts ≡ o
+limit_takes : (k : LoopTag) (ts : List Token) (p : Part) (rest : List Token) (o : Option (List Token)) → past_word (codes "limit") ts ≡ o
     → or_else o (part_value limit_is) (or_else (past_word (codes "offset") ts) (part_value offset_is) (own_part k ts)) ≡ Some (p, rest) → (us : List Token) × (ts ≡ us ++ rest) × IsPart k p us
 limit_takes k ts p rest None e h = offset_takes k ts p rest (past_word (codes "offset") ts) refl h
 limit_takes k ts p rest (Some mid) e h = valued_takes k (codes "limit") limit_is (λ x. a_limit x) ts mid p rest e h
 
-part_takes : (k : LoopKind) (ts : List Token) (p : Part) (rest : List Token) → part_first k ts ≡ Some (p, rest) → (us : List Token) × (ts ≡ us ++ rest) × IsPart k p us
+part_takes : (k : LoopTag) (ts : List Token) (p : Part) (rest : List Token) → part_first k ts ≡ Some (p, rest) → (us : List Token) × (ts ≡ us ++ rest) × IsPart k p us
 part_takes k ts p rest h = limit_takes k ts p rest (past_word (codes "limit") ts) refl h
 
-part_again : (k : LoopKind) (p : Part) (ts rest : List Token) → IsPart k p ts → (part_first k (ts ++ rest) ≡ Some (p, rest)) × (is_nothing (ts ++ rest) ≡ false)
+part_again : (k : LoopTag) (p : Part) (ts rest : List Token) → IsPart k p ts → (part_first k (ts ++ rest) ≡ Some (p, rest)) × (is_nothing (ts ++ rest) ≡ false)
 part_again k p ts rest (a_limit x) = (refl, refl)
 part_again k p ts rest (an_offset x) = (refl, refl)
 part_again k p ts rest a_reversal = (refl, refl)
 part_again k p ts rest (a_width x) = (refl, refl)
 
-part_long : (k : LoopKind) (p : Part) (ts : List Token) → IsPart k p ts → 0 < length ts
+part_long : (k : LoopTag) (p : Part) (ts : List Token) → IsPart k p ts → 0 < length ts
 part_long k p ts (a_limit x) = omega arith
 part_long k p ts (an_offset x) = omega arith
 part_long k p ts a_reversal = omega arith
 part_long k p ts (a_width x) = omega arith
 
-pub part_shorter : (k : LoopKind) (ts : List Token) (x : Part × List Token) → part_first k ts ≡ Some x → length x.1 < length ts
+pub part_shorter : (k : LoopTag) (ts : List Token) (x : Part × List Token) → part_first k ts ≡ Some x → length x.1 < length ts
 part_shorter k ts x h = let (us, cut, is) = part_takes k ts x.0 x.1 h in cut_shorter ts us x.1 cut (part_long k x.0 us is)
 
 nothing_is : (ts : List Token) → is_nothing ts ≡ true → ts ≡ []
@@ -166,42 +166,42 @@ source_again : (s : Source) (ts : List Token) → source_first (source_token s �
 source_again (each_of x) ts = refl
 source_again (counted x y) ts = refl
 
-pub loop_takes : (k : LoopKind) (h : Head) (ts : List Token) → loop_of k ts ≡ Some h → IsLoop k h ts
+pub loop_takes : (k : LoopTag) (h : Head) (ts : List Token) → loop_of k ts ≡ Some h → IsLoop k h ts
 loop_takes k head ts h =
     let (w, named, more) = bind_some (word_first ts) _ head h in
     let (rest, behind, over) = bind_some (past_word (codes "in") w.1) _ head more in
     let (s, front, parts) = bind_some (source_first rest) _ head over in
-    let (ps, settle, same) = map_some (settled_of k no_parts s.1) (head_with w.0 s.0) head parts in
-    let (qs, read, is) = map_some (parts_of k s.1) (settled no_parts) ps settle in
+    let (ps, settle, same) = map_some (parts_after k no_parts s.1) (head_with w.0 s.0) head parts in
+    let (qs, read, is) = map_some (parts_of k s.1) (with_parts no_parts) ps settle in
     let there : ts ≡ word w.0 ∷ word (codes "in") ∷ source_token s.0 ∷ s.1 =
     first_word ts w.0 w.1 named ∙ ap (λ (ts : List Token). word w.0 ∷ ts) (past_word_is (codes "in") w.1 rest behind) ∙ ap (λ (ts : List Token). word w.0 ∷ word (codes "in") ∷ ts) (first_source rest s.0 s.1 front) in
     let all = repeated_takes (part_first k) is_nothing (part_shorter k) (IsPart k) IsNothing (part_takes k) (part_again k) nothing_is nothing_again s.1 qs read in
-    subst (λ (head : Head). IsLoop k head ts) (ap (head_with w.0 s.0) is ∙ same) (subst (λ (ts : List Token). IsLoop k (head_with w.0 s.0 (settled no_parts qs)) ts) (sym there) (a_loop w.0 s.0 all))
+    subst (λ (head : Head). IsLoop k head ts) (ap (head_with w.0 s.0) is ∙ same) (subst (λ (ts : List Token). IsLoop k (head_with w.0 s.0 (with_parts no_parts qs)) ts) (sym there) (a_loop w.0 s.0 all))
 
-behind_source : LoopKind → Text → Source × List Token → Option Head
-behind_source k w s = option_map (head_with w s.0) (settled_of k no_parts s.1)
+behind_source : LoopTag → Text → Source × List Token → Option Head
+behind_source k w s = option_map (head_with w s.0) (parts_after k no_parts s.1)
 
-pub loop_again : (k : LoopKind) (h : Head) (ts : List Token) → IsLoop k h ts → loop_of k ts ≡ Some h
+pub loop_again : (k : LoopTag) (h : Head) (ts : List Token) → IsLoop k h ts → loop_of k ts ≡ Some h
 unfolding behind_source
 loop_again k head ts (a_loop {ps = ps} {ts = us} w s more) =
     ap (λ (o : Option (Source × List Token)). option_and_then (behind_source k w) o) (source_again s us)
-    ∙ ap (λ (o : Option (List Part)). option_map (head_with w s) (option_map (settled no_parts) o))
+    ∙ ap (λ (o : Option (List Part)). option_map (head_with w s) (option_map (with_parts no_parts) o))
     (repeated_again (part_first k) is_nothing (part_shorter k) (IsPart k) IsNothing (part_takes k) (part_again k) nothing_is nothing_again ps us more)
 
 -- ---- in the loop that reads parts
 
-settle_more : (ps : Parts) (p : Part) (o : Option (List Part)) → option_map (settled ps) (option_map (λ ps. p ∷ ps) o) ≡ option_map (settled (with_part ps p)) o
+settle_more : (ps : Parts) (p : Part) (o : Option (List Part)) → option_map (with_parts ps) (option_map (λ ps. p ∷ ps) o) ≡ option_map (with_parts (with_part ps p)) o
 settle_more ps p None = refl
 settle_more ps p (Some qs) = refl
 
-pub one_part_more : (k : LoopKind) (ps : Parts) (ts : List Token) (p : Part) (rest : List Token) → is_nothing ts ≡ false → part_first k ts ≡ Some (p, rest) → settled_of k ps ts ≡ settled_of k (with_part ps p) rest
-one_part_more k ps ts p rest e h = ap (option_map (settled ps)) (more_turn (part_first k) is_nothing (part_shorter k) ts p rest e h) ∙ settle_more ps p (parts_of k rest)
+pub one_part_more : (k : LoopTag) (ps : Parts) (ts : List Token) (p : Part) (rest : List Token) → is_nothing ts ≡ false → part_first k ts ≡ Some (p, rest) → parts_after k ps ts ≡ parts_after k (with_part ps p) rest
+one_part_more k ps ts p rest e h = ap (option_map (with_parts ps)) (more_turn (part_first k) is_nothing (part_shorter k) ts p rest e h) ∙ settle_more ps p (parts_of k rest)
 
-pub no_part_more : (k : LoopKind) (ps : Parts) (ts : List Token) → is_nothing ts ≡ true → settled_of k ps ts ≡ Some ps
-no_part_more k ps ts e = ap (option_map (settled ps)) (end_turn (part_first k) is_nothing (part_shorter k) ts e)
+pub no_part_more : (k : LoopTag) (ps : Parts) (ts : List Token) → is_nothing ts ≡ true → parts_after k ps ts ≡ Some ps
+no_part_more k ps ts e = ap (option_map (with_parts ps)) (end_turn (part_first k) is_nothing (part_shorter k) ts e)
 
-pub no_part_there : (k : LoopKind) (ps : Parts) (ts : List Token) → is_nothing ts ≡ false → part_first k ts ≡ None → settled_of k ps ts ≡ None
-no_part_there k ps ts e h = ap (option_map (settled ps)) (stuck_turn (part_first k) is_nothing (part_shorter k) ts e h)
+pub no_part_there : (k : LoopTag) (ps : Parts) (ts : List Token) → is_nothing ts ≡ false → part_first k ts ≡ None → parts_after k ps ts ≡ None
+no_part_there k ps ts e h = ap (option_map (with_parts ps)) (stuck_turn (part_first k) is_nothing (part_shorter k) ts e h)
 
 -- no item is left just where no token is
 pub nothing_seen : (is : List Item) (b : Bool) → nat_eq (length is) 0 ≡ b → is_nothing (tokens_view is) ≡ b

@@ -31,7 +31,7 @@ use Rattle.liquid_language.specs.declared.language.TagKind.TheVariants as tags
 use Rattle.liquid_syntax.proofs.ConditionLaws.{condition_takes, condition_again}
 use Rattle.liquid_core.specs.Expression.{Expression}
 use Rattle.liquid_syntax.specs.ValueLists.{values_of}
-use Rattle.liquid_syntax.specs.declared.loop_items.LoopKind.TheVariants.{Each, Rows}
+use Rattle.liquid_syntax.specs.declared.loop_items.LoopTag.TheVariants.{Each, Rows}
 use Rattle.liquid_syntax.specs.declared.value_items.Separators.TheVariants.{CommasOr}
 use Rattle.liquid_syntax.proofs.Alone.{one_word, one_value}
 use Rattle.liquid_syntax.proofs.CycleLaws.{cycle_takes, cycle_again}

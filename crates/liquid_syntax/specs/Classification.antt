@@ -39,7 +39,7 @@ use Rattle.liquid_language.specs.declared.language.BlockKind.TheVariants as bloc
 use Rattle.liquid_language.specs.declared.language.Language.{Language}
 use Rattle.liquid_language.specs.declared.language.TagKind.{TagKind}
 use Rattle.liquid_language.specs.declared.language.TagKind.TheVariants as tags
-use Rattle.liquid_syntax.specs.declared.loop_items.LoopKind.TheVariants.{Each, Rows}
+use Rattle.liquid_syntax.specs.declared.loop_items.LoopTag.TheVariants.{Each, Rows}
 
 abbrev pub leaf_or : Option Node → Statement
 leaf_or None = refused

@@ -12,8 +12,8 @@ use Rattle.liquid_evaluation.specs.SourceView.{source_view}
 use Rattle.liquid_evaluation.specs.Tree.{Source, each_of, counted, Window, Nodes, Node, for_each}
 use Rattle.liquid_evaluation.specs.Tree.{tablerow}
 use Rattle.liquid_syntax.specs.Repeated.{AreRepeated, repeated_of}
-use Rattle.liquid_syntax.specs.declared.loop_items.LoopKind.{LoopKind}
-use Rattle.liquid_syntax.specs.declared.loop_items.LoopKind.TheVariants.{Each, Rows}
+use Rattle.liquid_syntax.specs.declared.loop_items.LoopTag.{LoopTag}
+use Rattle.liquid_syntax.specs.declared.loop_items.LoopTag.TheVariants.{Each, Rows}
 use Rattle.liquid_syntax.specs.declared.loop_items.LoopPart.{LoopPart}
 use Rattle.liquid_syntax.specs.declared.loop_items.LoopPart.TheVariants as code
 use Rattle.liquid_syntax.specs.declared.loop_items.Loop.{Loop}
@@ -34,9 +34,9 @@ abbrev pub valued : Text → Expression → List Token
 valued w x = word w ∷ symbol Colon ∷ value x ∷ []
 
 -- `limit: v` and `offset: v`; `reversed` in a `for`, and `cols: v` in a `tablerow`
-pub data IsPart : LoopKind → Part → List Token → Type 0 where
-  a_limit : {k : LoopKind} (x : Expression) → IsPart k (limit_is x) (valued (codes "limit") x)
-  an_offset : {k : LoopKind} (x : Expression) → IsPart k (offset_is x) (valued (codes "offset") x)
+pub data IsPart : LoopTag → Part → List Token → Type 0 where
+  a_limit : {k : LoopTag} (x : Expression) → IsPart k (limit_is x) (valued (codes "limit") x)
+  an_offset : {k : LoopTag} (x : Expression) → IsPart k (offset_is x) (valued (codes "offset") x)
   a_reversal : IsPart Each is_reversed (word (codes "reversed") ∷ [])
   a_width : (x : Expression) → IsPart Rows (cols_is x) (valued (codes "cols") x)
 
@@ -76,9 +76,9 @@ with_part ps is_reversed = record {
   reversed = true;
 }
 
-abbrev pub settled : Parts → List Part → Parts
-settled ps [] = ps
-settled ps (q ∷ qs) = settled (with_part ps q) qs
+abbrev pub with_parts : Parts → List Part → Parts
+with_parts ps [] = ps
+with_parts ps (q ∷ qs) = with_parts (with_part ps q) qs
 
 abbrev pub IsNothing : List Token → Type 0
 IsNothing ts = ts ≡ []
@@ -92,13 +92,13 @@ abbrev pub in_word : Token
 in_word = word (codes "in")
 
 -- `w in R`, and any parts, of which the last of a kind counts
-pub data IsLoop (k : LoopKind) : Head → List Token → Type 0 where
+pub data IsLoop (k : LoopTag) : Head → List Token → Type 0 where
   a_loop : {ps : List Part} {ts : List Token} (w : Text) (s : Source) →
       AreRepeated (IsPart k) IsNothing ps ts
       → IsLoop k (record {
         variable = w;
         source = s;
-        parts = settled no_parts ps;
+        parts = with_parts no_parts ps;
       }) (word w ∷ in_word ∷ source_token s ∷ ts)
 
 -- ---- reading
@@ -121,11 +121,11 @@ abbrev pub or_else : {A B : Type 0} → Option A → (A → Option B) → Option
 or_else None f o = o
 or_else (Some x) f o = f x
 
-abbrev pub own_part : LoopKind → List Token → Option (Part × List Token)
+abbrev pub own_part : LoopTag → List Token → Option (Part × List Token)
 own_part Each ts = option_map (λ rest. (is_reversed, rest)) (past_word (codes "reversed") ts)
 own_part Rows ts = option_and_then (part_value cols_is) (past_word (codes "cols") ts)
 
-abbrev pub part_first : LoopKind → List Token → Option (Part × List Token)
+abbrev pub part_first : LoopTag → List Token → Option (Part × List Token)
 part_first k ts =
     or_else (past_word (codes "limit") ts) (part_value limit_is)
     (or_else (past_word (codes "offset") ts) (part_value offset_is) (own_part k ts))
@@ -134,21 +134,21 @@ abbrev pub is_nothing : List Token → Bool
 is_nothing [] = true
 is_nothing (t ∷ ts) = false
 
-abbrev pub parts_of : LoopKind → List Token → Option (List Part)
+abbrev pub parts_of : LoopTag → List Token → Option (List Part)
 parts_of k ts = repeated_of (part_first k) is_nothing ts
 
-abbrev pub settled_of : LoopKind → Parts → List Token → Option Parts
-settled_of k ps ts = option_map (settled ps) (parts_of k ts)
+abbrev pub parts_after : LoopTag → Parts → List Token → Option Parts
+parts_after k ps ts = option_map (with_parts ps) (parts_of k ts)
 
 abbrev pub head_with : Text → Source → Parts → Head
 head_with w s ps = record { variable = w; source = s; parts = ps }
 
-abbrev pub loop_of : LoopKind → List Token → Option Head
+abbrev pub loop_of : LoopTag → List Token → Option Head
 loop_of k ts =
     option_and_then
     (λ w. option_and_then
     (λ rest. option_and_then (λ s. option_map (head_with w.0 s.0)
-    (settled_of k no_parts s.1)) (source_first rest)) (past_word (codes "in") w.1))
+    (parts_after k no_parts s.1)) (source_first rest)) (past_word (codes "in") w.1))
     (word_first ts)
 
 -- ---- what the code's values say

@@ -1,4 +1,4 @@
--- Sets of names, and what the visitors come to that look for a name and that gather all names.
+-- Sets of names, and what the visitors do that look for a name or gather all names.
 use Rattle.std.specs.Prelude.{◌≡◌, Bool, ◌||◌, List, String}
 use Rattle.std.specs.Bool.{OnFalse}
 use Rattle.std.specs.BTreeSet.{BTreeSet, contains_text}

@@ -6,7 +6,7 @@ use Rattle.liquid_evaluation.specs.Tree.{Bindings}
 use Rattle.liquid_syntax.specs.Bound.{ArePairs, pairs_of}
 use Rattle.liquid_syntax.specs.Loops.{Head, IsLoop, loop_of}
 use Rattle.liquid_syntax.specs.ValueLists.{AreValues, values_of}
-use Rattle.liquid_syntax.specs.declared.loop_items.LoopKind.{LoopKind}
+use Rattle.liquid_syntax.specs.declared.loop_items.LoopTag.{LoopTag}
 use Rattle.liquid_syntax.specs.declared.pair_items.PairStyle.{PairStyle}
 use Rattle.liquid_syntax.specs.declared.value_items.Separators.{Separators}
 
@@ -15,7 +15,7 @@ ReadsValues = (s : Separators) (xs : List Expression) (ts : List Token) →
     (values_of s ts ≡ Some xs) ↔ AreValues s xs ts
 
 abbrev pub ReadsLoops : Type 0
-ReadsLoops = (k : LoopKind) (h : Head) (ts : List Token) → (loop_of k ts ≡ Some h) ↔ IsLoop k h ts
+ReadsLoops = (k : LoopTag) (h : Head) (ts : List Token) → (loop_of k ts ≡ Some h) ↔ IsLoop k h ts
 
 abbrev pub ReadsPairs : Type 0
 ReadsPairs = (k : PairStyle) (ps : Bindings) (ts : List Token) → (pairs_of k ts ≡ Some ps) ↔

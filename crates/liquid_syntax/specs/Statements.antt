@@ -31,7 +31,7 @@ use Rattle.liquid_language.specs.declared.block.Role.TheVariants.{Block as Start
 use Rattle.liquid_language.specs.declared.language.BlockKind.TheVariants as blocks
 use Rattle.liquid_language.specs.declared.language.Language.{Language}
 use Rattle.liquid_language.specs.declared.language.TagKind.TheVariants as tags
-use Rattle.liquid_syntax.specs.declared.loop_items.LoopKind.TheVariants.{Each, Rows}
+use Rattle.liquid_syntax.specs.declared.loop_items.LoopTag.TheVariants.{Each, Rows}
 
 pub data IsStatement (l : Language) (x : BlockContext) : pieces.Piece → Statement → Type 0 where
   is_text : {t : Text} → IsStatement l x (pieces.text t) (leaf (plain t))

@@ -1,15 +1,34 @@
 //! What is written into the nodes of blocks as their bodies end, and the further `when` parts of a
 //! `case`.
 
-ghost use Rattle.std.specs.Prelude.{◌≡◌, ℕ, [], ◌∷◌, ◌++◌, map, OnOk};
-ghost use Rattle.liquid_syntax.specs.inside.Building.{IsAdded, IsMemory, before_last_ended};
-ghost use Rattle.liquid_syntax.specs.inside.Building.{last_ended, set_before_last};
-ghost use Rattle.liquid_syntax.specs.Flats.{arm_ends, arm_values, flat_of};
+ghost use Rattle.std.specs.Prelude.{◌≡◌, ◌<◌, ℕ, [], ◌∷◌, ◌++◌, length, map, OnOk};
+ghost use Rattle.liquid_syntax.specs.inside.Building.{BodyEnded, IsAdded, IsMemory};
+ghost use Rattle.liquid_syntax.specs.inside.Building.{before_last_ended, last_ended};
+ghost use Rattle.liquid_syntax.specs.inside.Building.{set_before_last};
+ghost use Rattle.liquid_syntax.specs.Flats.{arm_ends, arm_values, flat_of, flats};
 ghost use Rattle.liquid_core.specs.ExpressionView.{expression_view};
 
+use crate::build::{Open, Stage};
 use crate::node::{Arm, Node};
 use liquid_core::Expression;
 use liquid_lexer::ParseError;
+
+/// Ends the body that is being read, where another may follow it: writes where it ends, or drops
+/// what isn't kept.
+pub(crate) fn end_body(nodes: &mut Vec<Node>, block: Open)
+    requires { block.node_index < length nodes.old.items }
+    ensures ended { BodyEnded block.stage block.node_index (flats nodes.old.items)
+        (flats nodes.new.items) }
+    ensures inside { block.node_index < length nodes.new.items }
+{
+    let end = nodes.len();
+    match block.stage {
+        Stage::First => end_before_last(&mut nodes[block.node_index], end),
+        Stage::Last => {}
+        Stage::Unkept => nodes.truncate(block.node_index + 1),
+        Stage::Armed => end_before_last(&mut nodes[block.node_index], end),
+    }
+}
 
 /// Writes where the body before the last ends.
 pub(crate) fn end_before_last(node: &mut Node, end: usize)

@@ -3,21 +3,21 @@
 
 ghost use Rattle.std.specs.Prelude.{◌≡◌, ◌<◌, ◌-◌, IfSome, List, [], length, map, slice_get, Some};
 ghost use Rattle.std.specs.Prelude.{OnOk, true};
-ghost use Rattle.liquid_syntax.specs.inside.Building.{Begins, BodyEnded, Closes, EndsFirst};
+ghost use Rattle.liquid_syntax.specs.inside.Building.{Begins, Closes, EndsFirst};
 ghost use Rattle.liquid_syntax.specs.inside.Building.{Finishes, IsBuilding, IsBuilt, IsFirst};
 ghost use Rattle.liquid_syntax.specs.inside.Building.{IsMemory, IsPrepared, IsSound, IsStack};
 ghost use Rattle.liquid_syntax.specs.inside.Building.{Steps, is_full, statement_view, of_bodies};
 ghost use Rattle.liquid_syntax.specs.inside.Building.{context_at, opening, takes_else, takes_when};
 ghost use Rattle.liquid_syntax.specs.inside.Building.{text_added};
 ghost use Rattle.liquid_syntax.specs.Faults.{FaultsAt};
-ghost use Rattle.liquid_syntax.specs.Flats.{flat_of, flats};
+ghost use Rattle.liquid_syntax.specs.Flats.{flat_of};
 ghost use Rattle.liquid_core.specs.ExpressionView.{expression_view};
 ghost use Rattle.liquid_syntax.specs.OpenBlocks.{Level, at_end, close, step, to_begin, to_closed};
 ghost use Rattle.liquid_syntax.specs.OpenBlocks.{to_else, to_elsif, to_when, with_node};
 ghost use Rattle.liquid_evaluation.specs.Tree.{Nodes, no_nodes};
 ghost use Rattle.liquid_syntax.specs.declared.build.Stage.TheVariants as stages;
 
-use crate::body_ends::{add_arm, end_before_last, end_last};
+use crate::body_ends::{add_arm, end_body, end_last};
 use crate::faults::{missing_end, no_body, too_nested};
 use crate::node::Node;
 use crate::positions::Position;
@@ -161,8 +161,8 @@ impl Builder {
         Ok(())
     }
 
-    /// The end of a body that an `else` may end, and the start of the last. So many bytes of the
-    /// source are left from the piece on.
+    /// The end of a body that an `else` may end, and the start of the last. `left` is the number of
+    /// bytes of the source from the piece on.
     fn otherwise(&mut self, left: usize) -> Result<(), ParseError>
         requires { IsBuilt self.old }
         ensures stack { (ls : List Level) (cur : Nodes) → IsBuilding self.old ls cur →
@@ -328,7 +328,7 @@ impl Builder {
         Ok(())
     }
 
-    /// The next piece; so many bytes of the source are left from it on.
+    /// Adds the next piece, with `left` bytes of the source from it on.
     pub fn add(&mut self, statement: Statement, left: usize) -> Result<(), ParseError>
         requires built { IsBuilt self.old }
         requires sound { IsSound statement }
@@ -384,22 +384,5 @@ fn takes_when(stage: Stage) -> bool
         Stage::Last => false,
         Stage::Unkept => true,
         Stage::Armed => true,
-    }
-}
-
-/// Ends the body that is being read, where another may follow it: writes where it ends, or drops
-/// what isn't kept.
-fn end_body(nodes: &mut Vec<Node>, block: Open)
-    requires { block.node_index < length nodes.old.items }
-    ensures ended { BodyEnded block.stage block.node_index (flats nodes.old.items)
-        (flats nodes.new.items) }
-    ensures inside { block.node_index < length nodes.new.items }
-{
-    let end = nodes.len();
-    match block.stage {
-        Stage::First => end_before_last(&mut nodes[block.node_index], end),
-        Stage::Last => {}
-        Stage::Unkept => nodes.truncate(block.node_index + 1),
-        Stage::Armed => end_before_last(&mut nodes[block.node_index], end),
     }
 }

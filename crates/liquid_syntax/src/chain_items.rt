@@ -152,8 +152,7 @@ fn read_arguments(
     }
 }
 
-/// The fault that something else is wanted in the piece, at the item from which on so many of its
-/// items are left.
+/// An `Expected` fault in the piece, at the item from which on `items_left` of its items are left.
 pub fn expected(at: &str, items_left: usize, wanted: &'static str) -> ParseError
     ensures kind { IsOfKind FaultKind.Expected result }
     ensures place { IsAt (length at.now) result }
@@ -166,7 +165,7 @@ pub fn expected(at: &str, items_left: usize, wanted: &'static str) -> ParseError
     })
 }
 
-/// The fault that something else is wanted in the piece before these items, which are left of it.
+/// An `Expected` fault in the piece, at the first of these items, which are the rest of it.
 pub(crate) fn expected_before(
     at: &str,
     items: VecDeque<Item<'_>>,

@@ -7,8 +7,8 @@ ghost use Rattle.liquid_language.specs.Controls.{end_word};
 use liquid_language::{Block, end_tag};
 use liquid_lexer::{Fault, FaultKind, ParseError};
 
-/// The fault of an end, an `else` or an `elsif` that stands where no body is to end; so many bytes
-/// of the source are left from it on.
+/// The fault of an end, an `else` or an `elsif` where no body can end. `left` is the number of
+/// bytes of the source from it on.
 pub(crate) fn no_body(left: usize) -> Fault
     ensures kind { result.kind ≡ FaultKind.UnknownTag }
     ensures place { result.left ≡ left }
@@ -21,7 +21,7 @@ pub(crate) fn no_body(left: usize) -> Fault
     }
 }
 
-/// The fault of a block that nests too deep; so many bytes of the source are left from it on.
+/// The fault of a block that nests too deep, with `left` bytes of the source from it on.
 pub(crate) fn too_nested(left: usize) -> ParseError
     ensures kind { IsOfKind FaultKind.TooNested result }
     ensures place { IsAt left result }

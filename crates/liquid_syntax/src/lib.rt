@@ -23,6 +23,7 @@ mod template;
 mod value_items;
 mod visit_nodes;
 
+pub use condition_items::read_condition;
 pub use laws::{
     chain_laws, condition_law, item_list_laws, nesting_laws, statement_law, template_laws,
 };
@@ -38,7 +39,7 @@ pub use liquid_lexer::{
     Body, Delimiter, Fault, FaultKind, Item, Mark, Markup, ParseError, Piece, Symbol, item_laws,
     source_laws, value_laws, verbatim_laws,
 };
-pub use loop_items::{Loop, LoopKind, LoopPart, read_loop};
+pub use loop_items::{Loop, LoopPart, LoopTag, read_loop};
 pub use loop_nodes::{Each, For, TableRow, WindowExpression};
 pub use node::{Arm, Binding, Node, TwoBodies};
 pub use pair_items::PairStyle;

@@ -6,7 +6,7 @@ ghost use Rattle.liquid_syntax.specs.Faults.{FaultsAs, FaultsAt};
 ghost use Rattle.liquid_core.specs.Expression.{Expression as Meant};
 ghost use Rattle.liquid_core.specs.ExpressionView.{expression_view};
 ghost use Rattle.liquid_syntax.specs.Loops.{head_view, loop_of, own_part, part_first, part_value};
-ghost use Rattle.liquid_syntax.specs.Loops.{part_view, parts_in, settled_of, source_first};
+ghost use Rattle.liquid_syntax.specs.Loops.{part_view, parts_in, parts_after, source_first};
 ghost use Rattle.liquid_syntax.specs.Loops.{with_part, Part};
 ghost use Rattle.liquid_evaluation.specs.SourceView.{source_view};
 
@@ -19,9 +19,9 @@ use liquid_lexer::{
 };
 use std::collections::VecDeque;
 
-/// Which parts may follow a loop's source.
+/// Which tag the loop is, and so which parts may follow its source.
 #[derive(Clone, Copy, Debug, PartialEq, Eq)]
-pub enum LoopKind {
+pub enum LoopTag {
     /// Those of `for`: `limit`, `offset` and `reversed`.
     Each,
     /// Those of `tablerow`: `cols`, `limit` and `offset`.
@@ -76,15 +76,15 @@ fn behind_colon(items: &mut VecDeque<Item<'_>>) -> Option<Expression>
 }
 
 /// What may follow a loop's source.
-fn part_wanted(kind: LoopKind) -> &'static str {
+fn part_wanted(kind: LoopTag) -> &'static str {
     match kind {
-        LoopKind::Each => "`limit: 1`, `offset: 1`, `reversed` or the closer",
-        LoopKind::Rows => "`cols: 1`, `limit: 1`, `offset: 1` or the closer",
+        LoopTag::Each => "`limit: 1`, `offset: 1`, `reversed` or the closer",
+        LoopTag::Rows => "`cols: 1`, `limit: 1`, `offset: 1` or the closer",
     }
 }
 
 /// Takes the part at the front, if one stands there that the loop may have.
-fn next_part(items: &mut VecDeque<Item<'_>>, kind: LoopKind) -> Option<LoopPart>
+fn next_part(items: &mut VecDeque<Item<'_>>, kind: LoopTag) -> Option<LoopPart>
     ensures value { option_map (λ p. (part_view p, tokens_view items.new.items)) result ≡
         part_first kind (tokens_view items.old.items) }
     ensures shorter { IfSome result (λ _. length items.new.items < length items.old.items) }
@@ -99,19 +99,19 @@ fn next_part(items: &mut VecDeque<Item<'_>>, kind: LoopKind) -> Option<LoopPart>
 }
 
 /// Takes the part at the front, if one stands there that only a loop of this kind may have.
-fn own_part(items: &mut VecDeque<Item<'_>>, kind: LoopKind) -> Option<LoopPart>
+fn own_part(items: &mut VecDeque<Item<'_>>, kind: LoopTag) -> Option<LoopPart>
     ensures value { option_map (λ p. (part_view p, tokens_view items.new.items)) result ≡
         own_part kind (tokens_view items.old.items) }
     ensures shorter { IfSome result (λ _. length items.new.items < length items.old.items) }
 {
     match kind {
-        LoopKind::Each => {
+        LoopTag::Each => {
             if !skip_word(items, "reversed") {
                 return None;
             }
             Some(LoopPart::Reversed)
         }
-        LoopKind::Rows => {
+        LoopTag::Rows => {
             if !skip_word(items, "cols") {
                 return None;
             }
@@ -139,10 +139,10 @@ impl Loop {
     fn take_parts(
         &mut self,
         items: VecDeque<Item<'_>>,
-        kind: LoopKind,
+        kind: LoopTag,
         at: &str,
     ) -> Result<(), ParseError>
-        ensures parts { Parses (λ _. parts_in self.new) result (settled_of kind (parts_in self.old)
+        ensures parts { Parses (λ _. parts_in self.new) result (parts_after kind (parts_in self.old)
             (tokens_view items.entry.items)) }
         ensures rest { (self.new.variable ≡ self.old.variable) ×
             (self.new.source ≡ self.old.source) }
@@ -162,7 +162,7 @@ impl Loop {
 
 /// The loop that all the items are: `variable in source`, and any parts that its kind may have, of
 /// which the last of a kind counts.
-pub fn read_loop(items: VecDeque<Item<'_>>, kind: LoopKind, at: &str) -> Result<Loop, ParseError>
+pub fn read_loop(items: VecDeque<Item<'_>>, kind: LoopTag, at: &str) -> Result<Loop, ParseError>
     ensures head { Parses head_view result (loop_of kind (tokens_view items.entry.items)) }
     ensures kind { FaultsAs FaultKind.Expected result }
     ensures place { FaultsAt (length at.now) result }

@@ -102,8 +102,8 @@ pub enum Node {
     RenderEach(Expression, Each, Vec<Binding>),
 }
 
-/// Drops what it holds. By hand, so that a way out of a function that owns one is one call to
-/// prove.
+/// Drops what it holds. Written by hand, so that each early return drops the value by one call
+/// to prove.
 impl Drop for Node {
     fn drop(self) {
         match self {

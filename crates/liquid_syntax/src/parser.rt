@@ -26,7 +26,7 @@ use std::alloc::{AllocError, Global};
 ///
 /// The pieces are read and classified from left to right, and the first fault is the answer, with
 /// its location (line and column in characters, each from 1) and a message that says what is found
-/// there and what is wanted, or what to write instead. A block without its end is told where it
+/// there and what is wanted, or what to write instead. A block without its end is reported where it
 /// opens, and so is an output or a tag without its closer. The kinds are:
 /// `Unclosed`, `BadItem`, `NumberLiteral`, `FloatLiteral` and `StateWord` of items; `Expected`,
 /// `UnknownTag`, `UnknownFilter` and `FilterArguments` of outputs and tags; `MissingEnd` and
@@ -37,13 +37,13 @@ pub fn parse(alloc: Global, source: &str, language: &Language) -> Result<Templat
 {
     match read_template(alloc, source, language) {
         Ok(template) => Ok(template),
-        Err(error) => Err(told(alloc, source, language, error)),
+        Err(error) => Err(error_of(alloc, source, language, error)),
     }
 }
 
-/// The error that tells why the source could not be read: which fault it has, where, and what to
+/// The error that says why the source could not be read: which fault it has, where, and what to
 /// write instead.
-fn told(alloc: Global, source: &str, language: &Language, error: ParseError) -> Error
+fn error_of(alloc: Global, source: &str, language: &Language, error: ParseError) -> Error
     ensures { TellsOf error result.kind }
 {
     match error {
@@ -112,7 +112,7 @@ impl Reader<'_> {
         }
     }
 
-    /// A text; so many bytes of the source are left from it on.
+    /// Adds a text, with `left` bytes of the source from it on.
     fn text(
         &mut self,
         alloc: Global,

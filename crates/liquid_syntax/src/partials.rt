@@ -84,8 +84,8 @@ impl Partials {
         Ok(())
     }
 
-    /// Puts what is held, a template or none, into the slot of a name, and hands out what stood
-    /// there. It takes no memory.
+    /// Puts a template or none into the slot of a name, and returns what stood there. It takes no
+    /// memory.
     ///
     /// There has to be a slot: `reserve` makes one, and so does `insert`.
     pub fn exchange(&mut self, name: &str, held: Option<Template>) -> Option<Template>

@@ -55,8 +55,8 @@ impl<'s> Positions<'s> {
         }
     }
 
-    /// A piece begins where so many bytes of the source are left, and the list has so many nodes
-    /// with it.
+    /// A piece begins with `left` bytes of the source after it, and with it the list has `count`
+    /// nodes.
     pub(crate) fn mark(&mut self, left: usize, count: usize) -> Result<(), AllocError> {
         let passed = self.rest.len().saturating_sub(left);
         if let Some((before, rest)) = self.rest.split_at_checked(passed) {

@@ -65,7 +65,7 @@ fn ends_values(items: &VecDeque<Item<'_>>, separators: Separators) -> bool
     }
 }
 
-/// What is wanted after a value.
+/// What must follow a value.
 fn further_wanted(separators: Separators) -> &'static str {
     match separators {
         Separators::Commas => "`,` and a value",

@@ -27,6 +27,8 @@
 //!   beside the value `with`.
 //! - `Data::NAME`: `data_for` of the text `source`, or `complete` of the map `on`, with uses that
 //!   `src/asked.rt` tells.
+//! - `Check::NAME`: `findings` of the text `source`, each as its kind, line, column, start, length
+//!   and whether it follows; how many they are and the `nodes` of what is left; or `else_items`.
 //! - `Error::NAME`: a fault with the message `source`, as it is told.
 //! - `State`: calls of the state, one after another, as `src/states.rt` tells. `Site`: changes of a
 //!   site, as `src/sites.rt` tells. `LimitedSite`: the same of a site within the limits `on`.
@@ -49,6 +51,7 @@
 mod any_site;
 mod arguments;
 mod asked;
+mod checks;
 mod expressions;
 mod faults;
 mod filters;
@@ -61,6 +64,7 @@ mod values;
 
 use crate::arguments::argument_call;
 use crate::asked::asked_call;
+use crate::checks::check_call;
 use crate::expressions::{condition_call, part_call};
 use crate::faults::{fault_call, no_call};
 use crate::filters::{accepts_call, each_is_called, filter_made, no_filter_made};
@@ -127,6 +131,10 @@ fn row_made<R: Print>(
             call_made(told, line, &row);
             Ok(())
         }
+        "Check" => {
+            check_made(told, language, line, &row);
+            Ok(())
+        }
         _ => template_made(told, language, line, &row, data),
     }
 }
@@ -151,6 +159,14 @@ fn called(alloc: Global, row: &Row) -> Result<Value> {
         "Data" => asked_call(alloc, name, row),
         _ => text(shop(alloc)),
     }
+}
+
+/// Makes a call of the row's source, which needn't be a template.
+fn check_made<R: Print>(told: &Told<'_, R>, language: &Language, line: &str, row: &Row) {
+    told.begin();
+    let answer = check_call(told.alloc, row, language);
+    told.end();
+    told.answered(line, row, &answer);
 }
 
 /// Makes a call of the row's template, over its state.

@@ -1,8 +1,10 @@
-//! Templates: their nodes, the names that they and a partial mention, and the group of a `cycle`.
+//! Templates: their nodes, the names that they and a partial mention, what they ask of their data,
+//! and the group of a `cycle`.
 use crate::faults::no_call;
 use liquid_core::{Expression, Result, Value};
 use liquid_syntax::{Language, Partials, Template, parse};
 use liquid_test_refusals::{Row, number, text_member};
+use liquid_uses::{paths_of, uses_of};
 use std::alloc::Global;
 
 /// A call of the template. The row has a partial with its name and its source.
@@ -16,6 +18,7 @@ pub(crate) fn template_call(
         "node_count" => Ok(node_count(template)),
         "mentions" => Ok(Value::Bool(template.mentions(text_member(&row.with, 0)))),
         "names" => names(alloc, template, &partials(alloc, row, language)?),
+        "paths" => paths(alloc, template, &partials(alloc, row, language)?),
         "partial" => Ok(held(row, &partials(alloc, row, language)?)),
         _ => no_call(alloc),
     }
@@ -47,6 +50,16 @@ fn names(alloc: Global, template: &Template, partials: &Partials) -> Result<Valu
         }
     }
     Ok(Value::Array(names))
+}
+
+/// What the template and the partial ask of their data, as paths.
+fn paths(alloc: Global, template: &Template, partials: &Partials) -> Result<Value> {
+    let uses = uses_of(alloc, template, partials)?;
+    let mut paths = Vec::new(alloc);
+    for path in paths_of(alloc, &uses)? {
+        paths.push(Value::Text(path))?;
+    }
+    Ok(Value::Array(paths))
 }
 
 /// Puts a copy of the text after the others.

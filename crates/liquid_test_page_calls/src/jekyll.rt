@@ -2,6 +2,7 @@
 use crate::given::option;
 use crate::hosts::called_in_turn;
 use liquid_core::{Filter, HostFilters, Result, Value};
+use liquid_filter_sets::WhereExp;
 use liquid_jekyll_host_filters::{JEKYLL_FILTERS, SiteFilter};
 use liquid_test_refusals::{Row, Told, text_of};
 use std::alloc::Global;
@@ -17,6 +18,8 @@ pub(crate) fn jekyll_called<R: Print>(told: &Told<'_, R>, row: &Row) -> Result<(
         let boxed: Box<dyn Filter> = Box::new(alloc, site)?;
         filters.push((String::from_str(alloc, filter.name())?, boxed))?;
     }
+    let where_exp: Box<dyn Filter> = Box::new(alloc, WhereExp)?;
+    filters.push((String::from_str(alloc, "where_exp")?, where_exp))?;
     let host = HostFilters::new(filters);
     called_in_turn(told, &host, &row.with)
 }

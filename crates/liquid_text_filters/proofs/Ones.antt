@@ -20,12 +20,12 @@ use Rattle.liquid_filter_base.proofs.Ones.{image_one, same_one}
 use Rattle.liquid_text_filters.specs.Arguments.{whole_or}
 use Rattle.liquid_text_filters.specs.Case.{capitalize_answer, downcase_answer, upcase_answer}
 use Rattle.liquid_text_filters.specs.Strip.{lstrip_answer, rstrip_answer, strip_answer, strip_newlines_answer}
-use Rattle.liquid_text_filters.specs.Laws.{CapitalizesText, Divides, Downcases, KeepsClusters, KeepsWords, Reads, RemoveFirstIsOne, RemovesAll, ReplaceFirstIsOne, ReplacesAll, SliceIsOne, Slices, SplitsText, StripsLines, StripsText, StripsTextAtEnd, StripsTextAtStart, TakesPart, TruncateIsOne, TruncateWordsIsOne, Truncates, TruncatesWords, Upcases}
+use Rattle.liquid_text_filters.specs.Laws.{CapitalizesText, Divides, Downcases, KeepsClusters, KeepsWords, ReadThen, RemoveFirstIsOne, RemovesAll, ReplaceFirstIsOne, ReplacesAll, SliceIsOne, Slices, SplitsText, StripsLines, StripsText, StripsTextAtEnd, StripsTextAtStart, TakesPart, TruncateIsOne, TruncateWordsIsOne, Truncates, TruncatesWords, Upcases}
 use Rattle.liquid_text_filters.specs.Occurrences.{Lacks, Replaces, ReplacesFirst}
 use Rattle.liquid_text_filters.specs.Operate.{replaced, replaced_first, remove_answer, replace_answer}
 use Rattle.liquid_text_filters.specs.Parts.{AreFirst, FollowFirst, IsPart}
 use Rattle.liquid_text_filters.specs.Pieces.{split_by}
-use Rattle.liquid_text_filters.specs.Places.{start, taken}
+use Rattle.liquid_text_filters.specs.Places.{start, part_from}
 use Rattle.liquid_text_filters.specs.Slice.{part, sliced}
 use Rattle.liquid_text_filters.specs.Spelling.{Capitalizes, MapsCharacters, StripsEnd, StripsEnds, StripsNewlines, StripsStart}
 use Rattle.liquid_text_filters.specs.Split.{divided, texts, split_answer}
@@ -36,7 +36,7 @@ use Rattle.liquid_text_filters.proofs.Replaced.{here_nil, first_found, first_non
 use Rattle.liquid_text_filters.proofs.Spellings.{capitalized_one, downcased_one, strips_end_one, strips_ends_one, strips_newlines_one, strips_start_one, upcased_one}
 
 -- ---- answers
-read_one : (r : Result ℤ ErrorKind) (f : ℤ → Answer) (R : ℤ → Answer → Type 0) → ((z : ℤ) → IsTheOne (R z) (f z)) → IsTheOne (Reads r R) (r >>= f)
+read_one : (r : Result ℤ ErrorKind) (f : ℤ → Answer) (R : ℤ → Answer → Type 0) → ((z : ℤ) → IsTheOne (R z) (f z)) → IsTheOne (ReadThen r R) (r >>= f)
 read_one (Ok z) f R one = one z
 read_one (Err kind) f R one = λ a. ((λ h. h), λ e. e)
 
@@ -121,11 +121,11 @@ follow_one from n xs = λ ys. (
 )
 
 module _ {X : Type 0} (n count : ℕ) (xs : List X) where
-  from_start : (z : ℕ) (ys : List X) → IsPart n (pos z) count xs ys → ys ≡ taken n (start n (pos z)) count xs
+  from_start : (z : ℕ) (ys : List X) → IsPart n (pos z) count xs ys → ys ≡ part_from n (start n (pos z)) count xs
   from_start z ys (inl h) = (follow_one h.0 (min count (n - h.0)) xs ys).0 h.2 ∙ ap (λ k. take (min count (n - k)) (drop k xs)) h.1
   from_start z ys (inr h) = absurd h.0
 
-  from_end : (z : ℕ) (ys : List X) (t : Bool) → nat_le (suc z) n ≡ t → IsPart n (negsuc z) count xs ys → ys ≡ taken n (if t then Some (n - suc z) else None) count xs
+  from_end : (z : ℕ) (ys : List X) (t : Bool) → nat_le (suc z) n ≡ t → IsPart n (negsuc z) count xs ys → ys ≡ part_from n (if t then Some (n - suc z) else None) count xs
   from_end z ys true e (inl h) =
       let place : h.0 ≡ n - suc z = omega (arith, h.1) in
       (follow_one h.0 (min count (n - h.0)) xs ys).0 h.2 ∙ ap (λ k. take (min count (n - k)) (drop k xs)) place
@@ -133,18 +133,18 @@ module _ {X : Type 0} (n count : ℕ) (xs : List X) where
   from_end z ys false e (inl h) = let place : h.0 + suc z ≡ n = h.1 in let u : suc z ≤ n = omega arith in absurd (grind (arith, nat_tests))
   from_end z ys false e (inr h) = h.1
 
-  at_end : (z : ℕ) (ys : List X) (t : Bool) → nat_le (suc z) n ≡ t → ys ≡ taken n (if t then Some (n - suc z) else None) count xs → IsPart n (negsuc z) count xs ys
+  at_end : (z : ℕ) (ys : List X) (t : Bool) → nat_le (suc z) n ≡ t → ys ≡ part_from n (if t then Some (n - suc z) else None) count xs → IsPart n (negsuc z) count xs ys
   at_end z ys true e g =
       let within : suc z ≤ n = grind (arith, nat_tests) in
       inl (n - suc z, omega arith, (follow_one (n - suc z) (min count (n - (n - suc z))) xs ys).1 g)
   at_end z ys false e g = let before : n < suc z = grind (arith, nat_tests) in inr (before, g)
 
-  part_one : (z : ℤ) → IsTheOne (IsPart n z count xs) (taken n (start n z) count xs)
+  part_one : (z : ℤ) → IsTheOne (IsPart n z count xs) (part_from n (start n z) count xs)
   part_one (pos z) = λ ys. (from_start z ys, λ e. inl (min z n, refl, (follow_one (min z n) (min count (n - min z n)) xs ys).1 e))
   part_one (negsuc z) = λ ys. (from_end z ys (nat_le (suc z) n) refl, at_end z ys (nat_le (suc z) n) refl)
 
 characters_part : (offset : ℤ) (count : ℕ) (s : List ℕ)
-    → IsTheOne (Makes (λ cs. Ok (text (encode_utf8_all cs))) (IsPart (length s) offset count (chars s))) (Ok (text (encode_utf8_all (taken (length s) (start (length s) offset) count (chars s)))))
+    → IsTheOne (Makes (λ cs. Ok (text (encode_utf8_all cs))) (IsPart (length s) offset count (chars s))) (Ok (text (encode_utf8_all (part_from (length s) (start (length s) offset) count (chars s)))))
 characters_part offset count s = image_one (IsPart (length s) offset count (chars s)) (λ cs. Ok (text (encode_utf8_all cs))) _ (part_one (length s) count (chars s) offset)
 
 takes_one : (offset : ℤ) (count : ℕ) (d : Datum) → IsTheOne (TakesPart offset count d) (Ok (part offset count d))
@@ -162,7 +162,7 @@ slices_one d offset (negsuc n) = same_one (sliced d offset (negsuc n))
 
 pub slice_law : SliceIsOne
 slice_law d args =
-    read_one (whole_or (pos 0) args) (λ offset. whole_or (pos 1) (drop 1 args) >>= (λ count. sliced d offset count)) (λ offset. Reads (whole_or (pos 1) (drop 1 args)) (Slices d offset))
+    read_one (whole_or (pos 0) args) (λ offset. whole_or (pos 1) (drop 1 args) >>= (λ count. sliced d offset count)) (λ offset. ReadThen (whole_or (pos 1) (drop 1 args)) (Slices d offset))
     (λ offset. read_one (whole_or (pos 1) (drop 1 args)) (sliced d offset) (Slices d offset) (slices_one d offset))
 
 -- ---- beginnings

@@ -6,7 +6,7 @@ use Rattle.liquid_model.proofs.Views.{list_of_view, view-Array}
 use Rattle.liquid_model.specs.Data.{array}
 use Rattle.liquid_model.specs.View.{view, items_of}
 use Rattle.liquid_model.specs.declared.value.Value.{Value, Array}
-use Rattle.liquid_text_filters.specs.Places.{start, taken}
+use Rattle.liquid_text_filters.specs.Places.{start, part_from}
 use Rattle.liquid_text_filters.specs.Slice.{items_part, part}
 
 -- the values from place i on begin with the one there
@@ -23,7 +23,7 @@ items_part_is offset count from k vs rest place cut e =
     let size : k ≡ min count (length vs - from) = e ∙ ap (λ n. min count n) (ap length whole ∙ length-drop from vs) in
     ap (map view) (ap (take k) whole ∙ ap (λ n. take n (drop from vs)) size)
     ∙ sym (take-map view (min count (length vs - from)) (drop from vs)) ∙ ap (take (min count (length vs - from))) (sym (drop-map view from vs))
-    ∙ ap (λ o. taken (length vs) o count (map view vs)) place ∙ ap (λ n. taken n (start n offset) count (map view vs)) (sym (length-map vs view))
+    ∙ ap (λ o. part_from (length vs) o count (map view vs)) place ∙ ap (λ n. part_from n (start n offset) count (map view vs)) (sym (length-map vs view))
 
 -- a list's part, as a value
 pub view_part : (offset : ℤ) (count : ℕ) (input : Value) (items made : Vec Value Global) → input ≡ Array items → map view made.items ≡ items_part offset count (map view items.items)

@@ -32,9 +32,9 @@ use Rattle.liquid_text_filters.specs.Strip.{strip_newlines_answer}
 use Rattle.liquid_text_filters.specs.Truncate.{truncate_answer, truncatewords_answer}
 
 -- where a number was read R holds of it and the answer, else the fault is the answer
-abbrev pub Reads : Result ℤ ErrorKind → (ℤ → Answer → Type 0) → Answer → Type 0
-Reads (Ok z) R a = R z a
-Reads (Err kind) R a = a ≡ Err kind
+abbrev pub ReadThen : Result ℤ ErrorKind → (ℤ → Answer → Type 0) → Answer → Type 0
+ReadThen (Ok z) R a = R z a
+ReadThen (Err kind) R a = a ≡ Err kind
 
 -- ---- pieces
 -- the empty text has no pieces
@@ -99,8 +99,8 @@ Slices d offset (negsuc n) a = a ≡ Err InvalidArgument
 
 -- `slice`: from an offset on, as many places as the length says
 abbrev pub SlicesInput : Datum → List Datum → Answer → Type 0
-SlicesInput d args = Reads (whole_or (pos 0) args) (λ offset. Reads (whole_or (pos 1) (drop 1 args))
-    (Slices d offset))
+SlicesInput d args = ReadThen (whole_or (pos 0) args)
+    (λ offset. ReadThen (whole_or (pos 1) (drop 1 args)) (Slices d offset))
 
 abbrev pub SliceIsOne : Type 0
 SliceIsOne = (d : Datum) (args : List Datum) → IsTheOne (SlicesInput d args) (slice_answer d args)
@@ -120,7 +120,7 @@ Truncates d end (negsuc n) a = a ≡ Ok d
 -- `truncate`: the first clusters and the end, or the input
 abbrev pub TruncatesText : Datum → List Datum → Answer → Type 0
 TruncatesText d args =
-    Reads (whole_or (pos 50) args) (Truncates d (text_or (codes "...") (drop 1 args)))
+    ReadThen (whole_or (pos 50) args) (Truncates d (text_or (codes "...") (drop 1 args)))
 
 abbrev pub TruncateIsOne : Type 0
 TruncateIsOne = (d : Datum) (args : List Datum) →
@@ -140,7 +140,7 @@ TruncatesWords d end (negsuc n) a = a ≡ Ok d
 -- `truncatewords`: the first words and the end, or the input
 abbrev pub TruncatesTextByWords : Datum → List Datum → Answer → Type 0
 TruncatesTextByWords d args =
-    Reads (whole_or (pos 50) args) (TruncatesWords d (text_or (codes "...") (drop 1 args)))
+    ReadThen (whole_or (pos 50) args) (TruncatesWords d (text_or (codes "...") (drop 1 args)))
 
 abbrev pub TruncateWordsIsOne : Type 0
 TruncateWordsIsOne = (d : Datum) (args : List Datum) →

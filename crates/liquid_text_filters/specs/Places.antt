@@ -9,6 +9,6 @@ start n (pos z) = Some (min z n)
 start n (negsuc z) = if nat_le (suc z) n then Some (n - suc z) else None
 
 -- after the first ones, as many as count and as n allows
-abbrev pub taken : {X : Type 0} → ℕ → Option ℕ → ℕ → List X → List X
-taken n None count xs = []
-taken n (Some from) count xs = take (min count (n - from)) (drop from xs)
+abbrev pub part_from : {X : Type 0} → ℕ → Option ℕ → ℕ → List X → List X
+part_from n None count xs = []
+part_from n (Some from) count xs = take (min count (n - from)) (drop from xs)

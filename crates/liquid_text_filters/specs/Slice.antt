@@ -9,16 +9,16 @@ use Rattle.liquid_model.specs.View.{items_of}
 use Rattle.liquid_model.specs.declared.error.ErrorKind.TheVariants.{InvalidArgument}
 use Rattle.liquid_filter_base.specs.Arguments.{Answer}
 use Rattle.liquid_text_filters.specs.Arguments.{whole_or}
-use Rattle.liquid_text_filters.specs.Places.{start, taken}
+use Rattle.liquid_text_filters.specs.Places.{start, part_from}
 
 -- the items from an offset on, which is among as many places as there are items
 abbrev pub items_part : ℤ → ℕ → List Datum → List Datum
-items_part offset count ds = taken (length ds) (start (length ds) offset) count ds
+items_part offset count ds = part_from (length ds) (start (length ds) offset) count ds
 
 -- the characters from an offset on, which is among as many places as there are bytes
 abbrev pub text_part : ℤ → ℕ → Text → Text
 text_part offset count s =
-    encode_utf8_all (taken (length s) (start (length s) offset) count (chars s))
+    encode_utf8_all (part_from (length s) (start (length s) offset) count (chars s))
 
 -- of a list its items, of anything else the characters of its text
 abbrev pub part : ℤ → ℕ → Datum → Datum

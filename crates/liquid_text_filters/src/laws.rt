@@ -1,87 +1,48 @@
-//! What is proved of the text filters beyond their answers: each law is the contract of a function
-//! without a body.
+//! What is proved of the text filters beyond their answers: each clause is a law, and the functions
+//! do nothing.
 //!
-//! `NAME_is_one` says what the filter's answer is without the filter's own steps, and that nothing
-//! else is. The answers of `size`, `default`, `append` and `prepend` are told in such words from
-//! the beginning: a length, one of two values, two texts joined.
+//! The clause `NAME_is_one` says what the filter's answer is without the filter's own steps, and
+//! that nothing else is. `size`, `default`, `append` and `prepend` have no law, since their
+//! definitions say it in such words already: a length, one of two values, two texts joined.
 ghost use Rattle.liquid_text_filters.specs.Laws.{CapitalizeIsOne, DowncaseIsOne, LstripIsOne};
 ghost use Rattle.liquid_text_filters.specs.Laws.{RemoveFirstIsOne, RemoveIsOne, ReplaceFirstIsOne};
 ghost use Rattle.liquid_text_filters.specs.Laws.{ReplaceIsOne, RstripIsOne, SliceIsOne, SplitIsOne};
 ghost use Rattle.liquid_text_filters.specs.Laws.{StripIsOne, StripNewlinesIsOne, TruncateIsOne};
 ghost use Rattle.liquid_text_filters.specs.Laws.{TruncateWordsIsOne, UpcaseIsOne};
 
-/// `split`: the pieces between the occurrences, from left to right and without overlap.
-pub fn split_is_one()
-    ensures { SplitIsOne }
-{}
-
-/// `replace`: the pieces between the occurrences, with the other text between them.
-pub fn replace_is_one()
-    ensures { ReplaceIsOne }
-{}
-
-/// `remove`: the pieces between the occurrences, joined.
-pub fn remove_is_one()
-    ensures { RemoveIsOne }
-{}
-
-/// `replace_first`: the other text in place of the first occurrence.
-pub fn replace_first_is_one()
-    ensures { ReplaceFirstIsOne }
-{}
-
-/// `remove_first`: what stands before the first occurrence and what follows it.
-pub fn remove_first_is_one()
-    ensures { RemoveFirstIsOne }
-{}
-
-/// `slice`: items or characters by place.
-pub fn slice_is_one()
-    ensures { SliceIsOne }
-{}
-
-/// `truncate`: the first grapheme clusters, where the text has more bytes than are wanted.
-pub fn truncate_is_one()
-    ensures { TruncateIsOne }
-{}
-
-/// `truncatewords`: the first pieces parted by single spaces, where there are more than are wanted.
-pub fn truncatewords_is_one()
-    ensures { TruncateWordsIsOne }
-{}
-
-/// `downcase`: each character of the text, `A` to `Z` as `a` to `z`.
-pub fn downcase_is_one()
-    ensures { DowncaseIsOne }
-{}
-
-/// `upcase`: each character of the text, `a` to `z` as `A` to `Z`.
-pub fn upcase_is_one()
-    ensures { UpcaseIsOne }
-{}
-
-/// `capitalize`: the first character in upper case, and what follows it.
-pub fn capitalize_is_one()
-    ensures { CapitalizeIsOne }
-{}
-
-/// `strip`: white space, what is kept, and white space, where what is kept neither begins nor ends
-/// with it.
-pub fn strip_is_one()
-    ensures { StripIsOne }
-{}
-
-/// `lstrip`: white space and what is kept, which doesn't begin with it.
-pub fn lstrip_is_one()
-    ensures { LstripIsOne }
-{}
-
-/// `rstrip`: what is kept, which doesn't end with white space, and white space.
-pub fn rstrip_is_one()
-    ensures { RstripIsOne }
-{}
-
-/// `strip_newlines`: the characters that are neither LF nor CR, in their order.
-pub fn strip_newlines_is_one()
-    ensures { StripNewlinesIsOne }
+/// What each filter answers, and that nothing else is its answer.
+///
+/// - `split`: the pieces between the occurrences, from left to right and without overlap.
+/// - `replace`: the pieces between the occurrences, with the other text between them.
+/// - `remove`: the pieces between the occurrences, joined.
+/// - `replace_first`: the other text in place of the first occurrence.
+/// - `remove_first`: what stands before the first occurrence and what follows it.
+/// - `slice`: items or characters by place.
+/// - `truncate`: the first grapheme clusters, where the text has more bytes than are wanted.
+/// - `truncatewords`: the first pieces parted by single spaces, where there are more than are
+///   wanted.
+/// - `downcase`: each character of the text, `A` to `Z` as `a` to `z`.
+/// - `upcase`: each character of the text, `a` to `z` as `A` to `Z`.
+/// - `capitalize`: the first character in upper case, and what follows it.
+/// - `strip`: white space, what is kept, and white space, where what is kept neither begins nor
+///   ends with it.
+/// - `lstrip`: white space and what is kept, which doesn't begin with it.
+/// - `rstrip`: what is kept, which doesn't end with white space, and white space.
+/// - `strip_newlines`: the characters that are neither LF nor CR, in their order.
+pub fn text_laws()
+    ensures split_is_one { SplitIsOne }
+    ensures replace_is_one { ReplaceIsOne }
+    ensures remove_is_one { RemoveIsOne }
+    ensures replace_first_is_one { ReplaceFirstIsOne }
+    ensures remove_first_is_one { RemoveFirstIsOne }
+    ensures slice_is_one { SliceIsOne }
+    ensures truncate_is_one { TruncateIsOne }
+    ensures truncatewords_is_one { TruncateWordsIsOne }
+    ensures downcase_is_one { DowncaseIsOne }
+    ensures upcase_is_one { UpcaseIsOne }
+    ensures capitalize_is_one { CapitalizeIsOne }
+    ensures strip_is_one { StripIsOne }
+    ensures lstrip_is_one { LstripIsOne }
+    ensures rstrip_is_one { RstripIsOne }
+    ensures strip_newlines_is_one { StripNewlinesIsOne }
 {}

@@ -1,3 +1,4 @@
+pub mod AddedPaths
 pub mod EachGrants
 pub mod Sight
 pub mod Steps

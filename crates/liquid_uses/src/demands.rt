@@ -1,7 +1,7 @@
 //! What the nodes of a template ask for, where uses of the round before say what is asked of its
 //! names. Nothing here has a contract: what comes of it is tested by `covers`.
 
-use crate::merge::{copied, joined};
+use crate::merge::{copied, joined, part_count};
 use liquid_core::{Expression, Use, Uses, Value, Variable, member_of};
 use std::alloc::{AllocError, Global};
 use std::collections::BTreeMap;
@@ -28,6 +28,8 @@ pub(crate) struct Demands<'u> {
     pub alloc: Global,
     pub before: &'u Uses,
     pub found: Uses,
+    /// How many parts may still be handed on from name to name.
+    pub room: usize,
 }
 
 impl Demands<'_> {
@@ -58,19 +60,19 @@ impl Demands<'_> {
         Ok(())
     }
 
-    fn use_of(&self, wanted: Wanted<'_>) -> Result<Use, AllocError> {
+    fn use_of(&mut self, wanted: Wanted<'_>) -> Result<Use, AllocError> {
         match wanted {
             Wanted::Whole => Ok(Use::Everything),
             Wanted::Present => Ok(present(self.alloc)),
             Wanted::AsNamed(name) => match member_of(self.before, name) {
                 None => Ok(present(self.alloc)),
                 Some(Use::Nothing) => Ok(present(self.alloc)),
-                Some(asked) => copied(self.alloc, asked),
+                Some(asked) => self.handed_on(asked),
             },
             Wanted::EachAsNamed(name) => {
                 let item = match member_of(self.before, name) {
                     None => Use::Nothing,
-                    Some(asked) => copied(self.alloc, asked)?,
+                    Some(asked) => self.handed_on(asked)?,
                 };
                 Ok(Use::Parts {
                     members: BTreeMap::new(self.alloc),
@@ -78,6 +80,16 @@ impl Demands<'_> {
                 })
             }
         }
+    }
+
+    /// A copy of the use, or everything where there is no room for it.
+    fn handed_on(&mut self, asked: &Use) -> Result<Use, AllocError> {
+        let parts = part_count(asked, 0);
+        if parts > self.room {
+            return Ok(Use::Everything);
+        }
+        self.room -= parts;
+        copied(self.alloc, asked)
     }
 
     #[cycle(ask)]

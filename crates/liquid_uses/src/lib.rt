@@ -7,10 +7,12 @@ mod demands;
 mod grants;
 mod merge;
 mod nodes;
+mod paths;
 mod places;
 mod rounds;
 mod uses;
 mod whole_names;
 
 pub use covering::covers;
+pub use paths::paths_of;
 pub use uses::uses_of;

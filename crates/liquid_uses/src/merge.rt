@@ -4,6 +4,9 @@ use liquid_core::{Use, Uses};
 use std::alloc::{AllocError, Global};
 use std::collections::BTreeMap;
 
+/// How many bytes of the path of a part count as one more.
+const PATH_BYTES: usize = 32;
+
 /// A copy of a use.
 #[cycle(copy)]
 pub(crate) fn copied(alloc: Global, asked: &Use) -> Result<Use, AllocError> {
@@ -83,4 +86,33 @@ fn joined_items(
             }
         },
     }
+}
+
+/// How many parts a use has, in all depths. The path of a part counts too: `above` is how many
+/// bytes it has above the use.
+#[cycle(count)]
+pub(crate) fn part_count(asked: &Use, above: usize) -> usize {
+    let own = (above / PATH_BYTES).saturating_add(1);
+    match asked {
+        Use::Nothing | Use::Everything => own,
+        Use::Parts { members, items } => {
+            let inner = match items {
+                Some(item) => part_count(item, above),
+                None => 0,
+            };
+            member_count(members, above)
+                .saturating_add(inner)
+                .saturating_add(own)
+        }
+    }
+}
+
+#[cycle(count)]
+fn member_count(members: &Uses, above: usize) -> usize {
+    let mut count: usize = 0;
+    for (name, asked) in members.iter() {
+        let inner = part_count(asked, above.saturating_add(name.len()));
+        count = count.saturating_add(inner);
+    }
+    count
 }

@@ -20,8 +20,8 @@ use std::alloc::Global;
 /// of a host answer. They are no less than a run can see, and may be more: a filter is taken to see
 /// all of its input, and a step that isn't a literal text all of the value that it is taken from.
 /// Names that the template sets or binds stand among them, since data of these names is seen
-/// wherever they aren't set. Where eight rounds over the template don't find the parts, each name
-/// that the template or a partial mentions is answered whole.
+/// wherever they aren't set. Where rounds over the template don't find the parts, each name that
+/// the template or a partial mentions is answered whole.
 ///
 /// `Memory` where there is no room for them.
 pub fn uses_of(alloc: Global, template: &Template, partials: &Partials) -> Result<Uses>

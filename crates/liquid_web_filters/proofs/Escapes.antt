@@ -8,7 +8,7 @@ use Rattle.std.specs.List.{flat_map}
 use Rattle.std.proofs.lemmas.Bool.{and_parts}
 use lib.Utf8.{encode}
 use Rattle.liquid_filter_base.specs.Text.{begins}
-use Rattle.liquid_web_filters.specs.Escapes.{ends_escape, escape_of, escape_or, escaped_byte, escaped_letter, escaped, once_byte, once_letter, escaped_once}
+use Rattle.liquid_web_filters.specs.Escapes.{ends_escape, escape_of, escape_or, escaped_byte, escaped_letter, escaped_bytes, once_byte, once_letter, escaped_once}
 use Rattle.liquid_web_filters.proofs.Bytes.{AllHigh, high_bytes, ascii_or_high, high_letter, ascii_letter}
 
 -- ---- over characters
@@ -61,9 +61,9 @@ once_either_way : (b : ℕ) (t : Bool) → IsPlain b → (if t then b ∷ [] els
 once_either_way b true h = refl
 once_either_way b false h = plain_byte b h
 
-plain_first : (p s : List ℕ) → All IsPlain p → escaped (p ++ s) ≡ p ++ escaped s
+plain_first : (p s : List ℕ) → All IsPlain p → escaped_bytes (p ++ s) ≡ p ++ escaped_bytes s
 plain_first [] s h = refl
-plain_first (b ∷ p) s h = ap (λ t. t ++ escaped (p ++ s)) (plain_byte b (All-head IsPlain b p h)) ∙ ap (λ t. b ∷ t) (plain_first p s (All-tail IsPlain b p h))
+plain_first (b ∷ p) s h = ap (λ t. t ++ escaped_bytes (p ++ s)) (plain_byte b (All-head IsPlain b p h)) ∙ ap (λ t. b ∷ t) (plain_first p s (All-tail IsPlain b p h))
 
 once_first : (p s : List ℕ) → All IsPlain p → escaped_once (p ++ s) ≡ p ++ escaped_once s
 once_first [] s h = refl
@@ -86,14 +86,14 @@ pub some_of : {P : Type 0} (b : ℕ) (o : Option (List ℕ)) → escape_of b ≡
 some_of b None is h f = absurd (cc)
 some_of b (Some x) is h f = f
 
-pub escaped_turn : (s plain after out mid next made all : List ℕ) (b : ℕ) → s ≡ plain ++ (b ∷ after) → All IsPlain plain → made ≡ escaped_byte b → mid ≡ out ++ plain → next ≡ mid ++ made → all ≡ out ++ escaped s → all ≡ next ++ escaped after
+pub escaped_turn : (s plain after out mid next made all : List ℕ) (b : ℕ) → s ≡ plain ++ (b ∷ after) → All IsPlain plain → made ≡ escaped_byte b → mid ≡ out ++ plain → next ≡ mid ++ made → all ≡ out ++ escaped_bytes s → all ≡ next ++ escaped_bytes after
 escaped_turn s plain after out mid next made all b cut kept is m n inv =
-    inv ∙ ap (λ t. out ++ escaped t) cut ∙ ap (λ t. out ++ t) (plain_first plain (b ∷ after) kept) ∙ sym (append_assoc out plain (escaped_byte b ++ escaped after))
-    ∙ ap₂ (λ x y. x ++ (y ++ escaped after)) (sym m) (sym is) ∙ sym (append_assoc mid made (escaped after)) ∙ ap (λ t. t ++ escaped after) (sym n)
+    inv ∙ ap (λ t. out ++ escaped_bytes t) cut ∙ ap (λ t. out ++ t) (plain_first plain (b ∷ after) kept) ∙ sym (append_assoc out plain (escaped_byte b ++ escaped_bytes after))
+    ∙ ap₂ (λ x y. x ++ (y ++ escaped_bytes after)) (sym m) (sym is) ∙ sym (append_assoc mid made (escaped_bytes after)) ∙ ap (λ t. t ++ escaped_bytes after) (sym n)
 
-pub escaped_end : (s out next all : List ℕ) → All IsPlain s → next ≡ out ++ s → all ≡ out ++ escaped s → next ≡ all
+pub escaped_end : (s out next all : List ℕ) → All IsPlain s → next ≡ out ++ s → all ≡ out ++ escaped_bytes s → next ≡ all
 escaped_end s out next all kept n inv =
-    n ∙ ap (λ t. out ++ t) (sym (append-nil s) ∙ sym (plain_first s [] kept) ∙ ap escaped (append-nil s)) ∙ sym inv
+    n ∙ ap (λ t. out ++ t) (sym (append-nil s) ∙ sym (plain_first s [] kept) ∙ ap escaped_bytes (append-nil s)) ∙ sym inv
 
 pub once_turn : (s plain after out mid next made all : List ℕ) (b : ℕ) → s ≡ plain ++ (b ∷ after) → All IsPlain plain → made ≡ once_byte b after → mid ≡ out ++ plain → next ≡ mid ++ made → all ≡ out ++ escaped_once s → all ≡ next ++ escaped_once after
 once_turn s plain after out mid next made all b cut kept is m n inv =
@@ -122,9 +122,9 @@ passes : (b : ℕ) → Passes (escaped_byte b)
 passes b = by_tests b (b == 60) (b == 62) (b == 39) (b == 34) (b == 38) refl refl refl refl refl
 
 -- a pass over escaped text
-pub once-escaped : (s : List ℕ) → escaped_once (escaped s) ≡ escaped s
+pub once-escaped : (s : List ℕ) → escaped_once (escaped_bytes s) ≡ escaped_bytes s
 once-escaped [] = refl
-once-escaped (b ∷ s) = passes b (escaped s) ∙ ap (λ t. escaped_byte b ++ t) (once-escaped s)
+once-escaped (b ∷ s) = passes b (escaped_bytes s) ∙ ap (λ t. escaped_byte b ++ t) (once-escaped s)
 
 -- ---- a pass keeps what follows an `&`
 abbrev is_plain : ℕ → Type 0

@@ -14,7 +14,7 @@ use Rattle.liquid_model.specs.Texts.{Text}
 use Rattle.liquid_filter_base.specs.Arguments.{Answer}
 use Rattle.liquid_filter_base.specs.Text.{Texts}
 use Rattle.liquid_filter_base.proofs.Ones.{image_one, same_one}
-use Rattle.liquid_web_filters.specs.Escapes.{escape_answer, escape_once_answer, escaped, escaped_byte, escaped_letter, escaped_once, once_letter}
+use Rattle.liquid_web_filters.specs.Escapes.{escape_answer, escape_once_answer, escaped_bytes, escaped_byte, escaped_letter, escaped_once, once_letter}
 use Rattle.liquid_web_filters.specs.HtmlLaws.{Concatenates, NilOrTexts, has_close, HasNoTag}
 use Rattle.liquid_web_filters.specs.LineBreaks.{broken, broken_byte, broken_letter, newline_to_br_answer}
 use Rattle.liquid_web_filters.specs.Tags.{begins_mark, has_mark, kept, without_pairs, without_tags, strip_html}
@@ -43,9 +43,9 @@ over_letters f g z step s u = subst (IsTheOne (Concatenates f (chars s))) (ap g 
 mapped_past : (f : ℕ → List ℕ) (made : ℕ → List ℕ) → ((c : ℕ) → flat_map f (encode c) ≡ made c) → (c : ℕ) (rest : List ℕ) → flat_map f (encode c ++ rest) ≡ made c ++ flat_map f rest
 mapped_past f made h c rest = flat_map-append f (encode c) rest ∙ ap (λ t. t ++ flat_map f rest) (h c)
 
-escaped_text : (s : Text) → IsUtf8 s → IsTheOne (Texts (Concatenates (λ c cs. escaped_letter c) (chars s))) (Ok (text (escaped s)))
-escaped_text s u = image_one (Concatenates (λ c cs. escaped_letter c) (chars s)) (λ t. Ok (text t)) (escaped s)
-    (over_letters (λ c cs. escaped_letter c) escaped refl (λ c cs. mapped_past escaped_byte escaped_letter escaped_letter_of c (encodes cs)) s u)
+escaped_text : (s : Text) → IsUtf8 s → IsTheOne (Texts (Concatenates (λ c cs. escaped_letter c) (chars s))) (Ok (text (escaped_bytes s)))
+escaped_text s u = image_one (Concatenates (λ c cs. escaped_letter c) (chars s)) (λ t. Ok (text t)) (escaped_bytes s)
+    (over_letters (λ c cs. escaped_letter c) escaped_bytes refl (λ c cs. mapped_past escaped_byte escaped_letter escaped_letter_of c (encodes cs)) s u)
 
 pub escape_one : (d : Datum) (args : List Datum) → IsUtf8 (text_of d) → IsTheOne (NilOrTexts (λ s. Concatenates (λ c cs. escaped_letter c) (chars s)) d) (escape_answer d args)
 escape_one nil args u = same_one (Ok nil)
@@ -86,7 +86,7 @@ once_twice (text s) = twice_text s
 once_twice (array ds) = twice_text (text_of (array ds))
 once_twice (object ps) = twice_text (text_of (object ps))
 
-kept_text : (s : Text) → told (escaped_once (escaped s)) ≡ told (escaped s)
+kept_text : (s : Text) → told (escaped_once (escaped_bytes s)) ≡ told (escaped_bytes s)
 kept_text s = ap told (once-escaped s)
 
 pub once_keeps : (d : Datum) → escape_answer d [] >>= (λ e. escape_once_answer e []) ≡ escape_answer d []

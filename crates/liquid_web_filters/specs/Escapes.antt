@@ -29,8 +29,8 @@ escaped_letter c = escape_or (escape_of c) (encode_utf8 c)
 abbrev pub escaped_byte : ℕ → Text
 escaped_byte b = escape_or (escape_of b) (b ∷ [])
 
-abbrev pub escaped : Text → Text
-escaped = flat_map escaped_byte
+abbrev pub escaped_bytes : Text → Text
+escaped_bytes = flat_map escaped_byte
 
 -- the text begins with what follows the `&` of an escape
 abbrev pub ends_escape : Text → Bool
@@ -51,7 +51,7 @@ escaped_once (b ∷ s) = once_byte b s ++ escaped_once s
 
 abbrev pub escape_answer : Datum → List Datum → Answer
 escape_answer nil args = Ok nil
-escape_answer d args = Ok (text (escaped (text_of d)))
+escape_answer d args = Ok (text (escaped_bytes (text_of d)))
 
 abbrev pub escape_once_answer : Datum → List Datum → Answer
 escape_once_answer nil args = Ok nil

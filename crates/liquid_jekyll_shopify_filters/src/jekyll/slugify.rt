@@ -4,8 +4,9 @@ ghost use Rattle.std.specs.Prelude.{string_bytes};
 ghost use Rattle.std.specs.Str.{chars, encode_utf8_all};
 ghost use Rattle.liquid_model.specs.Answer.{Answers, IsValueOrMemory};
 ghost use Rattle.liquid_model.specs.View.{view};
-ghost use Rattle.liquid_jekyll_shopify_filters.specs.Slugs.{hyphened, inner, is_pretty, keeps};
-ghost use Rattle.liquid_jekyll_shopify_filters.specs.Slugs.{mode_named, shown, slug, slug_in};
+ghost use Rattle.liquid_jekyll_shopify_filters.specs.Slugs.{hyphened, is_pretty, keeps, mode_named};
+ghost use Rattle.liquid_jekyll_shopify_filters.specs.Slugs.{slug, slug_character, slug_in};
+ghost use Rattle.liquid_jekyll_shopify_filters.specs.Slugs.{without_outer};
 ghost use Rattle.liquid_jekyll_shopify_filters.specs.Slugs.{slugify_answer, without_first};
 ghost use Rattle.liquid_jekyll_shopify_filters.specs.Slugs.{without_last};
 
@@ -124,7 +125,7 @@ fn hyphened(alloc: Global, text: &str, mode: Mode) -> Result<String>
 /// Appends a character that is kept, or a hyphen where none was put for the character before it.
 fn push_shown(out: &mut String, letter: char, kept: bool, after: bool) -> Result<()>
     ensures { IsValueOrMemory (λ _. string_bytes out.new) result (string_bytes out.old ++
-        encode_utf8_all (shown kept after letter)) }
+        encode_utf8_all (slug_character kept after letter)) }
 {
     if kept {
         return Ok(out.push(letter)?);
@@ -137,7 +138,7 @@ fn push_shown(out: &mut String, letter: char, kept: bool, after: bool) -> Result
 
 /// A text without the hyphens at both ends.
 fn inner(text: &str) -> &str
-    ensures { chars result.now ≡ inner (chars text.now) }
+    ensures { chars result.now ≡ without_outer (chars text.now) }
 {
     without_last(without_first(text))
 }

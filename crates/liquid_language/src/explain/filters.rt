@@ -1,8 +1,8 @@
 //! Faults of filters: of one that isn't known, and of one with more or fewer arguments than it
 //! takes.
-use super::names::{lacking_filter, meant_filter};
+use super::names::{kind_of_filter, lacking_filter, meant_filter};
 use super::near::nearest;
-use super::told::Told;
+use super::wording::Wording;
 use crate::registered_filter::{FilterRegistry, RegisteredFilter};
 use liquid_lexer::{Item, PlacedItem, PlacedPiece, Symbol};
 use std::alloc::{AllocError, Global};
@@ -29,11 +29,11 @@ pub fn unknown_filter<'s>(
     filters: &'s FilterRegistry,
     piece: &PlacedPiece<'s>,
     at: &'s str,
-) -> Result<Told<'s>, AllocError> {
+) -> Result<Wording<'s>, AllocError> {
     let calls = calls(alloc, &piece.items)?;
     match unregistered(filters, &calls) {
         Some(call) => unknown_name(alloc, filters, &call),
-        None => Ok(Told::plain(at, "a filter isn't known")),
+        None => Ok(Wording::plain(at, "a filter isn't known")),
     }
 }
 
@@ -42,25 +42,29 @@ fn unknown_name<'s>(
     alloc: Global,
     filters: &'s FilterRegistry,
     call: &Call<'s>,
-) -> Result<Told<'s>, AllocError> {
-    match meant_elsewhere(filters, call) {
-        Some(told) => Ok(told),
+) -> Result<Wording<'s>, AllocError> {
+    match meant_elsewhere(filters, call.name, call.from) {
+        Some(wording) => Ok(wording),
         None => near_filter(alloc, filters, call),
     }
 }
 
-/// Of a filter of another language.
-fn meant_elsewhere<'s>(filters: &FilterRegistry, call: &Call<'s>) -> Option<Told<'s>> {
-    if let Some(meant) = meant_here(filters, call.name) {
+/// Of a filter of another language, at the source from its name on.
+pub fn meant_elsewhere<'s>(
+    filters: &FilterRegistry,
+    name: &'s str,
+    from: &'s str,
+) -> Option<Wording<'s>> {
+    if let Some(meant) = meant_here(filters, name) {
         let words = "no filter is named `…`; write `¤`";
-        return Some(Told::quoting(call.from, words, call.name, meant));
+        return Some(Wording::quoting(from, words, name, meant));
     }
-    let told = lacking_filter(call.name)?;
-    Some(Told::quoting(call.from, "no filter is named `…`; ¤", call.name, told))
+    let wording = lacking_filter(name)?;
+    Some(Wording::quoting(from, "no filter is named `…`; ¤", name, wording))
 }
 
 /// The filter that is meant by a name of another language, where it is registered.
-fn meant_here(filters: &FilterRegistry, name: &str) -> Option<&'static str> {
+pub fn meant_here(filters: &FilterRegistry, name: &str) -> Option<&'static str> {
     match meant_filter(name) {
         Some(meant) if filters.get(meant).is_some() => Some(meant),
         _ => None,
@@ -72,14 +76,22 @@ fn near_filter<'s>(
     alloc: Global,
     filters: &'s FilterRegistry,
     call: &Call<'s>,
-) -> Result<Told<'s>, AllocError> {
+) -> Result<Wording<'s>, AllocError> {
     let near = nearest(alloc, filters.names(), call.name, None)?;
     Ok(match near {
         Some(near) => {
             let words = "no filter is named `…`; did you mean `…`?";
-            Told::quoting(call.from, words, call.name, near.name)
+            Wording::quoting(call.from, words, call.name, near.name)
         }
-        None => Told::quoting(call.from, "no filter is named `…`", call.name, ""),
+        None => match kind_of_filter(call.name) {
+            Some(words) => Wording::quoting(
+                call.from,
+                "no filter is named `…`; ¤",
+                call.name,
+                words,
+            ),
+            None => Wording::quoting(call.from, "no filter is named `…`", call.name, ""),
+        },
     })
 }
 
@@ -89,25 +101,25 @@ pub fn miscounted<'s>(
     filters: &FilterRegistry,
     piece: &PlacedPiece<'s>,
     at: &'s str,
-) -> Result<Told<'s>, AllocError> {
+) -> Result<Wording<'s>, AllocError> {
     let calls = calls(alloc, &piece.items)?;
     Ok(match refused(filters, &calls) {
         Some((call, filter)) => miscount(&call, bounds(filter)),
-        None => Told::plain(at, "a filter takes another number of arguments"),
+        None => Wording::plain(at, "a filter takes another number of arguments"),
     })
 }
 
 /// Of a filter that takes a least and a greatest number of arguments, and other ones are given, or
 /// without a `:`.
-fn miscount<'s>(call: &Call<'s>, (least, most): (usize, usize)) -> Told<'s> {
+fn miscount<'s>(call: &Call<'s>, (least, most): (usize, usize)) -> Wording<'s> {
     let count = taken(call);
     let bound = if count > most { most } else { least };
     let noun = if bound == 1 { "argument" } else { "arguments" };
     let words = words_of_bounds(least, most, count);
-    Told {
+    Wording {
         numbers: (bound, call.arguments),
         then: words_of_given(call),
-        ..Told::quoting(call.from, words, call.name, noun)
+        ..Wording::quoting(call.from, words, call.name, noun)
     }
 }
 
@@ -128,7 +140,7 @@ fn words_of_bounds(least: usize, most: usize, count: usize) -> &'static str {
 /// The words for the arguments that a filter is given.
 fn words_of_given(call: &Call<'_>) -> &'static str {
     if !call.has_colon && call.arguments > 0 {
-        return ", behind a `:`";
+        return ", after a `:`";
     }
     match (call.arguments, call.names_arguments) {
         (0, false) => ", and none is given",

@@ -62,11 +62,11 @@ fn of_output(spot: &Spot<'_>) -> Option<&'static str> {
 }
 
 fn of_assign(spot: &Spot<'_>) -> Option<&'static str> {
-    let told = first_of(ASSIGN, spot);
+    let wording = first_of(ASSIGN, spot);
     if spot.count < 2 {
-        told.or(first_of(SETTING, spot))
+        wording.or(first_of(SETTING, spot))
     } else {
-        told.or(of_value(spot))
+        wording.or(of_value(spot))
     }
 }
 
@@ -112,8 +112,8 @@ fn of_map(spot: &Spot<'_>) -> Option<&'static str> {
 
 /// A `+` beside a text.
 fn of_sum(spot: &Spot<'_>) -> Option<&'static str> {
-    let behind = spot.rest.strip_prefix("+")?;
-    let is_text = spot.before.starts_with(is_quote) || behind.trim_start().starts_with(is_quote);
+    let after = spot.rest.strip_prefix("+")?;
+    let is_text = spot.before.starts_with(is_quote) || after.trim_start().starts_with(is_quote);
     if is_text && !matches!(spot.site, Site::Condition) {
         return Some("texts are joined by a filter, as `a | append: 'text'`");
     }
@@ -123,8 +123,8 @@ fn of_sum(spot: &Spot<'_>) -> Option<&'static str> {
 /// What the message says of the first of these habits that fits, each on a line.
 fn first_of(habits: &'static str, spot: &Spot<'_>) -> Option<&'static str> {
     for habit in habits.lines() {
-        if let Some(told) = told_of(habit, spot) {
-            return Some(told);
+        if let Some(wording) = wording_of(habit, spot) {
+            return Some(wording);
         }
     }
     None
@@ -133,11 +133,11 @@ fn first_of(habits: &'static str, spot: &Spot<'_>) -> Option<&'static str> {
 /// What the message says of a habit, where it fits: what stands before the fault (`^` for no item,
 /// empty for any), what stands at it (empty for anything), and what the message says, with a `¦`
 /// between them.
-fn told_of(habit: &'static str, spot: &Spot<'_>) -> Option<&'static str> {
-    let (before, behind) = habit.split_once('¦')?;
-    let (found, told) = behind.split_once('¦')?;
+fn wording_of(habit: &'static str, spot: &Spot<'_>) -> Option<&'static str> {
+    let (before, after) = habit.split_once('¦')?;
+    let (found, wording) = after.split_once('¦')?;
     if (before.is_empty() || before == spot.before) && is_found(found, spot) {
-        return Some(told);
+        return Some(wording);
     }
     None
 }
@@ -148,10 +148,10 @@ fn is_found(found: &str, spot: &Spot<'_>) -> bool {
     if found.is_empty() {
         return true;
     }
-    let Some(behind) = spot.rest.strip_prefix(found) else {
+    let Some(after) = spot.rest.strip_prefix(found) else {
         return false;
     };
-    let is_cut = found.ends_with(is_letter) && behind.starts_with(is_in_word);
+    let is_cut = found.ends_with(is_letter) && after.starts_with(is_in_word);
     found.len() >= spot.found.len() && !is_cut
 }
 
@@ -162,17 +162,17 @@ fn of_step(spot: &Spot<'_>) -> Option<&'static str> {
             "^" | "=" | "in" | ":" | "," | "|" => Some(
                 "a list can't be written in a template; `'a,b' | split: ','` makes one",
             ),
-            _ => Some("`[` stands right behind a name, without white space"),
+            _ => Some("`[` follows a name directly, without white space"),
         };
     }
-    let behind = spot.rest.strip_prefix(".")?;
-    if behind.starts_with("[") {
-        return Some("`[` stands right behind a name, without `.`");
+    let after = spot.rest.strip_prefix(".")?;
+    if after.starts_with("[") {
+        return Some("`[` follows a name directly, without `.`");
     }
-    if behind.starts_with(is_digit) {
+    if after.starts_with(is_digit) {
         return Some("a place in a list stands in brackets, as `a[0]`");
     }
-    if !behind.starts_with(follows_dot) {
+    if !after.starts_with(follows_dot) {
         return None;
     }
     if spot.count == 0 && spot.at_item {

@@ -1,18 +1,21 @@
 //! Faults of items that aren't allowed where they stand.
-use super::characters::begins_value;
+use super::characters::{begins_value, is_digit, is_letter, is_quote};
 use super::habits::{Site, Spot, advice, site_of};
-use super::told::Told;
+use super::wording::Wording;
 use crate::language::Language;
 use liquid_lexer::{Delimiter, Fault, PlacedItem, PlacedPiece};
 
 /// Of an item that isn't allowed, or of a closer before which one is wanted.
-pub fn misplaced<'s>(language: &Language, fault: &Fault, piece: &PlacedPiece<'s>) -> Told<'s> {
+pub fn misplaced<'s>(language: &Language, fault: &Fault, piece: &PlacedPiece<'s>) -> Wording<'s> {
     let spot = spot_of(fault, piece);
-    if let Some(told) = meant(language, &spot, &piece.items) {
-        return told;
+    if let Some(wording) = meant(language, &spot, &piece.items) {
+        return wording;
+    }
+    if let Some(wording) = unquoted_file(&spot, &piece.items) {
+        return wording;
     }
     match advice(&spot) {
-        Some(words) => Told::plain(spot.rest, words),
+        Some(words) => Wording::plain(spot.rest, words),
         None => not_wanted(&spot, spot.found),
     }
 }
@@ -37,27 +40,113 @@ fn spot_of<'s>(fault: &Fault, piece: &PlacedPiece<'s>) -> Spot<'s> {
 }
 
 /// `found X where W is wanted`
-pub fn not_wanted<'s>(spot: &Spot<'s>, found: &'s str) -> Told<'s> {
+pub fn not_wanted<'s>(spot: &Spot<'s>, found: &'s str) -> Wording<'s> {
     match spot.wanted.strip_suffix("the closer") {
         Some(front) => {
             let words = match spot.kind {
                 Delimiter::Output => "found `…` where ¤`}}` is wanted",
                 Delimiter::Tag => "found `…` where ¤`%}` is wanted",
             };
-            Told::quoting(spot.rest, words, found, front)
+            Wording::quoting(spot.rest, words, found, front)
         }
-        None => Told::quoting(spot.rest, "found `…` where ¤ is wanted", found, spot.wanted),
+        None => Wording::quoting(spot.rest, "found `…` where ¤ is wanted", found, spot.wanted),
     }
 }
 
 /// What the words of a chain or of an output show to be meant.
-fn meant<'s>(language: &Language, spot: &Spot<'s>, items: &[PlacedItem<'s>]) -> Option<Told<'s>> {
-    if spot.wanted != "`|` or the closer" {
+fn meant<'s>(
+    language: &Language,
+    spot: &Spot<'s>,
+    items: &[PlacedItem<'s>],
+) -> Option<Wording<'s>> {
+    if let Some(wording) = decimal_comma(spot, items) {
+        return Some(wording);
+    }
+    match spot.wanted {
+        "`|` or the closer" => after_value(language, spot, items),
+        "the name of a filter" => in_place_of_filter(language, spot, items),
+        "the name of a variable" if !spot.found.is_empty() => Some(Wording::quoting(
+            spot.rest,
+            words_of_name(spot.found),
+            spot.found,
+            "",
+        )),
+        "`=`" if spot.count == 1 && spot.found.starts_with(is_letter) => Some(Wording::quoting(
+            spot.rest,
+            "a name is one word: write `…_…`",
+            spot.before,
+            spot.found,
+        )),
+        _ => None,
+    }
+}
+
+/// What the message says of what stands in the place of a variable's name.
+fn words_of_name(found: &str) -> &'static str {
+    if found.starts_with(is_quote) {
+        "found `…` where the name of a variable is wanted, which has no quotes"
+    } else if found.contains(['.', '[']) {
+        "found `…` where the name of a variable is wanted, which has no parts"
+    } else {
+        "found `…` where the name of a variable is wanted"
+    }
+}
+
+/// What is meant by a number with a `,` and another one directly after it.
+fn decimal_comma<'s>(spot: &Spot<'s>, items: &[PlacedItem<'s>]) -> Option<Wording<'s>> {
+    let is_number = spot.before.starts_with(is_digit) && spot.before.ends_with(is_digit);
+    if spot.found != "," || !is_number || !spot.rest.get(1..)?.starts_with(is_digit) {
         return None;
     }
+    let number = items.get(spot.count.checked_sub(1)?)?;
+    let words = "`…,…` is no whole number, and templates have no others; count in a smaller unit";
+    let fraction = spelling_at(items, spot.count.saturating_add(1));
+    Some(Wording::quoting(number.from, words, spot.before, fraction))
+}
+
+/// What is meant by the name of a file without quotes, in an `include` or a `render`.
+fn unquoted_file<'s>(spot: &Spot<'s>, items: &[PlacedItem<'s>]) -> Option<Wording<'s>> {
+    let name = items.first()?;
+    let is_file = name.spelling.ends_with(".html") || name.spelling.ends_with(".liquid");
+    if !matches!(spot.site, Site::Partial) || !is_file {
+        return None;
+    }
+    let words = "the name of a partial stands in quotes: write `'…'`";
+    Some(Wording::quoting(name.from, words, name.spelling, ""))
+}
+
+/// What is meant by what stands in the place of a filter's name.
+fn in_place_of_filter<'s>(
+    language: &Language,
+    spot: &Spot<'s>,
+    items: &[PlacedItem<'s>],
+) -> Option<Wording<'s>> {
+    let next = spelling_at(items, spot.count.saturating_add(1));
+    if spot.found == "|" && language.filters.get(next).is_some() {
+        let words = "`||` is written `|`: write `| …`";
+        return Some(Wording::quoting(spot.rest, words, next, ""));
+    }
+    let (filter, step) = spot.found.split_once('.')?;
+    language.filters.get(filter)?;
+    let words =
+        "a filter's name has no parts; `{% assign x = a | ¤ %}` keeps the value, and then `x.…` is its part";
+    Some(Wording::quoting(spot.rest, words, filter, step))
+}
+
+/// What is meant by what stands where a filter or the closer is wanted.
+fn after_value<'s>(
+    language: &Language,
+    spot: &Spot<'s>,
+    items: &[PlacedItem<'s>],
+) -> Option<Wording<'s>> {
+    if is_adjacent(spot, items) {
+        if let Some(wording) = directly_after(spot) {
+            return Some(wording);
+        }
+    }
     if language.filters.get(spot.found).is_some() {
-        let words = "a filter stands behind a `|`: write `| …`";
-        return Some(Told::quoting(spot.rest, words, spot.found, ""));
+        let words = "a filter follows a `|`: write `| …`";
+        return Some(Wording::quoting(spot.rest, words, spot.found, ""));
     }
     match spot.count {
         0 => None,
@@ -67,31 +156,36 @@ fn meant<'s>(language: &Language, spot: &Spot<'s>, items: &[PlacedItem<'s>]) -> 
 }
 
 /// What is meant by the name of a tag at the front of an output.
-fn tag_in_output<'s>(language: &Language, spot: &Spot<'s>) -> Option<Told<'s>> {
+fn tag_in_output<'s>(language: &Language, spot: &Spot<'s>) -> Option<Wording<'s>> {
     if !matches!(spot.site, Site::Output) || !is_tag(language, spot.before) {
         return None;
     }
     let words = "`…` begins a tag: write `{% … .. %}`";
-    Some(Told::quoting(spot.rest, words, spot.before, spot.before))
+    Some(Wording::quoting(spot.rest, words, spot.before, spot.before))
 }
 
 /// What is meant by what stands where the arguments of a filter may; the bar stands two items
 /// before it.
-fn in_arguments<'s>(spot: &Spot<'s>, bar: &str) -> Option<Told<'s>> {
+fn in_arguments<'s>(spot: &Spot<'s>, bar: &str) -> Option<Wording<'s>> {
+    if spot.rest.starts_with("=>") {
+        return None;
+    }
     if let Some(words) = sign_in_arguments(bar, spot.found) {
-        return Some(Told::plain(spot.rest, words));
+        return Some(Wording::plain(spot.rest, words));
     }
     if !spot.found.starts_with(begins_value) {
         return None;
     }
     let words = one_more_argument(bar)?;
-    Some(Told::quoting(spot.rest, words, spot.before, spot.found))
+    Some(Wording::quoting(spot.rest, words, spot.before, spot.found))
 }
 
 /// What the message says of a sign after a filter or an argument of one.
 fn sign_in_arguments(bar: &str, found: &str) -> Option<&'static str> {
     match (found, bar) {
-        (":", _) => Some("arguments of a filter have no names here"),
+        (":", _) | ("=", ":" | ",") => Some(
+            "arguments of a filter have no names; write the value alone, as `truncate: 5`",
+        ),
         (",", "|") => Some("filters follow one another by `|`, as `a | strip | upcase`"),
         _ => None,
     }
@@ -101,13 +195,40 @@ fn sign_in_arguments(bar: &str, found: &str) -> Option<&'static str> {
 /// argument.
 fn one_more_argument(bar: &str) -> Option<&'static str> {
     match bar {
-        "|" => Some("arguments stand behind a `:`: write `…: …`"),
+        "|" => Some("arguments follow a `:`: write `…: …`"),
         ":" | "," => Some("arguments have a `,` between them: write `…, …`"),
         _ => None,
     }
 }
 
-fn is_tag(language: &Language, name: &str) -> bool {
+/// What is meant by what directly follows a value.
+fn directly_after<'s>(spot: &Spot<'s>) -> Option<Wording<'s>> {
+    if spot.before.ends_with(']') && spot.found.starts_with(is_letter) {
+        let words = "a `.` is missing: write `….…`";
+        return Some(Wording::quoting(spot.rest, words, spot.before, spot.found));
+    }
+    if spot.before.ends_with(is_quote) && spot.found.starts_with(is_quote) {
+        let words =
+            "a text with a `'` in it stands between two `\"`, and one with a `\"` between two `'`";
+        return Some(Wording::plain(spot.rest, words));
+    }
+    if spot.count == 1 && spot.found == ":" && !spot.rest.starts_with("::") {
+        let words = "found `:`; a part is written `a.b`, and arguments follow a filter's name";
+        return Some(Wording::plain(spot.rest, words));
+    }
+    None
+}
+
+/// Whether the item at the spot directly follows the one before it.
+fn is_adjacent(spot: &Spot<'_>, items: &[PlacedItem<'_>]) -> bool {
+    match items.get(spot.count.saturating_sub(1)) {
+        Some(last) => last.from.len().saturating_sub(last.spelling.len()) == spot.rest.len(),
+        None => false,
+    }
+}
+
+/// Whether a tag, a block, an end or a control word has the name.
+pub fn is_tag(language: &Language, name: &str) -> bool {
     language.tags.get(name).is_some() || language.blocks.get(name).is_some()
 }
 
@@ -131,7 +252,7 @@ pub fn spelling_before<'s>(items: &[PlacedItem<'s>], index: usize) -> &'s str {
 pub fn closer_of(text: &str, kind: Delimiter) -> &str {
     let inside = text.strip_prefix("-").unwrap_or(text);
     match inside.strip_prefix(closer_word(kind)) {
-        Some(behind) => front_before(text, behind),
+        Some(after) => front_before(text, after),
         None => "",
     }
 }

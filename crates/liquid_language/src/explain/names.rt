@@ -26,6 +26,9 @@ extends: `extends` isn't known; `{% render 'name' %}` takes in a partial
 layout: `layout` isn't known; `{% render 'name' %}` takes in a partial
 block: `block` isn't known; `capture` keeps a text, and a partial can show it
 macro: `macro` isn't known; `{% render 'name' a: 1 %}` takes in a partial
+function: `function` isn't known; `{% render 'name' a: 1 %}` takes in a partial
+def: `def` isn't known; `{% render 'name' a: 1 %}` takes in a partial
+mixin: `mixin` isn't known; `{% render 'name' a: 1 %}` takes in a partial
 call: `call` isn't known; `{% render 'name' a: 1 %}` takes in a partial
 import: `import` isn't known; `{% render 'name' %}` takes in a partial
 from: `from` isn't known; `{% render 'name' %}` takes in a partial
@@ -34,16 +37,16 @@ partial: `partial` is written `render`
 include_relative: `include_relative` is written `include`
 include_cached: `include_cached` is written `include`
 paginate: `paginate` isn't known; a `for` with `limit` and `offset` shows a part of a list
-form: `form` is of Shopify's themes, and isn't known
-section: `section` is of Shopify's themes, and isn't known
-sections: `sections` is of Shopify's themes, and isn't known
-schema: `schema` is of Shopify's themes, and isn't known
-style: `style` is of Shopify's themes, and isn't known
-stylesheet: `stylesheet` is of Shopify's themes, and isn't known
-javascript: `javascript` is of Shopify's themes, and isn't known
-content_for: `content_for` is of Shopify's themes, and isn't known
+form: `form` is of Shopify's themes, and isn't known; write the `<form>` itself
+section: `section` is of Shopify's themes, and isn't known; `render` takes in a partial
+sections: `sections` is of Shopify's themes, and isn't known; `render` takes in a partial
+schema: `schema` is of Shopify's themes, and isn't known; let the data bring the settings
+style: `style` is of Shopify's themes, and isn't known; write the `<style>` itself
+stylesheet: `stylesheet` is of Shopify's themes, and isn't known; write the `<style>` itself
+javascript: `javascript` is of Shopify's themes, and isn't known; write the `<script>` itself
+content_for: `content_for` is of Shopify's themes, and isn't known; `render` takes in a partial
 doc: `doc` isn't known; write `{% comment %}text{% endcomment %}`
-highlight: `highlight` is of Jekyll, and isn't known
+highlight: `highlight` is of Jekyll, and isn't known; write the `<pre>` and `<code>` yourself
 link: `link` is of Jekyll, and isn't known; write the address itself
 post_url: `post_url` is of Jekyll, and isn't known; write the address itself
 seo: `seo` is of a plugin of Jekyll, and isn't known; write the `<meta>` tags yourself
@@ -58,6 +61,22 @@ range: a loop is written `{% for i in list %}`
 elsunless: `elsunless` isn't known; write `{% elsif a == false %}`
 yield: `yield` isn't known; `{{ content }}` shows what the data brings
 slot: `slot` isn't known; `capture` keeps a text, and a partial can show it
+ifequal: `ifequal a b` is written `{% if a == b %}`
+ifnotequal: `ifnotequal a b` is written `{% if a != b %}`
+ifdef: `ifdef` isn't known; `{% if a %}` asks whether `a` has a value
+load: `load` isn't known; every filter and tag is there from the start
+static: `static` isn't known; write the address itself
+url: `url` isn't known; write the address itself
+csrf_token: `csrf_token` isn't known; let the data bring it
+firstof: `firstof` isn't known; write `{{ a | default: b }}`
+regroup: `regroup` isn't known; a `for` with an `if` picks the items of a group
+apply: `apply` isn't known; `capture` the text, and show it with the filter
+use: `use` isn't known; `{% render 'name' %}` takes in a partial
+return: `return` isn't known; put the rest into an `{% if %}`
+blocktrans: `blocktrans` isn't known; let the data bring the translated text
+translate: `translate` isn't known; let the data bring the translated text
+component: `component` isn't known; `{% render 'name' a: 1 %}` takes in a partial
+template: `template` isn't known; `{% render 'name' %}` takes in a partial
 trans: `trans` isn't known; let the data bring the translated text
 now: `now` isn't known; let the data bring the date
 ";
@@ -101,6 +120,12 @@ unique: uniq
 select: where
 pluck: map
 substring: slice
+substr: slice
+mid: slice
+kebabcase: slugify
+kebab_case: slugify
+lcase: downcase
+ucase: upcase
 default_if_none: default
 sort_by: sort
 concatenate: append
@@ -128,6 +153,20 @@ htmlescape: escape
 forceescape: escape
 force_escape: escape
 cgi_escape: url_encode
+titleize: capitalize
+titlecase: capitalize
+ucfirst: capitalize
+upcase_first: capitalize
+removes: remove
+split_by: split
+l: date
+localize: date
+to_date: date
+date_to_format: date
+default_value: default
+d: default
+or: default
+simple_format: newline_to_br
 uri_escape: url_encode
 linebreaksbr: newline_to_br
 linebreaks: newline_to_br
@@ -173,8 +212,8 @@ any: write `where: 'name', value | size`
 every: a `for` with an `if` asks each item
 reject: a `for` with `unless` leaves items out
 filter: write `where: 'name', value`
-remove_last: `split` and `join` take a text apart and put it together
-replace_last: `split` and `join` take a text apart and put it together
+remove_last: `remove_first` removes the first one, and `remove` all
+replace_last: `replace_first` replaces the first one, and `replace` all
 raw: nothing is escaped by itself, so leave `| raw` out
 safe: nothing is escaped by itself, so leave `| safe` out
 html_safe: nothing is escaped by itself, so leave `| html_safe` out
@@ -190,6 +229,16 @@ timeago: let the data bring the text
 trans: let the data bring the translated text
 dump: a `for` shows a list or a map piece by piece
 debug: a `for` shows a list or a map piece by piece
+limit: write `slice: 0, 2`, or `limit` in a `for`
+take: write `slice: 0, 2`, or `limit` in a `for`
+offset: write `slice`, or `offset` in a `for`
+skip: write `slice`, or `offset` in a `for`
+avg: add in a `for`, and divide by `size`
+average: add in a `for`, and divide by `size`
+mean: add in a `for`, and divide by `size`
+reverse_string: `split: ''`, `reverse` and `join` turn a text round
+snake_case: let the data bring the text as it should be
+snakecase: let the data bring the text as it should be
 keys: a `for` over a map gives pairs, and `pair[0]` is the key
 values: a `for` over a map gives pairs, and `pair[1]` is the value
 items: a `for` over a map gives pairs, as `pair[0]` and `pair[1]`
@@ -216,34 +265,95 @@ number_of_words: it is of Jekyll; write `split: ' ' | size`
 normalize_whitespace: it is of Jekyll; write `strip`
 to_integer: it is of Jekyll; a text of digits counts as a number, as in `plus: 0`
 inspect: a `for` shows a list or a map piece by piece
+date_to_xmlschema: write `date: '%FT%T%:z'`
+date_to_rfc822: write `date: '%a, %d %b %Y %T %z'`
 date_to_string: write `date: '%d %b %Y'`
 date_to_long_string: write `date: '%d %B %Y'`
 sum: add in a `for`, by `assign` and `plus`
 base64_encode: let the data bring the encoded text
 base64_decode: let the data bring the decoded text
 to_s: an output shows any value as a text
+string: an output shows any value as a text
+to_i: a text of digits counts as a number, as in `plus: 0`
+int: a text of digits counts as a number, as in `plus: 0`
+number: a text of digits counts as a number, as in `plus: 0`
+to_f: numbers are whole here; count in a smaller unit, as cents
+float: numbers are whole here; count in a smaller unit, as cents
+floatformat: numbers are whole here; `round: 2` rounds a text, as `'1.234'`
+currency: `divided_by: 100` and `modulo: 100` show cents
+intcomma: let the data bring the formatted number
+pluralize: write `{% if a == 1 %}item{% else %}items{% endif %}`
+ordinalize: let the data bring the text as it should be
+yesno: a choice is written `{% if a %}yes{% else %}no{% endif %}`
+ternary: a choice is written `{% if a %}b{% else %}c{% endif %}`
+wordcount: write `split: ' ' | size`
+attr: a part is written `a.b`
+groupby: a `for` with an `if` picks the items of a group
+selectattr: write `where: 'name', value`
+rejectattr: a `for` with `unless` leaves items out
+contains: `contains` stands in a condition, as `{% if a contains b %}`
+includes: `contains` stands in a condition, as `{% if a contains b %}`
+in: `contains` stands in a condition, as `{% if a contains b %}`
+push: `concat` joins two lists
+add_to: `concat` joins two lists
+unshift: `concat` joins two lists
+pop: a `for` with `limit` leaves the last items out
+shift: a `for` with `offset` leaves the first items out
+flatten: a `for` in a `for` goes over lists in a list
+range: a `for` goes over a range, as `{% for i in (1..5) %}`
+chars: write `split: ''`
+lines: `newline_to_br` and `split` part a text into lines
+indent: let the data bring the text as it should be
+wordwrap: let the data bring the text as it should be
+wrap: let the data bring the text as it should be
+center: let the data bring the text as it should be
+ljust: let the data bring the text as it should be
+rjust: let the data bring the text as it should be
+pad: let the data bring the text as it should be
+test: an `{% if %}` compares, and `contains` looks for a part of a text
+match: an `{% if %}` compares, and `contains` looks for a part of a text
+regex_replace: `replace` takes plain text, and no pattern
+type: what a value is can't be asked
+typeof: what a value is can't be asked
 ";
 
 /// What the message says of a tag of another language.
 pub fn meant_tag(name: &str) -> Option<&'static str> {
-    told_in(TAGS, name)
+    words_in(TAGS, name)
 }
 
 /// The filter that is meant by a filter's name of another language.
 pub fn meant_filter(name: &str) -> Option<&'static str> {
-    told_in(FILTERS, name)
+    words_in(FILTERS, name)
 }
 
 /// What the message says of a filter of another language that has no like here.
 pub fn lacking_filter(name: &str) -> Option<&'static str> {
-    told_in(LACKING, name)
+    words_in(LACKING, name)
+}
+
+/// What the message says of a filter whose name shows of what kind it is elsewhere.
+pub fn kind_of_filter(name: &str) -> Option<&'static str> {
+    if name.ends_with("_tag") {
+        return Some("write the element itself, as `<img>`");
+    }
+    if name.ends_with("_url") || name.starts_with("url_for") {
+        return Some("write the address itself");
+    }
+    if name.starts_with("color_") || name.starts_with("font_") {
+        return Some("it is of Shopify's themes; write it into the style sheet");
+    }
+    if name.starts_with("date_") || name.starts_with("format_date") {
+        return Some("write `date` with a pattern, as `date: '%d %b %Y'`");
+    }
+    None
 }
 
 /// What a table has for a name. Each of its lines is a name, and what the message says of it.
-fn told_in(table: &'static str, name: &str) -> Option<&'static str> {
+fn words_in(table: &'static str, name: &str) -> Option<&'static str> {
     for line in table.lines() {
         match line.split_once(": ") {
-            Some((known, told)) if known == name => return Some(told),
+            Some((known, wording)) if known == name => return Some(wording),
             _ => {}
         }
     }

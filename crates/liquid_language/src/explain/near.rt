@@ -12,7 +12,15 @@ pub fn nearest<'n, K: Drop>(
 ) -> Result<Option<NearName<'n>>, AllocError> {
     let mut near = near;
     for name in names {
-        near = nearer(alloc, name.as_str(), meant, near)?;
+        near = likely(nearer(alloc, name.as_str(), meant, near)?, meant);
     }
     Ok(near)
+}
+
+/// A name that is near to one that is meant, where at most a third of its letters are edited.
+fn likely<'n>(near: Option<NearName<'n>>, meant: &str) -> Option<NearName<'n>> {
+    match near {
+        Some(found) if found.edits.saturating_mul(3) <= meant.len() => Some(found),
+        _ => None,
+    }
 }

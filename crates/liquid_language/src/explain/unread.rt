@@ -1,131 +1,78 @@
 //! Faults of pieces that can't be read: of what stands where an item can't begin or go on, and of a
 //! source that ends inside one.
-use super::characters::{ends_value, is_digit, is_letter_beyond, is_sign};
-use super::habits::{Site, Spot, advice, site_of};
-use super::items::{closer_of, closer_word, front_before, not_wanted, spelling_before};
+use super::characters::{is_digit, is_letter, is_letter_beyond, is_quote};
+use super::habits::{Spot, advice, site_of};
+use super::items::{closer_of, closer_word, front_before, is_tag, not_wanted, spelling_before};
+use super::names::meant_tag;
+use super::numbers::{is_fraction, no_whole, number_front};
 use super::outline::Outline;
-use super::told::Told;
+use super::parentheses::in_parentheses;
+use super::wording::Wording;
+use crate::language::Language;
 use liquid_lexer::{Delimiter, Fault, FaultKind, PlacedPiece};
 
 /// The words that are values, and no names.
 static LITERALS: [&str; 4] = ["nil", "null", "true", "false"];
 
 /// Of a piece that can't be read.
-pub fn unread<'s>(fault: &Fault, outline: &Outline<'s>, piece: &PlacedPiece<'s>) -> Told<'s> {
+pub fn unread<'s>(
+    language: &Language,
+    fault: &Fault,
+    outline: &Outline<'s>,
+    piece: &PlacedPiece<'s>,
+) -> Wording<'s> {
+    if let FaultKind::Unclosed = fault.kind {
+        return unclosed(outline, piece);
+    }
+    if let Some(words) = foreign_tag(language, piece) {
+        return Wording::plain(outline.at, words);
+    }
+    if !is_tag(language, piece.name) && !piece.name.is_empty() && piece.rest.starts_with(".") {
+        let words = "no tag is named `…`; a value is shown by `{{ … }}`";
+        return Wording::quoting(outline.at, words, piece.name, piece.name);
+    }
+    unread_item(language, fault, outline, piece)
+}
+
+/// What the message says of a tag that another language has, and whose items this one can't read.
+fn foreign_tag(language: &Language, piece: &PlacedPiece<'_>) -> Option<&'static str> {
+    if is_tag(language, piece.name) {
+        return None;
+    }
+    meant_tag(piece.name)
+}
+
+/// Of an item that can't be read.
+fn unread_item<'s>(
+    language: &Language,
+    fault: &Fault,
+    outline: &Outline<'s>,
+    piece: &PlacedPiece<'s>,
+) -> Wording<'s> {
     let from = outline.from;
     match fault.kind {
-        FaultKind::Unclosed => unclosed(outline, piece),
         FaultKind::NumberLiteral => {
             let words =
                 "`…` is beyond the whole numbers of 64 bits, from -9223372036854775808 to 9223372036854775807";
-            Told::quoting(from, words, number_front(from), "")
+            Wording::quoting(from, words, number_front(from), "")
         }
         FaultKind::FloatLiteral => no_whole(from, "", piece),
         FaultKind::StateWord => {
             let words = "`empty` and `blank` aren't known; compare with `''`, or `.size` with 0";
-            Told::plain(from, words)
+            Wording::plain(from, words)
         }
-        _ => unreadable(fault, outline, piece),
+        _ => unreadable(language, fault, outline, piece),
     }
-}
-
-/// Of a number with a fraction: what it is in a smaller unit, where it can be computed with. It
-/// needs the `before` in front of it to be a text that is a number.
-fn no_whole<'s>(from: &'s str, before: &'static str, piece: &PlacedPiece<'s>) -> Told<'s> {
-    let number = number_front(from);
-    let Some((smaller, unit)) = in_smaller_unit(number) else {
-        let words =
-            "`…` is no whole number, and templates have no others; as a text, `'¤…'`, it can be shown and rounded";
-        return Told {
-            third: number,
-            ..Told::quoting(from, words, number, before)
-        };
-    };
-    let words = if unit == 1 {
-        "`…` has a fraction, and templates have whole numbers alone; write `¹`"
-    } else {
-        words_of_fraction(piece)
-    };
-    Told {
-        third: number,
-        numbers: (smaller, unit),
-        ..Told::quoting(from, words, number, before)
-    }
-}
-
-/// What the message says of a number with a fraction that isn't zero, by what it is for.
-fn words_of_fraction(piece: &PlacedPiece<'_>) -> &'static str {
-    match (last_filter(piece), site_of(piece)) {
-        (Some("times"), _) => {
-            "`…` is no whole number, and templates have no others; write `times: ¹ | divided_by: ²`"
-        }
-        (Some("divided_by"), _) => {
-            "`…` is no whole number, and templates have no others; write `times: ² | divided_by: ¹`"
-        }
-        (Some("plus" | "minus" | "modulo" | "at_least" | "at_most"), _) | (None, Site::Condition) =>
-            {
-                "`…` is no whole number, and templates have no others; take a smaller unit, where 1 is ² and this is ¹"
-            }
-        (Some("append" | "prepend" | "default" | "replace"), _)
-        | (None, Site::Output | Site::Assign) => {
-            "`…` is no whole number, and templates have no others; as a text, `'¤…'`, it can be shown and rounded, and to compute take a smaller unit, where 1 is ² and this is ¹"
-        }
-        _ => "`…` is no whole number, and a whole one is wanted here",
-    }
-}
-
-/// The name of the last filter of a piece.
-fn last_filter<'s>(piece: &PlacedPiece<'s>) -> Option<&'s str> {
-    let mut name = None;
-    let mut is_bar = false;
-    for placed in &piece.items {
-        if is_bar {
-            name = Some(placed.spelling);
-        }
-        is_bar = placed.spelling == "|";
-    }
-    name
-}
-
-/// A number without its point and the zeros at its end, and how many of that unit are one; for no
-/// number with more than 15 digits or a sign.
-fn in_smaller_unit(number: &str) -> Option<(usize, usize)> {
-    let (whole, fraction) = number.split_once(".")?;
-    let fraction = fraction.trim_end_matches('0');
-    if whole.len().saturating_add(fraction.len()) > 15 {
-        return None;
-    }
-    let mut smaller: usize = 0;
-    for c in whole.chars().chain(fraction.chars()) {
-        let digit = c.to_digit(10)?;
-        smaller = smaller.saturating_mul(10).saturating_add(digit as usize);
-    }
-    let mut unit: usize = 1;
-    for _ in fraction.chars() {
-        unit = unit.saturating_mul(10);
-    }
-    Some((smaller, unit))
-}
-
-/// The number at the front, with its fraction.
-fn number_front(text: &str) -> &str {
-    let unsigned = text.trim_start_matches(is_sign);
-    let behind = unsigned.trim_start_matches(is_digit);
-    let behind = match behind.strip_prefix(".") {
-        Some(fraction) => fraction.trim_start_matches(is_digit),
-        None => behind,
-    };
-    front_before(text, behind)
 }
 
 /// Of a source that ends inside a piece, which is reported at its opener, or inside a text, which
-/// is told at its quote.
-fn unclosed<'s>(outline: &Outline<'s>, piece: &PlacedPiece<'s>) -> Told<'s> {
+/// is reported at its quote.
+fn unclosed<'s>(outline: &Outline<'s>, piece: &PlacedPiece<'s>) -> Wording<'s> {
     match outline.from.get(..1) {
         Some(quote) => unclosed_text(outline.from, quote, piece),
         None => {
             let words = "this `¤` has no `¤`";
-            Told::quoting(
+            Wording::quoting(
                 outline.at,
                 words,
                 opener_word(piece.kind),
@@ -136,13 +83,13 @@ fn unclosed<'s>(outline: &Outline<'s>, piece: &PlacedPiece<'s>) -> Told<'s> {
 }
 
 /// Of a source that ends inside a text.
-fn unclosed_text<'s>(from: &'s str, quote: &'s str, piece: &PlacedPiece<'_>) -> Told<'s> {
+fn unclosed_text<'s>(from: &'s str, quote: &'s str, piece: &PlacedPiece<'_>) -> Wording<'s> {
     let words = if escapes_quote(piece) {
         "the text that begins here has no closing `¤`; `\\` escapes nothing, and a text stands between two `'` or two `\"`"
     } else {
         "the text that begins here has no closing `¤`"
     };
-    Told::quoting(from, words, quote, "")
+    Wording::quoting(from, words, quote, "")
 }
 
 /// Whether a text of the piece ends by a `\` before its quote.
@@ -156,17 +103,57 @@ fn escapes_quote(piece: &PlacedPiece<'_>) -> bool {
 }
 
 /// Of a `BadItem`, or of a tag without a name.
-fn unreadable<'s>(fault: &Fault, outline: &Outline<'s>, piece: &PlacedPiece<'s>) -> Told<'s> {
+fn unreadable<'s>(
+    language: &Language,
+    fault: &Fault,
+    outline: &Outline<'s>,
+    piece: &PlacedPiece<'s>,
+) -> Wording<'s> {
     let spot = spot_of(fault, outline.from, piece);
-    if let Some(told) = in_parentheses(&spot, piece) {
-        return told;
+    if let Some(wording) = in_parentheses(language, &spot, piece) {
+        return wording;
     }
-    if let Some(told) = in_value(&spot, outline.at, piece) {
-        return told;
+    if let Some(wording) = in_value(&spot, outline.at, piece) {
+        return wording;
+    }
+    if let Some(wording) = after_text(&spot, piece) {
+        return wording;
+    }
+    if spot.before == "<" && spot.rest.starts_with("/") {
+        return before_html(&spot, outline.at);
     }
     match advice(&spot) {
-        Some(words) => Told::plain(spot.rest, words),
+        Some(words) => Wording::plain(spot.rest, words),
         None => with_opener(found_there(&spot), outline.at, spot.kind),
+    }
+}
+
+/// Of a piece in which a text holds the closer, so that the piece goes on after it.
+fn after_text<'s>(spot: &Spot<'s>, piece: &PlacedPiece<'s>) -> Option<Wording<'s>> {
+    let closer = closer_word(spot.kind);
+    for placed in &piece.items {
+        if placed.spelling.starts_with(is_quote) && placed.spelling.contains(closer) {
+            let words = "found `…`; the text of § holds `¤`: is its closing quote missing?";
+            return Some(Wording {
+                other: placed.from,
+                ..Wording::quoting(spot.rest, words, first_word(spot.rest, spot.kind), closer)
+            });
+        }
+    }
+    None
+}
+
+/// Of an end of HTML before the closer.
+fn before_html<'s>(spot: &Spot<'s>, at: &'s str) -> Wording<'s> {
+    let words = "`</` is of HTML, and the `¤` of § has no `¤`";
+    Wording {
+        other: at,
+        ..Wording::quoting(
+            spot.rest,
+            words,
+            opener_word(spot.kind),
+            closer_word(spot.kind),
+        )
     }
 }
 
@@ -187,7 +174,7 @@ fn spot_of<'s>(fault: &Fault, from: &'s str, piece: &PlacedPiece<'s>) -> Spot<'s
 
 /// What the message says of the end of the source, or of the value that the fault is in, at the end
 /// of what was read of the piece, which begins at the other place.
-fn in_value<'s>(spot: &Spot<'s>, at: &'s str, piece: &PlacedPiece<'s>) -> Option<Told<'s>> {
+fn in_value<'s>(spot: &Spot<'s>, at: &'s str, piece: &PlacedPiece<'s>) -> Option<Wording<'s>> {
     if matches!(spot.rest.trim_end(), "-" | ".") {
         return Some(at_end(spot, at));
     }
@@ -197,20 +184,34 @@ fn in_value<'s>(spot: &Spot<'s>, at: &'s str, piece: &PlacedPiece<'s>) -> Option
     }
     if spot.rest.starts_with("]") && front.trim_end().ends_with("[") {
         let words = "a place or a key is wanted in the brackets, as `a[0]` or `a['b']`";
-        return Some(Told::plain(spot.rest, words));
+        return Some(Wording::plain(spot.rest, words));
     }
     if is_fraction(spot) {
         return Some(no_whole(spot.rest, "0", piece));
+    }
+    in_brackets(spot, front)
+}
+
+/// What the message says of a fault in brackets, after what was read of the value.
+fn in_brackets<'s>(spot: &Spot<'s>, front: &str) -> Option<Wording<'s>> {
+    if spot.wanted == "`]`" && spot.rest.starts_with(":") {
+        let words = "a part of a list is taken by a filter, as `a | slice: 0, 2`";
+        return Some(Wording::plain(spot.rest, words));
+    }
+    let after = spot.rest.trim_start_matches(is_digit).strip_prefix(".")?;
+    if front.ends_with("[") && after.starts_with(is_letter) {
+        let words = "a `]` is missing after the place, as in `a[0].b`";
+        return Some(Wording::plain(spot.rest, words));
     }
     None
 }
 
 /// Of a piece that the end of the source cuts off.
-fn at_end<'s>(spot: &Spot<'s>, at: &'s str) -> Told<'s> {
+fn at_end<'s>(spot: &Spot<'s>, at: &'s str) -> Wording<'s> {
     let words = "the source ends here, and the `¤` of § has no `¤`";
-    Told {
+    Wording {
         other: at,
-        ..Told::quoting(
+        ..Wording::quoting(
             spot.rest,
             words,
             opener_word(spot.kind),
@@ -220,10 +221,10 @@ fn at_end<'s>(spot: &Spot<'s>, at: &'s str) -> Told<'s> {
 }
 
 /// Of a step after a literal, with which the front ends.
-fn step_of_literal<'s>(from: &'s str, front: &str) -> Told<'s> {
+fn step_of_literal<'s>(from: &'s str, front: &str) -> Wording<'s> {
     let step = from.get(..1).unwrap_or("");
     let words = "`¤` is a value without parts; a name is wanted before `¤`";
-    Told::quoting(from, words, literal_at_end(front), step)
+    Wording::quoting(from, words, literal_at_end(front), step)
 }
 
 /// The literal that a text ends with.
@@ -236,82 +237,37 @@ fn literal_at_end(text: &str) -> &'static str {
     "nil"
 }
 
-/// Whether a number begins by a `.`, after no value that this could be a step of.
-fn is_fraction(spot: &Spot<'_>) -> bool {
-    match spot.rest.strip_prefix(".") {
-        Some(behind) if spot.at_item => {
-            behind.starts_with(is_digit) && !spot.before.ends_with(ends_value)
-        }
-        _ => false,
-    }
-}
-
 /// `found X where W is wanted`
-fn found_there<'s>(spot: &Spot<'s>) -> Told<'s> {
+fn found_there<'s>(spot: &Spot<'s>) -> Wording<'s> {
     let found = first_word(spot.rest, spot.kind);
     if begins_beyond(spot.rest) {
         let words =
             "found `…`; a name has the letters a to z, digits, `_` and `-`, and others as in `a['é']`";
-        return Told::quoting(spot.rest, words, found, "");
+        return Wording::quoting(spot.rest, words, found, "");
     }
     if spot.wanted == "a value" && spot.found.is_empty() && spot.count > 0 {
-        return Told::quoting(spot.rest, "found `…`, which means nothing here", found, "");
+        return Wording::quoting(spot.rest, "found `…`, which means nothing here", found, "");
+    }
+    if spot.wanted == "a whole number" {
+        let words = "found `…` where a whole number is wanted, which has digits alone";
+        return Wording::quoting(spot.rest, words, found, "");
     }
     not_wanted(spot, found)
 }
 
 /// Adds where the piece opens that may lack its closer, if that is on another line.
-fn with_opener<'s>(told: Told<'s>, at: &'s str, kind: Delimiter) -> Told<'s> {
-    if !front_before(at, told.from).contains('\n') {
-        return told;
+fn with_opener<'s>(wording: Wording<'s>, at: &'s str, kind: Delimiter) -> Wording<'s> {
+    if !front_before(at, wording.from).contains('\n') {
+        return wording;
     }
     let then = match kind {
         Delimiter::Output => "; is the `{{` of § closed?",
         Delimiter::Tag => "; is the `{%` of § closed?",
     };
-    Told {
+    Wording {
         then,
         other: at,
-        ..told
-    }
-}
-
-/// What is meant by parentheses that hold no range.
-fn in_parentheses<'s>(spot: &Spot<'s>, piece: &PlacedPiece<'s>) -> Option<Told<'s>> {
-    if !piece.rest.starts_with("(") || spot.at_item || spot.rest.starts_with("%}") {
-        return None;
-    }
-    let bar = spelling_before(&piece.items, spot.count.saturating_sub(1));
-    if bar == "|" && spot.count > 1 {
-        return Some(called(spot, piece.rest));
-    }
-    Some(Told::plain(piece.rest, no_range(spot)?))
-}
-
-/// Of a filter with parentheses after its name.
-fn called<'s>(spot: &Spot<'s>, opening: &'s str) -> Told<'s> {
-    let words = if front_before(opening, spot.rest) == "(" && spot.rest.starts_with(")") {
-        "`…()` is written `…`, without parentheses"
-    } else {
-        "arguments stand behind a `:`: write `…: ..` for `…(..)`"
-    };
-    Told::quoting(opening, words, spot.before, spot.before)
-}
-
-/// What the message says of parentheses that hold no range, where no filter is called.
-fn no_range(spot: &Spot<'_>) -> Option<&'static str> {
-    match spot.site {
-        Site::Condition => {
-            Some("a condition has no parentheses; put one `{% if %}` inside another")
-        }
-        Site::Loop if spot.count == 0 => {
-            Some("a loop has one name and no parentheses around it, as `{% for i in list %}`")
-        }
-        Site::Loop => Some("a range has two ends and two dots between them, as `(1..5)`"),
-        _ if spot.rest.starts_with("}}") => None,
-        _ => Some(
-            "parentheses hold a range alone, as `(1..5)`; a filter, as `a | size`, stands for a call",
-        ),
+        ..wording
     }
 }
 

@@ -1,4 +1,4 @@
--- The nodes that a choice comes to in an environment.
+-- The nodes that a choice runs in an environment.
 --     ListComesTo ns e nodes r      r is a range of ns that does in e what the list of nodes does
 --                                   there, or the kind by which that list ends before anything is
 --                                   done, or `Memory`

@@ -1,4 +1,4 @@
--- What the turns of a loop do, behind the scope that the loop is.
+-- What the turns of a loop do, below the scope that the loop is.
 --     turns_meant t local body      the turns of a `for`;   cells_meant t columns local body
 --                                   those of a `tablerow`
 --     StartsAt m s before t      the innermost scope of s is the loop t, at the first of its m
@@ -27,7 +27,7 @@ use Rattle.liquid_meaning.specs.Meaning.{Setting}
 use Rattle.liquid_meaning.specs.Runs.{Nothing, Run, write, ◌>>=◌, with_scope}
 use Rattle.liquid_meaning.specs.Within.{Within}
 
--- the local names behind the innermost scope
+-- the local names outside the innermost scope
 abbrev pub behind : State → Map Datum
 behind s = local_of (scopes_behind (layers_of s).scopes)
 

@@ -13,7 +13,7 @@ use super::tags::{BareTag, read_bare, read_word};
 use crate::build::{Stage, Statement};
 use crate::chain_items::expected_before;
 use crate::condition_items::read_condition;
-use crate::loop_items::{LoopKind, read_loop};
+use crate::loop_items::{LoopTag, read_loop};
 use crate::loop_nodes::{For, TableRow};
 use crate::node::{Node, TwoBodies};
 use crate::value_items::{Separators, read_values};
@@ -117,7 +117,7 @@ fn read_for(alloc: Global, items: VecDeque<Item<'_>>, at: &str) -> Result<Node, 
     ensures kind { FaultsAs FaultKind.Expected result }
     ensures place { FaultsAt (length at.now) result }
 {
-    let read = read_loop(items, LoopKind::Each, at)?;
+    let read = read_loop(items, LoopTag::Each, at)?;
     let head = For {
         variable: read.variable,
         source: read.source,
@@ -134,7 +134,7 @@ fn read_table_row(alloc: Global, items: VecDeque<Item<'_>>, at: &str) -> Result<
     ensures kind { FaultsAs FaultKind.Expected result }
     ensures place { FaultsAt (length at.now) result }
 {
-    let read = read_loop(items, LoopKind::Rows, at)?;
+    let read = read_loop(items, LoopTag::Rows, at)?;
     let head = TableRow {
         variable: read.variable,
         source: read.source,

@@ -1,18 +1,14 @@
-//! How a host takes in Jekyll's filters: one loop registers them, and one makes them.
+//! How a host takes in Jekyll's filters: a language that has their names, and a loop that makes
+//! them.
+use liquid_filter_sets::{WhereExp, jekyll_language};
 use liquid_jekyll_host_filters::{JEKYLL_FILTERS, SiteFilter};
-use liquid_lib::{Filter, HostFilters, Renderable, Result, RuntimeBuilder, language, parse};
+use liquid_lib::{Filter, HostFilters, Renderable, Result, RuntimeBuilder, parse};
 use std::alloc::Global;
 
 /// The page of a template that calls filters of Jekyll, over a site at https://example.org/blog.
 pub(crate) fn jekyll_page(alloc: Global) -> Result<String> {
     // A template may call each with as many arguments as it takes.
-    let mut language = language(alloc)?;
-    for filter in JEKYLL_FILTERS {
-        let name = String::from_str(alloc, filter.name())?;
-        language
-            .filters
-            .register_host(name, filter.least(), filter.most())?;
-    }
+    let language = jekyll_language(alloc)?;
     let source = "{{ 'a page' | relative_url }} {{ 'x' | absolute_url }}";
     let template = parse(alloc, source, &language)?;
 
@@ -23,6 +19,8 @@ pub(crate) fn jekyll_page(alloc: Global) -> Result<String> {
         let boxed: Box<dyn Filter> = Box::new(alloc, site)?;
         filters.push((String::from_str(alloc, filter.name())?, boxed))?;
     }
+    let where_exp: Box<dyn Filter> = Box::new(alloc, WhereExp)?;
+    filters.push((String::from_str(alloc, "where_exp")?, where_exp))?;
     let host = HostFilters::new(filters);
     let mut runtime = RuntimeBuilder::new(alloc)
         .set_host_filters(&host)

@@ -1,28 +1,24 @@
 //! How a host hands in Shopify's filters, all of one type. The guide shows this file.
-use liquid_lib::{Filter, HostFilters, Renderable, Result, RuntimeBuilder, language, parse};
+use liquid_filter_sets::shopify_language;
+use liquid_lib::{Filter, HostFilters, Renderable, Result, RuntimeBuilder, parse};
 use liquid_shopify_host_filters::{MoneyFormat, MoneyStyle, SHOPIFY_FILTERS, Shop, ShopifyFilter};
 use std::alloc::Global;
 use std::rc::Rc;
 
 /// A page whose template calls filters of the set.
 pub(crate) fn shop_page(alloc: Global) -> Result<String> {
-    // Each filter gets its name in the language, and is made where it is handed in: a `dyn` can't
-    // be made elsewhere.
+    let language = shopify_language(alloc)?;
+    let source = "{{ 'Green tea' | link_to: '/tea' }}: {{ 1999 | money }}";
+    let template = parse(alloc, source, &language)?;
+
+    // Each filter is made where it is handed in: a `dyn` can't be made elsewhere.
     let shop = Rc::new(alloc, shop(alloc)?)?;
-    let mut language = language(alloc)?;
     let mut filters = Vec::new(alloc);
     for kind in SHOPIFY_FILTERS {
-        let name = String::from_str(alloc, kind.name())?;
-        language
-            .filters
-            .register_host(name, kind.least(), kind.most())?;
         let shop = shop.clone()?;
         let filter: Box<dyn Filter> = Box::new(alloc, ShopifyFilter { kind, shop })?;
         filters.push((String::from_str(alloc, kind.name())?, filter))?;
     }
-
-    let source = "{{ 'Green tea' | link_to: '/tea' }}: {{ 1999 | money }}";
-    let template = parse(alloc, source, &language)?;
     let host = HostFilters::new(filters);
     let mut runtime = RuntimeBuilder::new(alloc)
         .set_host_filters(&host)

@@ -8,7 +8,7 @@ ghost use Rattle.liquid_jekyll_shopify_filters.specs.Ends.{unshift_answer, witho
 
 use liquid_core::{Filter, Result, Value};
 use liquid_filter_base::invalid_input;
-use liquid_list_filters::push_copies;
+use liquid_list_filters::{copies_of, push_copies};
 use std::alloc::Global;
 
 /// `push`: a list with the argument as its last item.
@@ -124,7 +124,7 @@ fn popped(alloc: Global, items: &[Value]) -> Result<Vec<Value>>
         (without_last (list_of (items_view items.now))) }
 {
     match items.split_last() {
-        Some((_last, rest)) => copied(alloc, rest),
+        Some((_last, rest)) => copies_of(alloc, rest),
         None => Ok(Vec::new(alloc)),
     }
 }
@@ -134,15 +134,7 @@ fn shifted(alloc: Global, items: &[Value]) -> Result<Vec<Value>>
         (drop 1 (list_of (items_view items.now))) }
 {
     match items.split_first() {
-        Some((_first, rest)) => copied(alloc, rest),
+        Some((_first, rest)) => copies_of(alloc, rest),
         None => Ok(Vec::new(alloc)),
     }
-}
-
-fn copied(alloc: Global, items: &[Value]) -> Result<Vec<Value>>
-    ensures { IsValueOrMemory (λ v. map view v.items) result (list_of (items_view items.now)) }
-{
-    let mut copies = Vec::with_capacity(alloc, items.len())?;
-    push_copies(&mut copies, items, alloc)?;
-    Ok(copies)
 }

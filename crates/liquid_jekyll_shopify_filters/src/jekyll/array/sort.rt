@@ -8,7 +8,7 @@ ghost use Rattle.liquid_model.specs.View.{view, items_view};
 ghost use Rattle.liquid_list_filters.specs.Keyed.{keyed_view};
 ghost use Rattle.liquid_list_filters.specs.Sequences.{list, sequence};
 ghost use Rattle.liquid_list_filters.specs.Sorting.{sort_by};
-ghost use Rattle.liquid_jekyll_shopify_filters.specs.Sorting.{found, found_key, nils_given};
+ghost use Rattle.liquid_jekyll_shopify_filters.specs.Sorting.{value_or_nil, found_key, nils_given};
 ghost use Rattle.liquid_jekyll_shopify_filters.specs.Sorting.{nils_key, nils_named, path_given};
 ghost use Rattle.liquid_jekyll_shopify_filters.specs.Sorting.{sort_answer, sort_items, sort_maps};
 
@@ -156,7 +156,7 @@ fn with_keys<'a>(
 
 /// What a value has along a path, or nil.
 fn found<'a>(alloc: Global, item: &'a Value, path: &[Value]) -> Result<ValueCow<'a>>
-    ensures { IsValueOrMemory cow_view result (found (map view path.now) (view item.now)) }
+    ensures { IsValueOrMemory cow_view result (value_or_nil (map view path.now) (view item.now)) }
 {
     match item.find(alloc, path)? {
         Some(value) => Ok(value),

@@ -5,6 +5,7 @@ pub static CONDITION: &str = "\
 ¦||¦`||` is written `or`
 ¦|¦a condition has no filters; `assign` the filtered value before it
 not¦¦`not` isn't known; write `{% unless a %}` or `a == false`
+¦! =¦`!=` is written without a space in it
 ¦!¦`!` isn't known; write `{% unless a %}` or `a == false`
 ¦not¦`not` isn't known; write `!=`, or `{% unless a contains b %}`
 ¦?¦no `?` stands here; compare with `nil`, or `.size` with 0
@@ -22,6 +23,21 @@ not¦¦`not` isn't known; write `{% unless a %}` or `a == false`
 ¦=¦`=` doesn't compare; write `==`
 ¦in¦`in` is written the other way round, `list contains item`
 ¦is¦`is` is written `==`; `is defined` is written `{% if a %}`
+¦,¦conditions are joined by `and` or `or`
+¦greater¦`greater than` is written `>`
+¦bigger¦`bigger than` is written `>`
+¦more¦`more than` is written `>`
+¦less¦`less than` is written `<`
+¦smaller¦`smaller than` is written `<`
+¦equal¦`equal to` is written `==`
+¦between¦`a between 1 and 3` is written `a >= 1 and a <= 3`
+¦starts¦how a text starts is asked by `assign`, with `| slice: 0, 2`, and `==`
+¦ends¦how a text ends is asked by `assign`, with `| slice: -2, 2`, and `==`
+¦like¦`like` isn't known; write `a contains 'text'`
+¦matches¦`matches` isn't known; write `a contains 'text'`
+¦exists¦`exists` isn't known; write `{% if a %}`
+¦defined¦`defined` isn't known; write `{% if a %}`
+¦xor¦`xor` isn't known; write one `{% if %}` inside another
 ¦contain¦did you mean `contains`?
 ¦constains¦did you mean `contains`?
 ¦includes¦`includes` is written `contains`

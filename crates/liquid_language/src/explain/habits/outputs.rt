@@ -29,12 +29,16 @@ pub static OUTPUT: &str = "\
 ¦%}¦an output ends with `}}`, and not with `%}`
 ¦-%}¦an output ends with `-}}`, and not with `-%}`
 ¦}¦an output ends with `}}`
+^¦- ¦a sign stands right before its number, as in `-5`
 ^¦-¦a name has no sign; write `a | times: -1`
 range¦.¦`{{ range .list }}` is written `{% for item in list %}`
 if¦.¦`{{ if .a }}` is written `{% if a %}`
 with¦.¦`{{ with .a }}` isn't known; write `a.b` for a part of `a`
+¦do¦a loop is written `{% for item in list %}`
 ¦=>¦`=>` isn't known; arguments have a `,` between them, as `'a', 'b'`
 ¦=¦an output sets no name; write `{% assign a = b %}`
+¦then¦a choice is written `{% if a %}b{% else %}c{% endif %}`
+:¦,¦a text stands between quotes, as `join: ','`
 ¦,¦an output shows one value; write `{{ a }}{{ b }}`
 ";
 

@@ -10,12 +10,20 @@ pub static ANYWHERE: &str = "\
 ¦«¦a text stands between plain quotes, `'` or `\"`
 ¦`¦a text stands between plain quotes, `'` or `\"`
 ¦\u{a0}¦a no-break space stands here; write a plain one
-<¦/¦`</` is of HTML; is the closer before it missing?
 ¦&&¦`&&` is written `and`, in a condition
 ¦&gt;¦`&gt;` is written `>`
 ¦&lt;¦`&lt;` is written `<`
 ¦&amp;¦`&amp;` is an escape of HTML; in a condition write `and`
 ¦&¦`&` isn't known; in a condition write `and`
+¦｜¦a wide sign stands here; write the plain `|`
+¦，¦a wide sign stands here; write the plain `,`
+¦：¦a wide sign stands here; write the plain `:`
+¦＝¦a wide sign stands here; write the plain `=`
+¦＞¦a wide sign stands here; write the plain `>`
+¦＜¦a wide sign stands here; write the plain `<`
+¦（¦a wide sign stands here; write the plain `(`
+¦）¦a wide sign stands here; write the plain `)`
+¦！¦a wide sign stands here; write the plain `!`
 ¦\u{2002}¦a space of another kind stands here; write a plain one
 ¦\u{2003}¦a space of another kind stands here; write a plain one
 ¦\u{2009}¦a space of another kind stands here; write a plain one
@@ -39,11 +47,12 @@ pub static ANYWHERE: &str = "\
 ¦/¦`/` is written as a filter, `a | divided_by: b`
 :¦%¦a text stands between quotes, as `date: '%Y'`
 ¦%¦`%` is written as a filter, `a | modulo: b`
-¦..¦a range stands in parentheses, as `(1..5)`
+¦..¦`..` stands in a range in parentheses, as `(1..5)`; a step has one `.`
 ¦{¦a map can't be written in a template; it comes with the data
 ¦\\¦a text has no escapes; one with a `'` in it stands between two `\"`
 ¦$¦a name has no `$`
 ¦@¦a name has no `@`
-¦;¦no `;` stands here
-¦!¦`!` isn't known
+¦if¦a condition stands in a tag of its own, as `{% if a %}`
+¦;¦`;` isn't known; arguments have a `,` between them
+¦!¦`!` isn't known; a name has letters, digits, `_` and `-`
 ";

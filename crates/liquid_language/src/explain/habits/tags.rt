@@ -26,7 +26,7 @@ pub static ELSE: &str = "\
 /// Before the value of an `assign`.
 pub static SETTING: &str = "\
 ¦==¦`assign` has one `=`
-¦:¦`assign` has a `=` behind the name
+¦:¦`assign` has a `=` after the name
 ";
 
 /// In an `assign`.
@@ -47,8 +47,8 @@ pub static LOOP: &str = "\
 ¦,¦a loop has one name, and no `,` before its parts; a pair of a map is `pair[0]` and `pair[1]`
 each¦¦`for each` is written `for`
 reversed¦:¦`reversed` has no value: write it alone
-:¦%}¦a value is wanted behind `:`, as `limit: 2`
-:¦-%}¦a value is wanted behind `:`, as `limit: 2`
+:¦%}¦a value is wanted after `:`, as `limit: 2`
+:¦-%}¦a value is wanted after `:`, as `limit: 2`
 limit¦¦a part of a loop has a `:`, as `limit: 2`
 offset¦¦a part of a loop has a `:`, as `offset: 2`
 cols¦¦a part of a loop has a `:`, as `cols: 2`
@@ -59,11 +59,12 @@ cols¦¦a part of a loop has a `:`, as `cols: 2`
 
 /// In `include` and `render`.
 pub static PARTIAL: &str = "\
+¦/¦the name of a partial stands in quotes, as `{% render 'a/b' %}`
 ¦|¦a partial is handed values without filters; `assign` the filtered value before it
-:¦%}¦a value is wanted behind `:`, as `name: value`
-:¦-%}¦a value is wanted behind `:`, as `name: value`
-¦,¦no `,` stands here; an `include` has none behind the partial's name
-¦=¦a value stands behind a `:`, as `name: value`
+:¦%}¦a value is wanted after `:`, as `name: value`
+:¦-%}¦a value is wanted after `:`, as `name: value`
+¦,¦no `,` stands here; an `include` has none after the partial's name
+¦=¦a value follows a `:`, as `name: value`
 ignore¦¦a partial that is missing is a fault; leave `ignore missing` out
 with¦¦`with` is written `{% render 'name' with value as name %}`
 for¦¦`for` is written `{% render 'name' for list as name %}`

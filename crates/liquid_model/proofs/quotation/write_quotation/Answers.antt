@@ -4,7 +4,7 @@ use Rattle.std.specs.Fmt.{HasWritten}
 use Rattle.std.specs.Str.{chars}
 use Rattle.std.proofs.lemmas.Grind.{put_two}
 use Rattle.std.proofs.lemmas.Str.{IsUtf8-past_char}
-use Rattle.liquid_model.specs.Quotes.{quoted, shown}
+use Rattle.liquid_model.specs.Quotes.{quoted, character_shown}
 use Rattle.liquid_model.proofs.Quotes.{quoted_stop, quoted_turn, quoted_end}
 use Rattle.liquid_model.proofs.quotation.write_quotation.Goals as goal
 
@@ -24,9 +24,9 @@ loop-letter-preserved g c =
           let rest = c.next.new.self.rest.now in
           let left = c.loop-letter.left - c.cost-cost.result in
           let one = c.in_ok-write_shown.ensures before.1.plain (search rules) in (
-            before.0 ++ shown c.in-Some.letter,
-            put_two _ _ _ _ before.0 (shown c.in-Some.letter) _ before.1 one refl,
-            append_assoc before.0 (shown c.in-Some.letter) (quoted left (chars rest))
+            before.0 ++ character_shown c.in-Some.letter,
+            put_two _ _ _ _ before.0 (character_shown c.in-Some.letter) _ before.1 one refl,
+            append_assoc before.0 (character_shown c.in-Some.letter) (quoted left (chars rest))
                 ∙ ap (λ t. before.0 ++ t) (sym (quoted_turn c.loop-letter.left c.cost-cost.result c.in-Some.letter _ _ c.loop-letter.invariant.0 step c.cost-cost.ensures (omega (arith, c.if-left-cost.false))))
                 ∙ before.2,
           ),

@@ -48,12 +48,13 @@ fn reversed(alloc: Global, items: &[Value]) -> Result<Vec<Value>>
     ensures { IsValueOrMemory (λ v. map view v.items) result
         (reverse (list_of (items_view items.now))) }
 {
-    let mut copies = copied(alloc, items)?;
+    let mut copies = copies_of(alloc, items)?;
     copies.reverse();
     Ok(copies)
 }
 
-fn copied(alloc: Global, items: &[Value]) -> Result<Vec<Value>>
+/// Copies of the items, in their order.
+pub fn copies_of(alloc: Global, items: &[Value]) -> Result<Vec<Value>>
     ensures { IsValueOrMemory (λ v. map view v.items) result (list_of (items_view items.now)) }
 {
     let mut copies = Vec::with_capacity(alloc, items.len())?;
@@ -103,7 +104,7 @@ fn concatenated(alloc: Global, items: &[Value], more: &[Value]) -> Result<Vec<Va
     ensures { IsValueOrMemory (λ v. map view v.items) result (list_of (items_view items.now) ++
         list_of (items_view more.now)) }
 {
-    let mut copies = copied(alloc, items)?;
+    let mut copies = copies_of(alloc, items)?;
     push_copies(&mut copies, more, alloc)?;
     Ok(copies)
 }

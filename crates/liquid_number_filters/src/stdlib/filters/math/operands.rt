@@ -9,7 +9,7 @@ ghost use Rattle.liquid_number_filters.specs.Numbers.{operands, is_numeric, unli
 
 use super::decimal::Decimal;
 use liquid_core::{Error, ErrorKind, Quoted, Result, Value};
-use liquid_filter_base::{invalid_argument, invalid_input, kind_name};
+use liquid_filter_base::{FoundValue, invalid_argument, invalid_input};
 use std::alloc::Global;
 
 /// Whether the value is a decimal text.
@@ -69,11 +69,11 @@ fn unlike(alloc: Global, input: &Value, operand: &Value) -> Error
     if is_numeric(input) {
         return invalid_argument(alloc, "a whole number", operand);
     }
-    let found_kind = kind_name(input);
+    let found = FoundValue { value: input };
     Error::formatted(
         alloc,
         ErrorKind::InvalidArgument,
-        format_args!("the input must be a number, not {found_kind}"),
+        format_args!("the input must be a number, not {found}"),
     )
 }
 

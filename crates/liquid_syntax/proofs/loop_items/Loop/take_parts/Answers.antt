@@ -1,6 +1,6 @@
 use Rattle.std.proofs.Common.{sym, ap, ◌∙◌}
 use Rattle.liquid_lexer.specs.Tokens.{tokens_view}
-use Rattle.liquid_syntax.specs.Loops.{parts_in, part_view, settled_of}
+use Rattle.liquid_syntax.specs.Loops.{parts_in, part_view, parts_after}
 use Rattle.liquid_syntax.proofs.ChainCalls.{faulted}
 use Rattle.liquid_syntax.proofs.ItemLaws.{no_part_more, no_part_there, nothing_seen, one_part_more}
 use Rattle.liquid_syntax.proofs.loop_items.Loop.take_parts.Goals as goal
@@ -19,7 +19,7 @@ parts-preserved c =
     record {
       read = l.invariant.read
           ∙ one_part_more c.args.kind (parts_in l.self) (tokens_view l.items.items) (part_view c.in-Some.part) left (nothing_seen l.items.items _ (sym c.is_over.ensures ∙ c.parts-test.true)) (sym c.in-Some.ensures.value)
-          ∙ ap (λ ps. settled_of c.args.kind ps left) (sym c.set.ensures.parts);
+          ∙ ap (λ ps. parts_after c.args.kind ps left) (sym c.set.ensures.parts);
       same = (c.set.ensures.rest.0 ∙ l.invariant.same.0, c.set.ensures.rest.1 ∙ l.invariant.same.1);
     }
 

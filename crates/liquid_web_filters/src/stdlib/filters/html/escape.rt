@@ -4,7 +4,7 @@ ghost use Rattle.std.specs.Prelude.{None, length, map, nat_eq, option_map, slice
 ghost use Rattle.std.specs.Prelude.{string_bytes, take};
 ghost use Rattle.liquid_model.specs.Answer.{IsValueOrMemory, Answers};
 ghost use Rattle.liquid_web_filters.specs.Escapes.{ends_escape, escape_answer, escape_of};
-ghost use Rattle.liquid_web_filters.specs.Escapes.{escape_once_answer, escaped, escaped_once};
+ghost use Rattle.liquid_web_filters.specs.Escapes.{escape_once_answer, escaped_bytes, escaped_once};
 ghost use Rattle.liquid_web_filters.specs.Escapes.{once_byte};
 ghost use Rattle.liquid_model.specs.View.{view};
 ghost use Rattle.liquid_filter_base.specs.Stands.{Stands};
@@ -87,7 +87,7 @@ fn escape_once_answer(alloc: Global, input: &Value, _args: &[Value]) -> Result<V
 }
 
 fn escaped(alloc: Global, text: &str) -> Result<String>
-    ensures { IsValueOrMemory (λ s. string_bytes s) result (escaped text.now) }
+    ensures { IsValueOrMemory (λ s. string_bytes s) result (escaped_bytes text.now) }
 {
     let mut out = String::with_capacity(alloc, text.len())?;
     let mut rest = text;

@@ -8,5 +8,5 @@ use Rattle.liquid_jekyll_shopify_filters.proofs.jekyll.array.ends.popped.Goals a
 
 pub returns-in-Some : goal.returns-in-Some
 returns-in-Some c =
-    subst (λ (w : List Datum). IsValueOrMemory (λ (v : Vec Value Global). map view v.items) c.copied.result w)
-    (popped_is c.args.items.now c.in-Some.rest.now c.in-Some._last.now c.in-Some.ensures.cases.0) c.copied.ensures
+    subst (λ (w : List Datum). IsValueOrMemory (λ (v : Vec Value Global). map view v.items) c.copies_of.result w)
+    (popped_is c.args.items.now c.in-Some.rest.now c.in-Some._last.now c.in-Some.ensures.cases.0) c.copies_of.ensures

@@ -1,0 +1,152 @@
+"""Filters of the caller's: functions in Python, and the tables of their answers that the library renders with."""
+from __future__ import annotations
+
+import inspect
+import json
+import threading
+from typing import Any, Callable, Dict, List, Optional, Tuple
+
+from ._library import library
+from ._owner import TEXT, Owner, utf8
+from ._values import Conversions, encoded
+from .errors import INVALID_INPUT, LACKING, LimitError, LiquidError, refused
+
+Function = Callable[..., Any]
+# how many answers a table holds before another one is begun
+_ANSWERS = 10_000
+# how much of what an error says goes into the message of a fault
+_SHOWN = 300
+_ANY_NUMBER = 2**32
+
+
+class Table(Owner):
+    """Answers of filters, each to one input and its arguments."""
+
+    def __init__(self, names: List[str], version: int) -> None:
+        super().__init__()
+        self.version = version
+        self.answers = 0
+        self._need(library.bikleinu_answers(self._handle))
+        for name in names:
+            text = utf8(name)
+            self._need(library.bikleinu_answers_filter(self._handle, text, len(text)))
+
+    def put(self, calls: Owner, number: int, answer: bytes) -> None:
+        """Puts in the answer to a call, which is the member "answer" of a text of JSON."""
+        data = Owner()
+        data._need(library.bikleinu_data(answer, len(answer), data._handle))
+        self._settle(library.bikleinu_answer(self._handle, calls._handle, number, data._handle))
+
+    def refuse(self, calls: Owner, number: int, message: str) -> None:
+        """Puts in a fault as the answer to a call."""
+        text = utf8(message)
+        self._settle(library.bikleinu_refuse(self._handle, calls._handle, number, INVALID_INPUT, text, len(text)))
+
+    def _settle(self, number: int) -> None:
+        if number:
+            raise refused(number)
+        self.answers += 1
+
+
+class _Tables(threading.local):
+    table: Optional[Table] = None
+
+
+class Filters:
+    """Functions by their names. Each thread has a table of its own, so that no two wait for each other."""
+
+    def __init__(self) -> None:
+        self.functions: Dict[str, Function] = {}
+        self._version = 0
+        self._tables = _Tables()
+
+    def __reduce__(self) -> Any:
+        return _filters, (self.functions,)
+
+    def add(self, name: str, function: Function) -> None:
+        """Adds a function, in place of the one of that name."""
+        self.functions[name] = function
+        self._version += 1
+
+    def table(self) -> Table:
+        """This thread's table, which is begun anew where it holds much, or answers of a function that was replaced."""
+        table = self._tables.table
+        if table is None or table.version != self._version or table.answers > _ANSWERS:
+            table = self._tables.table = Table(list(self.functions), self._version)
+        return table
+
+    def forget(self) -> None:
+        """Begins this thread's table anew."""
+        self._tables.table = None
+
+
+def _filters(functions: Dict[str, Function]) -> Filters:
+    made = Filters()
+    for name, function in functions.items():
+        made.add(name, function)
+    return made
+
+
+def arity(function: Function) -> Tuple[int, int]:
+    """How many arguments beside its input a function takes by their places: at least, and at most."""
+    by_place = (inspect.Parameter.POSITIONAL_ONLY, inspect.Parameter.POSITIONAL_OR_KEYWORD)
+    try:
+        taken = inspect.signature(function).parameters.values()
+    except ValueError:
+        return 0, _ANY_NUMBER  # a function in C that doesn't say
+    places = [it for it in taken if it.kind in by_place]
+    takes_any = any(it.kind is inspect.Parameter.VAR_POSITIONAL for it in taken)
+    if not places and not takes_any:
+        raise TypeError("a filter's function takes its input by its place, and then its arguments")
+    least = sum(it.default is inspect.Parameter.empty for it in places)
+    return max(least - 1, 0), _ANY_NUMBER if takes_any else len(places) - 1
+
+
+class Run:
+    """A page in the making: rounds of a run and of the calls that it lacks, with the errors that the functions raised."""
+
+    def __init__(self, filters: Filters, how: Conversions, most: int) -> None:
+        self.filters, self.how, self.most = filters, how, most
+        self.errors: Dict[str, BaseException] = {}
+
+    def page(self, render: Callable[[Owner, Table], int]) -> Tuple[int, Owner]:
+        """The number that a run ended by, and its page, when each call that it lacked is answered."""
+        table = self.filters.table()
+        for asked in range(self.most + 1):
+            page = Owner()
+            answer = render(page, table)
+            if answer != LACKING:
+                return answer, page
+            if asked < self.most:
+                self._answer_all(table, page)
+        told = f"the page still lacks answers of its filters after {self.most} rounds of calls; max_rounds= allows more"
+        raise LimitError(LACKING, "RoundsReached", told, text="")
+
+    def _answer_all(self, table: Table, calls: Owner) -> None:
+        for number, (name, value, *arguments) in enumerate(json.loads(calls._part(TEXT))):
+            try:
+                answer = encoded({"answer": self.filters.functions[name](value, *arguments)}, self.how)
+            except Exception as error:
+                message = _told(error)
+                self.errors[message] = error
+                table.refuse(calls, number, message)
+            else:
+                table.put(calls, number, answer)
+
+    def end(self) -> None:
+        """What a function refused is asked again by the next page."""
+        if self.errors:
+            self.filters.forget()
+
+    def explain(self, fault: LiquidError | None) -> None:
+        """Gives a fault the error that it comes of as its cause."""
+        found = [message for message in self.errors if fault and fault.message and message in fault.message]
+        if fault and found:
+            fault.__cause__ = self.errors[max(found, key=len)]
+
+
+def _told(error: Exception) -> str:
+    """What an error says, on one line."""
+    said = " ".join(str(error).split())
+    said = "".join(it if it.isprintable() else "?" for it in said[:_SHOWN])
+    return f"{type(error).__name__}: {said}" if said else type(error).__name__

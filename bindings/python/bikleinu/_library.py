@@ -1,0 +1,70 @@
+"""The library for C: where it is found, and its calls."""
+from __future__ import annotations
+
+import ctypes
+import os
+
+_HERE = os.path.dirname(os.path.abspath(__file__))
+_PLACES = [os.path.join(_HERE, "libbikleinu.so"), os.path.join(_HERE, "..", "..", "out", "libbikleinu.so")]
+
+
+class Handle(ctypes.Structure):
+    """A place that holds nothing, or owns what lies behind it."""
+
+    _fields_ = [("there", ctypes.c_bool), ("at", ctypes.c_void_p)]
+
+
+class Limits(ctypes.Structure):
+    """What a run is allowed. A 0 stands for what is usual."""
+
+    _fields_ = [("levels", ctypes.c_uint32), ("bytes", ctypes.c_uint64), ("turns", ctypes.c_uint64)]
+
+
+def _path() -> str:
+    """The path of the library: what BIKLEINU_LIBRARY says, beside this file, or where bindings/build puts it."""
+    named = os.environ.get("BIKLEINU_LIBRARY")
+    if named:
+        return named
+    for place in _PLACES:
+        if os.path.exists(place):
+            return place
+    raise ImportError(
+        "the library libbikleinu.so isn't there: run bindings/build at the top of the repository, install the wheel, or "
+        "let the variable BIKLEINU_LIBRARY name it"
+    )
+
+
+def _loaded() -> ctypes.CDLL:
+    path = _path()
+    try:
+        library = ctypes.CDLL(path)
+    except OSError as error:
+        raise ImportError(f"the library at {path} can't be loaded: {error}") from error
+    handle, text, size, number = ctypes.POINTER(Handle), ctypes.c_char_p, ctypes.c_size_t, ctypes.c_uint32
+    calls = {
+        "language": ([handle], number),
+        "jekyll_language": ([handle], number),
+        "register": ([handle, text, size, size, size], number),
+        "parse": ([handle, text, size, handle], number),
+        "data": ([text, size, handle], number),
+        "partials": ([handle], number),
+        "insert": ([handle, text, size, handle], number),
+        "render_within": ([handle, handle, handle, number, ctypes.POINTER(Limits), handle], number),
+        "names": ([handle, handle, handle], number),
+        "answers": ([handle], number),
+        "answers_filter": ([handle, text, size], number),
+        "render_with": ([handle, handle, handle, number, ctypes.POINTER(Limits), handle, handle], number),
+        "answer": ([handle, handle, size, handle], number),
+        "refuse": ([handle, handle, size, number, text, size], number),
+        "length": ([handle, number], size),
+        "copy": ([handle, number, text, size], size),
+        "location": ([handle, ctypes.POINTER(size), ctypes.POINTER(size)], number),
+        "free": ([handle], None),
+    }
+    for name, (takes, gives) in calls.items():
+        call = getattr(library, f"bikleinu_{name}")
+        call.argtypes, call.restype = takes, gives
+    return library
+
+
+library = _loaded()

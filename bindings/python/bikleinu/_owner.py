@@ -1,0 +1,103 @@
+"""What lies behind a handle of the library's, and what is read there."""
+from __future__ import annotations
+
+import ctypes
+import operator
+import threading
+from typing import Any, NoReturn
+
+from ._library import Handle, library
+from .errors import LIMITS, MESSAGES, NAMES, LimitError, LiquidError, Place
+
+TEXT, MESSAGE, NAME, PARTIAL = range(4)
+_ORIGINS = {1: "template", 2: "partial", 3: "data"}
+
+
+class Owner:
+    """What lies behind a handle, with the lock that keeps it to one call at a time. It is freed with this object."""
+
+    def __init__(self) -> None:
+        self._handle = Handle()
+        self._lock = threading.Lock()
+
+    def __del__(self, free: Any = library.bikleinu_free) -> None:
+        if hasattr(self, "_handle"):
+            free(self._handle)
+
+    def __reduce__(self) -> Any:
+        self._uncopied()
+
+    def _uncopied(self) -> NoReturn:
+        raise TypeError(f"a {type(self).__name__} can't be copied or pickled: share it, or make another")
+
+    def _part(self, part: int) -> str:
+        length = library.bikleinu_length(self._handle, part)
+        if not length:
+            return ""
+        room = ctypes.create_string_buffer(length)
+        library.bikleinu_copy(self._handle, part, room, length)
+        return room.raw.decode()
+
+    def _place(self, partial: str | None) -> Place | None:
+        line, column = ctypes.c_size_t(), ctypes.c_size_t()
+        origin = _ORIGINS.get(library.bikleinu_location(self._handle, line, column))
+        if origin is None:
+            return None
+        if origin == "template" and partial is not None:
+            return Place("partial", line.value, column.value, partial)
+        return Place(origin, line.value, column.value, self._part(PARTIAL) if origin == "partial" else None)
+
+    def _error(self, number: int, partial: str | None = None, text: str | None = None) -> LiquidError:
+        """The error of a call that answered the number and put its fault here."""
+        if number in LIMITS:
+            return LimitError(number, *LIMITS[number], self._place(partial), text)
+        name = self._part(NAME) or NAMES.get(number, str(number))
+        return LiquidError(number, name, self._part(MESSAGE) or MESSAGES.get(number), self._place(partial), text)
+
+    def _need(self, number: int, partial: str | None = None) -> None:
+        if number:
+            raise self._error(number, partial)
+
+
+class locked:
+    """All of these are kept for this thread. They are locked in one order everywhere, so that no two threads wait for each other."""
+
+    def __init__(self, *owners: Owner) -> None:
+        self._locks = [owner._lock for owner in sorted(set(owners), key=id)]
+        self._count = 0
+
+    def __enter__(self) -> None:
+        try:
+            for lock in self._locks:
+                lock.acquire()
+                self._count += 1
+        except BaseException:
+            self.__exit__()
+            raise
+
+    def __exit__(self, *_: object) -> None:
+        while self._count:
+            self._count -= 1
+            self._locks[self._count].release()
+
+
+def checked(value: Any, wanted: str) -> Any:
+    """The value, which is one of this package's objects."""
+    if not isinstance(value, Owner):
+        raise TypeError(f"{wanted} wanted, not {type(value).__name__}")
+    return value
+
+
+def utf8(text: str) -> bytes:
+    """The text as UTF-8. Half a pair of UTF-16, which Python's texts may hold, stays as bytes that the library refuses."""
+    if not isinstance(text, str):
+        raise TypeError(f"a str is wanted, not {type(text).__name__}")
+    return text.encode("utf-8", "surrogatepass")
+
+
+def whole(name: str, value: int, least: int = 0, most: int = 2**32 - 1) -> int:
+    """The value, which is a whole number in these bounds: TypeError or ValueError where it isn't."""
+    number = operator.index(value)
+    if not least <= number <= most:
+        raise ValueError(f"{name} is {number}, and {least} to {most} is wanted")
+    return number

@@ -1,0 +1,63 @@
+"""Data for templates."""
+from __future__ import annotations
+
+from collections.abc import Callable, Mapping
+from datetime import tzinfo
+from typing import Any, Union
+from typing import Mapping as AnyMapping
+
+from ._library import library
+from ._owner import Owner, utf8
+from ._values import Conversions, encoded
+
+# what stands for data in a call
+Facts = Union["Data", AnyMapping[str, Any], str, None]
+
+
+class Data(Owner):
+    """Data that is read once and rendered by any number of templates: a mapping that JSON can hold, or a text of JSON.
+
+        >>> import bikleinu
+        >>> shared = bikleinu.Data({"shop": "Bay"})
+        >>> bikleinu.Template("{{ shop }}!").render(shared)
+        'Bay!'
+
+    A value that JSON doesn't have raises a DataError with its path. decimals="text" makes texts of floats and Decimals, dates=True the texts
+    that the filter `date` reads of days and of datetimes with a time zone, and dates=ZONE also of those without one. default= is
+    called with any other value, and answers one to take in its place.
+    """
+
+    def __init__(
+        self,
+        data: Mapping[str, Any] | str,
+        *,
+        decimals: str | None = None,
+        dates: bool | tzinfo = False,
+        default: Callable[[Any], Any] | None = None,
+    ) -> None:
+        super().__init__()
+        self._read(data, Conversions(decimals, dates, default))
+
+    def _read(self, data: Mapping[str, Any] | str, how: Conversions) -> None:
+        text = utf8(data) if isinstance(data, str) else encoded(data, how)
+        self._need(library.bikleinu_data(text, len(text), self._handle))
+
+    @classmethod
+    def _of(cls, data: Mapping[str, Any] | str, how: Conversions) -> Data:
+        made = cls.__new__(cls)
+        Owner.__init__(made)
+        made._read(data, how)
+        return made
+
+
+def data_of(data: Facts, names: Mapping[str, Any], how: Conversions) -> Owner:
+    """The data of a call, with names on top. A handle that holds nothing stands for none."""
+    if not names:
+        if data is None:
+            return Owner()
+        return data if isinstance(data, Data) else Data._of(data, how)
+    if data is None:
+        return Data._of(names, how)
+    if not isinstance(data, Mapping):
+        raise TypeError(f"names beside a {type(data).__name__}: names go with a mapping or alone")
+    return Data._of({**data, **names}, how)

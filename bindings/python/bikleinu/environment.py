@@ -1,0 +1,124 @@
+"""Environments: what many templates share."""
+from __future__ import annotations
+
+import os
+import threading
+from collections.abc import Callable, Mapping
+from dataclasses import replace
+from datetime import tzinfo
+from typing import Any, Union
+
+from ._filters import Function
+from ._owner import whole
+from ._settings import Settings
+from ._values import Conversions
+from .data import Data
+from .language import Called, Language
+from .partials import Partials
+from .template import Template
+
+
+class Environment:
+    """What templates share: partials, limits, and what becomes of values that JSON doesn't have.
+
+        >>> import bikleinu
+        >>> environment = bikleinu.Environment(partials={"end": " yours, {{ from }}."}, decimals="text")
+        >>> environment.from_string("{{ price }},{% include 'end' %}").render(price=1.5, **{"from": "B"})
+        '1.5, yours, B.'
+
+    partials is a mapping from names to sources, Partials, or the path of a folder, of which each file is a partial (as of
+    Partials.from_folder). depth, levels, max_bytes and max_turns are as of Template.page, decimals, dates and default as of Data.
+
+    filters are functions in Python by their names (as of Language.add_filter); a page asks them in at most max_rounds rounds. jekyll
+    is as of Language. missing is called with each name that a template mentions and its data, a mapping, lacks, and answers the
+    value to take: missing=lambda name: None lets them be nil. The partials are parsed with the first template, so filters that are
+    added until then are known to them.
+
+    An environment can be pickled where its functions can, and its templates with it.
+    """
+
+    def __init__(
+        self,
+        *,
+        partials: Union[Partials, Mapping[str, str], str, "os.PathLike[str]", None] = None,
+        filters: Mapping[str, Function] | None = None,
+        missing: Callable[[str], Any] | None = None,
+        jekyll: bool = False,
+        depth: int = 32,
+        levels: int | None = None,
+        max_bytes: int | None = None,
+        max_turns: int | None = None,
+        max_rounds: int = 100,
+        decimals: str | None = None,
+        dates: bool | tzinfo = False,
+        default: Callable[[Any], Any] | None = None,
+    ) -> None:
+        bounds = {"levels": levels, "max_bytes": max_bytes, "max_turns": max_turns}
+        for name, value in bounds.items():
+            if value is not None:
+                whole(name, value, 1, 2**32 - 1 if name == "levels" else 2**64 - 1)
+        self._language = Language(jekyll=jekyll, filters=filters)
+        self._given = _checked(partials)
+        how = Conversions(decimals, dates, default)
+        rounds = whole("max_rounds", max_rounds, 1)
+        self._usual = Settings(None, whole("depth", depth), levels, max_bytes, max_turns, rounds, missing, how)
+        self._settings: Settings | None = None
+        self._templates: dict[str, Template] = {}
+        self._lock = threading.Lock()
+
+    def _with_partials(self) -> Settings:
+        """The settings of its templates, with the partials, which are parsed at first."""
+        with self._lock:
+            if self._settings is None:
+                given = self._given
+                if isinstance(given, (str, os.PathLike)):
+                    given = Partials.from_folder(given, self._language)
+                elif not isinstance(given, Partials):
+                    given = Partials(given, self._language)
+                self._settings = replace(self._usual, partials=given)
+            return self._settings
+
+    @property
+    def partials(self) -> Partials:
+        """The partials, for more to be inserted."""
+        made = self._with_partials().partials
+        assert made is not None
+        return made
+
+    def filter(self, name: str | None = None) -> Callable[[Called], Called]:
+        """Makes a filter of the function that follows, under this name or its own, for what is parsed from now on."""
+        return self._language.filter(name)
+
+    def from_string(self, source: str) -> Template:
+        """The template of a source."""
+        return Template._of(source, self._language, self._with_partials(), self.from_string)
+
+    def get_template(self, name: str) -> Template:
+        """The partial of this name, as a template. LookupError where there is none."""
+        source = self.partials.source(name)
+        made = self._templates.get(name)
+        if made is None or made.source is not source:
+            made = self._templates[name] = self.from_string(source)
+        return made
+
+    def data(self, data: Mapping[str, Any] | str) -> Data:
+        """Data that is read once, by the conversions of this environment, for any number of its templates."""
+        return Data._of(data, self._usual.how)
+
+    def __reduce__(self) -> Any:
+        usual, how = self._usual, self._usual.how
+        named = {"partials": self.partials, "filters": self._language._filters.functions, "jekyll": self._language._jekyll}
+        named.update(missing=usual.missing, depth=usual.depth, levels=usual.levels, max_bytes=usual.max_bytes)
+        named.update(max_turns=usual.max_turns, max_rounds=usual.max_rounds)
+        named.update(decimals=how.decimals, dates=how.dates, default=how.default)
+        return _environment, (named,)
+
+
+def _environment(named: dict[str, Any]) -> Environment:
+    return Environment(**named)
+
+
+def _checked(partials: Any) -> Any:
+    if partials is not None and not isinstance(partials, (Partials, Mapping, str, os.PathLike)):
+        raise TypeError(f"partials is a {type(partials).__name__}, and a mapping, Partials or a folder's path is wanted")
+    return partials

@@ -1,0 +1,88 @@
+"""Languages, and what is parsed in them."""
+from __future__ import annotations
+
+import threading
+from collections.abc import Callable, Mapping
+from typing import Any, TypeVar
+
+from ._filters import Filters, Function, arity
+from ._library import library
+from ._owner import Owner, locked, utf8
+from .errors import refused
+
+# a function that a decorator hands back as it is
+Called = TypeVar("Called", bound=Function)
+
+
+class Language(Owner):
+    """The standard language: its tags, blocks and filters. With jekyll=True it has the tag include and the filter sort of Jekyll in
+    place of the standard ones. filters are functions in Python by their names, which templates call as any other."""
+
+    def __init__(self, *, jekyll: bool = False, filters: Mapping[str, Function] | None = None) -> None:
+        super().__init__()
+        self._jekyll, self._filters = bool(jekyll), Filters()
+        self._need((library.bikleinu_jekyll_language if jekyll else library.bikleinu_language)(self._handle))
+        for name, function in (filters or {}).items():
+            self.add_filter(name, function)
+
+    def filter(self, name: str | None = None) -> Callable[[Called], Called]:
+        """Makes a filter of the function that follows, under this name or its own:
+
+            >>> import bikleinu
+            >>> language = bikleinu.Language()
+            >>> @language.filter("money")
+            ... def money(cents, currency="EUR"):
+            ...     return f"{cents // 100}.{cents % 100:02} {currency}"
+            >>> bikleinu.Template("{{ 1999 | money }}", language).render()
+            '19.99 EUR'
+        """
+
+        def add(function: Called) -> Called:
+            self.add_filter(function.__name__ if name is None else name, function)
+            return function
+
+        return add
+
+    def add_filter(self, name: str, function: Function) -> None:
+        """Adds a filter, in place of any other of that name, for what is parsed from now on.
+
+        The function gets the input and then the arguments, as JSON has them, and answers what JSON has. It is to be a function of
+        these alone: it is called before the page is rendered, possibly for a call that the page doesn't come to, and its answer is
+        kept for further pages. What it raises ends a page that makes the call, by a fault whose __cause__ is the error."""
+        least, most = arity(function)
+        text = utf8(name)
+        with locked(self):
+            answer = library.bikleinu_register(self._handle, text, len(text), least, most)
+            if answer:
+                raise refused(answer)
+            self._filters.add(name, function)
+
+    def __reduce__(self) -> Any:
+        return _language, (self._jekyll, self._filters.functions)
+
+
+def _language(jekyll: bool, filters: Mapping[str, Function]) -> Language:
+    return Language(jekyll=jekyll, filters=filters)
+
+
+class _Shared(threading.local):
+    language: Language | None = None
+
+
+_shared = _Shared()
+
+
+def standard() -> Language:
+    """This thread's standard language."""
+    if _shared.language is None:
+        _shared.language = Language()
+    return _shared.language
+
+
+def parse(source: str, language: Language | None, made: Owner, partial: str | None = None) -> None:
+    """Puts the template of a source, which is that of a partial of this name, behind a handle."""
+    text = utf8(source)
+    language = language or standard()
+    with locked(language):
+        answer = library.bikleinu_parse(language._handle, text, len(text), made._handle)
+    made._need(answer, partial)

@@ -1,0 +1,141 @@
+//! The calls of the library for C, and what lies behind a handle.
+use crate::error::{call_refused, LiquidError, Location, Origin, BYTES_REACHED, TURNS_REACHED};
+use std::cell::UnsafeCell;
+use std::ffi::c_void;
+
+/// A place that holds nothing, or owns what lies behind it.
+#[repr(C)]
+pub(crate) struct Handle {
+    there: bool,
+    at: *mut c_void,
+}
+
+/// What a run is allowed. A 0 stands for what is usual.
+#[repr(C)]
+#[derive(Clone, Copy, Debug, Default, PartialEq, Eq)]
+pub(crate) struct RawLimits {
+    pub(crate) levels: u32,
+    pub(crate) bytes: u64,
+    pub(crate) turns: u64,
+}
+
+extern "C" {
+    pub(crate) fn bikleinu_language(made: *mut Handle) -> u32;
+    pub(crate) fn bikleinu_parse(language: *mut Handle, source: *const u8, length: usize, made: *mut Handle) -> u32;
+    pub(crate) fn bikleinu_data(json: *const u8, length: usize, made: *mut Handle) -> u32;
+    pub(crate) fn bikleinu_partials(made: *mut Handle) -> u32;
+    pub(crate) fn bikleinu_insert(partials: *mut Handle, name: *const u8, length: usize, template: *mut Handle) -> u32;
+    pub(crate) fn bikleinu_render_within(
+        template: *mut Handle,
+        data: *mut Handle,
+        partials: *mut Handle,
+        depth: u32,
+        limits: *const RawLimits,
+        page: *mut Handle,
+    ) -> u32;
+    pub(crate) fn bikleinu_jekyll_language(made: *mut Handle) -> u32;
+    pub(crate) fn bikleinu_register(language: *mut Handle, name: *const u8, length: usize, least: usize, most: usize) -> u32;
+    pub(crate) fn bikleinu_names(template: *mut Handle, partials: *mut Handle, made: *mut Handle) -> u32;
+    pub(crate) fn bikleinu_answers(made: *mut Handle) -> u32;
+    pub(crate) fn bikleinu_answers_filter(answers: *mut Handle, name: *const u8, length: usize) -> u32;
+    pub(crate) fn bikleinu_render_with(
+        template: *mut Handle,
+        data: *mut Handle,
+        partials: *mut Handle,
+        depth: u32,
+        limits: *const RawLimits,
+        answers: *mut Handle,
+        page: *mut Handle,
+    ) -> u32;
+    pub(crate) fn bikleinu_answer(answers: *mut Handle, calls: *mut Handle, number: usize, data: *mut Handle) -> u32;
+    pub(crate) fn bikleinu_refuse(
+        answers: *mut Handle,
+        calls: *mut Handle,
+        number: usize,
+        kind: u32,
+        message: *const u8,
+        length: usize,
+    ) -> u32;
+    fn bikleinu_length(handle: *mut Handle, part: u32) -> usize;
+    fn bikleinu_copy(handle: *mut Handle, part: u32, into: *mut u8, room: usize) -> usize;
+    fn bikleinu_location(handle: *mut Handle, line: *mut usize, column: *mut usize) -> u32;
+    fn bikleinu_free(handle: *mut Handle);
+}
+
+pub(crate) const TEXT: u32 = 0;
+const MESSAGE: u32 = 1;
+const NAME: u32 = 2;
+const PARTIAL: u32 = 3;
+
+/// What lies behind a handle, which is freed with it.
+///
+/// A call may change a handle while it runs, also one that it only reads. So an owner isn't shared by threads, and no call begins in
+/// one thread while another of the same handle runs there: none of them calls back.
+pub(crate) struct Owner(UnsafeCell<Handle>);
+
+// SAFETY: what a handle owns is plain data of its own, on the heap of the C library. It refers to nothing that stays behind in a
+// thread.
+unsafe impl Send for Owner {}
+
+impl Owner {
+    pub(crate) fn new() -> Owner {
+        Owner(UnsafeCell::new(Handle { there: false, at: std::ptr::null_mut() }))
+    }
+
+    pub(crate) fn at(&self) -> *mut Handle {
+        self.0.get()
+    }
+
+    pub(crate) fn part(&self, part: u32) -> String {
+        // SAFETY: the handle is this owner's, and the bytes have the room that is told.
+        let bytes = unsafe {
+            let mut bytes = vec![0; bikleinu_length(self.at(), part)];
+            let count = bikleinu_copy(self.at(), part, bytes.as_mut_ptr(), bytes.len());
+            bytes.truncate(count);
+            bytes
+        };
+        String::from_utf8_lossy(&bytes).into_owned()
+    }
+
+    fn location(&self) -> Option<Location> {
+        let (mut line, mut column) = (0, 0);
+        let (at_line, at_column) = (std::ptr::addr_of_mut!(line), std::ptr::addr_of_mut!(column));
+        // SAFETY: the handle is this owner's, and the other two are places for a number.
+        let origin = match unsafe { bikleinu_location(self.at(), at_line, at_column) } {
+            1 => Origin::Template,
+            2 => Origin::Partial(self.part(PARTIAL)),
+            3 => Origin::Data,
+            _ => return None,
+        };
+        Some(Location { origin, line, column })
+    }
+
+    fn name(&self, number: u32) -> String {
+        match number {
+            BYTES_REACHED => "BytesReached".to_owned(),
+            TURNS_REACHED => "TurnsReached".to_owned(),
+            _ => self.part(NAME),
+        }
+    }
+
+    /// The fault of a call that answered the number and put it here.
+    pub(crate) fn fault(&self, number: u32) -> LiquidError {
+        call_refused(number)
+            .unwrap_or_else(|| LiquidError::new(number, self.name(number), self.part(MESSAGE), self.location()))
+    }
+
+    /// The same, where the call that made it answered that all is well.
+    pub(crate) fn settled(self, number: u32) -> Result<Owner, LiquidError> {
+        match number {
+            0 => Ok(self),
+            _ => Err(self.fault(number)),
+        }
+    }
+}
+
+impl Drop for Owner {
+    fn drop(&mut self) {
+        // SAFETY: the handle is this owner's, and is never used again.
+        unsafe { bikleinu_free(self.at()) }
+    }
+}

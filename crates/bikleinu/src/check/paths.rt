@@ -1,0 +1,161 @@
+//! The files that a call of `check` names.
+use super::call::CheckCall;
+use crate::folder::{files_below, joined, without_suffix};
+use crate::stop::Stop;
+use std::alloc::{AllocError, Global};
+use std::collections::BTreeMap;
+use std::fs;
+
+/// A file to check.
+#[derive(Drop)]
+pub struct CheckedPath {
+    pub path: String,
+    /// Whether it was found in a folder, so that it may be no text.
+    pub is_found: bool,
+    /// Whether it is a template of its own, also where no other runs it.
+    pub is_page: bool,
+}
+
+/// The files to check, each once, and the names of those that are partials.
+#[derive(Drop)]
+pub struct Paths {
+    pub files: Vec<CheckedPath>,
+    /// Each name of a partial, with the place of its file. Of one name the later counts.
+    pub partials: Vec<(String, usize)>,
+    /// How many words name nothing that can be read.
+    pub unread: usize,
+    /// The place of each path.
+    places: BTreeMap<String, usize>,
+}
+
+/// The files that a call names, and the partials, which are checked too. A word that names nothing
+/// that can be read is reported, and so is an empty folder.
+pub fn checked_paths(rt: &HostRuntime, call: &CheckCall<'_>) -> Result<Paths, Stop> {
+    let mut paths = Paths {
+        files: Vec::new(rt.alloc()),
+        partials: Vec::new(rt.alloc()),
+        unread: 0,
+        places: BTreeMap::new(rt.alloc()),
+    };
+    for word in &call.paths {
+        paths.add_word(rt, word)?;
+    }
+    for word in &call.partials {
+        paths.add_partials(rt, word, is_inside(word, &call.paths))?;
+    }
+    Ok(paths)
+}
+
+impl Paths {
+    /// Adds a file, or the files below a folder.
+    fn add_word(&mut self, rt: &HostRuntime, word: &str) -> Result<(), Stop> {
+        if !is_folder(rt, word) {
+            let place = self.add_file(rt.alloc(), word, false)?;
+            self.set_page(place, true);
+            return Ok(());
+        }
+        let Some(files) = self.files_of(rt, word)? else {
+            return Ok(());
+        };
+        if files.is_empty() {
+            let _ = eprintln!(rt; "error: {word}: there is no file in this folder");
+            self.unread = self.unread.saturating_add(1);
+        }
+        for file in &files {
+            let path = joined(rt.alloc(), word, file.as_str())?;
+            let place = self.add_file(rt.alloc(), path.as_str(), true)?;
+            self.set_page(place, true);
+        }
+        Ok(())
+    }
+
+    fn set_page(&mut self, place: usize, is_page: bool) {
+        if let Some(file) = self.files.get_mut(place) {
+            file.is_page = is_page;
+        }
+    }
+
+    /// Adds the partials that a word names: NAME=FILE, or the files below a folder. Where that is
+    /// inside a folder of pages, its files are none.
+    fn add_partials(&mut self, rt: &HostRuntime, word: &str, is_inside: bool) -> Result<(), Stop> {
+        if let Some((name, path)) = word.split_once('=') {
+            let place = self.add_file(rt.alloc(), path, false)?;
+            return self.add_name(rt.alloc(), name, place);
+        }
+        let Some(files) = self.files_of(rt, word)? else {
+            return Ok(());
+        };
+        let mut places = Vec::new(rt.alloc());
+        for file in &files {
+            let path = joined(rt.alloc(), word, file.as_str())?;
+            let place = self.add_file(rt.alloc(), path.as_str(), true)?;
+            places.push(place)?;
+            if is_inside {
+                self.set_page(place, false);
+            }
+            if let Some(stem) = without_suffix(file.as_str()) {
+                self.add_name(rt.alloc(), stem, place)?;
+            }
+        }
+        // so that a whole name wins against another one without its suffix
+        for (file, place) in files.iter().zip(&places) {
+            self.add_name(rt.alloc(), file.as_str(), *place)?;
+        }
+        Ok(())
+    }
+
+    /// The files below a folder; none where it can't be read, which is reported.
+    fn files_of(&mut self, rt: &HostRuntime, word: &str) -> Result<Option<Vec<String>>, Stop> {
+        match files_below(rt, word) {
+            Ok(files) => Ok(Some(files)),
+            Err(Stop::Unread(path, reason)) => {
+                Stop::Unread(path, reason).print(rt);
+                self.unread = self.unread.saturating_add(1);
+                Ok(None)
+            }
+            Err(stop) => Err(stop),
+        }
+    }
+
+    /// Adds a file, unless it is there already, and gives its place.
+    fn add_file(&mut self, alloc: Global, word: &str, is_found: bool) -> Result<usize, Stop> {
+        let path = plain(word);
+        if let Some(place) = self.places.get(path) {
+            return Ok(*place);
+        }
+        let place = self.files.len();
+        self.files.push(CheckedPath {
+            path: String::from_str(alloc, word)?,
+            is_found,
+            is_page: false,
+        })?;
+        drop(self.places.insert(String::from_str(alloc, path)?, place)?);
+        Ok(place)
+    }
+
+    fn add_name(&mut self, alloc: Global, name: &str, place: usize) -> Result<(), Stop> {
+        self.partials.push((String::from_str(alloc, name)?, place))?;
+        Ok(())
+    }
+}
+
+/// Whether a folder is inside one of others, and isn't one of them.
+fn is_inside(folder: &str, others: &[&str]) -> bool {
+    others.iter().any(|other| match plain(folder).strip_prefix(plain(other)) {
+        Some(inner) => plain(other).is_empty() || inner.starts_with('/'),
+        None => false,
+    })
+}
+
+/// A path without `./` before it and `/` after it.
+fn plain(path: &str) -> &str {
+    let path = path.trim_start_matches("./").trim_end_matches('/');
+    if path == "." { "" } else { path }
+}
+
+fn is_folder(rt: &HostRuntime, path: &str) -> bool {
+    match fs::metadata(rt, path) {
+        Ok(found) => found.is_dir(),
+        Err(_) => false,
+    }
+}

@@ -1,0 +1,127 @@
+//! Tables of answers.
+ghost use Rattle.std.specs.Prelude.{◌≡◌, [], Err, None, IfErr, OnErr, OnOk, map, option_map};
+ghost use Rattle.std.specs.Prelude.{string_bytes};
+ghost use Rattle.liquid_model.specs.Answer.{Answers as Tells, Faulted, IsValueOrMemory};
+ghost use Rattle.liquid_model.specs.Data.{Datum};
+ghost use Rattle.liquid_model.specs.View.{view};
+ghost use Rattle.liquid_answers.specs.Tables.{IsPut, answer_at, as_fault, call_of, is_named};
+ghost use Rattle.liquid_answers.specs.Tables.{names_of, said_by, with_name};
+
+use liquid_core::{Error, ErrorKind, Result, Value};
+use std::alloc::Global;
+use std::collections::BTreeMap;
+
+/// What a filter answers to a call.
+#[derive(Drop)]
+pub enum Answer {
+    /// This value.
+    Value(Value),
+    /// A fault of this kind, with this message. `InvalidInput` stands in place of `Memory` and
+    /// `Write`.
+    Fault(ErrorKind, String),
+}
+
+impl Answer {
+    /// The answer, as a filter gives it.
+    pub(crate) fn say(&self, alloc: Global) -> Result<Value>
+        ensures { Tells view result (said_by self.now) }
+    {
+        match self {
+            Answer::Value(value) => value.copy(alloc),
+            Answer::Fault(kind, message) => Err(fault_of(alloc, *kind, message.as_str())),
+        }
+    }
+}
+
+/// The fault by which a filter refuses.
+#[tactic(auto, using(crate::proofs::Faults::told_as))]
+fn fault_of(alloc: Global, kind: ErrorKind, message: &str) -> Error
+    ensures { Faulted {Y = Datum} result.kind (Err (as_fault kind)) }
+{
+    match kind {
+        ErrorKind::Memory | ErrorKind::Write => Error::new(alloc, ErrorKind::InvalidInput, message),
+        _ => Error::new(alloc, kind, message),
+    }
+}
+
+/// The names of filters, and answers to calls of them.
+///
+/// A call is a list of its filter's name, its input and its arguments.
+#[derive(Drop)]
+pub struct Answers {
+    pub(crate) names: Vec<String>,
+    pub(crate) answers: BTreeMap<Value, Answer>,
+}
+
+impl Answers {
+    /// No names, and no answers. It takes no memory.
+    pub fn new(alloc: Global) -> Answers
+        ensures names { names_of result ≡ [] }
+        ensures answers { (call : Datum) → answer_at result call ≡ None }
+    {
+        Answers {
+            names: Vec::new(alloc),
+            answers: BTreeMap::new(alloc),
+        }
+    }
+
+    /// Adds the name of a filter, unless it is there. `Memory` where there is no room; then nothing
+    /// changed.
+    pub fn add_name(&mut self, name: String) -> Result<()>
+        ensures names { IsValueOrMemory (λ _. names_of self.new) result
+            (with_name (string_bytes name) (names_of self.old)) }
+        ensures unchanged { OnErr result (names_of self.new ≡ names_of self.old) }
+        ensures answers { self.new.answers ≡ self.old.answers }
+    {
+        if has_name(self.names.as_slice(), name.as_str()) {
+            drop(name);
+            return Ok(());
+        }
+        Ok(self.names.push(name)?)
+    }
+
+    /// The answer to a call. It takes no memory.
+    pub fn find(&self, call: &Value) -> Option<&Answer>
+        ensures { option_map (λ a. a.now) result ≡ answer_at self.now (view call.now) }
+    {
+        self.answers.get(call)
+    }
+
+    /// Puts the answer to a call; the one before is dropped. `Memory` where there is no room; then
+    /// nothing changed.
+    pub fn put(&mut self, call: Value, answer: Answer) -> Result<()>
+        ensures put { OnOk result (IsPut self.old (view call) answer self.new) }
+        ensures memory { IfErr result (λ e. e.kind ≡ ErrorKind.Memory) }
+        ensures unchanged { OnErr result ((call : Datum) →
+            answer_at self.new call ≡ answer_at self.old call) }
+        ensures names { self.new.names ≡ self.old.names }
+    {
+        drop(self.answers.insert(call, answer)?);
+        Ok(())
+    }
+}
+
+/// Whether a name is among these.
+pub(crate) fn has_name(names: &[String], name: &str) -> bool
+    ensures { result ≡ is_named name.now (map string_bytes names.now) }
+{
+    for known in names {
+        if known.as_str() == name {
+            return true;
+        }
+    }
+    false
+}
+
+/// A call as one value.
+pub(crate) fn call_of(alloc: Global, name: &str, input: &Value, args: &[Value]) -> Result<Value>
+    ensures { IsValueOrMemory view result (call_of name.now (view input.now) (map view args.now)) }
+{
+    let mut call = Vec::new(alloc);
+    call.push(Value::Text(String::from_str(alloc, name)?))?;
+    call.push(input.copy(alloc)?)?;
+    for argument in args {
+        call.push(argument.copy(alloc)?)?;
+    }
+    Ok(Value::Array(call))
+}

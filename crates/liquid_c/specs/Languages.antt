@@ -1,0 +1,70 @@
+-- Languages that differ from the standard one.
+use Rattle.std.specs.Prelude.{◌≡◌, ◌⊎◌, ℕ, List, [], Option, Some, None, Result, Ok, Err, codes}
+use Rattle.std.specs.Str.{IsUtf8}
+use Rattle.liquid_model.specs.ErrorKinds.{number_of}
+use Rattle.liquid_model.specs.Maps.{insert, listed}
+use Rattle.liquid_model.specs.Texts.{Text}
+use Rattle.liquid_model.specs.declared.error.ErrorKind.TheVariants.{Memory}
+use Rattle.liquid_core.specs.Environment.{bind_each}
+use Rattle.liquid_filters.specs.declared.kind.FilterKind.TheVariants.{JekyllSort}
+use Rattle.liquid_language.specs.Languages.{kinds_of}
+use Rattle.liquid_language.specs.Registered.{registered_in}
+use Rattle.liquid_language.specs.declared.language.Language.{Language}
+use Rattle.liquid_language.specs.declared.language.TagKind.TheVariants.{JekyllInclude}
+use Rattle.liquid_language.specs.declared.registered_filter.RegisteredFilter.TheVariants.{Host}
+use Rattle.liquid_language.specs.declared.registered_filter.RegisteredFilter.TheVariants.{Kind}
+use Rattle.liquid_lib.specs.Standard.{standard_tags, standard_blocks, standard_filters}
+use Rattle.liquid_lib.specs.Standard.{with_filters}
+use Rattle.liquid_c.specs.Numbers.{number_of_refusal}
+use Rattle.liquid_c.specs.declared.held.Held.{Held}
+use Rattle.liquid_c.specs.declared.held.Held.TheVariants as held
+use Rattle.liquid_c.specs.declared.refusal.Refusal.{Refusal}
+use Rattle.liquid_c.specs.declared.refusal.Refusal.TheVariants.{NoText, OtherHandle}
+
+-- the standard language with Jekyll's `include` and `sort`
+pub record IsJekyll (l : Language) : Type 0 where
+  pub tags : listed (kinds_of l.tags) ≡
+      insert (bind_each standard_tags (listed [])) (codes "include") JekyllInclude
+  pub blocks : listed (kinds_of l.blocks) ≡ bind_each standard_blocks (listed [])
+  pub filters : listed (registered_in l.filters) ≡
+      insert (with_filters (listed []) standard_filters) (codes "sort")
+      (Kind (JekyllSort (record {})))
+
+-- that language, or memory ran out
+abbrev pub IsJekyllLanguage : Result Held Refusal → Type 0
+IsJekyllLanguage (Ok (held.Language l)) = IsJekyll l
+IsJekyllLanguage (Ok (held.Fault e)) = e.kind ≡ Memory
+IsJekyllLanguage _ = ⊥
+
+-- ---- a filter of the caller's
+
+-- the new language has it at the name, with these numbers of arguments, and is else the old one
+abbrev pub IsWith : Text → ℕ → ℕ → Language → Language → Type 0
+IsWith name least most old new = (new.tags ≡ old.tags) × (new.blocks ≡ old.blocks)
+    × (listed (registered_in new.filters) ≡
+    insert (listed (registered_in old.filters)) name (Host least most))
+
+-- the language is as it was
+abbrev pub IsSameLanguage : Language → Language → Type 0
+IsSameLanguage old new = (new.tags ≡ old.tags) × (new.blocks ≡ old.blocks)
+    × (registered_in new.filters ≡ registered_in old.filters)
+
+abbrev pub HoldsLanguage : (Language → Type 0) → Option Held → Type 0
+HoldsLanguage P (Some (held.Language l)) = P l
+HoldsLanguage P _ = ⊥
+
+-- the filter stands in the language;  memory ran out, and nothing changed;  the name is no text
+pub data Registers (old : Language) (name : List ℕ) (least most number : ℕ) (left : Option Held)
+    : Type 0 where
+  done : IsUtf8 name → number ≡ 0 → HoldsLanguage (IsWith name least most old) left →
+      Registers old name least most number left
+  refused : IsUtf8 name → number ≡ number_of Memory → HoldsLanguage (IsSameLanguage old) left →
+      Registers old name least most number left
+  no_text : (IsUtf8 name → ⊥) → number ≡ number_of_refusal NoText →
+      HoldsLanguage (IsSameLanguage old) left → Registers old name least most number left
+
+abbrev pub IsRegistration : Option Held → List ℕ → ℕ → ℕ → ℕ → Option Held → Type 0
+IsRegistration (Some (held.Language l)) name least most number left =
+    Registers l name least most number left
+IsRegistration old name least most number left =
+    (number ≡ number_of_refusal OtherHandle) × (left ≡ old)

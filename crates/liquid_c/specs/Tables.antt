@@ -1,0 +1,129 @@
+-- What calls make of tables of answers.
+use Rattle.std.specs.Prelude.{◌≡◌, ◌⊎◌, ℕ, List, [], ◌∷◌, Option, Some, None, Result, Ok, Err}
+use Rattle.std.specs.Prelude.{codes}
+use Rattle.std.specs.Prelude.{if◌then◌else◌, nat_eq, length, option_map, slice_get}
+use Rattle.std.specs.Option.{ok_or}
+use Rattle.std.specs.Str.{IsUtf8}
+use Rattle.liquid_model.specs.Data.{Datum, nil}
+use Rattle.liquid_model.specs.ErrorKinds.{number_of}
+use Rattle.liquid_model.specs.Find.{value_at}
+use Rattle.liquid_model.specs.Texts.{Text}
+use Rattle.liquid_model.specs.View.{pairs_view, view}
+use Rattle.liquid_model.specs.declared.error.ErrorKind.{ErrorKind}
+use Rattle.liquid_model.specs.declared.error.ErrorKind.TheVariants as kind
+use Rattle.liquid_model.specs.declared.error.ErrorKind.TheVariants.{InvalidInput, Memory}
+use Rattle.liquid_core.specs.Held.{Outer}
+use Rattle.liquid_answers.specs.Lacking.{calls_in}
+use Rattle.liquid_answers.specs.Tables.{IsPut, answer_at, names_of, said_by, with_name}
+use Rattle.liquid_answers.specs.declared.answers.Answer.{Answer}
+use Rattle.liquid_answers.specs.declared.answers.Answers.{Answers}
+use Rattle.liquid_c.specs.Numbers.{number_of_refusal}
+use Rattle.liquid_c.specs.declared.held.Held.{Held}
+use Rattle.liquid_c.specs.declared.held.Held.TheVariants as held
+use Rattle.liquid_c.specs.declared.refusal.Refusal.{Refusal}
+use Rattle.liquid_c.specs.declared.refusal.Refusal.TheVariants.{NoSuchCall}
+use Rattle.liquid_c.specs.declared.refusal.Refusal.TheVariants.{NoText, OtherHandle}
+
+-- a table without names and answers
+abbrev pub IsNewTable : Result Held Refusal → Type 0
+IsNewTable (Ok (held.Answers table)) = (names_of table ≡ []) ×
+    ((call : Datum) → answer_at table call ≡ None)
+IsNewTable _ = ⊥
+
+-- the table behind the handle is such a one
+abbrev pub HoldsTable : (Answers → Type 0) → Option Held → Type 0
+HoldsTable P (Some (held.Answers table)) = P table
+HoldsTable P _ = ⊥
+
+-- the names and the answers are the old ones
+abbrev pub IsSameTable : Answers → Answers → Type 0
+IsSameTable old new = (names_of new ≡ names_of old)
+    × ((call : Datum) → answer_at new call ≡ answer_at old call)
+
+-- the table changed as R says;  or memory ran out, and nothing changed
+pub data Changes (R : Answers → Answers → Type 0) (old : Answers) (number : ℕ)
+    (left : Option Held) : Type 0 where
+  done : number ≡ 0 → HoldsTable (R old) left → Changes R old number left
+  refused : number ≡ number_of Memory → HoldsTable (IsSameTable old) left →
+      Changes R old number left
+
+-- ---- names
+
+-- the table has the name too
+abbrev pub HasName : Text → Answers → Answers → Type 0
+HasName name old new = (names_of new ≡ with_name name (names_of old))
+    × ((call : Datum) → answer_at new call ≡ answer_at old call)
+
+abbrev pub IsNaming : Option Held → List ℕ → ℕ → Option Held → Type 0
+IsNaming (Some (held.Answers table)) name number left =
+    (IsUtf8 name × Changes (HasName name) table number left)
+    ⊎ ((IsUtf8 name → ⊥) × (number ≡ number_of_refusal NoText)
+    × HoldsTable (IsSameTable table) left)
+IsNaming old name number left = (number ≡ number_of_refusal OtherHandle) × (left ≡ old)
+
+-- ---- answers
+
+-- how many calls a handle holds
+abbrev pub calls_behind : Option Held → ℕ
+calls_behind (Some (held.Lacking it)) = length (calls_in it)
+calls_behind _ = 0
+
+-- the call of this number, or why there is none
+abbrev pub call_behind : ℕ → Option Held → Result Datum Refusal
+call_behind number (Some (held.Lacking it)) =
+    ok_or (option_map view (slice_get (calls_in it) number)) NoSuchCall
+call_behind number _ = Err OtherHandle
+
+abbrev pub or_nil : Option Datum → Datum
+or_nil None = nil
+or_nil (Some d) = d
+
+-- the member of data that is the answer
+abbrev pub answer_among : Outer → Datum
+answer_among facts = or_nil (value_at (codes "answer") (pairs_view facts.entries))
+
+-- the answer that data hold
+abbrev pub answer_behind : Option Held → Result (Result Datum ErrorKind) Refusal
+answer_behind (Some (held.Data d)) = Ok (Ok (answer_among d))
+answer_behind _ = Err OtherHandle
+
+-- the kind of this number among these, or `InvalidInput`
+abbrev pub kind_among : List ErrorKind → ℕ → ErrorKind
+kind_among [] number = InvalidInput
+kind_among (k ∷ ks) number = if nat_eq (number_of k) number then k else kind_among ks number
+
+-- those of a run, but for `Memory` and `Write`
+abbrev pub kinds_of_runs : List ErrorKind
+kinds_of_runs = kind.UnknownVariable ∷ kind.InvalidInput ∷ kind.InvalidArgument ∷
+    kind.UnexpectedValue ∷ kind.NumberRange ∷ kind.DivideByZero ∷ kind.Float ∷ kind.CycleBounds ∷
+    kind.ZeroColumns ∷ kind.RangeTooLong ∷ kind.UnknownPartial ∷ kind.PartialName ∷
+    kind.TooDeep ∷ kind.DateFormat ∷ kind.TimezoneRange ∷ kind.Unsupported ∷ []
+
+-- the table says so of the call, and the same as before of all others
+abbrev pub Says : Datum → Result Datum ErrorKind → Answers → Answers → Type 0
+Says call said old new = (answer : Answer) × (said_by answer ≡ said) × IsPut old call answer new
+    × (names_of new ≡ names_of old)
+
+abbrev pub IsAnswering : Option Held → Result Datum Refusal
+    → Result (Result Datum ErrorKind) Refusal → ℕ → Option Held → Type 0
+IsAnswering old (Err r) answer number left = (number ≡ number_of_refusal r) × (left ≡ old)
+IsAnswering old (Ok call) (Err r) number left = (number ≡ number_of_refusal r) × (left ≡ old)
+IsAnswering (Some (held.Answers table)) (Ok call) (Ok said) number left =
+    Changes (Says call said) table number left
+IsAnswering old (Ok call) (Ok said) number left =
+    (number ≡ number_of_refusal OtherHandle) × (left ≡ old)
+
+-- an answer of a kind, where the message is a text
+abbrev pub IsRefusing : Option Held → Result Datum Refusal → ℕ → List ℕ → ℕ → Option Held → Type 0
+IsRefusing old call kind message number left =
+    (IsUtf8 message
+    × IsAnswering old call (Ok (Err (kind_among kinds_of_runs kind))) number left)
+    ⊎ ((IsUtf8 message → ⊥) × IsAnswering old call (Err NoText) number left)
+
+-- ---- answers on their way
+
+-- the answer, where there was room for it, or why there is none
+abbrev pub Given : Result (Option Answer) Refusal → Result (Result Datum ErrorKind) Refusal → Type 0
+Given (Ok (Some answer)) wanted = wanted ≡ Ok (said_by answer)
+Given (Ok None) wanted = (said : Result Datum ErrorKind) × (wanted ≡ Ok said)
+Given (Err r) wanted = wanted ≡ Err r

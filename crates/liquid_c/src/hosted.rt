@@ -1,0 +1,157 @@
+//! Renderings over a table of answers.
+ghost use Rattle.std.specs.Prelude.{◌≡◌, Ok, Some, option_map};
+ghost use Rattle.liquid_core.specs.Held.{held as map_held};
+ghost use Rattle.liquid_syntax.specs.Templates.{partials_of, tree_of};
+ghost use Rattle.liquid_c.specs.Calls.{OfBoth, bound_of};
+ghost use Rattle.liquid_c.specs.Hosted.{IsHosted, ShowsAnswered, ShowsUnlessDeep};
+ghost use Rattle.liquid_c.specs.Settled.{Settled};
+
+use crate::handle::Handle;
+use crate::held::{Held, seen};
+use crate::refusal::{Refusal, settle};
+use crate::render::{
+    Allowed, Limits, allowed_by, empty_facts, facts_held, levels_held, limits_of, partials_held,
+};
+use liquid_answers::{Answered, Answers, render_page_answered};
+use liquid_core::Object;
+use liquid_lib::{LimitedPage, Partials, Surroundings, Template};
+use std::alloc::Global;
+
+/// The same as `bikleinu_render_within`, with filters of the caller's whose answers stand in a
+/// table. Where the run meets a call that the table lacks the call answers 106, and `made` holds
+/// such calls in place of a page.
+#[unsafe(no_mangle)]
+pub extern "C" fn bikleinu_render_with(
+    alloc: Global,
+    template: &mut Handle,
+    facts: &mut Handle,
+    partials: &mut Handle,
+    depth: u32,
+    limits: &Limits,
+    answers: &mut Handle,
+    made: &mut Handle,
+) -> u32
+    ensures rendered { Settled (IsHosted (bound_of limits.now.levels) template.old.held
+        facts.old.held partials.old.held depth answers.old.held) result made.new.held }
+    ensures template { template.new.held ≡ template.old.held }
+    ensures facts { facts.new.held ≡ facts.old.held }
+    ensures partials { partials.new.held ≡ partials.old.held }
+    ensures answers { answers.new.held ≡ answers.old.held }
+{
+    let allowed = allowed_by(depth, limits);
+    let held_template = template.take(alloc);
+    let held_facts = facts.take(alloc);
+    let held_partials = partials.take(alloc);
+    let held_answers = answers.take(alloc);
+    let answer = page(
+        alloc,
+        Lent {
+            template: seen(&held_template),
+            facts: seen(&held_facts),
+            partials: seen(&held_partials),
+            answers: seen(&held_answers),
+        },
+        allowed,
+    );
+    template.put(alloc, held_template);
+    facts.put(alloc, held_facts);
+    partials.put(alloc, held_partials);
+    answers.put(alloc, held_answers);
+    settle(alloc, answer, made)
+}
+
+/// What lies behind the handles of a call.
+#[derive(Clone, Copy, Drop)]
+struct Lent<'h> {
+    template: Option<&'h Held>,
+    facts: Option<&'h Held>,
+    partials: Option<&'h Held>,
+    answers: Option<&'h Held>,
+}
+
+fn page(alloc: Global, lent: Lent<'_>, allowed: Allowed) -> Result<Held, Refusal>
+    ensures { IsHosted allowed.levels
+        (option_map (λ h. h.now) lent.entry.template)
+        (option_map (λ h. h.now) lent.entry.facts)
+        (option_map (λ h. h.now) lent.entry.partials)
+        allowed.depth
+        (option_map (λ h. h.now) lent.entry.answers) result }
+{
+    let Some(Held::Template(template, levels)) = lent.template else {
+        return Err(Refusal::OtherHandle);
+    };
+    let Some(Held::Answers(table)) = lent.answers else {
+        return Err(Refusal::OtherHandle);
+    };
+    let no_facts = empty_facts(alloc);
+    let no_partials = Partials::new(alloc);
+    let is_deep = levels.pass(levels_held(lent.partials), allowed.depth, allowed.levels);
+    shown(
+        alloc,
+        Hosted { template, table },
+        is_deep,
+        facts_held(lent.facts, &no_facts),
+        partials_held(lent.partials, &no_partials),
+        allowed,
+    )
+}
+
+/// A template, and the answers of the filters that it calls.
+#[derive(Clone, Copy, Drop)]
+struct Hosted<'h> {
+    template: &'h Template,
+    table: &'h Answers,
+}
+
+/// The page over data and with partials, where both are there and it isn't too deep.
+fn shown(
+    alloc: Global,
+    hosted: Hosted<'_>,
+    is_deep: bool,
+    facts: Option<&Object>,
+    partials: Option<&Partials>,
+    allowed: Allowed,
+) -> Result<Held, Refusal>
+    ensures { OfBoth
+        (option_map (λ d. map_held d.now) facts.entry)
+        (option_map (λ p. partials_of p.now) partials.entry)
+        (ShowsUnlessDeep is_deep hosted.entry.table.now
+        (tree_of hosted.entry.template.now) allowed.depth) result }
+{
+    let Some(facts) = facts else {
+        return Err(Refusal::OtherHandle);
+    };
+    let Some(partials) = partials else {
+        return Err(Refusal::OtherHandle);
+    };
+    if is_deep {
+        return Err(Refusal::TooManyLevels);
+    }
+    Ok(answered(alloc, hosted, facts, partials, allowed))
+}
+
+/// The page, or the calls that the table lacks.
+fn answered(
+    alloc: Global,
+    hosted: Hosted<'_>,
+    facts: &Object,
+    partials: &Partials,
+    allowed: Allowed,
+) -> Held
+    ensures { ShowsAnswered hosted.entry.table.now (tree_of hosted.entry.template.now)
+        allowed.depth (map_held facts.now) (partials_of partials.now) (Ok result) }
+{
+    let around = Surroundings {
+        partials,
+        depth: allowed.depth,
+        limits: limits_of(allowed),
+    };
+    match render_page_answered(alloc, hosted.template, hosted.table, around, facts) {
+        Ok(Answered::Page(LimitedPage { page, limit })) => match limit {
+            None => Held::Page(page),
+            Some(limit) => Held::Ended(page, limit),
+        },
+        Ok(Answered::Lacking(calls)) => Held::Lacking(calls),
+        Err(fault) => Held::Fault(fault),
+    }
+}

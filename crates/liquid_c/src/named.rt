@@ -1,0 +1,86 @@
+//! The names that a template mentions.
+ghost use Rattle.std.specs.Prelude.{◌≡◌, IfErr, IfOk, map, option_map, string_bytes};
+ghost use Rattle.std.specs.BTreeSet.{keys};
+ghost use Rattle.liquid_model.specs.Answer.{IsValueOrMemory};
+ghost use Rattle.liquid_model.specs.Data.{array, text};
+ghost use Rattle.liquid_model.specs.View.{items_of, view};
+ghost use Rattle.liquid_syntax.specs.Templates.{partials_of, tree_of};
+ghost use Rattle.liquid_c.specs.Named.{AreNames, IsNames, OfPartials};
+ghost use Rattle.liquid_c.specs.Settled.{Settled};
+
+use crate::handle::Handle;
+use crate::held::{Held, seen};
+use crate::refusal::{Refusal, settle};
+use crate::render::partials_held;
+use liquid_answers::json_of;
+use liquid_core::{ErrorKind, Result as Answer, Value};
+use liquid_lib::{Partials, Template};
+use std::alloc::Global;
+use std::collections::BTreeSet;
+
+/// Makes the names that a template and the partials mention: a text of JSON, which is a list of
+/// texts, ascending and each once. 0, or `Memory`.
+#[unsafe(no_mangle)]
+pub extern "C" fn bikleinu_names(
+    alloc: Global,
+    template: &mut Handle,
+    partials: &mut Handle,
+    made: &mut Handle,
+) -> u32
+    ensures named { Settled (IsNames template.old.held partials.old.held) result made.new.held }
+    ensures template { template.new.held ≡ template.old.held }
+    ensures partials { partials.new.held ≡ partials.old.held }
+{
+    let held_template = template.take(alloc);
+    let held_partials = partials.take(alloc);
+    let answer = names(alloc, seen(&held_template), seen(&held_partials));
+    template.put(alloc, held_template);
+    partials.put(alloc, held_partials);
+    settle(alloc, answer, made)
+}
+
+fn names(alloc: Global, template: Option<&Held>, partials: Option<&Held>) -> Result<Held, Refusal>
+    ensures { IsNames (option_map (λ h. h.now) template.entry)
+        (option_map (λ h. h.now) partials.entry) result }
+{
+    let Some(Held::Template(template, _)) = template else {
+        return Err(Refusal::OtherHandle);
+    };
+    let none = Partials::new(alloc);
+    named(alloc, template, partials_held(partials, &none))
+}
+
+fn named(alloc: Global, template: &Template, partials: Option<&Partials>) -> Result<Held, Refusal>
+    ensures { OfPartials (option_map (λ p. partials_of p.now) partials.entry)
+        (tree_of template.now) result }
+{
+    let Some(partials) = partials else {
+        return Err(Refusal::OtherHandle);
+    };
+    match told(alloc, template, partials) {
+        Ok(text) => Ok(Held::Names(text)),
+        Err(fault) => Ok(Held::Fault(fault)),
+    }
+}
+
+fn told(alloc: Global, template: &Template, partials: &Partials) -> Answer<String>
+    ensures names { IfOk result (λ it. AreNames (partials_of partials.now) (tree_of template.now)
+        (string_bytes it)) }
+    ensures memory { IfErr result (λ e. e.kind ≡ ErrorKind.Memory) }
+{
+    let names = template.names(alloc, partials)?;
+    let list = list_of(alloc, &names)?;
+    json_of(alloc, &list)
+}
+
+/// The names as a list of texts.
+fn list_of(alloc: Global, names: &BTreeSet<String>) -> Answer<Value>
+    ensures { IsValueOrMemory view result
+        (array (items_of (map (λ n. text (string_bytes n)) (keys names.now)))) }
+{
+    let mut items = Vec::new(alloc);
+    for name in names.iter() {
+        items.push(Value::Text(String::from_str(alloc, name.as_str())?))?;
+    }
+    Ok(Value::Array(items))
+}

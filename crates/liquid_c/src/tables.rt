@@ -1,0 +1,66 @@
+//! Tables of answers to calls of the caller's filters.
+ghost use Rattle.std.specs.Prelude.{◌≡◌, Some, option_map};
+ghost use Rattle.liquid_c.specs.Settled.{Settled};
+ghost use Rattle.liquid_c.specs.Tables.{Changes, HasName, IsNaming, IsNewTable};
+ghost use Rattle.liquid_c.specs.declared.held.Held.TheVariants as held;
+
+use crate::handle::Handle;
+use crate::held::Held;
+use crate::refusal::{Refusal, settle};
+use liquid_answers::Answers;
+use liquid_core::ErrorKind;
+use std::alloc::Global;
+
+/// Makes a table without names of filters and without answers. 0, or `Memory`.
+#[unsafe(no_mangle)]
+pub extern "C" fn bikleinu_answers(alloc: Global, made: &mut Handle) -> u32
+    ensures { Settled IsNewTable result made.new.held }
+{
+    settle(alloc, new_table(alloc), made)
+}
+
+fn new_table(alloc: Global) -> Result<Held, Refusal>
+    ensures { IsNewTable result }
+{
+    Ok(Held::Answers(Answers::new(alloc)))
+}
+
+/// Adds the name of a filter to a table, unless it is there. 0, or `Memory`; then nothing changed.
+#[unsafe(no_mangle)]
+pub extern "C" fn bikleinu_answers_filter(alloc: Global, answers: &mut Handle, name: &[u8]) -> u32
+    ensures { IsNaming answers.old.held name.now result answers.new.held }
+{
+    let mut held = answers.take(alloc);
+    let number = add_behind(alloc, &mut held, name);
+    answers.put(alloc, held);
+    number
+}
+
+fn add_behind(alloc: Global, held: &mut Option<Box<Held>>, name: &[u8]) -> u32
+    ensures { IsNaming (option_map (λ b. b.value) held.old) name.now result
+        (option_map (λ b. b.value) held.new) }
+{
+    match held {
+        Some(held) => match &mut **held {
+            Held::Answers(table) => match str::from_utf8(name) {
+                Ok(name) => add_name(alloc, table, name),
+                Err(_) => Refusal::NoText.number(),
+            },
+            _ => Refusal::OtherHandle.number(),
+        },
+        None => Refusal::OtherHandle.number(),
+    }
+}
+
+fn add_name(alloc: Global, table: &mut Answers, name: &str) -> u32
+    ensures { Changes (HasName name.now) table.old result
+        (Some (held.Answers table.new)) }
+{
+    let Ok(name) = String::from_str(alloc, name) else {
+        return u32::from(ErrorKind::Memory.number());
+    };
+    match table.add_name(name) {
+        Ok(()) => 0,
+        Err(fault) => u32::from(fault.kind.number()),
+    }
+}

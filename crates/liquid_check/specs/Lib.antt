@@ -1,0 +1,4 @@
+pub mod Blanks
+pub mod Rounds
+pub mod Views
+pub mod inside

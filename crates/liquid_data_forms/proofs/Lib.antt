@@ -1,0 +1,4 @@
+mod Alike
+mod Members
+mod Objects
+mod Turns

@@ -1,0 +1,86 @@
+-- Texts of ISO 8601 in the spelling of dates that the language reads.
+--     date_spelling s      the spelling of a text that is a day or an instant
+use Rattle.std.specs.Prelude.{ℕ, ◌==◌, ◌&&◌, not, nat_lt, Bool, List, [], ◌∷◌, ◌++◌, length}
+use Rattle.std.specs.Prelude.{slice_index, Option, Some, None, is_some, codes, if◌then◌else◌}
+use Rattle.std.specs.Char.{is_ascii_digit}
+use Rattle.std.specs.List.{after_first, before_first, list_all, position_or_len}
+use Rattle.liquid_model.specs.Texts.{Text}
+use Rattle.liquid_date_filters.specs.Spelling.{read}
+use denote.Bor.{Bor}
+
+-- the text before the first of these bytes, and the text after it
+abbrev pub cut : ℕ → Text → Option (Text × Text)
+cut c s =
+    if nat_lt (position_or_len (λ b. b == c) s) (length s)
+    then Some (before_first (λ b. b == c) s, after_first (λ b. b == c) s) else None
+
+-- the length of a day by numbers, and a `-` after its year
+abbrev pub is_day : Text → Bool
+is_day s = (length s == 10) && (slice_index s 4 == 45)
+
+abbrev pub is_digits : Text → Bool
+is_digits s = not (length s == 0) && list_all is_ascii_digit s
+
+-- a time without its fraction of a second, and the seconds that it lacks
+abbrev pub fraction_off : Text → Option (Text × Text) → Text × Text
+fraction_off t None = (t, [])
+fraction_off t (Some p) = if (length p.0 == 8) && is_digits p.1 then (p.0, []) else (t, [])
+
+abbrev pub whole_seconds : Text → Text × Text
+whole_seconds t = if length t == 5 then (t, codes ":00") else fraction_off t (cut 46 t)
+
+-- an offset before its colon, after two digits, and behind it
+abbrev pub colon_off : Text → Option (Text × Text) → Text × Text
+colon_off z None = (z, [])
+colon_off z (Some p) = if length p.0 == 2 then p else (z, [])
+
+abbrev pub without_colon : Text → Text × Text
+without_colon z = colon_off z (cut 58 z)
+
+abbrev pub joined : Text × Text → Text
+joined p = p.0 ++ p.1
+
+-- a time, a sign and an offset
+abbrev pub zoned : Text → Text → Text → Text
+zoned time sign offset = joined (whole_seconds time) ++ sign ++ joined (without_colon offset)
+
+-- a time alone is that of UTC
+abbrev pub clock_behind : Text → Option (Text × Text) → Text
+clock_behind t (Some p) = zoned p.0 (codes " -") p.1
+clock_behind t None = zoned t (codes " +0000") []
+
+abbrev pub clock_ahead : Text → Option (Text × Text) → Text
+clock_ahead t (Some p) = zoned p.0 (codes " +") p.1
+clock_ahead t None = clock_behind t (cut 45 t)
+
+abbrev pub clock_at : Text → Option (Text × Text) → Text
+clock_at t (Some p) = zoned p.0 (codes " +0000") p.1
+clock_at t None = clock_ahead t (cut 43 t)
+
+-- a time with `Z`, with an offset ahead or behind, or with none
+abbrev pub clock : Text → Text
+clock t = clock_at t (cut 90 t)
+
+abbrev pub day_and_clock : Text → Option (Text × Text) → Text × Text
+day_and_clock s None = (s, codes "00:00:00")
+day_and_clock s (Some p) = p
+
+abbrev pub after_day : Text × Text → Option Text
+after_day p = if is_day p.0 then Some ((p.0 ++ codes " ") ++ clock p.1) else None
+
+-- a day, or a day, `T` and a time, as they would be spelled
+abbrev pub spelled : Text → Option Text
+spelled s = after_day (day_and_clock s (cut 84 s))
+
+abbrev pub if_read : Option Text → Option Text
+if_read None = None
+if_read (Some t) = if is_some (read t) then Some t else None
+
+-- the spelling of a text that is a day or an instant: one that the language reads
+abbrev pub date_spelling : Text → Option Text
+date_spelling s = if_read (spelled s)
+
+-- what the code cut
+abbrev pub cut_view : Option (Bor Text × Bor Text) → Option (Text × Text)
+cut_view None = None
+cut_view (Some p) = Some (p.0.now, p.1.now)

@@ -1,0 +1,4 @@
+pub mod Dates
+pub mod Decimals
+pub mod Instants
+pub mod Laws

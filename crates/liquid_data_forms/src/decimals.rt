@@ -1,0 +1,49 @@
+//! Data from JSON in which any number may stand.
+ghost use Rattle.std.specs.Prelude.{IfOk, MatchOption, ◌≡◌, Ok, Err};
+ghost use Rattle.liquid_model.specs.Answer.{Answers};
+ghost use Rattle.liquid_model.specs.View.{pairs_view};
+ghost use Rattle.liquid_model.specs.declared.error.ErrorKind.TheVariants.{InvalidInput};
+ghost use Rattle.liquid_data_forms.specs.Decimals.{spelled_data};
+
+use crate::reader::{MAX_DEPTH, Stop, read};
+use json::{Reader, Scratch};
+use liquid_core::{Object, Result, Value};
+use liquid_json::data_from_json;
+use std::alloc::{AllocError, Global};
+
+/// The data that a text of JSON gives, where a number that isn't whole, or is past 64 bits, is the
+/// text of its spelling.
+///
+/// The text is refused where it is no JSON or no object, by `InvalidInput` and with the place, as
+/// `data_from_json` refuses it. `Memory` where a growth was refused.
+#[tactic(auto, using(crate::proofs::Alike::refused_alike))]
+pub fn data_with_decimals(alloc: Global, text: &str) -> Result<Object>
+    ensures { Answers (λ m. pairs_view m.entries) result (spelled_data text.now) }
+{
+    match object_in(alloc, text)? {
+        Some(data) => Ok(data),
+        None => data_from_json(alloc, text),
+    }
+}
+
+/// The data, or none where the text is no object of JSON.
+#[tactic(auto, using(crate::proofs::Objects::data_whole, crate::proofs::Objects::no_data, crate::proofs::Objects::no_json, crate::proofs::Objects::more_json))]
+fn object_in(alloc: Global, text: &str) -> std::result::Result<Option<Object>, AllocError>
+    ensures { IfOk result (λ o. MatchOption o (spelled_data text.now ≡ Err InvalidInput)
+        (λ m. spelled_data text.now ≡ Ok (pairs_view m.entries))) }
+{
+    let mut scratch = Scratch::new(alloc);
+    let mut reader = Reader::new(text, &mut scratch)?;
+    let value = match read(alloc, &mut reader, MAX_DEPTH) {
+        Ok(value) => value,
+        Err(Stop::Memory) => return Err(AllocError),
+        Err(Stop::NoJson) => return Ok(None),
+    };
+    if reader.next().is_some() {
+        return Ok(None);
+    }
+    match value {
+        Value::Object(data) => Ok(Some(data)),
+        _ => Ok(None),
+    }
+}

@@ -1,0 +1,14 @@
+//! Other forms of data than JSON with whole numbers: JSON with any numbers, and texts of ISO 8601.
+#![tactic(auto)]
+
+mod dates;
+mod decimals;
+mod instant;
+mod laws;
+mod reader;
+mod whole;
+
+pub use dates::dated;
+pub use decimals::data_with_decimals;
+pub use instant::date_spelling;
+pub use laws::decimal_laws;

@@ -1,0 +1,2 @@
+-- What the public contracts of this crate cite.
+pub mod Paths

@@ -1,0 +1,6 @@
+pub mod ConditionTexts
+pub mod Languages
+pub mod Laws
+pub mod Selections
+pub mod Truths
+pub mod Views

@@ -1,0 +1,99 @@
+//! The languages of the sets.
+ghost use Rattle.std.specs.Prelude.{◌≡◌, IfErr, IfOk};
+ghost use Rattle.liquid_model.specs.Answer.{IsValueOrMemory};
+ghost use Rattle.liquid_model.specs.Maps.{insert, listed};
+ghost use Rattle.liquid_language.specs.Registered.{registered_in};
+ghost use Rattle.liquid_language.specs.declared.registered_filter.RegisteredFilter.TheVariants.{Host};
+ghost use Rattle.liquid_filter_sets.specs.Languages.{IsJekyll, IsShopify, with_jekyll_filters};
+ghost use Rattle.liquid_filter_sets.specs.Languages.{with_kinds, with_shopify_filters, with_sites};
+
+use liquid_core::{ErrorKind, Result};
+use liquid_jekyll_host_filters::{JEKYLL_FILTERS, JekyllFilter};
+use liquid_language::{FilterRegistry, Language, TagKind};
+use liquid_lib::{FilterKind, TagReflection, jekyll, language};
+use liquid_shopify_host_filters::{SHOPIFY_FILTERS, ShopifyKind};
+use std::alloc::Global;
+
+/// The language of Jekyll's templates: the standard one with Jekyll's `include` and `sort` in place
+/// of the standard ones, and the names of Jekyll's filters of a host. `Memory` where a growth was
+/// refused.
+pub fn jekyll_language(alloc: Global) -> Result<Language>
+    ensures jekyll { IfOk result IsJekyll }
+    ensures memory { IfErr result (λ e. e.kind ≡ ErrorKind.Memory) }
+{
+    let mut language = language(alloc)?;
+    let include = jekyll::IncludeTag::new();
+    let name = String::from_str(alloc, include.tag())?;
+    language.tags.register(name, TagKind::from(include))?;
+    let name = String::from_str(alloc, "sort")?;
+    language
+        .filters
+        .register(name, FilterKind::JekyllSort(jekyll::Sort))?;
+    register_jekyll_filters(alloc, &mut language.filters)?;
+    Ok(language)
+}
+
+/// The language of Shopify's templates: the standard one with the names of Shopify's filters of a
+/// host. `Memory` where a growth was refused.
+pub fn shopify_language(alloc: Global) -> Result<Language>
+    ensures shopify { IfOk result IsShopify }
+    ensures memory { IfErr result (λ e. e.kind ≡ ErrorKind.Memory) }
+{
+    let mut language = language(alloc)?;
+    register_shopify_filters(alloc, &mut language.filters)?;
+    Ok(language)
+}
+
+/// Registers Jekyll's filters of a host: each of `JEKYLL_FILTERS`, and `where_exp`. What such a
+/// name stood for before is forgotten. `Memory` where a growth was refused; then some of them may
+/// be registered.
+pub fn register_jekyll_filters(alloc: Global, filters: &mut FilterRegistry) -> Result<()>
+    ensures { IsValueOrMemory (λ _. listed (registered_in filters.new)) result
+        (with_jekyll_filters (listed (registered_in filters.old))) }
+{
+    register_sites(alloc, filters, &JEKYLL_FILTERS)?;
+    register(alloc, filters, "where_exp", 2, 2)
+}
+
+/// Registers Shopify's filters of a host: each of `SHOPIFY_FILTERS`. What such a name stood for
+/// before is forgotten. `Memory` where a growth was refused; then some of them may be registered.
+pub fn register_shopify_filters(alloc: Global, filters: &mut FilterRegistry) -> Result<()>
+    ensures { IsValueOrMemory (λ _. listed (registered_in filters.new)) result
+        (with_shopify_filters (listed (registered_in filters.old))) }
+{
+    register_kinds(alloc, filters, &SHOPIFY_FILTERS)
+}
+
+fn register_sites(alloc: Global, filters: &mut FilterRegistry, sites: &[JekyllFilter]) -> Result<()>
+    ensures { IsValueOrMemory (λ _. listed (registered_in filters.new)) result
+        (with_sites (listed (registered_in filters.old)) sites.now) }
+{
+    for site in sites {
+        register(alloc, filters, site.name(), site.least(), site.most())?;
+    }
+    Ok(())
+}
+
+fn register_kinds(alloc: Global, filters: &mut FilterRegistry, kinds: &[ShopifyKind]) -> Result<()>
+    ensures { IsValueOrMemory (λ _. listed (registered_in filters.new)) result
+        (with_kinds (listed (registered_in filters.old)) kinds.now) }
+{
+    for kind in kinds {
+        register(alloc, filters, kind.name(), kind.least(), kind.most())?;
+    }
+    Ok(())
+}
+
+/// Registers a filter of the host.
+fn register(
+    alloc: Global,
+    filters: &mut FilterRegistry,
+    name: &str,
+    least: usize,
+    most: usize,
+) -> Result<()>
+    ensures { IsValueOrMemory (λ _. listed (registered_in filters.new)) result
+        (insert (listed (registered_in filters.old)) name.now (Host least most)) }
+{
+    filters.register_host(String::from_str(alloc, name)?, least, most)
+}

@@ -1,0 +1,105 @@
+//! Numbers that aren't whole.
+use super::characters::{ends_value, is_digit, is_sign};
+use super::habits::{Site, Spot, site_of};
+use super::items::front_before;
+use super::wording::Wording;
+use liquid_lexer::PlacedPiece;
+
+/// Of a number with a fraction: what it is in a smaller unit, where it can be computed with. It
+/// needs the `before` in front of it to be a text that is a number.
+pub fn no_whole<'s>(from: &'s str, before: &'static str, piece: &PlacedPiece<'s>) -> Wording<'s> {
+    let number = number_front(from);
+    let Some((smaller, unit)) = in_smaller_unit(number) else {
+        let words =
+            "`…` is no whole number, and templates have no others; as a text, `'¤…'`, it can be shown and rounded";
+        return Wording {
+            third: number,
+            ..Wording::quoting(from, words, number, before)
+        };
+    };
+    let words = if unit == 1 {
+        "`…` has a fraction, and templates have whole numbers alone; write `¹`"
+    } else {
+        words_of_fraction(piece)
+    };
+    Wording {
+        third: number,
+        numbers: (smaller, unit),
+        ..Wording::quoting(from, words, number, before)
+    }
+}
+
+/// What the message says of a number with a fraction that isn't zero, by what it is for.
+fn words_of_fraction(piece: &PlacedPiece<'_>) -> &'static str {
+    match (last_filter(piece), site_of(piece)) {
+        (Some("times"), _) => {
+            "`…` is no whole number, and templates have no others; write `times: ¹ | divided_by: ²`"
+        }
+        (Some("divided_by"), _) => {
+            "`…` is no whole number, and templates have no others; write `times: ² | divided_by: ¹`"
+        }
+        (Some("plus" | "minus" | "modulo" | "at_least" | "at_most"), _) | (None, Site::Condition) =>
+            {
+                "`…` is no whole number, and templates have no others; count in a smaller unit, of which ² make 1, and write `¹`"
+            }
+        (Some("append" | "prepend" | "default" | "replace"), _)
+        | (None, Site::Output | Site::Assign) => {
+            "`…` is no whole number, and templates have no others; as a text, `'¤…'`, it can be shown and rounded, and to compute count in a smaller unit, of which ² make 1, and write `¹`"
+        }
+        _ => "`…` is no whole number, and a whole one is wanted here",
+    }
+}
+
+/// The name of the last filter of a piece.
+fn last_filter<'s>(piece: &PlacedPiece<'s>) -> Option<&'s str> {
+    let mut name = None;
+    let mut is_bar = false;
+    for placed in &piece.items {
+        if is_bar {
+            name = Some(placed.spelling);
+        }
+        is_bar = placed.spelling == "|";
+    }
+    name
+}
+
+/// A number without its point and the zeros at its end, and how many of that unit are one; for no
+/// number with more than 15 digits or a sign.
+fn in_smaller_unit(number: &str) -> Option<(usize, usize)> {
+    let (whole, fraction) = number.split_once(".")?;
+    let fraction = fraction.trim_end_matches('0');
+    if whole.len().saturating_add(fraction.len()) > 15 {
+        return None;
+    }
+    let mut smaller: usize = 0;
+    for c in whole.chars().chain(fraction.chars()) {
+        let digit = c.to_digit(10)?;
+        smaller = smaller.saturating_mul(10).saturating_add(digit as usize);
+    }
+    let mut unit: usize = 1;
+    for _ in fraction.chars() {
+        unit = unit.saturating_mul(10);
+    }
+    Some((smaller, unit))
+}
+
+/// The number at the front, with its fraction.
+pub fn number_front(text: &str) -> &str {
+    let unsigned = text.trim_start_matches(is_sign);
+    let after = unsigned.trim_start_matches(is_digit);
+    let after = match after.strip_prefix(".") {
+        Some(fraction) => fraction.trim_start_matches(is_digit),
+        None => after,
+    };
+    front_before(text, after)
+}
+
+/// Whether a number begins by a `.`, after no value that this could be a step of.
+pub fn is_fraction(spot: &Spot<'_>) -> bool {
+    match spot.rest.strip_prefix(".") {
+        Some(after) if spot.at_item => {
+            after.starts_with(is_digit) && !spot.before.ends_with(ends_value)
+        }
+        _ => false,
+    }
+}

@@ -1,0 +1,143 @@
+//! Parentheses that hold no range: calls, lists and conditions of other languages.
+use super::characters::is_letter;
+use super::filters::{meant_elsewhere, meant_here};
+use super::habits::{Site, Spot};
+use super::items::{front_before, spelling_before};
+use super::wording::Wording;
+use crate::language::Language;
+use liquid_lexer::PlacedPiece;
+
+/// What is meant by parentheses that hold no range.
+pub fn in_parentheses<'s>(
+    language: &Language,
+    spot: &Spot<'s>,
+    piece: &PlacedPiece<'s>,
+) -> Option<Wording<'s>> {
+    if !piece.rest.starts_with("(") || spot.at_item || spot.rest.starts_with("%}") {
+        return None;
+    }
+    let bar = spelling_before(&piece.items, spot.count.saturating_sub(1));
+    if bar == "|" && spot.count > 1 {
+        return Some(called_filter(language, spot, piece.rest));
+    }
+    if is_call(spot, piece) {
+        return Some(called(language, spot, piece.rest));
+    }
+    let is_name = matches!(spot.site, Site::Loop) && spot.count == 0;
+    if !is_name && is_list(piece.rest) {
+        let words = "a list can't be written in a template; `'a,b' | split: ','` makes one";
+        return Some(Wording::plain(piece.rest, words));
+    }
+    Some(Wording::plain(piece.rest, no_range(spot)?))
+}
+
+/// Of a filter with parentheses after its name.
+fn called_filter<'s>(language: &Language, spot: &Spot<'s>, opening: &'s str) -> Wording<'s> {
+    if language.filters.get(spot.before).is_none() {
+        if let Some(wording) = meant_elsewhere(&language.filters, spot.before, opening) {
+            return wording;
+        }
+    }
+    let words = if is_empty(spot, opening) {
+        "`…()` is written `…`, without parentheses"
+    } else {
+        "arguments follow a `:`: write `…: ..` for `…(..)`"
+    };
+    Wording::quoting(opening, words, spot.before, spot.before)
+}
+
+/// Whether the parentheses are empty.
+fn is_empty(spot: &Spot<'_>, opening: &str) -> bool {
+    front_before(opening, spot.rest) == "(" && spot.rest.starts_with(")")
+}
+
+/// Whether the parentheses follow a name directly, as in a call.
+fn is_call(spot: &Spot<'_>, piece: &PlacedPiece<'_>) -> bool {
+    let is_word = matches!(
+        spot.before,
+        "in" | "range" | "not" | "and" | "or" | "if" | "contains"
+    );
+    match piece.items.last() {
+        Some(last) => {
+            let end = last.from.len().saturating_sub(last.spelling.len());
+            end == piece.rest.len() && !is_word && spot.before.starts_with(is_letter)
+        }
+        None => false,
+    }
+}
+
+/// Whether parentheses hold values with a `,` between them.
+fn is_list(opening: &str) -> bool {
+    match opening.split_once(')') {
+        Some((inside, _)) => inside.contains(',') && !inside.contains(" and "),
+        None => false,
+    }
+}
+
+/// Of a name with parentheses after it.
+fn called<'s>(language: &Language, spot: &Spot<'s>, opening: &'s str) -> Wording<'s> {
+    if let Site::Condition = spot.site {
+        let words =
+            "a condition has no calls; write `a contains 'text'`, or `assign` the value before it";
+        return Wording::plain(opening, words);
+    }
+    match spot.before.rsplit_once('.') {
+        Some((front, step)) => called_step(language, front, step, opening),
+        None => {
+            let words =
+                "`…(..)` isn't known: a filter, as `a | size`, stands for a call, and parentheses hold a range, as `(1..5)`";
+            Wording::quoting(opening, words, spot.before, "")
+        }
+    }
+}
+
+/// Of a step that is called, after what it is a step of.
+fn called_step<'s>(
+    language: &Language,
+    front: &'s str,
+    step: &'s str,
+    opening: &'s str,
+) -> Wording<'s> {
+    if language.filters.get(step).is_some() {
+        let words = "a filter follows a `|`: write `… | …`";
+        return Wording::quoting(opening, words, front, step);
+    }
+    if let Some(filter) = meant_here(&language.filters, step) {
+        return Wording::quoting(opening, "write `… | ¤`", front, filter);
+    }
+    match step {
+        "get" => {
+            let words = "write `….name` or `…['name']` for a part of `…`";
+            Wording {
+                third: front,
+                ..Wording::quoting(opening, words, front, front)
+            }
+        }
+        "items" | "each" | "entries" | "keys" | "values" => {
+            let words =
+                "a `for` goes over a map itself and gives pairs: `pair[0]` is the key, `pair[1]` the value";
+            Wording::plain(opening, words)
+        }
+        _ => {
+            let words = "`….…()` isn't known; a filter, as `a | size`, stands for a call";
+            Wording::quoting(opening, words, front, step)
+        }
+    }
+}
+
+/// What the message says of parentheses that hold no range, where nothing is called.
+fn no_range(spot: &Spot<'_>) -> Option<&'static str> {
+    match spot.site {
+        Site::Condition => {
+            Some("a condition has no parentheses; put one `{% if %}` inside another")
+        }
+        Site::Loop if spot.count == 0 => {
+            Some("a loop has one name and no parentheses around it, as `{% for i in list %}`")
+        }
+        Site::Loop => Some("a range has two ends and two dots between them, as `(1..5)`"),
+        _ if spot.rest.starts_with("}}") => None,
+        _ => Some(
+            "parentheses hold a range alone, as `(1..5)`; a filter, as `a | size`, stands for a call",
+        ),
+    }
+}

@@ -1,5 +1,0 @@
-use Rattle.liquid_list_filters.proofs.EachLaw.{sort_natural_twice_is_once}
-use Rattle.liquid_list_filters.proofs.laws.sort_natural_twice_is_once.Goals as goal
-
-pub returns : goal.returns
-returns c = sort_natural_twice_is_once

@@ -1,5 +1,0 @@
-use Rattle.liquid_text_filters.proofs.Ones.{replace_first_law}
-use Rattle.liquid_text_filters.proofs.laws.replace_first_is_one.Goals as goal
-
-pub returns : goal.returns
-returns c = replace_first_law

@@ -1,5 +1,0 @@
-use Rattle.liquid_text_filters.proofs.Standing.{strip_newlines_law}
-use Rattle.liquid_text_filters.proofs.laws.strip_newlines_is_one.Goals as goal
-
-pub returns : goal.returns
-returns c = strip_newlines_law

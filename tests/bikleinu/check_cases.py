@@ -1,0 +1,102 @@
+"""The cases of `bikleinu check`, for tests/bikleinu/run: the fields of each."""
+
+
+def case(title, words, files, out="", status=0, errors=(), **more):
+    return {"title": title, "words": words, "files": files, "out": out, "status": status, "errors": errors, **more}
+
+
+def counted(files, faults=0, warnings=0):
+    return (f"files {files}, faults {faults}, warnings {warnings}",)
+
+
+NOPE = "t:1:1: UnknownTag: no tag is named `nope`; a value is shown by `{{ nope }}`\n  |\n1 | {% nope %}\n  | ^\n"
+TWO = {"t": "{% nope %}\n{{ a | xyzzy }}"}
+SECOND = "t:2:8: UnknownFilter: no filter is named `xyzzy`\n  |\n2 | {{ a | xyzzy }}\n  |        ^\n"
+JSON = '{"file":"%s","line":%d,"column":%d,"kind":"%s","severity":"%s","message":"%s"}\n'
+
+
+def json(path, line, column, kind, message, severity="error"):
+    return JSON % (path, line, column, kind, severity, message)
+
+
+def hundred(count):
+    return "".join(json("t", 1, 5 * n + 3, "Expected", "found `|` where a value is wanted") for n in range(count))
+
+
+def fault_cases():
+    return [
+        case("no fault", "check t", {"t": "{{ a }}"}, errors=counted(1)),
+        case("the filters of a set", "check t --filters jekyll", {"t": "{{ a | relative_url }}"}, errors=counted(1)),
+        case("data by its forms", "check t -d d --decimals text", {"t": "{{ a }}", "d": '{"a": 1.5}'}, errors=counted(1)),
+        case("a fault", "check t", {"t": "{% nope %}"}, NOPE, 1, counted(1, 1)),
+        case("every fault", "check t", TWO, NOPE + SECOND, 1, counted(1, 2)),
+        case("an end that a misspelt tag leaves over isn't reported", "check t --format json", {"t": "{% fro a in b %}{{ a }}{% endfor %}"}, json("t", 1, 1, "UnknownTag", "no tag is named `fro`; did you mean `for`?"), 1, counted(1, 1)),
+        case("a folder, in order", "check f --format json", {"f/b.html": "{{", "f/a/c.md": "{{", "f/.hidden": "{{", "f/ok": "{}"}, json("f/a/c.md", 1, 1, "Unclosed", "this `{{` has no `}}`") + json("f/b.html", 1, 1, "Unclosed", "this `{{` has no `}}`"), 1, counted(3, 2)),
+        case("a file twice", "check t ./t . --format json", {"t": "{{"}, json("t", 1, 1, "Unclosed", "this `{{` has no `}}`"), 1, counted(1, 1)),
+        case("standard input", "check -", {}, NOPE.replace("t:1", "standard input:1"), 1, counted(1, 1), given="{% nope %}"),
+        case("standard input twice", "check - -", {}, status=2, errors=("error: standard input can be read only once",)),
+        case("partials are checked", "check t -p parts --format json", {"t": "{% render 'a' %}", "parts/a.liquid": "{{"}, json("parts/a.liquid", 1, 1, "Unclosed", "this `{{` has no `}}`"), 1, counted(2, 1)),
+        case("fewer than a hundred faults", "check t --format json", {"t": "{{|}}" * 99}, hundred(99), 1, counted(1, 99)),
+        case("more than a hundred faults", "check t --format json", {"t": "{{|}}" * 101}, hundred(100), 1, ("error: t: only the first 100 faults are looked for", *counted(1, 100))),
+    ]
+
+
+def format_cases():
+    return [
+        case("GitHub's lines", "check t --format github", TWO, "::error file=t,line=1,col=1,title=UnknownTag::no tag is named `nope`; a value is shown by `{{ nope }}`\n::error file=t,line=2,col=8,title=UnknownFilter::no filter is named `xyzzy`\n", 1, counted(1, 2)),
+        case("escapes of GitHub's lines", "check 'a,b:%' --format github", {"a,b:%": "{{ '%' | xyzzy }}{{ a % b }}"}, "::error file=a%2Cb%3A%25,line=1,col=10,title=UnknownFilter::no filter is named `xyzzy`\n::error file=a%2Cb%3A%25,line=1,col=23,title=BadItem::`%25` is written as a filter, `a | modulo: b`\n", 1, counted(1, 2)),
+        case("escapes of JSON", "check 'a\"\\' --format json", {'a"\\': "{{"}, json('a\\"\\\\', 1, 1, "Unclosed", "this `{{` has no `}}`"), 1, counted(1, 1)),
+        case("a name with a line end", "check 'a\nb'", {"a\nb": "{% nope %}"}, NOPE.replace("t:1", "a?b:1"), 1, counted(1, 1)),
+        case("another format", "check t --format xml", {"t": ""}, status=2, errors=("error: invalid value 'xml' for '--format <FORMAT>'", "  [possible values: text, json, github]")),
+    ]
+
+
+def file_cases():
+    return [
+        case("no words", "check", {}, status=2, errors=("error: the following required arguments were not provided", "  <PATH>...")),
+        case("no file", "check u t", {"t": ""}, status=1, errors=("error: u: there is no such file", *counted(1))),
+        case("an empty folder", "check f", {"f/": ""}, status=1, errors=("error: f: there is no file in this folder", *counted(0))),
+        case("no folder of partials", "check t -p u", {"t": ""}, status=1, errors=("error: u: there is no such file", *counted(1))),
+        case("a file that isn't UTF-8", "check f", {"f/a": b"a\n\xff", "f/b": ""}, status=1, errors=("error: f/a: the file isn't UTF-8: line 2, column 1", *counted(1))),
+        case("what is no text in a folder is passed over", "check f", {"f/a.png": b"\x89PNG\0\xff", "f/b": ""}, errors=counted(1)),
+        case("what is no text by its name", "check f/a.png", {"f/a.png": b"\x89PNG\0\xff"}, status=1, errors=("error: f/a.png: the file isn't UTF-8: line 1, column 1", *counted(0))),
+        case("data with a fault", "check t -d d", {"t": "", "d": "["}, status=1, errors=("error: d: InvalidInput: in the data: line 1, column ",)),
+    ]
+
+
+def warning(path, line, column, kind, message):
+    return json(path, line, column, kind, message, "warning")
+
+
+def warned(title, words, files, out, count=1, number=1):
+    return case(title, f"check {words} --format json", files, out, errors=counted(number, 0, count))
+
+
+def partial_cases():
+    return [
+        case("a warning is no fault", "check t -p p", {"t": "{% render 'haed' %}", "p/head.html": "{% render 'head' %}"}, "t:1:1: warning: MissingPartial: no partial is named `haed`; did you mean `head`?\n  |\n1 | {% render 'haed' %}\n  | ^\np/head.html:1:1: warning: RecursivePartial: the partial `head` runs itself from here; a run ends where partials are 32 deep\n  |\n1 | {% render 'head' %}\n  | ^\n", errors=counted(2, 0, 2)),
+        warned("no partial of the name", "t -p p", {"t": "{% include 'xyz' %}{% include 'a' %}", "p/a": ""}, warning("t", 1, 1, "MissingPartial", "no partial is named `xyz`"), 1, 2),
+        warned("a render finds a name with .liquid, an include doesn't", "t -p a.liquid=x", {"t": "{% render 'a' %}{% include 'a' %}", "x": ""}, warning("t", 1, 17, "MissingPartial", "no partial is named `a`"), 1, 2),
+        warned("no partials are given", "t", {"t": "{% include 'a' %}"}, "", 0),
+        warned("a partial that nothing runs", "t -p p", {"t": "{% render 'a' %}", "p/a": "", "p/b": ""}, warning("p/b", 1, 1, "UnusedPartial", "none of the templates runs this partial"), 1, 3),
+        warned("a partial that a name in the data may run", "t -p p", {"t": "{% render a %}", "p/b": ""}, "", 0, 2),
+        warned("pages among the partials", "f -p f", {"f/a": "{% render 'b' %}", "f/b": ""}, "", 0, 2),
+        warned("a folder of partials inside that of pages", "f -p f/p", {"f/a": "", "f/p/b": ""}, warning("f/p/b", 1, 1, "UnusedPartial", "none of the templates runs this partial"), 1, 2),
+        warned("a circle of partials", "t -p p", {"t": "{% render 'a' %}", "p/a": "{% render 'b' %}", "p/b": "{% render 'c' %}{% render 'a' %}", "p/c": ""}, warning("p/b", 1, 17, "RecursivePartial", "the partial `a` runs itself from here; a run ends where partials are 32 deep"), 1, 4),
+    ]
+
+
+def name_cases():
+    return [
+        warned("a name that the data lacks", "t -d d", {"t": "{{ nane }}{{ name }}{{ xyzzy }}{{ nane }}", "d": '{"name": 1}'}, warning("t", 1, 1, "UnknownName", "the data has no `nane`; did you mean `name`?") + warning("t", 1, 21, "UnknownName", "the data has no `xyzzy`"), 2),
+        warned("names that tags set", "t -d d -p p", {"t": "{% assign a = 1 %}{% capture b %}{% endcapture %}{{ a }}{{ b }}{% for i in l %}{{ i }}{{ forloop.index }}{% endfor %}{% increment n %}{{ n }}{% render 'q', k: 1 %}", "p/q": "{{ k }}", "d": '{"l": []}'}, "", 0, 2),
+        warned("a variable that nothing reads", "t", {"t": "{% assign a = 1 %}{% assign b = 1 %}{{ b }}{% capture c %}{% endcapture %}"}, warning("t", 1, 1, "UnusedVariable", "`a` is set here, and nothing reads it") + warning("t", 1, 44, "UnusedVariable", "`c` is set here, and nothing reads it"), 2),
+        warned("a partial reads it", "t -p p", {"t": "{% assign a = 1 %}{% include 'q' %}", "p/q": "{{ a }}"}, "", 0, 2),
+        warned("a partial that isn't known may read it", "t", {"t": "{% assign a = 1 %}{% include 'q' %}"}, "", 0),
+        warned("the present time", "t", {"t": "{{ 'now' | date: '%Y' }}{{ 'now' | upcase }}{% assign a = 'today' | date: '%Y' %}{{ a }}"}, warning("t", 1, 1, "NoClock", "`'now' | date` gives `now`, since there is no clock; give the time as data") + warning("t", 1, 45, "NoClock", "`'today' | date` gives `today`, since there is no clock; give the time as data"), 2),
+        warned("an else with a condition", "t", {"t": "{% if a %}{% else if b %}{% else %}{% endif %}" .replace("{% else %}", "")}, warning("t", 1, 11, "ElseIf", "what stands after `else` isn't read; for a condition write `elsif`")),
+    ]
+
+
+def check_cases():
+    return fault_cases() + format_cases() + file_cases() + partial_cases() + name_cases()

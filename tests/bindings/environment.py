@@ -1,0 +1,272 @@
+"""Calls the package for Python as its users do: values that JSON doesn't have, environments, partials of a folder, pickles."""
+import collections
+import dataclasses
+import decimal
+import doctest
+import enum
+import importlib
+import os
+import pickle
+import sys
+import tempfile
+import types
+import uuid
+from datetime import date, datetime, time, timedelta, timezone
+
+HERE = os.path.dirname(os.path.abspath(__file__))
+TOP = os.path.dirname(os.path.dirname(HERE))
+sys.dont_write_bytecode = True
+sys.path.insert(0, HERE)
+if "--installed" not in sys.argv:
+    sys.path.insert(1, f"{TOP}/bindings/python")
+
+import bikleinu
+from bikleinu import Data, DataError, Environment, Partials, Template
+from checks import first, raises, same, told
+
+Decimal = decimal.Decimal
+PLUS_TWO = timezone(timedelta(hours=2))
+
+
+class Colour(enum.Enum):
+    RED = "red"
+
+
+class Size(str, enum.Enum):
+    LARGE = "large"
+
+
+class Count(enum.IntEnum):
+    TWO = 2
+
+
+@dataclasses.dataclass
+class Person:
+    name: str
+
+
+def nested(levels):
+    """A map in which lists stand in one another, so many levels with the map."""
+    value = 1
+    for _ in range(levels - 1):
+        value = [value]
+    return {"a": value}
+
+
+def itself():
+    value = {}
+    value["me"] = value
+    return value
+
+
+SMALLER = 'give a whole number of a smaller unit, as cents, a text, or decimals="text"'
+OTHER = "give a dict, a list, a text, a whole number, True, False or None, as str(value), or convert it by default="
+DEEP = "more than 127 lists and maps stand in one another here, or one stands in itself"
+# Data that are refused: what str of the error says, and its number.
+REFUSED = [
+    ({"rows": [{"price": 1}, {"price": 19.99}]}, f"Float: rows[1].price: 19.99 is a float, and numbers are whole here: {SMALLER}", 7),
+    ({"a": 2.0}, f"Float: a: 2.0 is a float, and numbers are whole here: {SMALLER}", 7),
+    ({"a": Decimal("1.50")}, f"Float: a: 1.50 is a Decimal, and numbers are whole here: {SMALLER}", 7),
+    ({"a": float("nan")}, "InvalidInput: a: nan is a float, which JSON doesn't have: give None or a text", 2),
+    ({"a": Decimal("-Infinity")}, "InvalidInput: a: -Infinity is a Decimal, which JSON doesn't have: give None or a text", 2),
+    ({"a": 2**63}, "Float: a: 9223372036854775808 has more than 64 bits: give a text, as str(value)", 7),
+    ({"a": 10**5000}, "Float: a: a number of 16610 bits has more than 64 bits: give a text, as str(value)", 7),
+    ({"a": date(2024, 5, 3)}, "InvalidInput: a: 2024-05-03 is a date, which JSON doesn't have: give a text, or dates=True", 2),
+    ({"a": {"b": b"x"}}, "InvalidInput: a.b: a value of the class bytes, which JSON doesn't have: decode it, as value.decode()", 2),
+    ({"a": {1, 2}}, "InvalidInput: a: a value of the class set, which JSON doesn't have: give a list, which has an order, as sorted(value)", 2),
+    ({"a": (it for it in "ab")}, "InvalidInput: a: a value of the class generator, which JSON doesn't have: give a list, as list(value)", 2),
+    ({"a": Colour.RED}, "InvalidInput: a: a value of the class Colour, which JSON doesn't have: give value.value", 2),
+    ({"a": Person("Ada")}, "InvalidInput: a: a value of the class Person, which JSON doesn't have: give dataclasses.asdict(value)", 2),
+    ({"a": time(1, 2)}, f"InvalidInput: a: a value of the class time, which JSON doesn't have: {OTHER}", 2),
+    ({"a": uuid.UUID(int=1)}, f"InvalidInput: a: a value of the class UUID, which JSON doesn't have: {OTHER}", 2),
+    ({"a": [{2: 3}]}, "InvalidInput: a[0]: has the key 2, a value of the class int, and names are texts: give str(key)", 2),
+    ({None: 3}, "InvalidInput: the data: has the key None, a value of the class NoneType, and names are texts: give str(key)", 2),
+    ({"unit price": [1.5]}, f'Float: ["unit price"][0]: 1.5 is a float, and numbers are whole here: {SMALLER}', 7),
+    ({"a\n": 1.5}, f'Float: ["a\\u{{a}}"]: 1.5 is a float, and numbers are whole here: {SMALLER}', 7),
+    ({"a": ["\ud800"]}, "NoText: a[0]: the text holds half of a surrogate pair, so it can't be written as UTF-8", 101),
+    ([1], "InvalidInput: the data: a value of the class list, and a mapping from names to values is wanted", 2),
+    (nested(128), f"InvalidInput: a{'[0]' * 20}: {DEEP}".replace("[0]: more", "..: more"), 2),
+]
+
+
+def refused():
+    for data, message, number in REFUSED:
+        try:
+            Data(data)
+            return f"no error, and {message} is wanted"
+        except DataError as error:
+            shown = str(error)
+            if (shown, error.number) != (message, number) and not (DEEP in message and DEEP in shown):
+                return f"{shown!r}, {error.number}, and {message!r}, {number} is wanted"
+            if str(pickle.loads(pickle.dumps(error))) != shown:
+                return "another error when it was pickled"
+    return None
+
+
+# Values, what `{{ a }}` shows of them, and the options.
+SHOWN = [
+    (19.99, "19.99", {"decimals": "text"}),
+    (2.0, "2.0", {"decimals": "text"}),
+    (1e22, "1" + "0" * 22, {"decimals": "text"}),
+    (1e-7, "0.0000001", {"decimals": "text"}),
+    (Decimal("19.90"), "19.90", {"decimals": "text"}),
+    (Decimal("1E+1000000000"), "1E+1000000000", {"decimals": "text"}),
+    (date(2024, 5, 3), "2024-05-03 00:00:00 +0000", {"dates": True}),
+    (date(2024, 5, 3), "2024-05-03 00:00:00 +0200", {"dates": PLUS_TWO}),
+    (datetime(24, 5, 3, 14, 30, 1, 5, PLUS_TWO), "0024-05-03 14:30:01 +0200", {"dates": True}),
+    (datetime(2024, 5, 3, 14, 30, tzinfo=timezone(timedelta(minutes=-90))), "2024-05-03 14:30:00 -0130", {"dates": True}),
+    (datetime(2024, 5, 3, 14, 30), "2024-05-03 14:30:00 +0200", {"dates": PLUS_TWO}),
+    (Colour.RED, "red", {"default": lambda value: value.value}),
+    (1.5, "3", {"default": lambda value: int(value * 2)}),
+    (Size.LARGE, "large", {}),
+    (Count.TWO, "2", {}),
+    (-(2**63), "-9223372036854775808", {}),
+    (types.MappingProxyType({"b": 1}), "b1", {}),
+    (collections.ChainMap({"b": 1}), "b1", {}),
+    ((1, 2), "12", {}),
+    ("\u00e9\U0001f600", "\u00e9\U0001f600", {}),
+]
+UNDATED = "2024-05-03 00:00:00 is a datetime without a time zone: give it one, or to all such dates=timezone.utc"
+NO_DATE = "which no date of the language is: its offset has whole minutes, and its year is below 9999"
+
+
+def shown():
+    template = Template("{{ a }}")
+    return first(
+        [
+            *(same(lambda: template.render(Data({"a": value}, **how)), text) for value, text, how in SHOWN),
+            same(lambda: Data({"a": datetime(2024, 5, 3)}, dates=True), f"DataError: InvalidInput: a: {UNDATED}"),
+            same(
+                lambda: Data({"a": datetime(9999, 1, 1, tzinfo=PLUS_TWO)}, dates=True),
+                f"DataError: InvalidInput: a: 9999-01-01 00:00:00+02:00 is a datetime, {NO_DATE}",
+            ),
+            same(
+                lambda: Data({"a": datetime(2024, 1, 1, tzinfo=timezone(timedelta(hours=1, seconds=1)))}, dates=True),
+                f"DataError: InvalidInput: a: 2024-01-01 00:00:00+01:00:01 is a datetime, {NO_DATE}",
+            ),
+            same(lambda: Data(itself()).__class__, f"DataError: InvalidInput: {'me.' * 20}..: {DEEP}"),
+            same(lambda: Data({"a": 1.5}, default=lambda value: value), f"DataError: InvalidInput: a: {DEEP}"),
+            same(lambda: template.render(Data(nested(127))), "1"),
+            same(lambda: Template("{{ a | date: '%-d %B %Y %z' }}").render(Data({"a": date(2024, 5, 3)}, dates=True)), "3 May 2024 +0000"),
+            raises(lambda: Data({}, decimals="float"), ValueError),
+            raises(lambda: Data({}, dates="utc"), TypeError),
+        ]
+    )
+
+
+def names():
+    template = Template("{{ a }}{{ b }}")
+    return first(
+        [
+            same(lambda: template.render(a=1, b=2), "12"),
+            same(lambda: template.render({"a": 1, "b": 1}, b=2), "12"),
+            same(lambda: bikleinu.render("{{ data }}", {"data": 3}), "3"),
+            raises(lambda: template.render('{"a": 1}', b=2), TypeError),
+            raises(lambda: template.render(Data({"a": 1}), b=2), TypeError),
+            same(lambda: template.render(a=1, b=1.5), f"DataError: Float: b: 1.5 is a float, and numbers are whole here: {SMALLER}"),
+        ]
+    )
+
+
+def one_data():
+    """Data that are read once and rendered by many templates."""
+    data = Data({"n": [1, 2, 3]})
+    pages = [Template(source).render(data) for source in ("{{ n[0] }}", "{{ n.last }}", "{{ n | join: '-' }}", "{{ n }}")]
+    return None if pages == ["1", "3", "1-2-3", "123"] else f"{pages}"
+
+
+def environment():
+    made = Environment(partials={"end": "{{ n }}{% render 'deep' %}", "deep": "!"}, decimals="text", depth=1, max_bytes=5)
+    template = made.from_string("{{ n }}:{% include 'end' %}")
+    return first(
+        [
+            same(lambda: made.from_string("{{ n }}{% render 'deep' %}").render(n=1.5), "1.5!"),
+            same(lambda: template.page(n=1).fault.name, "TooDeep"),
+            same(lambda: template.render(n=1, depth=2), "1:1!"),
+            same(lambda: template.page(n=100, depth=2).fault.name, "BytesReached"),
+            same(lambda: template.render({"n": 100}, {"end": ""}, max_bytes=9), "100:"),
+            same(lambda: made.get_template("deep").render(), "!"),
+            same(lambda: made.get_template("deep") is made.get_template("deep"), True),
+            same(lambda: made.get_template("dep"), "LookupError: no partial is named 'dep'; did you mean 'deep'?"),
+            same(lambda: made.from_string("{{ n }}").render(made.data({"n": 0.5})), "0.5"),
+            same(
+                lambda: made.from_string("{{ x | pope }}"),
+                "LiquidError: UnknownFilter: line 1, column 8: no filter is named `pope`; did you mean `pop`?",
+            ),
+            raises(lambda: Environment(depth=-1), ValueError),
+            raises(lambda: Environment(max_turns=0), ValueError),
+            raises(lambda: Environment(partials=["p"]), TypeError),
+            same(lambda: made.partials.insert("deep", "?") or made.get_template("deep").render(), "?"),
+        ]
+    )
+
+
+def pickled():
+    """Templates with their environment, as worker processes get them."""
+    made = Environment(partials={"end": "!"}, dates=PLUS_TWO, decimals="text", max_turns=50, default=str)
+    template = made.from_string("{{ a }} {{ b }} {{ c }}{% include 'end' %}")
+    first_one, second = pickle.loads(pickle.dumps([template, made.get_template("end")]))
+    page = first_one.render(a=date(2024, 5, 3), b=0.5, c=uuid.UUID(int=1))
+    wanted = "2024-05-03 00:00:00 +0200 0.5 00000000-0000-0000-0000-000000000001!"
+    return first(
+        [
+            None if page == wanted else f"{page!r}",
+            None if second.render() == "!" and first_one.source == template.source else "another template",
+            None if first_one.page(c="x" * 9, a=1).fault.name == "UnknownVariable" else "another fault",
+            raises(lambda: pickle.dumps(Data({})), TypeError),
+            raises(lambda: pickle.dumps(Environment(default=lambda value: value)), (pickle.PicklingError, AttributeError)),
+        ]
+    )
+
+
+FILES = {"a.liquid": "1", "a": "2", "b.html.liquid": "3", "parts/line.liquid": "{{ x }}\r\n", "parts/.hidden": "{% nope %}", ".git/x": "{%"}
+
+
+def folder():
+    """The files of a folder as partials."""
+    with tempfile.TemporaryDirectory() as room:
+        for path, text in FILES.items():
+            os.makedirs(os.path.dirname(f"{room}/{path}"), exist_ok=True)
+            with open(f"{room}/{path}", "w", encoding="utf-8", newline="") as file:
+                file.write(text)
+        os.symlink(f"{room}/parts", f"{room}/link")
+        os.symlink(f"{room}/a", f"{room}/c")
+        found = Partials.from_folder(room)
+        page = Template("{% include 'a' %}{% include 'a.liquid' %}{% include 'b.html' %}{% render 'parts/line', x: 7 %}{% render 'c' %}")
+        wrong = first(
+            [
+                same(lambda: sorted(found.sources), ["a", "a.liquid", "b.html", "b.html.liquid", "c", "parts/line", "parts/line.liquid"]),
+                same(lambda: page.render(None, found), "2137\r\n2"),
+                same(lambda: Environment(partials=room).get_template("parts/line").render(x=5), "5\r\n"),
+                raises(lambda: Partials.from_folder(f"{room}/nothing"), FileNotFoundError),
+                raises(lambda: Partials.from_folder(f"{room}/a"), NotADirectoryError),
+            ]
+        )
+        with open(f"{room}/b.html.liquid", "wb") as file:
+            file.write(b"one\ntwo\xff")
+        told = f"LiquidError: NoText: the file '{room}/b.html.liquid' is no UTF-8 in line 2"
+        return wrong or same(lambda: Partials.from_folder(room), told)
+
+
+def examples():
+    """The examples of the docstrings."""
+    names = [it[: -len(".py")] for it in os.listdir(bikleinu.__path__[0]) if it.endswith(".py") and not it.startswith("__")]
+    modules = [bikleinu, *(importlib.import_module(f"bikleinu.{name}") for name in names)]
+    results = [(module.__name__, doctest.testmod(module, report=False)) for module in modules]
+    wrong = [name for name, result in results if result.failed]
+    return f"{wrong}" if wrong or sum(result.attempted for _, result in results) < 10 else None
+
+
+CHECKS = {
+    "data that are refused": refused,
+    "what is made of values": shown,
+    "names beside data": names,
+    "data that are read once": one_data,
+    "an environment": environment,
+    "pickles": pickled,
+    "partials of a folder": folder,
+    "examples of the docstrings": examples,
+}
+
+if __name__ == "__main__":
+    told(CHECKS.items())

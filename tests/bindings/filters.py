@@ -1,0 +1,192 @@
+"""Filters in Python, Jekyll's language, names, and what stands for names that the data lack."""
+import os
+import pickle
+import sys
+import threading
+
+HERE = os.path.dirname(os.path.abspath(__file__))
+TOP = os.path.dirname(os.path.dirname(HERE))
+sys.dont_write_bytecode = True
+sys.path.insert(0, HERE)
+if "--installed" not in sys.argv:
+    sys.path.insert(1, f"{TOP}/bindings/python")
+
+from bikleinu import Environment, Language, LimitError, LiquidError, Partials, Template
+from checks import first, raises, same, told
+
+
+def money(cents, currency="EUR"):
+    return f"{cents // 100}.{cents % 100:02} {currency}"
+
+
+def pages():
+    """A filter gets its input and arguments, and its answer stands in the page as any other value."""
+    made = Environment(filters={"money": money, "same": lambda value: value, "all": lambda *values: list(values)})
+
+    @made.filter()
+    def shout(text):
+        return text.upper() + "!"
+
+    @made.filter("size")
+    def own_size(value):
+        return "own"
+
+    data = {"a": {"b": ["x", None, True, -3], 'c"': "\u00e9\n"}, "n": 1999}
+    return first(
+        [
+            same(lambda: made.from_string("{{ n | money }}, {{ 5 | money: 'USD' }}").render(data), "19.99 EUR, 0.05 USD"),
+            same(lambda: made.from_string("{{ 'a' | shout | append: '?' | shout }}").render(), "A!?!"),
+            same(lambda: made.from_string("{{ 'abc' | size }}").render(), "own"),
+            same(lambda: made.from_string("{{ a.b | same | last }}{% assign s = a | same %}{{ s.b[0] }}").render(data), "-3x"),
+            same(lambda: made.from_string("{{ 1 | all: 'b', true | join: '-' }}").render(), "1-b-true"),
+            same(lambda: made.from_string("{% if n > 1 %}{{ n | money }}{% else %}{{ 'x' | money }}{% endif %}").render(data), "19.99 EUR"),
+            same(lambda: Template("{{ 1 | money }}", Language(filters={"money": money})).render(), "0.01 EUR"),
+            same(lambda: own_size(3), "own"),
+        ]
+    )
+
+
+def asked_once():
+    """Each call is made once, also for further pages, and by each thread for itself."""
+    asked = []
+    made = Environment(filters={"twice": lambda number: asked.append(number) or number * 2})
+    template = made.from_string("{% for i in (1..3) %}{{ i | twice }},{{ 2 | twice }};{% endfor %}{{ n | twice }}")
+    told = [template.render(n=4), template.render(n=5), sorted(asked)]
+    thread = threading.Thread(target=lambda: told.append(template.render(n=4)))
+    thread.start()
+    thread.join()
+    wanted = ["2,4;4,4;6,4;8", "2,4;4,4;6,4;10", [1, 2, 3, 4, 5], "2,4;4,4;6,4;8"]
+    return None if told == wanted and len(asked) == 9 else f"{told}, {asked}"
+
+
+class Lost(Exception):
+    pass
+
+
+def errors():
+    """An error of a function ends a page that makes the call, and isn't kept."""
+    fails = [True]
+
+    def looked_up(key):
+        if fails[0]:
+            raise Lost(f"no {key}\nin the shelf")
+        return "found"
+
+    made = Environment(filters={"look_up": looked_up, "half": lambda number: number / 2}, decimals=None)
+    template = made.from_string("a{{ 'b' | look_up }}c")
+    try:
+        template.render()
+        return "no fault"
+    except LiquidError as fault:
+        wrong = first(
+            [
+                None if (fault.name, fault.text, fault.place.column) == ("InvalidInput", "a", 2) else f"{fault!r}",
+                None if "look_up" in fault.message and "Lost: no b in the shelf" in fault.message else fault.message,
+                None if isinstance(fault.__cause__, Lost) else f"the cause {fault.__cause__!r}",
+            ]
+        )
+    fails[0] = False
+    half = made.from_string("{{ 3 | half }}").page().fault
+    return wrong or first(
+        [
+            same(lambda: template.render(), "afoundc"),
+            same(lambda: made.from_string("{% if false %}{{ 'x' | look_up }}{% endif %}ok").render(), "ok"),
+            None if half and "1.5 is a float" in half.message and half.__cause__.path == "answer" else f"{half!r}",
+            raises(lambda: made.from_string("{{ 1 | half: 2 }}"), LiquidError),
+            raises(lambda: Language(filters={"f": lambda: 1}), TypeError),
+            raises(lambda: Environment(filters={"f": 3}), TypeError),
+        ]
+    )
+
+
+def rounds():
+    source = "{% assign x = 0 %}{% for i in (1..n) %}{% assign x = x | next %}{% endfor %}{{ x }}"
+    template = Environment(filters={"next": lambda number: (number or 0) + 1}).from_string(source)
+    few = Environment(filters={"next": lambda number: (number or 0) + 1}, max_rounds=3).from_string(source)
+    return first(
+        [
+            same(lambda: template.render(n=40), "40"),
+            raises(lambda: template.render(n=400), LimitError),
+            same(lambda: few.render(n=3), "3"),
+            raises(lambda: few.render(n=7), LimitError),
+            same(lambda: few.render(n=1), "1"),
+            raises(lambda: Environment(max_rounds=0), ValueError),
+        ]
+    )
+
+
+def partials():
+    """Partials that are parsed with the first template know the filters that were added until then."""
+    made = Environment(partials={"price": "{{ cents | money }}"})
+    made.filter("money")(money)
+    template = made.from_string("{% render 'price', cents: 250 %}")
+    again = pickle.loads(pickle.dumps(template))
+    return first([same(lambda: template.render(), "2.50 EUR"), same(lambda: again.render(), "2.50 EUR")])
+
+
+def names():
+    made = Environment(partials={"end": "{{ inner }}"}, missing=lambda name: f"<{name}>")
+    template = made.from_string("{{ outer }}{{ given }}{% for i in (1..2) %}{{ i }}{% endfor %}{% include 'end' %}")
+    nil = Environment(missing=lambda name: None).from_string("[{{ a }}{% if b %}b{% endif %}]")
+    found = template.names()
+    return first(
+        [
+            None if {"given", "inner", "outer"} <= set(found) and found == sorted(set(found)) else f"{found}",
+            same(lambda: "inner" in template.names({}), False),
+            same(lambda: template.render(given=1), "<outer>112<inner>"),
+            same(lambda: template.render({"outer": None, "inner": 3}, given=1), "1123"),
+            same(lambda: nil.render(), "[]"),
+            same(lambda: nil.render(b=1), "[b]"),
+        ]
+    )
+
+
+def jekyll():
+    made = Environment(jekyll=True, partials={"card.html": "[{{ include.a }}]"})
+    copied = pickle.loads(pickle.dumps(made))
+    page = same(lambda: made.from_string("{% include card.html a='b' %}").render(), "[b]")
+    copy = same(lambda: copied.from_string("{% include card.html a='b' %}").render(), "[b]")
+    return page or copy or raises(lambda: Template("{% include card.html a='b' %}"), LiquidError)
+
+
+def mails():
+    """Ten thousand mails on four threads, with a filter; each thousandth has a fault, which is told with its place."""
+    made = Environment(filters={"money": money}, partials={"end": "\n{{ from }}"})
+    template = made.from_string("Dear {{ name }}: {{ cents | money }}{% include 'end' %}")
+    faults, wrong = [], []
+
+    def run(first_number):
+        for number in range(first_number, 10_001, 4):
+            data = {"name": f"R{number}", "cents": number % 500, "from": "B."}
+            if number % 1000 == 0:
+                del data["from"]
+            page = template.page(data)
+            text = f"Dear R{number}: {number % 500 // 100}.{number % 100:02} EUR\n"
+            if page.fault:
+                faults.append((number, page.fault.name, str(page.fault.place), page.text))
+            if page.text != (text if page.fault else f"{text}B."):
+                wrong.append(page.text)
+
+    threads = [threading.Thread(target=run, args=(number,)) for number in (1, 2, 3, 4)]
+    for thread in threads:
+        thread.start()
+    for thread in threads:
+        thread.join()
+    place = "in the partial `end`: line 2, column 1"
+    wanted = [(number, "UnknownVariable", place, f"Dear R{number}: 0.00 EUR\n") for number in range(1000, 10_001, 1000)]
+    return wrong[0] if wrong else None if sorted(faults) == wanted else f"{sorted(faults)}"
+
+
+CHECKS = {
+    "pages of filters in Python": pages,
+    "each call once": asked_once,
+    "errors of functions": errors,
+    "rounds": rounds,
+    "filters in partials": partials,
+    "ten thousand mails on four threads": mails,
+    "names": names,
+    "Jekyll's language": jekyll,
+}
+
+if __name__ == "__main__":
+    told(CHECKS.items())

@@ -1,0 +1,211 @@
+/* Pages with filters of the caller's: which calls a table is told to lack, what becomes of the answers that are put into it, and which
+ * calls can't be. Each rendering is made once more for each of its requests for memory, of which that one is refused: it then has to
+ * answer BIKLEINU_MEMORY, or that calls are lacking, and called again what it answered at first. When all is freed, no memory may be
+ * left. A line tells each thing that isn't well, and the last one "tables: N". */
+#define _GNU_SOURCE
+#include <stdio.h>
+#include <stdlib.h>
+#include <string.h>
+
+#include "bikleinu.h"
+
+extern void *__libc_malloc(size_t), *__libc_realloc(void *, size_t);
+extern void __libc_free(void *);
+
+static size_t requests, refused_at, blocks, tests, wrong;
+static bool counts;
+
+static bool is_refused(void) { return counts && ++requests == refused_at; }
+
+void *malloc(size_t size) {
+    void *made = is_refused() ? NULL : __libc_malloc(size);
+    blocks += made != NULL;
+    return made;
+}
+
+void *realloc(void *old, size_t size) {
+    void *made = is_refused() ? NULL : __libc_realloc(old, size);
+    blocks += !old && made;
+    return made;
+}
+
+void free(void *old) {
+    blocks -= old != NULL;
+    __libc_free(old);
+}
+
+enum { ROOM = 4096 };
+
+static const char two_filters[] = "{{ p | money: 'EUR' }} {{ n | shout | shout }} {{ p | money: 'EUR' }}";
+static bikleinu_handle language, template_, data, partials, answers, page, answer;
+
+static const uint8_t *bytes(const char *text) { return (const uint8_t *)text; }
+
+static const char *read_part(bikleinu_handle *handle, uint32_t part) {
+    static char text[ROOM];
+    text[bikleinu_copy(handle, part, (uint8_t *)text, ROOM - 1)] = 0;
+    return text;
+}
+
+static void is(const char *what, uint32_t found, uint32_t wanted) {
+    tests++;
+    if (found == wanted) return;
+    wrong++;
+    printf("%s: %u, not %u\n", what, (unsigned)found, (unsigned)wanted);
+}
+
+static void reads(const char *what, bikleinu_handle *handle, uint32_t part, const char *wanted) {
+    const char *found = read_part(handle, part);
+    tests++;
+    if (!strcmp(found, wanted)) return;
+    wrong++;
+    printf("%s: %s, not %s\n", what, found, wanted);
+}
+
+static void begin(const char *source, const char *json) {
+    is("language", bikleinu_language(&language), BIKLEINU_DONE);
+    is("register money", bikleinu_register(&language, bytes("money"), 5, 0, 1), BIKLEINU_DONE);
+    is("register shout", bikleinu_register(&language, bytes("shout"), 5, 0, 0), BIKLEINU_DONE);
+    is("parse", bikleinu_parse(&language, bytes(source), strlen(source), &template_), BIKLEINU_DONE);
+    is("data", bikleinu_data(bytes(json), strlen(json), &data), BIKLEINU_DONE);
+    is("answers", bikleinu_answers(&answers), BIKLEINU_DONE);
+    is("the filter money", bikleinu_answers_filter(&answers, bytes("money"), 5), BIKLEINU_DONE);
+    is("the filter shout", bikleinu_answers_filter(&answers, bytes("shout"), 5), BIKLEINU_DONE);
+}
+
+static void end(void) {
+    bikleinu_free(&language), bikleinu_free(&template_), bikleinu_free(&data), bikleinu_free(&partials);
+    bikleinu_free(&answers), bikleinu_free(&page), bikleinu_free(&answer);
+}
+
+static uint32_t render(void) {
+    bikleinu_limits limits = {0};
+    return bikleinu_render_with(&template_, &data, &partials, 32, &limits, &answers, &page);
+}
+
+/* The rendering, then with each of its requests refused, and what it leaves. */
+static void renders(uint32_t wanted, uint32_t part, const char *text) {
+    requests = refused_at = 0, counts = true;
+    uint32_t found = render();
+    counts = false;
+    is("render", found, wanted);
+    reads("page", &page, part, text);
+    for (size_t at = 1, most = requests; at <= most; at++) {
+        requests = 0, refused_at = at, counts = true;
+        found = render();
+        counts = false;
+        if (requests < at) break;
+        if (found != BIKLEINU_MEMORY && !(found == wanted && wanted == BIKLEINU_LACKING)) is("a refused request", found, BIKLEINU_MEMORY);
+    }
+    is("render again", render(), wanted);
+    reads("page again", &page, part, text);
+}
+
+static void answers_by(size_t number, const char *json) {
+    is("the answer", bikleinu_data(bytes(json), strlen(json), &answer), BIKLEINU_DONE);
+    is("answer", bikleinu_answer(&answers, &page, number, &answer), BIKLEINU_DONE);
+}
+
+/* A page by answers: in two rounds, as one filter stands over another. */
+static void of_rounds(void) {
+    begin(two_filters, "{\"p\":1999,\"n\":\"a\"}");
+    renders(BIKLEINU_LACKING, BIKLEINU_TEXT, "[[\"money\",1999,\"EUR\"],[\"shout\",null],[\"shout\",\"a\"]]");
+    is("calls", (uint32_t)bikleinu_calls(&page), 3);
+    answers_by(0, "{\"answer\":\"19.99 EUR\"}"), answers_by(1, "{}"), answers_by(2, "{\"answer\":\"A\"}");
+    renders(BIKLEINU_LACKING, BIKLEINU_TEXT, "[[\"shout\",\"A\"]]");
+    answers_by(0, "{\"answer\":[\"A\",\"!\"]}");
+    renders(BIKLEINU_DONE, BIKLEINU_TEXT, "19.99 EUR A! 19.99 EUR");
+    is("no calls", (uint32_t)bikleinu_calls(&page), 0);
+    end();
+}
+
+/* A page that ends by a fault of the caller's, and the same answered anew. */
+static void of_faults(void) {
+    begin("a{{ p | money }}b", "{\"p\":{\"x\":[true,null,-1]}}");
+    renders(BIKLEINU_LACKING, BIKLEINU_TEXT, "[[\"money\",{\"x\":[true,null,-1]}]]");
+    is("refuse", bikleinu_refuse(&answers, &page, 0, BIKLEINU_NUMBER_RANGE, bytes("too dear"), 8), BIKLEINU_DONE);
+    bikleinu_handle calls = page;
+    page = (bikleinu_handle)BIKLEINU_NONE;
+    renders(BIKLEINU_NUMBER_RANGE, BIKLEINU_TEXT, "a");
+    tests++;
+    if (!strstr(read_part(&page, BIKLEINU_MESSAGE), "too dear")) wrong++, printf("message: %s\n", read_part(&page, BIKLEINU_MESSAGE));
+    is("refuse by no kind", bikleinu_refuse(&answers, &calls, 0, 77, bytes("no"), 2), BIKLEINU_DONE);
+    renders(BIKLEINU_INVALID_INPUT, BIKLEINU_TEXT, "a");
+    is("an answer in its place", bikleinu_data(bytes("{\"answer\":7}"), 12, &answer), BIKLEINU_DONE);
+    is("put", bikleinu_answer(&answers, &calls, 0, &answer), BIKLEINU_DONE);
+    renders(BIKLEINU_DONE, BIKLEINU_TEXT, "a7b");
+    bikleinu_free(&calls);
+    end();
+}
+
+/* Calls that can't be. */
+static void of_refusals(void) {
+    begin("{{ p | money }}", "{\"p\":1}");
+    is("lacking", render(), BIKLEINU_LACKING);
+    is("a number too far", bikleinu_answer(&answers, &page, 1, &data), BIKLEINU_NO_SUCH_CALL);
+    is("no calls", bikleinu_answer(&answers, &data, 0, &data), BIKLEINU_OTHER_HANDLE);
+    is("no data", bikleinu_answer(&answers, &page, 0, &template_), BIKLEINU_OTHER_HANDLE);
+    is("no table", bikleinu_answer(&template_, &page, 0, &data), BIKLEINU_OTHER_HANDLE);
+    is("no text", bikleinu_refuse(&answers, &page, 0, 2, bytes("\xff"), 1), BIKLEINU_NO_TEXT);
+    is("no name", bikleinu_answers_filter(&answers, bytes("\xff"), 1), BIKLEINU_NO_TEXT);
+    is("a filter for a template", bikleinu_answers_filter(&template_, bytes("a"), 1), BIKLEINU_OTHER_HANDLE);
+    is("no name to register", bikleinu_register(&language, bytes("\xff"), 1, 0, 0), BIKLEINU_NO_TEXT);
+    is("to register in data", bikleinu_register(&data, bytes("a"), 1, 0, 0), BIKLEINU_OTHER_HANDLE);
+    is("nothing came of it", render(), BIKLEINU_LACKING);
+    bikleinu_handle none = BIKLEINU_NONE;
+    bikleinu_limits limits = {0};
+    is("without a table", bikleinu_render_with(&template_, &data, &partials, 32, &limits, &none, &page), BIKLEINU_OTHER_HANDLE);
+    is("a table without the filter", bikleinu_answers(&answers), BIKLEINU_DONE);
+    renders(BIKLEINU_UNSUPPORTED, BIKLEINU_TEXT, "");
+    is("with an argument too many", bikleinu_parse(&language, bytes("{{ 1 | shout: 2 }}"), 18, &page), BIKLEINU_FILTER_ARGUMENTS);
+    end();
+}
+
+/* The bounds: a page of 1,500 calls takes two rounds, and of long ones fewer are told at once. */
+static void of_bounds(void) {
+    begin("{% for i in (1..1500) %}{{ i | shout }}{% endfor %}", "{}");
+    is("many", render(), BIKLEINU_LACKING);
+    is("told", (uint32_t)bikleinu_calls(&page), BIKLEINU_CALLS);
+    is("the answer", bikleinu_data(bytes("{\"answer\":\"\"}"), 13, &answer), BIKLEINU_DONE);
+    for (uint32_t at = 0; at < BIKLEINU_CALLS; at++)
+        if (bikleinu_answer(&answers, &page, at, &answer)) is("answer", 1, 0);
+    is("the rest", render(), BIKLEINU_LACKING);
+    is("told too", (uint32_t)bikleinu_calls(&page), 1500 - BIKLEINU_CALLS);
+    for (uint32_t at = 0; at < 1500 - BIKLEINU_CALLS; at++)
+        if (bikleinu_answer(&answers, &page, at, &answer)) is("answer", 1, 0);
+    is("all", render(), BIKLEINU_DONE);
+    end();
+    begin("{% assign s = 'abcdefgh' %}{% for i in (1..15) %}{% assign s = s | append: s %}{% endfor %}"
+          "{% for i in (1..20) %}{{ s | append: i | shout | size }}{% endfor %}", "{}");
+    is("long", render(), BIKLEINU_LACKING);
+    tests++;
+    if (bikleinu_calls(&page) < 4 || bikleinu_calls(&page) > 5) wrong++, printf("long ones: %zu\n", bikleinu_calls(&page));
+    end();
+}
+
+/* Jekyll's language, and the names of a template. */
+static void of_languages(void) {
+    static const char source[] = "{% include p a=b %}{{ xs | sort: 'k', 'first' | join: ',' }}";
+    is("language", bikleinu_jekyll_language(&language), BIKLEINU_DONE);
+    is("parse", bikleinu_parse(&language, bytes(source), strlen(source), &template_), BIKLEINU_DONE);
+    is("partial", bikleinu_parse(&language, bytes("{{ include.a }}{{ z.y }}"), 24, &page), BIKLEINU_DONE);
+    is("names", bikleinu_names(&template_, &partials, &answer), BIKLEINU_DONE);
+    reads("names", &answer, BIKLEINU_TEXT, "[\"b\",\"include\",\"xs\"]");
+    is("partials", bikleinu_partials(&partials), BIKLEINU_DONE);
+    is("insert", bikleinu_insert(&partials, bytes("p"), 1, &page), BIKLEINU_DONE);
+    is("names", bikleinu_names(&template_, &partials, &answer), BIKLEINU_DONE);
+    reads("names", &answer, BIKLEINU_TEXT, "[\"b\",\"include\",\"xs\",\"z\"]");
+    is("names of a language", bikleinu_names(&language, &partials, &answer), BIKLEINU_OTHER_HANDLE);
+    end();
+    is("standard", bikleinu_language(&language), BIKLEINU_DONE);
+    is("in the standard language", bikleinu_parse(&language, bytes(source), strlen(source), &template_), BIKLEINU_EXPECTED);
+    end();
+}
+
+int main(void) {
+    size_t before = blocks;
+    of_rounds(), of_faults(), of_refusals(), of_languages(), of_bounds();
+    if (blocks != before) wrong++, printf("%zu pieces of memory are left\n", blocks - before);
+    printf("tables: %zu\n", tests);
+    return wrong != 0;
+}
