@@ -7,7 +7,7 @@ mod page;
 mod words;
 
 use crate::outcome::Outcome;
-use crate::page::{ReadTexts, Texts, Unreadable, page};
+use crate::page::{ReadFiles, Texts, Unreadable, page};
 use liquid_excerpts::{Excerpt, Reason};
 pub use liquid_page_texts::{data_from_json, run};
 use std::alloc::AllocError;
@@ -16,13 +16,13 @@ use std::{env, fs, io};
 
 /// The files of the system.
 #[derive(Drop)]
-struct Files<'r> {
+struct DiskFiles<'r> {
     rt: &'r HostRuntime,
     /// Why the last file that has no text has none.
     reason: Option<Reason>,
 }
 
-impl<'r> Texts for Files<'r> {
+impl<'r> Texts for DiskFiles<'r> {
     fn text_at(&mut self, path: &str) -> Result<String, Unreadable> {
         let reason = match fs::read(self.rt, path) {
             Ok(bytes) => match String::from_utf8(bytes) {
@@ -40,7 +40,7 @@ impl<'r> Texts for Files<'r> {
 }
 
 fn main(rt: HostRuntime) -> ExitCode {
-    let mut files = Files {
+    let mut files = DiskFiles {
         rt: &rt,
         reason: None,
     };
@@ -59,7 +59,7 @@ fn main(rt: HostRuntime) -> ExitCode {
 }
 
 /// How the call ended, and the texts that it read.
-fn outcome_of(rt: &HostRuntime, files: &mut Files<'_>) -> (Outcome, Option<ReadTexts>) {
+fn outcome_of(rt: &HostRuntime, files: &mut DiskFiles<'_>) -> (Outcome, Option<ReadFiles>) {
     let words = match words_given(rt) {
         Ok(words) => words,
         Err(outcome) => return (outcome, None),
@@ -69,7 +69,7 @@ fn outcome_of(rt: &HostRuntime, files: &mut Files<'_>) -> (Outcome, Option<ReadT
 }
 
 /// The line that the fault stands in, where it says where it stands. It takes no memory.
-fn excerpt_of<'t>(outcome: &Outcome, read: &'t Option<ReadTexts>) -> Option<Excerpt<'t>> {
+fn excerpt_of<'t>(outcome: &Outcome, read: &'t Option<ReadFiles>) -> Option<Excerpt<'t>> {
     let Outcome::Fault(fault) = outcome else {
         return None;
     };
