@@ -15,7 +15,8 @@ use Rattle.liquid_core.specs.declared.frame.LoopKind.{LoopKind}
 use Rattle.liquid_core.specs.declared.frame.LoopKind.TheVariants as kinds
 use Rattle.liquid_core.specs.declared.frame.Scope.{Scope}
 use Rattle.liquid_model.specs.Texts.{Text, ◌else◌}
-use Rattle.liquid_model.specs.Data.{Datum, nil, truth}
+use Rattle.liquid_model.specs.Data.{Datum, nil, truth, text}
+use Rattle.liquid_model.specs.Find.{step}
 use Rattle.liquid_model.specs.Maps.{Map, insert, empty, merged}
 use Rattle.liquid_model.specs.View.{view}
 use Rattle.liquid_model.specs.declared.value.Value.{Value}
@@ -116,6 +117,11 @@ module _ (k m : ℕ) (local : Map Datum) where
   part_first (kinds.For elsewhere) = refl
   part_first kinds.Render = refl
   part_first (kinds.TableRow columns) = refl
+
+  pub part_of_text : (kind : LoopKind) (name : Text) → object_part (loop_object kind k m local) name ≡ step (loop_object kind k m local) (text name)
+  part_of_text (kinds.For elsewhere) name = refl
+  part_of_text kinds.Render name = refl
+  part_of_text (kinds.TableRow columns) name = refl
 
   pub part_last : (kind : LoopKind) → object_part (loop_object kind k m local) (codes "last") ≡ Some (truth (k + 1 == m))
   part_last (kinds.For elsewhere) = refl
