@@ -106,6 +106,18 @@ impl Expression {
         }
     }
 
+    /// The value of the expression, where it is lent for the whole run. None says nothing. It takes
+    /// no memory.
+    pub fn lent<'d>(&self, state: &State<'d>) -> Option<&'d Value>
+        ensures { IfSome result (λ v. Some (view v.now) ≡
+            value_of (expression_view self.now) (environment_of state.now)) }
+    {
+        match expression_value(self, state) {
+            Some(Resolved::Lent(Found::Held(value))) => Some(value),
+            _ => None,
+        }
+    }
+
     /// What the expression leads to, as it is lent: for the whole run where the data lends it. Else
     /// as `evaluate`. Only the fault takes memory.
     pub fn resolve<'a, 'd>(

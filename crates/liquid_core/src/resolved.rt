@@ -109,6 +109,13 @@ impl<'d> Scope<'d> {
                 Some(value) => Near::Held(value),
                 None => Near::Nothing,
             },
+            Scope::Lent(lent, value) => {
+                if name == *lent {
+                    Near::Held(*value)
+                } else {
+                    Near::Nothing
+                }
+            }
             Scope::LoopFrame(frame) => frame.near(name),
         }
     }
@@ -127,6 +134,13 @@ impl<'d> Scope<'d> {
                 Some(value) => Some(Resolved::Near(Found::Held(value))),
                 None => None,
             },
+            Scope::Lent(lent, value) => {
+                if name == *lent {
+                    Some(Resolved::Lent(Found::Held(*value)))
+                } else {
+                    None
+                }
+            }
             Scope::LoopFrame(frame) => frame.find(name, behind),
         }
     }
