@@ -135,7 +135,7 @@ held_one o n name d none is = held_put o n name d is ∙ ap (λ m. insert m name
 -- a lone pair as a scope
 pub lone_scope : {X : Type 0} (f : X → Text × core.Expression) (e : Environment) (xs : List X) (x : X) (d : Datum) → 0 < length xs → length xs ≤ 1 → x ≡ get_or xs 0 x
     → required (f x).1 e ≡ Ok d → bound_scope (map f xs) e ≡ Ok (insert empty (f x).0 d)
-unfolding bound_values bind_each
+unfolding bound_values
 lone_scope f e [] x d h l is v = absurd (omega (arith, h))
 lone_scope f e (y ∷ []) x d h l is v =
     ap (λ r. (r >>= (λ given. Ok (((f y).0, given) ∷ []))) >>= (λ pairs. Ok (pairs_scope pairs))) (ap (λ z. required (f z).1 e) (sym is) ∙ v)
