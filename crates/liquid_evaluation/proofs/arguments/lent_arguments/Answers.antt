@@ -7,8 +7,8 @@ use Rattle.liquid_core.specs.States.{environment_of}
 use Rattle.liquid_evaluation.proofs.Calls.{no_argument, one_argument}
 use Rattle.liquid_evaluation.proofs.arguments.lent_arguments.Goals as goal
 
-pub returns-in-len0-clause-values : goal.returns-in-len0-clause-values
-returns-in-len0-clause-values c = no_argument expression_view (environment_of c.args.state.now) c.args.expressions.now (omega arith)
+pub returns-in-empty-clause-values : goal.returns-in-empty-clause-values
+returns-in-empty-clause-values c = no_argument expression_view (environment_of c.args.state.now) c.args.expressions.now (omega arith)
 
 pub returns-in-Held-clause-values : goal.returns-in-Held-clause-values
 returns-in-Held-clause-values c =
