@@ -11,8 +11,10 @@ use crate::page::{ReadFiles, Texts, Unreadable, page};
 use liquid_excerpts::{Excerpt, Reason};
 pub use liquid_page_texts::{data_from_json, run};
 use std::alloc::AllocError;
+use std::fs::File;
+use std::io::Read;
 use std::process::ExitCode;
-use std::{env, fs, io};
+use std::{env, io};
 
 /// The files of the system.
 #[derive(Drop)]
@@ -24,7 +26,7 @@ struct DiskFiles<'r> {
 
 impl<'r> Texts for DiskFiles<'r> {
     fn text_at(&mut self, path: &str) -> Result<String, Unreadable> {
-        let reason = match fs::read(self.rt, path) {
+        let reason = match bytes_at(self.rt, path) {
             Ok(bytes) => match String::from_utf8(bytes) {
                 Ok(text) => return Ok(text),
                 Err(refused) => Reason::of_bytes(&refused),
@@ -37,6 +39,16 @@ impl<'r> Texts for DiskFiles<'r> {
         self.reason = Some(reason);
         Err(Unreadable::File)
     }
+}
+
+/// The bytes of a file, in a buffer that is as large from the start on as the system says the file
+/// is, so that it doesn't grow. The byte more is for the look whether the file ends there.
+fn bytes_at(rt: &HostRuntime, path: &str) -> io::Result<Vec<u8>> {
+    let mut file = File::open(rt, path)?;
+    let size = usize::try_from(file.metadata()?.len()).unwrap_or(0);
+    let mut bytes = Vec::with_capacity(rt.alloc(), size.saturating_add(1))?;
+    file.read_to_end(&mut bytes)?;
+    Ok(bytes)
 }
 
 fn main(rt: HostRuntime) -> ExitCode {

@@ -27,7 +27,7 @@ pub(super) fn run_render<'d, W: CountedWrite, H: NamedFilters>(
     alloc: Global,
     context: &RunContext<'d, H>,
     name: &Expression,
-    bindings: &[Binding],
+    bindings: &'d [Binding],
     out: &mut Output<'_, W>,
     state: &State<'d>,
 ) -> Result<()>
