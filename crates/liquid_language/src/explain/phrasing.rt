@@ -8,7 +8,7 @@ use std::fmt::Write;
 /// as an `excerpt`, `¤` for a text as it is, `¹` and `²` for the numbers, and `§` for another
 /// place, as `line 2, column 3`.
 #[derive(Clone, Copy)]
-pub struct Wording<'s> {
+pub struct Phrasing<'s> {
     /// The source from the place on.
     pub from: &'s str,
     pub words: &'static str,
@@ -24,10 +24,10 @@ pub struct Wording<'s> {
     pub other: &'s str,
 }
 
-impl<'s> Wording<'s> {
+impl<'s> Phrasing<'s> {
     /// Words in which no text stands.
-    pub fn plain(from: &'s str, words: &'static str) -> Wording<'s> {
-        Wording::quoting(from, words, "", "")
+    pub fn plain(from: &'s str, words: &'static str) -> Phrasing<'s> {
+        Phrasing::quoting(from, words, "", "")
     }
 
     /// Words in which two texts stand at most.
@@ -36,8 +36,8 @@ impl<'s> Wording<'s> {
         words: &'static str,
         first: &'s str,
         second: &'s str,
-    ) -> Wording<'s> {
-        Wording {
+    ) -> Phrasing<'s> {
+        Phrasing {
             from,
             words,
             first,
@@ -63,17 +63,17 @@ impl<'s> Wording<'s> {
 pub fn message_of(
     alloc: Global,
     source: &str,
-    wording: &Wording<'_>,
+    phrasing: &Phrasing<'_>,
 ) -> Result<String, AllocError> {
     let mut message = String::new(alloc);
     let mut count: usize = 0;
-    for sign in wording.words.chars().chain(wording.then.chars()) {
+    for sign in phrasing.words.chars().chain(phrasing.then.chars()) {
         match sign {
-            '§' => push_place(&mut message, source, wording.other)?,
-            '¹' => push_number(&mut message, wording.numbers.0)?,
-            '²' => push_number(&mut message, wording.numbers.1)?,
+            '§' => push_place(&mut message, source, phrasing.other)?,
+            '¹' => push_number(&mut message, phrasing.numbers.0)?,
+            '²' => push_number(&mut message, phrasing.numbers.1)?,
             '…' | '¤' => {
-                push_text(alloc, &mut message, sign, wording.text(count))?;
+                push_text(alloc, &mut message, sign, phrasing.text(count))?;
                 count = count.saturating_add(1);
             }
             _ => message.push(sign)?,
