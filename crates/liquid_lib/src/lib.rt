@@ -50,6 +50,6 @@ pub use liquid_syntax::{Language, Partials, Template, parse};
 pub use liquid_tags::{BlockReflection, TagReflection};
 pub use page::{LimitedPage, Page, render_page, render_page_within};
 pub use render::Renderable;
-pub use runtime::{Runtime, RuntimeBuilder};
+pub use runtime::{DEFAULT_DEPTH, Runtime, RuntimeBuilder};
 pub use source::render_source;
 pub use standard::{STANDARD_FILTERS, language};

@@ -12,14 +12,11 @@ ghost use Rattle.liquid_page_texts.specs.Shown.{ShowsStandard, read_view};
 
 use liquid_core::{Error, ErrorKind, Object, Result};
 use liquid_json::{data_for, data_from_json};
-use liquid_lib::{CountedWrite, Renderable, RuntimeBuilder, language};
+use liquid_lib::{CountedWrite, DEFAULT_DEPTH, Renderable, RuntimeBuilder, language};
 use liquid_syntax::{Language, Partials, Template, parse};
 use liquid_uses::uses_of;
 use std::alloc::Global;
 use std::mem;
-
-/// How deep partials may be nested in a page.
-const DEPTH: u32 = 32;
 
 /// To find out what a node sees takes about as long as to read some 200 bytes of data.
 const BYTES_FOR_A_NODE: usize = 4096;
@@ -216,7 +213,7 @@ fn render_texts<W: CountedWrite>(
     let mut runtime = RuntimeBuilder::new(alloc)
         .set_globals(data)
         .set_partials(&partials)
-        .set_depth(DEPTH)
+        .set_depth(DEFAULT_DEPTH)
         .build(alloc);
     let answer = template.render_to(alloc, writer, &mut runtime);
     leave(runtime, afterwards);

@@ -41,6 +41,7 @@ pub use liquid_lexer::{
 };
 pub use loop_items::{Loop, LoopPart, LoopTag, read_loop};
 pub use loop_nodes::{Each, For, TableRow, WindowExpression};
+pub use names::add_name;
 pub use node::{Arm, Binding, Node, TwoBodies};
 pub use pair_items::PairStyle;
 pub use parser::parse;

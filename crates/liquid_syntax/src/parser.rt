@@ -51,7 +51,7 @@ fn error_of(alloc: Global, source: &str, language: &Language, error: ParseError)
         ParseError::Fault(fault) => match explanation_of(alloc, source, language, fault) {
             Ok(told) => Error::with_message(fault.kind.kind(), told.message).located(
                 alloc,
-                location(source, told.left),
+                location(source, told.remaining),
             ),
             Err(refused) => Error::from(refused),
         },

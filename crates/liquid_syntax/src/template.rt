@@ -2,7 +2,7 @@
 ghost use Rattle.liquid_syntax.specs.Flats.{ends_of_nodes};
 ghost use Rattle.liquid_syntax.specs.Nested.{AreNested, AreNested-prop};
 
-use crate::names::{Gather, Search};
+use crate::names::{Gather, Search, SearchAny};
 use crate::node::Node;
 use crate::partials::Partials;
 use crate::positions::Position;
@@ -35,6 +35,7 @@ impl Drop for Template {
 impl Template {
     ghost use Rattle.std.specs.Prelude.{◌≡◌, IfOk};
     ghost use Rattle.std.specs.BTreeSet.{IsOrdered};
+    ghost use Rattle.std.specs.List.{list_any};
     ghost use Rattle.std.specs.String.{string_cmp};
     ghost use Rattle.liquid_model.specs.Answer.{IsValueOrMemory};
     ghost use Rattle.liquid_syntax.specs.NameSets.{held};
@@ -95,5 +96,14 @@ impl Template {
     {
         let mut search = Search { wanted: name };
         visit_nodes(&self.nodes, &mut search)
+    }
+
+    /// Whether the template itself mentions one of the names, and not a partial that it names. It
+    /// takes no memory.
+    pub fn mentions_any(&self, names: &BTreeSet<String>) -> bool
+        ensures { result ≡ list_any (held names.now) (nodes_names (tree_of self.now)) }
+    {
+        let mut search_any = SearchAny { wanted: names };
+        visit_nodes(&self.nodes, &mut search_any)
     }
 }

@@ -8,7 +8,7 @@ use liquid_test_refusals::{
 };
 use std::alloc::Global;
 
-/// Applies the changes of the row. Each is a list: the change, its name, its source or its value,
+/// Applies the changes of the row. Each is a list: the change, its name, its source, value or data,
 /// the kind of its fault or an empty text, what the site shows after it, and words by which
 /// `tests/refusals/run` tells changes that make other requests.
 pub(crate) fn site_made<R: Print>(told: &Told<'_, R>, row: &WorkedRow) -> Result<()> {
@@ -127,8 +127,17 @@ fn change_of(alloc: Global, step: &Value) -> Result<Change> {
         "SetPartial" => Change::SetPartial(name, source),
         "RemovePartial" => Change::RemovePartial(name),
         "SetValue" => Change::SetValue(name, optional(alloc, member(step, 2))?),
+        "SetData" => Change::SetData(data_of(alloc, step)?),
         _ => Change::RemoveValue(name),
     })
+}
+
+/// The data that the step has in place of a source.
+fn data_of(alloc: Global, step: &Value) -> Result<Object> {
+    match optional(alloc, member(step, 2))? {
+        Value::Object(data) => Ok(data),
+        _ => Ok(Object::new(alloc)),
+    }
 }
 
 /// Whether the site shows just what the step says: each page as `src/any_site.rt` writes it, and
