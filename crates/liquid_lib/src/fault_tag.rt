@@ -46,11 +46,13 @@ pub(crate) fn item_of_tablerow(
     if matches!(kind, ErrorKind::ZeroColumns) {
         return Ok(PieceItem::Part("cols"));
     }
-    match item_of_source(alloc, &head.source, state, kind)? {
-        Some(item) => Ok(item),
-        None if is_no_amount(alloc, &head.cols, state)? => Ok(PieceItem::Part("cols")),
-        None => item_of_window(alloc, &head.window, state),
+    if let Some(item) = item_of_source(alloc, &head.source, state, kind)? {
+        return Ok(item);
     }
+    if is_no_amount(alloc, &head.cols, state)? {
+        return Ok(PieceItem::Part("cols"));
+    }
+    item_of_window(alloc, &head.window, state)
 }
 
 /// The source of a loop, or the value of its range, where it ends by a fault of this kind.
@@ -128,15 +130,13 @@ pub(crate) fn item_of_cycle(
     state: &State<'_>,
     kind: ErrorKind,
 ) -> PieceItem {
+    if !matches!(kind, ErrorKind::UnknownVariable) {
+        return PieceItem::Whole;
+    }
     match state.cycles.get(group) {
-        Some(next) if matches!(kind, ErrorKind::UnknownVariable) => PieceItem::CycleValue(if *next
-            == 0
-        {
-            count.saturating_sub(1)
-        } else {
-            next.saturating_sub(1)
-        }),
-        _ => PieceItem::Whole,
+        None => PieceItem::Whole,
+        Some(0) => PieceItem::CycleValue(count.saturating_sub(1)),
+        Some(next) => PieceItem::CycleValue(next.saturating_sub(1)),
     }
 }
 
@@ -173,7 +173,10 @@ fn item_of_call(
     state: &State<'_>,
     kind: ErrorKind,
 ) -> Result<PieceItem> {
-    if !matches!(kind, ErrorKind::UnknownVariable) || is_missing(alloc, name, state)? {
+    if !matches!(kind, ErrorKind::UnknownVariable) {
+        return Ok(PieceItem::At(0));
+    }
+    if is_missing(alloc, name, state)? {
         return Ok(PieceItem::At(0));
     }
     item_of_pairs(alloc, pairs, state)
@@ -191,7 +194,10 @@ fn item_of_each(
         kind,
         ErrorKind::UnknownVariable | ErrorKind::UnexpectedValue | ErrorKind::RangeTooLong
     );
-    if !of_source || is_missing(alloc, name, state)? {
+    if !of_source {
+        return Ok(PieceItem::At(0));
+    }
+    if is_missing(alloc, name, state)? {
         return Ok(PieceItem::At(0));
     }
     match item_of_source(alloc, &each.source, state, kind)? {

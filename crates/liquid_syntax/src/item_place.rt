@@ -77,11 +77,12 @@ fn last_of_range<'s>(
         return Ok(None);
     };
     // what can't be read as an item follows the first value
-    let dots = placed_piece(alloc, inside_of(range))?.rest;
-    Ok(match dots.strip_prefix("..") {
-        Some(after) => Some(after.trim_start()),
-        None => None,
-    })
+    let first = placed_piece(alloc, inside_of(range))?;
+    let rest = first.rest;
+    match rest.strip_prefix("..") {
+        Some(after) => Ok(Some(after.trim_start())),
+        None => Ok(None),
+    }
 }
 
 /// What a range has after its `(`.

@@ -34,14 +34,14 @@ impl Position {
 /// What a source has from a place on. A mark of the byte order at its very start is no column.
 pub(crate) fn rest_from<'s>(source: &'s str, place: Position) -> &'s str {
     let mut rest = source.strip_prefix('\u{feff}').unwrap_or(source);
-    for _ in 1..place.line {
+    for _ in 1..place.line as usize {
         rest = match rest.split_once('\n') {
             Some((_, below)) => below,
             None => "",
         };
     }
     let mut characters = rest.chars();
-    for _ in 1..place.column {
+    for _ in 1..place.column as usize {
         characters.next();
     }
     characters.as_str()
