@@ -3,7 +3,7 @@
 ghost use Rattle.liquid_model.specs.ErrorKinds.{IsKindOrMemory};
 
 use crate::fault_tag::{item_of_case, item_of_cycle, item_of_for, item_of_other, item_of_tablerow};
-use liquid_core::{Error, ErrorKind, Expression, NamedFilters, Result, State, Value};
+use liquid_core::{Error, ErrorKind, Expression, NamedFilters, Quoted, Result, State, Value};
 use liquid_syntax::{Atom, Condition, FilterChain, Node, PieceItem, apply_filters};
 use std::alloc::{AllocError, Global};
 
@@ -187,16 +187,62 @@ pub(crate) fn with_missing_entry(
         return fault;
     }
     match node {
-        Node::Output(chain) | Node::Assign(_, chain) => {
-            match chain.entry.evaluate(alloc, state) {
-                Ok(found) => {
-                    drop(found);
-                    fault
-                }
-                Err(missing) => joined(alloc, fault, missing),
+        Node::Output(chain) => with_entry(alloc, &chain.entry, state, fault),
+        Node::Assign(name, chain) => {
+            if is_name(&chain.entry, name.as_str()) {
+                with_unset(alloc, name.as_str(), &chain.entry, state, fault)
+            } else {
+                with_entry(alloc, &chain.entry, state, fault)
             }
         }
         _ => fault,
+    }
+}
+
+/// Whether an expression is a name without steps, and this one.
+fn is_name(expression: &Expression, name: &str) -> bool {
+    match expression {
+        Expression::Literal(_) => false,
+        Expression::Variable(variable) => {
+            variable.indexes.is_empty() && variable.name.as_str() == name
+        }
+    }
+}
+
+/// The fault of the first filter, which also says that the name has no value that is assigned, as
+/// in a sum that wasn't begun.
+fn with_unset(
+    alloc: Global,
+    name: &str,
+    entry: &Expression,
+    state: &State<'_>,
+    fault: Error,
+) -> Error
+    ensures { IsKindOrMemory fault.kind result.kind }
+{
+    match is_missing(alloc, entry, state) {
+        Ok(false) => fault,
+        Ok(true) => {
+            let quoted = Quoted { text: name };
+            match format!(in alloc; "`{quoted}` has no value yet: assign it one before this") {
+                Ok(words) => with_words(alloc, fault, words.as_str()),
+                Err(refused) => Error::from(refused),
+            }
+        }
+        Err(_) => Error::from(AllocError),
+    }
+}
+
+/// The fault of the first filter, which also says that the entry has no value, where it has none.
+fn with_entry(alloc: Global, entry: &Expression, state: &State<'_>, fault: Error) -> Error
+    ensures { IsKindOrMemory fault.kind result.kind }
+{
+    match entry.evaluate(alloc, state) {
+        Ok(found) => {
+            drop(found);
+            fault
+        }
+        Err(missing) => joined(alloc, fault, missing),
     }
 }
 
@@ -205,13 +251,22 @@ fn joined(alloc: Global, fault: Error, missing: Error) -> Error
     ensures { IsKindOrMemory fault.kind result.kind }
 {
     if matches!(missing.kind, ErrorKind::Memory) {
-        drop(fault);
         return Error::from(AllocError);
     }
-    let (Some(front), Some(rest)) = (&fault.message, &missing.message) else {
+    match &missing.message {
+        Some(words) => with_words(alloc, fault, words.as_str()),
+        None => fault,
+    }
+}
+
+/// The fault, whose message goes on with these words.
+fn with_words(alloc: Global, fault: Error, words: &str) -> Error
+    ensures { IsKindOrMemory fault.kind result.kind }
+{
+    let Some(front) = &fault.message else {
         return fault;
     };
-    match format!(in alloc; "{front}; {rest}") {
+    match format!(in alloc; "{front}; {words}") {
         Ok(message) => fault.retold(message),
         Err(refused) => Error::from(refused),
     }

@@ -33,7 +33,7 @@ pub(crate) fn located<H: NamedFilters>(
             let told = with_missing_entry(alloc, node, item, state, fault);
             at_item(alloc, context.places, at, item, told)
         }
-        Err(refused) => Error::from(refused),
+        Err(_) => Error::from(AllocError),
     }
 }
 
@@ -54,7 +54,7 @@ pub(crate) fn located_elsif(
     }
     match item_of_condition(alloc, condition, state) {
         Ok(item) => at_item(alloc, places, at, item, fault),
-        Err(refused) => Error::from(refused),
+        Err(_) => Error::from(AllocError),
     }
 }
 
