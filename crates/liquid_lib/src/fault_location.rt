@@ -67,6 +67,9 @@ fn is_settled(fault: &Error) -> bool {
 fn at_item(alloc: Global, places: Places<'_>, at: usize, item: PieceItem, fault: Error) -> Error
     ensures { IsKindOrMemory fault.kind result.kind }
 {
+    if is_settled(&fault) {
+        return fault;
+    }
     match location_of(alloc, places, at, item) {
         Ok(Some(location)) => fault.located(alloc, location),
         Ok(None) => fault,
