@@ -13,7 +13,7 @@ ghost use Rattle.liquid_page_texts.specs.Shown.{ShowsStandard, read_view};
 use liquid_core::{Error, ErrorKind, Object, Result};
 use liquid_json::{data_for, data_from_json};
 use liquid_lib::{CountedWrite, DEFAULT_DEPTH, Renderable, RuntimeBuilder, language};
-use liquid_syntax::{Language, Partials, Template, parse};
+use liquid_syntax::{Language, Partials, Template, parse_kept};
 use liquid_uses::uses_of;
 use std::alloc::Global;
 use std::mem;
@@ -114,7 +114,7 @@ fn read_texts(
       partials = sources_of partials.now;
     }) result }
 {
-    let template = parse(alloc, template, language)?;
+    let template = parse_kept(alloc, template, language)?;
     match read_partials(alloc, language, partials) {
         Ok(partials) => {
             let data = read_seen(alloc, data, &template, &partials)?;
@@ -179,7 +179,7 @@ fn read_partial(alloc: Global, language: &Language, name: &str, source: &str) ->
     ensures parses { ParsesTo language.now source.now result }
     ensures kinds { IfErr result (λ e. MayRefuse e.kind) }
 {
-    match parse(alloc, source, language) {
+    match parse_kept(alloc, source, language) {
         Ok(template) => Ok(template),
         Err(error) => Err(error.in_partial(alloc, name)),
     }

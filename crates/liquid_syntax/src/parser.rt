@@ -22,6 +22,9 @@ use liquid_lexer::{
 };
 use std::alloc::{AllocError, Global};
 
+/// How many bytes a source has at most that a template keeps.
+const MOST_KEPT: usize = 1_048_576;
+
 /// The template that a source is, in a language.
 ///
 /// The pieces are read and classified from left to right, and the first fault is the answer, with
@@ -38,6 +41,26 @@ pub fn parse(alloc: Global, source: &str, language: &Language) -> Result<Templat
     match read_template(alloc, source, language) {
         Ok(template) => Ok(template),
         Err(error) => Err(error_of(alloc, source, language, error)),
+    }
+}
+
+/// As [parse], for a template that keeps its source, in which a fault of a run finds the item that
+/// it is about. Of a source with more than 1 MiB nothing is kept, and the faults of its runs stand
+/// at their outputs and tags. `Memory` also where there is no room for the source.
+pub fn parse_kept(alloc: Global, source: &str, language: &Language) -> Result<Template>
+    ensures parses { ParsesTo language.now source.now result }
+    ensures kinds { IfErr result (λ e. MayRefuse e.kind) }
+{
+    let template = parse(alloc, source, language)?;
+    if source.len() > MOST_KEPT {
+        return Ok(template);
+    }
+    match String::from_str(alloc, source) {
+        Ok(kept) => Ok(template.with_source(kept)),
+        Err(refused) => {
+            drop(template);
+            Err(Error::from(refused))
+        }
     }
 }
 

@@ -17,6 +17,9 @@ pub struct Template {
     /// Where each node begins in the source, for the faults of runs. The meaning of a template
     /// doesn't depend on it.
     pub(crate) positions: Vec<Position>,
+    /// The source, where the template keeps it, for the faults of runs. The meaning of a template
+    /// doesn't depend on it.
+    pub(crate) source: Option<String>,
     ghost nested: { AreNested (ends_of_nodes nodes.items) } by { AreNested-prop
         (ends_of_nodes nodes.items) },
 }
@@ -28,6 +31,7 @@ impl Drop for Template {
         let Template {
             nodes: _,
             positions: _,
+            source: _,
         } = self;
     }
 }
@@ -55,6 +59,24 @@ impl Template {
         ensures { result.now ≡ positions_of self.now }
     {
         &self.positions
+    }
+
+    /// The source, where the template keeps it (`parse_kept`).
+    pub fn source(&self) -> Option<&str> {
+        match &self.source {
+            Some(source) => Some(source.as_str()),
+            None => None,
+        }
+    }
+
+    /// The same template, which keeps its source.
+    pub(crate) fn with_source(self, source: String) -> Template
+        ensures list { list_of result ≡ list_of self }
+        ensures positions { positions_of result ≡ positions_of self }
+    {
+        let mut template = self;
+        template.source = Some(source);
+        template
     }
 
     /// The number of nodes of the tree, in all depths, without memory.

@@ -73,7 +73,7 @@ pub(super) fn run_render_each<'d, W: CountedWrite, H: NamedFilters>(
         partials: &*context.partials,
         host: &*context.host,
         depth: context.depth,
-        positions: context.positions,
+        places: context.places,
     };
     let mut at = 0;
     while at < source.count {
