@@ -200,6 +200,10 @@ class Nodes:
         """The body of a loop, in which its names are known."""
         outer = {name: list(paths) for name, paths in self.made.known.items()}
         self.made.know(variable, kind)
+        if kind == "map" and self.chance(0.4):
+            # members that not every item has
+            for key, held in self.rng.sample((("a", "number"), ("b", "text"), ("k", "text"), ("title", "text"), ("price", "number")), 2):
+                self.made.know(f"{variable}.{key}", held)
         words = ("index", "index0", "rindex", "rindex0", "length", "col", "col0") if about == "tablerow" else ("index", "index0", "rindex", "rindex0", "length")
         for word in words:
             self.made.know(f"{about}.{word}", "number")

@@ -118,9 +118,8 @@ def matching(value, name, target):
 def fits(held, target):
     if target is None:
         return held is None
-    if isinstance(held, list):
-        return any(text_of(item) == text_of(target) for item in held)
-    return held is not None and text_of(held) == text_of(target)
+    found = held if isinstance(held, list) else [held]
+    return any(is_scalar(item) and text_of(item) == text_of(target) for item in found)
 
 
 def where(value, name, target):

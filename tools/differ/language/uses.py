@@ -1,44 +1,15 @@
 """What a template asks of its data (docs/USES.md): for each name that it mentions, which parts of the value."""
 import re
-from dataclasses import dataclass, field
-from typing import Optional
 
 from . import tree
-from .faults import TooLong
-from .values import text_of
+from .filter_needs import input_use
+from .parts import THERE, WHOLE, Use
 
 # so many rounds are made from each side
 MOST_ROUNDS = 8
-# a name has so many parts at most, of which each counts as one more for so many bytes of its path
-MOST_PARTS, PART_BYTES = 200, 32
 MOST_STEPS = 32
 # a key of which a path can be made
 PLAIN_KEY = re.compile(r"(?:[A-Za-z0-9_-]|[^\x00-\x7f])+")
-
-
-@dataclass
-class Use:
-    """What is asked of a value: all of it, or whether it is there, and parts of it: members by their keys, and the items of a loop."""
-
-    is_whole: bool = False
-    members: dict = field(default_factory=dict)
-    # what is asked of each item, None where no loop goes over the items
-    items: Optional["Use"] = None
-
-    def joined(self, other):
-        """What both ask."""
-        if self.is_whole or other.is_whole:
-            return WHOLE
-        members = dict(self.members)
-        for key, use in other.members.items():
-            members[key] = members[key].joined(use) if key in members else use
-        items = self.items.joined(other.items) if self.items and other.items else self.items or other.items
-        return Use(False, members, items)
-
-
-WHOLE = Use(is_whole=True)
-# whether there is a value, and of which kind
-THERE = Use()
 
 
 class Finder:
@@ -78,8 +49,7 @@ class Finder:
             self.expression(step)
 
     def chain(self, chain, use=WHOLE):
-        """A filter sees all of its input."""
-        self.expression(chain.entry, WHOLE if chain.calls else use)
+        self.expression(chain.entry, input_use(chain.calls, use))
         for call in chain.calls:
             self.expressions(call.arguments)
 
@@ -178,16 +148,32 @@ RULES = {
 
 
 def uses_of(template, partials):
-    """What the template with its partials asks for: the parts grow from nothing, round by round."""
-    uses = {}
+    """What the template with its partials asks for.
+
+    The parts grow from nothing, round by round. Where they go on, they are taken from the other side: all is asked for, and less.
+    """
+    nodes = (template, *partials.values())
+    uses, is_settled = rounds(nodes, {})
+    return uses if is_settled else rounds(nodes, Everything())[0]
+
+
+def rounds(nodes, uses):
+    """What is asked for after the rounds from there, and whether the last one changed nothing."""
     for _ in range(MOST_ROUNDS):
         finder = Finder(uses)
-        for nodes in (template, *partials.values()):
-            finder.nodes(nodes)
-        if finder.found == uses:
-            return uses
-        uses = finder.found
-    raise TooLong
+        for of_one in nodes:
+            finder.nodes(of_one)
+        before, uses = uses, finder.found
+        if uses == before:
+            return uses, True
+    return uses, False
+
+
+class Everything(dict):
+    """Each name whole."""
+
+    def get(self, _name, _default=None):
+        return WHOLE
 
 
 def paths_of(uses):
