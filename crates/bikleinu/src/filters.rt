@@ -1,50 +1,33 @@
-//! The option `--filters`: the language and the filters of Jekyll's or Shopify's templates.
+//! The sets of filters: the language of Jekyll's or Shopify's templates, and what runs with their
+//! filters.
 use crate::settings::{Site, shop};
-use crate::sources::Parts;
-use clap::Arg;
-use liquid_core::{Filter, HostFilters, Result};
+use crate::stop::Stop;
+use liquid_commands::FilterSet;
+use liquid_core::{Filter, HostFilters, Object};
 use liquid_filter_sets::{WhereExp, jekyll_language, shopify_language};
 use liquid_jekyll_host_filters::{JEKYLL_FILTERS, SiteFilter};
-use liquid_lib::{
-    Language, LimitedPage, Limits, Surroundings, language, render_hosted_page, render_page_within,
-};
+use liquid_lib::{Language, language};
 use liquid_shopify_host_filters::{SHOPIFY_FILTERS, ShopifyFilter};
 use std::alloc::Global;
 use std::rc::Rc;
 
 /// How deep partials may be nested.
-const DEPTH: u32 = 32;
+pub const DEPTH: u32 = 32;
 
-/// The names of the sets.
-const NAMES: [&str; 2] = ["jekyll", "shopify"];
+/// What runs with the filters of a host, where there are some.
+pub trait Hosted {
+    /// What it makes.
+    type Made;
 
-/// A set of filters.
-#[derive(Clone, Copy)]
-pub enum FilterSet {
-    Jekyll,
-    Shopify,
-}
+    /// The data that says what the filters know of a site or a shop.
+    fn settings(&self) -> &Object;
 
-/// The option.
-pub fn filters_option<'a>(alloc: Global) -> Arg<'a> {
-    Arg::new(alloc, "filters")
-        .long("filters")
-        .value_name("SET")
-        .value_parser(NAMES.as_slice())
-        .help("Reads templates as those of Jekyll or Shopify, with the filters that these call")
-}
-
-/// The set of a name, where one is given.
-pub fn filter_set(name: Option<&str>) -> Option<FilterSet> {
-    match name {
-        Some("jekyll") => Some(FilterSet::Jekyll),
-        Some("shopify") => Some(FilterSet::Shopify),
-        _ => None,
-    }
+    /// What it makes with these filters.
+    fn made_with(self, host: Option<&HostFilters>) -> Result<Self::Made, Stop>;
 }
 
 /// The language of templates that call filters of a set, or the standard one.
-pub fn language_with(alloc: Global, filters: Option<FilterSet>) -> Result<Language> {
+pub fn language_with(alloc: Global, filters: Option<FilterSet>) -> liquid_core::Result<Language> {
     match filters {
         Some(FilterSet::Jekyll) => jekyll_language(alloc),
         Some(FilterSet::Shopify) => shopify_language(alloc),
@@ -52,29 +35,21 @@ pub fn language_with(alloc: Global, filters: Option<FilterSet>) -> Result<Langua
     }
 }
 
-/// The page of a template, within limits, with the filters of a set where one is given.
-pub fn page_with(
+/// What is made with the filters of a set, where one is given.
+pub fn made_with<W: Hosted + Drop>(
     alloc: Global,
     filters: Option<FilterSet>,
-    parts: &Parts,
-    limits: Limits,
-) -> Result<LimitedPage> {
+    work: W,
+) -> Result<W::Made, Stop> {
     match filters {
-        Some(FilterSet::Jekyll) => jekyll_page(alloc, parts, limits),
-        Some(FilterSet::Shopify) => shopify_page(alloc, parts, limits),
-        None => render_page_within(
-            alloc,
-            &parts.template,
-            &parts.partials,
-            DEPTH,
-            &parts.data,
-            limits,
-        ),
+        Some(FilterSet::Jekyll) => with_jekyll(alloc, work),
+        Some(FilterSet::Shopify) => with_shopify(alloc, work),
+        None => work.made_with(None),
     }
 }
 
-fn jekyll_page(alloc: Global, parts: &Parts, limits: Limits) -> Result<LimitedPage> {
-    let site = Site::of(&parts.data);
+fn with_jekyll<W: Hosted + Drop>(alloc: Global, work: W) -> Result<W::Made, Stop> {
+    let site = Site::of(work.settings());
     let mut filters = Vec::new(alloc);
     for kind in JEKYLL_FILTERS {
         let filter = SiteFilter::new(alloc, kind, site.address, site.base)?;
@@ -83,30 +58,18 @@ fn jekyll_page(alloc: Global, parts: &Parts, limits: Limits) -> Result<LimitedPa
     }
     let boxed: Box<dyn Filter> = Box::new(alloc, WhereExp)?;
     filters.push((String::from_str(alloc, "where_exp")?, boxed))?;
-    hosted_page(alloc, parts, &HostFilters::new(filters), limits)
+    let host = HostFilters::new(filters);
+    work.made_with(Some(&host))
 }
 
-fn shopify_page(alloc: Global, parts: &Parts, limits: Limits) -> Result<LimitedPage> {
-    let shop = Rc::new(alloc, shop(alloc, &parts.data)?)?;
+fn with_shopify<W: Hosted + Drop>(alloc: Global, work: W) -> Result<W::Made, Stop> {
+    let shop = Rc::new(alloc, shop(alloc, work.settings())?)?;
     let mut filters = Vec::new(alloc);
     for kind in SHOPIFY_FILTERS {
         let shop = shop.clone()?;
         let boxed: Box<dyn Filter> = Box::new(alloc, ShopifyFilter { kind, shop })?;
         filters.push((String::from_str(alloc, kind.name())?, boxed))?;
     }
-    hosted_page(alloc, parts, &HostFilters::new(filters), limits)
-}
-
-fn hosted_page(
-    alloc: Global,
-    parts: &Parts,
-    host: &HostFilters,
-    limits: Limits,
-) -> Result<LimitedPage> {
-    let around = Surroundings {
-        partials: &parts.partials,
-        depth: DEPTH,
-        limits,
-    };
-    render_hosted_page(alloc, &parts.template, host, around, &parts.data)
+    let host = HostFilters::new(filters);
+    work.made_with(Some(&host))
 }

@@ -1,50 +1,85 @@
 //! The command `merge`.
-use crate::command::MergeCall;
+use crate::filters::{DEPTH, Hosted, made_with};
+use crate::forms::form_of;
 use crate::input::called;
 use crate::progress::Progress;
-use crate::records::Records;
-use crate::rows::HeadFault;
+use crate::records::{HeadStop, Records};
 use crate::sources::{Parts, Sources, read_parts, read_pattern};
 use crate::stop::Stop;
 use crate::target::Target;
+use liquid_commands::{MergeCall, is_selected};
+use liquid_core::{HostFilters, Object};
 use liquid_excerpts::Reason;
+use liquid_lib::{Partials, Template};
 use liquid_records::{Job, Merge};
 use std::alloc::AllocError;
 use std::io::Read;
 use std::{fs, io};
 
-/// How deep partials may be nested.
-const DEPTH: u32 = 32;
-
 /// Writes the page of each record. A record's fault is printed, and stops no other.
 pub fn merge(rt: &HostRuntime, call: &MergeCall<'_>) -> Result<(), Stop> {
-    let parts = read_parts(rt, &call.inputs)?;
     let Parts {
         sources,
         template,
         partials,
         data,
-    } = parts;
-    let job = Job {
+    } = read_parts(rt, &call.inputs)?;
+    let pattern = match call.out {
+        Some(pattern) => Some(read_pattern(rt, pattern, call.inputs.filters)?),
+        None => None,
+    };
+    let work = Merging {
+        run: Run { rt, call, sources },
         template,
         partials,
-        depth: DEPTH,
         shared: data,
+        pattern,
     };
-    let target = match call.out {
-        Some(pattern) => {
-            let pattern = read_pattern(rt, pattern)?;
-            Target::files(rt, Merge::new(rt.alloc(), job, pattern), call.dry_run)
-        }
-        None => Target::Output(job),
-    };
-    let run = Run { rt, call, sources };
-    if call.records == "-" {
-        return run.all(target, rt.reader());
+    made_with(rt.alloc(), call.inputs.filters, work)
+}
+
+/// The pages of all records, which are to be made.
+#[derive(Drop)]
+struct Merging<'r> {
+    run: Run<'r>,
+    template: Template,
+    partials: Partials,
+    /// The data that all records share.
+    shared: Object,
+    /// The template of the names of files, where the pages go into files.
+    pattern: Option<Template>,
+}
+
+impl Hosted for Merging<'_> {
+    type Made = ();
+
+    fn settings(&self) -> &Object {
+        &self.shared
     }
-    match fs::open(rt, call.records) {
-        Ok(file) => run.all(target, file),
-        Err(refused) => Err(run.unread(refused.kind())),
+
+    fn made_with(self, host: Option<&HostFilters>) -> Result<(), Stop> {
+        let Merging {
+            run,
+            template,
+            partials,
+            shared,
+            pattern,
+        } = self;
+        let job = Job {
+            template,
+            partials,
+            host,
+            depth: DEPTH,
+            shared,
+        };
+        let target = match pattern {
+            Some(pattern) => {
+                let merge = Merge::new(run.rt.alloc(), job, pattern);
+                Target::files(run.rt, merge, run.call.dry_run)
+            }
+            None => Target::Output(job),
+        };
+        run.records_of(target)
     }
 }
 
@@ -57,9 +92,20 @@ struct Run<'r> {
 }
 
 impl Run<'_> {
+    /// Merges the records of the file that the call names.
+    fn records_of(&self, target: Target<'_, '_>) -> Result<(), Stop> {
+        if self.call.records == "-" {
+            return self.all(target, self.rt.reader());
+        }
+        match fs::open(self.rt, self.call.records) {
+            Ok(file) => self.all(target, file),
+            Err(refused) => Err(self.unread(refused.kind())),
+        }
+    }
+
     /// Merges the records that a reader gives, and prints how many pages there are and how many
     /// records failed.
-    fn all<R: Read + Drop>(&self, target: Target<'_>, reader: R) -> Result<(), Stop> {
+    fn all<R: Read + Drop>(&self, target: Target<'_, '_>, reader: R) -> Result<(), Stop> {
         let mut records = self.records(reader)?;
         let mut target = target;
         let mut progress = Progress::new(self.rt, self.call.progress);
@@ -79,9 +125,9 @@ impl Run<'_> {
         }
         match Records::rows(self.rt.alloc(), reader) {
             Ok(records) => Ok(records),
-            Err(HeadFault::Memory) => Err(Stop::from(AllocError)),
-            Err(HeadFault::Unread(kind)) => Err(self.unread(kind)),
-            Err(fault) => {
+            Err(HeadStop::Memory) => Err(Stop::from(AllocError)),
+            Err(HeadStop::Unread(kind)) => Err(self.unread(kind)),
+            Err(HeadStop::Faulted(fault)) => {
                 let path = called(self.call.records);
                 let _ = eprintln!(self.rt; "error: {path}: {fault}");
                 Err(Stop::Faulted)
@@ -91,28 +137,30 @@ impl Run<'_> {
 
     /// Reads the next record that is asked for. Whether there is one.
     fn advance<R: Read + Drop>(&self, records: &mut Records<R>) -> Result<bool, Stop> {
+        let MergeCall { from, count, .. } = self.call;
         for _ in 0..u64::MAX {
             match records.advance() {
                 Ok(true) => {}
                 Ok(false) => return Ok(false),
                 Err(refused) => return Err(self.unread(refused.kind())),
             }
-            if let Some(before) = records.number().checked_sub(self.call.from) {
-                return Ok(before < self.call.count);
+            if records.number() >= *from {
+                return Ok(is_selected(records.number(), *from, *count));
             }
         }
         Ok(false)
     }
 
     /// Merges one record.
-    fn one<'r, R: Read + Drop>(
+    fn one<'r, 'h, R: Read + Drop>(
         &self,
-        target: Target<'r>,
+        target: Target<'r, 'h>,
         records: &Records<R>,
         progress: &mut Progress,
-    ) -> Result<Target<'r>, Stop> {
+    ) -> Result<Target<'r, 'h>, Stop> {
         let number = records.number();
-        let (target, outcome) = match records.facts(self.rt.alloc(), self.call.inputs.forms)? {
+        let form = form_of(self.call.inputs.forms);
+        let (target, outcome) = match records.facts(self.rt.alloc(), form)? {
             Ok(facts) => target.take(self.rt, self.call.separator, number as usize, facts)?,
             Err(report) => (target, Err(report)),
         };

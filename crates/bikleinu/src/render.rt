@@ -1,24 +1,62 @@
 //! The command `render`.
-use crate::command::RenderCall;
-use crate::filters::page_with;
+use crate::filters::{DEPTH, Hosted, made_with};
 use crate::output::{print_text, put_file};
-use crate::sources::{Sources, read_parts};
+use crate::sources::{Parts, Sources, read_parts};
 use crate::stop::Stop;
-use liquid_lib::{LimitReached, LimitedPage, Limits, Page};
+use liquid_commands::RenderCall;
+use liquid_core::{HostFilters, Object};
+use liquid_lib::{LimitReached, LimitedPage, Limits, Page, Surroundings, render_hosted_page};
+use std::alloc::Global;
+
+/// The page of a template, which is to be made.
+#[derive(Drop)]
+struct Shown<'p> {
+    alloc: Global,
+    parts: &'p Parts,
+    limits: Limits,
+}
+
+impl Hosted for Shown<'_> {
+    type Made = LimitedPage;
+
+    fn settings(&self) -> &Object {
+        &self.parts.data
+    }
+
+    fn made_with(self, host: Option<&HostFilters>) -> Result<LimitedPage, Stop> {
+        let Parts {
+            template,
+            partials,
+            data,
+            ..
+        } = self.parts;
+        let around = Surroundings {
+            partials,
+            depth: DEPTH,
+            limits: self.limits,
+        };
+        Ok(render_hosted_page(self.alloc, template, &host, around, data)?)
+    }
+}
 
 /// Writes the page of a template. A page that ends by a fault goes to standard output up to there,
 /// and into no file.
 pub fn render(rt: &HostRuntime, call: &RenderCall<'_>) -> Result<(), Stop> {
     let mut parts = read_parts(rt, &call.inputs)?;
     parts.complete(rt.alloc(), call.missing)?;
-    let shown = page_with(rt.alloc(), call.inputs.filters, &parts, call.limits)?;
-    let LimitedPage { page, limit } = shown;
+    let limits = limits_of(call);
+    let work = Shown {
+        alloc: rt.alloc(),
+        parts: &parts,
+        limits,
+    };
+    let LimitedPage { page, limit } = made_with(rt.alloc(), call.inputs.filters, work)?;
     let Page { text, fault } = page;
     if call.out.is_none() {
         print_text(rt, text.as_str())?;
     }
     if let Some(limit) = limit {
-        print_limit(rt, &parts.sources, limit, call.limits);
+        print_limit(rt, &parts.sources, limit, limits);
         return Err(Stop::Faulted);
     }
     if let Some(fault) = fault {
@@ -28,6 +66,13 @@ pub fn render(rt: &HostRuntime, call: &RenderCall<'_>) -> Result<(), Stop> {
     match call.out {
         Some(path) => put_page(rt, path, text.as_str()),
         None => Ok(()),
+    }
+}
+
+fn limits_of(call: &RenderCall<'_>) -> Limits {
+    Limits {
+        bytes: call.max_bytes,
+        turns: call.max_turns,
     }
 }
 

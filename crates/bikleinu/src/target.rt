@@ -4,26 +4,30 @@ use crate::output::print_text;
 use crate::records::Facts;
 use crate::report::Report;
 use crate::stop::Stop;
+use liquid_core::HostFilters;
 use liquid_records::{Disk, Fate, Job, Made, Merge, Outcome};
 use std::alloc::Global;
+
+/// The filters of a host, where there are some.
+pub type Host<'h> = Option<&'h HostFilters>;
 
 /// Whether a record's page is there, or why not.
 pub type Taken = Result<(), Report>;
 
 /// Where the pages of a merge go.
 #[derive(Drop)]
-pub enum Target<'r> {
+pub enum Target<'r, 'h> {
     /// Each into the file of its name.
-    Files(Merge, Files<'r>),
+    Files(Merge<Host<'h>>, Files<'r>),
     /// Nowhere: the names of the files are printed.
-    Names(Merge),
+    Names(Merge<Host<'h>>),
     /// All to standard output.
-    Output(Job),
+    Output(Job<Host<'h>>),
 }
 
-impl<'r> Target<'r> {
+impl<'r, 'h> Target<'r, 'h> {
     /// The files of a merge, or their names alone.
-    pub fn files(rt: &'r HostRuntime, merge: Merge, dry_run: bool) -> Target<'r> {
+    pub fn files(rt: &'r HostRuntime, merge: Merge<Host<'h>>, dry_run: bool) -> Target<'r, 'h> {
         if dry_run {
             Target::Names(merge)
         } else {
@@ -38,7 +42,7 @@ impl<'r> Target<'r> {
         separator: &str,
         number: usize,
         facts: Facts<'_>,
-    ) -> Result<(Target<'r>, Taken), Stop> {
+    ) -> Result<(Target<'r, 'h>, Taken), Stop> {
         match self {
             Target::Files(merge, files) => {
                 let mut files = files;
@@ -62,13 +66,13 @@ impl<'r> Target<'r> {
 }
 
 /// A record that a merge takes.
-fn merged<D: Disk>(
+fn merged<'h, D: Disk>(
     alloc: Global,
-    merge: Merge,
+    merge: Merge<Host<'h>>,
     number: usize,
     facts: Facts<'_>,
     disk: &mut D,
-) -> Result<(Merge, Fate), Stop> {
+) -> Result<(Merge<Host<'h>>, Fate), Stop> {
     match facts {
         Facts::Text(text) => Ok(merge.take_json(alloc, number, text, disk)?),
         Facts::Data(data) => Ok(merge.take(alloc, number, data, disk)?),
