@@ -52,7 +52,7 @@ fn value_of(alloc: Global, value: toml::Value) -> Result<Value>
     }
 }
 
-fn date_text(alloc: Global, date: Datetime) -> Result<String, AllocError>
+fn date_text(alloc: Global, date: Datetime) -> std::result::Result<String, AllocError>
     ensures { IfOk result (λ text. string_bytes text ≡ datetime_text date) }
 {
     format!(in alloc; "{date}")
