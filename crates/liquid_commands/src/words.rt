@@ -52,7 +52,7 @@ fn named_file(word: &str) -> Option<(&str, &str)>
 
 /// The set of a name, where one is given. It takes no memory.
 pub fn filter_set(name: Option<&str>) -> Option<FilterSet>
-    ensures { result ≡ filter_set (option_map (λ n. n.now) name) }
+    ensures { result ≡ filter_set (option_map (λ n. n.now) name.entry) }
 {
     match name {
         Some(name) => set_named(name),
@@ -72,7 +72,7 @@ fn set_named(name: &str) -> Option<FilterSet>
 
 /// What is missing is nil where the word says so, and else a fault. It takes no memory.
 pub fn missing_of(word: Option<&str>) -> Missing
-    ensures { result ≡ missing_of (option_map (λ w. w.now) word) }
+    ensures { result ≡ missing_of (option_map (λ w. w.now) word.entry) }
 {
     match word {
         Some("nil") => Missing::Nil,
@@ -83,7 +83,7 @@ pub fn missing_of(word: Option<&str>) -> Missing
 /// Whether records are a table in CSV: as the format says, and where none is given, by the end of
 /// their path. It takes no memory.
 pub fn are_in_csv(format: Option<&str>, path: &str) -> bool
-    ensures { result ≡ are_in_csv (option_map (λ f. f.now) format) path.now }
+    ensures { result ≡ are_in_csv (option_map (λ f. f.now) format.entry) path.now }
 {
     match format {
         Some(format) => format == "csv",

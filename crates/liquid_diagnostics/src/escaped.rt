@@ -46,7 +46,7 @@ fn push_shown(out: &mut String, letter: char, place: Place) -> Result<(), AllocE
 /// Appends what stands for a character, or else the character itself.
 fn push_or(out: &mut String, letter: char, escape: Option<&str>) -> Result<(), AllocError>
     ensures { OnOk result (string_bytes out.new
-        ≡ string_bytes out.old ++ shown_or letter (option_map (λ e. e.now) escape)) }
+        ≡ string_bytes out.old ++ shown_or letter (option_map (λ e. e.now) escape.entry)) }
 {
     match escape {
         Some(escape) => out.push_str(escape),

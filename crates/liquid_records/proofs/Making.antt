@@ -1,5 +1,5 @@
 -- What a page, or the page of a pattern, makes of a record.
-use Rattle.std.proofs.Common.{absurd, inl, inr}
+use Rattle.std.proofs.Common.{inl, inr}
 use Rattle.std.specs.Prelude.{◌≡◌, Option, Some, None, IsSome, Result, Ok, Err, IfOk, IfErr}
 use mathlib.Core.Path.{sym, ap, subst, ◌∙◌}
 use Rattle.liquid_model.specs.Answer.{IsValueOrMemory}
@@ -40,5 +40,5 @@ same_job job over e = λ i. record job { shared = e i }
 -- without a limit it is the whole page
 pub page_is : (want : Shown) (p : LimitedPage) (r : Result Page Error) → PageWithin want p → IfOk r (λ page. page ≡ p.page) → IfOk r (λ page. p.limit ≡ None) → IfErr r (λ e. e.kind ≡ Memory) → IsValueOrMemory page_view r want
 page_is want p (Ok page) (inl whole) same none memory = ap page_view same ∙ whole.1
-page_is want p (Ok page) (inr some) same none memory = absurd (subst IsSome none some.0)
+page_is want p (Ok page) (inr some) same none memory = cc (subst IsSome none some.0)
 page_is want p (Err e) within same none memory = memory

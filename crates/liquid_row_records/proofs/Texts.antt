@@ -1,5 +1,4 @@
 -- Cells that are texts, and cells that are none.
-use Rattle.std.proofs.Common.{absurd}
 use Rattle.std.specs.Prelude.{◌≡◌, Bool, true, false, cond, Some, None}
 use Rattle.std.specs.Str.{IsUtf8, is_utf8}
 use Rattle.std.proofs.lemmas.Str.{IsUtf8-from_is_utf8, is_utf8-from_IsUtf8}
