@@ -27,9 +27,14 @@ abbrev pub json_head : Diagnostic → Text
 json_head d = codes "{\"file\":\"" ++ (escaped Json d.path.now ++ (codes "\",\"line\":"
     ++ (decimal d.line ++ (codes ",\"column\":" ++ (decimal d.column ++ codes ",\"kind\":\"")))))
 
+abbrev pub json_kind : Diagnostic → Text
+json_kind d = d.kind.now ++ (codes "\",\"severity\":\"" ++ severity d.is_warning)
+
+abbrev pub json_message : Diagnostic → Text
+json_message d = codes "\",\"message\":\"" ++ (escaped Json d.message.now ++ codes "\"}\n")
+
 abbrev pub json_line : Diagnostic → Text
-json_line d = json_head d ++ (d.kind.now ++ (codes "\",\"severity\":\"" ++ (severity d.is_warning
-    ++ (codes "\",\"message\":\"" ++ (escaped Json d.message.now ++ codes "\"}\n")))))
+json_line d = json_head d ++ (json_kind d ++ json_message d)
 
 abbrev pub command_head : Diagnostic → Text
 command_head d = codes "::" ++ (severity d.is_warning ++ (codes " file="

@@ -2,8 +2,8 @@
 ghost use Rattle.std.specs.Prelude.{◌≡◌, ◌++◌, IfOk, OnOk, string_bytes};
 ghost use Rattle.std.specs.Fmt.{decimal};
 ghost use Rattle.liquid_diagnostics.specs.Diagnostics.{command_head, command_line, diagnostic_line};
-ghost use Rattle.liquid_diagnostics.specs.Diagnostics.{json_head, json_line, numbers, severity};
-ghost use Rattle.liquid_diagnostics.specs.Diagnostics.{text_line, warning_mark};
+ghost use Rattle.liquid_diagnostics.specs.Diagnostics.{json_head, json_kind, json_line, json_message, numbers};
+ghost use Rattle.liquid_diagnostics.specs.Diagnostics.{severity, text_line, warning_mark};
 
 use crate::escaped::{Place, push_escaped};
 use std::alloc::{AllocError, Global};
@@ -95,13 +95,27 @@ fn json_line(alloc: Global, said: &Diagnostic<'_>) -> Result<String, AllocError>
 {
     let mut out = String::new(alloc);
     push_json_head(&mut out, alloc, said)?;
+    push_json_kind(&mut out, said)?;
+    push_json_message(&mut out, said)?;
+    Ok(out)
+}
+
+/// Appends the kind, and whether it is a warning.
+fn push_json_kind(out: &mut String, said: &Diagnostic<'_>) -> Result<(), AllocError>
+    ensures { OnOk result (string_bytes out.new ≡ string_bytes out.old ++ json_kind said.now) }
+{
     out.push_str(said.kind)?;
     out.push_str("\",\"severity\":\"")?;
-    out.push_str(severity(said.is_warning))?;
+    out.push_str(severity(said.is_warning))
+}
+
+/// Appends what is said, and what ends the line.
+fn push_json_message(out: &mut String, said: &Diagnostic<'_>) -> Result<(), AllocError>
+    ensures { OnOk result (string_bytes out.new ≡ string_bytes out.old ++ json_message said.now) }
+{
     out.push_str("\",\"message\":\"")?;
-    push_escaped(&mut out, said.message, Place::Json)?;
-    out.push_str("\"}\n")?;
-    Ok(out)
+    push_escaped(out, said.message, Place::Json)?;
+    out.push_str("\"}\n")
 }
 
 /// Appends what stands before the kind.

@@ -1,15 +1,15 @@
 -- The fields of a row from one of them on.
-use Rattle.std.specs.Prelude.{◌≡◌, ℕ, zero, suc, ◌+◌, List, [], ◌∷◌, drop, Option, Some, None}
+use Rattle.std.specs.Prelude.{◌≡◌, ℕ, zero, suc, List, [], ◌∷◌, drop, Option, Some, None}
 use Rattle.csv.specs.Records.{field_at}
-use mathlib.Core.Path.{refl, sym, ap, ◌∙◌}
+use mathlib.Core.Path.{refl, sym, ap}
 use Rattle.liquid_model.specs.Texts.{Text}
 
-unwrapped : Text → Option Text → Text
+abbrev unwrapped : Text → Option Text → Text
 unwrapped d None = d
 unwrapped d (Some x) = x
 
 -- a field that is there, and those after it
-pub one_field : (fs : List Text) (n : ℕ) (c : Text) → Some c ≡ field_at fs n → drop n fs ≡ c ∷ drop (n + 1) fs
+pub one_field : (fs : List Text) (n : ℕ) (c : Text) → Some c ≡ field_at fs n → drop n fs ≡ c ∷ drop (suc n) fs
 unfolding field_at
 one_field [] n c e = cc e
 one_field (f ∷ fs) zero c e = ap (λ x. x ∷ fs) (sym (ap (unwrapped c) e))

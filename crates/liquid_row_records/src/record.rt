@@ -1,10 +1,12 @@
 //! The record that a row is.
 ghost use Rattle.std.specs.Prelude.{◌≡◌, Some, map, string_bytes};
+ghost use Rattle.std.specs.Fmt.{WritesOnOk};
 ghost use Rattle.csv.specs.Records.{fields_of};
 ghost use Rattle.liquid_model.specs.Answer.{IsValueOrMemory};
 ghost use Rattle.liquid_model.specs.Data.{put, text};
 ghost use Rattle.liquid_model.specs.View.{pairs_view};
-ghost use Rattle.liquid_row_records.specs.Rows.{record_of, row_fault_text, row_view};
+ghost use Rattle.liquid_row_records.specs.Rows.{cells_text, record_of, row_fault_text};
+ghost use Rattle.liquid_row_records.specs.Rows.{row_view};
 
 use crate::cells::cell_text;
 use csv::ByteRecord;
@@ -28,20 +30,24 @@ impl fmt::Display for RowFault {
     fn fmt<W: fmt::Write>(&self, f: &mut fmt::Formatter<W>) -> fmt::Result {
         match self {
             RowFault::NotUtf8 => f.write_str("a cell isn't UTF-8"),
-            RowFault::Cells(1, wanted) => {
-                write!(f, "it has 1 cell, and the first row names {wanted} columns")
-            }
-            RowFault::Cells(found, 1) => {
-                write!(f, "it has {found} cells, and the first row names 1 column")
-            }
-            RowFault::Cells(found, wanted) => {
-                write!(
-                    f,
-                    "it has {found} cells, and the first row names {wanted} columns"
-                )
-            }
+            RowFault::Cells(found, wanted) => write_cells(f, *found, *wanted),
         }
     }
+}
+
+fn write_cells<W: fmt::Write>(f: &mut fmt::Formatter<W>, found: usize, wanted: usize) -> fmt::Result
+    ensures { WritesOnOk W.write_str_gives f.old result (cells_text found wanted) f.new }
+{
+    if found == 1 {
+        return write!(f, "it has 1 cell, and the first row names {wanted} columns");
+    }
+    if wanted == 1 {
+        return write!(f, "it has {found} cells, and the first row names 1 column");
+    }
+    write!(
+        f,
+        "it has {found} cells, and the first row names {wanted} columns"
+    )
 }
 
 /// The data of a row: each cell is a text under the name of its column. Else why the row is no

@@ -29,7 +29,7 @@ pub fn schema_of(alloc: Global, uses: &Uses) -> Result<String, AllocError>
     put_properties(uses, &mut schema)?;
     schema.token(Token::EndObject)?;
     let mut text = text_of_bytes(schema.into_inner());
-    text.push('\n')?;
+    text.push_str("\n")?;
     Ok(text)
 }
 
