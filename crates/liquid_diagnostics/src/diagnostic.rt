@@ -2,8 +2,9 @@
 ghost use Rattle.std.specs.Prelude.{◌≡◌, ◌++◌, IfOk, OnOk, string_bytes};
 ghost use Rattle.std.specs.Fmt.{decimal};
 ghost use Rattle.liquid_diagnostics.specs.Diagnostics.{command_head, command_line, diagnostic_line};
-ghost use Rattle.liquid_diagnostics.specs.Diagnostics.{json_head, json_kind, json_line, json_message, numbers};
-ghost use Rattle.liquid_diagnostics.specs.Diagnostics.{severity, text_line, warning_mark};
+ghost use Rattle.liquid_diagnostics.specs.Diagnostics.{json_head, json_kind, json_line};
+ghost use Rattle.liquid_diagnostics.specs.Diagnostics.{json_message, numbers, severity};
+ghost use Rattle.liquid_diagnostics.specs.Diagnostics.{text_line, warning_mark};
 
 use crate::escaped::{Place, push_escaped};
 use std::alloc::{AllocError, Global};

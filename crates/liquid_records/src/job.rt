@@ -153,7 +153,7 @@ impl<H: NamedFilters + Drop> Job<H> {
         }
     }
 
-    /// The page of a template. There is no limit, so none is told; were one, it is a refused growth.
+    /// The page of a template. No limit is set, so none is told; were one, it is a refused growth.
     #[tactic(auto, using(crate::proofs::Making::page_is))]
     fn page(&self, alloc: Global, template: &Template) -> Result<Page>
         ensures { IsValueOrMemory page_view result

@@ -72,7 +72,8 @@ impl<H: NamedFilters + Drop> Merge<H> {
             (Ok (pairs_view facts.entries)))
             (names_of self) (fate_view p.1) (names_of p.0)) }
         ensures files { IfSome (D.files disk.old) (λ f. IfOk result (λ p.
-            Leaves (comes_to (job_of H.named self) (Some (pattern_of self)) (Ok (pairs_view facts.entries)))
+            Leaves (comes_to (job_of H.named self)
+            (Some (pattern_of self)) (Ok (pairs_view facts.entries)))
             (fate_view p.1) f (D.files disk.new))) }
         ensures job { IfOk result (λ p. job_of H.named p.0 ≡ job_of H.named self) }
         ensures pattern { IfOk result (λ p. pattern_of p.0 ≡ pattern_of self) }

@@ -3,7 +3,8 @@ ghost use Rattle.std.specs.Prelude.{◌≡◌, IfOk, OnOk, Some};
 ghost use Rattle.csv.specs.Records.{fields_of};
 ghost use Rattle.liquid_row_records.specs.Cells.{cell_text};
 ghost use Rattle.liquid_row_records.specs.Heads.{added_view, column_names, columns_view};
-ghost use Rattle.liquid_row_records.specs.Heads.{head_fault_text, names_view, one_name, with_column};
+ghost use Rattle.liquid_row_records.specs.Heads.{head_fault_text, names_view, one_name};
+ghost use Rattle.liquid_row_records.specs.Heads.{with_column};
 
 use crate::cells::cell_text;
 use csv::ByteRecord;

@@ -1,5 +1,5 @@
 //! Data from TOML.
-ghost use Rattle.std.specs.Prelude.{IfOk, string_bytes};
+ghost use Rattle.std.specs.Prelude.{◌≡◌, IfOk, string_bytes};
 ghost use Rattle.liquid_model.specs.Answer.{Answers, IsValueOrMemory};
 ghost use Rattle.liquid_model.specs.View.{items_view, pairs_view, view};
 ghost use Rattle.liquid_toml.specs.TomlData.{data_of, datum_of, items_of, pairs_of, read};
@@ -8,7 +8,7 @@ ghost use Rattle.toml_datetime.specs.Text.{datetime_text};
 
 use crate::fault::{float_fault, no_toml};
 use crate::floats::has_floats;
-use liquid_core::{Object, Result, Value};
+use liquid_core::{Error, Object, Result, Value};
 use std::alloc::{AllocError, Global};
 use std::collections::BTreeMap;
 use toml::Table;
@@ -24,7 +24,11 @@ pub fn data_from_toml(alloc: Global, text: &str) -> Result<Object>
 {
     match toml::table_from_str(alloc, text) {
         Ok(table) => data_in(alloc, table),
-        Err(refused) => Err(no_toml(alloc, text, &refused)),
+        Err(refused) => if refused.is_memory() {
+            Err(Error::from(AllocError))
+        } else {
+            Err(no_toml(alloc, text, &refused))
+        },
     }
 }
 
