@@ -11,9 +11,6 @@ use liquid_shopify_host_filters::{SHOPIFY_FILTERS, ShopifyFilter};
 use std::alloc::Global;
 use std::rc::Rc;
 
-/// How deep partials may be nested.
-pub const DEPTH: u32 = 32;
-
 /// What runs with the filters of a host, where there are some.
 pub trait Hosted {
     /// What it makes.

@@ -1,5 +1,5 @@
 //! The command `merge`.
-use crate::filters::{DEPTH, Hosted, made_with};
+use crate::filters::{Hosted, made_with};
 use crate::forms::form_of;
 use crate::input::called;
 use crate::progress::Progress;
@@ -10,7 +10,7 @@ use crate::target::Target;
 use liquid_commands::{MergeCall, is_selected};
 use liquid_core::{HostFilters, Object};
 use liquid_excerpts::Reason;
-use liquid_lib::{Partials, Template};
+use liquid_lib::{DEFAULT_DEPTH, Partials, Template};
 use liquid_records::{Job, Merge};
 use std::alloc::AllocError;
 use std::io::Read;
@@ -69,7 +69,7 @@ impl Hosted for Merging<'_> {
             template,
             partials,
             host,
-            depth: DEPTH,
+            depth: DEFAULT_DEPTH,
             shared,
         };
         let target = match pattern {

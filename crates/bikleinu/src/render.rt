@@ -1,11 +1,13 @@
 //! The command `render`.
-use crate::filters::{DEPTH, Hosted, made_with};
+use crate::filters::{Hosted, made_with};
 use crate::output::{print_text, put_file};
 use crate::sources::{Parts, Sources, read_parts};
 use crate::stop::Stop;
 use liquid_commands::RenderCall;
 use liquid_core::{HostFilters, Object};
-use liquid_lib::{LimitReached, LimitedPage, Limits, Page, Surroundings, render_hosted_page};
+use liquid_lib::{
+    DEFAULT_DEPTH, LimitReached, LimitedPage, Limits, Page, Surroundings, render_hosted_page,
+};
 use std::alloc::Global;
 
 /// The page of a template, which is to be made.
@@ -32,7 +34,7 @@ impl Hosted for Shown<'_> {
         } = self.parts;
         let around = Surroundings {
             partials,
-            depth: DEPTH,
+            depth: DEFAULT_DEPTH,
             limits: self.limits,
         };
         Ok(render_hosted_page(self.alloc, template, &host, around, data)?)

@@ -8,7 +8,7 @@ use liquid_commands::{DataFile, FilterSet, Forms, Inputs};
 use liquid_core::{Error, Location, Object, Origin};
 use liquid_data_forms::with_named;
 use liquid_excerpts::{Excerpt, ShownPath};
-use liquid_lib::{Language, Partials, Template, parse};
+use liquid_lib::{Language, Partials, Template, parse_kept};
 use liquid_partial_names::{PartialNames, joined_path, named_file};
 use liquid_records::with_members;
 use std::alloc::Global;
@@ -69,7 +69,7 @@ fn source_at(rt: &HostRuntime, path: &str) -> Result<Source, Stop> {
 
 /// The template of a source. Its fault is printed.
 fn parsed(rt: &HostRuntime, source: &Source, language: &Language) -> Result<Template, Stop> {
-    match parse(rt.alloc(), source.text.as_str(), language) {
+    match parse_kept(rt.alloc(), source.text.as_str(), language) {
         Ok(template) => Ok(template),
         Err(fault) => {
             print_fault(rt, source.path.as_str(), &fault, Some(source.text.as_str()));
