@@ -13,7 +13,7 @@ _bikleinu() {
       local words= values=
       case ${COMP_WORDS[1]} in
         render) words='--data --partials --filters --out --missing --max-bytes --max-turns --decimals --dates --now --help' ;;
-        merge) words='--out --data --partials --filters --records-format --separator --from --count --dry-run --progress --decimals --dates --now --help' ;;
+        merge) words='--out --data --partials --records-format --separator --from --count --dry-run --progress --decimals --dates --now --help' ;;
         check) words='--data --partials --filters --format --decimals --dates --now --help' ;;
         paths) words='--partials --filters --format --help' ;;
       esac
@@ -22,7 +22,6 @@ _bikleinu() {
         render:--filters) values='jekyll shopify' ;;
         render:--missing) values='fault nil' ;;
         render:--decimals) values='fault text' ;;
-        merge:--filters) values='jekyll shopify' ;;
         merge:--records-format) values='csv jsonl' ;;
         merge:--decimals) values='fault text' ;;
         check:--filters) values='jekyll shopify' ;;

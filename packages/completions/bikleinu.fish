@@ -17,7 +17,6 @@ complete -c bikleinu -n '__fish_seen_subcommand_from render' -s h -l help -d 'Pr
 complete -c bikleinu -n '__fish_seen_subcommand_from merge' -s o -l out -r -F -d 'A template of the name of a record\'s file, as \'mails/{{ id }}.eml\'; without it pages go to standard output'
 complete -c bikleinu -n '__fish_seen_subcommand_from merge' -s d -l data -r -F -d 'More data, a JSON object, or TOML where FILE ends in .toml: its members are added, or it stands under NAME; the later wins'
 complete -c bikleinu -n '__fish_seen_subcommand_from merge' -s p -l partials -r -F -d 'Partials: the files below DIR by their paths, also without their suffix, or one FILE by NAME; the later wins'
-complete -c bikleinu -n '__fish_seen_subcommand_from merge' -l filters -x -a 'jekyll shopify' -d 'Reads templates as those of Jekyll or Shopify, with the filters that these call'
 complete -c bikleinu -n '__fish_seen_subcommand_from merge' -l records-format -x -a 'csv jsonl' -d 'How RECORDS are written: by default csv where the name ends in .csv, else jsonl'
 complete -c bikleinu -n '__fish_seen_subcommand_from merge' -l separator -r -F -d 'What to write after each page on standard output'
 complete -c bikleinu -n '__fish_seen_subcommand_from merge' -l from -r -F -d 'Begins with this record; the first is 1'

@@ -1,5 +1,4 @@
 //! The command `merge`.
-use crate::filters::{Hosted, made_with};
 use crate::forms::form_of;
 use crate::input::called;
 use crate::progress::Progress;
@@ -8,9 +7,8 @@ use crate::sources::{Parts, Sources, read_parts, read_pattern};
 use crate::stop::Stop;
 use crate::target::Target;
 use liquid_commands::{MergeCall, is_selected};
-use liquid_core::{HostFilters, Object};
 use liquid_excerpts::Reason;
-use liquid_lib::{DEFAULT_DEPTH, Partials, Template};
+use liquid_lib::DEFAULT_DEPTH;
 use liquid_records::{Job, Merge};
 use std::alloc::AllocError;
 use std::io::Read;
@@ -18,68 +16,33 @@ use std::{fs, io};
 
 /// Writes the page of each record. A record's fault is printed, and stops no other.
 pub fn merge(rt: &HostRuntime, call: &MergeCall<'_>) -> Result<(), Stop> {
+    let parts = read_parts(rt, &call.inputs)?;
     let Parts {
         sources,
         template,
         partials,
         data,
-    } = read_parts(rt, &call.inputs)?;
-    let pattern = match call.out {
-        Some(pattern) => Some(read_pattern(rt, pattern, call.inputs.filters)?),
-        None => None,
-    };
-    let work = Merging {
-        run: Run { rt, call, sources },
+    } = parts;
+    let job = Job {
         template,
         partials,
+        depth: DEFAULT_DEPTH,
         shared: data,
-        pattern,
     };
-    made_with(rt.alloc(), call.inputs.filters, work)
-}
-
-/// The pages of all records, which are to be made.
-#[derive(Drop)]
-struct Merging<'r> {
-    run: Run<'r>,
-    template: Template,
-    partials: Partials,
-    /// The data that all records share.
-    shared: Object,
-    /// The template of the names of files, where the pages go into files.
-    pattern: Option<Template>,
-}
-
-impl Hosted for Merging<'_> {
-    type Made = ();
-
-    fn settings(&self) -> &Object {
-        &self.shared
+    let target = match call.out {
+        Some(pattern) => {
+            let pattern = read_pattern(rt, pattern)?;
+            Target::files(rt, Merge::new(rt.alloc(), job, pattern), call.dry_run)
+        }
+        None => Target::Output(job),
+    };
+    let run = Run { rt, call, sources };
+    if call.records == "-" {
+        return run.all(target, rt.reader());
     }
-
-    fn made_with(self, host: Option<&HostFilters>) -> Result<(), Stop> {
-        let Merging {
-            run,
-            template,
-            partials,
-            shared,
-            pattern,
-        } = self;
-        let job = Job {
-            template,
-            partials,
-            host,
-            depth: DEFAULT_DEPTH,
-            shared,
-        };
-        let target = match pattern {
-            Some(pattern) => {
-                let merge = Merge::new(run.rt.alloc(), job, pattern);
-                Target::files(run.rt, merge, run.call.dry_run)
-            }
-            None => Target::Output(job),
-        };
-        run.records_of(target)
+    match fs::open(rt, call.records) {
+        Ok(file) => run.all(target, file),
+        Err(refused) => Err(run.unread(refused.kind())),
     }
 }
 
@@ -92,20 +55,9 @@ struct Run<'r> {
 }
 
 impl Run<'_> {
-    /// Merges the records of the file that the call names.
-    fn records_of(&self, target: Target<'_, '_>) -> Result<(), Stop> {
-        if self.call.records == "-" {
-            return self.all(target, self.rt.reader());
-        }
-        match fs::open(self.rt, self.call.records) {
-            Ok(file) => self.all(target, file),
-            Err(refused) => Err(self.unread(refused.kind())),
-        }
-    }
-
     /// Merges the records that a reader gives, and prints how many pages there are and how many
     /// records failed.
-    fn all<R: Read + Drop>(&self, target: Target<'_, '_>, reader: R) -> Result<(), Stop> {
+    fn all<R: Read + Drop>(&self, target: Target<'_>, reader: R) -> Result<(), Stop> {
         let mut records = self.records(reader)?;
         let mut target = target;
         let mut progress = Progress::new(self.rt, self.call.progress);
@@ -152,12 +104,12 @@ impl Run<'_> {
     }
 
     /// Merges one record.
-    fn one<'r, 'h, R: Read + Drop>(
+    fn one<'r, R: Read + Drop>(
         &self,
-        target: Target<'r, 'h>,
+        target: Target<'r>,
         records: &Records<R>,
         progress: &mut Progress,
-    ) -> Result<Target<'r, 'h>, Stop> {
+    ) -> Result<Target<'r>, Stop> {
         let number = records.number();
         let form = form_of(self.call.inputs.forms);
         let (target, outcome) = match records.facts(self.rt.alloc(), form)? {

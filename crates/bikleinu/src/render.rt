@@ -1,45 +1,10 @@
 //! The command `render`.
-use crate::filters::{Hosted, made_with};
+use crate::filters::page_with;
 use crate::output::{print_text, put_file};
-use crate::sources::{Parts, Sources, read_parts};
+use crate::sources::{Sources, read_parts};
 use crate::stop::Stop;
 use liquid_commands::RenderCall;
-use liquid_core::{HostFilters, Object};
-use liquid_lib::{
-    DEFAULT_DEPTH, LimitReached, LimitedPage, Limits, Page, Surroundings, render_hosted_page,
-};
-use std::alloc::Global;
-
-/// The page of a template, which is to be made.
-#[derive(Drop)]
-struct Shown<'p> {
-    alloc: Global,
-    parts: &'p Parts,
-    limits: Limits,
-}
-
-impl Hosted for Shown<'_> {
-    type Made = LimitedPage;
-
-    fn settings(&self) -> &Object {
-        &self.parts.data
-    }
-
-    fn made_with(self, host: Option<&HostFilters>) -> Result<LimitedPage, Stop> {
-        let Parts {
-            template,
-            partials,
-            data,
-            ..
-        } = self.parts;
-        let around = Surroundings {
-            partials,
-            depth: DEFAULT_DEPTH,
-            limits: self.limits,
-        };
-        Ok(render_hosted_page(self.alloc, template, &host, around, data)?)
-    }
-}
+use liquid_lib::{LimitReached, LimitedPage, Limits, Page};
 
 /// Writes the page of a template. A page that ends by a fault goes to standard output up to there,
 /// and into no file.
@@ -47,12 +12,8 @@ pub fn render(rt: &HostRuntime, call: &RenderCall<'_>) -> Result<(), Stop> {
     let mut parts = read_parts(rt, &call.inputs)?;
     parts.complete(rt.alloc(), call.missing)?;
     let limits = limits_of(call);
-    let work = Shown {
-        alloc: rt.alloc(),
-        parts: &parts,
-        limits,
-    };
-    let LimitedPage { page, limit } = made_with(rt.alloc(), call.inputs.filters, work)?;
+    let shown = page_with(rt.alloc(), call.inputs.filters, &parts, limits)?;
+    let LimitedPage { page, limit } = shown;
     let Page { text, fault } = page;
     if call.out.is_none() {
         print_text(rt, text.as_str())?;

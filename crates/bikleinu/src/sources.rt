@@ -4,11 +4,11 @@ use crate::folder::files_below;
 use crate::forms::{data_of_file, with_time};
 use crate::input::{called, text_at};
 use crate::stop::Stop;
-use liquid_commands::{DataFile, FilterSet, Forms, Inputs};
+use liquid_commands::{DataFile, Forms, Inputs};
 use liquid_core::{Error, Location, Object, Origin};
 use liquid_data_forms::with_named;
 use liquid_excerpts::{Excerpt, ShownPath};
-use liquid_lib::{Language, Partials, Template, parse_kept};
+use liquid_lib::{Language, Partials, Template, language, parse_kept};
 use liquid_partial_names::{PartialNames, joined_path, named_file};
 use liquid_records::with_members;
 use std::alloc::Global;
@@ -113,12 +113,8 @@ fn data_at(rt: &HostRuntime, path: &str, forms: Forms<'_>) -> Result<Object, Sto
 }
 
 /// The template of the names of files. Its fault is printed.
-pub fn read_pattern(
-    rt: &HostRuntime,
-    pattern: &str,
-    filters: Option<FilterSet>,
-) -> Result<Template, Stop> {
-    let language = language_with(rt.alloc(), filters)?;
+pub fn read_pattern(rt: &HostRuntime, pattern: &str) -> Result<Template, Stop> {
+    let language = language(rt.alloc())?;
     let source = Source {
         path: String::from_str(rt.alloc(), "--out")?,
         text: String::from_str(rt.alloc(), pattern)?,

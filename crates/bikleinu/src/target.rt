@@ -4,30 +4,26 @@ use crate::output::print_text;
 use crate::records::Facts;
 use crate::report::Report;
 use crate::stop::Stop;
-use liquid_core::HostFilters;
 use liquid_records::{Disk, Fate, Job, Made, Merge, Outcome};
 use std::alloc::Global;
-
-/// The filters of a host, where there are some.
-pub type Host<'h> = Option<&'h HostFilters>;
 
 /// Whether a record's page is there, or why not.
 pub type Taken = Result<(), Report>;
 
 /// Where the pages of a merge go.
 #[derive(Drop)]
-pub enum Target<'r, 'h> {
+pub enum Target<'r> {
     /// Each into the file of its name.
-    Files(Merge<Host<'h>>, Files<'r>),
+    Files(Merge, Files<'r>),
     /// Nowhere: the names of the files are printed.
-    Names(Merge<Host<'h>>),
+    Names(Merge),
     /// All to standard output.
-    Output(Job<Host<'h>>),
+    Output(Job),
 }
 
-impl<'r, 'h> Target<'r, 'h> {
+impl<'r> Target<'r> {
     /// The files of a merge, or their names alone.
-    pub fn files(rt: &'r HostRuntime, merge: Merge<Host<'h>>, dry_run: bool) -> Target<'r, 'h> {
+    pub fn files(rt: &'r HostRuntime, merge: Merge, dry_run: bool) -> Target<'r> {
         if dry_run {
             Target::Names(merge)
         } else {
@@ -42,7 +38,7 @@ impl<'r, 'h> Target<'r, 'h> {
         separator: &str,
         number: usize,
         facts: Facts<'_>,
-    ) -> Result<(Target<'r, 'h>, Taken), Stop> {
+    ) -> Result<(Target<'r>, Taken), Stop> {
         match self {
             Target::Files(merge, files) => {
                 let mut files = files;
@@ -66,13 +62,13 @@ impl<'r, 'h> Target<'r, 'h> {
 }
 
 /// A record that a merge takes.
-fn merged<'h, D: Disk>(
+fn merged<D: Disk>(
     alloc: Global,
-    merge: Merge<Host<'h>>,
+    merge: Merge,
     number: usize,
     facts: Facts<'_>,
     disk: &mut D,
-) -> Result<(Merge<Host<'h>>, Fate), Stop> {
+) -> Result<(Merge, Fate), Stop> {
     match facts {
         Facts::Text(text) => Ok(merge.take_json(alloc, number, text, disk)?),
         Facts::Data(data) => Ok(merge.take(alloc, number, data, disk)?),

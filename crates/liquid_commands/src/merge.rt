@@ -1,9 +1,7 @@
 //! The words of `merge`.
 use crate::forms::with_form_options;
 use crate::inputs::{Inputs, WordFault, inputs_of};
-use crate::options::{
-    STATUSES, data_option, filters_option, flag, limit_option, partials_option, template_word,
-};
+use crate::options::{STATUSES, data_option, flag, limit_option, partials_option, template_word};
 use crate::words::are_in_csv;
 use clap::{Arg, ArgMatches, Command};
 use std::alloc::{AllocError, Global};
@@ -41,8 +39,7 @@ pub fn merge_command<'a>(alloc: Global) -> Result<Command<'a>, AllocError> {
         .arg(records)?
         .arg(pattern_option(alloc))?
         .arg(data_option(alloc))?
-        .arg(partials_option(alloc))?
-        .arg(filters_option(alloc))?;
+        .arg(partials_option(alloc))?;
     with_form_options(alloc, with_record_options(alloc, command)?)
 }
 

@@ -107,7 +107,8 @@ fn push_json_kind(out: &mut String, said: &Diagnostic<'_>) -> Result<(), AllocEr
 {
     out.push_str(said.kind)?;
     out.push_str("\",\"severity\":\"")?;
-    out.push_str(severity(said.is_warning))
+    out.push_str(severity(said.is_warning))?;
+    Ok(())
 }
 
 /// Appends what is said, and what ends the line.

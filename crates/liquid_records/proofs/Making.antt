@@ -1,19 +1,12 @@
 -- What a page, or the page of a pattern, makes of a record.
-use Rattle.std.proofs.Common.{inl, inr}
-use Rattle.std.specs.Prelude.{◌≡◌, Option, Some, None, IsSome, Result, Ok, Err, IfOk, IfErr}
-use mathlib.Core.Path.{sym, ap, subst, ◌∙◌}
-use Rattle.liquid_model.specs.Answer.{IsValueOrMemory}
+use Rattle.std.specs.Prelude.{◌≡◌, Option, Some, Result, Ok, Err}
+use mathlib.Core.Path.{sym, ap, ◌∙◌}
 use Rattle.liquid_model.specs.Data.{Datum, Pairs}
 use Rattle.liquid_model.specs.Maps.{Map, merged}
 use Rattle.liquid_model.specs.Texts.{Text}
 use Rattle.liquid_core.specs.Held.{map_of}
 use Rattle.liquid_evaluation.specs.Tree.{Nodes}
-use Rattle.liquid_model.specs.declared.error.Error.{Error}
-use Rattle.liquid_model.specs.declared.error.ErrorKind.TheVariants.{Memory}
-use Rattle.liquid_lib.specs.LimitedPages.{PageWithin}
-use Rattle.liquid_lib.specs.Pages.{Shown, page_view}
-use Rattle.liquid_lib.specs.declared.page.LimitedPage.{LimitedPage}
-use Rattle.liquid_lib.specs.declared.page.Page.{Page}
+use Rattle.liquid_lib.specs.Pages.{Shown}
 use Rattle.liquid_records.specs.Records.{Job, Made, Reason, ◌then◌, page_of, named_by, name_of, made_page, made_by, with_record}
 
 pub name_is : (job : Job) (pattern : Nodes) (page : Shown) (r : Result Text Reason) → page ≡ page_of job pattern → r ≡ named_by page → r ≡ name_of job (Some pattern)
@@ -36,9 +29,3 @@ made_with job facts over pattern x e made = made ∙ (λ i. made_by (record job 
 -- the shared data is there again
 pub same_job : (job : Job) (over : Map Datum) → over ≡ job.shared → record job { shared = over } ≡ job
 same_job job over e = λ i. record job { shared = e i }
-
--- without a limit it is the whole page
-pub page_is : (want : Shown) (p : LimitedPage) (r : Result Page Error) → PageWithin want p → IfOk r (λ page. page ≡ p.page) → IfOk r (λ page. p.limit ≡ None) → IfErr r (λ e. e.kind ≡ Memory) → IsValueOrMemory page_view r want
-page_is want p (Ok page) (inl whole) same none memory = ap page_view same ∙ whole.1
-page_is want p (Ok page) (inr some) same none memory = cc (subst IsSome none some.0)
-page_is want p (Err e) within same none memory = memory

@@ -8,19 +8,15 @@ use Rattle.liquid_model.specs.Data.{Datum, Pairs}
 use Rattle.liquid_model.specs.Maps.{Map, merged}
 use Rattle.liquid_model.specs.Texts.{Text}
 use Rattle.liquid_model.specs.declared.error.ErrorKind.{ErrorKind}
-use Rattle.liquid_core.specs.FilterAnswers.{FilterAnswer}
 use Rattle.liquid_core.specs.Held.{map_of}
 use Rattle.liquid_evaluation.specs.Tree.{Nodes}
-use Rattle.liquid_lib.specs.HostedPages.{hosted_page}
-use Rattle.liquid_lib.specs.Pages.{Shown}
+use Rattle.liquid_lib.specs.Pages.{Shown, page_over}
 use Rattle.liquid_records.specs.FileNames.{is_file_name}
 
--- a template with its partials, what each filter of a host answers by its name, how deep partials
--- may be nested, and the data that all records share
+-- a template with its partials, how deep these may be nested, and the data that all records share
 pub record Job : Type 0 where
   pub template : Nodes
   pub partials : List (Text × Nodes)
-  pub named : Text → FilterAnswer
   pub depth : ℕ
   pub shared : Map Datum
 
@@ -46,7 +42,7 @@ abbrev pub ◌then◌ : {A B : Type 0} → Result A Reason → (A → Result B R
 ◌then◌ (Err why) k = Err why
 
 abbrev pub page_of : Job → Nodes → Shown
-page_of job nodes = hosted_page job.named job.depth job.partials job.shared nodes
+page_of job nodes = page_over job.depth job.partials job.shared nodes
 
 -- the job with a record's data over the shared data
 abbrev pub with_record : Pairs → Job → Job

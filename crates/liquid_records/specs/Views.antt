@@ -3,10 +3,8 @@ use Rattle.std.specs.Prelude.{ℕ, Option, option_map, Result, Ok, Err, String, 
 use Rattle.std.specs.Borrow.{Bor}
 use Rattle.std.specs.BTreeMap.{get_by_text}
 use Rattle.std.specs.declared.alloc.Global.{Global}
-use Rattle.liquid_core.specs.FilterAnswers.{FilterAnswer}
 use Rattle.liquid_core.specs.Held.{held}
 use Rattle.liquid_evaluation.specs.Tree.{Nodes}
-use Rattle.liquid_model.specs.Texts.{Text}
 use Rattle.liquid_syntax.specs.Templates.{tree_of, partials_of}
 use Rattle.liquid_syntax.specs.declared.template.Template.{Template}
 use Rattle.liquid_records.specs.Records as seen
@@ -19,15 +17,10 @@ use Rattle.liquid_records.specs.declared.merge.Failure.{Failure}
 use Rattle.liquid_records.specs.declared.merge.Failure.TheVariants.{NoPage, Again, Unwritten}
 use Rattle.liquid_records.specs.declared.merge.Merge.{Merge}
 
--- what filters of a host answer, each by its name
-abbrev pub Named : Type 0 → Type 0
-Named H = H → Text → FilterAnswer
-
-abbrev pub job_view : {H : Type 0} → Named H → Job H → seen.Job
-job_view named j = record {
+abbrev pub job_view : Job → seen.Job
+job_view j = record {
   template = tree_of j.template;
   partials = partials_of j.partials;
-  named = named j.host;
   depth = j.depth;
   shared = held j.shared;
 }
@@ -60,11 +53,11 @@ fate_view (Err failure) = Err (failure_view failure)
 
 -- ---- merges
 
-abbrev pub job_of : {H : Type 0} → Named H → Merge H → seen.Job
-job_of named m = job_view named m.job
+abbrev pub job_of : Merge → seen.Job
+job_of m = job_view m.job
 
-abbrev pub pattern_of : {H : Type 0} → Merge H → Nodes
+abbrev pub pattern_of : Merge → Nodes
 pattern_of m = tree_of m.pattern
 
-abbrev pub names_of : {H : Type 0} → Merge H → Names
+abbrev pub names_of : Merge → Names
 names_of m = λ name. get_by_text m.names name

@@ -1,5 +1,5 @@
 //! One template over many records.
-ghost use Rattle.std.specs.Prelude.{◌≡◌, IfErr, IfOk, None, Ok, string_bytes};
+ghost use Rattle.std.specs.Prelude.{◌≡◌, IfOk, Ok, string_bytes};
 ghost use Rattle.liquid_model.specs.Answer.{IsValueOrMemory};
 ghost use Rattle.liquid_model.specs.View.{pairs_view};
 ghost use Rattle.liquid_syntax.specs.Templates.{tree_of};
@@ -11,18 +11,16 @@ ghost use Rattle.liquid_records.specs.Views.{job_view, made_view, outcome_view, 
 
 use crate::data::{lay_over, take_off};
 use crate::file_name::is_file_name;
-use liquid_core::{Error, ErrorKind, NamedFilters, Object, Result};
+use liquid_core::{Error, ErrorKind, Object, Result};
 use liquid_json::data_from_json;
-use liquid_lib::{LimitedPage, Limits, Page, Partials, Surroundings, Template, render_hosted_page};
-use std::alloc::{AllocError, Global};
+use liquid_lib::{Page, Partials, Template, render_page};
+use std::alloc::Global;
 
-/// A template with its partials and the filters of a host, how deep partials may be nested, and the
-/// data that all records share.
+/// A template with its partials, how deep these may be nested, and the data that all records share.
 #[derive(Drop)]
-pub struct Job<H> {
+pub struct Job {
     pub template: Template,
     pub partials: Partials,
-    pub host: H,
     pub depth: u32,
     pub shared: Object,
 }
@@ -50,7 +48,7 @@ pub enum Why {
 /// What a record comes to.
 pub type Outcome<T> = std::result::Result<T, Why>;
 
-impl<H: NamedFilters + Drop> Job<H> {
+impl Job {
     /// What a record with these members comes to, over the shared data: the record's member stands
     /// in front of the shared one of its name.
     /// Where there is a pattern, its page is the name of the record's file.
@@ -63,16 +61,15 @@ impl<H: NamedFilters + Drop> Job<H> {
         alloc: Global,
         facts: Object,
         pattern: Option<&Template>,
-    ) -> Result<(Job<H>, Outcome<Made>)>
+    ) -> Result<(Job, Outcome<Made>)>
         ensures made { IsValueOrMemory (λ p. outcome_view made_view p.1) result
-            (comes_to (job_view H.named self) (pattern_view pattern.entry)
+            (comes_to (job_view self) (pattern_view pattern.entry)
             (Ok (pairs_view facts.entries))) }
-        ensures same { IfOk result (λ p. job_view H.named p.0 ≡ job_view H.named self) }
+        ensures same { IfOk result (λ p. job_view p.0 ≡ job_view self) }
     {
         let Job {
             template,
             partials,
-            host,
             depth,
             shared,
         } = self;
@@ -80,7 +77,6 @@ impl<H: NamedFilters + Drop> Job<H> {
         let job = Job {
             template,
             partials,
-            host,
             depth,
             shared: over,
         };
@@ -88,7 +84,6 @@ impl<H: NamedFilters + Drop> Job<H> {
         let Job {
             template,
             partials,
-            host,
             depth,
             shared: over,
         } = job;
@@ -96,7 +91,6 @@ impl<H: NamedFilters + Drop> Job<H> {
         let job = Job {
             template,
             partials,
-            host,
             depth,
             shared,
         };
@@ -109,10 +103,10 @@ impl<H: NamedFilters + Drop> Job<H> {
         alloc: Global,
         text: &str,
         pattern: Option<&Template>,
-    ) -> Result<(Job<H>, Outcome<Made>)>
+    ) -> Result<(Job, Outcome<Made>)>
         ensures made { IsValueOrMemory (λ p. outcome_view made_view p.1) result
-            (comes_to (job_view H.named self) (pattern_view pattern.entry) (data_of text.now)) }
-        ensures same { IfOk result (λ p. job_view H.named p.0 ≡ job_view H.named self) }
+            (comes_to (job_view self) (pattern_view pattern.entry) (data_of text.now)) }
+        ensures same { IfOk result (λ p. job_view p.0 ≡ job_view self) }
     {
         match data_from_json(alloc, text) {
             Ok(facts) => self.made(alloc, facts, pattern),
@@ -127,7 +121,7 @@ impl<H: NamedFilters + Drop> Job<H> {
     #[tactic(auto, using(crate::proofs::Making::made_is, crate::proofs::Making::unnamed_is))]
     fn made_over(&self, alloc: Global, pattern: Option<&Template>) -> Result<Outcome<Made>>
         ensures { IsValueOrMemory (outcome_view made_view) result
-            (made_by (job_view H.named self.now) (pattern_view pattern.entry)) }
+            (made_by (job_view self.now) (pattern_view pattern.entry)) }
     {
         match self.name_over(alloc, pattern)? {
             Ok(name) => {
@@ -142,7 +136,7 @@ impl<H: NamedFilters + Drop> Job<H> {
     #[tactic(auto, using(crate::proofs::Making::name_is))]
     fn name_over(&self, alloc: Global, pattern: Option<&Template>) -> Result<Outcome<String>>
         ensures { IsValueOrMemory (outcome_view string_bytes) result
-            (name_of (job_view H.named self.now) (pattern_view pattern.entry)) }
+            (name_of (job_view self.now) (pattern_view pattern.entry)) }
     {
         match pattern {
             Some(pattern) => {
@@ -153,35 +147,11 @@ impl<H: NamedFilters + Drop> Job<H> {
         }
     }
 
-    /// The page of a template. No limit is set, so none is told; were one, it is a refused growth.
-    #[tactic(auto, using(crate::proofs::Making::page_is))]
     fn page(&self, alloc: Global, template: &Template) -> Result<Page>
         ensures { IsValueOrMemory page_view result
-            (page_of (job_view H.named self.now) (tree_of template.now)) }
+            (page_of (job_view self.now) (tree_of template.now)) }
     {
-        let around = Surroundings {
-            partials: &self.partials,
-            depth: self.depth,
-            limits: Limits {
-                bytes: None,
-                turns: None,
-            },
-        };
-        let shown = render_hosted_page(alloc, template, &self.host, around, &self.shared)?;
-        whole_page(shown)
-    }
-}
-
-/// The page that no limit ended.
-fn whole_page(shown: LimitedPage) -> Result<Page>
-    ensures whole { IfOk result (λ page. page ≡ shown.page) }
-    ensures unlimited { IfOk result (λ _. shown.limit ≡ None) }
-    ensures memory { IfErr result (λ e. e.kind ≡ ErrorKind.Memory) }
-{
-    let LimitedPage { page, limit } = shown;
-    match limit {
-        None => Ok(page),
-        Some(_) => Err(Error::from(AllocError)),
+        render_page(alloc, template, &self.partials, self.depth, &self.shared)
     }
 }
 

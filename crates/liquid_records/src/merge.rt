@@ -11,7 +11,7 @@ ghost use Rattle.liquid_records.specs.Views.{outcome_view, pattern_of};
 ghost use Rattle.liquid_records.specs.inside.Puts.{map_names};
 
 use crate::job::{Job, Made, Outcome, Why};
-use liquid_core::{ErrorKind, NamedFilters, Object, Result};
+use liquid_core::{ErrorKind, Object, Result};
 use liquid_json::data_from_json;
 use liquid_lib::Template;
 use liquid_site_files::Disk;
@@ -34,16 +34,16 @@ pub type Fate = std::result::Result<String, Failure>;
 
 /// A job whose pages go into files that a pattern names, and the names that came before.
 #[derive(Drop)]
-pub struct Merge<H> {
-    job: Job<H>,
+pub struct Merge {
+    job: Job,
     pattern: Template,
     names: BTreeMap<String, usize>,
 }
 
-impl<H: NamedFilters + Drop> Merge<H> {
+impl Merge {
     /// A merge before its first record. It takes no memory.
-    pub fn new(alloc: Global, job: Job<H>, pattern: Template) -> Merge<H>
-        ensures job { job_of H.named result ≡ job_view H.named job }
+    pub fn new(alloc: Global, job: Job, pattern: Template) -> Merge
+        ensures job { job_of result ≡ job_view job }
         ensures pattern { pattern_of result ≡ tree_of pattern }
         ensures names { names_of result ≡ empty }
     {
@@ -66,16 +66,15 @@ impl<H: NamedFilters + Drop> Merge<H> {
         number: usize,
         facts: Object,
         disk: &mut D,
-    ) -> Result<(Merge<H>, Fate)>
+    ) -> Result<(Merge, Fate)>
         ensures step { IfOk result
-            (λ p. IsStep number (comes_to (job_of H.named self) (Some (pattern_of self))
+            (λ p. IsStep number (comes_to (job_of self) (Some (pattern_of self))
             (Ok (pairs_view facts.entries)))
             (names_of self) (fate_view p.1) (names_of p.0)) }
         ensures files { IfSome (D.files disk.old) (λ f. IfOk result (λ p.
-            Leaves (comes_to (job_of H.named self)
-            (Some (pattern_of self)) (Ok (pairs_view facts.entries)))
+            Leaves (comes_to (job_of self) (Some (pattern_of self)) (Ok (pairs_view facts.entries)))
             (fate_view p.1) f (D.files disk.new))) }
-        ensures job { IfOk result (λ p. job_of H.named p.0 ≡ job_of H.named self) }
+        ensures job { IfOk result (λ p. job_of p.0 ≡ job_of self) }
         ensures pattern { IfOk result (λ p. pattern_of p.0 ≡ pattern_of self) }
         ensures untouched { OnErr result (D.files disk.new ≡ D.files disk.old) }
         ensures memory { IfErr result (λ e. e.kind ≡ ErrorKind.Memory) }
@@ -103,15 +102,15 @@ impl<H: NamedFilters + Drop> Merge<H> {
         number: usize,
         text: &str,
         disk: &mut D,
-    ) -> Result<(Merge<H>, Fate)>
+    ) -> Result<(Merge, Fate)>
         ensures step { IfOk result
-            (λ p. IsStep number (comes_to (job_of H.named self) (Some (pattern_of self))
+            (λ p. IsStep number (comes_to (job_of self) (Some (pattern_of self))
             (data_of text.now))
             (names_of self) (fate_view p.1) (names_of p.0)) }
         ensures files { IfSome (D.files disk.old) (λ f. IfOk result (λ p.
-            Leaves (comes_to (job_of H.named self) (Some (pattern_of self)) (data_of text.now))
+            Leaves (comes_to (job_of self) (Some (pattern_of self)) (data_of text.now))
             (fate_view p.1) f (D.files disk.new))) }
-        ensures job { IfOk result (λ p. job_of H.named p.0 ≡ job_of H.named self) }
+        ensures job { IfOk result (λ p. job_of p.0 ≡ job_of self) }
         ensures pattern { IfOk result (λ p. pattern_of p.0 ≡ pattern_of self) }
         ensures untouched { OnErr result (D.files disk.new ≡ D.files disk.old) }
         ensures memory { IfErr result (λ e. e.kind ≡ ErrorKind.Memory) }
