@@ -1,6 +1,6 @@
 -- What is said of a place in a file, in three formats.
 --     diagnostic_line format said      the line, with its end
-use Rattle.std.specs.Prelude.{ℕ, Bool, cond, List, [], ◌++◌, codes}
+use Rattle.std.specs.Prelude.{ℕ, Bool, cond, [], ◌++◌, codes}
 use Rattle.std.specs.Fmt.{decimal}
 use Rattle.liquid_diagnostics.specs.Escapes.{Text, escaped}
 use Rattle.liquid_diagnostics.specs.declared.diagnostic.Diagnostic.{Diagnostic}

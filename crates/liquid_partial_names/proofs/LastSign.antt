@@ -1,5 +1,5 @@
 -- The last sign of a text, which `rsplit_once` finds.
-use Rattle.std.proofs.Common.{◌≡◌, ◌⊎◌, ℕ, zero, suc, ◌+◌, ◌-◌, ◌<◌, ◌≤◌, List, length, take, drop, Option, Some, None, option_map, MatchOption, Bor, get_or, refl, sym, ap, ◌∙◌, arith, ⊎_elim, eq-eqb, ne_eqb, length-drop}
+use Rattle.std.proofs.Common.{◌≡◌, ℕ, zero, suc, ◌+◌, ◌-◌, ◌<◌, ◌≤◌, length, take, drop, Option, Some, None, option_map, MatchOption, Bor, get_or, refl, sym, ap, ◌∙◌, arith, ⊎_elim, eq-eqb, ne_eqb, length-drop}
 use Rattle.std.proofs.lemmas.Bool.{cases_eq, cond-true, cond-false}
 use Rattle.std.proofs.lemmas.List.{get_or-drop}
 use Rattle.std.proofs.lemmas.Str.{len_utf8_ascii}

@@ -2,8 +2,8 @@
 --     joined_path folder inner      the path of what stands in a folder
 --     without_suffix name      the name without the suffix of its last part, where that has one
 --     named_file word      the name and the file of a word NAME=FILE
-use Rattle.std.specs.Prelude.{ℕ, Bool, ◌&&◌, ◌-◌, ◌<◌, ◌==◌, not, cond, length, slice_index}
-use Rattle.std.specs.Prelude.{List, [], ◌∷◌, ◌++◌, Option, Some, None, option_map, codes, nat_lt}
+use Rattle.std.specs.Prelude.{ℕ, Bool, ◌&&◌, ◌-◌, ◌==◌, not, cond, length, slice_index, nat_lt}
+use Rattle.std.specs.Prelude.{[], ◌++◌, Option, Some, None, option_map, codes}
 use Rattle.std.specs.Borrow.{Bor}
 use Rattle.std.specs.List.{after_first, before_first, list_all, position_or_len}
 use Rattle.std.specs.Path.{dot, slash, rsplit_once}

@@ -1,7 +1,7 @@
 -- Tokens after one another.
 use Rattle.std.specs.Prelude.{◌≡◌, List, [], ◌∷◌, ◌++◌, codes}
 use Rattle.std.proofs.lemmas.List.{append_assoc}
-use mathlib.Core.Path.{refl, sym, ap, ◌∙◌}
+use mathlib.Core.Path.{ap, ◌∙◌}
 use Rattle.json.specs.Token.{Token}
 use Rattle.liquid_schemas.specs.Schemas.{entry_tokens}
 

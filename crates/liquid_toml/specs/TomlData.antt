@@ -1,6 +1,6 @@
 -- The data that a document of TOML gives.
 --     data_of source      the data of a text
-use Rattle.std.specs.Prelude.{Bool, cond, List, ℕ, Option, Some, None, Result, Ok, Err}
+use Rattle.std.specs.Prelude.{cond, List, ℕ, Option, Some, None, Result, Ok, Err}
 use Rattle.toml.specs.Data as toml
 use Rattle.toml.specs.Parse.{parse_document}
 use Rattle.toml_datetime.specs.Text.{datetime_text}

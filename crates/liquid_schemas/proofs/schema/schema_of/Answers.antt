@@ -1,7 +1,7 @@
-use Rattle.std.proofs.Common.{◌++◌, codes, sym, ap, ◌∙◌}
+use Rattle.std.proofs.Common.{◌++◌, codes, ap, ◌∙◌}
 use Rattle.json.specs.Layout.{pretty}
 use Rattle.liquid_model.specs.UseViews.{members_view}
-use Rattle.liquid_schemas.specs.Schemas.{entry_tokens, properties_tokens}
+use Rattle.liquid_schemas.specs.Schemas.{properties_tokens}
 use Rattle.liquid_schemas.proofs.Appended.{document}
 use Rattle.liquid_schemas.proofs.schema.schema_of.Goals as goal
 
