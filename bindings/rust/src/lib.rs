@@ -38,6 +38,7 @@
 mod error;
 mod ffi;
 mod filters;
+mod folder;
 mod inputs;
 mod language;
 mod shared;

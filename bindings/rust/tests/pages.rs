@@ -141,3 +141,23 @@ fn paths_and_what_the_data_lack() -> Result<(), LiquidError> {
     assert_eq!(template.render(&Data::from_json(r#"{"a": null, "lines": []}"#)?.completed(&paths)?, &partials, 32)?.text, "");
     Ok(())
 }
+
+#[test]
+fn partials_of_a_folder() -> Result<(), Box<dyn Error>> {
+    let room = std::env::temp_dir().join(format!("bikleinu-{}", std::process::id()));
+    std::fs::create_dir_all(room.join("parts"))?;
+    let files = [("a", "1"), ("a.liquid", "2"), ("b.html.liquid", "3"), ("parts/line.liquid", "{{ x }}"), (".hidden", "{% no"), ("c.d", "4")];
+    for (path, source) in files {
+        std::fs::write(room.join(path), source)?;
+    }
+    let language = Language::new()?;
+    let partials = Partials::from_folder(&room, &language)?;
+    let page = language.parse("{% include 'a' %}{% include 'a.liquid' %}{% include 'b.html' %}{% render 'parts/line', x: 7 %}{% render 'c' %}")?;
+    assert_eq!(page.render(&Data::none(), &partials, 32)?.into_text()?, "12374");
+    std::fs::write(room.join("c.d"), "\n{{ x | pope }}")?;
+    let fault = Partials::from_folder(&room, &language).unwrap_err().to_string();
+    assert!(fault.starts_with("c: UnknownFilter: line 2, column 8: "), "{fault}");
+    std::fs::remove_dir_all(&room)?;
+    assert!(Partials::from_folder(&room, &language).is_err());
+    Ok(())
+}

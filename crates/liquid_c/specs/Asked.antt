@@ -36,9 +36,9 @@ pub record ArePaths (uses : Uses) (it : Text) : Type 0 where
 
 -- a run over these partials sees no more of its data than the uses ask
 pub record Covers (partials : List (Text × Nodes)) (nodes : Nodes) (uses : Uses) : Type 0 where
-  pub with : Partials
-  pub same : partials_of with ≡ partials
-  pub alone : SeesAlone (uses_view uses) with nodes
+  pub over : Partials
+  pub same : partials_of over ≡ partials
+  pub alone : SeesAlone (uses_view uses) over nodes
 
 -- such uses, with their paths;  or memory ran out
 abbrev pub TellsPaths : List (Text × Nodes) → Nodes → Result Content Refusal → Type 0

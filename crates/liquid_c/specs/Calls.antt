@@ -142,7 +142,8 @@ bound_of asked = if nat_eq asked 0 then usual_levels else asked
 
 -- the handle holds these partials, of which one reaches so many levels
 abbrev pub Holds : Option Held → List (Text × Nodes) → Levels → Type 0
-Holds (Some (Own (content.Partials p most))) trees levels = (partials_of p ≡ trees) × (most ≡ levels)
+Holds (Some (Own (content.Partials p most))) trees levels =
+    (partials_of p ≡ trees) × (most ≡ levels)
 Holds _ trees levels = ⊥
 
 -- the template now stands among the partials, and its handle holds nothing;  memory ran out, and

@@ -42,8 +42,8 @@ ShowsUnlessDeep is_deep table nodes depth facts partials answer =
 
 abbrev pub IsHosted : ℕ → Option Content → Option Content → Option Content → ℕ → Option Content
     → Result Content Refusal → Type 0
-IsHosted bound (Some (content.Template t levels)) facts partials depth (Some (content.Answers table))
-    answer = OfBoth (facts_behind facts) (partials_behind partials)
+IsHosted bound (Some (content.Template t levels)) facts partials depth
+    (Some (content.Answers table)) answer = OfBoth (facts_behind facts) (partials_behind partials)
     (ShowsUnlessDeep (nat_lt bound (most_levels depth levels (levels_behind partials)))
     table (tree_of t) depth) answer
 IsHosted bound template facts partials depth table answer = answer ≡ Err OtherHandle

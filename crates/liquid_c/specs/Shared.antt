@@ -19,8 +19,8 @@ content_of (Shared a) = arc_value a
 abbrev pub behind : Option Held → Option Content
 behind held = option_map content_of held
 
--- what a call finds behind a handle that it is to change: what was shared is the handle's own again,
--- or is shared still
+-- what a call finds behind a handle that it is to change: what was shared is the handle's own
+-- again, or is shared still
 abbrev pub IsRegained : Held → Held → Type 0
 IsRegained (Own c) was = was ≡ Own c
 IsRegained (Shared a) was = (was ≡ Own (arc_value a)) ⊎ (was ≡ Shared a)
