@@ -111,13 +111,28 @@ pub extern "C" fn bikleinu_refuse(
     let mut held = answers.take_to_change(alloc);
     let held_calls = calls.take(alloc);
     let call = call_seen(seen(&held_calls), number);
-    let status = match str::from_utf8(message) {
-        Ok(message) => put(alloc, &mut held, call, Ok(fault_of(alloc, kind, message))),
-        Err(_) => put(alloc, &mut held, call, Err(Refusal::NoText)),
-    };
+    let status = refuse(alloc, &mut held, call, kind, message);
     answers.put(alloc, held);
     calls.put(alloc, held_calls);
     status
+}
+
+/// Puts a fault as the answer to a call into the table behind a handle, where its message is a text.
+fn refuse(
+    alloc: Global,
+    held: &mut Option<Box<Held>>,
+    call: Result<&Value, Refusal>,
+    kind: u32,
+    message: &[u8],
+) -> u32
+    ensures { IsRefusing (option_map (λ b. b.value) held.old)
+        (result_map_both (λ c. view c.now) (λ r. r) call.entry) kind message.now result
+        (option_map (λ b. b.value) held.new) }
+{
+    match str::from_utf8(message) {
+        Ok(message) => put(alloc, held, call, Ok(fault_of(alloc, kind, message))),
+        Err(_) => put(alloc, held, call, Err(Refusal::NoText)),
+    }
 }
 
 /// The call of a number behind a handle.

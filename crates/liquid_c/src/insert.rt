@@ -53,13 +53,27 @@ fn put(
     };
     match partials {
         Some(held) => match &mut **held {
-            Held::Own(Content::Partials(partials, levels)) => {
-                put_template(alloc, partials, levels, name, template)
-            }
+            Held::Own(content) => put_into(alloc, content, name, template),
             Held::Shared(_) => (Refusal::SharedHandle.number(), Some(template)),
-            _ => (Refusal::OtherHandle.number(), Some(template)),
         },
         None => (Refusal::OtherHandle.number(), Some(template)),
+    }
+}
+
+fn put_into(
+    alloc: Global,
+    content: &mut Content,
+    name: &[u8],
+    template: Box<Held>,
+) -> (u32, Option<Box<Held>>)
+    ensures { IsPut (Some (Own content.old)) name.now (Some template.value) result.0
+        (Some (Own content.new)) (option_map (λ b. b.value) result.1) }
+{
+    match content {
+        Content::Partials(partials, levels) => {
+            put_template(alloc, partials, levels, name, template)
+        }
+        _ => (Refusal::OtherHandle.number(), Some(template)),
     }
 }
 
