@@ -1,7 +1,7 @@
 -- What handles share.
 --     behind held      what a handle holds, whether other handles share it or not
 --     Regaining R old      R holds of what the handle held, which is its own again where no other
---     handle has it any more
+--     handle has it any more;   RegainingBoth R old other      the same of two handles
 use Rattle.std.specs.Prelude.{◌≡◌, ◌⊎◌, ℕ, Option, Some, None, option_map}
 use Rattle.std.specs.Arc.{arc_value}
 use Rattle.liquid_model.specs.ErrorKinds.{number_of}
@@ -34,6 +34,15 @@ pub record Regaining (R : Option Held → Type 0) (old : Option Held) : Type 0 w
   pub was : Option Held
   pub regained : Regained old was
   pub is : R was
+
+-- the same of two handles
+pub record RegainingBoth (R : Option Held → Option Held → Type 0) (old other : Option Held)
+    : Type 0 where
+  pub was : Option Held
+  pub other_was : Option Held
+  pub regained : Regained old was
+  pub other_regained : Regained other other_was
+  pub is : R was other_was
 
 -- it shares this content
 abbrev pub HoldsShared : Content → Option Held → Type 0

@@ -5,7 +5,7 @@ ghost use Rattle.liquid_syntax.specs.Templates.{partials_of, slots_of};
 ghost use Rattle.liquid_c.specs.declared.content.Content.TheVariants as content;
 ghost use Rattle.liquid_c.specs.declared.held.Held.TheVariants.{Own};
 ghost use Rattle.liquid_c.specs.Calls.{IsPut};
-ghost use Rattle.liquid_c.specs.Shared.{Regaining};
+ghost use Rattle.liquid_c.specs.Shared.{RegainingBoth};
 
 use crate::content::Content;
 use crate::handle::Handle;
@@ -26,8 +26,8 @@ pub extern "C" fn bikleinu_insert(
     name: &[u8],
     template: &mut Handle,
 ) -> u32
-    ensures { Regaining (λ was. Regaining (λ template_was. IsPut was name.now template_was result
-        partials.new.held template.new.held) template.old.held) partials.old.held }
+    ensures { RegainingBoth (λ was moving. IsPut was name.now moving result
+        partials.new.held template.new.held) partials.old.held template.old.held }
 {
     let mut held = partials.take_to_change(alloc);
     let moving = template.take_to_change(alloc);
