@@ -117,7 +117,8 @@ pub extern "C" fn bikleinu_refuse(
     status
 }
 
-/// Puts a fault as the answer to a call into the table behind a handle, where its message is a text.
+/// Puts a fault as the answer to a call into the table behind a handle, where its message is a
+/// text.
 fn refuse(
     alloc: Global,
     held: &mut Option<Box<Held>>,

@@ -74,11 +74,3 @@ fn hand_out(alloc: Global, content: Arc<Content>, made: &mut Handle) -> u32
         }
     }
 }
-
-fn sent<T: Send + Drop>(value: T) {
-    drop(value);
-}
-
-fn try_send(handle: Handle) {
-    sent(handle);
-}
