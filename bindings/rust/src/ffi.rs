@@ -78,7 +78,6 @@ pub(crate) struct Owner(UnsafeCell<Handle>);
 
 // SAFETY: what a handle owns is plain data of its own, on the heap of the C library. It refers to nothing that stays behind in a
 // thread.
-// So the library proves it of its own type of a handle.
 unsafe impl Send for Owner {}
 
 impl Owner {

@@ -1,4 +1,3 @@
 pub mod Answered
 pub mod Blocks
 pub mod MachineValues
-pub mod Sending

@@ -109,9 +109,6 @@ impl Handle {
     }
 }
 
-// What lies behind it goes along, and nothing of it stays with the thread.
-unsafe impl Send for Handle {}
-
 impl Drop for Handle {
     fn drop(self) {
         drop(self.into_box());
