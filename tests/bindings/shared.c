@@ -10,7 +10,7 @@
 
 #include "bikleinu.h"
 
-extern void *__libc_malloc(size_t), *__libc_realloc(void *, size_t);
+extern void *__libc_malloc(size_t), *__libc_calloc(size_t, size_t), *__libc_realloc(void *, size_t);
 extern void __libc_free(void *);
 
 #ifndef PAGES
@@ -24,6 +24,12 @@ static atomic_size_t blocks, tests, wrong;
 #ifndef UNCOUNTED
 void *malloc(size_t size) {
     void *made = __libc_malloc(size);
+    blocks += made != NULL;
+    return made;
+}
+
+void *calloc(size_t count, size_t size) {
+    void *made = __libc_calloc(count, size);
     blocks += made != NULL;
     return made;
 }
@@ -87,14 +93,23 @@ static void *run(void *argument) {
     return NULL;
 }
 
-static void eight_threads(void) {
+/* Runs this in each thread, of which the first gets the argument, and each further one the next. */
+static void in_threads(void *(*run)(void *), size_t arguments[THREADS]) {
     pthread_t threads[THREADS];
-    size_t well[THREADS] = {0};
-    for (int at = 0; at < THREADS; at++) is("a thread", (uint32_t)pthread_create(&threads[at], NULL, run, &well[at]), 0);
-    for (int at = 0; at < THREADS; at++) {
-        pthread_join(threads[at], NULL);
-        is("its pages", (uint32_t)well[at], PAGES);
-    }
+    pthread_attr_t small;
+    pthread_attr_init(&small);
+    pthread_attr_setstacksize(&small, 1 << 20);
+    for (int at = 0; at < THREADS; at++) is("a thread", (uint32_t)pthread_create(&threads[at], &small, run, &arguments[at]), 0);
+    for (int at = 0; at < THREADS; at++) pthread_join(threads[at], NULL);
+    pthread_attr_destroy(&small);
+}
+
+static pthread_barrier_t all_here;
+
+/* Ends when all threads are there, so that what the C library keeps for so many is taken. */
+static void *wait_for_all(void *argument) {
+    pthread_barrier_wait(&all_here);
+    return argument;
 }
 
 /* What is shared is rendered, and neither changed nor moved until the other handles are freed. */
@@ -128,6 +143,9 @@ static void what_is_shared(bikleinu_handle *language) {
 }
 
 int main(void) {
+    size_t well[THREADS] = {0};
+    pthread_barrier_init(&all_here, NULL, THREADS);
+    in_threads(wait_for_all, well);
     size_t before = blocks;
     bikleinu_handle language = BIKLEINU_NONE, end = BIKLEINU_NONE;
     is("language", bikleinu_language(&language), BIKLEINU_DONE);
@@ -136,7 +154,8 @@ int main(void) {
     is("partials", bikleinu_partials(&parts[PARTIALS]), BIKLEINU_DONE);
     is("a partial", bikleinu_parse(&language, bytes(inner), strlen(inner), &end), BIKLEINU_DONE);
     is("insert", bikleinu_insert(&parts[PARTIALS], bytes("end"), 3, &end), BIKLEINU_DONE);
-    eight_threads();
+    in_threads(run, well);
+    for (int at = 0; at < THREADS; at++) is("the pages of a thread", (uint32_t)well[at], PAGES);
     what_is_shared(&language);
     for (int at = 0; at < PARTS; at++) bikleinu_free(&parts[at]);
     bikleinu_free(&language);
