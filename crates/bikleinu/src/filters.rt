@@ -6,14 +6,12 @@ use liquid_core::{Filter, HostFilters, Result};
 use liquid_filter_sets::{WhereExp, jekyll_language, shopify_language};
 use liquid_jekyll_host_filters::{JEKYLL_FILTERS, SiteFilter};
 use liquid_lib::{
-    Language, LimitedPage, Limits, Surroundings, language, render_hosted_page, render_page_within,
+    DEFAULT_DEPTH, Language, LimitedPage, Limits, Surroundings, language, render_hosted_page,
+    render_page_within,
 };
 use liquid_shopify_host_filters::{SHOPIFY_FILTERS, ShopifyFilter};
 use std::alloc::Global;
 use std::rc::Rc;
-
-/// How deep partials may be nested.
-const DEPTH: u32 = 32;
 
 /// The names of the sets.
 const NAMES: [&str; 2] = ["jekyll", "shopify"];
@@ -66,7 +64,7 @@ pub fn page_with(
             alloc,
             &parts.template,
             &parts.partials,
-            DEPTH,
+            DEFAULT_DEPTH,
             &parts.data,
             limits,
         ),
@@ -105,7 +103,7 @@ fn hosted_page(
 ) -> Result<LimitedPage> {
     let around = Surroundings {
         partials: &parts.partials,
-        depth: DEPTH,
+        depth: DEFAULT_DEPTH,
         limits,
     };
     render_hosted_page(alloc, &parts.template, host, around, &parts.data)

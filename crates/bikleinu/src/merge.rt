@@ -8,13 +8,11 @@ use crate::sources::{Parts, Sources, read_parts, read_pattern};
 use crate::stop::Stop;
 use crate::target::Target;
 use liquid_excerpts::Reason;
+use liquid_lib::DEFAULT_DEPTH;
 use liquid_records::{Job, Merge};
 use std::alloc::AllocError;
 use std::io::Read;
 use std::{fs, io};
-
-/// How deep partials may be nested.
-const DEPTH: u32 = 32;
 
 /// Writes the page of each record. A record's fault is printed, and stops no other.
 pub fn merge(rt: &HostRuntime, call: &MergeCall<'_>) -> Result<(), Stop> {
@@ -28,7 +26,7 @@ pub fn merge(rt: &HostRuntime, call: &MergeCall<'_>) -> Result<(), Stop> {
     let job = Job {
         template,
         partials,
-        depth: DEPTH,
+        depth: DEFAULT_DEPTH,
         shared: data,
     };
     let target = match call.out {

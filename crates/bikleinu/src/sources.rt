@@ -7,7 +7,7 @@ use crate::input::{called, text_at};
 use crate::stop::Stop;
 use liquid_core::{Error, Location, Object, Origin, Value, store};
 use liquid_excerpts::{Excerpt, ShownPath};
-use liquid_lib::{Language, Partials, Template, language, parse};
+use liquid_lib::{Language, Partials, Template, language, parse_kept};
 use liquid_records::with_members;
 use std::alloc::Global;
 
@@ -67,7 +67,7 @@ fn source_at(rt: &HostRuntime, path: &str) -> Result<Source, Stop> {
 
 /// The template of a source. Its fault is printed.
 fn parsed(rt: &HostRuntime, source: &Source, language: &Language) -> Result<Template, Stop> {
-    match parse(rt.alloc(), source.text.as_str(), language) {
+    match parse_kept(rt.alloc(), source.text.as_str(), language) {
         Ok(template) => Ok(template),
         Err(fault) => {
             print_fault(rt, source.path.as_str(), &fault, Some(source.text.as_str()));
