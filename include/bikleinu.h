@@ -105,7 +105,8 @@ uint32_t bikleinu_jekyll_language(bikleinu_handle *made);
  * (below): a page without one ends by BIKLEINU_UNSUPPORTED where it calls the filter. */
 uint32_t bikleinu_register(bikleinu_handle *language, const uint8_t *name, size_t length, size_t least, size_t most);
 
-/* Parses the source of a template in a language. The template doesn't need the language any more, or the source. */
+/* Parses the source of a template in a language. The template doesn't need the language any more, or the source. It keeps a copy of a source
+ * of at most 1 MiB, so that the fault of a run stands at its item, and else at the output or the tag. */
 uint32_t bikleinu_parse(bikleinu_handle *language, const uint8_t *source, size_t length, bikleinu_handle *made);
 
 /* Reads data from a text of JSON, which is an object. */

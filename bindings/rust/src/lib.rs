@@ -22,7 +22,7 @@
 //! let template = Language::new()?.parse("Hello {{ name }}!")?;
 //! let fault = template.render_text(&Data::none()).unwrap_err();
 //! assert_eq!(fault.kind(), Kind::UnknownVariable);
-//! assert!(fault.to_string().starts_with("UnknownVariable: line 1, column 7: `name` has no value"));
+//! assert!(fault.to_string().starts_with("UnknownVariable: line 1, column 10: `name` has no value"));
 //! # Ok::<(), bikleinu::LiquidError>(())
 //! ```
 //!

@@ -52,7 +52,7 @@ fn errors_say_what_and_where() -> Result<(), LiquidError> {
     partials.insert("p", template("\n{{ x }}")?)?;
     let page = template("1{% render 'p' %}")?.render(&Data::none(), &partials, 32)?;
     let fault = page.into_text().unwrap_err();
-    assert!(fault.to_string().starts_with("UnknownVariable: in the partial `p`: line 2, column 1: "), "{fault}");
+    assert!(fault.to_string().starts_with("UnknownVariable: in the partial `p`: line 2, column 4: "), "{fault}");
     let boxed: Box<dyn Error + Send + Sync> = fault.clone().into();
     assert_eq!(boxed.to_string(), fault.to_string());
     assert_eq!(template("{{ 1 | plus: 2 }}")?.render_text(&Data::none())?, "3");

@@ -9,11 +9,12 @@ use crate::handle::Handle;
 use crate::held::seen;
 use crate::levels::levels_in;
 use crate::refusal::{Refusal, settle};
-use liquid_lib::{Language, parse};
+use liquid_lib::{Language, parse_kept};
 use std::alloc::Global;
 
 /// Parses a source in a language. 0, or the number of the fault that `made` then has: a kind of a
-/// source, or `Memory`.
+/// source, or `Memory`. The template keeps its source, where that has at most 1 MiB, so that a fault
+/// of a run stands at its item.
 #[unsafe(no_mangle)]
 pub extern "C" fn bikleinu_parse(
     alloc: Global,
@@ -46,7 +47,7 @@ fn template(alloc: Global, language: Option<&Content>, source: &[u8]) -> Result<
 fn parsed(alloc: Global, source: &str, language: &Language) -> Content
     ensures { Parses language.now source.now (Ok result) }
 {
-    match parse(alloc, source, language) {
+    match parse_kept(alloc, source, language) {
         Ok(template) => match levels_in(alloc, template.nodes()) {
             Ok(levels) => Content::Template(template, levels),
             Err(refused) => Content::Fault(refused),
