@@ -31,6 +31,7 @@ complete -c bikleinu -n '__fish_seen_subcommand_from check' -s d -l data -r -F -
 complete -c bikleinu -n '__fish_seen_subcommand_from check' -s p -l partials -r -F -d 'Partials: the files below DIR by their paths, also without their suffix, or one FILE by NAME; the later wins'
 complete -c bikleinu -n '__fish_seen_subcommand_from check' -l filters -x -a 'jekyll shopify' -d 'Reads templates as those of Jekyll or Shopify, with the filters that these call'
 complete -c bikleinu -n '__fish_seen_subcommand_from check' -l format -x -a 'text json github' -d 'How to write it: for people, as a line of JSON each, or for the pages of GitHub'
+complete -c bikleinu -n '__fish_seen_subcommand_from check' -l warn -x -a 'unescaped-attributes' -d 'Also warns of outputs in attributes of HTML that nothing escapes'
 complete -c bikleinu -n '__fish_seen_subcommand_from check' -l decimals -x -a 'fault text' -d 'What a number that isn\'t whole is: a fault of the data, or the text of its spelling'
 complete -c bikleinu -n '__fish_seen_subcommand_from check' -l dates -d 'Gives dates of ISO 8601 in the data the spelling that the filter date reads'
 complete -c bikleinu -n '__fish_seen_subcommand_from check' -l now -r -F -d 'Gives the name now to an instant of ISO 8601, such as 2026-11-27T04:34:00Z'
