@@ -8,8 +8,8 @@ use Rattle.liquid_core.specs.declared.resolved.Near.{Near}
 use Rattle.liquid_core.specs.declared.resolved.Near.TheVariants.{Held, Number, Truth}
 use Rattle.liquid_core.specs.declared.resolved.Near.TheVariants.{Loop, Nothing, Unsaid}
 
--- what it is, or that it is what the outer scopes have, or nothing is said; of a loop's object, that
--- it is that over some outer names
+-- what it is, or that it is what the outer scopes have, or nothing is said; of a loop's object,
+-- that it is the one over some outer names
 abbrev pub Says : Near → Option Datum → Option Datum → Type 0
 Says (Held v) is behind = Some (view v.now) ≡ is
 Says (Number n) is behind = Some (number n) ≡ is
