@@ -5,9 +5,8 @@ use Rattle.liquid_core.specs.Held.{held}
 use Rattle.liquid_evaluation.specs.Tree.{Nodes}
 use Rattle.liquid_syntax.specs.Templates.{partials_of}
 use Rattle.liquid_lib.specs.Pages.{page_over}
-use Rattle.liquid_site.specs.Contents.{Contents}
 use Rattle.liquid_site.specs.PartViews.{parts_view}
-use Rattle.liquid_site.specs.Steps.{raised}
+use Rattle.liquid_site.specs.Steps.{raised, with_value}
 use Rattle.liquid_site.specs.inside.Fresh.{selected}
 use Rattle.liquid_site.proofs.Untouched.{untouched}
 use Rattle.liquid_site.proofs.parts.SiteParts.change_value.Goals as goal
@@ -21,7 +20,7 @@ exchange_data-requires-clause-untouched g c = λ nodes h.
 pub returns-clause-set : goal.returns-clause-set
 returns-clause-set g c =
     let contents = (parts_view c.args.self.now).contents in
-    let meant : record contents { «data» = held c.in_ok-data.«data» } ≡ record contents { «data» = _ } = λ i. record contents { «data» = c.in_ok-data.ensures i } in
+    let meant : record contents { «data» = held c.in_ok-data.«data» } ≡ record contents { «data» = with_value contents.«data» c.args.name.now (option_map view c.args.value) } = λ i. record contents { «data» = c.in_ok-data.ensures i } in
     subst (λ x. IsValueOrMemory (λ u. (parts_view c.exchange_data.new.self).contents) c.exchange_data.result x) meant c.exchange_data.ensures.set
 
 pub returns-clause-counted : goal.returns-clause-counted
