@@ -12,7 +12,7 @@ SCALARS = {"text": ("a", "b", "", "Tea & more", "é"), "number": (0, 1, 2, 250),
 FILTERS = ("upcase", "size", "first", "last", "default: 'none'", "append: '!'", "escape")
 LIST_FILTERS = ("reverse", "compact", "concat: products", "uniq", "sort", "where: '{key}'", "where: '{key}', 1", "sort: '{key}'", "sort_natural: '{key}'", "map: '{key}'", "compact: '{key}'", "default: products")
 ENDS = ("size", "first", "last", "join: ','", "map: '{key}' | join", "first | map: '{key}'", "where: '{key}' | first | size", "map: '{key}' | first")
-NAMES = ("p", "q", "x", "item", "user", "picked")
+NAMES = ("p", "q", "x", "item", "user", "p", "q", "x", "item")
 
 
 def value_of(rng, shape, depth=0):
