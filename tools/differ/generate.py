@@ -9,6 +9,7 @@ from generator.data import POOLS, WEIGHTED, paths, value_of
 from generator.expressions import STANDARD
 from generator.nodes import Nodes
 from generator.packs import PACKS
+from generator.records import Records, value_of as record_of
 
 ITEM = re.compile(r"\s+|[A-Za-z_][\w-]*|[+-]?\d+|'[^']*'|\"[^\"]*\"|\{\{-?|\{%-?|-?\}\}|-?%\}|.", re.S)
 # data is read projected where it has so many bytes for each node
@@ -30,6 +31,18 @@ def case_of(seed, number):
     """The case of this number."""
     rng = random.Random(f"{seed}/{number}")
     return made_case(rng, make_data(rng), STANDARD)
+
+
+def asking_case_of(seed, number):
+    """A case in which a template asks for parts of its data: half of them over records."""
+    rng = random.Random(f"asking/{seed}/{number}")
+    if number % 2:
+        return case_of(seed, number)
+    names = [f"part{at}" for at in range(rng.choice((0, 1, 2)))]
+    data = record_of(rng, "data")
+    partials = [(name, Records(rng, names[at + 1 :] if rng.random() < 0.9 else names, rng.choice((1, 2, 4))).source()) for at, name in enumerate(names)]
+    source = Records(rng, names, rng.choice((1, 2, 4, 7, 12))).source()
+    return Case(source, json.dumps(data if isinstance(data, dict) else {}, ensure_ascii=False), partials)
 
 
 def pack_case_of(name):
@@ -59,7 +72,7 @@ def made_case(rng, data, filters):
 def long_case_of(seed, number):
     """A case whose data is so long that it is read projected: with white space, and with members that nobody asks for."""
     rng = random.Random(f"long/{seed}/{number}")
-    case = case_of(seed, number)
+    case = asking_case_of(seed, number)
     nodes = case.source.count("{") + 1 + sum(text.count("{") + 1 for _, text in case.partials)
     room = " " * (BYTES_OF_A_NODE * nodes)
     if not case.data.startswith("{") or not nodes <= MOST_NODES:
@@ -72,7 +85,7 @@ def long_case_of(seed, number):
 def lacking_case_of(seed, number):
     """A case whose data lacks some of what the template asks for."""
     rng = random.Random(f"lacking/{seed}/{number}")
-    case = case_of(seed, number)
+    case = asking_case_of(seed, number)
     try:
         data = json.loads(case.data)
     except ValueError:

@@ -6,11 +6,11 @@ PATHS = ("a b", "/a/b", "", "/", "//", "a/./../b", "http://y/z", "x:y", "1a:b", 
 CONDITIONS = (
     "item.price > 1", "item.a == 'a'", "item.title contains 'a'", "item", "item.k", "item.a == nil", "item.a or item.b and item.k", "item.price <= 3 and item.title != 'x'",
     "other == nil", "item.size > 1", "item contains 'a'", "item ==", "", "item.a = 1", "item.a | size", "(1..2)", "item.a == 1.5", "item %}", "not item", "item[other]", "item['a'] < item.b",
-    "x > 1", "x.a == x.b", "item == 'a' or", "true", "nil", "item.a == empty", "  item.a  ", "item.a,item.b", "item and\nitem.b", "'", "item.first == 1", "item[0] > 0",
+    "item.author.name == 'a'", "item.tags contains 'a'", "item.tags contains item.title", "item.author.name contains 'a' or item.price > 1", "item.tags.first == nil", "x > 1", "x.a == x.b", "item == 'a' or", "true", "nil", "item.a == empty", "  item.a  ", "item.a,item.b", "item and\nitem.b", "'", "item.first == 1", "item[0] > 0",
 )
 DIGESTED = ("md5", "sha1", "sha256")
 MORE_ARGUMENTS = {
-    "dotted": (*samples.PROPERTIES, "a.b", "a.k", ".", "a.", "k.title", "nope"),
+    "dotted": (*samples.PROPERTIES, "title", "tags", "author", "author.name", "author.name.x", "tags.0", "a.b", "a.k", ".", "a.", "k.title", "nope"),
     "path": ("a", "a.b", "a[0]", "a['k']", "title.size", "price", "a-b", "a b", "", ".a", "a.", "a[", "a[b]", "a[-1].k", 'a["b c"]', "nil", "true.a", "a.1", "a[ 0 ]", "empty", "é", "a[99999999999999999999]", "a[+1]", "_u"),
     "nils": ("first", "last", "last", "First", "", "none"),
     "style": ("ordinal", "ordinal", "other", ""),
@@ -99,7 +99,15 @@ def jekyll_data(rng):
     if rng.random() < 0.2:
         return {"site": rng.choice((None, 1, "x", [], {}))} if rng.random() < 0.3 else {}
     urls, bases = ("http://x.org", "", "https://a.b/c", "http://x.org/", "//h", "x y", 1, None), ("/blog", "", "/", "blog", "/a/b/", "/a b", "é", 2, None)
-    return {"site": {"url": rng.choice(urls), "baseurl": rng.choice(bases), "posts": []}}
+    return {"site": {"url": rng.choice(urls), "baseurl": rng.choice(bases), "posts": posts(rng)}}
+
+
+def posts(rng):
+    """Maps whose members are lists and maps too, or are missing."""
+    tags = (["a", "b"], [None, "a"], [["a"], {"a": 1}], [], "a", [1, True], ["", None], None)
+    authors = ({"name": "a"}, {"name": ["a", "b"]}, {"name": None}, {}, "a", ["a"], 5)
+    members = {"title": ("a", "b", "007", "7", 7), "tags": tags, "author": authors, "price": (1, 2, "2", None, -1)}
+    return [{key: rng.choice(held) for key, held in members.items() if rng.random() < 0.8} for _ in range(rng.choice((0, 1, 2, 3)))]
 
 
 def shopify_data(rng):

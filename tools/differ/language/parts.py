@@ -22,6 +22,13 @@ class Use:
         items = self.items.joined(other.items) if self.items and other.items else self.items or other.items
         return Use(False, members, items)
 
+    def includes(self, other):
+        """Whether this asks for all that the other asks for."""
+        if self.is_whole or other.is_whole:
+            return self.is_whole
+        there = all(key in self.members and self.members[key].includes(use) for key, use in other.members.items())
+        return there and (other.items is None or self.items is not None and self.items.includes(other.items))
+
 
 WHOLE = Use(is_whole=True)
 # whether there is a value, and of which kind

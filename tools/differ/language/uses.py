@@ -2,12 +2,15 @@
 import re
 
 from . import tree
+from .faults import TooLong
 from .filter_needs import input_use
 from .parts import THERE, WHOLE, Use
 
 # so many rounds are made from each side
 MOST_ROUNDS = 8
 MOST_STEPS = 32
+# a name has so many parts at most, of which each counts as one more for so many bytes of its path
+MOST_PARTS, PART_BYTES = 200, 32
 # a key of which a path can be made
 PLAIN_KEY = re.compile(r"(?:[A-Za-z0-9_-]|[^\x00-\x7f])+")
 
@@ -148,32 +151,37 @@ RULES = {
 
 
 def uses_of(template, partials):
-    """What the template with its partials asks for.
+    """What the template with its partials asks for: the parts grow from nothing, round by round.
 
-    The parts grow from nothing, round by round. Where they go on, they are taken from the other side: all is asked for, and less.
+    Where they go on after eight rounds, as in a partial that renders itself with a part of its data, nothing is said.
     """
     nodes = (template, *partials.values())
-    uses, is_settled = rounds(nodes, {})
-    return uses if is_settled else rounds(nodes, Everything())[0]
-
-
-def rounds(nodes, uses):
-    """What is asked for after the rounds from there, and whether the last one changed nothing."""
+    uses = {}
     for _ in range(MOST_ROUNDS):
-        finder = Finder(uses)
-        for of_one in nodes:
-            finder.nodes(of_one)
-        before, uses = uses, finder.found
-        if uses == before:
-            return uses, True
-    return uses, False
+        found = demands(nodes, uses)
+        if all(name in uses and uses[name].includes(use) for name, use in found.items()):
+            return uses
+        uses = {name: bounded(uses[name].joined(use) if name in uses else use) for name, use in found.items()}
+    raise TooLong
 
 
-class Everything(dict):
-    """Each name whole."""
+def demands(nodes, uses):
+    """What the nodes ask for, where that is asked of the names that they set."""
+    finder = Finder(uses)
+    for of_one in nodes:
+        finder.nodes(of_one)
+    return finder.found
 
-    def get(self, _name, _default=None):
-        return WHOLE
+
+def bounded(use):
+    return WHOLE if parts(use) > MOST_PARTS else use
+
+
+def parts(use, length=0):
+    """How many parts are asked for, longer ones counted as more."""
+    below = [parts(part, length + len(key.encode()) + 1) for key, part in use.members.items()]
+    below += [parts(use.items, length + 2)] if use.items else []
+    return sum(below) or 1 + length // PART_BYTES
 
 
 def paths_of(uses):
