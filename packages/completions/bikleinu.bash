@@ -14,7 +14,7 @@ _bikleinu() {
       case ${COMP_WORDS[1]} in
         render) words='--data --partials --filters --out --missing --max-bytes --max-turns --decimals --dates --now --help' ;;
         merge) words='--out --data --partials --records-format --separator --from --count --dry-run --progress --decimals --dates --now --help' ;;
-        check) words='--data --partials --filters --format --decimals --dates --now --help' ;;
+        check) words='--data --partials --filters --format --warn --decimals --dates --now --help' ;;
         paths) words='--partials --filters --format --help' ;;
       esac
       if [ "$COMP_CWORD" -eq 1 ]; then mapfile -t COMPREPLY < <(compgen -W 'render merge check paths --help --version' -- "$word"); return; fi
@@ -26,6 +26,7 @@ _bikleinu() {
         merge:--decimals) values='fault text' ;;
         check:--filters) values='jekyll shopify' ;;
         check:--format) values='text json github' ;;
+        check:--warn) values='unescaped-attributes' ;;
         check:--decimals) values='fault text' ;;
         paths:--filters) values='jekyll shopify' ;;
         paths:--format) values='text json-schema' ;;

@@ -98,5 +98,55 @@ def name_cases():
     ]
 
 
+USER = '{"user": {"name": "Ada", "tags": ["a"]}}'
+SHOP = '{"shop": {"teas": [{"title": "Assam", "maker": {"name": "A"}}, {"title": "Ceylon"}, {"titel": 1}], "name": "Tea"}}'
+
+
+def unknown(column, message):
+    return warning("t", 1, column, "UnknownPath", message)
+
+
+def path_cases():
+    return [
+        warned("a path that the data lacks", "t -d d", {"t": "{{ user.name }}{{ user.nmae }}{{ user.nmae }}{{ user.xyzzy.b }}", "d": USER}, unknown(16, "the data has no `user.nmae`; did you mean `user.name`?") + unknown(46, "the data has no `user.xyzzy`"), 2),
+        warned("a step in brackets", "t -d d", {"t": "{{ user['first name'] }}{{ user[\"nam\"] }}", "d": USER}, unknown(1, "the data has no `user.first name`") + unknown(25, "the data has no `user.nam`; did you mean `user.name`?"), 2),
+        warned("a path goes up to a step that is no literal text", "t -d d", {"t": "{{ user[k].b }}{{ user.tags[0].b }}{{ user.tgs[k] }}{% assign k = 'x' %}", "d": USER}, unknown(36, "the data has no `user.tgs`; did you mean `user.tags`?")),
+        warned("a path in a step, an argument, a condition, a case, a limit and a pair", "t -d d -p p", {"t": "{{ user[user.a1] }}{{ 1 | plus: user.a2 }}{% if user.a3 == 1 %}{% endif %}{% case user.a4 %}{% when user.a5 %}{% endcase %}{% for i in user.tags limit: user.a6 %}{% endfor %}{% cycle user.a7, 1 %}{% render 'q', k: user.a8 %}", "p/q": "", "d": USER}, unknown(1, "the data has no `user.a1`") + unknown(20, "the data has no `user.a2`") + unknown(43, "the data has no `user.a3`") + unknown(75, "the data has no `user.a4`") + unknown(75, "the data has no `user.a5`") + unknown(124, "the data has no `user.a6`") + unknown(175, "the data has no `user.a7`") + unknown(197, "the data has no `user.a8`"), 8, 2),
+        warned("an item of a list lacks it", "t -d d", {"t": "{% for t in shop.teas %}{{ t.title }}{{ t.maker.nmae }}{% endfor %}", "d": SHOP}, unknown(25, "an item of `shop.teas` has no `title`; did you mean `titel`?") + unknown(38, "an item of `shop.teas` has no `maker.nmae`; did you mean `maker.name`?"), 2),
+        warned("a variable of two loops", "t -d d", {"t": "{% for t in a %}{{ t.x }}{% for t in b %}{{ t.y }}{% else %}{{ t.x }}{% endfor %}{{ t.x }}{{ t.y }}{% endfor %}{% tablerow t in b %}{{ t.x }}{% endtablerow %}", "d": '{"a": [{"x": 1}], "b": [{"y": 2}]}'}, unknown(91, "an item of `a` has no `y`") + unknown(133, "an item of `b` has no `x`"), 2),
+        warned("what needn't be there", "t -d d", {"t": "{% if user.nick %}{% endif %}{{ user.nick | default: 'x' }}{% unless user.nme %}{% endunless %}{{ user.nam | upcase }}", "d": USER}, unknown(60, "the data has no `user.nme`; did you mean `user.name`?") + unknown(96, "the data has no `user.nam`; did you mean `user.name`?"), 2),
+        warned("below a name that a tag sets nothing is known", "t -d d", {"t": "{% assign user = other %}{{ user.nmae }}{% for o in (1..2) %}{{ o.x }}{% endfor %}", "d": '{"user": {"name": 1}, "other": 1, "o": {}}'}, "", 0),
+        warned("a map has a size, and no text has members", "t -d d", {"t": "{{ user.size }}{{ user.name.size }}{{ user.name.x }}{{ user.tags.first }}", "d": USER}, "", 0),
+        warned("a path of a partial", "t -d d -p p", {"t": "{% include 'q' %}", "p/q": "a\n {{ user.nmae }}", "d": USER}, warning("p/q", 2, 2, "UnknownPath", "the data has no `user.nmae`; did you mean `user.name`?"), 1, 2),
+    ]
+
+
+def value_cases():
+    return [
+        warned("a loop over a text of the data", "t -d d", {"t": "{% for c in shop.name %}{% endfor %}{% tablerow c in n %}{% endtablerow %}{% for c in b %}{% endfor %}", "d": '{"shop": {"name": "Tea"}, "n": 5, "b": true}'}, warning("t", 1, 1, "NoList", "`shop.name` in the data is a text, and a loop goes over a list or a map") + warning("t", 1, 37, "NoList", "`n` in the data is a number, and a loop goes over a list or a map") + warning("t", 1, 75, "NoList", "`b` in the data is a truth value, and a loop goes over a list or a map"), 3),
+        warned("a loop over a literal text", "t", {"t": "{% for c in 'abc' %}{% endfor %}{% for c in nil %}{% endfor %}"}, warning("t", 1, 1, "NoList", "this is a text, and a loop goes over a list or a map")),
+        warned("loops over lists, maps and nil", "t -d d", {"t": "{% for c in a %}{% endfor %}{% for c in b %}{% endfor %}{% for c in c %}{% endfor %}", "d": '{"a": [], "b": {}, "c": null}'}, "", 0),
+        warned("a limit after an offset past the end", "t -d d", {"t": "{% for c in a offset: 2 limit: 2 %}{% endfor %}{% for c in a offset: 1 limit: 2 %}{% endfor %}{% for c in a limit: 9 %}{% endfor %}{% for c in a offset: 9 %}{% endfor %}{% for c in b offset: 1 limit: 9 %}{% endfor %}", "d": '{"a": [1, 2, 3], "b": {"c": 1, "d": 2}}'}, warning("t", 1, 1, "PastEnd", "`a` has 3 items in the data; after `offset` the `limit` goes past them, and gives nil") + warning("t", 1, 170, "PastEnd", "`b` has 2 items in the data; after `offset` the `limit` goes past them, and gives nil"), 2),
+        warned("a text that is no date", "t -d d", {"t": "{{ a | date: '%Y' }}{{ b | date: '%Y' }}{{ c | date: '%Y' }}{{ d | date: '%Y' }}{% assign x = e | date_in_tz: '%Y', 1 %}{{ x }}", "d": '{"a": "2026-11-27", "b": "2026-11-27 00:00:00 +0000", "c": "", "d": 5, "e": "now"}'}, warning("t", 1, 1, "NoDate", "`a` is `2026-11-27` in the data, which isn't read as a date") + warning("t", 1, 81, "NoDate", "`e` is `now` in the data, which isn't read as a date"), 2),
+        warned("a date of ISO 8601", "t -d d --dates", {"t": "{{ a | date: '%Y' }}", "d": '{"a": "2026-11-27"}'}, "", 0),
+    ]
+
+
+QUOTE = "a quote in this value ends the attribute; write `| escape`"
+
+
+def attribute_cases():
+    return [
+        warned("attributes are looked at where that is asked for", "t", {"t": "<a title='{{ b }}'>"}, "", 0),
+        warned("outputs in attributes", "t --warn unescaped-attributes", {"t": "<a b=\"{{ c }}\" d='x{{ e }}' f={{ g }} h=i{{ j }}>{{ k }}</a>"}, "".join(warning("t", 1, column, "UnescapedAttribute", QUOTE) for column in (7, 20, 31, 42)), 4),
+        warned("what is escaped, literals and a loop's own object", "t --warn unescaped-attributes", {"t": "{% for x in y %}<a b=\"{{ c | escape }}{{ c | url_encode | upcase }}{{ 'x' }}{{ 1 }}{{ forloop.index }}\">{% endfor %}"}, "", 0),
+        warned("outside of attributes", "t --warn unescaped-attributes", {"t": "a < b = '{{ c }}' <3 \"{{ d }}\" <p {{ e }}>=\"{{ f }}\"</p {{ g }}><{{ h }} {{ i }}><p q={{ 1 }} {{ j }}>"}, "", 0),
+        warned("tags, comments and raw text write nothing", "t --warn unescaped-attributes", {"t": "<a b=\"{% if c %}{{ d }}{% endif %}{% comment %}\">{% endcomment %}{% raw %}\">{% endraw %}{{ e }}\">{{ f }}"}, warning("t", 1, 17, "UnescapedAttribute", QUOTE) + warning("t", 1, 89, "UnescapedAttribute", QUOTE), 2),
+        case("another kind", "check t --warn all", {"t": ""}, status=2, errors=("error: invalid value 'all' for '--warn <KIND>'", "  [possible values: unescaped-attributes]")),
+    ]
+
+
 def check_cases():
-    return fault_cases() + format_cases() + file_cases() + partial_cases() + name_cases()
+    return (
+        fault_cases() + format_cases() + file_cases() + partial_cases() + name_cases() + path_cases() + value_cases() + attribute_cases()
+    )

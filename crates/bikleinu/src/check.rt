@@ -16,7 +16,7 @@ use liquid_lib::{Language, Object};
 use paths::{Paths, checked_paths};
 use remark::Remark;
 use template::{Checked, File, checked_at};
-use warnings::warnings_of;
+use warnings::{Given, warnings_of};
 
 /// What was found in all files.
 #[derive(Clone, Copy, Drop)]
@@ -33,7 +33,12 @@ pub fn check(rt: &HostRuntime, call: &CheckCall<'_>) -> Result<(), Stop> {
     let paths = checked_paths(rt, call)?;
     let files = read_files(rt, &language, &paths)?;
     let data = data_of(rt, call)?;
-    let warnings = warnings_of(rt.alloc(), &paths, &files, data.as_ref(), &language)?;
+    let given = Given {
+        data: data.as_ref(),
+        language: &language,
+        attributes: call.attributes,
+    };
+    let warnings = warnings_of(rt.alloc(), &paths, &files, given)?;
     let mut counts = Counts {
         files: 0,
         faults: 0,

@@ -1,2 +1,3 @@
 pub mod Blanks
+pub mod HtmlPlaces
 pub mod Rounds

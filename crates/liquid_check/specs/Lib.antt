@@ -1,4 +1,5 @@
 pub mod Blanks
+pub mod HtmlPlaces
 pub mod Rounds
 pub mod Views
 pub mod inside

@@ -54,13 +54,14 @@ with_kinds m (k ∷ ks) = with_kinds (insert m (name_of k) (Host (least_of k) (m
 
 abbrev pub shopify_filters : List ShopifyKind
 shopify_filters =
-    s.AssetUrl ∷ s.Base64Decode ∷ s.Base64Encode ∷ s.Camelize ∷ s.Find ∷ s.FindIndex ∷
-    s.GlobalAssetUrl ∷ s.Handle ∷ s.Handleize ∷ s.Has ∷ s.HighlightActiveTag ∷ s.HmacSha256 ∷
-    s.ImgTag ∷ s.Json ∷ s.LinkTo ∷ s.LinkToAddTag ∷ s.LinkToRemoveTag ∷ s.LinkToTag ∷ s.LinkToType ∷
-    s.LinkToVendor ∷ s.Md5 ∷ s.Money ∷ s.MoneyWithCurrency ∷ s.MoneyWithoutCurrency ∷
-    s.MoneyWithoutTrailingZeros ∷ s.ProductImgUrl ∷ s.Reject ∷ s.RemoveLast ∷ s.ReplaceLast ∷
-    s.ScriptTag ∷ s.Sha1 ∷ s.Sha256 ∷ s.ShopifyAssetUrl ∷ s.Squish ∷ s.StylesheetTag ∷ s.Sum ∷
-    s.UrlForType ∷ s.UrlForVendor ∷ s.WeightWithUnit ∷ s.Within ∷ []
+    s.AssetUrl ∷ s.Base64Decode ∷ s.Base64Encode ∷ s.Camelize ∷ s.Count ∷ s.Find ∷ s.FindIndex ∷
+    s.FormatAsMoney ∷ s.GlobalAssetUrl ∷ s.Handle ∷ s.Handleize ∷ s.Has ∷ s.HighlightActiveTag ∷
+    s.HmacSha256 ∷ s.ImgTag ∷ s.Json ∷ s.LinkTo ∷ s.LinkToAddTag ∷ s.LinkToRemoveTag ∷
+    s.LinkToTag ∷ s.LinkToType ∷ s.LinkToVendor ∷ s.Md5 ∷ s.Money ∷ s.MoneyWithCurrency ∷
+    s.MoneyWithoutCurrency ∷ s.MoneyWithoutTrailingZeros ∷ s.Paragraph ∷ s.Prettyprint ∷ s.Price ∷
+    s.ProductImgUrl ∷ s.Reject ∷ s.RemoveLast ∷ s.ReplaceLast ∷ s.ScriptTag ∷ s.Sha1 ∷ s.Sha256 ∷
+    s.ShopifyAssetUrl ∷ s.Squish ∷ s.StylesheetTag ∷ s.Sum ∷ s.UrlForType ∷ s.UrlForVendor ∷
+    s.WeightWithUnit ∷ s.Within ∷ []
 
 abbrev pub with_shopify_filters : Map RegisteredFilter → Map RegisteredFilter
 with_shopify_filters m = with_kinds m shopify_filters

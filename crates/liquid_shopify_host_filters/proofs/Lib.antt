@@ -1,4 +1,5 @@
 pub mod Amounts
+pub mod Bolds
 pub mod CodecLaws
 pub mod Decoded
 pub mod Faults

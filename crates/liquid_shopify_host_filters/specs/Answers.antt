@@ -6,6 +6,8 @@ use Rattle.liquid_filter_base.specs.Arguments.{Answer}
 use Rattle.liquid_shopify_host_filters.specs.Codecs.{decode_answer, encode_answer}
 use Rattle.liquid_shopify_host_filters.specs.Codecs.{hmac_sha256_answer, md5_answer, sha1_answer}
 use Rattle.liquid_shopify_host_filters.specs.Codecs.{sha256_answer}
+use Rattle.liquid_shopify_host_filters.specs.Examples.{count_answer, paragraph_answer}
+use Rattle.liquid_shopify_host_filters.specs.Examples.{prettyprint_answer, price_answer}
 use Rattle.liquid_shopify_host_filters.specs.Html.{img_tag_answer, link_to_answer}
 use Rattle.liquid_shopify_host_filters.specs.Html.{link_to_collection_answer, script_tag_answer}
 use Rattle.liquid_shopify_host_filters.specs.Html.{stylesheet_tag_answer}
@@ -27,8 +29,10 @@ use Rattle.liquid_shopify_host_filters.specs.declared.kind.ShopifyKind.{ShopifyK
 use Rattle.liquid_shopify_host_filters.specs.declared.kind.ShopifyKind.TheVariants.{AssetUrl}
 use Rattle.liquid_shopify_host_filters.specs.declared.kind.ShopifyKind.TheVariants.{Base64Decode}
 use Rattle.liquid_shopify_host_filters.specs.declared.kind.ShopifyKind.TheVariants.{Base64Encode}
-use Rattle.liquid_shopify_host_filters.specs.declared.kind.ShopifyKind.TheVariants.{Camelize, Find}
+use Rattle.liquid_shopify_host_filters.specs.declared.kind.ShopifyKind.TheVariants.{Camelize}
+use Rattle.liquid_shopify_host_filters.specs.declared.kind.ShopifyKind.TheVariants.{Count, Find}
 use Rattle.liquid_shopify_host_filters.specs.declared.kind.ShopifyKind.TheVariants.{FindIndex}
+use Rattle.liquid_shopify_host_filters.specs.declared.kind.ShopifyKind.TheVariants.{FormatAsMoney}
 use Rattle.liquid_shopify_host_filters.specs.declared.kind.ShopifyKind.TheVariants.{GlobalAssetUrl}
 use Rattle.liquid_shopify_host_filters.specs.declared.kind.ShopifyKind.TheVariants.{Handle}
 use Rattle.liquid_shopify_host_filters.specs.declared.kind.ShopifyKind.TheVariants.{Handleize, Has}
@@ -45,6 +49,9 @@ use Rattle.liquid_shopify_host_filters.specs.declared.kind.ShopifyKind.TheVarian
 use Rattle.liquid_shopify_host_filters.specs.declared.kind.ShopifyKind.TheVariants.{MoneyWithCurrency}
 use Rattle.liquid_shopify_host_filters.specs.declared.kind.ShopifyKind.TheVariants.{MoneyWithoutCurrency}
 use Rattle.liquid_shopify_host_filters.specs.declared.kind.ShopifyKind.TheVariants.{MoneyWithoutTrailingZeros}
+use Rattle.liquid_shopify_host_filters.specs.declared.kind.ShopifyKind.TheVariants.{Paragraph}
+use Rattle.liquid_shopify_host_filters.specs.declared.kind.ShopifyKind.TheVariants.{Prettyprint}
+use Rattle.liquid_shopify_host_filters.specs.declared.kind.ShopifyKind.TheVariants.{Price}
 use Rattle.liquid_shopify_host_filters.specs.declared.kind.ShopifyKind.TheVariants.{ProductImgUrl}
 use Rattle.liquid_shopify_host_filters.specs.declared.kind.ShopifyKind.TheVariants.{Reject}
 use Rattle.liquid_shopify_host_filters.specs.declared.kind.ShopifyKind.TheVariants.{RemoveLast}
@@ -73,8 +80,10 @@ answer_of AssetUrl shop d args = prefixed_answer (string_bytes shop.assets) d
 answer_of Base64Decode shop d args = decode_answer d
 answer_of Base64Encode shop d args = encode_answer d
 answer_of Camelize shop d args = camelize_answer d
+answer_of Count shop d args = count_answer d
 answer_of Find shop d args = find_answer d args
 answer_of FindIndex shop d args = find_index_answer d args
+answer_of FormatAsMoney shop d args = money_answer shop.money d
 answer_of GlobalAssetUrl shop d args = prefixed_answer (string_bytes shop.global_assets) d
 answer_of Handle shop d args = handle_answer d
 answer_of Handleize shop d args = handle_answer d
@@ -96,6 +105,9 @@ answer_of Money shop d args = money_answer shop.money d
 answer_of MoneyWithCurrency shop d args = money_answer shop.money_with_currency d
 answer_of MoneyWithoutCurrency shop d args = amount_answer shop.money d
 answer_of MoneyWithoutTrailingZeros shop d args = trimmed_answer shop.money d
+answer_of Paragraph shop d args = paragraph_answer d
+answer_of Prettyprint shop d args = prettyprint_answer d
+answer_of Price shop d args = price_answer d
 answer_of ProductImgUrl shop d args = product_img_url_answer (string_bytes shop.images) d args
 answer_of Reject shop d args = reject_answer d args
 answer_of RemoveLast shop d args = remove_last_answer d args

@@ -5,8 +5,10 @@ use Rattle.liquid_shopify_host_filters.specs.declared.kind.ShopifyKind.{ShopifyK
 use Rattle.liquid_shopify_host_filters.specs.declared.kind.ShopifyKind.TheVariants.{AssetUrl}
 use Rattle.liquid_shopify_host_filters.specs.declared.kind.ShopifyKind.TheVariants.{Base64Decode}
 use Rattle.liquid_shopify_host_filters.specs.declared.kind.ShopifyKind.TheVariants.{Base64Encode}
-use Rattle.liquid_shopify_host_filters.specs.declared.kind.ShopifyKind.TheVariants.{Camelize, Find}
+use Rattle.liquid_shopify_host_filters.specs.declared.kind.ShopifyKind.TheVariants.{Camelize}
+use Rattle.liquid_shopify_host_filters.specs.declared.kind.ShopifyKind.TheVariants.{Count, Find}
 use Rattle.liquid_shopify_host_filters.specs.declared.kind.ShopifyKind.TheVariants.{FindIndex}
+use Rattle.liquid_shopify_host_filters.specs.declared.kind.ShopifyKind.TheVariants.{FormatAsMoney}
 use Rattle.liquid_shopify_host_filters.specs.declared.kind.ShopifyKind.TheVariants.{GlobalAssetUrl}
 use Rattle.liquid_shopify_host_filters.specs.declared.kind.ShopifyKind.TheVariants.{Handle}
 use Rattle.liquid_shopify_host_filters.specs.declared.kind.ShopifyKind.TheVariants.{Handleize, Has}
@@ -23,6 +25,9 @@ use Rattle.liquid_shopify_host_filters.specs.declared.kind.ShopifyKind.TheVarian
 use Rattle.liquid_shopify_host_filters.specs.declared.kind.ShopifyKind.TheVariants.{MoneyWithCurrency}
 use Rattle.liquid_shopify_host_filters.specs.declared.kind.ShopifyKind.TheVariants.{MoneyWithoutCurrency}
 use Rattle.liquid_shopify_host_filters.specs.declared.kind.ShopifyKind.TheVariants.{MoneyWithoutTrailingZeros}
+use Rattle.liquid_shopify_host_filters.specs.declared.kind.ShopifyKind.TheVariants.{Paragraph}
+use Rattle.liquid_shopify_host_filters.specs.declared.kind.ShopifyKind.TheVariants.{Prettyprint}
+use Rattle.liquid_shopify_host_filters.specs.declared.kind.ShopifyKind.TheVariants.{Price}
 use Rattle.liquid_shopify_host_filters.specs.declared.kind.ShopifyKind.TheVariants.{ProductImgUrl}
 use Rattle.liquid_shopify_host_filters.specs.declared.kind.ShopifyKind.TheVariants.{Reject}
 use Rattle.liquid_shopify_host_filters.specs.declared.kind.ShopifyKind.TheVariants.{RemoveLast}
@@ -43,8 +48,10 @@ name_of AssetUrl = codes "asset_url"
 name_of Base64Decode = codes "base64_decode"
 name_of Base64Encode = codes "base64_encode"
 name_of Camelize = codes "camelize"
+name_of Count = codes "count"
 name_of Find = codes "find"
 name_of FindIndex = codes "find_index"
+name_of FormatAsMoney = codes "format_as_money"
 name_of GlobalAssetUrl = codes "global_asset_url"
 name_of Handle = codes "handle"
 name_of Handleize = codes "handleize"
@@ -64,6 +71,9 @@ name_of Money = codes "money"
 name_of MoneyWithCurrency = codes "money_with_currency"
 name_of MoneyWithoutCurrency = codes "money_without_currency"
 name_of MoneyWithoutTrailingZeros = codes "money_without_trailing_zeros"
+name_of Paragraph = codes "paragraph"
+name_of Prettyprint = codes "prettyprint"
+name_of Price = codes "price"
 name_of ProductImgUrl = codes "product_img_url"
 name_of Reject = codes "reject"
 name_of RemoveLast = codes "remove_last"

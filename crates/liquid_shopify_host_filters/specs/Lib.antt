@@ -1,6 +1,7 @@
 pub mod Amounts
 pub mod Answers
 pub mod Codecs
+pub mod Examples
 pub mod Html
 pub mod Images
 pub mod JsonTexts

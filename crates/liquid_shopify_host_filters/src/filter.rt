@@ -8,7 +8,8 @@ ghost use Rattle.liquid_shopify_host_filters.specs.Kinds.{takes};
 use crate::kind::ShopifyKind;
 use crate::shop::Shop;
 use crate::{
-    codec, html, images, json_text, lists, money, sums, tags, texts, urls, weight, wording,
+    codec, examples, html, images, json_text, lists, money, sums, tags, texts, urls, weight,
+    wording,
 };
 use liquid_core::{Filter, Result, Value};
 use std::alloc::Global;
@@ -56,8 +57,10 @@ fn answered(
         ShopifyKind::Base64Decode => codec::decode_answer(alloc, input),
         ShopifyKind::Base64Encode => codec::encode_answer(alloc, input),
         ShopifyKind::Camelize => wording::camelize_answer(alloc, input),
+        ShopifyKind::Count => examples::count_answer(alloc, input),
         ShopifyKind::Find => lists::find_answer(alloc, input, args),
         ShopifyKind::FindIndex => lists::find_index_answer(alloc, input, args),
+        ShopifyKind::FormatAsMoney => money::money_answer(alloc, &shop.money, input),
         ShopifyKind::GlobalAssetUrl => urls::prefixed_answer(alloc, &shop.global_assets, input),
         ShopifyKind::Handle => wording::handle_answer(alloc, input),
         ShopifyKind::Handleize => wording::handle_answer(alloc, input),
@@ -79,6 +82,9 @@ fn answered(
         }
         ShopifyKind::MoneyWithoutCurrency => money::amount_answer(alloc, &shop.money, input),
         ShopifyKind::MoneyWithoutTrailingZeros => money::trimmed_answer(alloc, &shop.money, input),
+        ShopifyKind::Paragraph => examples::paragraph_answer(alloc, input),
+        ShopifyKind::Prettyprint => examples::prettyprint_answer(alloc, input),
+        ShopifyKind::Price => examples::price_answer(alloc, input),
         ShopifyKind::ProductImgUrl => {
             images::product_img_url_answer(alloc, &shop.images, input, args)
         }

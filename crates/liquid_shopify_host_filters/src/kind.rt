@@ -13,10 +13,14 @@ pub enum ShopifyKind {
     Base64Encode,
     /// `camelize`: the words with a capital each, joined.
     Camelize,
+    /// `count`: how many items a list has.
+    Count,
     /// `find`: the first map of a list with a property.
     Find,
     /// `find_index`: the place of the first map of a list with a property.
     FindIndex,
+    /// `format_as_money`: an amount in the shop's format, as `money`.
+    FormatAsMoney,
     /// `global_asset_url`: the address of a file that all shops share.
     GlobalAssetUrl,
     /// `handle`: the words in lower case, with hyphens between them.
@@ -55,6 +59,12 @@ pub enum ShopifyKind {
     MoneyWithoutCurrency,
     /// `money_without_trailing_zeros`: an amount, without `.00` at its end.
     MoneyWithoutTrailingZeros,
+    /// `paragraph`: a paragraph.
+    Paragraph,
+    /// `prettyprint`: what stands between stars, in bold.
+    Prettyprint,
+    /// `price`: whole dollars.
+    Price,
     /// `product_img_url`: the address of a product's image in a size.
     ProductImgUrl,
     /// `reject`: the maps of a list without a property.
@@ -88,13 +98,15 @@ pub enum ShopifyKind {
 }
 
 /// All filters of this set, in the order of their names.
-pub const SHOPIFY_FILTERS: [ShopifyKind; 40] = [
+pub const SHOPIFY_FILTERS: [ShopifyKind; 45] = [
     ShopifyKind::AssetUrl,
     ShopifyKind::Base64Decode,
     ShopifyKind::Base64Encode,
     ShopifyKind::Camelize,
+    ShopifyKind::Count,
     ShopifyKind::Find,
     ShopifyKind::FindIndex,
+    ShopifyKind::FormatAsMoney,
     ShopifyKind::GlobalAssetUrl,
     ShopifyKind::Handle,
     ShopifyKind::Handleize,
@@ -114,6 +126,9 @@ pub const SHOPIFY_FILTERS: [ShopifyKind; 40] = [
     ShopifyKind::MoneyWithCurrency,
     ShopifyKind::MoneyWithoutCurrency,
     ShopifyKind::MoneyWithoutTrailingZeros,
+    ShopifyKind::Paragraph,
+    ShopifyKind::Prettyprint,
+    ShopifyKind::Price,
     ShopifyKind::ProductImgUrl,
     ShopifyKind::Reject,
     ShopifyKind::RemoveLast,
@@ -141,8 +156,10 @@ impl ShopifyKind {
             ShopifyKind::Base64Decode => "base64_decode",
             ShopifyKind::Base64Encode => "base64_encode",
             ShopifyKind::Camelize => "camelize",
+            ShopifyKind::Count => "count",
             ShopifyKind::Find => "find",
             ShopifyKind::FindIndex => "find_index",
+            ShopifyKind::FormatAsMoney => "format_as_money",
             ShopifyKind::GlobalAssetUrl => "global_asset_url",
             ShopifyKind::Handle => "handle",
             ShopifyKind::Handleize => "handleize",
@@ -162,6 +179,9 @@ impl ShopifyKind {
             ShopifyKind::MoneyWithCurrency => "money_with_currency",
             ShopifyKind::MoneyWithoutCurrency => "money_without_currency",
             ShopifyKind::MoneyWithoutTrailingZeros => "money_without_trailing_zeros",
+            ShopifyKind::Paragraph => "paragraph",
+            ShopifyKind::Prettyprint => "prettyprint",
+            ShopifyKind::Price => "price",
             ShopifyKind::ProductImgUrl => "product_img_url",
             ShopifyKind::Reject => "reject",
             ShopifyKind::RemoveLast => "remove_last",

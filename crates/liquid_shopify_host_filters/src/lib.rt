@@ -4,6 +4,7 @@
 mod amount;
 mod argument;
 mod codec;
+mod examples;
 mod filter;
 mod html;
 mod images;

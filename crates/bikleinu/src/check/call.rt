@@ -1,14 +1,18 @@
 //! The words of `check`.
 use super::format::Format;
-use crate::command::{DataFile, STATUSES, data_file, data_option, partials_option};
-use crate::filters::{FilterSet, filter_set, filters_option};
-use crate::forms::{Forms, with_form_options};
 use crate::stop::Stop;
 use clap::{Arg, ArgMatches, Command};
+use liquid_commands::{
+    DataFile, FilterSet, Forms, STATUSES, data_file, data_option, filter_set, filters_option,
+    partials_option, with_form_options,
+};
 use std::alloc::{AllocError, Global};
 
 /// The words that name a format, the one without a word first.
 static FORMATS: [&str; 3] = ["text", "json", "github"];
+
+/// The warnings that are given only where they are asked for.
+static ASKED: [&str; 1] = ["unescaped-attributes"];
 
 /// A call of `check`.
 #[derive(Drop)]
@@ -24,6 +28,8 @@ pub struct CheckCall<'w> {
     /// The set of filters that templates call.
     pub filters: Option<FilterSet>,
     pub format: Format,
+    /// Whether outputs in attributes are looked at.
+    pub attributes: bool,
 }
 
 /// The command with its words.
@@ -37,6 +43,11 @@ pub fn check_command<'a>(alloc: Global) -> Result<Command<'a>, AllocError> {
         .value_parser(FORMATS.as_slice())
         .default_value("text")
         .help("How to write it: for people, as a line of JSON each, or for the pages of GitHub");
+    let warn = Arg::new(alloc, "warn")
+        .long("warn")
+        .value_name("KIND")
+        .value_parser(ASKED.as_slice())
+        .help("Also warns of outputs in attributes of HTML that nothing escapes");
     let command = Command::new(alloc, "check")
         .about("Reports every fault of templates, and what is likely a mistake, without a run")
         .after_help(STATUSES)
@@ -44,7 +55,8 @@ pub fn check_command<'a>(alloc: Global) -> Result<Command<'a>, AllocError> {
         .arg(data_option(alloc))?
         .arg(partials_option(alloc))?
         .arg(filters_option(alloc))?
-        .arg(format)?;
+        .arg(format)?
+        .arg(warn)?;
     with_form_options(alloc, command)
 }
 
@@ -57,6 +69,7 @@ pub fn check_call<'w>(alloc: Global, given: &ArgMatches<'w>) -> Result<CheckCall
         partials: Vec::new(alloc),
         filters: filter_set(given.get_str("filters")),
         format: format_of(given.get_str("format")),
+        attributes: given.get_str("warn").is_some(),
     };
     for word in given.get_strs("PATH").unwrap_or_default() {
         call.paths.push(*word)?;

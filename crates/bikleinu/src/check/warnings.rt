@@ -1,6 +1,8 @@
 //! What no parser refuses, and people fall over all the same.
+mod attributes;
 mod calls;
 mod dates;
+mod doubts;
 mod else_if;
 mod names;
 mod partials;
@@ -9,8 +11,10 @@ mod recursion;
 use super::paths::Paths;
 use super::remark::Remark;
 use super::template::File;
+use attributes::add_unescaped;
 use calls::{Call, Names, calls_of};
 use dates::no_clock;
+use doubts::{add_doubts, no_list};
 use else_if::else_if;
 use liquid_lib::{Language, Object, Template};
 use names::{NamesOf, names_of, unknown_name, unused_variable};
@@ -28,6 +32,16 @@ const MOST_WARNINGS: usize = 100;
 /// Among how many names a near one is looked for, which takes a while for each.
 const MOST_NAMES: usize = 1000;
 
+/// What the warnings are made by.
+#[derive(Clone, Copy)]
+pub struct Given<'c> {
+    /// The data that the templates are for, where there is some.
+    pub data: Option<&'c Object>,
+    pub language: &'c Language,
+    /// Whether outputs in attributes are looked at.
+    pub attributes: bool,
+}
+
 /// What is known of all templates together.
 #[derive(Drop)]
 struct Whole<'t> {
@@ -41,13 +55,12 @@ struct Whole<'t> {
 }
 
 /// The warnings of all files. Those about partials come only where partials are given, and those
-/// about names that the data lacks only where data is.
+/// about what the data lacks, or has otherwise, only where data is.
 pub fn warnings_of(
     alloc: Global,
     paths: &Paths,
     files: &[File],
-    data: Option<&Object>,
-    language: &Language,
+    given: Given<'_>,
 ) -> liquid_core::Result<Warnings> {
     let names = names_by_file(alloc, paths)?;
     let whole = Whole::of(alloc, &names, files)?;
@@ -55,11 +68,14 @@ pub fn warnings_of(
     for (place, file) in files.iter().enumerate() {
         let mut remarks = Vec::new(alloc);
         if let File::Checked(checked) = file {
-            else_if(alloc, language, checked.text.as_str(), &mut remarks)?;
+            add_source_warnings(alloc, checked.text.as_str(), given, &mut remarks)?;
         }
         if let Some(template) = file.template() {
             add_node_warnings(alloc, template, &mut remarks)?;
-            whole.add_name_warnings(alloc, place, data, &mut remarks)?;
+            whole.add_name_warnings(alloc, place, given.data, &mut remarks)?;
+            if let Some(data) = given.data {
+                add_doubts(alloc, template, data, &whole.set, &mut remarks)?;
+            }
             if !names.is_empty() {
                 whole.add_missing(alloc, place, &names, &mut remarks)?;
             }
@@ -73,10 +89,24 @@ pub fn warnings_of(
     Ok(warnings)
 }
 
+/// Adds the warnings about what stands in a source.
+fn add_source_warnings(
+    alloc: Global,
+    source: &str,
+    given: Given<'_>,
+    remarks: &mut Vec<Remark>,
+) -> liquid_core::Result<()> {
+    else_if(alloc, given.language, source, remarks)?;
+    if given.attributes {
+        add_unescaped(alloc, given.language, source, remarks)?;
+    }
+    Ok(())
+}
+
 /// The files of the partials by their names. The later of one name counts.
 fn names_by_file(alloc: Global, paths: &Paths) -> Result<Names, AllocError> {
     let mut names = BTreeMap::new(alloc);
-    for (name, place) in &paths.partials {
+    for (name, place) in paths.partials.as_slice() {
         drop(names.insert(String::from_str(alloc, name.as_str())?, *place)?);
     }
     Ok(names)
@@ -93,6 +123,9 @@ fn add_node_warnings(
             break;
         }
         if let Some(remark) = no_clock(alloc, node, *position)? {
+            remarks.push(remark)?;
+        }
+        if let Some(remark) = no_list(alloc, node, *position)? {
             remarks.push(remark)?;
         }
     }

@@ -1,0 +1,36 @@
+-- Laws of paths in data.
+--     LackingIsTold      what is told to lack a path is a map on the way, and hasn't the next key
+--     NothingElseLacks      where nothing is told, each map on the way has the next key
+use Rattle.std.specs.Prelude.{◌≡◌, ◌⊎◌, false, bytes_eq, codes, string_bytes}
+use Rattle.std.specs.Prelude.{List, [], ◌∷◌, ◌++◌, length, Some, None, is_some, true, String}
+use Rattle.std.specs.declared.alloc.Global.{Global}
+use Rattle.liquid_model.specs.Data.{Datum, object, Pairs}
+use Rattle.liquid_model.specs.Find.{value_at}
+use Rattle.liquid_data_paths.specs.DataPaths.{Lacking, first_lack, values_along}
+use Rattle.liquid_data_paths.specs.declared.data_path.Step.{Step}
+use Rattle.liquid_data_paths.specs.declared.data_path.Step.TheVariants.{Key}
+
+abbrev pub IsAmong : Datum → List Datum → Type 0
+IsAmong d [] = ⊥
+IsAmong d (x ∷ xs) = (d ≡ x) ⊎ IsAmong d xs
+
+-- the steps before a key lead to the map, which hasn't it
+pub record IsLack (p : List Step) (d : Datum) (l : Lacking) : Type 0 where
+  pub before : List Step
+  pub key : String Global
+  pub after : List Step
+  pub path_is : p ≡ before ++ Key key ∷ after
+  pub left_is : length after ≡ l.left
+  pub on_the_way : IsAmong (object l.among) (values_along before d)
+  pub none_there : value_at (string_bytes key) l.among ≡ None
+
+abbrev pub LackingIsTold : Type 0
+LackingIsTold = (p : List Step) (d : Datum) (l : Lacking) → first_lack p d ≡ Some l → IsLack p d l
+
+abbrev pub NothingElseLacks : Type 0
+NothingElseLacks =
+    (before after : List Step) (key : String Global) (d : Datum) (ps : Pairs)
+    → first_lack (before ++ Key key ∷ after) d ≡ None
+    → IsAmong (object ps) (values_along before d)
+    → bytes_eq (string_bytes key) (codes "size") ≡ false
+    → is_some (value_at (string_bytes key) ps) ≡ true

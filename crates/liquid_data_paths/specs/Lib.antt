@@ -1,0 +1,5 @@
+pub mod DataPaths
+pub mod DoubtViews
+pub mod Doubts
+pub mod Laws
+pub mod Views

@@ -1,0 +1,9 @@
+//! Paths in data: where data lacks one, and what it has there other than is wanted.
+#![tactic(auto)]
+
+mod data_path;
+mod doubt;
+pub mod laws;
+
+pub use data_path::{DataPath, Lack, Step, lacking, values_at};
+pub use doubt::{Doubt, Span, Want, doubt_of};
