@@ -16,8 +16,9 @@
  * lengths are below 2^63. No handle's address is null, and no handle is given twice to one call.
  *
  * There is no state outside of the handles. Calls may run at the same time in several threads, as long as no two of them are
- * given the same handle; a handle may be used in one thread and then in another, where a lock or a join stands between. No call
- * is made from a signal handler.
+ * given the same handle; a handle may be used in one thread and then in another, where a lock or a join stands between. For one
+ * template, its data and its partials in several threads, bikleinu_share makes each thread handles of its own on them: calls
+ * with these run side by side, and nothing is copied. No call is made from a signal handler.
  */
 #ifndef BIKLEINU_H
 #define BIKLEINU_H
@@ -83,6 +84,7 @@ enum {
     BIKLEINU_OTHER_HANDLE = 102,   /* a handle that holds another kind of thing than the call needs, or nothing */
     BIKLEINU_TOO_MANY_LEVELS = 103, /* a run that could reach more levels than are allowed (below) */
     BIKLEINU_NO_SUCH_CALL = 107,   /* no call of this number behind the handle */
+    BIKLEINU_SHARED_HANDLE = 108,  /* a change of what another handle shares */
 
     /* of a page that a limit of the caller's ended: it holds the text up to there, and a fault of the kind Write (18) */
     BIKLEINU_BYTES_REACHED = 104,
@@ -103,7 +105,8 @@ uint32_t bikleinu_jekyll_language(bikleinu_handle *made);
  * (below): a page without one ends by BIKLEINU_UNSUPPORTED where it calls the filter. */
 uint32_t bikleinu_register(bikleinu_handle *language, const uint8_t *name, size_t length, size_t least, size_t most);
 
-/* Parses the source of a template in a language. The template doesn't need the language any more, or the source. */
+/* Parses the source of a template in a language. The template doesn't need the language any more, or the source. It keeps a copy of a source
+ * of at most 1 MiB, so that the fault of a run stands at its item, and else at the output or the tag. */
 uint32_t bikleinu_parse(bikleinu_handle *language, const uint8_t *source, size_t length, bikleinu_handle *made);
 
 /* Reads data from a text of JSON, which is an object. */
@@ -115,6 +118,12 @@ uint32_t bikleinu_partials(bikleinu_handle *made);
 /* Puts a template among the partials, by a name; the one of that name before is freed. The template moves: after 0 its handle holds
  * nothing, and after anything else both are as they were. */
 uint32_t bikleinu_insert(bikleinu_handle *partials, const uint8_t *name, size_t length, bikleinu_handle *template_);
+
+/* Makes another handle on what a handle holds, whatever that is. Nothing is copied, and what they share is freed with the last of
+ * them. Each handle serves one call at a time, and a call with the one may run beside a call with the other. As long as both are there,
+ * neither can be changed: a call that would change or move what they share answers BIKLEINU_SHARED_HANDLE. After BIKLEINU_MEMORY made
+ * holds nothing, and the handle what it held. */
+uint32_t bikleinu_share(bikleinu_handle *handle, bikleinu_handle *made);
 
 /* Renders a template over data and with partials, of which at most depth may be nested. A handle that holds nothing stands for
  * empty data, or for no partials. All three can be used again. The answer is how the page ended.
@@ -148,6 +157,18 @@ uint32_t bikleinu_render_within(bikleinu_handle *template_, bikleinu_handle *dat
 /* Makes the names that a template mentions, with those that the partials mention; a handle that holds nothing stands for none. They are
  * read as BIKLEINU_TEXT: a list of texts in JSON, ascending and each once. A page depends on no other names of the data. */
 uint32_t bikleinu_names(bikleinu_handle *template_, bikleinu_handle *partials, bikleinu_handle *made);
+
+/* Finds what a template and its partials ask of their data, of which a page sees no more; a handle that holds nothing stands for no
+ * partials. It is read as BIKLEINU_TEXT: a list of paths in JSON, ascending and each once, as ["customer?","products[].title"]. A path
+ * leads by members (.) and by the items that a loop goes over ([]) to a value that is asked for whole. One that ends in ? asks only
+ * whether there is a value and of which kind, and for a scalar whole; []? only how many items there are. */
+uint32_t bikleinu_paths(bikleinu_handle *template_, bikleinu_handle *partials, bikleinu_handle *made);
+
+/* Makes a copy of data that has nil wherever such paths lead and the data lack a value, and an empty map where they lead on from there;
+ * a handle that holds nothing stands for empty data. What is there stays: nothing is put below nil, a scalar or a list, and no member
+ * into a map that a loop goes over or whose size is asked for. A page over the copy doesn't end at a name or a member that the data
+ * lack, where a path leads there. The paths are those of a call of bikleinu_paths, and can be used for any number of data. */
+uint32_t bikleinu_complete(bikleinu_handle *data, bikleinu_handle *paths, bikleinu_handle *made);
 
 /* Filters of the caller's.
  *
@@ -189,7 +210,7 @@ uint32_t bikleinu_refuse(bikleinu_handle *answers, bikleinu_handle *calls, size_
 
 /* Parts of what a handle holds, each as UTF-8. */
 enum {
-    BIKLEINU_TEXT = 0,    /* the text of a page; calls or names, in JSON */
+    BIKLEINU_TEXT = 0,    /* the text of a page; calls, names or paths, in JSON */
     BIKLEINU_MESSAGE = 1, /* the message of a fault, or of a page's fault */
     BIKLEINU_NAME = 2,    /* the name of its kind, as UnknownVariable */
     BIKLEINU_PARTIAL = 3  /* the name of the partial that it stands in */

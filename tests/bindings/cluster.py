@@ -31,7 +31,7 @@ RECORDS, SIZE, WORKERS = 1200, 50, 4
 SOURCE = "{% for i in (1..3000) %}{% assign x = i | plus: 1 %}{% endfor %}{{ n }}{% render 'end' %}"
 WRONG = {
     7: ('{"n": 1.5}', "", "Float: in the data: line 1, column 7: found `1.5`"),
-    600: ('{"m": 1}', "", "UnknownVariable: line 1, column 65: `n` has no value"),
+    600: ('{"m": 1}', "", "UnknownVariable: line 1, column 68: `n` has no value"),
     1200: ('{"n": 1', "", "InvalidInput: in the data: line 1, column 8: "),
 }
 BLANK = 8

@@ -201,6 +201,34 @@ def environment():
     )
 
 
+def missing():
+    """What the data lack, which is a fault or nil."""
+    source = "{{ a.b }}|{% for r in rows %}{{ r.x }};{% endfor %}{% render 'end', who: who %}"
+    made = Environment(partials={"end": "{{ who.name }}."}, missing="nil")
+    template = made.from_string(source)
+    rows, shared = {"rows": [{"x": 1}, {}]}, made.data({"rows": [{}], "a": {"c": 2}})
+    again = pickle.loads(pickle.dumps(template))
+    return first(
+        [
+            same(lambda: template.paths(), ["a.b", "r.x", "rows[].x", "who.name"]),
+            same(lambda: Template("{{ a.b }}{% if c %}{% endif %}").paths(), ["a.b", "c?"]),
+            same(lambda: template.render(rows), "|1;;."),
+            same(lambda: template.render(rows, a={"b": 2}, who={"name": "Ada"}), "2|1;;Ada."),
+            same(lambda: template.render(shared), "|;."),
+            same(lambda: again.render(shared), "|;."),
+            same(lambda: template.page(shared, missing="fault").fault.name, "UnknownVariable"),
+            same(lambda: template.page(a=None, rows=[]).fault.name, "UnknownVariable"),
+            same(lambda: Template("[{{ a.b.c }}]").render(missing="nil"), "[]"),
+            same(lambda: Template("[{{ a.b.c }}]").render('{"a": {}}', missing="nil"), "[]"),
+            same(lambda: bikleinu.render("[{{ a }}]", missing=lambda name: name * 2), "[aa]"),
+            same(lambda: made.partials.insert("end", "{{ who.age }}") or template.render(rows), "|1;;"),
+            same(lambda: template.paths(), ["a.b", "r.x", "rows[].x", "who.age"]),
+            raises(lambda: template.render(missing="null"), ValueError),
+            raises(lambda: Environment(missing=None), ValueError),
+        ]
+    )
+
+
 def pickled():
     """Templates with their environment, as worker processes get them."""
     made = Environment(partials={"end": "!"}, dates=PLUS_TWO, decimals="text", max_turns=50, default=str)
@@ -263,6 +291,7 @@ CHECKS = {
     "names beside data": names,
     "data that are read once": one_data,
     "an environment": environment,
+    "what the data lack": missing,
     "pickles": pickled,
     "partials of a folder": folder,
     "examples of the docstrings": examples,

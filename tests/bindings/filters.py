@@ -80,7 +80,7 @@ def errors():
     except LiquidError as fault:
         wrong = first(
             [
-                None if (fault.name, fault.text, fault.place.column) == ("InvalidInput", "a", 2) else f"{fault!r}",
+                None if (fault.name, fault.text, fault.place.column) == ("InvalidInput", "a", 11) else f"{fault!r}",
                 None if "look_up" in fault.message and "Lost: no b in the shelf" in fault.message else fault.message,
                 None if isinstance(fault.__cause__, Lost) else f"the cause {fault.__cause__!r}",
             ]
@@ -172,7 +172,7 @@ def mails():
         thread.start()
     for thread in threads:
         thread.join()
-    place = "in the partial `end`: line 2, column 1"
+    place = "in the partial `end`: line 2, column 4"
     wanted = [(number, "UnknownVariable", place, f"Dear R{number}: 0.00 EUR\n") for number in range(1000, 10_001, 1000)]
     return wrong[0] if wrong else None if sorted(faults) == wanted else f"{sorted(faults)}"
 

@@ -1,4 +1,4 @@
-"""Calls the library from Python: the worked rows, calls that can't be, how deep a run may go, and two threads."""
+"""Calls the library from Python: the worked rows, calls that can't be, how deep a run may go, and eight threads."""
 import copy
 import os
 import pickle
@@ -13,7 +13,7 @@ sys.path[:0] = [HERE, f"{TOP}/bindings/python"]
 
 import bikleinu
 from bikleinu import Data, Kind, Language, LimitError, LiquidError, Partials, Template
-from checks import fails, first, raises, told
+from checks import fails, first, raises, same, told
 from texts import rows, whole
 
 LANGUAGE = Language()
@@ -70,22 +70,27 @@ def places():
     return None
 
 
-def two_threads():
-    """Two threads, with a template each, and one that both render."""
-    both, well = Template("{{ n }}!"), []
+def eight_threads():
+    """Eight threads over one template, its data and its partials, into which one more is inserted meanwhile."""
+    partials = Partials({"end": "{{ n | plus: 1 }}!"})
+    template, data, well = Template("{{ n }}{% render 'end', n: n %}{{ who }}"), Data({"n": 3, "who": "Ada"}), []
 
     def run(number):
-        mine = Template("{% for i in (1..n) %}{{ i }}{% endfor %}")
-        pages = "".join(map(str, range(1, number + 1))), f"{number}!"
-        if all((mine.render({"n": number}), both.render({"n": number})) == pages for _ in range(500)):
+        mine = {"n": number, "who": "Bob"}
+        pages = "34!Ada", f"{number}{number + 1}!Bob"
+        if all((template.render(data, partials), template.render(mine, partials)) == pages for _ in range(500)):
             well.append(number)
 
-    threads = [threading.Thread(target=run, args=(number,)) for number in (3, 14)]
+    threads = [threading.Thread(target=run, args=(number,)) for number in range(8)]
     for thread in threads:
         thread.start()
+    for at in range(20):
+        partials.insert(f"more{at}", "{{ n }}")
     for thread in threads:
         thread.join()
-    return None if sorted(well) == [3, 14] else f"all pages right in the threads {sorted(well)} alone"
+    if sorted(well) != list(range(8)):
+        return f"all pages right in the threads {sorted(well)} alone"
+    return same(lambda: Template("{% render 'more19', n: 7 %}").render(None, partials), "7")
 
 
 def as_data(template):
@@ -235,7 +240,7 @@ CHECKS = {
     "a handle of another kind": lambda: fails(lambda: Template("", Data({})), bikleinu.OTHER_HANDLE),
     "a template as data": lambda: fails(lambda: Template("").page(as_data(Template(""))), bikleinu.OTHER_HANDLE),
     "where faults stand": places,
-    "two threads": two_threads,
+    "one template in eight threads": eight_threads,
     "one call": lambda: None if bikleinu.render("{{ a }}{% render 'p' %}", {"a": 1}, {"p": "2"}) == "12" else "another page",
 }
 

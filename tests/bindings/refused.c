@@ -49,7 +49,7 @@ typedef struct {
     text source, data, name;
 } row;
 
-enum { LANGUAGE, TEMPLATE, PARTIAL, PARTIALS, DATA, PAGE, HANDLES };
+enum { LANGUAGE, TEMPLATE, PARTIAL, PARTIALS, DATA, PAGE, PATHS, COMPLETED, SHARED, HANDLES };
 
 static bikleinu_handle held[HANDLES];
 static size_t rows, calls, refused, wrong;
@@ -60,6 +60,10 @@ static uint32_t parse(const row *it) { return bikleinu_parse(&held[LANGUAGE], it
 static uint32_t parse_partial(const row *it) { return bikleinu_parse(&held[LANGUAGE], it->source.at, it->source.length, &held[PARTIAL]); }
 static uint32_t read_data(const row *it) { return bikleinu_data(it->data.at, it->data.length, &held[DATA]); }
 static uint32_t insert(const row *it) { return bikleinu_insert(&held[PARTIALS], it->name.at, it->name.length, &held[PARTIAL]); }
+static uint32_t find_paths(const row *it) { return (void)it, bikleinu_paths(&held[TEMPLATE], &held[PARTIALS], &held[PATHS]); }
+static uint32_t complete(const row *it) { return (void)it, bikleinu_complete(&held[DATA], &held[PATHS], &held[COMPLETED]); }
+static uint32_t share(const row *it) { return (void)it, bikleinu_share(&held[TEMPLATE], &held[SHARED]); }
+static uint32_t render_shared(const row *it) { return (void)it, bikleinu_render(&held[SHARED], &held[DATA], &held[PARTIALS], 32, &held[PAGE]); }
 static uint32_t render(const row *it) { return (void)it, bikleinu_render(&held[TEMPLATE], &held[DATA], &held[PARTIALS], 32, &held[PAGE]); }
 
 static void *need(void *made) {
@@ -160,7 +164,15 @@ int main(void) {
         each("partials", make_partials, &it, PARTIALS, false);
         bool well = !each("parse", parse, &it, TEMPLATE, false);
         well = !each("data", read_data, &it, DATA, false) && well;
-        if (put_partials(count) && well) each("render", render, &it, PAGE, false);
+        if (put_partials(count) && well) {
+            uint32_t ended = each("render", render, &it, PAGE, false);
+            text page = shown(PAGE);
+            each("share", share, &it, SHARED, true);
+            if (!is_same(PAGE, render_shared(&it), ended, page)) told("render of what is shared", 0, ended, "and another page");
+            free(page.at);
+            each("paths", find_paths, &it, PATHS, false);
+            each("complete", complete, &it, COMPLETED, false);
+        }
         free(it.source.at), free(it.data.at);
         for (int at = TEMPLATE; at < HANDLES; at++) bikleinu_free(&held[at]);
         if (blocks != before) told("all its calls", 0, BIKLEINU_DONE, "and memory is left behind");

@@ -1,9 +1,13 @@
 """The page of a template by the plain reading: what the program should write, and the kind of the fault that it should end by."""
 import json
 
+from language.completion import completed
 from language.evaluation import Run
 from language.faults import Fault
+from language.languages import LANGUAGES
 from language.parser import parse
+from language.several_faults import faults_of
+from language.uses import paths_of, uses_of
 from language.values import GREATEST, LEAST, digits_of, new_map
 
 # lists and maps of the data nest so deep at most, the whole of it among them
@@ -14,20 +18,51 @@ class NotWhole:
     """A number of the data that isn't whole, or past 64 bits."""
 
 
-def page(source, data_text, partials):
-    """The text and the kind, None where the page is done. The partials are names and sources in their order."""
+def page(source, data_text, partials, filters=None, completes=False):
+    """The text and the kind, None where the page is done.
+
+    The partials are names and sources in their order, and the filters are those of a set by its name. Where it completes, what the
+    data lacks is nil.
+    """
+    language = LANGUAGES[filters]
     try:
-        template = parse(source)
+        template = parse(source, language)
         data = read_data(data_text)
-        parsed = {name: parse(text) for name, text in partials}
+        parsed = {name: parse(text, language) for name, text in partials}
     except Fault as fault:
         return "", fault.kind
-    run = Run(parsed, data)
+    if completes:
+        data = completed(data, template, parsed)
+    run = Run(parsed, data, language.filters(data))
     try:
         run.nodes(template)
     except Fault as fault:
         return "".join(run.written), fault.kind
     return "".join(run.written), None
+
+
+def paths(source, partials, filters=None):
+    """What the template asks of its data, a path on each line, and the kind of the fault."""
+    language = LANGUAGES[filters]
+    try:
+        template = parse(source, language)
+        parsed = {name: parse(text, language) for name, text in partials}
+    except Fault as fault:
+        return "", fault.kind
+    return "".join(f"{path}\n" for path in paths_of(uses_of(template, parsed))), None
+
+
+def faults(source, filters=None):
+    """The faults of a source: first and last place of the piece that each is in, and its kind."""
+    found = faults_of(source, LANGUAGES[filters])
+    ends = [len(source) if it.piece.end is None or it.kind == "MissingEnd" else it.piece.end for it in found]
+    return [(place_of(source, it.piece.start), place_of(source, end), it.kind) for it, end in zip(found, ends)]
+
+
+def place_of(source, at):
+    """Line and column, counted from 1."""
+    before = source[:at]
+    return before.count("\n") + 1, at - before.rfind("\n")
 
 
 def read_data(text):

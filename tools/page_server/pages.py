@@ -24,6 +24,7 @@ SECONDS = 0.035
 MEMORY = 36 << 20
 SOURCE = 8 << 20
 DEPTH = 32
+WORKERS = 2
 BYTES = 256 << 10
 TURNS = 20_000
 # how a worker exits that has no room for what it is asked
@@ -118,12 +119,12 @@ class Worker:
 
 
 class Pages:
-    """Renders pages, one at a time, each in so many seconds, by a worker, with a second one that waits."""
+    """Renders pages, one at a time, each in so many seconds, by a worker, with a second one that waits. After each page `refill` is due."""
 
     def __init__(self, seconds=SECONDS):
         self.seconds = seconds
-        self.ready = [Worker(), Worker()]
-        self.ended = 0
+        self.ready, self.ended = [], 0
+        self.refill()
 
     def page(self, asked):
         """The answer to a request, both of them as bytes of JSON."""
@@ -145,9 +146,13 @@ class Pages:
             why = "Ended", "the worker of this page ended"
         if self.ready.pop(0).end():
             why = "Memory", "no memory was to be had"
-        self.ready.append(Worker())
         self.ended += 1
         return self.told(*why)
+
+    def refill(self):
+        """Makes workers in the place of those that ended, for a server to call once it has answered: a fork takes milliseconds."""
+        while len(self.ready) < WORKERS:
+            self.ready.append(Worker())
 
     @staticmethod
     def told(fault, message):

@@ -5,8 +5,8 @@
     'Hello Ada!'
 
 A Template is parsed once and renders many times, and Data is read once for many templates. An Environment holds what templates share:
-partials, limits, conversions of data. What can't be done raises a LiquidError. Each object may be used in any thread; calls that share
-one wait for one another, and others run side by side. Templates, partials and environments can be pickled; data can't.
+partials, limits, conversions of data. What can't be done raises a LiquidError. Each object may be used in any thread, and one template,
+its data and its partials in many at a time. Templates, partials and environments can be pickled; data can't.
 
 A run takes stack of its thread: at most 2.75 KiB for each level, where a page is one and each block and each partial in it is one
 more, and 136 KiB for what stands in the deepest. A run that could reach more than 400 levels isn't begun, so a stack of 1 MiB is

@@ -13,8 +13,18 @@ TEXT, MESSAGE, NAME, PARTIAL = range(4)
 _ORIGINS = {1: "template", 2: "partial", 3: "data"}
 
 
+def part(handle: Handle, number: int) -> str:
+    """A part of what lies behind a handle."""
+    length = library.bikleinu_length(handle, number)
+    if not length:
+        return ""
+    room = ctypes.create_string_buffer(length)
+    library.bikleinu_copy(handle, number, room, length)
+    return room.raw.decode()
+
+
 class Owner:
-    """What lies behind a handle, with the lock that keeps it to one call at a time. It is freed with this object."""
+    """What lies behind a handle, which is freed with this object. The lock is for a handle that several threads use."""
 
     def __init__(self) -> None:
         self._handle = Handle()
@@ -30,13 +40,8 @@ class Owner:
     def _uncopied(self) -> NoReturn:
         raise TypeError(f"a {type(self).__name__} can't be copied or pickled: share it, or make another")
 
-    def _part(self, part: int) -> str:
-        length = library.bikleinu_length(self._handle, part)
-        if not length:
-            return ""
-        room = ctypes.create_string_buffer(length)
-        library.bikleinu_copy(self._handle, part, room, length)
-        return room.raw.decode()
+    def _part(self, number: int) -> str:
+        return part(self._handle, number)
 
     def _place(self, partial: str | None) -> Place | None:
         line, column = ctypes.c_size_t(), ctypes.c_size_t()
@@ -59,26 +64,49 @@ class Owner:
             raise self._error(number, partial)
 
 
-class locked:
-    """All of these are kept for this thread. They are locked in one order everywhere, so that no two threads wait for each other."""
+class Shared(Owner):
+    """What calls in several threads use side by side, each by a handle of its own. What was lent once isn't changed any more."""
+
+    def __init__(self) -> None:
+        super().__init__()
+        # handles on it that no call has now
+        self._spare: list[Owner] = []
+
+    def _lend(self) -> Owner:
+        try:
+            return self._spare.pop()
+        except IndexError:
+            made = Owner()
+            with self._lock:
+                made._need(library.bikleinu_share(self._handle, made._handle))
+            return made
+
+
+class lent:
+    """Handles for a call, on what these hold: of its own on what other threads may use meanwhile."""
 
     def __init__(self, *owners: Owner) -> None:
-        self._locks = [owner._lock for owner in sorted(set(owners), key=id)]
-        self._count = 0
+        self._owners = owners
+        self._taken: list[tuple[list[Owner], Owner]] = []
 
-    def __enter__(self) -> None:
+    def __enter__(self) -> list[Handle]:
         try:
-            for lock in self._locks:
-                lock.acquire()
-                self._count += 1
+            return [self._take(owner)._handle for owner in self._owners]
         except BaseException:
             self.__exit__()
             raise
 
+    def _take(self, owner: Owner) -> Owner:
+        if not isinstance(owner, Shared):
+            return owner
+        spare, taken = owner._spare, owner._lend()
+        self._taken.append((spare, taken))
+        return taken
+
     def __exit__(self, *_: object) -> None:
-        while self._count:
-            self._count -= 1
-            self._locks[self._count].release()
+        for spare, taken in self._taken:
+            spare.append(taken)
+        self._taken = []
 
 
 def checked(value: Any, wanted: str) -> Any:

@@ -2,10 +2,13 @@
 from __future__ import annotations
 
 from dataclasses import dataclass, field
-from typing import Any, Callable, Optional
+from typing import Any, Callable, Optional, Union
 
 from ._values import Conversions
 from .partials import Partials
+
+# what stands for a name or a member that the data lack: "fault", "nil", or what a function answers to a name
+Missing = Union[str, Callable[[str], Any]]
 
 
 @dataclass(frozen=True)
@@ -18,5 +21,13 @@ class Settings:
     max_bytes: Optional[int] = None
     max_turns: Optional[int] = None
     max_rounds: int = 100
-    missing: Optional[Callable[[str], Any]] = None
+    missing: Missing = "fault"
     how: Conversions = field(default_factory=Conversions)
+
+
+def missing_of(value: Any) -> Missing:
+    """The value, which says what stands for what the data lack."""
+    if not callable(value) and value not in ("fault", "nil"):
+        raise ValueError(f"missing is {value!r}, and 'fault', 'nil' or a function is wanted")
+    found: Missing = value
+    return found

@@ -7,14 +7,14 @@ from typing import Any, Union
 from typing import Mapping as AnyMapping
 
 from ._library import library
-from ._owner import Owner, utf8
+from ._owner import Owner, Shared, utf8
 from ._values import Conversions, encoded
 
 # what stands for data in a call
 Facts = Union["Data", AnyMapping[str, Any], str, None]
 
 
-class Data(Owner):
+class Data(Shared):
     """Data that is read once and rendered by any number of templates: a mapping that JSON can hold, or a text of JSON.
 
         >>> import bikleinu
@@ -39,25 +39,31 @@ class Data(Owner):
         self._read(data, Conversions(decimals, dates, default))
 
     def _read(self, data: Mapping[str, Any] | str, how: Conversions) -> None:
-        text = utf8(data) if isinstance(data, str) else encoded(data, how)
-        self._need(library.bikleinu_data(text, len(text), self._handle))
+        _read(self, data, how)
 
     @classmethod
     def _of(cls, data: Mapping[str, Any] | str, how: Conversions) -> Data:
         made = cls.__new__(cls)
-        Owner.__init__(made)
+        Shared.__init__(made)
         made._read(data, how)
         return made
 
 
+def _read(made: Owner, data: Mapping[str, Any] | str, how: Conversions) -> Owner:
+    text = utf8(data) if isinstance(data, str) else encoded(data, how)
+    made._need(library.bikleinu_data(text, len(text), made._handle))
+    return made
+
+
 def data_of(data: Facts, names: Mapping[str, Any], how: Conversions) -> Owner:
-    """The data of a call, with names on top. A handle that holds nothing stands for none."""
+    """The data of a call, with names on top, which are the call's own unless they were read before. A handle that holds nothing stands
+    for none."""
     if not names:
         if data is None:
             return Owner()
-        return data if isinstance(data, Data) else Data._of(data, how)
+        return data if isinstance(data, Data) else _read(Owner(), data, how)
     if data is None:
-        return Data._of(names, how)
+        return _read(Owner(), names, how)
     if not isinstance(data, Mapping):
         raise TypeError(f"names beside a {type(data).__name__}: names go with a mapping or alone")
-    return Data._of({**data, **names}, how)
+    return _read(Owner(), {**data, **names}, how)

@@ -10,7 +10,7 @@ from typing import Any, Union
 
 from ._filters import Function
 from ._owner import whole
-from ._settings import Settings
+from ._settings import Missing, Settings, missing_of
 from ._values import Conversions
 from .data import Data
 from .language import Called, Language
@@ -30,9 +30,8 @@ class Environment:
     Partials.from_folder). depth, levels, max_bytes and max_turns are as of Template.page, decimals, dates and default as of Data.
 
     filters are functions in Python by their names (as of Language.add_filter); a page asks them in at most max_rounds rounds. jekyll
-    is as of Language. missing is called with each name that a template mentions and its data, a mapping, lacks, and answers the
-    value to take: missing=lambda name: None lets them be nil. The partials are parsed with the first template, so filters that are
-    added until then are known to them.
+    is as of Language. missing is as of Template.page: with missing="nil" what a template asks for and its data lack is nil. The
+    partials are parsed with the first template, so filters that are added until then are known to them.
 
     An environment can be pickled where its functions can, and its templates with it.
     """
@@ -42,7 +41,7 @@ class Environment:
         *,
         partials: Union[Partials, Mapping[str, str], str, "os.PathLike[str]", None] = None,
         filters: Mapping[str, Function] | None = None,
-        missing: Callable[[str], Any] | None = None,
+        missing: Missing = "fault",
         jekyll: bool = False,
         depth: int = 32,
         levels: int | None = None,
@@ -61,7 +60,7 @@ class Environment:
         self._given = _checked(partials)
         how = Conversions(decimals, dates, default)
         rounds = whole("max_rounds", max_rounds, 1)
-        self._usual = Settings(None, whole("depth", depth), levels, max_bytes, max_turns, rounds, missing, how)
+        self._usual = Settings(None, whole("depth", depth), levels, max_bytes, max_turns, rounds, missing_of(missing), how)
         self._settings: Settings | None = None
         self._templates: dict[str, Template] = {}
         self._lock = threading.Lock()

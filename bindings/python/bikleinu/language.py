@@ -7,7 +7,7 @@ from typing import Any, TypeVar
 
 from ._filters import Filters, Function, arity
 from ._library import library
-from ._owner import Owner, locked, utf8
+from ._owner import Owner, utf8
 from .errors import refused
 
 # a function that a decorator hands back as it is
@@ -51,7 +51,7 @@ class Language(Owner):
         kept for further pages. What it raises ends a page that makes the call, by a fault whose __cause__ is the error."""
         least, most = arity(function)
         text = utf8(name)
-        with locked(self):
+        with self._lock:
             answer = library.bikleinu_register(self._handle, text, len(text), least, most)
             if answer:
                 raise refused(answer)
@@ -83,6 +83,6 @@ def parse(source: str, language: Language | None, made: Owner, partial: str | No
     """Puts the template of a source, which is that of a partial of this name, behind a handle."""
     text = utf8(source)
     language = language or standard()
-    with locked(language):
+    with language._lock:
         answer = library.bikleinu_parse(language._handle, text, len(text), made._handle)
     made._need(answer, partial)

@@ -8,16 +8,19 @@ from typing import Any, Union
 from typing import Mapping as AnyMapping
 
 from ._library import library
-from ._owner import Owner, checked, locked, utf8
-from .errors import NO_TEXT, LiquidError, refused
+from ._owner import Owner, Shared, checked, utf8
+from .errors import NO_TEXT, SHARED_HANDLE, LiquidError, refused
 from .language import Language, parse
 
 # what stands for partials in a call
 Others = Union["Partials", AnyMapping[str, str], None]
 
 
-class Partials(Owner):
-    """Templates by name, for the tags include and render. Of two with one name the later counts."""
+class Partials(Shared):
+    """Templates by name, for the tags include and render. Of two with one name the later counts.
+
+    Where pages were rendered with them, one more is inserted into new ones, for which all are parsed again. A page in another thread
+    has the old ones or the new ones."""
 
     def __init__(self, sources: Mapping[str, str] | None = None, language: Language | None = None) -> None:
         super().__init__()
@@ -42,17 +45,24 @@ class Partials(Owner):
         """Puts a template of this source at a name."""
         template, text = Owner(), utf8(name)
         parse(source, self._language, template, name)
-        with locked(self):
+        with self._lock:
             answer = library.bikleinu_insert(self._handle, text, len(text), template._handle)
-            if answer:
+            if answer == SHARED_HANDLE:
+                self._begin_anew({**self._sources, name: source})
+            elif answer:
                 raise refused(answer)
             self._sources[name] = source
             self._version += 1
 
+    def _begin_anew(self, sources: Mapping[str, str]) -> None:
+        made = Partials(sources, self._language)
+        self._handle, made._handle = made._handle, self._handle
+        self._spare = []
+
     @property
     def sources(self) -> Mapping[str, str]:
         """The source of each partial, by its name."""
-        with locked(self):
+        with self._lock:
             return dict(self._sources)
 
     def source(self, name: str) -> str:

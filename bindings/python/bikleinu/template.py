@@ -7,13 +7,13 @@ from dataclasses import dataclass
 from typing import Any, Optional
 
 from ._filters import Run, Table
-from ._library import Limits, library
-from ._owner import TEXT, Owner, checked, locked, whole
-from ._settings import Settings
+from ._library import Handle, Limits, library
+from ._owner import TEXT, Owner, Shared, checked, lent, part, whole
+from ._settings import Missing, Settings, missing_of
 from .data import Facts, data_of
 from .errors import MESSAGES, LiquidError
 from .language import Language, parse
-from .partials import Others, partials_of
+from .partials import Others, Partials, partials_of
 
 
 @dataclass(frozen=True)
@@ -24,8 +24,8 @@ class Page:
     fault: Optional[LiquidError] = None
 
 
-class Template(Owner):
-    """A template, which can be rendered any number of times, in any thread.
+class Template(Shared):
+    """A template, which can be rendered any number of times, in any number of threads at a time.
 
         >>> import bikleinu
         >>> template = bikleinu.Template("Hello {{ name }}!")
@@ -43,13 +43,13 @@ class Template(Owner):
         parse(source, language, self)
         self._source, self._language, self._settings, self._maker = source, language, settings, maker
         self._filters = language._filters if isinstance(language, Language) else None
-        # the partials that were asked for names at last, how often they were changed until then, and the names
-        self._known: tuple[Owner, int, list[str]] | None = None
+        # what was found at last of names and of paths, for which partials, and how often these were changed until then
+        self._known: dict[str, tuple[Owner | None, int, Shared]] = {}
 
     @classmethod
     def _of(cls, source: str, language: Language | None, settings: Settings, maker: Any) -> Template:
         made = cls.__new__(cls)
-        Owner.__init__(made)
+        Shared.__init__(made)
         made._begin(source, language, settings, maker)
         return made
 
@@ -70,6 +70,7 @@ class Template(Owner):
         levels: int | None = None,
         max_bytes: int | None = None,
         max_turns: int | None = None,
+        missing: Missing | None = None,
         **names: Any,
     ) -> Page:
         """The page, with the fault that it ended by, where there is one. Names are more data, on top of a mapping or alone; a name
@@ -81,17 +82,25 @@ class Template(Owner):
 
         With max_bytes the page may write so many bytes of UTF-8, captured texts too; with max_turns it may run so many lists of
         nodes: the template's, and each body and each partial each time that it runs. The fault of a page that one of them ended
-        is a LimitError. What isn't said here is as the template's Environment says."""
+        is a LimitError.
+
+        What the data lack is a fault of a page that comes to it. With missing="nil" it is nil, wherever the template or a partial asks for
+        it (see paths); nil is put below no nil and no scalar, and into no map that a loop goes over or that is measured. A function as
+        missing is called with each name that is lacking in a mapping, and answers the value to take. What isn't said here is as the
+        template's Environment says, and else "fault"."""
         usual = self._settings
         depth = whole("depth", usual.depth if depth is None else depth)
         limits = _limits(usual.levels if levels is None else levels, usual.max_bytes if max_bytes is None else max_bytes,
                          usual.max_turns if max_turns is None else max_turns)
         others = partials_of(usual.partials if partials is None else partials)
-        facts = data_of(self._completed(data, names, others), names, usual.how)
+        asked = usual.missing if missing is None else missing_of(missing)
+        data = self._with_missing(data, names, others, asked) if callable(asked) else data
+        facts = data_of(data, names, usual.how)
+        if asked == "nil":
+            facts = self._completed(facts, others)
 
         def render(page: Owner, table: Table | None = None) -> int:
-            given = [it._handle for it in (self, facts, others)]
-            with locked(self, facts, others):
+            with lent(self, facts, others) as given:
                 if table is None:
                     answer: int = library.bikleinu_render_within(*given, depth, limits, page._handle)
                 else:
@@ -116,26 +125,50 @@ class Template(Owner):
 
     def names(self, partials: Others = None) -> list[str]:
         """The names that the template and its partials mention: a page depends on no other names of the data."""
-        return self._names_with(partials_of(self._settings.partials if partials is None else partials))
+        return self._told("names", partials)
 
-    def _names_with(self, others: Owner) -> list[str]:
-        made = Owner()
-        with locked(self, others):
-            answer = library.bikleinu_names(self._handle, others._handle, made._handle)
-        made._need(answer)
-        names: list[str] = json.loads(made._part(TEXT))
-        return names
+    def paths(self, partials: Others = None) -> list[str]:
+        """What the template and its partials ask of their data, of which a page sees no more: "customer.name" a whole value, "customer?"
+        only whether there is one, "products[].title" the title of each item that a loop goes over, "products[]?" how many there are.
 
-    def _completed(self, data: Facts, names: Mapping[str, Any], others: Owner) -> Facts:
-        """The data with what its environment has for names that it lacks."""
-        missing = self._settings.missing
-        if missing is None or not (data is None or isinstance(data, Mapping)):
+            >>> import bikleinu
+            >>> bikleinu.Template("{% for p in products %}{{ p.title }}{% endfor %}").paths()
+            ['p.title', 'products[].title']
+        """
+        return self._told("paths", partials)
+
+    def _told(self, what: str, partials: Others) -> list[str]:
+        others = partials_of(self._settings.partials if partials is None else partials)
+        with lent(self._found(what, others)) as (found,):
+            return _texts(found)
+
+    def _found(self, what: str, others: Owner) -> Shared:
+        """The names or the paths of the template with these partials, which are kept for the next page."""
+        partials = others if isinstance(others, Partials) else None
+        known, version = self._known.get(what), partials._version if partials else 0
+        if known is None or known[0] is not partials or known[1] != version:
+            find, made = getattr(library, f"bikleinu_{what}"), Shared()
+            with lent(self, others) as given:
+                answer = find(*given, made._handle)
+            made._need(answer)
+            self._known[what] = known = partials, version, made
+        return known[2]
+
+    def _with_missing(self, data: Facts, names: Mapping[str, Any], others: Owner, missing: Callable[[str], Any]) -> Facts:
+        """A mapping with what the function answers to names that it lacks."""
+        if not (data is None or isinstance(data, Mapping)):
             return data
-        known, version = self._known, getattr(others, "_version", 0)
-        if known is None or known[0] is not others or known[1] != version:
-            self._known = known = others, version, self._names_with(others)
-        lacking = [name for name in known[2] if name not in names and name not in (data or ())]
+        with lent(self._found("names", others)) as (found,):
+            lacking = [name for name in _texts(found) if name not in names and name not in (data or ())]
         return {**(data or {}), **{name: missing(name) for name in lacking}}
+
+    def _completed(self, facts: Owner, others: Owner) -> Owner:
+        """The data with nil where the template asks for what they lack."""
+        made = Owner()
+        with lent(facts, self._found("paths", others)) as given:
+            answer = library.bikleinu_complete(*given, made._handle)
+        made._need(answer)
+        return made
 
     def render(
         self,
@@ -146,13 +179,19 @@ class Template(Owner):
         levels: int | None = None,
         max_bytes: int | None = None,
         max_turns: int | None = None,
+        missing: Missing | None = None,
         **names: Any,
     ) -> str:
         """The page's text, or the fault that it ended by as an error. The rest is as of page."""
-        page = self.page(data, partials, depth, levels=levels, max_bytes=max_bytes, max_turns=max_turns, **names)
+        page = self.page(data, partials, depth, levels=levels, max_bytes=max_bytes, max_turns=max_turns, missing=missing, **names)
         if page.fault:
             raise page.fault
         return page.text
+
+
+def _texts(found: Handle) -> list[str]:
+    texts: list[str] = json.loads(part(found, TEXT))
+    return texts
 
 
 def _shown(answer: int, page: Owner) -> Page:
@@ -180,6 +219,7 @@ def render(
     levels: int | None = None,
     max_bytes: int | None = None,
     max_turns: int | None = None,
+    missing: Missing | None = None,
     **names: Any,
 ) -> str:
     """The page of a source that is rendered once.
@@ -188,4 +228,5 @@ def render(
         >>> bikleinu.render("Hello {{ name }}!", name="Ada")
         'Hello Ada!'
     """
-    return Template(source).render(data, partials, depth, levels=levels, max_bytes=max_bytes, max_turns=max_turns, **names)
+    limits: dict[str, Any] = {"levels": levels, "max_bytes": max_bytes, "max_turns": max_turns}
+    return Template(source).render(data, partials, depth, missing=missing, **limits, **names)

@@ -36,6 +36,9 @@ extern "C" {
     pub(crate) fn bikleinu_jekyll_language(made: *mut Handle) -> u32;
     pub(crate) fn bikleinu_register(language: *mut Handle, name: *const u8, length: usize, least: usize, most: usize) -> u32;
     pub(crate) fn bikleinu_names(template: *mut Handle, partials: *mut Handle, made: *mut Handle) -> u32;
+    pub(crate) fn bikleinu_paths(template: *mut Handle, partials: *mut Handle, made: *mut Handle) -> u32;
+    pub(crate) fn bikleinu_complete(data: *mut Handle, paths: *mut Handle, made: *mut Handle) -> u32;
+    pub(crate) fn bikleinu_share(handle: *mut Handle, made: *mut Handle) -> u32;
     pub(crate) fn bikleinu_answers(made: *mut Handle) -> u32;
     pub(crate) fn bikleinu_answers_filter(answers: *mut Handle, name: *const u8, length: usize) -> u32;
     pub(crate) fn bikleinu_render_with(
@@ -69,8 +72,8 @@ const PARTIAL: u32 = 3;
 
 /// What lies behind a handle, which is freed with it.
 ///
-/// A call may change a handle while it runs, also one that it only reads. So an owner isn't shared by threads, and no call begins in
-/// one thread while another of the same handle runs there: none of them calls back.
+/// A call may change a handle while it runs, also one that it only reads. So an owner isn't shared by threads ([`Shared`](crate::shared::Shared)
+/// is), and no call begins in one thread while another of the same handle runs there: none of them calls back.
 pub(crate) struct Owner(UnsafeCell<Handle>);
 
 // SAFETY: what a handle owns is plain data of its own, on the heap of the C library. It refers to nothing that stays behind in a
@@ -84,6 +87,12 @@ impl Owner {
 
     pub(crate) fn at(&self) -> *mut Handle {
         self.0.get()
+    }
+
+    /// Whether it holds nothing.
+    pub(crate) fn is_empty(&self) -> bool {
+        // SAFETY: the handle is this owner's, and no call has it now.
+        unsafe { !(*self.at()).there }
     }
 
     pub(crate) fn part(&self, part: u32) -> String {

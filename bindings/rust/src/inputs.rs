@@ -1,11 +1,12 @@
 //! What a template is rendered with: data and partials.
 use crate::error::{call_refused, LiquidError};
 use crate::ffi::{bikleinu_data, bikleinu_insert, bikleinu_partials, Owner};
+use crate::shared::Shared;
 use crate::Template;
 use std::fmt;
 
 /// Data for templates.
-pub struct Data(pub(crate) Owner);
+pub struct Data(pub(crate) Shared);
 
 impl Data {
     /// The data that a text of JSON gives, which is an object.
@@ -17,13 +18,17 @@ impl Data {
         let made = Owner::new();
         // SAFETY: the handle is an owner's, and the bytes are a text's.
         let number = unsafe { bikleinu_data(json.as_ptr(), json.len(), made.at()) };
-        made.settled(number).map(Data)
+        made.settled(number).map(Data::of)
     }
 
     /// Data without a name.
     #[must_use]
     pub fn none() -> Data {
-        Data(Owner::new())
+        Data::of(Owner::new())
+    }
+
+    pub(crate) fn of(owner: Owner) -> Data {
+        Data(Shared::new(owner))
     }
 }
 
@@ -34,7 +39,7 @@ impl fmt::Debug for Data {
 }
 
 /// Templates by name, for the tags `include` and `render`.
-pub struct Partials(pub(crate) Owner);
+pub struct Partials(pub(crate) Shared);
 
 impl Partials {
     /// No partials.
@@ -46,7 +51,7 @@ impl Partials {
         let made = Owner::new();
         // SAFETY: the handle is an owner's.
         let number = unsafe { bikleinu_partials(made.at()) };
-        made.settled(number).map(Partials)
+        made.settled(number).map(|owner| Partials(Shared::new(owner)))
     }
 
     /// Puts a template at a name, in place of the one that stood there.
@@ -54,11 +59,9 @@ impl Partials {
     /// # Errors
     ///
     /// Refused memory. Then the partials are as they were.
-    // the template moves behind the other handle
-    #[allow(clippy::needless_pass_by_value)]
-    pub fn insert(&mut self, name: &str, template: Template) -> Result<(), LiquidError> {
+    pub fn insert(&mut self, name: &str, mut template: Template) -> Result<(), LiquidError> {
         // SAFETY: both handles are owners', two of them, and the bytes are a text's.
-        match unsafe { bikleinu_insert(self.0.at(), name.as_ptr(), name.len(), template.owner().at()) } {
+        match unsafe { bikleinu_insert(self.0.only().at(), name.as_ptr(), name.len(), template.only().at()) } {
             0 => Ok(()),
             number => Err(call_refused(number)
                 .unwrap_or_else(|| LiquidError::new(number, String::new(), String::new(), None))),

@@ -2,6 +2,7 @@
 use crate::error::LiquidError;
 use crate::ffi::{bikleinu_jekyll_language, bikleinu_language, bikleinu_parse, bikleinu_register, Owner};
 use crate::filters::{settled, FilterError, Filters};
+use crate::shared::Shared;
 use crate::{Template, Value};
 use std::fmt;
 use std::ops::RangeInclusive;
@@ -9,7 +10,7 @@ use std::sync::Arc;
 
 /// A language: its tags, blocks and filters.
 pub struct Language {
-    owner: Owner,
+    owner: Shared,
     filters: Filters,
 }
 
@@ -39,7 +40,7 @@ impl Language {
     }
 
     fn of(owner: Owner) -> Language {
-        Language { owner, filters: Filters::default() }
+        Language { owner: Shared::new(owner), filters: Filters::default() }
     }
 
     /// Adds a filter that takes any number of arguments, in place of any other of that name, for what is parsed from now on.
@@ -83,7 +84,7 @@ impl Language {
     {
         let (least, most) = arguments.into_inner();
         // SAFETY: the handle is an owner's, and the bytes are a text's.
-        settled(unsafe { bikleinu_register(self.owner.at(), name.as_ptr(), name.len(), least, most) })?;
+        settled(unsafe { bikleinu_register(self.owner.only().at(), name.as_ptr(), name.len(), least, most) })?;
         self.filters.add(name, Arc::new(function));
         Ok(())
     }
@@ -94,9 +95,9 @@ impl Language {
     ///
     /// A fault of the source, with its place, or refused memory.
     pub fn parse(&self, source: &str) -> Result<Template, LiquidError> {
-        let made = Owner::new();
+        let (lent, made) = (self.owner.lend()?, Owner::new());
         // SAFETY: both handles are owners', two of them, and the bytes are a text's.
-        let number = unsafe { bikleinu_parse(self.owner.at(), source.as_ptr(), source.len(), made.at()) };
+        let number = unsafe { bikleinu_parse(lent.at(), source.as_ptr(), source.len(), made.at()) };
         made.settled(number).map(|owner| Template::of(owner, self.filters.clone()))
     }
 }

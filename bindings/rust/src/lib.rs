@@ -22,11 +22,12 @@
 //! let template = Language::new()?.parse("Hello {{ name }}!")?;
 //! let fault = template.render_text(&Data::none()).unwrap_err();
 //! assert_eq!(fault.kind(), Kind::UnknownVariable);
-//! assert!(fault.to_string().starts_with("UnknownVariable: line 1, column 7: `name` has no value"));
+//! assert!(fault.to_string().starts_with("UnknownVariable: line 1, column 10: `name` has no value"));
 //! # Ok::<(), bikleinu::LiquidError>(())
 //! ```
 //!
-//! Each of these may be sent to another thread, and none is shared by threads: a call uses what it is given for itself alone.
+//! Templates, data and partials are `Send` and `Sync`: any number of threads may render one template at a time, over the same data and with
+//! the same partials. Nothing is copied for that, and no thread waits for another's page.
 //!
 //! A run takes stack of its thread: at most 2.75 KiB for each level, where a page is one and each block and each partial in it is one
 //! more, and 136 KiB for what stands in the deepest. [`Template::render`] begins no run that could reach more than 400 levels, so a
@@ -37,8 +38,10 @@
 mod error;
 mod ffi;
 mod filters;
+mod folder;
 mod inputs;
 mod language;
+mod shared;
 mod template;
 mod value;
 
@@ -46,5 +49,5 @@ pub use error::{Kind, LiquidError, Location, Origin};
 pub use filters::{FilterError, ROUNDS};
 pub use inputs::{Data, Partials};
 pub use language::Language;
-pub use template::{Limits, Page, Template};
+pub use template::{Limits, Page, Paths, Template};
 pub use value::Value;

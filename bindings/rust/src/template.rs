@@ -1,11 +1,14 @@
 //! Templates and their pages.
 use crate::error::{LiquidError, MEMORY, NO_TEXT, TOO_MANY_LEVELS};
-use crate::ffi::{bikleinu_names, bikleinu_render_with, bikleinu_render_within, Owner, RawLimits, TEXT};
+use crate::ffi::{
+    bikleinu_complete, bikleinu_names, bikleinu_paths, bikleinu_render_with, bikleinu_render_within, Handle, Owner, RawLimits, TEXT,
+};
 use crate::filters::{Filters, Table};
+use crate::shared::{locked, Shared};
 use crate::value::Reader;
 use crate::{Data, Partials, Value};
-use std::cell::RefCell;
 use std::fmt;
+use std::sync::Mutex;
 
 /// How many partials may stand in one another where nothing is said.
 const USUAL_DEPTH: u32 = 32;
@@ -60,19 +63,20 @@ impl Page {
 
 /// A template, which can be rendered any number of times.
 pub struct Template {
-    owner: Owner,
+    owner: Shared,
     filters: Filters,
-    /// The answers of its filters that are kept for further pages.
-    table: RefCell<Option<Table>>,
+    /// The answers of its filters that are kept for further pages: a table for each of the pages that are rendered at a time.
+    tables: Mutex<Vec<Table>>,
 }
 
 impl Template {
     pub(crate) fn of(owner: Owner, filters: Filters) -> Template {
-        Template { owner, filters, table: RefCell::new(None) }
+        Template { owner: Shared::new(owner), filters, tables: Mutex::new(Vec::new()) }
     }
 
-    pub(crate) fn owner(&self) -> &Owner {
-        &self.owner
+    /// The only handle on it, so that a call can move it.
+    pub(crate) fn only(&mut self) -> &Owner {
+        self.owner.only()
     }
 
     /// The names that the template and these partials mention, ascending: a page depends on no other names of the data.
@@ -81,13 +85,35 @@ impl Template {
     ///
     /// Refused memory.
     pub fn names(&self, partials: &Partials) -> Result<Vec<String>, LiquidError> {
-        let made = Owner::new();
+        let (lent, others, made) = (self.owner.lend()?, partials.0.lend()?, Owner::new());
         // SAFETY: the handles are owners', three of them.
-        let number = unsafe { bikleinu_names(self.owner.at(), partials.0.at(), made.at()) };
-        let told = made.settled(number)?.part(TEXT);
-        let names = Reader::new(&told).value();
-        let names = names.as_ref().and_then(Value::as_list).unwrap_or_default();
-        Ok(names.iter().filter_map(Value::as_text).map(str::to_owned).collect())
+        let number = unsafe { bikleinu_names(lent.at(), others.at(), made.at()) };
+        Ok(texts(&made.settled(number)?))
+    }
+
+    /// What the template and these partials ask of data.
+    ///
+    /// ```
+    /// use bikleinu::{Data, Language, Partials};
+    ///
+    /// let template = Language::new()?.parse("{{ shop.name }}{% for p in products %}{{ p.title }};{% endfor %}")?;
+    /// let paths = template.paths(&Partials::new()?)?;
+    /// assert_eq!(paths.texts(), ["p.title", "products[].title", "shop.name"]);
+    /// let data = Data::from_json(r#"{"products": [{"title": "Tea"}, {}]}"#)?;
+    /// assert!(template.render_text(&data).is_err());
+    /// assert_eq!(template.render_text(&data.completed(&paths)?)?, "Tea;;");
+    /// # Ok::<(), bikleinu::LiquidError>(())
+    /// ```
+    ///
+    /// # Errors
+    ///
+    /// Refused memory.
+    pub fn paths(&self, partials: &Partials) -> Result<Paths, LiquidError> {
+        let (lent, others, made) = (self.owner.lend()?, partials.0.lend()?, Owner::new());
+        // SAFETY: the handles are owners', three of them.
+        let number = unsafe { bikleinu_paths(lent.at(), others.at(), made.at()) };
+        let made = made.settled(number)?;
+        Ok(Paths { texts: texts(&made), owner: Shared::new(made) })
     }
 
     /// The page of the template over this data, with these partials, of which at most `depth` may be nested.
@@ -105,7 +131,7 @@ impl Template {
     ///
     /// The fault of the page, or as [`render`](Template::render).
     pub fn render_text(&self, data: &Data) -> Result<String, LiquidError> {
-        self.render_by(data, &Owner::new(), USUAL_DEPTH, Limits::default())?.into_text()
+        self.render_by(data, Owner::new().at(), USUAL_DEPTH, Limits::default())?.into_text()
     }
 
     /// As [`render`](Template::render), within limits: fewer levels for a smaller stack, or more for a larger one.
@@ -120,29 +146,75 @@ impl Template {
         depth: u32,
         limits: Limits,
     ) -> Result<Page, LiquidError> {
-        self.render_by(data, &partials.0, depth, limits)
+        let others = partials.0.lend()?;
+        self.render_by(data, others.at(), depth, limits)
     }
 
-    fn render_by(&self, data: &Data, partials: &Owner, depth: u32, limits: Limits) -> Result<Page, LiquidError> {
+    fn render_by(&self, data: &Data, partials: *mut Handle, depth: u32, limits: Limits) -> Result<Page, LiquidError> {
         let limits = std::ptr::addr_of!(limits.0);
-        let given = (self.owner.at(), data.0.at(), partials.at());
+        let (lent, facts) = (self.owner.lend()?, data.0.lend()?);
+        let given = (lent.at(), facts.at(), partials);
         if self.filters.is_empty() {
             let page = Owner::new();
             // SAFETY: the handles are owners', four of them, and the limits are there for as long as the call.
             let number = unsafe { bikleinu_render_within(given.0, given.1, given.2, depth, limits, page.at()) };
             return shown(number, &page);
         }
-        let mut kept = self.table.take();
+        let mut kept = locked(&self.tables).pop();
         let run = self.filters.page(&mut kept, |table, page| {
             let table = table.owner().at();
             // SAFETY: the handles are owners', five of them, and the limits are there for as long as the call.
             unsafe { bikleinu_render_with(given.0, given.1, given.2, depth, limits, table, page.at()) }
         });
-        self.table.replace(kept);
+        locked(&self.tables).extend(kept);
         let (number, page, errors) = run?;
         let page = shown(number, &page)?;
         Ok(Page { text: page.text, fault: page.fault.map(|fault| errors.explained(fault)) })
     }
+}
+
+/// What a template asks of data, as paths: of a page nothing else is seen.
+pub struct Paths {
+    owner: Shared,
+    texts: Vec<String>,
+}
+
+impl Paths {
+    /// The paths, ascending: `customer.name` asks for a whole value, `customer?` only whether there is one, `products[].title` for the
+    /// title of each item that a loop goes over, and `products[]?` for how many there are.
+    #[must_use]
+    pub fn texts(&self) -> &[String] {
+        &self.texts
+    }
+}
+
+impl fmt::Debug for Paths {
+    fn fmt(&self, f: &mut fmt::Formatter<'_>) -> fmt::Result {
+        f.debug_list().entries(&self.texts).finish()
+    }
+}
+
+impl Data {
+    /// A copy that has nil wherever the paths lead and this lacks a value, and an object where they lead on from there. What is there
+    /// stays: nothing is put below nil, a scalar or a list, and no member into an object that a loop goes over or that is measured.
+    ///
+    /// # Errors
+    ///
+    /// Refused memory.
+    pub fn completed(&self, paths: &Paths) -> Result<Data, LiquidError> {
+        let (lent, asked, made) = (self.0.lend()?, paths.owner.lend()?, Owner::new());
+        // SAFETY: the handles are owners', three of them.
+        let number = unsafe { bikleinu_complete(lent.at(), asked.at(), made.at()) };
+        made.settled(number).map(Data::of)
+    }
+}
+
+/// The texts of a list in JSON.
+fn texts(list: &Owner) -> Vec<String> {
+    let told = list.part(TEXT);
+    let all = Reader::new(&told).value();
+    let all = all.as_ref().and_then(Value::as_list).unwrap_or_default();
+    all.iter().filter_map(Value::as_text).map(str::to_owned).collect()
 }
 
 /// The page that a run ended with, or the error where there is none.

@@ -52,7 +52,7 @@ fn errors_say_what_and_where() -> Result<(), LiquidError> {
     partials.insert("p", template("\n{{ x }}")?)?;
     let page = template("1{% render 'p' %}")?.render(&Data::none(), &partials, 32)?;
     let fault = page.into_text().unwrap_err();
-    assert!(fault.to_string().starts_with("UnknownVariable: in the partial `p`: line 2, column 1: "), "{fault}");
+    assert!(fault.to_string().starts_with("UnknownVariable: in the partial `p`: line 2, column 4: "), "{fault}");
     let boxed: Box<dyn Error + Send + Sync> = fault.clone().into();
     assert_eq!(boxed.to_string(), fault.to_string());
     assert_eq!(template("{{ 1 | plus: 2 }}")?.render_text(&Data::none())?, "3");
@@ -101,15 +101,63 @@ fn limits_end_a_page() -> Result<(), LiquidError> {
 }
 
 #[test]
-fn two_threads_with_a_template_each() {
+fn eight_threads_over_one_template() -> Result<(), LiquidError> {
+    let language = Language::new()?;
+    let mut partials = Partials::new()?;
+    partials.insert("end", language.parse("{{ n | plus: 1 }}!")?)?;
+    let template = language.parse("{{ n }}{% render 'end', n: n %}{{ who }}")?;
+    let data = Data::from_json(r#"{"n": 3, "who": "Ada"}"#)?;
     let run = |number: u32| {
-        let template = template("{{ n }}").unwrap();
-        let data = Data::from_json(&format!("{{\"n\":{number}}}")).unwrap();
-        // what one thread made is rendered and freed by another
-        thread::spawn(move || {
-            let partials = Partials::new().unwrap();
-            (0..1000).all(|_| template.render(&data, &partials, 32).unwrap().text == number.to_string())
-        })
+        let mine = Data::from_json(&format!("{{\"n\":{number},\"who\":\"Bob\"}}")).unwrap();
+        let own = format!("{number}{}!Bob", number + 1);
+        let shows = |data: &Data, text: &str| template.render(data, &partials, 32).unwrap().text == text;
+        (0..500).all(|_| shows(&data, "34!Ada") && shows(&mine, &own))
     };
-    assert!([run(1), run(2)].into_iter().all(|started| started.join().unwrap()));
+    thread::scope(|threads| {
+        let all: Vec<_> = (0..8).map(|number| threads.spawn(move || run(number))).collect();
+        assert!(all.into_iter().all(|thread| thread.join().unwrap()));
+    });
+    // what was shared is changed again when the pages are rendered, and moves
+    partials.insert("end", template)?;
+    let page = language.parse("{% render 'end', n: 1, who: 'x' %}")?.render(&data, &partials, 1)?;
+    assert_eq!((page.text.as_str(), page.fault.map(|fault| fault.kind())), ("1", Some(Kind::TooDeep)));
+    Ok(())
+}
+
+#[test]
+fn paths_and_what_the_data_lack() -> Result<(), LiquidError> {
+    let language = Language::new()?;
+    let mut partials = Partials::new()?;
+    partials.insert("line", language.parse("{{ line.count }} of {{ line.tea }};")?)?;
+    let template = language.parse("{{ a.b }}{% if c %}c{% endif %}{% for line in lines %}{% render 'line', line: line %}{% endfor %}")?;
+    let paths = template.paths(&partials)?;
+    let wanted = ["a.b", "c?", "line.count", "line.tea", "lines[].count", "lines[].tea"];
+    assert_eq!(paths.texts(), wanted);
+    assert_eq!(format!("{paths:?}"), format!("{wanted:?}"));
+    let data = Data::from_json(r#"{"lines": [{"count": 2}, {"tea": "Assam"}]}"#)?;
+    assert_eq!(template.render(&data, &partials, 32)?.into_text().unwrap_err().kind(), Kind::UnknownVariable);
+    let completed = data.completed(&paths)?;
+    assert_eq!(template.render(&completed, &partials, 32)?.into_text()?, "2 of ; of Assam;");
+    assert_eq!(template.render(&Data::from_json(r#"{"a": null, "lines": []}"#)?.completed(&paths)?, &partials, 32)?.text, "");
+    Ok(())
+}
+
+#[test]
+fn partials_of_a_folder() -> Result<(), Box<dyn Error>> {
+    let room = std::env::temp_dir().join(format!("bikleinu-{}", std::process::id()));
+    std::fs::create_dir_all(room.join("parts"))?;
+    let files = [("a", "1"), ("a.liquid", "2"), ("b.html.liquid", "3"), ("parts/line.liquid", "{{ x }}"), (".hidden", "{% no"), ("c.d", "4")];
+    for (path, source) in files {
+        std::fs::write(room.join(path), source)?;
+    }
+    let language = Language::new()?;
+    let partials = Partials::from_folder(&room, &language)?;
+    let page = language.parse("{% include 'a' %}{% include 'a.liquid' %}{% include 'b.html' %}{% render 'parts/line', x: 7 %}{% render 'c' %}")?;
+    assert_eq!(page.render(&Data::none(), &partials, 32)?.into_text()?, "12374");
+    std::fs::write(room.join("c.d"), "\n{{ x | pope }}")?;
+    let fault = Partials::from_folder(&room, &language).unwrap_err().to_string();
+    assert!(fault.starts_with("c: UnknownFilter: line 2, column 8: "), "{fault}");
+    std::fs::remove_dir_all(&room)?;
+    assert!(Partials::from_folder(&room, &language).is_err());
+    Ok(())
 }

@@ -1,47 +1,17 @@
-//! The option `--filters`: the language and the filters of Jekyll's or Shopify's templates.
+//! The sets of filters: the language and the filters of Jekyll's or Shopify's templates.
 use crate::settings::{Site, shop};
 use crate::sources::Parts;
-use clap::Arg;
+use liquid_commands::FilterSet;
 use liquid_core::{Filter, HostFilters, Result};
 use liquid_filter_sets::{WhereExp, jekyll_language, shopify_language};
 use liquid_jekyll_host_filters::{JEKYLL_FILTERS, SiteFilter};
 use liquid_lib::{
-    Language, LimitedPage, Limits, Surroundings, language, render_hosted_page, render_page_within,
+    DEFAULT_DEPTH, Language, LimitedPage, Limits, Surroundings, language, render_hosted_page,
+    render_page_within,
 };
 use liquid_shopify_host_filters::{SHOPIFY_FILTERS, ShopifyFilter};
 use std::alloc::Global;
 use std::rc::Rc;
-
-/// How deep partials may be nested.
-const DEPTH: u32 = 32;
-
-/// The names of the sets.
-const NAMES: [&str; 2] = ["jekyll", "shopify"];
-
-/// A set of filters.
-#[derive(Clone, Copy)]
-pub enum FilterSet {
-    Jekyll,
-    Shopify,
-}
-
-/// The option.
-pub fn filters_option<'a>(alloc: Global) -> Arg<'a> {
-    Arg::new(alloc, "filters")
-        .long("filters")
-        .value_name("SET")
-        .value_parser(NAMES.as_slice())
-        .help("Reads templates as those of Jekyll or Shopify, with the filters that these call")
-}
-
-/// The set of a name, where one is given.
-pub fn filter_set(name: Option<&str>) -> Option<FilterSet> {
-    match name {
-        Some("jekyll") => Some(FilterSet::Jekyll),
-        Some("shopify") => Some(FilterSet::Shopify),
-        _ => None,
-    }
-}
 
 /// The language of templates that call filters of a set, or the standard one.
 pub fn language_with(alloc: Global, filters: Option<FilterSet>) -> Result<Language> {
@@ -66,7 +36,7 @@ pub fn page_with(
             alloc,
             &parts.template,
             &parts.partials,
-            DEPTH,
+            DEFAULT_DEPTH,
             &parts.data,
             limits,
         ),
@@ -105,7 +75,7 @@ fn hosted_page(
 ) -> Result<LimitedPage> {
     let around = Surroundings {
         partials: &parts.partials,
-        depth: DEPTH,
+        depth: DEFAULT_DEPTH,
         limits,
     };
     render_hosted_page(alloc, &parts.template, host, around, &parts.data)

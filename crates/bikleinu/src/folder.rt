@@ -1,7 +1,7 @@
 //! The files of a folder of partials.
 use crate::stop::Stop;
 use liquid_excerpts::Reason;
-use std::alloc::Global;
+use liquid_partial_names::joined_path;
 use std::fs::DirEntry;
 use std::{fs, io};
 
@@ -15,7 +15,7 @@ pub fn files_below(rt: &HostRuntime, folder: &str) -> Result<Vec<String>, Stop> 
         let Some(inner) = folders.pop() else {
             break;
         };
-        let path = joined(rt.alloc(), folder, inner.as_str())?;
+        let path = joined_path(rt.alloc(), folder, inner.as_str())?;
         let path = path.as_str().strip_suffix('/').unwrap_or(folder);
         if let Err(refused) = add_entries(rt, path, inner.as_str(), &mut files, &mut folders) {
             return Err(Stop::unread(rt.alloc(), path, Reason::from(refused.kind())));
@@ -23,14 +23,6 @@ pub fn files_below(rt: &HostRuntime, folder: &str) -> Result<Vec<String>, Stop> 
     }
     files.sort_unstable();
     Ok(files)
-}
-
-/// The path of what stands in a folder.
-pub fn joined(alloc: Global, folder: &str, inner: &str) -> Result<String, Stop> {
-    let mut path = String::from_str(alloc, folder.strip_suffix('/').unwrap_or(folder))?;
-    path.push('/')?;
-    path.push_str(inner)?;
-    Ok(path)
 }
 
 /// Adds the entries of one folder: its files, and the folders in it with a slash after.
@@ -61,13 +53,4 @@ fn add_entries(
 /// Whether an entry is a link to a folder.
 fn is_folder(rt: &HostRuntime, entry: &DirEntry) -> io::Result<bool> {
     Ok(entry.file_type()?.is_symlink() && fs::metadata(rt, entry.path())?.is_dir())
-}
-
-/// A name without the suffix of its last part, where it has one.
-pub fn without_suffix(name: &str) -> Option<&str> {
-    match name.rsplit_once('.') {
-        Some((stem, suffix)) if !suffix.contains('/') && !stem.is_empty() && !stem.ends_with('/') =>
-            Some(stem),
-        _ => None,
-    }
 }

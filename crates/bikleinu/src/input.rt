@@ -2,8 +2,9 @@
 use crate::stop::Stop;
 use liquid_excerpts::Reason;
 use std::alloc::Global;
+use std::fs::File;
+use std::io;
 use std::io::Read;
-use std::{fs, io};
 
 /// What a path is called in a message: `-` is standard input.
 pub fn called(path: &str) -> &str {
@@ -34,10 +35,15 @@ pub fn text_of(alloc: Global, path: &str, bytes: Vec<u8>) -> Result<String, Stop
 
 /// The bytes of the file at a path, or of standard input where the path is `-`.
 pub fn bytes_at(rt: &HostRuntime, path: &str) -> io::Result<Vec<u8>> {
-    if path != "-" {
-        return fs::read(rt, path);
+    if path == "-" {
+        let mut bytes = Vec::new(rt.alloc());
+        rt.reader().read_to_end(&mut bytes)?;
+        return Ok(bytes);
     }
-    let mut bytes = Vec::new(rt.alloc());
-    rt.reader().read_to_end(&mut bytes)?;
+    let mut file = File::open(rt, path)?;
+    let size = usize::try_from(file.metadata()?.len()).unwrap_or(0);
+    // a byte more than the system says, for the look whether the file ends there
+    let mut bytes = Vec::with_capacity(rt.alloc(), size.saturating_add(1))?;
+    file.read_to_end(&mut bytes)?;
     Ok(bytes)
 }

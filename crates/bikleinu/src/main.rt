@@ -3,7 +3,6 @@
 #![tactic(auto)]
 
 mod check;
-mod command;
 mod files;
 mod filters;
 mod folder;
@@ -19,19 +18,18 @@ mod records;
 mod render;
 mod report;
 mod rows;
-mod schema;
 mod settings;
 mod sources;
 mod stop;
 mod target;
 
-use crate::check::{check, check_call};
-use crate::command::{merge_call, program, render_call};
+use crate::check::{check, check_call, check_command};
 use crate::merge::merge;
-use crate::paths::{paths, paths_call};
+use crate::paths::paths;
 use crate::render::render;
 use crate::stop::Stop;
 use clap::error::ErrorKind;
+use liquid_commands::{merge_call, paths_call, program, render_call};
 use std::alloc::AllocError;
 use std::process::ExitCode;
 use std::{env, io};
@@ -49,7 +47,7 @@ fn main(rt: HostRuntime) -> ExitCode {
 /// Does what the command line asks.
 fn run(rt: &HostRuntime) -> Result<(), Stop> {
     let words = words_given(rt)?;
-    let command = program(rt.alloc())?;
+    let command = program(rt.alloc(), check_command(rt.alloc())?)?;
     let matches = match command.try_get_matches_from(words.as_slice()) {
         Ok(matches) => matches,
         Err(answer) => return answered(rt, &answer),

@@ -1,20 +1,18 @@
 //! The command `merge`.
-use crate::command::MergeCall;
+use crate::forms::form_of;
 use crate::input::called;
 use crate::progress::Progress;
-use crate::records::Records;
-use crate::rows::HeadFault;
+use crate::records::{HeadStop, Records};
 use crate::sources::{Parts, Sources, read_parts, read_pattern};
 use crate::stop::Stop;
 use crate::target::Target;
+use liquid_commands::{MergeCall, is_selected};
 use liquid_excerpts::Reason;
+use liquid_lib::DEFAULT_DEPTH;
 use liquid_records::{Job, Merge};
 use std::alloc::AllocError;
 use std::io::Read;
 use std::{fs, io};
-
-/// How deep partials may be nested.
-const DEPTH: u32 = 32;
 
 /// Writes the page of each record. A record's fault is printed, and stops no other.
 pub fn merge(rt: &HostRuntime, call: &MergeCall<'_>) -> Result<(), Stop> {
@@ -28,7 +26,7 @@ pub fn merge(rt: &HostRuntime, call: &MergeCall<'_>) -> Result<(), Stop> {
     let job = Job {
         template,
         partials,
-        depth: DEPTH,
+        depth: DEFAULT_DEPTH,
         shared: data,
     };
     let target = match call.out {
@@ -79,9 +77,9 @@ impl Run<'_> {
         }
         match Records::rows(self.rt.alloc(), reader) {
             Ok(records) => Ok(records),
-            Err(HeadFault::Memory) => Err(Stop::from(AllocError)),
-            Err(HeadFault::Unread(kind)) => Err(self.unread(kind)),
-            Err(fault) => {
+            Err(HeadStop::Memory) => Err(Stop::from(AllocError)),
+            Err(HeadStop::Unread(kind)) => Err(self.unread(kind)),
+            Err(HeadStop::Faulted(fault)) => {
                 let path = called(self.call.records);
                 let _ = eprintln!(self.rt; "error: {path}: {fault}");
                 Err(Stop::Faulted)
@@ -91,14 +89,15 @@ impl Run<'_> {
 
     /// Reads the next record that is asked for. Whether there is one.
     fn advance<R: Read + Drop>(&self, records: &mut Records<R>) -> Result<bool, Stop> {
+        let MergeCall { from, count, .. } = self.call;
         for _ in 0..u64::MAX {
             match records.advance() {
                 Ok(true) => {}
                 Ok(false) => return Ok(false),
                 Err(refused) => return Err(self.unread(refused.kind())),
             }
-            if let Some(before) = records.number().checked_sub(self.call.from) {
-                return Ok(before < self.call.count);
+            if records.number() >= *from {
+                return Ok(is_selected(records.number(), *from, *count));
             }
         }
         Ok(false)
@@ -112,7 +111,8 @@ impl Run<'_> {
         progress: &mut Progress,
     ) -> Result<Target<'r>, Stop> {
         let number = records.number();
-        let (target, outcome) = match records.facts(self.rt.alloc(), self.call.inputs.forms)? {
+        let form = form_of(self.call.inputs.forms);
+        let (target, outcome) = match records.facts(self.rt.alloc(), form)? {
             Ok(facts) => target.take(self.rt, self.call.separator, number as usize, facts)?,
             Err(report) => (target, Err(report)),
         };

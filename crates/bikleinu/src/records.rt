@@ -1,11 +1,11 @@
 //! The records of a merge, one after another.
-use crate::forms::Forms;
 use crate::lines::Lines;
 use crate::report::Report;
-use crate::rows::{HeadFault, Rows};
+pub use crate::rows::HeadStop;
+use crate::rows::Rows;
 use crate::stop::Stop;
-use clap::{Arg, ArgMatches};
 use liquid_core::{ErrorKind, Object};
+use liquid_data_forms::{DataForm, data_in_form, in_form};
 use liquid_records::Why;
 use std::alloc::{AllocError, Global};
 use std::io;
@@ -33,26 +33,6 @@ pub enum Facts<'r> {
     Data(Object),
 }
 
-/// How records may be written.
-const FORMATS: &[&str] = &["csv", "jsonl"];
-
-/// The option that says how the records are written.
-pub fn format_option<'a>(alloc: Global) -> Arg<'a> {
-    Arg::new(alloc, "records-format")
-        .long("records-format")
-        .value_name("FORMAT")
-        .value_parser(FORMATS)
-        .help("How RECORDS are written: by default csv where the name ends in .csv, else jsonl")
-}
-
-/// Whether the records of this path are in CSV.
-pub fn are_in_csv(given: &ArgMatches<'_>, path: &str) -> bool {
-    match given.get_str("records-format") {
-        Some(format) => format == "csv",
-        None => path.ends_with(".csv"),
-    }
-}
-
 impl<R: Read + Drop> Records<R> {
     /// The lines that a reader gives.
     pub fn lines(alloc: Global, reader: R) -> Result<Records<R>, AllocError> {
@@ -61,7 +41,7 @@ impl<R: Read + Drop> Records<R> {
     }
 
     /// The rows that a reader gives, after their head.
-    pub fn rows(alloc: Global, reader: R) -> Result<Records<R>, HeadFault> {
+    pub fn rows(alloc: Global, reader: R) -> Result<Records<R>, HeadStop> {
         let source = Source::Rows(Rows::new(alloc, reader)?);
         Ok(Records { source, number: 0 })
     }
@@ -92,24 +72,20 @@ impl<R: Read + Drop> Records<R> {
     }
 
     /// Its data, or why it has none.
-    pub fn facts(
-        &self,
-        alloc: Global,
-        forms: Forms<'_>,
-    ) -> Result<Result<Facts<'_>, Report>, Stop> {
+    pub fn facts(&self, alloc: Global, form: DataForm) -> Result<Result<Facts<'_>, Report>, Stop> {
         let data = match &self.source {
             Source::Lines(lines) => {
                 let Ok(text) = str::from_utf8(lines.line()) else {
                     return Ok(Err(Report::NotUtf8));
                 };
-                if forms.are_plain() {
+                if !form.decimals_as_texts && !form.dates {
                     return Ok(Ok(Facts::Text(text)));
                 }
-                forms.data_from(alloc, text)
+                data_in_form(alloc, text, form)
             }
             Source::Rows(rows) => match rows.data(alloc)? {
-                Ok(data) => forms.in_form(alloc, data),
-                Err(report) => return Ok(Err(report)),
+                Ok(data) => in_form(alloc, data, form),
+                Err(fault) => return Ok(Err(Report::NoRow(fault))),
             },
         };
         match data {

@@ -1,9 +1,9 @@
 //! The command `render`.
-use crate::command::RenderCall;
 use crate::filters::page_with;
 use crate::output::{print_text, put_file};
 use crate::sources::{Sources, read_parts};
 use crate::stop::Stop;
+use liquid_commands::RenderCall;
 use liquid_lib::{LimitReached, LimitedPage, Limits, Page};
 
 /// Writes the page of a template. A page that ends by a fault goes to standard output up to there,
@@ -11,14 +11,15 @@ use liquid_lib::{LimitReached, LimitedPage, Limits, Page};
 pub fn render(rt: &HostRuntime, call: &RenderCall<'_>) -> Result<(), Stop> {
     let mut parts = read_parts(rt, &call.inputs)?;
     parts.complete(rt.alloc(), call.missing)?;
-    let shown = page_with(rt.alloc(), call.inputs.filters, &parts, call.limits)?;
+    let limits = limits_of(call);
+    let shown = page_with(rt.alloc(), call.inputs.filters, &parts, limits)?;
     let LimitedPage { page, limit } = shown;
     let Page { text, fault } = page;
     if call.out.is_none() {
         print_text(rt, text.as_str())?;
     }
     if let Some(limit) = limit {
-        print_limit(rt, &parts.sources, limit, call.limits);
+        print_limit(rt, &parts.sources, limit, limits);
         return Err(Stop::Faulted);
     }
     if let Some(fault) = fault {
@@ -28,6 +29,13 @@ pub fn render(rt: &HostRuntime, call: &RenderCall<'_>) -> Result<(), Stop> {
     match call.out {
         Some(path) => put_page(rt, path, text.as_str()),
         None => Ok(()),
+    }
+}
+
+fn limits_of(call: &RenderCall<'_>) -> Limits {
+    Limits {
+        bytes: call.max_bytes,
+        turns: call.max_turns,
     }
 }
 

@@ -1,13 +1,15 @@
 //! A template and its partials with their sources, and what is printed of a fault in one of them.
-use crate::command::{DataFile, Inputs};
 use crate::filters::language_with;
-use crate::folder::{files_below, joined, without_suffix};
-use crate::forms::Forms;
+use crate::folder::files_below;
+use crate::forms::{data_of_file, with_time};
 use crate::input::{called, text_at};
 use crate::stop::Stop;
-use liquid_core::{Error, Location, Object, Origin, Value, store};
+use liquid_commands::{DataFile, Forms, Inputs};
+use liquid_core::{Error, Location, Object, Origin};
+use liquid_data_forms::with_named;
 use liquid_excerpts::{Excerpt, ShownPath};
-use liquid_lib::{Language, Partials, Template, language, parse};
+use liquid_lib::{Language, Partials, Template, language, parse_kept};
+use liquid_partial_names::{PartialNames, joined_path, named_file};
 use liquid_records::with_members;
 use std::alloc::Global;
 
@@ -23,8 +25,8 @@ pub struct Source {
 pub struct Sources {
     template: Source,
     partials: Vec<Source>,
-    /// The names of the partials, each with the place of its text. The later one of a name wins.
-    names: Vec<(String, usize)>,
+    /// The names of the partials, each with the place of its text.
+    names: PartialNames,
 }
 
 /// What pages are made of.
@@ -42,7 +44,7 @@ pub fn read_parts(rt: &HostRuntime, inputs: &Inputs<'_>) -> Result<Parts, Stop> 
     let mut sources = Sources {
         template: source_at(rt, inputs.template)?,
         partials: Vec::new(rt.alloc()),
-        names: Vec::new(rt.alloc()),
+        names: PartialNames::new(rt.alloc()),
     };
     let template = parsed(rt, &sources.template, &language)?;
     let data = read_data(rt, &inputs.data, inputs.forms)?;
@@ -67,7 +69,7 @@ fn source_at(rt: &HostRuntime, path: &str) -> Result<Source, Stop> {
 
 /// The template of a source. Its fault is printed.
 fn parsed(rt: &HostRuntime, source: &Source, language: &Language) -> Result<Template, Stop> {
-    match parse(rt.alloc(), source.text.as_str(), language) {
+    match parse_kept(rt.alloc(), source.text.as_str(), language) {
         Ok(template) => Ok(template),
         Err(fault) => {
             print_fault(rt, source.path.as_str(), &fault, Some(source.text.as_str()));
@@ -88,20 +90,12 @@ pub fn read_data(
         let more = data_at(rt, file.path, forms)?;
         data = added(rt.alloc(), data, file.name, more)?;
     }
-    forms.with_now(rt.alloc(), data)
+    with_time(rt.alloc(), data, forms)
 }
 
 fn added(alloc: Global, data: Object, name: Option<&str>, more: Object) -> Result<Object, Stop> {
     match name {
-        Some(name) => {
-            let mut data = data;
-            store(
-                &mut data,
-                String::from_str(alloc, name)?,
-                Value::Object(more),
-            )?;
-            Ok(data)
-        }
+        Some(name) => Ok(with_named(alloc, data, name, more)?),
         None => Ok(with_members(alloc, data, more)?),
     }
 }
@@ -109,7 +103,7 @@ fn added(alloc: Global, data: Object, name: Option<&str>, more: Object) -> Resul
 /// The data of one file. Its fault is printed.
 fn data_at(rt: &HostRuntime, path: &str, forms: Forms<'_>) -> Result<Object, Stop> {
     let text = text_at(rt, path)?;
-    match forms.data_from(rt.alloc(), text.as_str()) {
+    match data_of_file(rt.alloc(), path, text.as_str(), forms) {
         Ok(data) => Ok(data),
         Err(fault) => {
             print_fault(rt, called(path), &fault, Some(text.as_str()));
@@ -176,22 +170,17 @@ impl Sources {
         match &location.origin {
             Origin::Template => Some(self.template.text.as_str()),
             Origin::Data => None,
-            Origin::Partial(name) => match self.partial(name.as_str(), "") {
-                Some(text) => Some(text),
-                None => self.partial(name.as_str(), ".liquid"),
-            },
+            Origin::Partial(name) => self.partial(name.as_str()),
         }
     }
 
-    /// The last of the partials that have this name with this ending.
-    fn partial(&self, name: &str, ending: &str) -> Option<&str> {
-        let mut found = None;
-        for (known, place) in &self.names {
-            if known.as_str().strip_suffix(ending) == Some(name) {
-                found = self.partials.get(*place);
-            }
-        }
-        match found {
+    /// The text of a partial, or else of the one whose name has `.liquid` after this.
+    fn partial(&self, name: &str) -> Option<&str> {
+        let place = match self.names.place(name) {
+            Some(place) => place,
+            None => self.names.place_of_liquid(name)?,
+        };
+        match self.partials.get(place) {
             Some(source) => Some(source.text.as_str()),
             None => None,
         }
@@ -199,24 +188,17 @@ impl Sources {
 
     /// Reads the partials that a word names: NAME=FILE, or the files below a folder.
     fn add_partials(&mut self, rt: &HostRuntime, word: &str) -> Result<(), Stop> {
-        if let Some((name, path)) = word.split_once('=') {
+        if let Some((name, path)) = named_file(word) {
             let place = self.add_source(rt, path)?;
-            return self.add_name(rt.alloc(), name, place);
+            return Ok(self.names.add(rt.alloc(), name, place)?);
         }
-        let files = files_below(rt, word)?;
-        let first = self.partials.len();
-        for file in &files {
-            let path = joined(rt.alloc(), word, file.as_str())?;
+        let mut files = Vec::new(rt.alloc());
+        for file in files_below(rt, word)? {
+            let path = joined_path(rt.alloc(), word, file.as_str())?;
             let place = self.add_source(rt, path.as_str())?;
-            if let Some(stem) = without_suffix(file.as_str()) {
-                self.add_name(rt.alloc(), stem, place)?;
-            }
+            files.push((file, place))?;
         }
-        // so that a whole name wins against another one without its suffix
-        for (place, file) in files.iter().enumerate() {
-            self.add_name(rt.alloc(), file.as_str(), first.saturating_add(place))?;
-        }
-        Ok(())
+        Ok(self.names.add_folder(rt.alloc(), files.as_slice())?)
     }
 
     /// Reads a text, and gives its place.
@@ -226,15 +208,10 @@ impl Sources {
         Ok(place)
     }
 
-    fn add_name(&mut self, alloc: Global, name: &str, place: usize) -> Result<(), Stop> {
-        self.names.push((String::from_str(alloc, name)?, place))?;
-        Ok(())
-    }
-
     /// The templates of the partials by their names. The fault of one is printed.
     fn parse_partials(&self, rt: &HostRuntime, language: &Language) -> Result<Partials, Stop> {
         let mut partials = Partials::new(rt.alloc());
-        for (name, place) in &self.names {
+        for (name, place) in self.names.as_slice() {
             if let Some(source) = self.partials.get(*place) {
                 let template = parsed(rt, source, language)?;
                 partials.insert(String::from_str(rt.alloc(), name.as_str())?, template)?;

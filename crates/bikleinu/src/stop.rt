@@ -2,6 +2,7 @@
 ghost use Rattle.std.specs.Prelude.{◌≡◌};
 ghost use Rattle.bikleinu.specs.Stops.{status_of};
 
+use liquid_commands::WordFault;
 use liquid_core::Error;
 use liquid_excerpts::{Reason, ShownPath};
 use std::alloc::{AllocError, AllocFailed, Global};
@@ -94,6 +95,15 @@ impl fmt::Display for Stop {
 impl From<Error> for Stop {
     fn from(fault: Error) -> Stop {
         Stop::Fault(fault)
+    }
+}
+
+impl From<WordFault> for Stop {
+    fn from(fault: WordFault) -> Stop {
+        match fault {
+            WordFault::Wrong(told) => Stop::Usage(told),
+            WordFault::Memory => Stop::from(AllocError),
+        }
     }
 }
 

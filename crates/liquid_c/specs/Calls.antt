@@ -23,84 +23,87 @@ use Rattle.liquid_lib.specs.Standard.{IsStandard}
 use Rattle.liquid_json.specs.Json.{data_of}
 use Rattle.liquid_c.specs.Levels.{levels_in, no_levels, greater_of, most_levels}
 use Rattle.liquid_c.specs.Numbers.{number_of_refusal}
-use Rattle.liquid_c.specs.declared.held.Held.{Held}
-use Rattle.liquid_c.specs.declared.held.Held.TheVariants as held
+use Rattle.liquid_c.specs.declared.content.Content.{Content}
+use Rattle.liquid_c.specs.declared.content.Content.TheVariants as content
 use Rattle.liquid_c.specs.declared.levels.Levels.{Levels}
+use Rattle.liquid_c.specs.declared.held.Held.{Held}
+use Rattle.liquid_c.specs.declared.held.Held.TheVariants.{Own, Shared}
 use Rattle.liquid_c.specs.declared.refusal.Refusal.{Refusal}
-use Rattle.liquid_c.specs.declared.refusal.Refusal.TheVariants.{NoText, OtherHandle, TooManyLevels}
+use Rattle.liquid_c.specs.declared.refusal.Refusal.TheVariants.{SharedHandle, NoText, OtherHandle}
+use Rattle.liquid_c.specs.declared.refusal.Refusal.TheVariants.{TooManyLevels}
 
 -- the standard language, or memory ran out
-abbrev pub IsLanguage : Result Held Refusal → Type 0
-IsLanguage (Ok (held.Language l)) = IsStandard l
-IsLanguage (Ok (held.Fault e)) = e.kind ≡ Memory
+abbrev pub IsLanguage : Result Content Refusal → Type 0
+IsLanguage (Ok (content.Language l)) = IsStandard l
+IsLanguage (Ok (content.Fault e)) = e.kind ≡ Memory
 IsLanguage _ = ⊥
 
-abbrev pub AreNoPartials : Result Held Refusal → Type 0
-AreNoPartials (Ok (held.Partials p levels)) = (partials_of p ≡ []) × (levels ≡ no_levels)
+abbrev pub AreNoPartials : Result Content Refusal → Type 0
+AreNoPartials (Ok (content.Partials p levels)) = (partials_of p ≡ []) × (levels ≡ no_levels)
 AreNoPartials _ = ⊥
 
 -- R holds where the bytes are a text, and else the call can't be
-abbrev pub OfText : List ℕ → (Result Held Refusal → Type 0) → Result Held Refusal → Type 0
+abbrev pub OfText : List ℕ → (Result Content Refusal → Type 0) → Result Content Refusal → Type 0
 OfText bytes R answer = (IsUtf8 bytes × R answer) ⊎ ((IsUtf8 bytes → ⊥) × (answer ≡ Err NoText))
 
 -- the template that the source is, with the levels that it reaches; or why it is none: by a kind of
 -- a source, or since memory ran out
-abbrev pub Parses : Language → Text → Result Held Refusal → Type 0
-Parses l source (Ok (held.Template t levels)) =
+abbrev pub Parses : Language → Text → Result Content Refusal → Type 0
+Parses l source (Ok (content.Template t levels)) =
     IsOnlyTree l (tree_of t) source × (levels ≡ levels_in (list_of t))
-Parses l source (Ok (held.Fault e)) = MayRefuse e.kind ×
+Parses l source (Ok (content.Fault e)) = MayRefuse e.kind ×
     MatchBool (is_memory e.kind) ⊤ (HasNoTree l source)
 Parses l source _ = ⊥
 
-abbrev pub IsParse : Option Held → List ℕ → Result Held Refusal → Type 0
-IsParse (Some (held.Language l)) source answer = OfText source (Parses l source) answer
+abbrev pub IsParse : Option Content → List ℕ → Result Content Refusal → Type 0
+IsParse (Some (content.Language l)) source answer = OfText source (Parses l source) answer
 IsParse _ source answer = answer ≡ Err OtherHandle
 
 -- the data that the text of JSON gives, or why it gives none
-abbrev pub Reads : Text → Result Held Refusal → Type 0
-Reads source (Ok (held.Data d)) = data_of source ≡ Ok (pairs_view d.entries)
-Reads source (Ok (held.Fault e)) = Faulted e.kind (data_of source)
+abbrev pub Reads : Text → Result Content Refusal → Type 0
+Reads source (Ok (content.Data d)) = data_of source ≡ Ok (pairs_view d.entries)
+Reads source (Ok (content.Fault e)) = Faulted e.kind (data_of source)
 Reads source _ = ⊥
 
-abbrev pub IsData : List ℕ → Result Held Refusal → Type 0
+abbrev pub IsData : List ℕ → Result Content Refusal → Type 0
 IsData source answer = OfText source (Reads source) answer
 
 -- the data behind a handle, which is empty where the handle holds nothing
-abbrev pub facts_behind : Option Held → Option (Map Datum)
+abbrev pub facts_behind : Option Content → Option (Map Datum)
 facts_behind None = Some empty
-facts_behind (Some (held.Data d)) = Some (map_held d)
+facts_behind (Some (content.Data d)) = Some (map_held d)
 facts_behind (Some _) = None
 
 -- likewise the partials
-abbrev pub partials_behind : Option Held → Option (List (Text × Nodes))
+abbrev pub partials_behind : Option Content → Option (List (Text × Nodes))
 partials_behind None = Some []
-partials_behind (Some (held.Partials p levels)) = Some (partials_of p)
+partials_behind (Some (content.Partials p levels)) = Some (partials_of p)
 partials_behind (Some _) = None
 
 -- the most levels that one of them reaches by itself
-abbrev pub levels_behind : Option Held → Levels
-levels_behind (Some (held.Partials p levels)) = levels
+abbrev pub levels_behind : Option Content → Levels
+levels_behind (Some (content.Partials p levels)) = levels
 levels_behind _ = no_levels
 
 -- the page of these nodes, unless memory ran out
 abbrev pub Shows : Nodes → ℕ → Map Datum → List (Text × Nodes)
-    → Result Held Refusal → Type 0
-Shows nodes depth facts partials (Ok (held.Page p)) =
+    → Result Content Refusal → Type 0
+Shows nodes depth facts partials (Ok (content.Page p)) =
     page_view p ≡ page_over depth partials facts nodes
-Shows nodes depth facts partials (Ok (held.Fault e)) = e.kind ≡ Memory
+Shows nodes depth facts partials (Ok (content.Fault e)) = e.kind ≡ Memory
 Shows nodes depth facts partials _ = ⊥
 
 -- the same, or a beginning of its text where a limit ended it
 abbrev pub ShowsWithin : Nodes → ℕ → Map Datum → List (Text × Nodes)
-    → Result Held Refusal → Type 0
-ShowsWithin nodes depth facts partials (Ok (held.Ended p limit)) =
+    → Result Content Refusal → Type 0
+ShowsWithin nodes depth facts partials (Ok (content.Ended p limit)) =
     ((page_view p).fault ≡ Some Write)
     × Begins (page_view p).text (page_over depth partials facts nodes).text
 ShowsWithin nodes depth facts partials answer = Shows nodes depth facts partials answer
 
 -- R holds where data and partials are there, and else the call can't be
 abbrev pub OfBoth : Option (Map Datum) → Option (List (Text × Nodes))
-    → (Map Datum → List (Text × Nodes) → Result Held Refusal → Type 0) → Result Held Refusal →
+    → (Map Datum → List (Text × Nodes) → Result Content Refusal → Type 0) → Result Content Refusal →
     Type 0
 OfBoth (Some facts) (Some partials) R answer = R facts partials answer
 OfBoth None _ R answer = answer ≡ Err OtherHandle
@@ -108,7 +111,7 @@ OfBoth (Some facts) None R answer = answer ≡ Err OtherHandle
 
 -- a run that could reach too many levels isn't begun, and any other shows its page
 abbrev pub ShowsUnless : Bool → Bool → Nodes → ℕ → Map Datum → List (Text × Nodes)
-    → Result Held Refusal → Type 0
+    → Result Content Refusal → Type 0
 ShowsUnless is_deep is_limited nodes depth facts partials answer =
     MatchBool is_deep (answer ≡ Err TooManyLevels)
     (MatchBool is_limited
@@ -119,9 +122,9 @@ ShowsUnless is_deep is_limited nodes depth facts partials answer =
 abbrev pub has_limit : ℕ → ℕ → Bool
 has_limit bytes turns = not (nat_eq bytes 0 && nat_eq turns 0)
 
-abbrev pub IsRendering : ℕ → Bool → Option Held → Option Held → Option Held → ℕ
-    → Result Held Refusal → Type 0
-IsRendering bound is_limited (Some (held.Template t levels)) facts partials depth answer =
+abbrev pub IsRendering : ℕ → Bool → Option Content → Option Content → Option Content → ℕ
+    → Result Content Refusal → Type 0
+IsRendering bound is_limited (Some (content.Template t levels)) facts partials depth answer =
     OfBoth (facts_behind facts) (partials_behind partials)
     (ShowsUnless (nat_lt bound (most_levels depth levels (levels_behind partials)))
     is_limited (tree_of t) depth)
@@ -139,7 +142,8 @@ bound_of asked = if nat_eq asked 0 then usual_levels else asked
 
 -- the handle holds these partials, of which one reaches so many levels
 abbrev pub Holds : Option Held → List (Text × Nodes) → Levels → Type 0
-Holds (Some (held.Partials p most)) trees levels = (partials_of p ≡ trees) × (most ≡ levels)
+Holds (Some (Own (content.Partials p most))) trees levels =
+    (partials_of p ≡ trees) × (most ≡ levels)
 Holds _ trees levels = ⊥
 
 -- the template now stands among the partials, and its handle holds nothing;  memory ran out, and
@@ -155,8 +159,15 @@ pub data Puts (old : Partials) (most : Levels) (name : List ℕ) (t : Template) 
       Holds partials (partials_of old) most → template ≡ was →
       Puts old most name t levels number partials template was
 
+-- what is shared isn't changed, and doesn't move
 abbrev pub IsPut : Option Held → List ℕ → Option Held → ℕ → Option Held → Option Held → Type 0
-IsPut (Some (held.Partials p most)) name (Some (held.Template t levels)) number partials template =
-    Puts p most name t levels number partials template (Some (held.Template t levels))
+IsPut (Some (Own (content.Partials p most))) name (Some (Own (content.Template t levels))) number
+    partials template =
+    Puts p most name t levels number partials template (Some (Own (content.Template t levels)))
+IsPut (Some (Shared c)) name (Some was) number partials template =
+    (number ≡ number_of_refusal SharedHandle) × (partials ≡ Some (Shared c)) × (template ≡ Some was)
+IsPut (Some (Own (content.Partials p most))) name (Some (Shared c)) number partials template =
+    (number ≡ number_of_refusal SharedHandle)
+    × (partials ≡ Some (Own (content.Partials p most))) × (template ≡ Some (Shared c))
 IsPut old name was number partials template = (number ≡ number_of_refusal OtherHandle) ×
     (partials ≡ old) × (template ≡ was)

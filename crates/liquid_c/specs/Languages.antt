@@ -16,13 +16,15 @@ use Rattle.liquid_language.specs.declared.registered_filter.RegisteredFilter.The
 use Rattle.liquid_lib.specs.Standard.{standard_tags, standard_blocks, standard_filters}
 use Rattle.liquid_lib.specs.Standard.{with_filters}
 use Rattle.liquid_c.specs.Numbers.{number_of_refusal}
+use Rattle.liquid_c.specs.declared.content.Content.{Content}
+use Rattle.liquid_c.specs.declared.content.Content.TheVariants as content
 use Rattle.liquid_c.specs.declared.held.Held.{Held}
-use Rattle.liquid_c.specs.declared.held.Held.TheVariants as held
+use Rattle.liquid_c.specs.declared.held.Held.TheVariants.{Own, Shared}
 use Rattle.liquid_c.specs.declared.refusal.Refusal.{Refusal}
-use Rattle.liquid_c.specs.declared.refusal.Refusal.TheVariants.{NoText, OtherHandle}
+use Rattle.liquid_c.specs.declared.refusal.Refusal.TheVariants.{SharedHandle, NoText, OtherHandle}
 
 -- the standard language with Jekyll's `include` and `sort`
-pub record IsJekyll (l : Language) : Type 0 where
+pub record WithIncludeAndSort (l : Language) : Type 0 where
   pub tags : listed (kinds_of l.tags) ≡
       insert (bind_each standard_tags (listed [])) (codes "include") JekyllInclude
   pub blocks : listed (kinds_of l.blocks) ≡ bind_each standard_blocks (listed [])
@@ -31,10 +33,10 @@ pub record IsJekyll (l : Language) : Type 0 where
       (Kind (JekyllSort (record {})))
 
 -- that language, or memory ran out
-abbrev pub IsJekyllLanguage : Result Held Refusal → Type 0
-IsJekyllLanguage (Ok (held.Language l)) = IsJekyll l
-IsJekyllLanguage (Ok (held.Fault e)) = e.kind ≡ Memory
-IsJekyllLanguage _ = ⊥
+abbrev pub MakesIncludeAndSort : Result Content Refusal → Type 0
+MakesIncludeAndSort (Ok (content.Language l)) = WithIncludeAndSort l
+MakesIncludeAndSort (Ok (content.Fault e)) = e.kind ≡ Memory
+MakesIncludeAndSort _ = ⊥
 
 -- ---- a filter of the caller's
 
@@ -50,7 +52,7 @@ IsSameLanguage old new = (new.tags ≡ old.tags) × (new.blocks ≡ old.blocks)
     × (registered_in new.filters ≡ registered_in old.filters)
 
 abbrev pub HoldsLanguage : (Language → Type 0) → Option Held → Type 0
-HoldsLanguage P (Some (held.Language l)) = P l
+HoldsLanguage P (Some (Own (content.Language l))) = P l
 HoldsLanguage P _ = ⊥
 
 -- the filter stands in the language;  memory ran out, and nothing changed;  the name is no text
@@ -64,7 +66,9 @@ pub data Registers (old : Language) (name : List ℕ) (least most number : ℕ) 
       HoldsLanguage (IsSameLanguage old) left → Registers old name least most number left
 
 abbrev pub IsRegistration : Option Held → List ℕ → ℕ → ℕ → ℕ → Option Held → Type 0
-IsRegistration (Some (held.Language l)) name least most number left =
+IsRegistration (Some (Own (content.Language l))) name least most number left =
     Registers l name least most number left
+IsRegistration (Some (Shared c)) name least most number left =
+    (number ≡ number_of_refusal SharedHandle) × (left ≡ Some (Shared c))
 IsRegistration old name least most number left =
     (number ≡ number_of_refusal OtherHandle) × (left ≡ old)

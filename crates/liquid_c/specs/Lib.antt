@@ -1,3 +1,4 @@
+pub mod Asked
 pub mod Calls
 pub mod Hosted
 pub mod Languages
@@ -7,4 +8,5 @@ pub mod Numbers
 pub mod Owned
 pub mod Parts
 pub mod Settled
+pub mod Shared
 pub mod Tables

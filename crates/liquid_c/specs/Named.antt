@@ -13,8 +13,8 @@ use Rattle.liquid_evaluation.specs.Tree.{Nodes}
 use Rattle.liquid_syntax.specs.NameSets.{held as held_names}
 use Rattle.liquid_syntax.specs.Templates.{tree_of}
 use Rattle.liquid_c.specs.Calls.{partials_behind}
-use Rattle.liquid_c.specs.declared.held.Held.{Held}
-use Rattle.liquid_c.specs.declared.held.Held.TheVariants as held
+use Rattle.liquid_c.specs.declared.content.Content.{Content}
+use Rattle.liquid_c.specs.declared.content.Content.TheVariants as content
 use Rattle.liquid_c.specs.declared.refusal.Refusal.{Refusal}
 use Rattle.liquid_c.specs.declared.refusal.Refusal.TheVariants.{OtherHandle}
 
@@ -25,16 +25,16 @@ pub record AreNames (partials : List (Text × Nodes)) (nodes : Nodes) (it : Text
   pub text : it ≡ json_text (array (items_of (map (λ n. text (string_bytes n)) (keys names))))
 
 -- these names, or memory ran out
-abbrev pub TellsNames : List (Text × Nodes) → Nodes → Result Held Refusal → Type 0
-TellsNames partials nodes (Ok (held.Names it)) = AreNames partials nodes (string_bytes it)
-TellsNames partials nodes (Ok (held.Fault e)) = e.kind ≡ Memory
+abbrev pub TellsNames : List (Text × Nodes) → Nodes → Result Content Refusal → Type 0
+TellsNames partials nodes (Ok (content.Names it)) = AreNames partials nodes (string_bytes it)
+TellsNames partials nodes (Ok (content.Fault e)) = e.kind ≡ Memory
 TellsNames partials nodes _ = ⊥
 
-abbrev pub OfPartials : Option (List (Text × Nodes)) → Nodes → Result Held Refusal → Type 0
+abbrev pub OfPartials : Option (List (Text × Nodes)) → Nodes → Result Content Refusal → Type 0
 OfPartials (Some partials) nodes answer = TellsNames partials nodes answer
 OfPartials None nodes answer = answer ≡ Err OtherHandle
 
-abbrev pub IsNames : Option Held → Option Held → Result Held Refusal → Type 0
-IsNames (Some (held.Template t levels)) partials answer =
+abbrev pub IsNames : Option Content → Option Content → Result Content Refusal → Type 0
+IsNames (Some (content.Template t levels)) partials answer =
     OfPartials (partials_behind partials) (tree_of t) answer
 IsNames _ partials answer = answer ≡ Err OtherHandle

@@ -5,17 +5,17 @@ use Rattle.liquid_model.specs.ErrorKinds.{number_of}
 use Rattle.liquid_model.specs.declared.error.Error.{Error}
 use Rattle.liquid_lib.specs.declared.limits.LimitReached.{LimitReached}
 use Rattle.liquid_lib.specs.declared.limits.LimitReached.TheVariants.{Bytes, Turns}
-use Rattle.liquid_c.specs.declared.held.Held.{Held}
-use Rattle.liquid_c.specs.declared.held.Held.TheVariants as held
+use Rattle.liquid_c.specs.declared.content.Content.{Content}
+use Rattle.liquid_c.specs.declared.content.Content.TheVariants as content
 use Rattle.liquid_c.specs.declared.refusal.Refusal.{Refusal}
 use Rattle.liquid_c.specs.declared.refusal.Refusal.TheVariants.{NoText, OtherHandle, TooManyLevels}
-use Rattle.liquid_c.specs.declared.refusal.Refusal.TheVariants.{NoSuchCall}
+use Rattle.liquid_c.specs.declared.refusal.Refusal.TheVariants.{SharedHandle, NoSuchCall}
 
 -- the fault, also that of a page
-abbrev pub fault_behind : Held → Option Error
-fault_behind (held.Page p) = p.fault
-fault_behind (held.Ended p limit) = p.fault
-fault_behind (held.Fault e) = Some e
+abbrev pub fault_behind : Content → Option Error
+fault_behind (content.Page p) = p.fault
+fault_behind (content.Ended p limit) = p.fault
+fault_behind (content.Fault e) = Some e
 fault_behind _ = None
 
 abbrev pub number_of_fault : Option Error → ℕ
@@ -27,23 +27,25 @@ number_of_limit Bytes = 104
 number_of_limit Turns = 105
 
 -- 0, or the number of the limit that ended a page, of lacking answers, or of the fault's kind
-abbrev pub number_of_held : Held → ℕ
-number_of_held (held.Ended p limit) = number_of_limit limit
-number_of_held (held.Lacking calls) = 106
-number_of_held h = number_of_fault (fault_behind h)
+abbrev pub number_of_content : Content → ℕ
+number_of_content (content.Ended p limit) = number_of_limit limit
+number_of_content (content.Lacking calls) = 106
+number_of_content c = number_of_fault (fault_behind c)
 
--- the text of a page, or of calls or names in JSON
-abbrev pub text_behind : Held → Text
-text_behind (held.Page p) = string_bytes p.text
-text_behind (held.Ended p limit) = string_bytes p.text
-text_behind (held.Lacking calls) = string_bytes calls.text
-text_behind (held.Names names) = string_bytes names
+-- the text of a page, or of calls, names or paths in JSON
+abbrev pub text_behind : Content → Text
+text_behind (content.Page p) = string_bytes p.text
+text_behind (content.Ended p limit) = string_bytes p.text
+text_behind (content.Lacking calls) = string_bytes calls.text
+text_behind (content.Names names) = string_bytes names
+text_behind (content.Paths uses paths) = string_bytes paths
 text_behind _ = []
 
 -- a call that can't be: bytes that are no UTF-8, a handle of another kind, a run that could reach
--- too many levels, and no call of the number
+-- too many levels, no call of the number, and a change of what is shared
 abbrev pub number_of_refusal : Refusal → ℕ
 number_of_refusal NoText = 101
 number_of_refusal OtherHandle = 102
 number_of_refusal TooManyLevels = 103
 number_of_refusal NoSuchCall = 107
+number_of_refusal SharedHandle = 108

@@ -10,7 +10,7 @@ use Rattle.liquid_model.specs.declared.location.Location.{Location}
 use Rattle.liquid_model.specs.declared.location.Origin.{Origin}
 use Rattle.liquid_model.specs.declared.location.Origin.TheVariants.{Template, Partial, Data}
 use Rattle.liquid_c.specs.Numbers.{fault_behind, text_behind}
-use Rattle.liquid_c.specs.declared.held.Held.{Held}
+use Rattle.liquid_c.specs.declared.content.Content.{Content}
 
 abbrev pub message_bytes : Option (String Global) → Text
 message_bytes None = []
@@ -36,10 +36,10 @@ abbrev pub part_of_faults : ℕ → Option Error → Text
 part_of_faults part None = []
 part_of_faults part (Some e) = part_of_fault part e
 
-abbrev pub part_behind : ℕ → Held → Text
+abbrev pub part_behind : ℕ → Content → Text
 part_behind part h = if nat_eq part 0 then text_behind h else part_of_faults part (fault_behind h)
 
-abbrev pub part_in : ℕ → Option Held → Text
+abbrev pub part_in : ℕ → Option Content → Text
 part_in part None = []
 part_in part (Some h) = part_behind part h
 
@@ -49,7 +49,7 @@ abbrev pub location_of_faults : Option Error → Option Location
 location_of_faults None = None
 location_of_faults (Some e) = location_of_fault e
 
-abbrev pub location_in : Option Held → Option Location
+abbrev pub location_in : Option Content → Option Location
 location_in None = None
 location_in (Some h) = location_of_faults (fault_behind h)
 

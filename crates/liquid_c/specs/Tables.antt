@@ -18,21 +18,23 @@ use Rattle.liquid_answers.specs.Tables.{IsPut, answer_at, names_of, said_by, wit
 use Rattle.liquid_answers.specs.declared.answers.Answer.{Answer}
 use Rattle.liquid_answers.specs.declared.answers.Answers.{Answers}
 use Rattle.liquid_c.specs.Numbers.{number_of_refusal}
+use Rattle.liquid_c.specs.declared.content.Content.{Content}
+use Rattle.liquid_c.specs.declared.content.Content.TheVariants as content
 use Rattle.liquid_c.specs.declared.held.Held.{Held}
-use Rattle.liquid_c.specs.declared.held.Held.TheVariants as held
+use Rattle.liquid_c.specs.declared.held.Held.TheVariants.{Own, Shared}
 use Rattle.liquid_c.specs.declared.refusal.Refusal.{Refusal}
 use Rattle.liquid_c.specs.declared.refusal.Refusal.TheVariants.{NoSuchCall}
-use Rattle.liquid_c.specs.declared.refusal.Refusal.TheVariants.{NoText, OtherHandle}
+use Rattle.liquid_c.specs.declared.refusal.Refusal.TheVariants.{SharedHandle, NoText, OtherHandle}
 
 -- a table without names and answers
-abbrev pub IsNewTable : Result Held Refusal → Type 0
-IsNewTable (Ok (held.Answers table)) = (names_of table ≡ []) ×
+abbrev pub IsNewTable : Result Content Refusal → Type 0
+IsNewTable (Ok (content.Answers table)) = (names_of table ≡ []) ×
     ((call : Datum) → answer_at table call ≡ None)
 IsNewTable _ = ⊥
 
 -- the table behind the handle is such a one
 abbrev pub HoldsTable : (Answers → Type 0) → Option Held → Type 0
-HoldsTable P (Some (held.Answers table)) = P table
+HoldsTable P (Some (Own (content.Answers table))) = P table
 HoldsTable P _ = ⊥
 
 -- the names and the answers are the old ones
@@ -55,22 +57,24 @@ HasName name old new = (names_of new ≡ with_name name (names_of old))
     × ((call : Datum) → answer_at new call ≡ answer_at old call)
 
 abbrev pub IsNaming : Option Held → List ℕ → ℕ → Option Held → Type 0
-IsNaming (Some (held.Answers table)) name number left =
+IsNaming (Some (Own (content.Answers table))) name number left =
     (IsUtf8 name × Changes (HasName name) table number left)
     ⊎ ((IsUtf8 name → ⊥) × (number ≡ number_of_refusal NoText)
     × HoldsTable (IsSameTable table) left)
+IsNaming (Some (Shared c)) name number left =
+    (number ≡ number_of_refusal SharedHandle) × (left ≡ Some (Shared c))
 IsNaming old name number left = (number ≡ number_of_refusal OtherHandle) × (left ≡ old)
 
 -- ---- answers
 
 -- how many calls a handle holds
-abbrev pub calls_behind : Option Held → ℕ
-calls_behind (Some (held.Lacking it)) = length (calls_in it)
+abbrev pub calls_behind : Option Content → ℕ
+calls_behind (Some (content.Lacking it)) = length (calls_in it)
 calls_behind _ = 0
 
 -- the call of this number, or why there is none
-abbrev pub call_behind : ℕ → Option Held → Result Datum Refusal
-call_behind number (Some (held.Lacking it)) =
+abbrev pub call_behind : ℕ → Option Content → Result Datum Refusal
+call_behind number (Some (content.Lacking it)) =
     ok_or (option_map view (slice_get (calls_in it) number)) NoSuchCall
 call_behind number _ = Err OtherHandle
 
@@ -83,8 +87,8 @@ abbrev pub answer_among : Outer → Datum
 answer_among facts = or_nil (value_at (codes "answer") (pairs_view facts.entries))
 
 -- the answer that data hold
-abbrev pub answer_behind : Option Held → Result (Result Datum ErrorKind) Refusal
-answer_behind (Some (held.Data d)) = Ok (Ok (answer_among d))
+abbrev pub answer_behind : Option Content → Result (Result Datum ErrorKind) Refusal
+answer_behind (Some (content.Data d)) = Ok (Ok (answer_among d))
 answer_behind _ = Err OtherHandle
 
 -- the kind of this number among these, or `InvalidInput`
@@ -108,8 +112,10 @@ abbrev pub IsAnswering : Option Held → Result Datum Refusal
     → Result (Result Datum ErrorKind) Refusal → ℕ → Option Held → Type 0
 IsAnswering old (Err r) answer number left = (number ≡ number_of_refusal r) × (left ≡ old)
 IsAnswering old (Ok call) (Err r) number left = (number ≡ number_of_refusal r) × (left ≡ old)
-IsAnswering (Some (held.Answers table)) (Ok call) (Ok said) number left =
+IsAnswering (Some (Own (content.Answers table))) (Ok call) (Ok said) number left =
     Changes (Says call said) table number left
+IsAnswering (Some (Shared c)) (Ok call) (Ok said) number left =
+    (number ≡ number_of_refusal SharedHandle) × (left ≡ Some (Shared c))
 IsAnswering old (Ok call) (Ok said) number left =
     (number ≡ number_of_refusal OtherHandle) × (left ≡ old)
 

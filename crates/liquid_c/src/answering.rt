@@ -9,9 +9,12 @@ ghost use Rattle.liquid_answers.specs.Tables.{said_by};
 ghost use Rattle.liquid_c.specs.Tables.{Changes, Given, IsAnswering, IsRefusing, Says};
 ghost use Rattle.liquid_c.specs.Tables.{answer_among, answer_behind, call_behind, calls_behind};
 ghost use Rattle.liquid_c.specs.Tables.{kind_among, kinds_of_runs};
-ghost use Rattle.liquid_c.specs.declared.held.Held.TheVariants as held;
+ghost use Rattle.liquid_c.specs.Shared.{Regaining, behind};
+ghost use Rattle.liquid_c.specs.declared.content.Content.TheVariants as content;
+ghost use Rattle.liquid_c.specs.declared.held.Held.TheVariants.{Own};
 ghost use Rattle.liquid_c.specs.declared.refusal.Refusal.{Refusal};
 
+use crate::content::Content;
 use crate::handle::Handle;
 use crate::held::{Held, seen};
 use crate::refusal::Refusal;
@@ -42,7 +45,7 @@ const KINDS: [ErrorKind; 16] = [
 /// How many calls a handle holds; 0 where it holds something else.
 #[unsafe(no_mangle)]
 pub extern "C" fn bikleinu_calls(alloc: Global, calls: &mut Handle) -> usize
-    ensures count { result ≡ calls_behind calls.old.held }
+    ensures count { result ≡ calls_behind (behind calls.old.held) }
     ensures same { calls.new.held ≡ calls.old.held }
 {
     let held = calls.take(alloc);
@@ -51,11 +54,11 @@ pub extern "C" fn bikleinu_calls(alloc: Global, calls: &mut Handle) -> usize
     count
 }
 
-fn count_seen(held: Option<&Held>) -> usize
+fn count_seen(held: Option<&Content>) -> usize
     ensures { result ≡ calls_behind (option_map (λ h. h.now) held.entry) }
 {
     match held {
-        Some(Held::Lacking(calls)) => calls.len(),
+        Some(Content::Lacking(calls)) => calls.len(),
         _ => 0,
     }
 }
@@ -70,12 +73,13 @@ pub extern "C" fn bikleinu_answer(
     number: usize,
     facts: &mut Handle,
 ) -> u32
-    ensures answered { IsAnswering answers.old.held (call_behind number calls.old.held)
-        (answer_behind facts.old.held) result answers.new.held }
+    ensures answered { Regaining (λ was. IsAnswering was
+        (call_behind number (behind calls.old.held)) (answer_behind (behind facts.old.held))
+        result answers.new.held) answers.old.held }
     ensures calls { calls.new.held ≡ calls.old.held }
     ensures facts { facts.new.held ≡ facts.old.held }
 {
-    let mut held = answers.take(alloc);
+    let mut held = answers.take_to_change(alloc);
     let held_calls = calls.take(alloc);
     let held_facts = facts.take(alloc);
     let call = call_seen(seen(&held_calls), number);
@@ -99,29 +103,46 @@ pub extern "C" fn bikleinu_refuse(
     kind: u32,
     message: &[u8],
 ) -> u32
-    ensures answered { IsRefusing answers.old.held (call_behind number calls.old.held) kind
-        message.now result answers.new.held }
+    ensures answered { Regaining (λ was. IsRefusing was
+        (call_behind number (behind calls.old.held)) kind message.now
+        result answers.new.held) answers.old.held }
     ensures calls { calls.new.held ≡ calls.old.held }
 {
-    let mut held = answers.take(alloc);
+    let mut held = answers.take_to_change(alloc);
     let held_calls = calls.take(alloc);
     let call = call_seen(seen(&held_calls), number);
-    let status = match str::from_utf8(message) {
-        Ok(message) => put(alloc, &mut held, call, Ok(fault_of(alloc, kind, message))),
-        Err(_) => put(alloc, &mut held, call, Err(Refusal::NoText)),
-    };
+    let status = refuse(alloc, &mut held, call, kind, message);
     answers.put(alloc, held);
     calls.put(alloc, held_calls);
     status
 }
 
+/// Puts a fault as the answer to a call into the table behind a handle, where its message is a
+/// text.
+fn refuse(
+    alloc: Global,
+    held: &mut Option<Box<Held>>,
+    call: Result<&Value, Refusal>,
+    kind: u32,
+    message: &[u8],
+) -> u32
+    ensures { IsRefusing (option_map (λ b. b.value) held.old)
+        (result_map_both (λ c. view c.now) (λ r. r) call.entry) kind message.now result
+        (option_map (λ b. b.value) held.new) }
+{
+    match str::from_utf8(message) {
+        Ok(message) => put(alloc, held, call, Ok(fault_of(alloc, kind, message))),
+        Err(_) => put(alloc, held, call, Err(Refusal::NoText)),
+    }
+}
+
 /// The call of a number behind a handle.
-fn call_seen(held: Option<&Held>, number: usize) -> Result<&Value, Refusal>
+fn call_seen(held: Option<&Content>, number: usize) -> Result<&Value, Refusal>
     ensures { result_map_both (λ c. view c.now) (λ r. r) result ≡
         call_behind number (option_map (λ h. h.now) held.entry) }
 {
     match held {
-        Some(Held::Lacking(calls)) => match calls.get(number) {
+        Some(Content::Lacking(calls)) => match calls.get(number) {
             Some(call) => Ok(call),
             None => Err(Refusal::NoSuchCall),
         },
@@ -130,11 +151,11 @@ fn call_seen(held: Option<&Held>, number: usize) -> Result<&Value, Refusal>
 }
 
 /// The answer that the data behind a handle have, or none where there is no room for it.
-fn answer_seen(alloc: Global, held: Option<&Held>) -> Result<Option<Answer>, Refusal>
+fn answer_seen(alloc: Global, held: Option<&Content>) -> Result<Option<Answer>, Refusal>
     ensures { Given result (answer_behind (option_map (λ h. h.now) held.entry)) }
 {
     match held {
-        Some(Held::Data(facts)) => Ok(answer_in(alloc, facts)),
+        Some(Content::Data(facts)) => Ok(answer_in(alloc, facts)),
         _ => Err(Refusal::OtherHandle),
     }
 }
@@ -195,7 +216,8 @@ fn put(
     };
     match held {
         Some(held) => match &mut **held {
-            Held::Answers(table) => put_answer(alloc, table, call, answer),
+            Held::Own(Content::Answers(table)) => put_answer(alloc, table, call, answer),
+            Held::Shared(_) => Refusal::SharedHandle.number(),
             _ => Refusal::OtherHandle.number(),
         },
         None => Refusal::OtherHandle.number(),
@@ -205,7 +227,7 @@ fn put(
 fn put_answer(alloc: Global, table: &mut Answers, call: &Value, answer: Option<Answer>) -> u32
     ensures { (said : Answered Datum ErrorKind) → MatchOption answer ⊤ (λ a. said_by a ≡ said) →
         Changes (Says (view call.now) said) table.old result
-        (Some (held.Answers table.new)) }
+        (Some (Own (content.Answers table.new))) }
 {
     let Some(answer) = answer else {
         return u32::from(ErrorKind::Memory.number());

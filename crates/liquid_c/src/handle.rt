@@ -2,9 +2,10 @@
 ghost use Rattle.std.specs.Prelude.{◌≡◌, Option, Some, None, option_map};
 ghost use Rattle.std.specs.Coded.{coded_option};
 ghost use Rattle.liquid_c.specs.Owned.{held_code, owned};
+ghost use Rattle.liquid_c.specs.Shared.{Regained};
 ghost use Rattle.liquid_c.specs.declared.held.Held.{Held};
 
-use crate::held::Held;
+use crate::held::{Held, regain};
 use crate::kept::Kept;
 use std::alloc::Global;
 use std::marker::Model;
@@ -83,6 +84,17 @@ impl Handle {
         ensures left { self.new.held ≡ None }
     {
         mem::replace(self, Handle::none(alloc)).into_box()
+    }
+
+    /// The same for a call that changes it: what was shared is the handle's own again, where no
+    /// other handle has it any more.
+    pub(crate) fn take_to_change(&mut self, alloc: Global) -> Option<Box<Held>>
+        ensures taken { Regained self.old.held (option_map (λ b. b.value) result) }
+        ensures left { self.new.held ≡ None }
+    {
+        let mut held = self.take(alloc);
+        regain(alloc, &mut held);
+        held
     }
 
     /// Puts in what the handle is to hold. It takes no memory.

@@ -1,97 +1,66 @@
 //! What lies behind a handle.
 ghost use Rattle.std.specs.Prelude.{◌≡◌, option_map};
-ghost use Rattle.liquid_c.specs.Numbers.{fault_behind, text_behind};
-ghost use Rattle.liquid_c.specs.Numbers.{number_of_fault, number_of_held, number_of_limit};
+ghost use Rattle.liquid_c.specs.Shared.{IsRegained, Regained, behind, content_of};
 
-use crate::levels::Levels;
-use liquid_answers::{Answers, Lacking};
-use liquid_core::{Error, Object};
-use liquid_lib::{Language, LimitReached, Page, Partials, Template};
+use crate::content::Content;
+use std::alloc::Global;
+use std::mem;
+use std::sync::Arc;
 
 /// What lies behind a handle.
 #[derive(Drop)]
 pub enum Held {
-    Language(Language),
-    /// With the levels that it reaches by itself.
-    Template(Template, Levels),
-    /// With the most that the templates reach which were ever put among them.
-    Partials(Partials, Levels),
-    Data(Object),
-    Page(Page),
-    /// A page that a limit of the caller's ended.
-    Ended(Page, LimitReached),
-    /// Answers to calls of the caller's filters.
-    Answers(Answers),
-    /// Calls that such a table lacks, in place of a page.
-    Lacking(Lacking),
-    /// Names, as a list of texts in JSON.
-    Names(String),
-    /// Why there is none of these.
-    Fault(Error),
+    /// What no other handle has.
+    Own(Content),
+    /// What other handles may have too, which therefore doesn't change.
+    Shared(Arc<Content>),
 }
 
 impl Held {
-    /// 0, or the number of the limit that ended a page, of lacking answers, or of the fault's kind.
-    pub(crate) fn number(&self) -> u32
-        ensures { result ≡ number_of_held self.now }
+    /// What a call made.
+    pub(crate) fn content(&self) -> &Content
+        ensures { result.now ≡ content_of self.now }
     {
         match self {
-            Held::Ended(_, limit) => limit_number(*limit),
-            Held::Lacking(_) => 106,
-            _ => fault_number(self.fault()),
-        }
-    }
-
-    /// The text of a page, or of calls or names in JSON.
-    pub(crate) fn text(&self) -> &str
-        ensures { result.now ≡ text_behind self.now }
-    {
-        match self {
-            Held::Page(page) => page.text.as_str(),
-            Held::Ended(page, _) => page.text.as_str(),
-            Held::Lacking(calls) => calls.text(),
-            Held::Names(text) => text.as_str(),
-            _ => "",
-        }
-    }
-
-    /// The fault, also that of a page.
-    pub(crate) fn fault(&self) -> Option<&Error>
-        ensures { option_map (λ e. e.now) result ≡ fault_behind self.now }
-    {
-        match self {
-            Held::Page(page) => page.fault.as_ref(),
-            Held::Ended(page, _) => page.fault.as_ref(),
-            Held::Fault(fault) => Some(fault),
-            _ => None,
+            Held::Own(content) => content,
+            Held::Shared(content) => &**content,
         }
     }
 }
 
-fn fault_number(fault: Option<&Error>) -> u32
-    ensures { result ≡ number_of_fault (option_map (λ e. e.now) fault.entry) }
+/// Something for the moment in which what is behind a handle is taken out. It takes no memory.
+pub(crate) fn blank(alloc: Global) -> Held {
+    Held::Own(Content::Names(String::new(alloc)))
+}
+
+/// What was shared is its own again, where no other handle has it any more.
+pub(crate) fn regain(alloc: Global, held: &mut Option<Box<Held>>)
+    ensures { Regained (option_map (λ b. b.value) held.old) (option_map (λ b. b.value) held.new) }
 {
-    match fault {
-        Some(fault) => u32::from(fault.kind.number()),
-        None => 0,
+    if let Some(held) = held {
+        let was = mem::replace(&mut **held, blank(alloc));
+        **held = regained(was);
     }
 }
 
-fn limit_number(limit: LimitReached) -> u32
-    ensures { result ≡ number_of_limit limit }
+fn regained(held: Held) -> Held
+    ensures { IsRegained held result }
 {
-    match limit {
-        LimitReached::Bytes => 104,
-        LimitReached::Turns => 105,
+    match held {
+        Held::Own(content) => Held::Own(content),
+        Held::Shared(content) => match Arc::try_unwrap(content) {
+            Ok(content) => Held::Own(content),
+            Err(content) => Held::Shared(content),
+        },
     }
 }
 
 /// What an owner of a box, or of none, holds.
-pub(crate) fn seen(held: &Option<Box<Held>>) -> Option<&Held>
-    ensures { option_map (λ h. h.now) result ≡ option_map (λ b. b.value) held.now }
+pub(crate) fn seen(held: &Option<Box<Held>>) -> Option<&Content>
+    ensures { option_map (λ c. c.now) result ≡ behind (option_map (λ b. b.value) held.now) }
 {
     match held {
-        Some(held) => Some(&**held),
+        Some(held) => Some(held.content()),
         None => None,
     }
 }

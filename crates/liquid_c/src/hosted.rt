@@ -5,9 +5,11 @@ ghost use Rattle.liquid_syntax.specs.Templates.{partials_of, tree_of};
 ghost use Rattle.liquid_c.specs.Calls.{OfBoth, bound_of};
 ghost use Rattle.liquid_c.specs.Hosted.{IsHosted, ShowsAnswered, ShowsUnlessDeep};
 ghost use Rattle.liquid_c.specs.Settled.{Settled};
+ghost use Rattle.liquid_c.specs.Shared.{behind};
 
+use crate::content::Content;
 use crate::handle::Handle;
-use crate::held::{Held, seen};
+use crate::held::seen;
 use crate::refusal::{Refusal, settle};
 use crate::render::{
     Allowed, Limits, allowed_by, empty_facts, facts_held, levels_held, limits_of, partials_held,
@@ -31,8 +33,9 @@ pub extern "C" fn bikleinu_render_with(
     answers: &mut Handle,
     made: &mut Handle,
 ) -> u32
-    ensures rendered { Settled (IsHosted (bound_of limits.now.levels) template.old.held
-        facts.old.held partials.old.held depth answers.old.held) result made.new.held }
+    ensures rendered { Settled (IsHosted (bound_of limits.now.levels) (behind template.old.held)
+        (behind facts.old.held) (behind partials.old.held) depth (behind answers.old.held))
+        result made.new.held }
     ensures template { template.new.held ≡ template.old.held }
     ensures facts { facts.new.held ≡ facts.old.held }
     ensures partials { partials.new.held ≡ partials.old.held }
@@ -63,13 +66,13 @@ pub extern "C" fn bikleinu_render_with(
 /// What lies behind the handles of a call.
 #[derive(Clone, Copy, Drop)]
 struct Lent<'h> {
-    template: Option<&'h Held>,
-    facts: Option<&'h Held>,
-    partials: Option<&'h Held>,
-    answers: Option<&'h Held>,
+    template: Option<&'h Content>,
+    facts: Option<&'h Content>,
+    partials: Option<&'h Content>,
+    answers: Option<&'h Content>,
 }
 
-fn page(alloc: Global, lent: Lent<'_>, allowed: Allowed) -> Result<Held, Refusal>
+fn page(alloc: Global, lent: Lent<'_>, allowed: Allowed) -> Result<Content, Refusal>
     ensures { IsHosted allowed.levels
         (option_map (λ h. h.now) lent.entry.template)
         (option_map (λ h. h.now) lent.entry.facts)
@@ -77,10 +80,10 @@ fn page(alloc: Global, lent: Lent<'_>, allowed: Allowed) -> Result<Held, Refusal
         allowed.depth
         (option_map (λ h. h.now) lent.entry.answers) result }
 {
-    let Some(Held::Template(template, levels)) = lent.template else {
+    let Some(Content::Template(template, levels)) = lent.template else {
         return Err(Refusal::OtherHandle);
     };
-    let Some(Held::Answers(table)) = lent.answers else {
+    let Some(Content::Answers(table)) = lent.answers else {
         return Err(Refusal::OtherHandle);
     };
     let no_facts = empty_facts(alloc);
@@ -111,7 +114,7 @@ fn shown(
     facts: Option<&Object>,
     partials: Option<&Partials>,
     allowed: Allowed,
-) -> Result<Held, Refusal>
+) -> Result<Content, Refusal>
     ensures { OfBoth
         (option_map (λ d. map_held d.now) facts.entry)
         (option_map (λ p. partials_of p.now) partials.entry)
@@ -137,7 +140,7 @@ fn answered(
     facts: &Object,
     partials: &Partials,
     allowed: Allowed,
-) -> Held
+) -> Content
     ensures { ShowsAnswered hosted.entry.table.now (tree_of hosted.entry.template.now)
         allowed.depth (map_held facts.now) (partials_of partials.now) (Ok result) }
 {
@@ -148,10 +151,10 @@ fn answered(
     };
     match render_page_answered(alloc, hosted.template, hosted.table, around, facts) {
         Ok(Answered::Page(LimitedPage { page, limit })) => match limit {
-            None => Held::Page(page),
-            Some(limit) => Held::Ended(page, limit),
+            None => Content::Page(page),
+            Some(limit) => Content::Ended(page, limit),
         },
-        Ok(Answered::Lacking(calls)) => Held::Lacking(calls),
-        Err(fault) => Held::Fault(fault),
+        Ok(Answered::Lacking(calls)) => Content::Lacking(calls),
+        Err(fault) => Content::Fault(fault),
     }
 }

@@ -2,9 +2,12 @@
 ghost use Rattle.std.specs.Prelude.{◌≡◌, Some, IsSome, IsTrue, option_map};
 ghost use Rattle.liquid_model.specs.Maps.{listed};
 ghost use Rattle.liquid_syntax.specs.Templates.{partials_of, slots_of};
-ghost use Rattle.liquid_c.specs.declared.held.Held.TheVariants as held;
+ghost use Rattle.liquid_c.specs.declared.content.Content.TheVariants as content;
+ghost use Rattle.liquid_c.specs.declared.held.Held.TheVariants.{Own};
 ghost use Rattle.liquid_c.specs.Calls.{IsPut};
+ghost use Rattle.liquid_c.specs.Shared.{RegainingBoth};
 
+use crate::content::Content;
 use crate::handle::Handle;
 use crate::held::Held;
 use crate::levels::Levels;
@@ -23,11 +26,12 @@ pub extern "C" fn bikleinu_insert(
     name: &[u8],
     template: &mut Handle,
 ) -> u32
-    ensures { IsPut partials.old.held name.now template.old.held result partials.new.held
-        template.new.held }
+    ensures { RegainingBoth (λ was moving. IsPut was name.now moving result
+        partials.new.held template.new.held) partials.old.held template.old.held }
 {
-    let mut held = partials.take(alloc);
-    let (number, left) = put(alloc, &mut held, name, template.take(alloc));
+    let mut held = partials.take_to_change(alloc);
+    let moving = template.take_to_change(alloc);
+    let (number, left) = put(alloc, &mut held, name, moving);
     partials.put(alloc, held);
     template.put(alloc, left);
     number
@@ -49,12 +53,27 @@ fn put(
     };
     match partials {
         Some(held) => match &mut **held {
-            Held::Partials(partials, levels) => {
-                put_template(alloc, partials, levels, name, template)
-            }
-            _ => (Refusal::OtherHandle.number(), Some(template)),
+            Held::Own(content) => put_into(alloc, content, name, template),
+            Held::Shared(_) => (Refusal::SharedHandle.number(), Some(template)),
         },
         None => (Refusal::OtherHandle.number(), Some(template)),
+    }
+}
+
+fn put_into(
+    alloc: Global,
+    content: &mut Content,
+    name: &[u8],
+    template: Box<Held>,
+) -> (u32, Option<Box<Held>>)
+    ensures { IsPut (Some (Own content.old)) name.now (Some template.value) result.0
+        (Some (Own content.new)) (option_map (λ b. b.value) result.1) }
+{
+    match content {
+        Content::Partials(partials, levels) => {
+            put_template(alloc, partials, levels, name, template)
+        }
+        _ => (Refusal::OtherHandle.number(), Some(template)),
     }
 }
 
@@ -76,12 +95,14 @@ fn put_template(
     name: &[u8],
     template: Box<Held>,
 ) -> (u32, Option<Box<Held>>)
-    ensures { IsPut (Some (held.Partials partials.old most.old)) name.now (Some template.value)
-        result.0 (Some (held.Partials partials.new most.new))
+    ensures { IsPut (Some (Own (content.Partials partials.old most.old))) name.now
+        (Some template.value) result.0 (Some (Own (content.Partials partials.new most.new)))
         (option_map (λ b. b.value) result.1) }
 {
-    if !matches!(&*template, Held::Template(_, _)) {
-        return (Refusal::OtherHandle.number(), Some(template));
+    match &*template {
+        Held::Own(Content::Template(_, _)) => {}
+        Held::Shared(_) => return (Refusal::SharedHandle.number(), Some(template)),
+        _ => return (Refusal::OtherHandle.number(), Some(template)),
     }
     let Ok(name) = str::from_utf8(name) else {
         return (Refusal::NoText.number(), Some(template));
@@ -90,7 +111,7 @@ fn put_template(
         return (u32::from(ErrorKind::Memory.number()), Some(template));
     }
     match Box::into_inner(template) {
-        Held::Template(template, levels) => {
+        Held::Own(Content::Template(template, levels)) => {
             drop(partials.exchange(name, Some(template)));
             *most = most.greater_of(levels);
             (0, None)

@@ -7,6 +7,9 @@
 #![tactic(auto)]
 
 mod answering;
+mod asked;
+mod completing;
+mod content;
 mod handle;
 mod held;
 mod hosted;
@@ -20,4 +23,5 @@ mod read;
 mod refusal;
 mod register;
 mod render;
+mod share;
 mod tables;

@@ -3,8 +3,8 @@ ghost use Rattle.std.specs.Prelude.{◌≡◌, None};
 ghost use Rattle.liquid_c.specs.Calls.{AreNoPartials, IsData, IsLanguage};
 ghost use Rattle.liquid_c.specs.Settled.{Settled};
 
+use crate::content::Content;
 use crate::handle::Handle;
-use crate::held::Held;
 use crate::levels::Levels;
 use crate::refusal::{Refusal, settle};
 use liquid_json::data_from_json;
@@ -19,12 +19,12 @@ pub extern "C" fn bikleinu_language(alloc: Global, made: &mut Handle) -> u32
     settle(alloc, standard(alloc), made)
 }
 
-fn standard(alloc: Global) -> Result<Held, Refusal>
+fn standard(alloc: Global) -> Result<Content, Refusal>
     ensures { IsLanguage result }
 {
     match language(alloc) {
-        Ok(language) => Ok(Held::Language(language)),
-        Err(fault) => Ok(Held::Fault(fault)),
+        Ok(language) => Ok(Content::Language(language)),
+        Err(fault) => Ok(Content::Fault(fault)),
     }
 }
 
@@ -36,10 +36,10 @@ pub extern "C" fn bikleinu_partials(alloc: Global, made: &mut Handle) -> u32
     settle(alloc, no_partials(alloc), made)
 }
 
-fn no_partials(alloc: Global) -> Result<Held, Refusal>
+fn no_partials(alloc: Global) -> Result<Content, Refusal>
     ensures { AreNoPartials result }
 {
-    Ok(Held::Partials(Partials::new(alloc), Levels::none()))
+    Ok(Content::Partials(Partials::new(alloc), Levels::none()))
 }
 
 /// Reads data from a text of JSON. 0, or the number of the fault that `made` then has:
@@ -51,13 +51,13 @@ pub extern "C" fn bikleinu_data(alloc: Global, json: &[u8], made: &mut Handle) -
     settle(alloc, data(alloc, json), made)
 }
 
-fn data(alloc: Global, json: &[u8]) -> Result<Held, Refusal>
+fn data(alloc: Global, json: &[u8]) -> Result<Content, Refusal>
     ensures { IsData json.now result }
 {
     match str::from_utf8(json) {
         Ok(text) => match data_from_json(alloc, text) {
-            Ok(data) => Ok(Held::Data(data)),
-            Err(fault) => Ok(Held::Fault(fault)),
+            Ok(data) => Ok(Content::Data(data)),
+            Err(fault) => Ok(Content::Fault(fault)),
         },
         Err(_) => Err(Refusal::NoText),
     }

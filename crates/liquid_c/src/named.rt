@@ -7,9 +7,11 @@ ghost use Rattle.liquid_model.specs.View.{items_of, view};
 ghost use Rattle.liquid_syntax.specs.Templates.{partials_of, tree_of};
 ghost use Rattle.liquid_c.specs.Named.{AreNames, IsNames, OfPartials};
 ghost use Rattle.liquid_c.specs.Settled.{Settled};
+ghost use Rattle.liquid_c.specs.Shared.{behind};
 
+use crate::content::Content;
 use crate::handle::Handle;
-use crate::held::{Held, seen};
+use crate::held::seen;
 use crate::refusal::{Refusal, settle};
 use crate::render::partials_held;
 use liquid_answers::json_of;
@@ -27,7 +29,8 @@ pub extern "C" fn bikleinu_names(
     partials: &mut Handle,
     made: &mut Handle,
 ) -> u32
-    ensures named { Settled (IsNames template.old.held partials.old.held) result made.new.held }
+    ensures named { Settled (IsNames (behind template.old.held) (behind partials.old.held)) result
+        made.new.held }
     ensures template { template.new.held ≡ template.old.held }
     ensures partials { partials.new.held ≡ partials.old.held }
 {
@@ -39,18 +42,26 @@ pub extern "C" fn bikleinu_names(
     settle(alloc, answer, made)
 }
 
-fn names(alloc: Global, template: Option<&Held>, partials: Option<&Held>) -> Result<Held, Refusal>
+fn names(
+    alloc: Global,
+    template: Option<&Content>,
+    partials: Option<&Content>,
+) -> Result<Content, Refusal>
     ensures { IsNames (option_map (λ h. h.now) template.entry)
         (option_map (λ h. h.now) partials.entry) result }
 {
-    let Some(Held::Template(template, _)) = template else {
+    let Some(Content::Template(template, _)) = template else {
         return Err(Refusal::OtherHandle);
     };
     let none = Partials::new(alloc);
     named(alloc, template, partials_held(partials, &none))
 }
 
-fn named(alloc: Global, template: &Template, partials: Option<&Partials>) -> Result<Held, Refusal>
+fn named(
+    alloc: Global,
+    template: &Template,
+    partials: Option<&Partials>,
+) -> Result<Content, Refusal>
     ensures { OfPartials (option_map (λ p. partials_of p.now) partials.entry)
         (tree_of template.now) result }
 {
@@ -58,8 +69,8 @@ fn named(alloc: Global, template: &Template, partials: Option<&Partials>) -> Res
         return Err(Refusal::OtherHandle);
     };
     match told(alloc, template, partials) {
-        Ok(text) => Ok(Held::Names(text)),
-        Err(fault) => Ok(Held::Fault(fault)),
+        Ok(text) => Ok(Content::Names(text)),
+        Err(fault) => Ok(Content::Fault(fault)),
     }
 }
 
@@ -73,8 +84,8 @@ fn told(alloc: Global, template: &Template, partials: &Partials) -> Answer<Strin
     json_of(alloc, &list)
 }
 
-/// The names as a list of texts.
-fn list_of(alloc: Global, names: &BTreeSet<String>) -> Answer<Value>
+/// Names or paths as a list of texts.
+pub(crate) fn list_of(alloc: Global, names: &BTreeSet<String>) -> Answer<Value>
     ensures { IsValueOrMemory view result
         (array (items_of (map (λ n. text (string_bytes n)) (keys names.now)))) }
 {

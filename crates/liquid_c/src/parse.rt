@@ -2,16 +2,19 @@
 ghost use Rattle.std.specs.Prelude.{◌≡◌, Ok, option_map};
 ghost use Rattle.liquid_c.specs.Calls.{IsParse, Parses};
 ghost use Rattle.liquid_c.specs.Settled.{Settled};
+ghost use Rattle.liquid_c.specs.Shared.{behind};
 
+use crate::content::Content;
 use crate::handle::Handle;
-use crate::held::{Held, seen};
+use crate::held::seen;
 use crate::levels::levels_in;
 use crate::refusal::{Refusal, settle};
-use liquid_lib::{Language, parse};
+use liquid_lib::{Language, parse_kept};
 use std::alloc::Global;
 
 /// Parses a source in a language. 0, or the number of the fault that `made` then has: a kind of a
-/// source, or `Memory`.
+/// source, or `Memory`. The template keeps its source, where that has at most 1 MiB, so that a fault
+/// of a run stands at its item.
 #[unsafe(no_mangle)]
 pub extern "C" fn bikleinu_parse(
     alloc: Global,
@@ -19,7 +22,7 @@ pub extern "C" fn bikleinu_parse(
     source: &[u8],
     made: &mut Handle,
 ) -> u32
-    ensures parsed { Settled (IsParse language.old.held source.now) result made.new.held }
+    ensures parsed { Settled (IsParse (behind language.old.held) source.now) result made.new.held }
     ensures same { language.new.held ≡ language.old.held }
 {
     let held = language.take(alloc);
@@ -28,11 +31,11 @@ pub extern "C" fn bikleinu_parse(
     settle(alloc, answer, made)
 }
 
-fn template(alloc: Global, language: Option<&Held>, source: &[u8]) -> Result<Held, Refusal>
+fn template(alloc: Global, language: Option<&Content>, source: &[u8]) -> Result<Content, Refusal>
     ensures { IsParse (option_map (λ h. h.now) language.entry) source.now result }
 {
     match language {
-        Some(Held::Language(language)) => match str::from_utf8(source) {
+        Some(Content::Language(language)) => match str::from_utf8(source) {
             Ok(source) => Ok(parsed(alloc, source, language)),
             Err(_) => Err(Refusal::NoText),
         },
@@ -41,14 +44,14 @@ fn template(alloc: Global, language: Option<&Held>, source: &[u8]) -> Result<Hel
 }
 
 /// The template that a source is, with the levels that it reaches, or the fault.
-fn parsed(alloc: Global, source: &str, language: &Language) -> Held
+fn parsed(alloc: Global, source: &str, language: &Language) -> Content
     ensures { Parses language.now source.now (Ok result) }
 {
-    match parse(alloc, source, language) {
+    match parse_kept(alloc, source, language) {
         Ok(template) => match levels_in(alloc, template.nodes()) {
-            Ok(levels) => Held::Template(template, levels),
-            Err(refused) => Held::Fault(refused),
+            Ok(levels) => Content::Template(template, levels),
+            Err(refused) => Content::Fault(refused),
         },
-        Err(fault) => Held::Fault(fault),
+        Err(fault) => Content::Fault(fault),
     }
 }

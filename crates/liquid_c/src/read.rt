@@ -3,9 +3,11 @@ ghost use Rattle.std.specs.Prelude.{◌≡◌, ◌++◌, drop, length, min, opti
 ghost use Rattle.liquid_c.specs.Parts.{located, location_in, location_of_fault, message_bytes};
 ghost use Rattle.liquid_c.specs.Parts.{number_of_origin, part_in, part_behind, part_of_fault};
 ghost use Rattle.liquid_c.specs.Parts.{partial_of_location};
+ghost use Rattle.liquid_c.specs.Shared.{behind};
 
+use crate::content::Content;
 use crate::handle::Handle;
-use crate::held::{Held, seen};
+use crate::held::seen;
 use liquid_core::{Error, Location, Origin};
 use std::alloc::Global;
 
@@ -14,7 +16,7 @@ use std::alloc::Global;
 /// Without such a part, and of any other number, 0.
 #[unsafe(no_mangle)]
 pub extern "C" fn bikleinu_length(alloc: Global, handle: &mut Handle, part: u32) -> usize
-    ensures length { result ≡ length (part_in part handle.old.held) }
+    ensures length { result ≡ length (part_in part (behind handle.old.held)) }
     ensures same { handle.new.held ≡ handle.old.held }
 {
     let held = handle.take(alloc);
@@ -32,8 +34,10 @@ pub extern "C" fn bikleinu_copy(
     part: u32,
     into: &mut [u8],
 ) -> usize
-    ensures copied { into.new ≡ take result (part_in part handle.old.held) ++ drop result into.old }
-    ensures count { result ≡ min (length (part_in part handle.old.held)) (length into.old) }
+    ensures copied { into.new ≡
+        take result (part_in part (behind handle.old.held)) ++ drop result into.old }
+    ensures count { result ≡
+        min (length (part_in part (behind handle.old.held))) (length into.old) }
     ensures same { handle.new.held ≡ handle.old.held }
 {
     let held = handle.take(alloc);
@@ -53,7 +57,7 @@ pub extern "C" fn bikleinu_location(
     column: &mut usize,
 ) -> u32
     ensures location { (result, (line.new, column.new)) ≡
-        located (location_in handle.old.held) line.old column.old }
+        located (location_in (behind handle.old.held)) line.old column.old }
     ensures same { handle.new.held ≡ handle.old.held }
 {
     let held = handle.take(alloc);
@@ -79,7 +83,7 @@ fn origin_number(origin: &Origin) -> u32
     }
 }
 
-fn part_seen(held: Option<&Held>, part: u32) -> &str
+fn part_seen(held: Option<&Content>, part: u32) -> &str
     ensures { result.now ≡ part_in part (option_map (λ h. h.now) held.entry) }
 {
     match held {
@@ -88,7 +92,7 @@ fn part_seen(held: Option<&Held>, part: u32) -> &str
     }
 }
 
-fn part_held(held: &Held, part: u32) -> &str
+fn part_held(held: &Content, part: u32) -> &str
     ensures { result.now ≡ part_behind part held.now }
 {
     if part == 0 {
@@ -133,7 +137,7 @@ fn location_of(fault: &Error) -> Option<&Location>
     }
 }
 
-fn location_seen(held: Option<&Held>) -> Option<&Location>
+fn location_seen(held: Option<&Content>) -> Option<&Location>
     ensures { option_map (λ l. l.now) result ≡ location_in (option_map (λ h. h.now) held.entry) }
 {
     match held {

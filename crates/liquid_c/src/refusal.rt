@@ -3,6 +3,7 @@ ghost use Rattle.std.specs.Prelude.{◌≡◌};
 ghost use Rattle.liquid_c.specs.Numbers.{number_of_refusal};
 ghost use Rattle.liquid_c.specs.Settled.{Settles};
 
+use crate::content::Content;
 use crate::handle::Handle;
 use crate::held::Held;
 use liquid_core::ErrorKind;
@@ -19,6 +20,8 @@ pub enum Refusal {
     TooManyLevels,
     /// No call of such a number.
     NoSuchCall,
+    /// What other handles share isn't changed.
+    SharedHandle,
 }
 
 impl Refusal {
@@ -31,24 +34,25 @@ impl Refusal {
             Refusal::OtherHandle => 102,
             Refusal::TooManyLevels => 103,
             Refusal::NoSuchCall => 107,
+            Refusal::SharedHandle => 108,
         }
     }
 }
 
 /// Puts what a call made behind the handle, in place of what it held, and answers its number. Where
 /// there is no room for it, the handle holds nothing and the answer is `Memory`.
-pub(crate) fn settle(alloc: Global, answer: Result<Held, Refusal>, made: &mut Handle) -> u32
+pub(crate) fn settle(alloc: Global, answer: Result<Content, Refusal>, made: &mut Handle) -> u32
     ensures { Settles answer result made.new.held }
 {
-    let held = match answer {
-        Ok(held) => held,
+    let content = match answer {
+        Ok(content) => content,
         Err(refusal) => {
             made.put(alloc, None);
             return refusal.number();
         }
     };
-    let number = held.number();
-    match Box::new(alloc, held) {
+    let number = content.number();
+    match Box::new(alloc, Held::Own(content)) {
         Ok(held) => {
             made.put(alloc, Some(held));
             number

@@ -1,10 +1,14 @@
 //! Languages of the caller's choice.
 ghost use Rattle.std.specs.Prelude.{◌≡◌, IfErr, IfOk, option_map};
-ghost use Rattle.liquid_c.specs.Languages.{IsJekyll, IsJekyllLanguage, IsRegistration, Registers};
+ghost use Rattle.liquid_c.specs.Languages.{IsRegistration, MakesIncludeAndSort, Registers};
+ghost use Rattle.liquid_c.specs.Languages.{WithIncludeAndSort};
 ghost use Rattle.liquid_c.specs.Settled.{Settled};
+ghost use Rattle.liquid_c.specs.Shared.{Regaining};
 ghost use Rattle.std.specs.Prelude.{Some};
-ghost use Rattle.liquid_c.specs.declared.held.Held.TheVariants as held;
+ghost use Rattle.liquid_c.specs.declared.content.Content.TheVariants as content;
+ghost use Rattle.liquid_c.specs.declared.held.Held.TheVariants.{Own};
 
+use crate::content::Content;
 use crate::handle::Handle;
 use crate::held::Held;
 use crate::refusal::{Refusal, settle};
@@ -16,22 +20,22 @@ use std::alloc::Global;
 /// Makes Jekyll's language: the standard one with Jekyll's `include` and `sort`. 0, or `Memory`.
 #[unsafe(no_mangle)]
 pub extern "C" fn bikleinu_jekyll_language(alloc: Global, made: &mut Handle) -> u32
-    ensures { Settled IsJekyllLanguage result made.new.held }
+    ensures { Settled MakesIncludeAndSort result made.new.held }
 {
-    settle(alloc, jekyll_held(alloc), made)
+    settle(alloc, include_and_sort(alloc), made)
 }
 
-fn jekyll_held(alloc: Global) -> Result<Held, Refusal>
-    ensures { IsJekyllLanguage result }
+fn include_and_sort(alloc: Global) -> Result<Content, Refusal>
+    ensures { MakesIncludeAndSort result }
 {
-    match jekyll_language(alloc) {
-        Ok(language) => Ok(Held::Language(language)),
-        Err(fault) => Ok(Held::Fault(fault)),
+    match with_include_and_sort(alloc) {
+        Ok(language) => Ok(Content::Language(language)),
+        Err(fault) => Ok(Content::Fault(fault)),
     }
 }
 
-fn jekyll_language(alloc: Global) -> Answer<Language>
-    ensures language { IfOk result IsJekyll }
+fn with_include_and_sort(alloc: Global) -> Answer<Language>
+    ensures language { IfOk result WithIncludeAndSort }
     ensures memory { IfErr result (λ e. e.kind ≡ ErrorKind.Memory) }
 {
     let mut language = language(alloc)?;
@@ -55,9 +59,10 @@ pub extern "C" fn bikleinu_register(
     least: usize,
     most: usize,
 ) -> u32
-    ensures { IsRegistration language.old.held name.now least most result language.new.held }
+    ensures { Regaining (λ was. IsRegistration was name.now least most result language.new.held)
+        language.old.held }
 {
-    let mut held = language.take(alloc);
+    let mut held = language.take_to_change(alloc);
     let number = register_behind(alloc, &mut held, name, least, most);
     language.put(alloc, held);
     number
@@ -75,7 +80,10 @@ fn register_behind(
 {
     match held {
         Some(held) => match &mut **held {
-            Held::Language(language) => register(alloc, language, name, least, most),
+            Held::Own(Content::Language(language)) => {
+                register(alloc, language, name, least, most)
+            }
+            Held::Shared(_) => Refusal::SharedHandle.number(),
             _ => Refusal::OtherHandle.number(),
         },
         None => Refusal::OtherHandle.number(),
@@ -84,7 +92,7 @@ fn register_behind(
 
 fn register(alloc: Global, language: &mut Language, name: &[u8], least: usize, most: usize) -> u32
     ensures { Registers language.old name.now least most result
-        (Some (held.Language language.new)) }
+        (Some (Own (content.Language language.new))) }
 {
     let Ok(name) = str::from_utf8(name) else {
         return Refusal::NoText.number();

@@ -7,9 +7,11 @@ ghost use Rattle.liquid_c.specs.Calls.{IsRendering, OfBoth, Shows, ShowsUnless, 
 ghost use Rattle.liquid_c.specs.Calls.{bound_of, facts_behind, has_limit, levels_behind};
 ghost use Rattle.liquid_c.specs.Calls.{partials_behind, usual_levels};
 ghost use Rattle.liquid_c.specs.Settled.{Settled};
+ghost use Rattle.liquid_c.specs.Shared.{behind};
 
+use crate::content::Content;
 use crate::handle::Handle;
-use crate::held::{Held, seen};
+use crate::held::seen;
 use crate::levels::Levels;
 use crate::refusal::{Refusal, settle};
 use liquid_core::Object;
@@ -63,7 +65,8 @@ pub extern "C" fn bikleinu_render(
     made: &mut Handle,
 ) -> u32
     ensures rendered { Settled
-        (IsRendering usual_levels false template.old.held facts.old.held partials.old.held depth)
+        (IsRendering usual_levels false (behind template.old.held) (behind facts.old.held)
+        (behind partials.old.held) depth)
         result made.new.held }
     ensures template { template.new.held ≡ template.old.held }
     ensures facts { facts.new.held ≡ facts.old.held }
@@ -93,7 +96,7 @@ pub extern "C" fn bikleinu_render_within(
 ) -> u32
     ensures rendered { Settled
         (IsRendering (bound_of limits.now.levels) (has_limit limits.now.bytes limits.now.turns)
-        template.old.held facts.old.held partials.old.held depth)
+        (behind template.old.held) (behind facts.old.held) (behind partials.old.held) depth)
         result made.new.held }
     ensures template { template.new.held ≡ template.old.held }
     ensures facts { facts.new.held ≡ facts.old.held }
@@ -132,9 +135,10 @@ fn rendered(
     facts: &mut Handle,
     partials: &mut Handle,
     allowed: Allowed,
-) -> Result<Held, Refusal>
+) -> Result<Content, Refusal>
     ensures rendered { IsRendering allowed.levels (has_limit allowed.bytes allowed.turns)
-        template.old.held facts.old.held partials.old.held allowed.depth result }
+        (behind template.old.held) (behind facts.old.held) (behind partials.old.held)
+        allowed.depth result }
     ensures template { template.new.held ≡ template.old.held }
     ensures facts { facts.new.held ≡ facts.old.held }
     ensures partials { partials.new.held ≡ partials.old.held }
@@ -157,18 +161,18 @@ fn rendered(
 
 fn page(
     alloc: Global,
-    template: Option<&Held>,
-    facts: Option<&Held>,
-    partials: Option<&Held>,
+    template: Option<&Content>,
+    facts: Option<&Content>,
+    partials: Option<&Content>,
     allowed: Allowed,
-) -> Result<Held, Refusal>
+) -> Result<Content, Refusal>
     ensures { IsRendering allowed.levels (has_limit allowed.bytes allowed.turns)
         (option_map (λ h. h.now) template.entry)
         (option_map (λ h. h.now) facts.entry)
         (option_map (λ h. h.now) partials.entry)
         allowed.depth result }
 {
-    let Some(Held::Template(template, levels)) = template else {
+    let Some(Content::Template(template, levels)) = template else {
         return Err(Refusal::OtherHandle);
     };
     let no_facts = empty_facts(alloc);
@@ -192,7 +196,7 @@ fn shown(
     facts: Option<&Object>,
     partials: Option<&Partials>,
     allowed: Allowed,
-) -> Result<Held, Refusal>
+) -> Result<Content, Refusal>
     ensures { OfBoth
         (option_map (λ d. map_held d.now) facts.entry)
         (option_map (λ p. partials_of p.now) partials.entry)
@@ -222,13 +226,13 @@ fn whole(
     partials: &Partials,
     depth: u32,
     facts: &Object,
-) -> Held
+) -> Content
     ensures { Shows (tree_of template.now) depth
         (map_held facts.now) (partials_of partials.now) (Ok result) }
 {
     match render_page(alloc, template, partials, depth, facts) {
-        Ok(page) => Held::Page(page),
-        Err(fault) => Held::Fault(fault),
+        Ok(page) => Content::Page(page),
+        Err(fault) => Content::Fault(fault),
     }
 }
 
@@ -239,7 +243,7 @@ fn limited(
     partials: &Partials,
     allowed: Allowed,
     facts: &Object,
-) -> Held
+) -> Content
     ensures { ShowsWithin (tree_of template.now) allowed.depth
         (map_held facts.now) (partials_of partials.now) (Ok result) }
 {
@@ -252,10 +256,10 @@ fn limited(
         limits_of(allowed),
     ) {
         Ok(LimitedPage { page, limit }) => match limit {
-            None => Held::Page(page),
-            Some(limit) => Held::Ended(page, limit),
+            None => Content::Page(page),
+            Some(limit) => Content::Ended(page, limit),
         },
-        Err(fault) => Held::Fault(fault),
+        Err(fault) => Content::Fault(fault),
     }
 }
 
@@ -278,37 +282,40 @@ pub(crate) fn empty_facts(alloc: Global) -> Object
 }
 
 /// The data behind a handle, or none where it holds something else.
-pub(crate) fn facts_held<'a>(held: Option<&'a Held>, none: &'a Object) -> Option<&'a Object>
+pub(crate) fn facts_held<'a>(held: Option<&'a Content>, none: &'a Object) -> Option<&'a Object>
     requires { map_held none.now ≡ empty }
     ensures { option_map (λ d. map_held d.now) result ≡
         facts_behind (option_map (λ h. h.now) held.entry) }
 {
     match held {
         None => Some(none),
-        Some(Held::Data(facts)) => Some(facts),
+        Some(Content::Data(facts)) => Some(facts),
         Some(_) => None,
     }
 }
 
 /// The partials behind a handle, or none where it holds something else.
-pub(crate) fn partials_held<'a>(held: Option<&'a Held>, none: &'a Partials) -> Option<&'a Partials>
+pub(crate) fn partials_held<'a>(
+    held: Option<&'a Content>,
+    none: &'a Partials,
+) -> Option<&'a Partials>
     requires { partials_of none.now ≡ [] }
     ensures { option_map (λ p. partials_of p.now) result ≡
         partials_behind (option_map (λ h. h.now) held.entry) }
 {
     match held {
         None => Some(none),
-        Some(Held::Partials(partials, _)) => Some(partials),
+        Some(Content::Partials(partials, _)) => Some(partials),
         Some(_) => None,
     }
 }
 
 /// The most levels that one of the partials behind a handle reaches by itself.
-pub(crate) fn levels_held(held: Option<&Held>) -> Levels
+pub(crate) fn levels_held(held: Option<&Content>) -> Levels
     ensures { result ≡ levels_behind (option_map (λ h. h.now) held.entry) }
 {
     match held {
-        Some(Held::Partials(_, levels)) => *levels,
+        Some(Content::Partials(_, levels)) => *levels,
         _ => Levels::none(),
     }
 }

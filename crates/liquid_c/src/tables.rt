@@ -1,9 +1,12 @@
 //! Tables of answers to calls of the caller's filters.
 ghost use Rattle.std.specs.Prelude.{◌≡◌, Some, option_map};
 ghost use Rattle.liquid_c.specs.Settled.{Settled};
+ghost use Rattle.liquid_c.specs.Shared.{Regaining};
 ghost use Rattle.liquid_c.specs.Tables.{Changes, HasName, IsNaming, IsNewTable};
-ghost use Rattle.liquid_c.specs.declared.held.Held.TheVariants as held;
+ghost use Rattle.liquid_c.specs.declared.content.Content.TheVariants as content;
+ghost use Rattle.liquid_c.specs.declared.held.Held.TheVariants.{Own};
 
+use crate::content::Content;
 use crate::handle::Handle;
 use crate::held::Held;
 use crate::refusal::{Refusal, settle};
@@ -19,18 +22,18 @@ pub extern "C" fn bikleinu_answers(alloc: Global, made: &mut Handle) -> u32
     settle(alloc, new_table(alloc), made)
 }
 
-fn new_table(alloc: Global) -> Result<Held, Refusal>
+fn new_table(alloc: Global) -> Result<Content, Refusal>
     ensures { IsNewTable result }
 {
-    Ok(Held::Answers(Answers::new(alloc)))
+    Ok(Content::Answers(Answers::new(alloc)))
 }
 
 /// Adds the name of a filter to a table, unless it is there. 0, or `Memory`; then nothing changed.
 #[unsafe(no_mangle)]
 pub extern "C" fn bikleinu_answers_filter(alloc: Global, answers: &mut Handle, name: &[u8]) -> u32
-    ensures { IsNaming answers.old.held name.now result answers.new.held }
+    ensures { Regaining (λ was. IsNaming was name.now result answers.new.held) answers.old.held }
 {
-    let mut held = answers.take(alloc);
+    let mut held = answers.take_to_change(alloc);
     let number = add_behind(alloc, &mut held, name);
     answers.put(alloc, held);
     number
@@ -42,10 +45,11 @@ fn add_behind(alloc: Global, held: &mut Option<Box<Held>>, name: &[u8]) -> u32
 {
     match held {
         Some(held) => match &mut **held {
-            Held::Answers(table) => match str::from_utf8(name) {
+            Held::Own(Content::Answers(table)) => match str::from_utf8(name) {
                 Ok(name) => add_name(alloc, table, name),
                 Err(_) => Refusal::NoText.number(),
             },
+            Held::Shared(_) => Refusal::SharedHandle.number(),
             _ => Refusal::OtherHandle.number(),
         },
         None => Refusal::OtherHandle.number(),
@@ -54,7 +58,7 @@ fn add_behind(alloc: Global, held: &mut Option<Box<Held>>, name: &[u8]) -> u32
 
 fn add_name(alloc: Global, table: &mut Answers, name: &str) -> u32
     ensures { Changes (HasName name.now) table.old result
-        (Some (held.Answers table.new)) }
+        (Some (Own (content.Answers table.new))) }
 {
     let Ok(name) = String::from_str(alloc, name) else {
         return u32::from(ErrorKind::Memory.number());

@@ -15,7 +15,8 @@ use Rattle.liquid_core.specs.declared.frame.LoopKind.{LoopKind}
 use Rattle.liquid_core.specs.declared.frame.LoopKind.TheVariants as kinds
 use Rattle.liquid_core.specs.declared.frame.Scope.{Scope}
 use Rattle.liquid_model.specs.Texts.{Text, ◌else◌}
-use Rattle.liquid_model.specs.Data.{Datum, nil, truth}
+use Rattle.liquid_model.specs.Data.{Datum, nil, truth, text}
+use Rattle.liquid_model.specs.Find.{step}
 use Rattle.liquid_model.specs.Maps.{Map, insert, empty, merged}
 use Rattle.liquid_model.specs.View.{view}
 use Rattle.liquid_model.specs.declared.value.Value.{Value}
@@ -48,6 +49,14 @@ the_object l n q v d h k = rw (turned n q false h, turned l q true k) refl
 pub neither : (l n q : Text) (v d : Datum) → bytes_eq q n ≡ false → bytes_eq q l ≡ false → loop_scope l v n d q ≡ None
 unfolding insert empty
 neither l n q v d h k = rw (turned n q false h, turned l q false k) refl
+
+pub lent_there : (n q : Text) (d : Datum) → bytes_eq q n ≡ true → insert empty n d q ≡ Some d
+unfolding insert
+lent_there n q d h = rw (turned n q true h) refl
+
+pub lent_elsewhere : (n q : Text) (d : Datum) → bytes_eq q n ≡ false → insert empty n d q ≡ None
+unfolding insert empty
+lent_elsewhere n q d h = rw (turned n q false h) refl
 
 -- ---- the innermost of some scopes
 
@@ -117,6 +126,11 @@ module _ (k m : ℕ) (local : Map Datum) where
   part_first kinds.Render = refl
   part_first (kinds.TableRow columns) = refl
 
+  pub part_of_text : (kind : LoopKind) (name : Text) → object_part (loop_object kind k m local) name ≡ step (loop_object kind k m local) (text name)
+  part_of_text (kinds.For elsewhere) name = refl
+  part_of_text kinds.Render name = refl
+  part_of_text (kinds.TableRow columns) name = refl
+
   pub part_last : (kind : LoopKind) → object_part (loop_object kind k m local) (codes "last") ≡ Some (truth (k + 1 == m))
   part_last (kinds.For elsewhere) = refl
   part_last kinds.Render = refl
@@ -140,3 +154,4 @@ innermost_set ss before t s e = ap (λ n. set ss n s) (innermost ss before t e) 
 abbrev pub turn_in : Scope → LoopFrame → LoopFrame
 turn_in (variants.LoopFrame t) other = t
 turn_in (variants.Names o) other = other
+turn_in (variants.Lent name v) other = other

@@ -1,7 +1,7 @@
 -- What is said of a name, by what it is.
-use Rattle.std.proofs.Common.{◌≡◌, ◌<◌, ◌+◌, ◌-◌, ◌∷◌, ℕ, List, [], arith, Option, Some, None, IfSome, Bor, get_or, drop, take, length, refl, sym, ap, subst, ◌∙◌}
+use Rattle.std.proofs.Common.{◌≡◌, ◌<◌, ◌≤◌, ◌+◌, ◌-◌, ◌∷◌, ℕ, List, [], arith, Option, Some, None, IfSome, Bor, get_or, drop, take, length, refl, sym, ap, subst, ◌∙◌}
 use Rattle.std.specs.Option.{option_and_then}
-use Rattle.liquid_model.specs.Data.{Datum, number}
+use Rattle.liquid_model.specs.Data.{Datum, number, truth}
 use Rattle.liquid_model.specs.Find.{step}
 use Rattle.liquid_model.specs.Maps.{Map}
 use Rattle.liquid_model.specs.Texts.{Text}
@@ -17,12 +17,12 @@ use Rattle.std.proofs.lemmas.List.{drop_more}
 use Rattle.liquid_core.specs.Environment.{Environment, local_of, lookup}
 use Rattle.liquid_core.specs.Expressions.{value_of}
 use Rattle.liquid_core.specs.ExpressionView.{expression_view, steps_view}
-use Rattle.liquid_core.specs.LoopFrames.{scope_map, standing}
+use Rattle.liquid_core.specs.LoopFrames.{scope_map, standing, frame_object}
 use Rattle.liquid_core.specs.Said.{Says}
 use Rattle.liquid_core.specs.declared.expression.Expression.{Expression, Literal}
 use Rattle.liquid_core.specs.declared.frame.Scope.{Scope}
 use Rattle.liquid_core.specs.declared.resolved.Near.{Near}
-use Rattle.liquid_core.specs.declared.resolved.Near.TheVariants.{Held, Number, Nothing, Unsaid}
+use Rattle.liquid_core.specs.declared.resolved.Near.TheVariants.{Held, Number, Truth, Loop, Nothing, Unsaid}
 use Rattle.liquid_core.proofs.ExpressionViews.{literal_is}
 use Rattle.liquid_core.proofs.LoopFrames.{found_here, missing_here}
 use Rattle.liquid_core.specs.Led.{led}
@@ -39,12 +39,14 @@ same_scope ts i s x h at there = at ∙ head_of (get_or ts i s) x (drop (i + 1) 
 
 -- what is said of the innermost of some scopes is said of all of them, but that it is nothing
 module _ (q : Text) (ts : List Scope) (l i : ℕ) (b : List (Map Datum)) (s : Scope) (e : l ≡ i + 1) (h : i < length ts) (at : s ≡ get_or ts i s) where
-  there_is : (d : Datum) → ((local : Map Datum) → Some d ≡ scope_map s local q) → Some d ≡ local_of (standing (take l ts) b) q
-  there_is d f = found_here q ts l i b d e h (λ x there. subst (λ y. Some d ≡ scope_map y (local_of (standing (take i ts) b)) q) (same_scope ts i s x h at there) (f (local_of (standing (take i ts) b))))
+  there_is : (d : Datum) → Some d ≡ scope_map s (local_of (standing (take i ts) b)) q → Some d ≡ local_of (standing (take l ts) b) q
+  there_is d f = found_here q ts l i b d e h (λ x there. subst (λ y. Some d ≡ scope_map y (local_of (standing (take i ts) b)) q) (same_scope ts i s x h at there) f)
 
   pub said_here : (n : Near) (all behind : Option Datum) → ((local : Map Datum) → Says n (scope_map s local q) None) → local_of (standing (take l ts) b) q ≡ all → (n ≡ Nothing → ⊥) → Says n all behind
-  said_here (Held v) all behind f same other = there_is (view v.now) f ∙ same
-  said_here (Number n) all behind f same other = there_is (number n) f ∙ same
+  said_here (Held v) all behind f same other = there_is (view v.now) (f (local_of (standing (take i ts) b))) ∙ same
+  said_here (Number n) all behind f same other = there_is (number n) (f (local_of (standing (take i ts) b))) ∙ same
+  said_here (Truth t) all behind f same other = there_is (truth t) (f (local_of (standing (take i ts) b))) ∙ same
+  said_here (Loop t) all behind f same other = let found = f (local_of (standing (take i ts) b)) in (found.0, there_is (frame_object t.now found.0) found.1 ∙ same)
   said_here Nothing all behind f same other = absurd (other refl)
   said_here Unsaid all behind f same other = tt
 
@@ -59,6 +61,8 @@ first s q d h = ap (λ o. ((o else value_at q (pairs_view s.assigned.entries)) e
 pub said_local : (s : State) (q : Text) (n : Near) (behind : Option Datum) → Says n ((environment_of s).local q) behind → (n ≡ Nothing → ⊥) → Says n (lookup (environment_of s) q) None
 said_local s q (Held v) behind h other = first s q (view v.now) h
 said_local s q (Number n) behind h other = first s q (number n) h
+said_local s q (Truth b) behind h other = first s q (truth b) h
+said_local s q (Loop t) behind h other = (h.0, first s q (frame_object t.now h.0) h.1)
 said_local s q Nothing behind h other = absurd (other refl)
 said_local s q Unsaid behind h other = tt
 
@@ -80,6 +84,30 @@ along_step d n x xs rest e at h =
     ap (option_and_then (λ next. led next (steps_view rest) e)) h
     ∙ assoc (step d) (λ next. led next (steps_view rest) e) (value_of (expression_view x) e)
     ∙ sym (ap (λ l. led d (steps_view l) e) at)
+
+-- from a datum by a literal, whatever is said of it
+pub said_by_literal : (n : Near) (d : Datum) (x : Expression) (p : Value) (e : Environment) → x ≡ Literal p
+    → Says n (step d (view p)) None → Says n (option_and_then (step d) (value_of (expression_view x) e)) None
+said_by_literal n d x p e is h = says_as n (step d (view p)) (option_and_then (step d) (value_of (expression_view x) e)) None
+    (sym (ap (option_and_then (step d)) (ap (λ y. value_of (expression_view y) e) is ∙ ap (λ y. value_of y e) (literal_is p) ∙ literal_value (view p) e))) h
+
+some_of : (o : Option Datum) → o ≡ option_and_then (λ next. Some next) o
+some_of None = refl
+some_of (Some d) = refl
+
+last_step : (d : Datum) (v : Option Datum) → option_and_then (step d) v ≡ option_and_then (λ s. option_and_then (λ next. Some next) (step d s)) v
+last_step d None = refl
+last_step d (Some s) = some_of (step d s)
+
+alone : (xs : List Expression) (x : Expression) → 0 < length xs → length xs ≤ 1 → x ≡ get_or xs 0 x → xs ≡ x ∷ []
+alone [] x h l is = absurd (omega (arith, h))
+alone (y ∷ []) x h l is = ap (λ z. z ∷ []) (sym is)
+alone (y ∷ z ∷ zs) x h l is = absurd (omega (arith, l))
+
+-- a lone step is the whole way
+pub lone_step : (d : Datum) (x : Expression) (xs : List Expression) (e : Environment) → 0 < length xs → length xs ≤ 1 → x ≡ get_or xs 0 x
+    → option_and_then (step d) (value_of (expression_view x) e) ≡ led d (steps_view xs) e
+lone_step d x xs e h l is = last_step d (value_of (expression_view x) e) ∙ sym (ap (λ y. led d (steps_view y) e) (alone xs x h l is))
 
 pub empty_of : {X : Type 0} (xs : List X) → length xs ≡ 0 → xs ≡ []
 empty_of [] h = refl

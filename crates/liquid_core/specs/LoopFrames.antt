@@ -1,4 +1,4 @@
--- What the scopes of a state hold: names, or a loop at one of its items.
+-- What the scopes of a state hold: names, a name that is lent, or a loop at one of its items.
 --     item_of items i      item i of a loop's source, nil where there is none
 --     frame_map frame local      what a loop binds at its item, where local are the outer names
 --     standing scopes behind      the scopes, the innermost first, over the outer ones
@@ -9,7 +9,7 @@ use Rattle.std.specs.declared.alloc.Global.{Global}
 use Rattle.liquid_model.specs.Texts.{Text}
 use Rattle.liquid_model.specs.Data.{Datum, nil}
 use Rattle.liquid_model.specs.Find.{step_into}
-use Rattle.liquid_model.specs.Maps.{Map}
+use Rattle.liquid_model.specs.Maps.{Map, empty, insert}
 use Rattle.liquid_model.specs.View.{view}
 use Rattle.liquid_model.specs.declared.value.Value.{Value}
 use Rattle.liquid_core.specs.Environment.{local_of}
@@ -70,6 +70,7 @@ frame_map t local = frame_map_at t t.at local
 
 abbrev pub scope_map : Scope → Map Datum → Map Datum
 scope_map (variants.Names o) local = held o
+scope_map (variants.Lent name v) local = insert empty name.now (view v.now)
 scope_map (variants.LoopFrame t) local = frame_map t local
 
 abbrev pub standing : List Scope → List (Map Datum) → List (Map Datum)

@@ -5,6 +5,9 @@ ghost use Rattle.liquid_model.specs.Quotes.{is_line};
 ghost use Rattle.liquid_core.specs.Environment.{Environment};
 ghost use Rattle.liquid_core.specs.Said.{Says};
 ghost use Rattle.liquid_core.specs.Led.{led};
+ghost use Rattle.liquid_core.specs.LoopFrames.{frame_object};
+ghost use Rattle.liquid_model.specs.Data.{Datum};
+ghost use Rattle.liquid_model.specs.Maps.{Map};
 ghost use Rattle.liquid_model.specs.Find.{step};
 ghost use Rattle.liquid_model.specs.View.{view};
 ghost use Rattle.liquid_model.specs.Answer.{Answers, IsValueOrMemory, TakesNoMemory};
@@ -18,6 +21,7 @@ ghost use Rattle.liquid_model.specs.ErrorKinds.{IsKindOrMemory};
 ghost use Rattle.liquid_core.specs.Spelled.{spelled, spelled_steps};
 ghost use Rattle.liquid_model.specs.declared.error.ErrorKind.TheVariants.{UnknownVariable};
 
+use crate::frame::LoopFrame;
 use crate::missing::{Words, words_of, words_of_variable};
 use crate::resolved::{Near, Resolved};
 use crate::spelled::{Spelled, SpelledPath};
@@ -89,8 +93,9 @@ impl Expression {
         }
     }
 
-    /// The value of the expression, where it is lent or a number: a literal, or a name that is no
-    /// loop's object, with steps that are keys and places of items. It takes no memory.
+    /// The value of the expression, where it is lent, a number or a truth value: a literal, a name
+    /// that is no loop's object, with steps that are keys and places of items, or a number or a
+    /// truth value that each loop's object has. It takes no memory.
     pub fn near<'a>(&'a self, state: &'a State<'_>) -> Near<'a>
         ensures { Says result (value_of (expression_view self.now) (environment_of state.now))
             None }
@@ -98,6 +103,18 @@ impl Expression {
         match self {
             Expression::Literal(value) => Near::Held(value),
             Expression::Variable(variable) => variable.near(state),
+        }
+    }
+
+    /// The value of the expression, where it is lent for the whole run. None says nothing. It takes
+    /// no memory.
+    pub fn lent<'d>(&self, state: &State<'d>) -> Option<&'d Value>
+        ensures { IfSome result (λ v. Some (view v.now) ≡
+            value_of (expression_view self.now) (environment_of state.now)) }
+    {
+        match expression_value(self, state) {
+            Some(Resolved::Lent(Found::Held(value))) => Some(value),
+            _ => None,
         }
     }
 
@@ -150,6 +167,7 @@ impl Variable {
                 None => Near::Unsaid,
             },
             Near::Number(n) if self.indexes.is_empty() => Near::Number(n),
+            Near::Loop(frame) => near_part(frame, self.indexes.as_slice()),
             _ => Near::Unsaid,
         }
     }
@@ -274,6 +292,29 @@ fn near_along<'a>(value: &'a Value, indexes: &Vec<Expression>) -> Option<&'a Val
         found = near_step(found, index)?;
     }
     Some(found)
+}
+
+/// What a lone step leads to from a loop's object, by a literal.
+fn near_part<'a>(frame: &LoopFrame<'_>, indexes: &[Expression]) -> Near<'a>
+    ensures { (e : Environment) → (local : Map Datum) →
+        Says result (led (frame_object frame.now local) (steps_view indexes.now) e) None }
+{
+    match indexes {
+        [index] => near_part_by(frame, index),
+        _ => Near::Unsaid,
+    }
+}
+
+/// A step by a literal from a loop's object.
+fn near_part_by<'a>(frame: &LoopFrame<'_>, index: &Expression) -> Near<'a>
+    ensures { (e : Environment) → (local : Map Datum) →
+        Says result (option_and_then (step (frame_object frame.now local))
+        (value_of (expression_view index.now) e)) None }
+{
+    match index {
+        Expression::Literal(part) => frame.near_stepped(part),
+        Expression::Variable(_) => Near::Unsaid,
+    }
 }
 
 /// A step by a literal: a key of a map, or the place of an item. None says nothing.

@@ -90,10 +90,13 @@ impl Drop for LoopFrame<'_> {
     }
 }
 
-/// A scope: names with values of their own, or a loop at one of its items.
+/// A scope: names with values of their own, a name with a value that is lent, or a loop at one of
+/// its items.
 pub enum Scope<'d> {
     /// Names with values of their own.
     Names(Object),
+    /// A name with a value that is lent for the whole run.
+    Lent(&'d str, &'d Value),
     /// A loop at one of its items.
     LoopFrame(LoopFrame<'d>),
 }
@@ -104,6 +107,7 @@ impl Drop for Scope<'_> {
     fn drop(self) {
         match self {
             Scope::Names(_) => {}
+            Scope::Lent(_, _) => {}
             Scope::LoopFrame(_) => {}
         }
     }

@@ -51,16 +51,46 @@ impl<'d> LoopFrame<'d> {
         }
     }
 
-    /// `find` of what a value holds, and of numbers.
+    /// `find` of what a value holds, of numbers, and of the loop's object.
     pub(crate) fn near<'a>(&'a self, name: &str) -> Near<'a>
         ensures { (local : Map Datum) → Says result (frame_map self.now local name.now) None }
     {
         if name == self.name {
             self.near_item()
         } else if name == self.kind.name() {
-            Near::Unsaid
+            Near::Loop(self)
         } else {
             Near::Nothing
+        }
+    }
+
+    /// `stepped` to what each loop's object has: a number or a truth value, by its name.
+    pub(crate) fn near_stepped<'a>(&self, part: &Value) -> Near<'a>
+        ensures { (local : Map Datum) →
+            Says result (step (frame_object self.now local) (view part.now)) None }
+    {
+        match part {
+            Value::Text(name) => self.near_part(name.as_str()),
+            _ => Near::Unsaid,
+        }
+    }
+
+    /// `part` of what each loop's object has.
+    fn near_part<'a>(&self, name: &str) -> Near<'a>
+        ensures { (local : Map Datum) →
+            Says result (object_part (frame_object self.now local) name.now) None }
+    {
+        let k = self.at;
+        let m = self.count;
+        match name {
+            "index" => Near::Number((k + 1) as i64),
+            "last" => Near::Truth(k + 1 == m),
+            "first" => Near::Truth(k == 0),
+            "index0" => Near::Number(k as i64),
+            "length" => Near::Number(m as i64),
+            "rindex" => Near::Number((m - k) as i64),
+            "rindex0" => Near::Number((m - k - 1) as i64),
+            _ => Near::Unsaid,
         }
     }
 

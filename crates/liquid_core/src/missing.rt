@@ -328,6 +328,7 @@ fn look_in_state<'n>(
     for scope in state.frames() {
         match scope {
             Scope::Names(object) => search.look_in(alloc, object)?,
+            Scope::Lent(name, _) => search.look(alloc, *name)?,
             Scope::LoopFrame(frame) => look_in_frame(alloc, search, frame)?,
         }
     }

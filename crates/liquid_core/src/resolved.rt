@@ -43,16 +43,21 @@ pub enum Resolved<'a, 'd> {
     Loop(&'a LoopFrame<'d>, Scopes<'a, 'd>),
 }
 
-/// What a name or an expression is, where that is a value that is lent, or a number of a range.
+/// What a name or an expression is, where that is a value that is lent, a number of a range, or a
+/// loop's object or a part of it.
 #[derive(Clone, Copy, Drop)]
 pub enum Near<'a> {
     /// This value.
     Held(&'a Value),
     /// This number.
     Number(i64),
+    /// This truth value.
+    Truth(bool),
+    /// The object of this loop, as a name leads to it.
+    Loop(&'a LoopFrame<'a>),
     /// Nothing.
     Nothing,
-    /// It isn't said: a loop's object, or what steps of other kinds lead to.
+    /// It isn't said: what steps of other kinds lead to.
     Unsaid,
 }
 
@@ -104,6 +109,13 @@ impl<'d> Scope<'d> {
                 Some(value) => Near::Held(value),
                 None => Near::Nothing,
             },
+            Scope::Lent(lent, value) => {
+                if name == *lent {
+                    Near::Held(*value)
+                } else {
+                    Near::Nothing
+                }
+            }
             Scope::LoopFrame(frame) => frame.near(name),
         }
     }
@@ -122,6 +134,13 @@ impl<'d> Scope<'d> {
                 Some(value) => Some(Resolved::Near(Found::Held(value))),
                 None => None,
             },
+            Scope::Lent(lent, value) => {
+                if name == *lent {
+                    Some(Resolved::Lent(Found::Held(*value)))
+                } else {
+                    None
+                }
+            }
             Scope::LoopFrame(frame) => frame.find(name, behind),
         }
     }

@@ -3,6 +3,7 @@
 
 mod dates;
 mod decimals;
+mod forms;
 mod instant;
 mod laws;
 mod reader;
@@ -10,5 +11,6 @@ mod whole;
 
 pub use dates::dated;
 pub use decimals::data_with_decimals;
+pub use forms::{DataForm, data_in_form, in_form, with_named, with_now};
 pub use instant::date_spelling;
 pub use laws::decimal_laws;

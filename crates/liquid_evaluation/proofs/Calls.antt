@@ -6,7 +6,7 @@ use Rattle.std.specs.List.{list_all}
 use Rattle.std.proofs.lemmas.List.Sums.{AllPass-from_list_all}
 use Rattle.liquid_model.specs.Answer.{Answers, Faulted}
 use Rattle.liquid_model.specs.ErrorKinds.{IsKindOrMemory, is_memory, is_refusal}
-use Rattle.liquid_model.specs.Data.{Datum, number}
+use Rattle.liquid_model.specs.Data.{Datum, number, truth}
 use Rattle.liquid_model.specs.declared.error.Error.{Error}
 use Rattle.liquid_model.specs.declared.error.ErrorKind.{ErrorKind}
 use Rattle.liquid_model.specs.declared.value.Value.{Value}
@@ -18,7 +18,7 @@ use Rattle.liquid_core.specs.Expressions.{value_of, required, all_required}
 use Rattle.liquid_core.specs.FilterAnswers.{AnswersIf}
 use Rattle.liquid_core.specs.Said.{Says}
 use Rattle.liquid_core.specs.declared.resolved.Near.{Near}
-use Rattle.liquid_core.specs.declared.resolved.Near.TheVariants.{Held, Number, Nothing, Unsaid}
+use Rattle.liquid_core.specs.declared.resolved.Near.TheVariants.{Held, Number, Truth, Loop, Nothing, Unsaid}
 use Rattle.liquid_evaluation.specs.Calls.{Call, applied}
 use Rattle.liquid_evaluation.specs.Said.{SaysOf}
 use Rattle.liquid_evaluation.specs.Tree.{FilterCall, Chain}
@@ -130,6 +130,9 @@ pub one_argument : {X : Type 0} (f : X → tree.Expression) (e : Environment) (x
 one_argument f e xs x d h l is v =
     arguments_end f (all_required (map f xs) e) e xs 1 (d ∷ []) l (arguments_more f (all_required (map f xs) e) e xs 0 x [] d h is v (none_done (all_required (map f xs) e)))
 
+pub no_argument : {X : Type 0} (f : X → tree.Expression) (e : Environment) (xs : List X) → length xs ≤ 0 → all_required (map f xs) e ≡ Ok []
+no_argument f e xs l = arguments_end f (all_required (map f xs) e) e xs 0 [] l (none_done (all_required (map f xs) e))
+
 pub one_argument_faulted : {X : Type 0} (f : X → tree.Expression) (e : Environment) (xs : List X) (x : X) (kind : ErrorKind) → 0 < length xs → x ≡ get_or xs 0 x
     → Faulted kind (required (f x) e) → Faulted kind (all_required (map f xs) e)
 one_argument_faulted f e xs x kind h is v = arguments_stop f (all_required (map f xs) e) e xs 0 x [] kind h is v (none_done (all_required (map f xs) e))
@@ -239,6 +242,8 @@ its_entry answers chain e d none h =
 pub said_of : (n : Near) (chain : Chain) (e : Environment) → chain.filters ≡ [] → Says n (value_of chain.entry e) None → SaysOf n chain e
 said_of (Held v) chain e none h = λ answers. its_entry answers chain e (view v.now) none h
 said_of (Number n) chain e none h = λ answers. its_entry answers chain e (number n) none h
+said_of (Truth b) chain e none h = λ answers. its_entry answers chain e (truth b) none h
+said_of (Loop t) chain e none h = tt
 said_of Nothing chain e none h = tt
 said_of Unsaid chain e none h = tt
 

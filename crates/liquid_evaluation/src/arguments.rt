@@ -1,5 +1,5 @@
 //! The values of a call's arguments.
-ghost use Rattle.std.specs.Prelude.{◌≡◌, length, map, IfOk};
+ghost use Rattle.std.specs.Prelude.{◌≡◌, length, map, IfOk, IfSome, Ok};
 ghost use Rattle.liquid_model.specs.Answer.{Answers};
 ghost use Rattle.liquid_model.specs.View.{view};
 ghost use Rattle.liquid_core.specs.Expressions.{all_required};
@@ -7,7 +7,7 @@ ghost use Rattle.liquid_core.specs.ExpressionView.{expression_view};
 ghost use Rattle.liquid_core.specs.States.{environment_of};
 ghost use Rattle.liquid_evaluation.specs.inside.Arguments.{arguments_view};
 
-use liquid_core::{Expression, Result, State, Value, ValueCow};
+use liquid_core::{Expression, Near, Result, State, Value, ValueCow};
 use std::alloc::Global;
 use std::slice;
 
@@ -37,6 +37,26 @@ impl Arguments<'_> {
             Arguments::One(value) => slice::from_ref(value.as_value()),
             Arguments::Many(values) => values.as_slice(),
         }
+    }
+}
+
+/// The values of the expressions, where there is none, or a single one that a value holds.
+pub(crate) fn lent_arguments<'x>(
+    expressions: &'x [Expression],
+    state: &'x State<'_>,
+) -> Option<&'x [Value]>
+    ensures values { IfSome result (λ values.
+        all_required (map expression_view expressions.now) (environment_of state.now) ≡
+        Ok (map view values.now)) }
+    ensures count { IfSome result (λ values. length values.now ≡ length expressions.now) }
+{
+    match expressions {
+        [] => Some(&[]),
+        [expression] => match expression.near(state) {
+            Near::Held(value) => Some(slice::from_ref(value)),
+            _ => None,
+        },
+        _ => None,
     }
 }
 

@@ -4,7 +4,7 @@ ghost use Rattle.liquid_model.specs.ErrorKinds.{IsKindOrMemory};
 ghost use Rattle.liquid_evaluation.specs.StoredFilters.{stored_counts};
 
 use crate::any_filter::AnyFilter;
-use crate::filter_call::{FilterCall, apply_to};
+use crate::filter_call::{FilterCall, apply_one};
 use crate::stored_filter::StoredFilter;
 use liquid_core::{
     Error, Expression, HostFilters, NamedFilters, Near, Quoted, Result, State, Value, ValueCow,
@@ -133,8 +133,8 @@ impl FilterChain {
     {
         let mut value = self.evaluate_entry(alloc, state)?;
         for stored in &self.filters {
-            value = match apply_to(alloc, value, &[stored.call(host)], state) {
-                Ok(next) => next,
+            value = match apply_one(alloc, value.as_value(), &stored.call(host), state) {
+                Ok(next) => ValueCow::Owned(next),
                 Err(fault) => return Err(of_filter(alloc, stored.filter.name(), fault)),
             };
         }

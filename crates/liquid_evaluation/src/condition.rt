@@ -9,6 +9,7 @@ ghost use Rattle.liquid_evaluation.specs.ConditionView.{atom_view, atoms_view, c
 ghost use Rattle.liquid_evaluation.specs.Evaluation.{atom_truth, all_true, truth_of};
 ghost use Rattle.liquid_evaluation.specs.WrittenConditions.{written_atom, written_conjunction};
 ghost use Rattle.liquid_evaluation.specs.WrittenConditions.{written_condition};
+ghost use Rattle.liquid_evaluation.specs.Tree as tree;
 ghost use Rattle.liquid_evaluation.specs.inside.Comparisons.{truth_beside};
 
 use crate::comparison::ComparisonOperator;
@@ -78,9 +79,10 @@ impl Atom {
             (atom_truth (atom_view self.now) (environment_of state.now)) }
     {
         match self {
-            Atom::Bare(value) => match value.try_evaluate(alloc, state)? {
-                Some(found) => Ok(found.as_value().is_truthy()),
-                None => Ok(false),
+            Atom::Bare(value) => match value.near(state) {
+                Near::Held(found) => Ok(found.is_truthy()),
+                Near::Truth(found) => Ok(found),
+                _ => bare_holds(alloc, value, state),
             },
             Atom::Compared(left, operator, right) => {
                 match left.near(state) {
@@ -101,6 +103,18 @@ impl Atom {
                 held
             }
         }
+    }
+}
+
+/// Whether the expression has a value that counts as true.
+#[tactic(auto, unfolding(crate::specs::Evaluation::atom_truth))]
+fn bare_holds(alloc: Global, value: &Expression, state: &State<'_>) -> Result<bool>
+    ensures { Answers (λ b. b) result
+        (atom_truth (tree.bare (expression_view value.now)) (environment_of state.now)) }
+{
+    match value.try_evaluate(alloc, state)? {
+        Some(found) => Ok(found.as_value().is_truthy()),
+        None => Ok(false),
     }
 }
 

@@ -7,7 +7,7 @@ ghost use Rattle.liquid_core.specs.States.{environment_of};
 ghost use Rattle.liquid_model.specs.View.{view};
 ghost use Rattle.liquid_evaluation.specs.Calls.{applied, call_of};
 
-use crate::arguments::evaluate_all;
+use crate::arguments::{evaluate_all, lent_arguments};
 use liquid_core::{Expression, Filter, Result, State, Value, ValueCow};
 use std::alloc::Global;
 
@@ -61,7 +61,7 @@ pub fn apply_to<'v, F: Filter>(
 }
 
 /// `apply_filters` of one call, over a value that is lent.
-fn apply_one<F: Filter>(
+pub(crate) fn apply_one<F: Filter>(
     alloc: Global,
     input: &Value,
     call: &FilterCall<'_, F>,
@@ -72,6 +72,9 @@ fn apply_one<F: Filter>(
         (applied (call_of (F.answer call.now.filter) call.now.args.now ∷ []) (view input.now)
         (environment_of state.now)) }
 {
+    if let Some(lent) = lent_arguments(call.args, state) {
+        return call.filter.evaluate(alloc, input, lent);
+    }
     let arguments = evaluate_all(alloc, call.args, state)?;
     let answer = call.filter.evaluate(alloc, input, arguments.as_slice());
     drop(arguments);

@@ -8,7 +8,7 @@ ghost use Rattle.liquid_core.specs.Expressions.{needed_whole};
 ghost use Rattle.liquid_core.specs.States.{environment_of};
 ghost use Rattle.liquid_evaluation.specs.Evaluation.{amount, at_most, skipped, wanted};
 
-use liquid_core::{Error, ErrorKind, Expression, Quoted, Result, Spelled, State};
+use liquid_core::{Error, ErrorKind, Expression, Quoted, Result, Spelled, State, Value};
 use std::alloc::Global;
 
 /// The items of a source that are asked for, by how many are left out before them and how many they
@@ -85,25 +85,45 @@ pub(crate) fn evaluate_whole(
     let value = expression.evaluate(alloc, state)?;
     match value.as_value().to_integer() {
         Some(number) => Ok(number),
-        None => Err(no_whole(alloc, expression)),
+        None => Err(no_whole(alloc, expression, value.as_value())),
     }
 }
 
-/// The fault of a value that is no whole number.
-fn no_whole(alloc: Global, expression: &Expression) -> Error
+/// The fault of an expression whose value is no whole number.
+fn no_whole(alloc: Global, expression: &Expression, value: &Value) -> Error
     ensures { IsKindOrMemory UnexpectedValue result.kind }
 {
     match (Spelled { expression }).to_string(alloc) {
-        Ok(spelled) => {
-            let quoted = Quoted {
-                text: spelled.as_str(),
-            };
-            Error::formatted(
-                alloc,
-                ErrorKind::UnexpectedValue,
-                format_args!("`{quoted}` is no whole number"),
-            )
-        }
+        Ok(spelled) => unlike_whole(alloc, spelled.as_str(), value),
         Err(refused) => Error::from(refused),
     }
+}
+
+/// The fault of a value, by how it is spelled and what it is in place of a whole number.
+fn unlike_whole(alloc: Global, spelled: &str, value: &Value) -> Error
+    ensures { IsKindOrMemory UnexpectedValue result.kind }
+{
+    let quoted = Quoted { text: spelled };
+    let found = match value {
+        Value::Text(text) => {
+            let text = Quoted {
+                text: text.as_str(),
+            };
+            return Error::formatted(
+                alloc,
+                ErrorKind::UnexpectedValue,
+                format_args!("`{quoted}` must be a whole number, not the text `{text}`"),
+            );
+        }
+        Value::Nil => "nil",
+        Value::Bool(_) => "a truth value",
+        Value::Integer(_) => "a number",
+        Value::Array(_) => "a list",
+        Value::Object(_) => "a map",
+    };
+    Error::formatted(
+        alloc,
+        ErrorKind::UnexpectedValue,
+        format_args!("`{quoted}` must be a whole number, not {found}"),
+    )
 }

@@ -1,10 +1,10 @@
 -- The status of a program that ends before its input does.
 use Rattle.std.specs.Prelude.{ℕ}
-use Rattle.liquid_folder.specs.declared.stop.Stop.{Stop}
-use Rattle.liquid_folder.specs.declared.stop.Stop.TheVariants.{Usage, Missing, Unread, Inside}
-use Rattle.liquid_folder.specs.declared.stop.Stop.TheVariants.{Fault, Streams}
+use Rattle.liquid_folder.specs.declared.stop.FolderStop.{FolderStop}
+use Rattle.liquid_folder.specs.declared.stop.FolderStop.TheVariants.{Usage, Missing, Unread, Inside}
+use Rattle.liquid_folder.specs.declared.stop.FolderStop.TheVariants.{Fault, Streams}
 
-abbrev pub status_of : Stop → ℕ
+abbrev pub status_of : FolderStop → ℕ
 status_of Usage = 2
 status_of (Missing path) = 1
 status_of (Unread path reason) = 1

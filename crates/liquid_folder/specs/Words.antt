@@ -1,20 +1,20 @@
 -- The call that the words after the program's own make.
 use Rattle.std.specs.Prelude.{List, [], ◌∷◌, ◌||◌, ◌==◌, cond, length, Option, Some, None}
 use Rattle.liquid_model.specs.Texts.{Text}
-use Rattle.liquid_folder.specs.declared.words.Call.{Call}
+use Rattle.liquid_folder.specs.declared.words.FolderCall.{FolderCall}
 
 -- three paths
 pub record NamedFolders : Type 0 where
   pub folder : Text
-  pub facts : Text
+  pub «data» : Text
   pub out : Text
 
-abbrev pub call_view : Call → NamedFolders
-call_view c = record { folder = c.folder.now; facts = c.facts.now; out = c.out.now }
+abbrev pub call_view : FolderCall → NamedFolders
+call_view c = record { folder = c.folder.now; «data» = c.«data».now; out = c.out.now }
 
 -- FOLDER DATA OUT, none of which is empty
 abbrev pub call_of : List Text → Option NamedFolders
-call_of (folder ∷ facts ∷ out ∷ []) =
-    cond (length folder == 0 || (length facts == 0 || length out == 0)) None
-    (Some (record { folder = folder; facts = facts; out = out }))
+call_of (folder ∷ «data» ∷ out ∷ []) =
+    cond (length folder == 0 || (length «data» == 0 || length out == 0)) None
+    (Some (record { folder = folder; «data» = «data»; out = out }))
 call_of _ = None

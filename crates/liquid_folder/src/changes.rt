@@ -1,7 +1,7 @@
 //! The files of a site: all of them, and the one that a line names.
 use crate::paths::{file_in, is_left_out, is_same};
-use crate::stop::Stop;
-use crate::words::Call;
+use crate::stop::FolderStop;
+use crate::words::FolderCall;
 use liquid_core::Result;
 use liquid_excerpts::ShownPath;
 use liquid_site_files::{Changed, Folder};
@@ -11,11 +11,11 @@ use std::{fs, io};
 
 /// The folder of a site: pages in `FOLDER/pages`, partials in `FOLDER/partials`, pages written into
 /// OUT.
-pub fn folder_of(alloc: Global, call: &Call<'_>) -> Result<Folder> {
+pub fn folder_of(alloc: Global, call: &FolderCall<'_>) -> Result<Folder> {
     Ok(Folder {
         pages: inside(alloc, call.folder, "/pages/")?,
         partials: inside(alloc, call.folder, "/partials/")?,
-        facts: String::from_str(alloc, call.facts)?,
+        data: String::from_str(alloc, call.data)?,
         out: inside(alloc, call.out, "/")?,
     })
 }
@@ -47,8 +47,8 @@ pub fn line_of(alloc: Global, folder: &Folder, line: &str) -> Result<Line> {
     if line.ends_with('/') {
         return Ok(Line::NoFile);
     }
-    if is_same(line, folder.facts.as_str()) {
-        return Ok(Line::File(Changed::Facts));
+    if is_same(line, folder.data.as_str()) {
+        return Ok(Line::File(Changed::Data));
     }
     let page = file_in(folder.pages.as_str(), line);
     let partial = file_in(folder.partials.as_str(), line);
@@ -71,7 +71,7 @@ pub struct Listing {
 
 /// All files of the site but the data. What is passed over, and a name that can't be read, is
 /// mentioned on standard error.
-pub fn all_files(rt: &HostRuntime, folder: &Folder) -> std::result::Result<Listing, Stop> {
+pub fn all_files(rt: &HostRuntime, folder: &Folder) -> std::result::Result<Listing, FolderStop> {
     let mut files = Vec::new(rt.alloc());
     let partials = names_in(rt, folder.partials.as_str())?;
     for name in partials.names {
@@ -97,14 +97,14 @@ struct Names {
 }
 
 /// The names of the files in a folder. A folder that isn't there has none.
-fn names_in(rt: &HostRuntime, path: &str) -> std::result::Result<Names, Stop> {
+fn names_in(rt: &HostRuntime, path: &str) -> std::result::Result<Names, FolderStop> {
     let mut names = Vec::new(rt.alloc());
     let mut is_whole = true;
     let entries = match fs::read_dir(rt, path) {
         Ok(entries) => entries,
         Err(refused) => match refused.kind() {
             io::ErrorKind::NotFound => return Ok(Names { names, is_whole }),
-            _ => return Err(Stop::unread(rt.alloc(), path, None)),
+            _ => return Err(FolderStop::unread(rt.alloc(), path, None)),
         },
     };
     for entry in entries {
@@ -114,7 +114,7 @@ fn names_in(rt: &HostRuntime, path: &str) -> std::result::Result<Names, Stop> {
             },
             Err(refused) => {
                 if refused.kind() != io::ErrorKind::InvalidFilename {
-                    return Err(Stop::from(refused));
+                    return Err(FolderStop::from(refused));
                 }
                 let path = ShownPath { path };
                 eprintln!(rt; "error: Read: {path}: a name in it isn't UTF-8")?;

@@ -6,11 +6,11 @@ use std::{fs, io};
 /// The files of the system. That they are what reading them says, and hold what was written to
 /// them, is trusted.
 #[derive(Drop)]
-pub struct Files<'r> {
+pub struct SystemFiles<'r> {
     pub rt: &'r HostRuntime,
 }
 
-impl<'r> Disk for Files<'r> {
+impl<'r> Disk for SystemFiles<'r> {
     fn read(&self, path: &str) -> Result<Option<String>, DiskFault> {
         match fs::read_to_string(self.rt, path) {
             Ok(text) => Ok(Some(text)),
@@ -29,7 +29,7 @@ impl<'r> Disk for Files<'r> {
     }
 }
 
-/// Why a file has no text, by another look at it, or none where it has one now.
+/// RefusalReason a file has no text, by another look at it, or none where it has one now.
 pub fn reason_of(rt: &HostRuntime, path: &str) -> Option<Reason> {
     match fs::read(rt, path) {
         Ok(bytes) => match String::from_utf8(bytes) {

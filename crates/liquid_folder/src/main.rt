@@ -13,7 +13,7 @@ mod words;
 use crate::changes::folder_of;
 use crate::folders::check_folders;
 use crate::rounds::Rounds;
-use crate::stop::Stop;
+use crate::stop::FolderStop;
 use crate::words::call_of;
 use liquid_site_files::Folder;
 use std::alloc::AllocError;
@@ -32,9 +32,9 @@ fn main(rt: HostRuntime) -> ExitCode {
 }
 
 /// All rounds. Whether no file was refused and no page ended by a fault.
-fn run(rt: &HostRuntime) -> Result<bool, Stop> {
+fn run(rt: &HostRuntime) -> Result<bool, FolderStop> {
     let words = words_given(rt)?;
-    let call = call_of(&words).ok_or(Stop::Usage)?;
+    let call = call_of(&words).ok_or(FolderStop::Usage)?;
     let folder = folder_of(rt.alloc(), &call)?;
     check_folders(rt, &call, &folder)?;
     all_rounds(rt, &folder, call.out)
@@ -42,7 +42,7 @@ fn run(rt: &HostRuntime) -> Result<bool, Stop> {
 
 /// The first round and one for each empty line of standard input, as long as that lasts. A line
 /// that isn't UTF-8 names no file of the site.
-fn all_rounds(rt: &HostRuntime, folder: &Folder, out: &str) -> Result<bool, Stop> {
+fn all_rounds(rt: &HostRuntime, folder: &Folder, out: &str) -> Result<bool, FolderStop> {
     let mut rounds = Rounds::new(rt, folder, out)?;
     let mut clean = rounds.first_round()?;
     for line in rt.lines(rt.alloc()) {
@@ -50,7 +50,7 @@ fn all_rounds(rt: &HostRuntime, folder: &Folder, out: &str) -> Result<bool, Stop
             Ok(line) => clean &= rounds.take_line(line.as_str())?,
             Err(refused) => {
                 if refused.kind() != io::ErrorKind::InvalidData {
-                    return Err(Stop::from(refused));
+                    return Err(FolderStop::from(refused));
                 }
                 eprintln!(rt; "error: no file of the site: a line that isn't UTF-8")?;
                 clean = false;
@@ -62,7 +62,7 @@ fn all_rounds(rt: &HostRuntime, folder: &Folder, out: &str) -> Result<bool, Stop
 }
 
 /// The words after the program's own. A word that isn't UTF-8 makes no call.
-fn words_given(rt: &HostRuntime) -> Result<Vec<String>, Stop> {
+fn words_given(rt: &HostRuntime) -> Result<Vec<String>, FolderStop> {
     let mut words: Vec<String> = Vec::new(rt.alloc());
     match env::args(rt) {
         Ok(all) => for word in all.skip(1) {
@@ -70,9 +70,9 @@ fn words_given(rt: &HostRuntime) -> Result<Vec<String>, Stop> {
         },
         Err(refused) => {
             if refused.kind() == io::ErrorKind::OutOfMemory {
-                return Err(Stop::from(AllocError));
+                return Err(FolderStop::from(AllocError));
             }
-            return Err(Stop::Usage);
+            return Err(FolderStop::Usage);
         }
     }
     Ok(words)

@@ -1,7 +1,7 @@
 //! The rounds over a folder.
 use crate::changes::{Line, Listing, all_files, line_of};
-use crate::files::{Files, reason_of};
-use crate::stop::Stop;
+use crate::files::{SystemFiles, reason_of};
+use crate::stop::FolderStop;
 use crate::tell::tell_round;
 use liquid_core::Quoted;
 use liquid_site_files::{Changed, Disk, DiskFault, Folder, Site, round, site_of};
@@ -13,7 +13,7 @@ use std::fs;
 pub struct Rounds<'r> {
     rt: &'r HostRuntime,
     folder: &'r Folder,
-    files: Files<'r>,
+    files: SystemFiles<'r>,
     site: Site,
     /// The files to look at in the next round: those that were named, and those that were refused.
     changes: Vec<Changed>,
@@ -26,8 +26,12 @@ pub struct Rounds<'r> {
 impl<'r> Rounds<'r> {
     /// A site over its data, to which all files of the folder are new, and whose pages' files go
     /// into a folder that is made if need be.
-    pub fn new(rt: &'r HostRuntime, folder: &'r Folder, out: &str) -> Result<Rounds<'r>, Stop> {
-        let files = Files { rt };
+    pub fn new(
+        rt: &'r HostRuntime,
+        folder: &'r Folder,
+        out: &str,
+    ) -> Result<Rounds<'r>, FolderStop> {
+        let files = SystemFiles { rt };
         let site = first_site(rt, folder, &files)?;
         let Listing {
             files: changes,
@@ -46,7 +50,7 @@ impl<'r> Rounds<'r> {
 
     /// The round over all files. Whether the name of each could be read, and what `one_round`
     /// answers.
-    pub fn first_round(&mut self) -> Result<bool, Stop> {
+    pub fn first_round(&mut self) -> Result<bool, FolderStop> {
         let clean = self.one_round()?;
         Ok(clean && self.is_whole)
     }
@@ -54,7 +58,7 @@ impl<'r> Rounds<'r> {
     /// What a line of standard input asks for: a round where it is empty, or to look at the file of
     /// this path in the next one. Whether it names a file of the site, and what `one_round` answers
     /// of a round. A file that is left out is passed over without a word.
-    pub fn take_line(&mut self, line: &str) -> Result<bool, Stop> {
+    pub fn take_line(&mut self, line: &str) -> Result<bool, FolderStop> {
         match line_of(self.rt.alloc(), self.folder, line)? {
             Line::Round => self.one_round(),
             Line::File(changed) => {
@@ -72,7 +76,7 @@ impl<'r> Rounds<'r> {
     }
 
     /// The round after the last line, if a file was named since the one before.
-    pub fn last_round(&mut self) -> Result<bool, Stop> {
+    pub fn last_round(&mut self) -> Result<bool, FolderStop> {
         if !self.is_named {
             return Ok(true);
         }
@@ -81,7 +85,7 @@ impl<'r> Rounds<'r> {
 
     /// Runs one round and reports it. Whether no file was refused, no page ended by a fault, and
     /// each page's file was written. A file that is refused is looked at again in the next round.
-    pub fn one_round(&mut self) -> Result<bool, Stop> {
+    pub fn one_round(&mut self) -> Result<bool, FolderStop> {
         self.changes.sort_unstable();
         self.changes.dedup();
         let before = self.site.rendered();
@@ -106,21 +110,25 @@ impl<'r> Rounds<'r> {
 }
 
 /// All files of the folder, once there is one for the pages' files.
-fn changes_at_first(rt: &HostRuntime, folder: &Folder, out: &str) -> Result<Listing, Stop> {
+fn changes_at_first(rt: &HostRuntime, folder: &Folder, out: &str) -> Result<Listing, FolderStop> {
     if fs::create_dir_all(rt, out).is_err() {
-        return Err(Stop::unread(rt.alloc(), out, None));
+        return Err(FolderStop::unread(rt.alloc(), out, None));
     }
     all_files(rt, folder)
 }
 
 /// The site over its data.
-fn first_site(rt: &HostRuntime, folder: &Folder, files: &Files<'_>) -> Result<Site, Stop> {
-    match files.read(folder.facts.as_str()) {
+fn first_site(
+    rt: &HostRuntime,
+    folder: &Folder,
+    files: &SystemFiles<'_>,
+) -> Result<Site, FolderStop> {
+    match files.read(folder.data.as_str()) {
         Ok(Some(text)) => Ok(site_of(rt.alloc(), text.as_str())?),
         Ok(None) | Err(DiskFault::Refused) => {
-            let path = folder.facts.as_str();
-            Err(Stop::unread(rt.alloc(), path, reason_of(rt, path)))
+            let path = folder.data.as_str();
+            Err(FolderStop::unread(rt.alloc(), path, reason_of(rt, path)))
         }
-        Err(DiskFault::Memory) => Err(Stop::from(AllocError)),
+        Err(DiskFault::Memory) => Err(FolderStop::from(AllocError)),
     }
 }

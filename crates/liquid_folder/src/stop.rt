@@ -1,4 +1,4 @@
-//! Why the program ends before its input does.
+//! RefusalReason the program ends before its input does.
 ghost use Rattle.std.specs.Prelude.{◌≡◌};
 ghost use Rattle.liquid_folder.specs.Stops.{status_of};
 
@@ -7,9 +7,9 @@ use liquid_excerpts::{Reason, ShownPath};
 use std::alloc::{AllocError, AllocFailed, Global};
 use std::{fmt, io};
 
-/// Why the program ends before its input does.
+/// RefusalReason the program ends before its input does.
 #[derive(Drop)]
-pub enum Stop {
+pub enum FolderStop {
     /// The words are no call.
     Usage,
     /// The folder of this path isn't there.
@@ -24,28 +24,28 @@ pub enum Stop {
     Streams(io::Error),
 }
 
-impl Stop {
+impl FolderStop {
     /// A path that can't be read.
-    pub fn unread(alloc: Global, path: &str, reason: Option<Reason>) -> Stop {
+    pub fn unread(alloc: Global, path: &str, reason: Option<Reason>) -> FolderStop {
         match String::from_str(alloc, path) {
-            Ok(path) => Stop::Unread(path, reason),
-            Err(refused) => Stop::from(refused),
+            Ok(path) => FolderStop::Unread(path, reason),
+            Err(refused) => FolderStop::from(refused),
         }
     }
 
     /// A folder that isn't there.
-    pub fn missing(alloc: Global, path: &str) -> Stop {
+    pub fn missing(alloc: Global, path: &str) -> FolderStop {
         match String::from_str(alloc, path) {
-            Ok(path) => Stop::Missing(path),
-            Err(refused) => Stop::from(refused),
+            Ok(path) => FolderStop::Missing(path),
+            Err(refused) => FolderStop::from(refused),
         }
     }
 
     /// Pages that would be written into this folder of templates.
-    pub fn inside(alloc: Global, path: &str) -> Stop {
+    pub fn inside(alloc: Global, path: &str) -> FolderStop {
         match String::from_str(alloc, path) {
-            Ok(path) => Stop::Inside(path),
-            Err(refused) => Stop::from(refused),
+            Ok(path) => FolderStop::Inside(path),
+            Err(refused) => FolderStop::from(refused),
         }
     }
 
@@ -54,12 +54,12 @@ impl Stop {
         ensures { result ≡ status_of self.now }
     {
         match self {
-            Stop::Usage => 2,
-            Stop::Missing(_)
-            | Stop::Unread(_, _)
-            | Stop::Inside(_)
-            | Stop::Fault(_)
-            | Stop::Streams(_) => 1,
+            FolderStop::Usage => 2,
+            FolderStop::Missing(_)
+            | FolderStop::Unread(_, _)
+            | FolderStop::Inside(_)
+            | FolderStop::Fault(_)
+            | FolderStop::Streams(_) => 1,
         }
     }
 }
@@ -71,15 +71,15 @@ fn shown(path: &String) -> ShownPath<'_> {
 }
 
 /// What goes to standard error.
-impl fmt::Display for Stop {
+impl fmt::Display for FolderStop {
     fn fmt<W: fmt::Write>(&self, f: &mut fmt::Formatter<W>) -> fmt::Result {
         match self {
-            Stop::Usage => f.write_str("usage: liquid_folder FOLDER DATA OUT"),
-            Stop::Missing(path) => {
+            FolderStop::Usage => f.write_str("usage: liquid_folder FOLDER DATA OUT"),
+            FolderStop::Missing(path) => {
                 let path = shown(path);
                 write!(f, "error: Read: {path}\n  there is no such folder")
             }
-            Stop::Unread(path, reason) => {
+            FolderStop::Unread(path, reason) => {
                 let path = shown(path);
                 write!(f, "error: Read: {path}")?;
                 match reason {
@@ -87,39 +87,39 @@ impl fmt::Display for Stop {
                     None => Ok(()),
                 }
             }
-            Stop::Inside(path) => {
+            FolderStop::Inside(path) => {
                 let path = shown(path);
                 write!(
                     f,
                     "error: OUT lies in {path}, where templates are; name another folder"
                 )
             }
-            Stop::Fault(fault) => write!(f, "error: {fault}"),
-            Stop::Streams(fault) => write!(f, "error: {fault}"),
+            FolderStop::Fault(fault) => write!(f, "error: {fault}"),
+            FolderStop::Streams(fault) => write!(f, "error: {fault}"),
         }
     }
 }
 
-impl From<Error> for Stop {
-    fn from(fault: Error) -> Stop {
-        Stop::Fault(fault)
+impl From<Error> for FolderStop {
+    fn from(fault: Error) -> FolderStop {
+        FolderStop::Fault(fault)
     }
 }
 
-impl From<io::Error> for Stop {
-    fn from(fault: io::Error) -> Stop {
-        Stop::Streams(fault)
+impl From<io::Error> for FolderStop {
+    fn from(fault: io::Error) -> FolderStop {
+        FolderStop::Streams(fault)
     }
 }
 
-impl From<AllocError> for Stop {
-    fn from(refused: AllocError) -> Stop {
-        Stop::Fault(Error::from(refused))
+impl From<AllocError> for FolderStop {
+    fn from(refused: AllocError) -> FolderStop {
+        FolderStop::Fault(Error::from(refused))
     }
 }
 
-impl<T: Drop> From<AllocFailed<T>> for Stop {
-    fn from(refused: AllocFailed<T>) -> Stop {
-        Stop::Fault(Error::from(refused))
+impl<T: Drop> From<AllocFailed<T>> for FolderStop {
+    fn from(refused: AllocFailed<T>) -> FolderStop {
+        FolderStop::Fault(Error::from(refused))
     }
 }

@@ -1,9 +1,9 @@
 //! The lines that a round prints.
 use crate::files::reason_of;
-use crate::stop::Stop;
+use crate::stop::FolderStop;
 use liquid_core::ErrorKind;
 use liquid_excerpts::ShownPath;
-use liquid_site_files::{Folder, Refusal, RoundOutcome, Site, Why};
+use liquid_site_files::{Folder, RefusalReason, RefusedFile, RoundOutcome, Site};
 use std::io;
 
 /// Prints each refused file, each page's fault and a page's file that can't be written on standard
@@ -15,7 +15,7 @@ pub fn tell_round(
     folder: &Folder,
     done: RoundOutcome,
     rendered: u64,
-) -> Result<bool, Stop> {
+) -> Result<bool, FolderStop> {
     let RoundOutcome { refusals, written } = done;
     for refusal in &refusals {
         tell_refusal(rt, refusal)?;
@@ -31,29 +31,29 @@ pub fn tell_round(
                 eprintln!(rt; "error: {fault}")?;
                 Ok(false)
             }
-            _ => Err(Stop::Fault(fault)),
+            _ => Err(FolderStop::Fault(fault)),
         },
     }
 }
 
-fn tell_refusal(rt: &HostRuntime, refusal: &Refusal) -> io::Result<()> {
+fn tell_refusal(rt: &HostRuntime, refusal: &RefusedFile) -> io::Result<()> {
     let path = ShownPath {
         path: refusal.path.as_str(),
     };
     match &refusal.why {
-        Why::Unread => {
+        RefusalReason::Unread => {
             eprintln!(rt; "error: Read: {path}")?;
             match reason_of(rt, path.path) {
                 Some(reason) => eprintln!(rt; "  {reason}"),
                 None => Ok(()),
             }
         }
-        Why::Fault(fault) => eprintln!(rt; "error: {path}: {fault}"),
+        RefusalReason::Fault(fault) => eprintln!(rt; "error: {path}: {fault}"),
     }
 }
 
 /// Tells each page that ends by a fault. Whether there is none.
-fn tell_faults(rt: &HostRuntime, site: &Site, folder: &Folder) -> Result<bool, Stop> {
+fn tell_faults(rt: &HostRuntime, site: &Site, folder: &Folder) -> Result<bool, FolderStop> {
     let mut faultless = true;
     for (name, page) in site.pages().iter() {
         if let Some(fault) = &page.fault {

@@ -4,28 +4,28 @@ ghost use Rattle.liquid_folder.specs.Words.{call_of, call_view};
 
 /// What a call names.
 #[derive(Clone, Copy)]
-pub struct Call<'w> {
+pub struct FolderCall<'w> {
     /// The folder whose `pages` and `partials` are the templates of the site.
     pub folder: &'w str,
     /// The file of the data.
-    pub facts: &'w str,
+    pub data: &'w str,
     /// The folder into which the pages are written.
     pub out: &'w str,
 }
 
 /// The call that the words after the program's own make: FOLDER DATA OUT, none of them empty. None
 /// where they make none.
-pub fn call_of(words: &[String]) -> Option<Call<'_>>
+pub fn call_of(words: &[String]) -> Option<FolderCall<'_>>
     ensures { option_map call_view result ≡ call_of (map string_bytes words.now) }
 {
     match words {
-        [folder, facts, out] => {
-            if folder.is_empty() || facts.is_empty() || out.is_empty() {
+        [folder, data, out] => {
+            if folder.is_empty() || data.is_empty() || out.is_empty() {
                 return None;
             }
-            Some(Call {
+            Some(FolderCall {
                 folder: folder.as_str(),
-                facts: facts.as_str(),
+                data: data.as_str(),
                 out: out.as_str(),
             })
         }

@@ -60,26 +60,10 @@ fn no_object(text: &str) -> Flaw<'_> {
 
 /// Where the place with so many bytes left is.
 fn location(text: &str, left: usize) -> Location {
-    let front = text.get(..text.len().saturating_sub(left)).unwrap_or(text);
-    let (line, column) = behind(front);
+    let place = liquid_lexer::location(text, left);
     Location {
         origin: Origin::Data,
-        line,
-        column,
+        line: place.line,
+        column: place.column,
     }
-}
-
-/// The line and the column, in characters and each from 1, of the place after a text.
-fn behind(text: &str) -> (usize, usize) {
-    let mut line: usize = 1;
-    let mut column: usize = 1;
-    for c in text.chars() {
-        if c == '\n' {
-            line = line.saturating_add(1);
-            column = 1;
-        } else {
-            column = column.saturating_add(1);
-        }
-    }
-    (line, column)
 }

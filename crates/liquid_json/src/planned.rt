@@ -16,6 +16,63 @@ use liquid_core::{Object, Use, Uses, Value, member_of};
 use std::alloc::{AllocError, Global};
 use std::collections::BTreeMap;
 
+/// How much of an item is built. Where nearly all of each record is asked for, it takes longer to
+/// look each name up than to build what nobody asks for.
+#[derive(Clone, Copy, Drop)]
+enum Extent {
+    /// All of it.
+    Whole,
+    /// What is asked for.
+    Asked,
+}
+
+impl Extent {
+    /// That of the next item: whole from a first record on that has no more members than these,
+    /// up to a record that has more, or is none.
+    fn after(self, item: &Value, count: usize, is_first: bool) -> Extent {
+        match item {
+            Value::Object(pairs) if 0 < pairs.len() && pairs.len() <= count => {
+                if is_first { Extent::Whole } else { self }
+            }
+            _ => Extent::Asked,
+        }
+    }
+}
+
+/// How many members are asked for, where each of them is asked for as a whole, or else 0.
+fn whole_members(asked: &Use) -> usize {
+    match asked {
+        Use::Parts {
+            members,
+            items: None,
+        } => {
+            for (_, member) in members.iter() {
+                if !is_whole(member) {
+                    return 0;
+                }
+            }
+            members.len()
+        }
+        _ => 0,
+    }
+}
+
+/// Whether everything is asked for, of a list at least.
+fn is_whole(asked: &Use) -> bool {
+    match asked {
+        Use::Everything => true,
+        Use::Parts {
+            members,
+            items: Some(each),
+        } => members.is_empty() && is_everything(each),
+        _ => false,
+    }
+}
+
+fn is_everything(asked: &Use) -> bool {
+    matches!(asked, Use::Everything)
+}
+
 /// The data of a text as far as these uses ask for it, or none where the text isn't plain: it is no
 /// JSON or no object, or has a number that isn't whole.
 pub fn data_from_planned(
@@ -135,12 +192,41 @@ fn planned_items(
         (items_view v.items) reader.new) }
     ensures shorter { OnOk result (length reader.new < length reader.old) }
 {
+    let count = whole_members(asked);
+    let mut extent = Extent::Asked;
     let mut found = Vec::new(alloc);
     'items: while !reader.take_end_array() {
-        let item = read_planned(alloc, reader, depth, asked)?;
+        let item = read_item(alloc, reader, depth, asked, extent)?;
+        extent = extent.after(&item, count, found.is_empty());
         found.push(item)?;
     }
     Ok(found)
+}
+
+/// The item at the front of the tokens, whole or as far as it is asked for.
+#[cycle(planned)]
+fn read_item(
+    alloc: Global,
+    reader: &mut Reader<'_>,
+    depth: usize,
+    asked: &Use,
+    extent: Extent,
+) -> Result<Value, Stop>
+    requires plain { IsTrue (plain (use_view asked.now)) }
+    ensures ok { IfOk result (λ v. IsPlanned (use_view asked.now) depth reader.old
+        (view v) reader.new) }
+    ensures shorter { OnOk result (length reader.new < length reader.old) }
+{
+    match extent {
+        Extent::Whole => {
+            let whole = read(alloc, reader, depth)?;
+            Ok(whole)
+        }
+        Extent::Asked => {
+            let value = read_planned(alloc, reader, depth, asked)?;
+            Ok(value)
+        }
+    }
 }
 
 #[cycle(planned)]

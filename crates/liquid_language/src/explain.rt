@@ -10,8 +10,9 @@ mod near;
 mod numbers;
 mod outline;
 mod parentheses;
+mod phrasing;
 mod unread;
-mod wording;
+mod wanted;
 
 use crate::language::Language;
 use blocks::{missing_end, unknown_tag};
@@ -19,15 +20,15 @@ use filters::{miscounted, unknown_filter};
 use items::misplaced;
 use liquid_lexer::{Fault, FaultKind, PlacedPiece, placed_piece};
 use outline::{Outline, outline_at};
+use phrasing::{Phrasing, message_of};
 use std::alloc::{AllocError, Global};
 use unread::unread;
-use wording::{Wording, message_of};
 
-/// What the message says of a fault: of which place, as so many bytes of the source from it on, and
-/// the message.
+/// What the message says of a fault.
 #[derive(Drop)]
 pub struct Explanation {
-    pub left: usize,
+    /// How many bytes of the source remain from the place on that it is about.
+    pub remaining: usize,
     pub message: String,
 }
 
@@ -40,22 +41,22 @@ pub fn explanation_of(
 ) -> Result<Explanation, AllocError> {
     let outline = outline_at(alloc, source, language, fault.left)?;
     let piece = placed_piece(alloc, outline.at)?;
-    let wording = wording_of(alloc, language, &fault, &outline, &piece)?;
-    let message = message_of(alloc, source, &wording)?;
+    let phrasing = phrasing_of(alloc, language, &fault, &outline, &piece)?;
+    let message = message_of(alloc, source, &phrasing)?;
     Ok(Explanation {
-        left: wording.from.len(),
+        remaining: phrasing.from.len(),
         message,
     })
 }
 
 /// What the message says of a fault in a piece.
-fn wording_of<'s>(
+fn phrasing_of<'s>(
     alloc: Global,
     language: &'s Language,
     fault: &Fault,
     outline: &Outline<'s>,
     piece: &PlacedPiece<'s>,
-) -> Result<Wording<'s>, AllocError> {
+) -> Result<Phrasing<'s>, AllocError> {
     match fault.kind {
         FaultKind::UnknownTag => unknown_tag(alloc, language, outline, piece),
         FaultKind::UnknownFilter => unknown_filter(alloc, &language.filters, piece, outline.at),
@@ -75,11 +76,11 @@ fn wording_of<'s>(
 }
 
 /// Of brackets or blocks, whichever begin there.
-fn too_nested(from: &str) -> Wording<'_> {
+fn too_nested(from: &str) -> Phrasing<'_> {
     let words = if from.starts_with("[") {
         "brackets nest at most 200 deep"
     } else {
         "blocks nest at most 200 deep"
     };
-    Wording::plain(from, words)
+    Phrasing::plain(from, words)
 }

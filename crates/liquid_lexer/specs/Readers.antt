@@ -1,11 +1,14 @@
 -- What a reader answers.
-use Rattle.std.specs.Prelude.{◌≡◌, ◌⊎◌, ℕ, Option, Some, None, Result, Ok, Err}
+use Rattle.std.specs.Prelude.{◌≡◌, ◌⊎◌, ℕ, Option, Some, None, Result, Ok, Err, []}
 use Rattle.liquid_model.specs.declared.error.ErrorKind.{ErrorKind}
 use Rattle.liquid_model.specs.declared.error.ErrorKind.TheVariants.{Memory}
 use Rattle.liquid_lexer.specs.declared.fault.FaultKind.{FaultKind}
 use Rattle.liquid_lexer.specs.declared.fault.FaultKind.TheVariants as faults
 use Rattle.liquid_lexer.specs.declared.fault.ParseError.{ParseError}
 use Rattle.liquid_lexer.specs.declared.fault.ParseError.TheVariants as errors
+use Rattle.liquid_lexer.specs.declared.expectation.Expectation.{Expectation}
+use Rattle.liquid_lexer.specs.declared.expectation.Expectation.TheVariants.{End}
+use Rattle.liquid_model.specs.Texts.{Text}
 use Rattle.liquid_model.specs.declared.error.ErrorKind.TheVariants as kinds
 
 -- memory aside, nothing is to be read there; which fault it is isn't said
@@ -45,3 +48,8 @@ IsOfKind kind (errors.Fault f) = f.kind ≡ kind
 abbrev pub IsAt : ℕ → ParseError → Type 0
 IsAt left errors.Memory = ⊥
 IsAt left (errors.Fault f) = f.left ≡ left
+
+-- the name of the tag that is wanted as the end of a block, where one is
+abbrev pub end_of : Expectation → Text
+end_of (End name) = name.now
+end_of _ = []

@@ -4,6 +4,7 @@ ghost use Rattle.liquid_model.specs.ErrorKinds.{number_of};
 ghost use Rattle.liquid_lexer.specs.Readers.{kind_of};
 ghost use Rattle.liquid_lexer.specs.declared.fault.ParseError.TheVariants.{Memory};
 
+use crate::expectation::Expectation;
 use liquid_core::ErrorKind;
 use std::alloc::{AllocError, AllocFailed};
 
@@ -63,8 +64,8 @@ pub struct Fault {
     /// How many bytes of the source are left from the place on: where an item can't be read, or
     /// else where the piece opens.
     pub left: usize,
-    /// What is wanted at the place, in words. `the closer` at its end stands for the piece's own.
-    pub wanted: &'static str,
+    /// What is wanted at the place.
+    pub wanted: Expectation,
     /// Of a piece whose items are read but aren't allowed: how many of them are left from the one
     /// on that is wrong. With 0 it is the closer, before which another is wanted.
     pub items_left: usize,
@@ -72,7 +73,7 @@ pub struct Fault {
 
 impl Fault {
     /// A fault where the rest of the source is `text`.
-    pub fn new(kind: FaultKind, text: &str, wanted: &'static str) -> Fault
+    pub fn new(kind: FaultKind, text: &str, wanted: Expectation) -> Fault
         ensures kind { result.kind ≡ kind }
         ensures place { result.left ≡ length text.now }
     {

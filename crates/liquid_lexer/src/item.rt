@@ -8,6 +8,7 @@ ghost use Rattle.liquid_lexer.specs.Readers.{Parses};
 ghost use Rattle.liquid_lexer.specs.PieceView.{item_view, items_view};
 
 use crate::cut::{before, past_byte, past_white};
+use crate::expectation::Expectation;
 use crate::fault::{Fault, FaultKind, ParseError};
 use crate::symbol::{Symbol, read_symbol};
 use crate::value::{read_value, unexpected};
@@ -46,15 +47,15 @@ fn read_range(alloc: Global, text: &str) -> Result<(Item, &str), ParseError>
     let (first, rest) = read_value(alloc, past_white(text), MAX_BRACKETS)?;
     let rest = past_white(rest);
     let Some(dot) = past_byte(rest, b'.') else {
-        return Err(ParseError::Fault(unexpected(rest, "`..`")));
+        return Err(ParseError::Fault(unexpected(rest, Expectation::Dots)));
     };
     let Some(after) = past_byte(dot, b'.') else {
-        return Err(ParseError::Fault(unexpected(rest, "`..`")));
+        return Err(ParseError::Fault(unexpected(rest, Expectation::Dots)));
     };
     let (last, rest) = read_value(alloc, past_white(after), MAX_BRACKETS)?;
     let rest = past_white(rest);
     let Some(after) = past_byte(rest, b')') else {
-        return Err(ParseError::Fault(unexpected(rest, "`)`")));
+        return Err(ParseError::Fault(unexpected(rest, Expectation::ClosingParenthesis)));
     };
     Ok((Item::Range(first, last), after))
 }
@@ -102,14 +103,11 @@ pub fn closer(text: &str, kind: Delimiter) -> Option<(bool, &str)>
 }
 
 /// The fault of a source that ends where an item or the closer is wanted.
-fn unclosed(kind: Delimiter) -> Fault
+fn unclosed() -> Fault
     ensures kind { result.kind ≡ FaultKind.Unclosed }
     ensures place { result.left ≡ 0 }
 {
-    match kind {
-        Delimiter::Output => Fault::new(FaultKind::Unclosed, "", "an item or `}}`"),
-        Delimiter::Tag => Fault::new(FaultKind::Unclosed, "", "an item or `%}`"),
-    }
+    Fault::new(FaultKind::Unclosed, "", Expectation::ItemOrCloser)
 }
 
 /// The items up to the first closer that stands in an item's place, whether it has a dash, and what
@@ -130,7 +128,7 @@ pub fn read_items<'s>(
             return Ok((items, dash, after));
         }
         if from.is_empty() {
-            return Err(ParseError::Fault(unclosed(kind)));
+            return Err(ParseError::Fault(unclosed()));
         }
         let (item, after) = read_item(alloc, from)?;
         items.push_back(item)?;

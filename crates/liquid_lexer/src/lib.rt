@@ -3,6 +3,7 @@
 #![tactic(auto)]
 
 mod cut;
+mod expectation;
 mod fault;
 mod item;
 mod laws;
@@ -17,6 +18,7 @@ mod tokens;
 mod value;
 
 pub use cut::{past_byte, quoted, stripped, text_before, word};
+pub use expectation::Expectation;
 pub use fault::{Fault, FaultKind, ParseError};
 pub use item::{Delimiter, Item, read_items};
 pub use laws::{item_laws, source_laws, value_laws, verbatim_laws};

@@ -7,6 +7,7 @@ ghost use Rattle.liquid_lexer.specs.Readers.{Parses};
 ghost use Rattle.liquid_lexer.specs.PieceView.{piece_view, markup_view};
 
 use crate::cut::{past_byte, past_white, stripped, word};
+use crate::expectation::Expectation;
 use crate::fault::{Fault, FaultKind, ParseError};
 use crate::item::{Delimiter, Item, read_items};
 use crate::mark::{dashed, read_comment, read_raw};
@@ -59,7 +60,7 @@ pub fn read_markup<'s>(alloc: Global, text: &'s str) -> Result<(Markup<'s>, &'s 
     ensures { Parses (λ x. (markup_view x.0, x.1.now)) result (markup_at text.now) }
 {
     let Some((kind, rest)) = opener(text) else {
-        return Err(ParseError::Fault(unexpected(text, "`{{` or `{%`")));
+        return Err(ParseError::Fault(unexpected(text, Expectation::Opener)));
     };
     let (before, inside) = dashed(rest);
     match kind {
@@ -101,9 +102,9 @@ fn no_name(text: &str) -> Fault
     ensures place { result.left ≡ length text.now }
 {
     if text.is_empty() {
-        Fault::new(FaultKind::Unclosed, text, "the name of a tag")
+        Fault::new(FaultKind::Unclosed, text, Expectation::TagName)
     } else {
-        Fault::new(FaultKind::Expected, text, "the name of a tag")
+        Fault::new(FaultKind::Expected, text, Expectation::TagName)
     }
 }
 
@@ -132,7 +133,7 @@ fn tag_name<'s>(piece: Piece<'s>) -> &'s str
 }
 
 /// The fault of a body that doesn't end, at the end of the source.
-fn without_end(end: &'static str) -> Fault
+fn without_end(end: Expectation) -> Fault
     ensures kind { result.kind ≡ FaultKind.MissingEnd }
     ensures place { result.left ≡ 0 }
 {
@@ -155,7 +156,7 @@ pub fn read_body<'s>(
     match kind {
         Body::Raw => {
             let Some((inside, end, rest)) = read_raw(text) else {
-                return Err(ParseError::Fault(without_end("`{% endraw %}`")));
+                return Err(ParseError::Fault(without_end(Expectation::End("endraw"))));
             };
             let inside = stripped(markup.after, inside, end.before);
             let piece = Piece::Raw(tag_name(markup.piece), inside);
@@ -170,7 +171,7 @@ pub fn read_body<'s>(
         }
         Body::Comment => {
             let Some((after, rest)) = read_comment(text) else {
-                return Err(ParseError::Fault(without_end("`{% endcomment %}`")));
+                return Err(ParseError::Fault(without_end(Expectation::End("endcomment"))));
             };
             let piece = Piece::Comment(tag_name(markup.piece));
             Ok((

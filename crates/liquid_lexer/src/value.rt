@@ -12,6 +12,7 @@ ghost use Rattle.liquid_lexer.specs.PieceView.{word_kind_view, read_view};
 ghost use Rattle.std.specs.Option.{option_map};
 
 use crate::cut::{past_byte, past_white, quoted, word};
+use crate::expectation::Expectation;
 use crate::fault::{Fault, FaultKind, ParseError};
 use crate::number::number;
 use crate::scan::{is_dotted, is_letter, number_len};
@@ -50,14 +51,10 @@ fn no_value(text: &str) -> Fault
 {
     let (digits, after) = text.split_at(number_len(text.as_bytes()));
     match text.as_bytes() {
-        [] => Fault::new(FaultKind::Unclosed, text, "a value"),
-        [b'"' | b'\'', ..] => Fault::new(
-            FaultKind::Unclosed,
-            text,
-            "a text with its closing quote",
-        ),
+        [] => Fault::new(FaultKind::Unclosed, text, Expectation::Value),
+        [b'"' | b'\'', ..] => Fault::new(FaultKind::Unclosed, text, Expectation::ClosingQuote),
         _ if !digits.is_empty() => no_number(text, digits, after.as_bytes()),
-        _ => Fault::new(FaultKind::BadItem, text, "a value"),
+        _ => Fault::new(FaultKind::BadItem, text, Expectation::Value),
     }
 }
 
@@ -70,14 +67,14 @@ fn no_number(text: &str, digits: &str, after: &[u8]) -> Fault
         _ if whole_of(digits).is_none() => Fault::new(
             FaultKind::NumberLiteral,
             text,
-            "a number within 64 bits",
+            Expectation::NumberInRange,
         ),
         [b'.', next, ..] if next.is_ascii_digit() => Fault::new(
             FaultKind::FloatLiteral,
             text,
-            "a whole number",
+            Expectation::WholeNumber,
         ),
-        _ => Fault::new(FaultKind::BadItem, text, "a whole number"),
+        _ => Fault::new(FaultKind::BadItem, text, Expectation::WholeNumber),
     }
 }
 
@@ -131,7 +128,7 @@ fn read_named<'s>(
                 return Err(ParseError::Fault(Fault::new(
                     FaultKind::BadItem,
                     rest,
-                    "a literal without a step",
+                    Expectation::LiteralWithoutStep,
                 )));
             }
             Ok((Expression::Literal(value), rest))
@@ -139,7 +136,7 @@ fn read_named<'s>(
         WordKind::State => Err(ParseError::Fault(Fault::new(
             FaultKind::StateWord,
             text,
-            "a value that this library knows",
+            Expectation::KnownValue,
         ))),
     }
 }
@@ -177,13 +174,13 @@ fn read_step(
             return Err(ParseError::Fault(Fault::new(
                 FaultKind::TooNested,
                 text,
-                "at most 200 nested brackets",
+                Expectation::FewerBrackets,
             )));
         }
         let (step, rest) = read_value(alloc, past_white(inside), depth - 1)?;
         let rest = past_white(rest);
         let Some(after) = past_byte(rest, b']') else {
-            return Err(ParseError::Fault(unexpected(rest, "`]`")));
+            return Err(ParseError::Fault(unexpected(rest, Expectation::ClosingBracket)));
         };
         return Ok(Some((step, after)));
     }
@@ -199,7 +196,7 @@ fn read_step(
 
 /// The fault of a text that doesn't begin as it must: `Unclosed` where nothing is left, else
 /// `BadItem`.
-pub fn unexpected(text: &str, wanted: &'static str) -> Fault
+pub fn unexpected(text: &str, wanted: Expectation) -> Fault
     ensures unclosed { text.now ≡ [] → result.kind ≡ FaultKind.Unclosed }
     ensures bad_item { (text.now ≡ [] → ⊥) → result.kind ≡ FaultKind.BadItem }
     ensures place { result.left ≡ length text.now }

@@ -20,7 +20,7 @@ use Rattle.liquid_core.specs.Held.{held, map_of}
 use Rattle.liquid_core.proofs.States.{map_of_put}
 use Rattle.liquid_evaluation.specs.Evaluation.{bound_values}
 use Rattle.liquid_meaning.specs.Meaning.{include_scope, pairs_scope}
-use Rattle.liquid_lib.specs.inside.Partials.{bound_include, bound_object}
+use Rattle.liquid_lib.specs.inside.Partials.{bound_include, bound_object, bound_scope}
 use Rattle.liquid_evaluation.proofs.Calls.{faulted_as, faulted_then}
 
 abbrev Pair : Type 0
@@ -131,3 +131,13 @@ include_faulted kind o h = faulted_then kind o (λ ps. Ok (include_scope ps)) (u
 
 pub held_one : (o n : BTreeMap (String Global) Value) (name : Text) (d : Datum) → o.entries ≡ [] → pairs_view n.entries ≡ put name d (pairs_view o.entries) → held n ≡ insert empty name d
 held_one o n name d none is = held_put o n name d is ∙ ap (λ m. insert m name d) (ap (λ es. map_of (pairs_view es)) none ∙ none_held)
+
+-- a lone pair as a scope
+pub lone_scope : {X : Type 0} (f : X → Text × core.Expression) (e : Environment) (xs : List X) (x : X) (d : Datum) → 0 < length xs → length xs ≤ 1 → x ≡ get_or xs 0 x
+    → required (f x).1 e ≡ Ok d → bound_scope (map f xs) e ≡ Ok (insert empty (f x).0 d)
+unfolding bound_values
+lone_scope f e [] x d h l is v = absurd (omega (arith, h))
+lone_scope f e (y ∷ []) x d h l is v =
+    ap (λ r. (r >>= (λ given. Ok (((f y).0, given) ∷ []))) >>= (λ pairs. Ok (pairs_scope pairs))) (ap (λ z. required (f z).1 e) (sym is) ∙ v)
+    ∙ ap (λ z. Ok (insert empty (f z).0 d)) (sym is)
+lone_scope f e (y ∷ z ∷ zs) x d h l is v = absurd (omega (arith, l))

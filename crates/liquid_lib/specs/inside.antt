@@ -2,6 +2,7 @@ pub mod Changed
 pub mod Choices
 pub mod Counters
 pub mod Engine
+pub mod Given
 pub mod LoopRuns
 pub mod LoopTurns
 pub mod Partials

@@ -13,9 +13,10 @@ ghost use Rattle.liquid_evaluation.specs.Tree as tree;
 ghost use Rattle.liquid_lib.specs.inside.Choices.{Meant, ComesTo, NodeComesTo, ListComesTo};
 ghost use Rattle.liquid_lib.specs.inside.Choices.{CaseStands, IsCase, CaseLeft, equal_among};
 
-use crate::fault_location::located;
+use crate::context::Places;
+use crate::fault_location::located_elsif;
 use liquid_core::{Expression, Result, State, Value};
-use liquid_syntax::{Arm, Condition, Node, Position, TwoBodies};
+use liquid_syntax::{Arm, Condition, Node, TwoBodies};
 use std::alloc::Global;
 
 /// The range that the `if` at `at` runs: its body, where the condition holds, else what its
@@ -27,7 +28,7 @@ pub(crate) fn chosen_range(
     at: usize,
     condition: &Condition,
     bodies: TwoBodies,
-    positions: &[Position],
+    places: Places<'_>,
     state: &State<'_>,
 ) -> Result<(usize, usize)>
     requires body { IsRange nodes.now (at + 1) bodies.first_end }
@@ -46,7 +47,7 @@ pub(crate) fn chosen_range(
             nodes,
             bodies.first_end,
             bodies.last_end,
-            positions,
+            places,
             state,
         )
     }
@@ -154,7 +155,7 @@ fn else_range(
     nodes: &[Node],
     from: usize,
     to: usize,
-    positions: &[Position],
+    places: Places<'_>,
     state: &State<'_>,
 ) -> Result<(usize, usize)>
     requires { IsRange nodes.now from to }
@@ -166,7 +167,7 @@ fn else_range(
     while at < to {
         match &nodes[at] {
             Node::If(condition, bodies) if bodies.last_end == to => {
-                if elsif_holds(alloc, condition, positions, at, state)? {
+                if elsif_holds(alloc, condition, places, at, state)? {
                     return Ok((at + 1, bodies.first_end));
                 }
                 at = bodies.first_end;
@@ -182,7 +183,7 @@ fn else_range(
 fn elsif_holds(
     alloc: Global,
     condition: &Condition,
-    positions: &[Position],
+    places: Places<'_>,
     at: usize,
     state: &State<'_>,
 ) -> Result<bool>
@@ -191,6 +192,6 @@ fn elsif_holds(
 {
     match condition.holds(alloc, state) {
         Ok(holds) => Ok(holds),
-        Err(fault) => Err(located(alloc, positions, at, fault)),
+        Err(fault) => Err(located_elsif(alloc, places, at, condition, state, fault)),
     }
 }

@@ -8,14 +8,31 @@ use liquid_core::{Error, ErrorKind, Result};
 use liquid_syntax::{Partials, Position, Template};
 use std::alloc::Global;
 
-/// The partials, the filters of the host, how many nested partials there may still be, and where
-/// the nodes of the template or the partial begin whose nodes run.
+/// Where the nodes of a template or a partial begin, and its source, where it keeps it.
+#[derive(Clone, Copy, Drop)]
+pub(crate) struct Places<'g> {
+    pub(crate) positions: &'g [Position],
+    pub(crate) source: Option<&'g str>,
+}
+
+impl<'g> Places<'g> {
+    /// Those of a template or a partial.
+    pub(crate) fn of(template: &'g Template) -> Places<'g> {
+        Places {
+            positions: template.positions(),
+            source: template.source(),
+        }
+    }
+}
+
+/// The partials, the filters of the host, how many nested partials there may still be, and the
+/// places in the template or the partial whose nodes run.
 #[derive(Drop)]
 pub(crate) struct RunContext<'g, H> {
     pub(crate) partials: &'g Partials,
     pub(crate) host: &'g H,
     pub(crate) depth: u32,
-    pub(crate) positions: &'g [Position],
+    pub(crate) places: Places<'g>,
 }
 
 impl<'g, H> RunContext<'g, H> {
@@ -32,7 +49,7 @@ impl<'g, H> RunContext<'g, H> {
             partials: self.partials,
             host: self.host,
             depth: self.depth - 1,
-            positions: partial.positions(),
+            places: Places::of(partial),
         })
     }
 }

@@ -70,7 +70,7 @@ pub(crate) fn run_range<'d, W: CountedWrite, H: NamedFilters>(
     let mut at = from;
     while at < to {
         if let Err(fault) = run_node(alloc, context, nodes, at, to, turn, out, state) {
-            return Err(located(alloc, context.positions, at, fault));
+            return Err(located(alloc, context, nodes, at, state, fault));
         }
         if state.interrupt.is_some() {
             return Ok(());
@@ -114,15 +114,7 @@ fn run_node<'d, W: CountedWrite, H: NamedFilters>(
         Node::Raw(text) => run_raw(alloc, context, text.as_str(), out, state),
         Node::Comment => Ok(()),
         Node::If(condition, bodies) => {
-            let chosen = chosen_range(
-                alloc,
-                nodes,
-                at,
-                condition,
-                *bodies,
-                context.positions,
-                state,
-            );
+            let chosen = chosen_range(alloc, nodes, at, condition, *bodies, context.places, state);
             run_chosen(alloc, context, nodes, at, to, chosen, out, state)
         }
         Node::Unless(condition, bodies) => {

@@ -8,7 +8,7 @@ ghost use Rattle.liquid_lib.specs.LimitedPages.{PageWithin};
 ghost use Rattle.liquid_lib.specs.Performs.{Performs};
 ghost use Rattle.liquid_lib.specs.inside.Engine.{beside, nodes_in};
 
-use crate::context::RunContext;
+use crate::context::{Places, RunContext};
 use crate::counted::{CountedWrite, NoWriter};
 use crate::lent::run_lent;
 use crate::limits::{Limited, Limits};
@@ -53,7 +53,7 @@ pub fn render_hosted_page<H: NamedFilters>(
         partials: around.partials,
         host,
         depth: around.depth,
-        positions: template.positions(),
+        places: Places::of(template),
     };
     let mut writer = Limited::new(NoWriter, around.limits);
     let (text, answer) = text_with(alloc, template, &context, &mut writer, &mut state);

@@ -11,7 +11,7 @@ ghost use Rattle.liquid_lib.specs.RuntimeView.{SettingKept, layers_in};
 ghost use Rattle.liquid_lib.specs.Silent.{AreSilent, IsDoneOrStopped};
 ghost use Rattle.liquid_lib.specs.Sinks.{sink_of};
 
-use crate::context::RunContext;
+use crate::context::{Places, RunContext};
 use crate::counted::CountedWrite;
 use crate::engine::run_range;
 use crate::output::Output;
@@ -48,7 +48,7 @@ pub(crate) fn run_template<W: CountedWrite>(
         partials: runtime.partials.unwrap_or(&none),
         host: &runtime.host,
         depth: runtime.depth,
-        positions: template.positions(),
+        places: Places::of(template),
     };
     run_lent(alloc, template, &context, out, &mut runtime.state)
 }

@@ -12,7 +12,9 @@ mod counters;
 mod cycle;
 mod engine;
 pub mod extra;
+mod fault_item;
 mod fault_location;
+mod fault_tag;
 mod hosted_page;
 mod ifchanged;
 pub mod jekyll;
@@ -46,10 +48,10 @@ pub use liquid_filters::FilterKind;
 pub use liquid_meaning::{
     isolation_laws, loop_laws, reading_laws, run_laws, worked_names, worked_runs, worked_uses,
 };
-pub use liquid_syntax::{Language, Partials, Template, parse};
+pub use liquid_syntax::{Language, Partials, Template, parse, parse_kept};
 pub use liquid_tags::{BlockReflection, TagReflection};
 pub use page::{LimitedPage, Page, render_page, render_page_within};
 pub use render::Renderable;
-pub use runtime::{Runtime, RuntimeBuilder};
+pub use runtime::{DEFAULT_DEPTH, Runtime, RuntimeBuilder};
 pub use source::render_source;
 pub use standard::{STANDARD_FILTERS, language};

@@ -2,7 +2,8 @@
 ghost use Rattle.std.specs.Prelude.{◌≡◌, ◌<◌, ◌≤◌, IfOk, string_bytes};
 ghost use Rattle.liquid_model.specs.Answer.{Answers, IsValueOrMemory};
 ghost use Rattle.liquid_model.specs.Data.{Datum};
-ghost use Rattle.liquid_model.specs.Maps.{Map, merged};
+ghost use Rattle.liquid_model.specs.Maps.{Map, empty, insert, merged};
+ghost use Rattle.liquid_model.specs.View.{view};
 ghost use Rattle.liquid_core.specs.Environment.{new_environment};
 ghost use Rattle.liquid_core.specs.ExpressionView.{expression_view};
 ghost use Rattle.liquid_core.specs.Held.{held};
@@ -12,10 +13,13 @@ ghost use Rattle.liquid_syntax.specs.Flats.{bindings_view};
 ghost use Rattle.liquid_syntax.specs.Templates.{partials_of, tree_of};
 ghost use Rattle.liquid_lib.specs.inside.Partials.{IsWithin, item_entry, item_scope, left_with};
 ghost use Rattle.liquid_lib.specs.inside.Partials.{render_entry};
+ghost use Rattle.liquid_lib.specs.inside.Given.{given_map};
 
 use crate::context::RunContext;
 use crate::partial::{Entered, pairs_scope, partial_name, partial_rendered};
-use liquid_core::{Expression, Interrupt, Items, LoopFrame, LoopKind, Object, Result, State};
+use liquid_core::{
+    Expression, Interrupt, Items, LoopFrame, LoopKind, Object, Result, State, Value,
+};
 use liquid_evaluation::LoopItems;
 use liquid_syntax::{Binding, Each};
 use std::alloc::Global;
@@ -26,6 +30,13 @@ use std::collections::BTreeMap;
 pub(crate) struct Apart<'d, H> {
     pub(crate) inner: Entered<'d, H>,
     pub(crate) own: State<'d>,
+}
+
+/// The names that a partial is given: with values of their own, or a single one that is lent.
+#[derive(Drop)]
+enum Given<'d> {
+    Names(Object),
+    Lent(&'d str, &'d Value),
 }
 
 /// An item of a `render .. for`.
@@ -43,8 +54,8 @@ pub(crate) fn enter_render<'d, H>(
     alloc: Global,
     context: &RunContext<'d, H>,
     name: &Expression,
-    bindings: &[Binding],
-    state: &State<'_>,
+    bindings: &'d [Binding],
+    state: &State<'d>,
 ) -> Result<(String, Apart<'d, H>)>
     ensures apart { Answers (λ r. (
       environment_of r.1.own,
@@ -56,12 +67,48 @@ pub(crate) fn enter_render<'d, H>(
         (λ r. IsWithin context.now r.1.inner.partial.now r.1.inner.context) }
 {
     let called = partial_name(alloc, name, state)?;
-    let names = pairs_scope(alloc, bindings, state)?;
+    let names = given_names(alloc, bindings, state)?;
     let partial = partial_rendered(alloc, context.partials, called.as_str())?;
     let context = context.deeper(alloc, partial)?;
-    let own = own_state(alloc, names)?;
+    let own = given_state(alloc, names)?;
     let inner = Entered { partial, context };
     Ok((called, Apart { inner, own }))
+}
+
+/// The names that a partial is given which runs apart: a single one is lent where its value is.
+fn given_names<'d>(alloc: Global, bindings: &'d [Binding], state: &State<'d>) -> Result<Given<'d>>
+    ensures { Answers given_map result (bound_scope (bindings_view bindings.now)
+        (environment_of state.now)) }
+{
+    if let [binding] = bindings {
+        if let Some(value) = binding.value.lent(state) {
+            return Ok(Given::Lent(binding.name.as_str(), value));
+        }
+    }
+    Ok(Given::Names(pairs_scope(alloc, bindings, state)?))
+}
+
+/// A state that holds these names alone.
+fn given_state<'d>(alloc: Global, names: Given<'d>) -> Result<State<'d>>
+    ensures { IsValueOrMemory environment_of result (new_environment (given_map names)) }
+{
+    match names {
+        Given::Names(names) => own_state(alloc, names),
+        Given::Lent(name, value) => lent_state(alloc, name, value),
+    }
+}
+
+/// A state that holds this name alone, whose value is lent.
+fn lent_state<'d>(alloc: Global, name: &'d str, value: &'d Value) -> Result<State<'d>>
+    ensures { IsValueOrMemory environment_of result
+        (new_environment (insert empty name.now (view value.now))) }
+{
+    let mut own = State::alone(alloc, BTreeMap::new(alloc));
+    if let Err(fault) = own.push_lent(name, value) {
+        drop(own);
+        return Err(fault);
+    }
+    Ok(own)
 }
 
 /// The partial of a `render .. for` at one of its items, with the pairs in its state, and the loop

@@ -19,7 +19,7 @@ ghost use Rattle.liquid_lib.specs.RuntimeView.{SettingKept, layers_in, environme
 ghost use Rattle.liquid_lib.specs.RuntimeView.{partials_in, depth_in, globals_for, partials_for};
 ghost use Rattle.liquid_lib.specs.RuntimeView.{depth_for, named_for};
 
-use crate::runtime::{Runtime, RuntimeBuilder};
+use crate::runtime::{DEFAULT_DEPTH, Runtime, RuntimeBuilder};
 use liquid_core::{HostFilters, Object, Result, State, Value, ValueCow};
 use liquid_syntax::Partials;
 use std::alloc::Global;
@@ -38,7 +38,7 @@ impl<'p> RuntimeBuilder<'p> {
             globals: BTreeMap::new(alloc),
             partials: None,
             host: None,
-            depth: 32,
+            depth: DEFAULT_DEPTH,
         }
     }
 

@@ -1,15 +1,13 @@
 -- Filters answer alike to inputs that are alike in what they ask.
-use Rattle.std.specs.Prelude.{◌≡◌, ℕ, suc, Bool, true, false, cond, ◌&&◌, List, [], ◌∷◌, ◌++◌, length, Option, Some, None, Result, Ok, Err, bytes_eq, codes, filter, option_and_then, option_map}
-use mathlib.Core.Path.{refl, sym, ap, subst, subst₂, ◌∙◌}
+use Rattle.std.specs.Prelude.{◌≡◌, Bool, true, false, cond, List, [], ◌∷◌, ◌++◌, Option, Some, None, Result, Ok, Err, bytes_eq, codes, option_and_then, option_map}
+use mathlib.Core.Path.{refl, sym, ap, subst}
 use Rattle.std.specs.Option.{unwrap_or}
 use Rattle.std.specs.Ordering.{is_lt}
 use Rattle.std.specs.List.{cons_option}
 use Rattle.liquid_model.specs.Texts.{Text, same_text}
-use Rattle.liquid_model.specs.Data.{Datum, nil, truth, number, text, array, object, Items, Pairs, no_pairs, pair, text_of}
-use Rattle.liquid_model.specs.Digest.{pairs_len}
-use Rattle.liquid_model.specs.Find.{counted, value_at, item_at, item_back, or_size}
+use Rattle.liquid_model.specs.Data.{Datum, nil, truth, number, text, array, object, Items, Pairs, text_of}
+use Rattle.liquid_model.specs.Find.{counted, item_at, item_back}
 use Rattle.liquid_model.specs.Lists.{list_of, pair_lists}
-use Rattle.liquid_model.specs.View.{items_of}
 use Rattle.liquid_model.specs.declared.error.ErrorKind.{ErrorKind}
 use Rattle.liquid_model.specs.declared.error.ErrorKind.TheVariants.{InvalidInput}
 use Rattle.liquid_model.specs.Fallible.{◌>>=◌}
@@ -19,59 +17,28 @@ use Rattle.liquid_filter_base.specs.Arguments.{first_of}
 use Rattle.liquid_core.specs.FilterAnswers.{FilterAnswer}
 use Rattle.liquid_filters.specs.Kinds.{kind_answer}
 use Rattle.liquid_filters.specs.declared.kind.FilterKind.{FilterKind}
-use Rattle.liquid_filters.specs.declared.kind.FilterKind.TheVariants.{Sort, SortNatural, Where, Reverse, Map, Concat, First, Last, Size}
+use Rattle.liquid_filters.specs.declared.kind.FilterKind.TheVariants.{Sort, SortNatural, Where, Reverse, Map, Concat, First, Last, Size, Compact, Default}
 use Rattle.liquid_evaluation.specs.Tree.{Filter, existing, hosted}
 use Rattle.liquid_evaluation.specs.Evaluation.{answers_with}
 use Rattle.liquid_core.specs.Expressions.{value_of, all_required}
-use Rattle.liquid_list_filters.specs.Sequences.{list, sequence, is_map, all_maps, property, of_list}
+use Rattle.liquid_list_filters.specs.Sequences.{list, sequence, all_maps, property, of_list}
 use Rattle.liquid_list_filters.specs.Ends.{or_nil, first_answer, last_answer}
-use Rattle.liquid_list_filters.specs.Keeping.{is_wanted, where_of, where_by, where_answer, map_of, map_answer}
+use Rattle.liquid_list_filters.specs.Keeping.{is_wanted, where_of, where_by, where_answer, map_of, map_answer, compact_by, compact_answer}
 use Rattle.liquid_list_filters.specs.Rows.{reverse_answer, after_list, concat_by, concat_answer}
 use Rattle.liquid_list_filters.specs.Sorting.{insert_in_order, sorted, Key, key_order, sort_by, given, key_of, lower_case, natural_key_of, sort_named, sort_answer, sort_natural_answer}
-use Rattle.liquid_text_filters.specs.Size.{size_of}
-use Rattle.liquid_model.specs.Uses.{Use, nothing, everything, parts, ItemUse, uncounted, every, shape_of, member, Pairwise, Alike, AlikeItems, present, use_of_each, join, items_wanted}
+use Rattle.liquid_model.specs.Uses.{Use, nothing, everything, parts, ItemUse, uncounted, every, shape_of, Pairwise, Alike, AlikeItems, present, use_of_each, join, items_wanted}
 use Rattle.liquid_meaning.specs.Reads.{Both}
 use Rattle.liquid_meaning.specs.FilterNeeds.{filter_needs, items_each, with_field, items_or_itself, one_field, named_by, by_property, kind_needs, KnownRespected}
-use Rattle.liquid_model.proofs.Alike.{pairwise_same, pairwise_more, alike_same, alike_shape, alike_present, present_asks, join_left, join_right, AlikeLists, pairwise_length}
-use Rattle.liquid_model.proofs.AlikeLists.{list_lengths, items_alike}
-use Rattle.liquid_meaning.proofs.Seen.{both_equal, pairwise_reverse}
-
-abbrev AlikeAs : Use → Datum → Datum → Type 0
-AlikeAs u c d = Alike u (Some c) (Some d)
-
--- two values of one shape: the same scalar, two lists, or two maps
-by_shape : (P : Datum → Datum → Type 0) → ((d : Datum) → P d d) → ((ds es : Items) → P (array ds) (array es)) → ((ps qs : Pairs) → P (object ps) (object qs)) → (c d : Datum) → shape_of (Some c) ≡ shape_of (Some d) → P c d
-by_shape P scalars lists maps nil nil e = scalars nil
-by_shape P scalars lists maps (truth a) (truth b) e = subst (P (truth a)) (ap (λ o. unwrap_or o nil) e) (scalars (truth a))
-by_shape P scalars lists maps (number y) (number z) e = subst (P (number y)) (ap (λ o. unwrap_or o nil) e) (scalars (number y))
-by_shape P scalars lists maps (text s) (text t) e = subst (P (text s)) (ap (λ o. unwrap_or o nil) e) (scalars (text s))
-by_shape P scalars lists maps (array ds) (array es) e = lists ds es
-by_shape P scalars lists maps (object ps) (object qs) e = maps ps qs
-by_shape P scalars lists maps _ _ e = absurd cc
-
--- equal answers are alike
-module _ (v : Use) where
-  answers_same : (x y : Result Datum ErrorKind) → x ≡ y → Both (AlikeAs v) x y
-  answers_same x y e = both_equal (AlikeAs v) (λ a. alike_same v (Some a)) x y e
-
-of_shape : Option Datum → Bool
-of_shape (Some (object ps)) = true
-of_shape _ = false
+use Rattle.liquid_model.proofs.Alike.{pairwise_same, pairwise_more, alike_same, alike_shape, alike_present, present_asks, join_left, join_right, AlikeLists}
+use Rattle.liquid_meaning.proofs.Seen.{pairwise_reverse}
+use Rattle.liquid_meaning.proofs.NeededItems.{AlikeAs, by_shape, answers_same, same_size, list_alike, kept_alike, property_alike, field_of, rest_of, shape_of_field, maps_same, chosen}
+use Rattle.liquid_meaning.proofs.KeptNeeds.{compact_respects, given_respects, default_respects}
 
 values : Result (List Datum) ErrorKind → List Datum
 values (Ok ds) = ds
 values (Err kind) = []
 
--- ---- size, first and last
-
-map_lengths : (ps : Pairs) → length (pair_lists ps) ≡ pairs_len ps
-map_lengths no_pairs = refl
-map_lengths (pair k d ps) = ap suc (map_lengths ps)
-
-same_size : (u : Use) (c d : Datum) → AlikeAs (items_each u) c d → size_of c ≡ size_of d
-same_size u c d a = by_shape (λ c d. AlikeAs (items_each u) c d → size_of c ≡ size_of d) (λ d a. refl)
-    (λ ds es a. sym (list_lengths ds) ∙ (pairwise_length _ (list_of ds) (list_of es) a.1.1 ∙ list_lengths es))
-    (λ ps qs a. sym (map_lengths ps) ∙ (pairwise_length _ (pair_lists ps) (pair_lists qs) a.1.1 ∙ map_lengths qs)) c d a.0 a
+-- ---- first and last
 
 or_nil_alike : (v : Use) (o p : Option Datum) → Alike v o p → AlikeAs v (or_nil o) (or_nil p)
 or_nil_alike v None None a = alike_same v (Some nil)
@@ -94,16 +61,6 @@ last_respects v arguments c d a = by_shape (λ c d. AlikeAs (one_field (codes "l
     (λ d a. answers_same v _ _ refl)
     (λ ds es a. or_nil_alike v (item_back 1 ds) (item_back 1 es) a.1.0.0)
     (λ ps qs a. refl) c d a.0 a
-
--- ---- lists of alike items
-
-listed_back : (ds : List Datum) → list_of (items_of ds) ≡ ds
-listed_back [] = refl
-listed_back (d ∷ ds) = ap (λ es. d ∷ es) (listed_back ds)
-
--- a list whose items are as wanted is as asked
-list_alike : (v : Use) (ds es : List Datum) → AlikeLists (items_wanted v) ds es → AlikeAs v (list ds) (list es)
-list_alike v ds es a = items_alike v (items_of ds) (items_of es) (subst₂ (AlikeLists (items_wanted v)) (sym (listed_back ds)) (sym (listed_back es)) a)
 
 -- ---- reverse and concat
 
@@ -133,29 +90,6 @@ concat_respects v (b ∷ bs) c d a = by_shape (λ c d. AlikeAs (items_each (item
     (λ d a. answers_same v _ _ refl)
     (λ ds es a. after_alike v (list_of ds) (list_of es) b a.1.1)
     (λ ps qs a. refl) c d a.0 a
-
--- ---- properties
-
--- a property is the member, but for the length
-property_alike : (name : Text) (w : Use) (c d : Datum) → bytes_eq name (codes "size") ≡ false → shape_of (Some c) ≡ shape_of (Some d) → Alike w (member name (Some c)) (member name (Some d)) → Alike w (property name c) (property name d)
-property_alike name w c d no_length e a = by_shape (λ c d. Alike w (member name (Some c)) (member name (Some d)) → Alike w (property name c) (property name d))
-    (λ d a. alike_same w (property name d)) (λ ds es a. alike_same w None) (λ ps qs a. of_maps ps qs a) c d e a
-  where
-    plain : (o : Option Datum) (n : ℕ) → or_size o name n ≡ o
-    plain (Some d) n = refl
-    plain None n = ap (λ b. cond b (Some (counted n)) None) no_length
-
-    of_maps : (ps qs : Pairs) → Alike w (member name (Some (object ps))) (member name (Some (object qs))) → Alike w (value_at name ps) (value_at name qs)
-    of_maps ps qs a = subst₂ (Alike w) (plain (value_at name ps) (pairs_len ps)) (plain (value_at name qs) (pairs_len qs)) a
-
-field_of : (name : Text) (w u : Use) (c d : Datum) → AlikeAs (with_field name w u) c d → Alike w (member name (Some c)) (member name (Some d))
-field_of name w u c d a = let b = join_left (one_field name w) u (Some c) (Some d) a in b.1.0.0
-
-rest_of : (name : Text) (w u : Use) (c d : Datum) → AlikeAs (with_field name w u) c d → AlikeAs u c d
-rest_of name w u c d a = join_right (one_field name w) u (Some c) (Some d) a
-
-shape_of_field : (name : Text) (w u : Use) (c d : Datum) → AlikeAs (with_field name w u) c d → shape_of (Some c) ≡ shape_of (Some d)
-shape_of_field name w u c d a = let b = join_left (one_field name w) u (Some c) (Some d) a in b.0
 
 -- ---- map
 
@@ -197,43 +131,12 @@ its_items (parts members turns) ds es a = pairwise_more _ _ (λ x y h. join_left
 its_items nothing ds es a = all_same nothing ds es a
 its_items everything ds es a = all_same everything ds es a
 
-map_shape : (d : Datum) → is_map d ≡ of_shape (shape_of (Some d))
-unfolding of_shape
-map_shape nil = refl
-map_shape (truth b) = refl
-map_shape (number z) = refl
-map_shape (text s) = refl
-map_shape (array ds) = refl
-map_shape (object ps) = refl
-
 module _ (name : Text) (w : Use) (no_length : bytes_eq name (codes "size") ≡ false) where
   abbrev W : Use
   W = with_field name everything w
 
-  maps_same : (ds es : List Datum) → AlikeLists W ds es → all_maps ds ≡ all_maps es
-  maps_same [] [] a = refl
-  maps_same [] (e ∷ es) a = absurd a
-  maps_same (d ∷ ds) [] a = absurd a
-  maps_same (d ∷ ds) (e ∷ es) a = λ i. (map_shape d ∙ (ap of_shape (shape_of_field name everything w d e a.0) ∙ sym (map_shape e))) i && maps_same ds es a.1 i
-
   property_same : (d e : Datum) → AlikeAs W d e → property name d ≡ property name e
   property_same d e a = property_alike name everything d e no_length (shape_of_field name everything w d e a) (field_of name everything w d e a)
-
-  -- ---- where
-
-  wanted_alike : (target : Option Datum) (ds es : List Datum) → AlikeLists W ds es → AlikeLists w (where_of name target ds) (where_of name target es)
-  wanted_alike target [] [] a = tt
-  wanted_alike target [] (e ∷ es) a = absurd a
-  wanted_alike target (d ∷ ds) [] a = absurd a
-  wanted_alike target (d ∷ ds) (e ∷ es) a =
-      at (is_wanted target (property name d)) (is_wanted target (property name e)) (ap (is_wanted target) (property_same d e a.0)) (wanted_alike target ds es a.1)
-    where
-      kept : (b : Bool) → AlikeLists w (where_of name target ds) (where_of name target es) → AlikeLists w (cond b (d ∷ where_of name target ds) (where_of name target ds)) (cond b (e ∷ where_of name target es) (where_of name target es))
-      kept true rest = (rest_of name everything w d e a.0, rest)
-      kept false rest = rest
-
-      at : (b c : Bool) → b ≡ c → AlikeLists w (where_of name target ds) (where_of name target es) → AlikeLists w (cond b (d ∷ where_of name target ds) (where_of name target ds)) (cond c (e ∷ where_of name target es) (where_of name target es))
-      at b c same rest = subst (λ c. AlikeLists w (cond b (d ∷ where_of name target ds) (where_of name target ds)) (cond c (e ∷ where_of name target es) (where_of name target es))) same (kept b rest)
 
   -- ---- sort
 
@@ -263,21 +166,16 @@ module _ (name : Text) (w : Use) (no_length : bytes_eq name (codes "size") ≡ f
     sorted_alike (d ∷ ds) [] a = absurd a
     sorted_alike (d ∷ ds) (e ∷ es) a = insert_alike d e (sorted below ds) (sorted below es) a.0 (sorted_alike ds es a.1)
 
--- what a test of maps chooses between
-chosen : (v : Use) (b c : Bool) (x y z w : Result Datum ErrorKind) → b ≡ c → Both (AlikeAs v) x z → Both (AlikeAs v) y w → Both (AlikeAs v) (cond b x y) (cond c z w)
-chosen v b c x y z w e f g = subst (λ c. Both (AlikeAs v) (cond b x y) (cond c z w)) e (at b)
-  where
-    at : (b : Bool) → Both (AlikeAs v) (cond b x y) (cond b z w)
-    at true = f
-    at false = g
-
 module _ (name : Text) (v : Use) (no_length : bytes_eq name (codes "size") ≡ false) where
   abbrev V : Use
   V = with_field name everything (items_wanted v)
 
+  wanted_alike : (target : Option Datum) (ds es : List Datum) → AlikeLists V ds es → AlikeLists (items_wanted v) (where_of name target ds) (where_of name target es)
+  wanted_alike target ds es a = kept_alike V (items_wanted v) (λ d. is_wanted target (property name d)) (λ d e r. ap (is_wanted target) (property_same name (items_wanted v) no_length d e r)) (λ d e r. rest_of name everything (items_wanted v) d e r) ds es a
+
   where_list : (target : Option Datum) (ds es : List Datum) → AlikeLists V ds es → Both (AlikeAs v) (cond (all_maps ds) (Ok (list (where_of name target ds))) (Ok nil)) (cond (all_maps es) (Ok (list (where_of name target es))) (Ok nil))
-  where_list target ds es a = chosen v (all_maps ds) (all_maps es) _ _ _ _ (maps_same name (items_wanted v) no_length ds es a)
-      (list_alike v _ _ (wanted_alike name (items_wanted v) no_length target ds es a)) (alike_same v (Some nil))
+  where_list target ds es a = chosen v (all_maps ds) (all_maps es) _ _ _ _ (maps_same name everything (items_wanted v) ds es a)
+      (list_alike v _ _ (wanted_alike target ds es a)) (alike_same v (Some nil))
 
   shape_before : (c d : Datum) → AlikeAs (items_or_itself V) c d → shape_of (Some c) ≡ shape_of (Some d)
   shape_before c d a = at (items_wanted v) a
@@ -291,13 +189,13 @@ module _ (name : Text) (v : Use) (no_length : bytes_eq name (codes "size") ≡ f
   where_respects target c d a = by_shape (λ c d. AlikeAs (items_or_itself V) c d → Both (AlikeAs v) (where_by name target c) (where_by name target d))
       (λ d a. answers_same v _ _ refl)
       (λ ds es a. where_list target (list_of ds) (list_of es) (its_items V ds es a))
-      (λ ps qs a. list_alike v _ _ (wanted_alike name (items_wanted v) no_length target (object ps ∷ []) (object qs ∷ []) (itself V ps qs a, tt)))
+      (λ ps qs a. list_alike v _ _ (wanted_alike target (object ps ∷ []) (object qs ∷ []) (itself V ps qs a, tt)))
       c d (shape_before c d a) a
 
   module _ (key : Option Text → Datum → Key) (key_same : (d e : Datum) → property name d ≡ property name e → key (Some name) d ≡ key (Some name) e) where
     sort_list : (ds es : List Datum) → AlikeLists V ds es
         → Both (AlikeAs v) (cond (all_maps ds) (Ok (list (sort_by (key (Some name)) ds))) (Err InvalidInput)) (cond (all_maps es) (Ok (list (sort_by (key (Some name)) es))) (Err InvalidInput))
-    sort_list ds es a = chosen v (all_maps ds) (all_maps es) _ _ _ _ (maps_same name (items_wanted v) no_length ds es a)
+    sort_list ds es a = chosen v (all_maps ds) (all_maps es) _ _ _ _ (maps_same name everything (items_wanted v) ds es a)
         (list_alike v _ _ (pairwise_more (AlikeAs V) (AlikeAs (items_wanted v)) (λ x y r. rest_of name everything (items_wanted v) x y r) _ _ (sorted_alike name (items_wanted v) no_length (key (Some name)) key_same ds es a))) refl
 
     sort_respects : (c d : Datum) → AlikeAs (items_or_itself V) c d → Both (AlikeAs v) (sort_named key name c) (sort_named key name d)
@@ -325,6 +223,10 @@ first_argument (literal d ∷ xs) name e arguments h is = at (all_required xs e)
     at : (r : Result (List Datum) ErrorKind) → (r >>= (λ ds. Ok (d ∷ ds))) ≡ Ok arguments → IsFirst name arguments
     at (Ok ds) is = record { first = d; others = ds; all = sym (ap (λ r. values r) is); named = ap (λ o. unwrap_or o name) h }
     at (Err kind) is = absurd cc
+
+no_arguments : (e : Environment) (arguments : List Datum) → all_required [] e ≡ Ok arguments → [] ≡ arguments
+unfolding all_required values
+no_arguments e arguments is = ap values is
 
 -- equal inputs where everything is asked, and else what f asks
 by_argument : (v : Use) (answer : Datum → List Datum → Result Datum ErrorKind) (f : Text → Use) (xs : List Expression) (e : Environment) (arguments : List Datum) → all_required xs e ≡ Ok arguments
@@ -362,6 +264,11 @@ kind_respects (Sort f) xs v e arguments is c d a = by_argument v sort_answer _ x
 kind_respects (SortNatural f) xs v e arguments is c d a = by_argument v sort_natural_answer _ xs e arguments is
     (λ name no_length first others h c d a. subst (λ t. Both (AlikeAs v) (sort_named natural_key_of t c) (sort_named natural_key_of t d)) (sym h)
     (sort_respects name v no_length natural_key_of (λ d e p. ap (λ o. option_map (λ x. text (lower_case (text_of x))) (option_and_then given o)) p) c d a)) c d a
+kind_respects (Compact f) [] v e arguments is c d a =
+    subst (λ zs. Both (AlikeAs v) (compact_answer c zs) (compact_answer d zs)) (no_arguments e arguments is) (compact_respects v c d a)
+kind_respects (Compact f) (x ∷ xs) v e arguments is c d a = by_argument v compact_answer _ (x ∷ xs) e arguments is
+    (λ name no_length first others h c d a. subst (λ t. Both (AlikeAs v) (compact_by t c) (compact_by t d)) (sym h) (given_respects v name no_length c d a)) c d a
+kind_respects (Default f) xs v e arguments is c d a = default_respects v arguments c d a
 kind_respects kind xs v e arguments is c d a = answers_same v _ _ (ap (λ o. kind_answer kind (unwrap_or o nil) arguments) a)
 
 respected : (named : Text → FilterAnswer) (filter : Filter) (xs : List Expression) (v : Use) (e : Environment) (arguments : List Datum) → all_required xs e ≡ Ok arguments

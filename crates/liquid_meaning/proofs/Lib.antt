@@ -9,8 +9,10 @@ pub mod Covering
 pub mod FilterNeeds
 pub mod Further
 pub mod Items
+pub mod KeptNeeds
 pub mod Law
 pub mod Maps
+pub mod NeededItems
 pub mod Nodes
 pub mod ProjectedRuns
 pub mod Reading

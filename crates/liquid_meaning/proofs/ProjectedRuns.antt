@@ -1,5 +1,5 @@
 -- A run over data is a run over what is left of it.
-use Rattle.std.specs.Prelude.{◌≡◌, false}
+use Rattle.std.specs.Prelude.{false}
 use mathlib.Core.Path.{refl, sym, ap, ◌∙◌}
 use Rattle.liquid_model.specs.Projected.{projected_pairs}
 use Rattle.liquid_model.proofs.Projected.{pairs_projected}

@@ -4,7 +4,7 @@ use mathlib.Core.List.{reverse, reverse_aux}
 use Rattle.std.specs.Fmt.{signed_decimal}
 use mathlib.Core.Path.{refl, sym, ap, subst, subst₂, ◌∙◌}
 use Rattle.std.specs.Option.{option_and_then, ok_or, unwrap_or}
-use Rattle.liquid_model.specs.Texts.{Text, ◌else◌}
+use Rattle.liquid_model.specs.Texts.{Text}
 use Rattle.liquid_model.specs.Data.{Datum, nil, truth, number, text, array, object, scalar, text_of}
 use Rattle.liquid_model.specs.Whole.{whole, fits}
 use Rattle.liquid_model.proofs.Compares.{number_text_is_read}

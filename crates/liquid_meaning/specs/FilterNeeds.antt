@@ -1,21 +1,24 @@
 -- What the filters that go through lists ask of their input.
 --     known_needs      of each call of a filter: `size` sees how many items there are, `first` and
---                      `last` an end, `reverse` and `concat` what is
---     asked of the answer's items, `where`, `sort` and `sort_natural` with a property also that,
---       `map` its property alone; all others see everything
-use Rattle.std.specs.Prelude.{cond, List, ◌∷◌, Option, Some, None, codes}
+--                      `last` an end, `reverse` and `concat` what is asked of the answer's items,
+--                      `where`, `sort` and `sort_natural` with a property also that, `map` its
+--                      property alone, `compact` also which items or properties are nil, `default`
+--                      what is asked of the answer and how many items there are; all others see
+--                      everything
+use Rattle.std.specs.Prelude.{cond, List, [], ◌∷◌, Option, Some, None, codes}
 use Rattle.liquid_model.specs.Texts.{Text, same_text}
 use Rattle.liquid_model.specs.Data.{text_of}
 use Rattle.liquid_core.specs.Expression.{Expression, literal}
 use Rattle.liquid_filters.specs.declared.kind.FilterKind.{FilterKind}
 use Rattle.liquid_filters.specs.declared.kind.FilterKind.TheVariants.{Sort, SortNatural, Where}
 use Rattle.liquid_filters.specs.declared.kind.FilterKind.TheVariants.{Reverse, Map, Concat, First}
-use Rattle.liquid_filters.specs.declared.kind.FilterKind.TheVariants.{Last, Size}
+use Rattle.liquid_filters.specs.declared.kind.FilterKind.TheVariants.{Last, Size, Compact}
+use Rattle.liquid_filters.specs.declared.kind.FilterKind.TheVariants.{Default}
 use Rattle.liquid_evaluation.specs.Tree.{Filter, existing, hosted}
 use Rattle.liquid_evaluation.specs.Evaluation.{answers_with}
 use Rattle.liquid_core.specs.FilterAnswers.{FilterAnswer}
 use Rattle.liquid_model.specs.Uses.{Use, nothing, everything, parts, no_fields, field, uncounted}
-use Rattle.liquid_model.specs.Uses.{every, present, use_of_each, join, items_wanted}
+use Rattle.liquid_model.specs.Uses.{every, there, present, use_of_each, join, items_wanted}
 use Rattle.liquid_meaning.specs.Reading.{Needs}
 use Rattle.liquid_meaning.specs.Reads.{Respects}
 
@@ -50,6 +53,13 @@ abbrev pub by_property : Option Text → (Text → Use) → Use
 by_property None f = everything
 by_property (Some name) f = cond (same_text name (codes "size")) everything (f name)
 
+-- without a property the items are tested, which is seen by their kind, and else their properties
+abbrev pub compact_needs : List Expression → Use → Use
+compact_needs [] v = items_each (present (items_wanted v))
+compact_needs (x ∷ xs) v =
+    by_property (named_by (x ∷ xs))
+    (λ name. items_each (with_field name there (items_wanted v)))
+
 abbrev pub kind_needs : FilterKind → List Expression → Use → Use
 kind_needs (Size f) arguments v = items_each nothing
 kind_needs (First f) arguments v = one_field (codes "first") v
@@ -67,6 +77,8 @@ kind_needs (Sort f) arguments v =
 kind_needs (SortNatural f) arguments v =
     by_property (named_by arguments)
     (λ name. items_or_itself (with_field name everything (items_wanted v)))
+kind_needs (Compact f) arguments v = compact_needs arguments v
+kind_needs (Default f) arguments v = join (items_each nothing) v
 kind_needs _ arguments v = everything
 
 abbrev pub filter_needs : Filter → List Expression → Use → Use

@@ -6,11 +6,16 @@ use Rattle.liquid_model.specs.Data.{Datum, nil, number, text, array, object, no_
 use Rattle.liquid_model.specs.Data.{no_pairs, pair}
 use Rattle.liquid_core.specs.Expression.{variable, no_steps, step}
 use Rattle.liquid_evaluation.specs.declared.comparison.ComparisonOperator.TheVariants.{Equals}
-use Rattle.liquid_evaluation.specs.Tree.{each_of, Node, assign, bare, if_true, increment, Nodes}
-use Rattle.liquid_evaluation.specs.Tree.{no_nodes, render}
-use Rattle.liquid_model.specs.Uses.{Use, everything, parts, Fields, no_fields, field, uncounted}
-use Rattle.liquid_model.specs.Uses.{every, there, use_in}
-use Rattle.liquid_meaning.specs.Reading.{Uses, covers}
+use Rattle.liquid_evaluation.specs.Tree.{each_of, existing, Chain, Node, assign, bare, if_true}
+use Rattle.liquid_evaluation.specs.Tree.{increment, Nodes, no_nodes, output, render}
+use Rattle.liquid_core.specs.Expression.{Expression}
+use Rattle.liquid_filters.specs.declared.kind.FilterKind.{FilterKind}
+use Rattle.liquid_filters.specs.declared.kind.FilterKind.TheVariants.{Compact, Default, Map, Size}
+use Rattle.liquid_filters.specs.declared.kind.FilterKind.TheVariants.{Where}
+use Rattle.liquid_model.specs.Uses.{Use, nothing, everything, parts, Fields, no_fields, field}
+use Rattle.liquid_model.specs.Uses.{uncounted, every, there, use_in}
+use Rattle.liquid_meaning.specs.FilterNeeds.{known_needs}
+use Rattle.liquid_meaning.specs.Reading.{Uses, Needs, covers}
 use Rattle.liquid_meaning.specs.Reads.{needs_all}
 use Rattle.liquid_model.specs.Projected.{projected}
 use Rattle.liquid_meaning.specs.Worked.{name, property, quoted, integer, alone, show, tree}
@@ -32,11 +37,25 @@ with_members fs = parts (fields fs) uncounted
 abbrev pub of_each : Use → Use
 of_each u = parts no_fields (every u)
 
-abbrev pub covered : List (String × Use) → List (Text × Nodes) → List Node → Bool
-covered fs partials nodes = covers needs_all (asking fs) (record {
+abbrev pub covered_by : Needs → List (String × Use) → List (Text × Nodes) → List Node → Bool
+covered_by needs fs partials nodes = covers needs (asking fs) (record {
   answers = no_filters;
   partials = partials;
 }) (tree nodes)
+
+abbrev pub covered : List (String × Use) → List (Text × Nodes) → List Node → Bool
+covered fs partials nodes = covered_by needs_all fs partials nodes
+
+-- by what each filter sees
+abbrev pub known : List (String × Use) → List Node → Bool
+known fs nodes = covered_by known_needs fs [] nodes
+
+-- s | filter: arguments
+abbrev pub through : String → FilterKind → List Expression → Chain
+through s kind arguments = record {
+  entry = name s;
+  filters = record { filter = existing kind; arguments = arguments } ∷ [];
+}
 
 -- {% for p in products %}{{ p.title }}{% endfor %}
 abbrev pub titles : List Node
@@ -93,6 +112,38 @@ pub record WorkedReading : Type 0 where
   pub a_partial_is_looked_at : covered [] ((codes "p", tree (show (name "v") ∷ [])) ∷ []) [] ≡ false
   -- {% increment n %}
   pub a_counter : covered (("n", there) ∷ []) [] (increment (codes "n") ∷ []) ≡ true
+  -- {{ a | map: 't' }} and {{ a | size }}
+  pub a_map : (f : _) → known (("a", of_each (with_members (("t", everything) ∷ []))) ∷ [])
+      (output (through "a" (Map f) (quoted "t" ∷ [])) ∷ []) ≡ true
+  pub a_map_asks_its_property : (f : _) → known (("a", of_each there) ∷ [])
+      (output (through "a" (Map f) (quoted "t" ∷ [])) ∷ []) ≡ false
+  pub a_number_of_items : (f : _) → known (("a", of_each nothing) ∷ [])
+      (output (through "a" (Size f) []) ∷ []) ≡ true
+  -- {% assign x = a | where: 't' %}{{ x.size }}
+  pub a_choice : (f : _) → known ((
+    "a",
+    parts (fields (("t", everything) ∷ []))
+        (every (with_members (("t", everything) ∷ []))),
+  ) ∷
+      ("x", with_members (("size", everything) ∷ [])) ∷ [])
+      (assign (codes "x") (through "a" (Where f) (quoted "t" ∷ [])) ∷
+      show (property "x" "size") ∷ []) ≡ true
+  -- {% assign x = a | compact %}{{ x.size }}
+  pub a_nil_is_a_kind : (f : _) → known (("a", of_each there) ∷
+      ("x", with_members (("size", everything) ∷ [])) ∷ [])
+      (assign (codes "x") (through "a" (Compact f) []) ∷ show (property "x" "size") ∷ []) ≡ true
+  -- {% assign x = a | default: 'n' %}{{ x.t }}
+  pub a_default : (f : _) → known ((
+    "a",
+    parts (fields (("t", everything) ∷ []))
+        (every nothing),
+  ) ∷ ("x", with_members (("t", everything) ∷ [])) ∷ [])
+      (assign (codes "x") (through "a" (Default f) (quoted "n" ∷ [])) ∷
+      show (property "x" "t") ∷ []) ≡ true
+  pub a_default_asks_how_many : (f : _) → known (("a", with_members (("t", everything) ∷ [])) ∷
+      ("x", with_members (("t", everything) ∷ [])) ∷ [])
+      (assign (codes "x") (through "a" (Default f) (quoted "n" ∷ [])) ∷
+      show (property "x" "t") ∷ []) ≡ false
   -- what is left
   pub items_with_one_member : projected (of_each title) two_products ≡
       array (item (only_title "x") (item (only_title "y") no_items))

@@ -3,7 +3,7 @@ use Rattle.std.specs.Prelude.{◌≡◌, Option, Some, None, Result, Ok, Err, �
 use Rattle.std.specs.declared.alloc.Global.{Global}
 use Rattle.liquid_model.specs.Texts.{Text}
 use Rattle.liquid_page_texts.specs.Page.{Texts, sources_of}
-use Rattle.liquid_page.specs.declared.page.ReadTexts.{ReadTexts}
+use Rattle.liquid_page.specs.declared.page.ReadFiles.{ReadFiles}
 use Rattle.liquid_page.specs.declared.page.Unreadable.{Unreadable}
 use Rattle.liquid_page.specs.declared.page.Unreadable.TheVariants.{Memory, File}
 
@@ -13,7 +13,7 @@ IsTextOf wanted (Ok text) = wanted ≡ Some (string_bytes text)
 IsTextOf wanted (Err Memory) = ⊤
 IsTextOf wanted (Err File) = wanted ≡ None
 
-abbrev pub read_view : ReadTexts → Texts
+abbrev pub read_view : ReadFiles → Texts
 read_view r = record {
   template = string_bytes r.template;
   facts = string_bytes r.«data»;

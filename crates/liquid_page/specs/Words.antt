@@ -3,7 +3,7 @@ use Rattle.std.specs.Prelude.{ℕ, List, [], ◌∷◌, ◌++◌, length, ◌==�
 use Rattle.std.specs.Prelude.{Option, Some, None, option_map, option_and_then, map}
 use Rattle.std.specs.List.{position_or_len, before_first, after_first}
 use Rattle.std.specs.Borrow.{Bor}
-use Rattle.liquid_page.specs.declared.words.Call.{Call}
+use Rattle.liquid_page.specs.declared.words.CommandLine.{CommandLine}
 
 abbrev pub Named : Type 0
 Named = List (List ℕ × List ℕ)
@@ -30,7 +30,7 @@ pub record NamedFiles : Type 0 where
   pub facts : List ℕ
   pub partials : Named
 
-abbrev pub call_view : Call → NamedFiles
+abbrev pub call_view : CommandLine → NamedFiles
 call_view c = record {
   template = c.template.now;
   facts = c.«data».now;

@@ -7,24 +7,26 @@ mod page;
 mod words;
 
 use crate::outcome::Outcome;
-use crate::page::{ReadTexts, Texts, Unreadable, page};
+use crate::page::{ReadFiles, Texts, Unreadable, page};
 use liquid_excerpts::{Excerpt, Reason};
 pub use liquid_page_texts::{data_from_json, run};
 use std::alloc::AllocError;
+use std::fs::File;
+use std::io::Read;
 use std::process::ExitCode;
-use std::{env, fs, io};
+use std::{env, io};
 
 /// The files of the system.
 #[derive(Drop)]
-struct Files<'r> {
+struct DiskFiles<'r> {
     rt: &'r HostRuntime,
     /// Why the last file that has no text has none.
     reason: Option<Reason>,
 }
 
-impl<'r> Texts for Files<'r> {
+impl<'r> Texts for DiskFiles<'r> {
     fn text_at(&mut self, path: &str) -> Result<String, Unreadable> {
-        let reason = match fs::read(self.rt, path) {
+        let reason = match bytes_at(self.rt, path) {
             Ok(bytes) => match String::from_utf8(bytes) {
                 Ok(text) => return Ok(text),
                 Err(refused) => Reason::of_bytes(&refused),
@@ -39,8 +41,18 @@ impl<'r> Texts for Files<'r> {
     }
 }
 
+/// The bytes of a file, in a buffer that is as large from the start on as the system says the file
+/// is, so that it doesn't grow. The byte more is for the look whether the file ends there.
+fn bytes_at(rt: &HostRuntime, path: &str) -> io::Result<Vec<u8>> {
+    let mut file = File::open(rt, path)?;
+    let size = usize::try_from(file.metadata()?.len()).unwrap_or(0);
+    let mut bytes = Vec::with_capacity(rt.alloc(), size.saturating_add(1))?;
+    file.read_to_end(&mut bytes)?;
+    Ok(bytes)
+}
+
 fn main(rt: HostRuntime) -> ExitCode {
-    let mut files = Files {
+    let mut files = DiskFiles {
         rt: &rt,
         reason: None,
     };
@@ -59,7 +71,7 @@ fn main(rt: HostRuntime) -> ExitCode {
 }
 
 /// How the call ended, and the texts that it read.
-fn outcome_of(rt: &HostRuntime, files: &mut Files<'_>) -> (Outcome, Option<ReadTexts>) {
+fn outcome_of(rt: &HostRuntime, files: &mut DiskFiles<'_>) -> (Outcome, Option<ReadFiles>) {
     let words = match words_given(rt) {
         Ok(words) => words,
         Err(outcome) => return (outcome, None),
@@ -69,7 +81,7 @@ fn outcome_of(rt: &HostRuntime, files: &mut Files<'_>) -> (Outcome, Option<ReadT
 }
 
 /// The line that the fault stands in, where it says where it stands. It takes no memory.
-fn excerpt_of<'t>(outcome: &Outcome, read: &'t Option<ReadTexts>) -> Option<Excerpt<'t>> {
+fn excerpt_of<'t>(outcome: &Outcome, read: &'t Option<ReadFiles>) -> Option<Excerpt<'t>> {
     let Outcome::Fault(fault) = outcome else {
         return None;
     };

@@ -10,7 +10,7 @@ ghost use Rattle.liquid_page_texts.specs.Page.{sources_of};
 
 use crate::buffered::Buffered;
 use crate::outcome::Outcome;
-use crate::words::{Call, call_of};
+use crate::words::{CommandLine, call_of};
 use liquid_core::{Error, ErrorKind, Origin, Result};
 use liquid_lib::Counted;
 use liquid_page_texts::run_last;
@@ -39,13 +39,13 @@ pub trait Texts {
 
 /// The texts that a call names.
 #[derive(Drop)]
-pub struct ReadTexts {
+pub struct ReadFiles {
     pub template: String,
     pub data: String,
     pub partials: Vec<(String, String)>,
 }
 
-impl ReadTexts {
+impl ReadFiles {
     /// The text that a location is in. A partial that is rendered may be found by its name with
     /// `.liquid`.
     pub fn text_of(&self, origin: &Origin) -> Option<&str> {
@@ -80,7 +80,7 @@ pub fn page<T: Texts, W: Write + Drop>(
     words: &[String],
     texts: &mut T,
     writer: W,
-) -> (W, Outcome, Option<ReadTexts>)
+) -> (W, Outcome, Option<ReadFiles>)
     ensures page { IfSome (T.known texts.old)
         (λ files. Ends (texts_of files (map string_bytes words.now)) result.1
         (W.contents writer) (W.contents result.0)) }
@@ -110,7 +110,7 @@ fn read_call<T: Texts>(
     alloc: Global,
     words: &[String],
     texts: &mut T,
-) -> std::result::Result<ReadTexts, Outcome>
+) -> std::result::Result<ReadFiles, Outcome>
     ensures { IfSome (T.known texts.old)
         (λ files. Finds read_view (texts_of files (map string_bytes words.now)) result) }
 {
@@ -122,9 +122,9 @@ fn read_call<T: Texts>(
 
 fn read_files<T: Texts>(
     alloc: Global,
-    call: &Call<'_>,
+    call: &CommandLine<'_>,
     texts: &mut T,
-) -> std::result::Result<ReadTexts, Outcome>
+) -> std::result::Result<ReadFiles, Outcome>
     ensures { IfSome (T.known texts.old)
         (λ files. Finds read_view (texts_at files (call_view call.now))
         result) }
@@ -132,7 +132,7 @@ fn read_files<T: Texts>(
     let template = text_of(alloc, call.template, texts)?;
     let data = text_of(alloc, call.data, texts)?;
     let partials = read_partials(alloc, &call.partials, texts)?;
-    Ok(ReadTexts {
+    Ok(ReadFiles {
         template,
         data,
         partials,

@@ -8,7 +8,7 @@ use std::alloc::Global;
 
 /// What a call names: paths of files, and a name for each partial's file.
 #[derive(Drop)]
-pub struct Call<'w> {
+pub struct CommandLine<'w> {
     pub template: &'w str,
     pub data: &'w str,
     pub partials: Vec<(&'w str, &'w str)>,
@@ -29,7 +29,7 @@ pub fn pair_of(word: &str) -> Option<(&str, &str)>
 }
 
 /// The call that the words after the program's own make, or none where they make none.
-pub fn call_of<'w>(alloc: Global, words: &'w [String]) -> Result<Option<Call<'w>>>
+pub fn call_of<'w>(alloc: Global, words: &'w [String]) -> Result<Option<CommandLine<'w>>>
     ensures { Answers (λ o. option_map call_view o) result
         (Ok (call_of (map string_bytes words.now))) }
 {
@@ -43,7 +43,7 @@ pub fn call_of<'w>(alloc: Global, words: &'w [String]) -> Result<Option<Call<'w>
             None => return Ok(None),
         }
     }
-    Ok(Some(Call {
+    Ok(Some(CommandLine {
         template: words[0].as_str(),
         data: words[1].as_str(),
         partials,

@@ -12,14 +12,11 @@ ghost use Rattle.liquid_page_texts.specs.Shown.{ShowsStandard, read_view};
 
 use liquid_core::{Error, ErrorKind, Object, Result};
 use liquid_json::{data_for, data_from_json};
-use liquid_lib::{CountedWrite, Renderable, RuntimeBuilder, language};
-use liquid_syntax::{Language, Partials, Template, parse};
+use liquid_lib::{CountedWrite, DEFAULT_DEPTH, Renderable, RuntimeBuilder, language};
+use liquid_syntax::{Language, Partials, Template, parse_kept};
 use liquid_uses::uses_of;
 use std::alloc::Global;
 use std::mem;
-
-/// How deep partials may be nested in a page.
-const DEPTH: u32 = 32;
 
 /// To find out what a node sees takes about as long as to read some 200 bytes of data.
 const BYTES_FOR_A_NODE: usize = 4096;
@@ -117,7 +114,7 @@ fn read_texts(
       partials = sources_of partials.now;
     }) result }
 {
-    let template = parse(alloc, template, language)?;
+    let template = parse_kept(alloc, template, language)?;
     match read_partials(alloc, language, partials) {
         Ok(partials) => {
             let data = read_seen(alloc, data, &template, &partials)?;
@@ -182,7 +179,7 @@ fn read_partial(alloc: Global, language: &Language, name: &str, source: &str) ->
     ensures parses { ParsesTo language.now source.now result }
     ensures kinds { IfErr result (λ e. MayRefuse e.kind) }
 {
-    match parse(alloc, source, language) {
+    match parse_kept(alloc, source, language) {
         Ok(template) => Ok(template),
         Err(error) => Err(error.in_partial(alloc, name)),
     }
@@ -216,7 +213,7 @@ fn render_texts<W: CountedWrite>(
     let mut runtime = RuntimeBuilder::new(alloc)
         .set_globals(data)
         .set_partials(&partials)
-        .set_depth(DEPTH)
+        .set_depth(DEFAULT_DEPTH)
         .build(alloc);
     let answer = template.render_to(alloc, writer, &mut runtime);
     leave(runtime, afterwards);

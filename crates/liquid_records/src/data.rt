@@ -4,7 +4,7 @@ ghost use Rattle.liquid_model.specs.Answer.{IsValueOrMemory};
 ghost use Rattle.liquid_model.specs.Maps.{merged};
 ghost use Rattle.liquid_model.specs.View.{view};
 ghost use Rattle.liquid_core.specs.Held.{held};
-ghost use Rattle.liquid_site.specs.Steps.{with_fact};
+ghost use Rattle.liquid_site.specs.Steps.{with_value};
 ghost use Rattle.liquid_records.specs.inside.Covered.{covered_view, uncovered};
 
 use liquid_core::{Object, Result, Value};
@@ -54,7 +54,7 @@ pub(crate) fn take_off(over: Object, covered: Vec<(String, Option<Value>)>) -> R
 /// Puts a value at a name. The answer is the value that stood there.
 fn exchange(data: &mut Object, name: String, value: Value) -> Result<Option<Value>>
     ensures put { IsValueOrMemory (λ _. held «data».new) result
-        (with_fact (held «data».old) (string_bytes name) (Some (view value))) }
+        (with_value (held «data».old) (string_bytes name) (Some (view value))) }
     ensures before { IfOk result (λ o. option_map view o ≡ held «data».old (string_bytes name)) }
 {
     Ok(data.insert(name, value)?)
@@ -62,7 +62,7 @@ fn exchange(data: &mut Object, name: String, value: Value) -> Result<Option<Valu
 
 /// Takes away what stands at a name.
 fn take_away(data: &mut Object, name: &str)
-    ensures { held «data».new ≡ with_fact (held «data».old) name.now None }
+    ensures { held «data».new ≡ with_value (held «data».old) name.now None }
 {
     drop(data.remove(name));
 }
@@ -70,7 +70,7 @@ fn take_away(data: &mut Object, name: &str)
 /// Puts a value at a name, or takes away what stands there.
 fn put_back(data: &mut Object, name: String, before: Option<Value>) -> Result<()>
     ensures { IsValueOrMemory (λ _. held «data».new) result
-        (with_fact (held «data».old) (string_bytes name) (option_map view before)) }
+        (with_value (held «data».old) (string_bytes name) (option_map view before)) }
 {
     match before {
         Some(value) => drop(exchange(data, name, value)?),

@@ -7,6 +7,7 @@ mod file_name;
 mod job;
 mod laws;
 mod merge;
+mod told;
 
 pub use data::with_members;
 pub use file_name::is_file_name;

@@ -22,7 +22,7 @@ use Rattle.liquid_site.specs.Applied.{IsStep, HasBadSource, AppliesTo}
 use Rattle.liquid_site.specs.PartViews.{SiteView}
 use Rattle.liquid_site.specs.Steps.{Step, remove_partial, remove_value, stepped, rendered_by, raised}
 use Rattle.liquid_site.specs.Contents.{Contents}
-use Rattle.liquid_site.proofs.Kept.{without_absent, no_fact}
+use Rattle.liquid_site.proofs.Kept.{without_absent, absent_value}
 use Rattle.liquid_site.specs.declared.change.Change.{Change}
 
 pub applied : (change : Change) (r : Result (Unit {0}) Error) (old new : SiteView) (s : Step) → IsStep old.language change s
@@ -58,15 +58,15 @@ held_there name (e ∷ es) h = on (same_text e.0 name) refl e.1 h (held_there na
 pub no_partial : (c : Contents) (name : Text) → is_some (listed c.partials name) ≡ false → c ≡ stepped (remove_partial name) c
 no_partial c name h = λ i. record c { partials = sym (without_absent name c.partials h) i }
 
-pub no_value : (c : Contents) (name : Text) → is_some (c.facts name) ≡ false → c ≡ stepped (remove_value name) c
-no_value c name h = λ i. record c { facts = sym (no_fact c.facts name h) i }
+pub no_value : (c : Contents) (name : Text) → is_some (c.«data» name) ≡ false → c ≡ stepped (remove_value name) c
+no_value c name h = λ i. record c { «data» = sym (absent_value c.«data» name h) i }
 
 pub raised_none : (n m : ℕ) → n < 2 ^ 64 → m ≡ 0 → n ≡ raised n m
 raised_none n m h e = omega (arith, h, e)
 
-pub value_there : (facts : BTreeMap (String Global) Value) (name : Text) (b : Bool) → b ≡ is_some (lookup (named name) facts.entries) → is_some (held facts name) ≡ b
+pub value_there : (m : BTreeMap (String Global) Value) (name : Text) (b : Bool) → b ≡ is_some (lookup (named name) m.entries) → is_some (held m name) ≡ b
 unfolding map_of
-value_there facts name b h = ap is_some (sym (view-lookup name facts.entries)) ∙ kept (lookup (named name) facts.entries) ∙ sym h
+value_there m name b h = ap is_some (sym (view-lookup name m.entries)) ∙ kept (lookup (named name) m.entries) ∙ sym h
   where
     kept : (o : Option Value) → is_some (option_map view o) ≡ is_some o
     kept None = refl

@@ -14,8 +14,8 @@ use Rattle.liquid_syntax.proofs.Held.{apart}
 use Rattle.liquid_model.proofs.Maps.{same_text_equal}
 use Rattle.liquid_lib.specs.Pages.{Shown, page_over}
 use Rattle.liquid_site.specs.Contents.{Trees, Contents, page_of, all_pages, pages_from_scratch, mentions}
-use Rattle.liquid_site.specs.Steps.{Step, set_page, remove_page, set_partial, remove_partial, set_value, remove_value, with_fact, no_contents, stepped, refreshed, KeptIsFromScratch, all_stepped, all_kept, PagesKept}
-use Rattle.liquid_site.proofs.Untouched.{untouched}
+use Rattle.liquid_site.specs.Steps.{Step, set_page, remove_page, set_partial, remove_partial, set_value, remove_value, set_data, with_value, no_contents, stepped, refreshed, KeptIsFromScratch, all_stepped, all_kept, PagesKept}
+use Rattle.liquid_site.proofs.Untouched.{untouched, untouched_by_data}
 
 by_order : {X Y : Type 0} (f : X → Y) (o : Ordering) (a b c : X) → f (match_ordering o a b c) ≡ match_ordering o (f a) (f b) (f c)
 by_order f Less a b c = refl
@@ -57,29 +57,30 @@ without_absent name (p ∷ ps) h = on (same_text p.0 name) h (without_absent nam
     on true k rest = absurd cc
     on false k rest = ap (λ l. p ∷ l) (rest k)
 
-pub no_fact : (facts : Map Datum) (name : Text) → is_some (facts name) ≡ false → with_fact facts name None ≡ facts
-unfolding with_fact
-no_fact facts name h = fun_ext (λ q. at q (same_text name q) (same_text_equal name q))
+pub absent_value : (m : Map Datum) (name : Text) → is_some (m name) ≡ false → with_value m name None ≡ m
+unfolding with_value
+absent_value m name h = fun_ext (λ q. at q (same_text name q) (same_text_equal name q))
   where
     none : (o : Option Datum) → is_some o ≡ false → None ≡ o
     none None k = refl
     none (Some d) k = absurd cc
 
-    at : (q : Text) (b : Bool) → (T b → name ≡ q) → cond b None (facts q) ≡ facts q
-    at q true e = none (facts q) (subst (λ y. is_some (facts y) ≡ false) (e tt) h)
+    at : (q : Text) (b : Bool) → (T b → name ≡ q) → cond b None (m q) ≡ m q
+    at q true e = none (m q) (subst (λ y. is_some (m y) ≡ false) (e tt) h)
     at q false e = refl
 
 pub kept_from_scratch : KeptIsFromScratch
 kept_from_scratch (set_page name t) c = put_shown (page_of c) name t c.pages
 kept_from_scratch (remove_page name) c = without_shown (page_of c) name c.pages
 kept_from_scratch (set_partial name t) c = refreshed_all _ _ (page_of c) (λ n h. absurd (apart h)) c.pages
-kept_from_scratch (remove_partial name) c = refreshed_all _ _ (page_of c) (λ n h. ap (λ ps. page_over c.depth ps c.facts n) (without_absent name c.partials h)) c.pages
+kept_from_scratch (remove_partial name) c = refreshed_all _ _ (page_of c) (λ n h. ap (λ ps. page_over c.depth ps c.«data» n) (without_absent name c.partials h)) c.pages
 kept_from_scratch (set_value name d) c = refreshed_all _ _ (page_of c) (λ n h. untouched c name (Some d) n h) c.pages
-kept_from_scratch (remove_value name) c = refreshed_all _ _ (page_of c) (λ n h. on n (is_some (c.facts name)) refl h) c.pages
+kept_from_scratch (set_data new) c = refreshed_all _ _ (page_of c) (untouched_by_data c new) c.pages
+kept_from_scratch (remove_value name) c = refreshed_all _ _ (page_of c) (λ n h. on n (is_some (c.«data» name)) refl h) c.pages
   where
-    on : (n : Nodes) (b : Bool) → is_some (c.facts name) ≡ b → cond b (mentions c.partials name n) false ≡ false → page_over c.depth c.partials (with_fact c.facts name None) n ≡ page_of c n
+    on : (n : Nodes) (b : Bool) → is_some (c.«data» name) ≡ b → cond b (mentions c.partials name n) false ≡ false → page_over c.depth c.partials (with_value c.«data» name None) n ≡ page_of c n
     on n true e h = untouched c name None n h
-    on n false e h = ap (λ facts. page_over c.depth c.partials facts n) (no_fact c.facts name e)
+    on n false e h = ap (λ m. page_over c.depth c.partials m n) (absent_value c.«data» name e)
 
 all_from_scratch : (steps : List Step) (c : Contents) → all_kept steps c (pages_from_scratch c) ≡ pages_from_scratch (all_stepped steps c)
 all_from_scratch [] c = refl

@@ -1,9 +1,12 @@
--- A value under a name that is not mentioned changes nothing of a page.
-use Rattle.std.specs.Prelude.{◌≡◌, ℕ, Bool, true, false, cond, T, Option}
-use mathlib.Core.Path.{refl, subst}
+-- Values under names that are not mentioned change nothing of a page.
+use Rattle.std.specs.Prelude.{◌≡◌, ℕ, Bool, true, false, cond, not, ◌||◌, T, List, [], ◌∷◌, Option, Some, None}
+use Rattle.std.specs.List.{list_any}
+use mathlib.Core.Path.{refl, sym, ap, subst, ◌∙◌}
 use Rattle.liquid_model.specs.Texts.{Text, same_text}
 use Rattle.liquid_model.specs.Data.{Datum}
 use Rattle.liquid_model.specs.Maps.{Map}
+use Rattle.liquid_model.specs.Order.{same}
+use Rattle.liquid_model.specs.OrderLaws.{same_Decides}
 use Rattle.liquid_core.specs.Environment.{Names, cut_map}
 use Rattle.liquid_evaluation.specs.Tree.{Nodes}
 use Rattle.liquid_evaluation.specs.Names.{run_names, mentioned}
@@ -12,11 +15,12 @@ use Rattle.liquid_meaning.proofs.Maps.{AgreeAt, same_cut}
 use Rattle.liquid_model.proofs.Maps.{same_text_equal}
 use Rattle.liquid_meaning.proofs.Changes.{agreeing_runs}
 use Rattle.liquid_lib.specs.Pages.{fault_of, fresh, setting_over, page_over}
-use Rattle.liquid_site.specs.Contents.{Trees}
-use Rattle.liquid_site.specs.Steps.{with_fact, UntouchedPages}
+use Rattle.liquid_syntax.proofs.Held.{apart}
+use Rattle.liquid_site.specs.Contents.{Trees, Contents, page_of, mentions_any}
+use Rattle.liquid_site.specs.Steps.{with_value, is_same, differs, UntouchedPages}
 
-agree_other : (N : Names) (m : Map Datum) (name : Text) (d : Option Datum) → N name ≡ false → AgreeAt N (with_fact m name d) m
-unfolding with_fact
+agree_other : (N : Names) (m : Map Datum) (name : Text) (d : Option Datum) → N name ≡ false → AgreeAt N (with_value m name d) m
+unfolding with_value
 agree_other N m name d out q inside = at (same_text name q) (same_text_equal name q)
   where
     clash : N q ≡ false → T (N q) → ⊥
@@ -26,22 +30,56 @@ agree_other N m name d out q inside = at (same_text name q) (same_text_equal nam
     at true e = absurd (clash (subst (λ y. N y ≡ false) (e tt) out) inside)
     at false e = refl
 
-agree_fresh : (N : Names) (facts other : Map Datum) → cut_map N facts ≡ cut_map N other → Agree N (fresh facts) (fresh other)
-agree_fresh N facts other h = λ i. record {
-  local = cut_map N (fresh facts).local;
-  assigned = cut_map N (fresh facts).assigned;
-  counters = cut_map N (fresh facts).counters;
+agree_fresh : (N : Names) (own other : Map Datum) → cut_map N own ≡ cut_map N other → Agree N (fresh own) (fresh other)
+agree_fresh N own other h = λ i. record {
+  local = cut_map N (fresh own).local;
+  assigned = cut_map N (fresh own).assigned;
+  counters = cut_map N (fresh own).counters;
   globals = h i;
-  registers = (fresh facts).registers;
+  registers = (fresh own).registers;
 }
 
-same_page : (depth : ℕ) (partials : Trees) (facts other : Map Datum) (nodes : Nodes) → Agree (mentioned (run_names partials nodes)) (fresh facts) (fresh other) → page_over depth partials facts nodes ≡ page_over depth partials other nodes
+same_page : (depth : ℕ) (partials : Trees) (own other : Map Datum) (nodes : Nodes) → Agree (mentioned (run_names partials nodes)) (fresh own) (fresh other) → page_over depth partials own nodes ≡ page_over depth partials other nodes
 unfolding page_over
-same_page depth partials facts other nodes h =
-    let r = agreeing_runs (setting_over partials) depth nodes (fresh facts) (fresh other) h in
+same_page depth partials own other nodes h =
+    let r = agreeing_runs (setting_over partials) depth nodes (fresh own) (fresh other) h in
     λ i. record { text = r.text i; fault = fault_of (r.end i) }
 
 pub untouched : UntouchedPages
 untouched c name d nodes out =
     let N = mentioned (run_names c.partials nodes) in
-    same_page c.depth c.partials (with_fact c.facts name d) c.facts nodes (agree_fresh N _ _ (same_cut N _ _ (agree_other N c.facts name d out)))
+    same_page c.depth c.partials (with_value c.«data» name d) c.«data» nodes (agree_fresh N _ _ (same_cut N _ _ (agree_other N c.«data» name d out)))
+
+-- ---- other data
+
+-- none of the names passes the test
+none_passes : (test : Names) (names : List Text) (q : Text) → list_any test names ≡ false → list_any (same_text q) names ≡ true → test q ≡ false
+none_passes test [] q out h = absurd (apart (sym h))
+none_passes test (name ∷ names) q out h = on (test name) (same_text q name) refl refl out h
+  where
+    on : (t b : Bool) → t ≡ test name → b ≡ same_text q name → (t || list_any test names) ≡ false → (b || list_any (same_text q) names) ≡ true → test q ≡ false
+    on true b e f k m = absurd (apart k)
+    on false true e f k m = ap test (same_text_equal q name (subst T f tt)) ∙ sym e
+    on false false e f k m = none_passes test names q k m
+
+same_value : (o p : Option Datum) → not (is_same o p) ≡ false → p ≡ o
+same_value None None h = refl
+same_value (Some d) (Some e) h = sym (ap Some ((same_Decides d e).0 (on (same d e) h)))
+  where
+    on : (b : Bool) → not b ≡ false → b ≡ true
+    on true k = refl
+    on false k = absurd (apart k)
+same_value None (Some e) h = absurd (apart h)
+same_value (Some d) None h = absurd (apart h)
+
+agree_data : (names : List Text) (old new : Map Datum) → list_any (differs old new) names ≡ false → AgreeAt (mentioned names) new old
+agree_data names old new out q inside = same_value (old q) (new q) (none_passes (differs old new) names q out (on (mentioned names q) inside))
+  where
+    on : (b : Bool) → T b → b ≡ true
+    on true k = refl
+    on false k = absurd k
+
+pub untouched_by_data : (c : Contents) (new : Map Datum) (nodes : Nodes) → mentions_any c.partials (differs c.«data» new) nodes ≡ false → page_over c.depth c.partials new nodes ≡ page_of c nodes
+untouched_by_data c new nodes out =
+    let N = mentioned (run_names c.partials nodes) in
+    same_page c.depth c.partials new c.«data» nodes (agree_fresh N _ _ (same_cut N _ _ (agree_data (run_names c.partials nodes) c.«data» new out)))

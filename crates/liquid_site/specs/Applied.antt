@@ -4,17 +4,18 @@ use Rattle.liquid_model.specs.ErrorKinds.{is_memory}
 use Rattle.liquid_model.specs.View.{view}
 use Rattle.liquid_model.specs.declared.error.Error.{Error}
 use Rattle.liquid_model.specs.declared.error.ErrorKind.{ErrorKind}
+use Rattle.liquid_core.specs.Held.{held}
 use Rattle.liquid_evaluation.specs.Tree.{Nodes}
 use Rattle.liquid_syntax.specs.Parsing.{IsOnlyTree, HasNoTree, IsOfSource}
 use Rattle.liquid_language.specs.declared.language.Language.{Language}
 use Rattle.liquid_site.specs.PartViews.{SiteView}
 use Rattle.liquid_site.specs.SiteViews.{site_view}
 use Rattle.liquid_site.specs.Steps.{Step, set_page, remove_page, set_partial, remove_partial}
-use Rattle.liquid_site.specs.Steps.{set_value, remove_value, stepped, rendered_by, raised}
+use Rattle.liquid_site.specs.Steps.{set_value, remove_value, set_data, stepped, rendered_by, raised}
 use Rattle.liquid_site.specs.declared.change.Change.{Change}
 use Rattle.liquid_site.specs.declared.change.Change.TheVariants.{SetPage, RemovePage, SetPartial}
 use Rattle.liquid_site.specs.declared.change.Change.TheVariants.{RemovePartial, SetValue}
-use Rattle.liquid_site.specs.declared.change.Change.TheVariants.{RemoveValue}
+use Rattle.liquid_site.specs.declared.change.Change.TheVariants.{RemoveValue, SetData}
 use Rattle.liquid_site.specs.declared.site.Site.{Site}
 
 -- the step that a change is, its source being the only tree that it is
@@ -27,6 +28,7 @@ IsStep l (SetPartial name source) s = (t : Nodes) × IsOnlyTree l t (string_byte
 IsStep l (RemovePartial name) s = s ≡ remove_partial (string_bytes name)
 IsStep l (SetValue name value) s = s ≡ set_value (string_bytes name) (view value)
 IsStep l (RemoveValue name) s = s ≡ remove_value (string_bytes name)
+IsStep l (SetData new) s = s ≡ set_data (held new)
 
 -- a change whose source is no template
 abbrev pub HasBadSource : Language → Change → Type 0

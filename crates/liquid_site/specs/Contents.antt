@@ -3,10 +3,13 @@
 --     page_of contents nodes      what a template shows in a new run over these contents
 --     pages_from_scratch contents      that of each page
 --     mentions partials name nodes      whether a page's template or a partial mentions the name
+--     mentions_any partials names nodes      or one of the names
 use Rattle.std.specs.Prelude.{ℕ, Bool, List, map}
+use Rattle.std.specs.List.{list_any}
 use Rattle.liquid_model.specs.Texts.{Text}
 use Rattle.liquid_model.specs.Data.{Datum}
 use Rattle.liquid_model.specs.Maps.{Map}
+use Rattle.liquid_core.specs.Environment.{Names}
 use Rattle.liquid_evaluation.specs.Tree.{Nodes}
 use Rattle.liquid_evaluation.specs.Names.{run_names, mentioned}
 use Rattle.liquid_lib.specs.Pages.{Shown, page_over}
@@ -19,10 +22,10 @@ pub record Contents : Type 0 where
   pub depth : ℕ
   pub pages : Trees
   pub partials : Trees
-  pub facts : Map Datum
+  pub «data» : Map Datum
 
 abbrev pub page_of : Contents → Nodes → Shown
-page_of contents nodes = page_over contents.depth contents.partials contents.facts nodes
+page_of contents nodes = page_over contents.depth contents.partials contents.«data» nodes
 
 -- pages by name
 abbrev pub Pages : Type 0
@@ -36,3 +39,6 @@ pages_from_scratch contents = all_pages (page_of contents) contents.pages
 
 abbrev pub mentions : Trees → Text → Nodes → Bool
 mentions partials name nodes = mentioned (run_names partials nodes) name
+
+abbrev pub mentions_any : Trees → Names → Nodes → Bool
+mentions_any partials names nodes = list_any names (run_names partials nodes)

@@ -14,6 +14,6 @@ pub record SiteView : Type 0 where
 abbrev pub parts_view : {P : Type 0} → SiteParts P → SiteView
 parts_view s = record {
   language = s.language;
-  contents = contents_in s.depth s.templates s.partials s.facts;
+  contents = contents_in s.depth s.templates s.partials s.«data»;
   rendered = s.rendered;
 }

@@ -25,9 +25,9 @@ trees_in templates = seen tree_of templates.entries
 
 abbrev pub contents_in : ℕ → BTreeMap (String Global) Template → Partials →
     BTreeMap (String Global) Value → Contents
-contents_in depth templates partials facts = record {
+contents_in depth templates partials «data» = record {
   depth = depth;
   pages = trees_in templates;
   partials = partials_of partials;
-  facts = held facts;
+  «data» = held «data»;
 }

@@ -4,16 +4,18 @@
 --                             contents      how many these are
 --     kept_by s contents pages      the pages, of which those alone are rendered again
 use Rattle.std.specs.Prelude.{◌≡◌, ℕ, ◌+◌, min, Bool, true, false, cond, List, [], ◌∷◌, length}
-use Rattle.std.specs.Prelude.{filter, Option, Some, None, is_some, bytes_eq}
+use Rattle.std.specs.Prelude.{filter, not, Option, Some, None, is_some, bytes_eq}
 use Rattle.std.specs.Map.{update}
 use Rattle.liquid_model.specs.Texts.{Text}
 use Rattle.liquid_model.specs.Data.{Datum}
 use Rattle.liquid_model.specs.Maps.{Map, empty, listed}
+use Rattle.liquid_model.specs.Order.{same}
+use Rattle.liquid_core.specs.Environment.{Names}
 use Rattle.liquid_evaluation.specs.Tree.{Nodes}
 use Rattle.liquid_language.specs.Entries.{put, without}
 use Rattle.liquid_lib.specs.Pages.{Shown, page_over}
 use Rattle.liquid_site.specs.Contents.{Trees, Contents, page_of, Pages, pages_from_scratch}
-use Rattle.liquid_site.specs.Contents.{mentions}
+use Rattle.liquid_site.specs.Contents.{mentions, mentions_any}
 
 pub data Step : Type 0 where
   set_page : Text → Nodes → Step
@@ -22,14 +24,25 @@ pub data Step : Type 0 where
   remove_partial : Text → Step
   set_value : Text → Datum → Step
   remove_value : Text → Step
+  set_data : Map Datum → Step
 
 -- the data with a value at a name, or with none
-unfoldable pub with_fact : Map Datum → Text → Option Datum → Map Datum
-with_fact facts name d = update bytes_eq facts name d
+unfoldable pub with_value : Map Datum → Text → Option Datum → Map Datum
+with_value «data» name d = update bytes_eq «data» name d
+
+-- whether the values of two data are the same under a name, or neither has one
+abbrev pub is_same : Option Datum → Option Datum → Bool
+is_same None None = true
+is_same (Some d) (Some e) = same d e
+is_same _ _ = false
+
+-- the names under which two data differ
+abbrev pub differs : Map Datum → Map Datum → Names
+differs old new name = not (is_same (old name) (new name))
 
 -- the contents of a new site
 abbrev pub no_contents : ℕ → Contents
-no_contents depth = record { depth = depth; pages = []; partials = []; facts = empty }
+no_contents depth = record { depth = depth; pages = []; partials = []; «data» = empty }
 
 -- a set replaces, and a removal of what isn't there changes nothing
 abbrev pub stepped : Step → Contents → Contents
@@ -37,12 +50,17 @@ stepped (set_page name t) c = record c { pages = put name t c.pages }
 stepped (remove_page name) c = record c { pages = without name c.pages }
 stepped (set_partial name t) c = record c { partials = put name t c.partials }
 stepped (remove_partial name) c = record c { partials = without name c.partials }
-stepped (set_value name d) c = record c { facts = with_fact c.facts name (Some d) }
-stepped (remove_value name) c = record c { facts = with_fact c.facts name None }
+stepped (set_value name d) c = record c { «data» = with_value c.«data» name (Some d) }
+stepped (remove_value name) c = record c { «data» = with_value c.«data» name None }
+stepped (set_data new) c = record c { «data» = new }
 
 -- how many of the pages mention a name, in their templates or in a partial
 abbrev pub mentioning : Contents → Text → ℕ
 mentioning c name = length (filter (λ p. mentions c.partials name p.1) c.pages)
+
+-- how many of them mention one of the names
+abbrev pub mentioning_any : Contents → Names → ℕ
+mentioning_any c names = length (filter (λ p. mentions_any c.partials names p.1) c.pages)
 
 -- how many pages a step renders again
 abbrev pub rendered_by : Step → Contents → ℕ
@@ -51,7 +69,8 @@ rendered_by (remove_page name) c = 0
 rendered_by (set_partial name t) c = length c.pages
 rendered_by (remove_partial name) c = cond (is_some (listed c.partials name)) (length c.pages) 0
 rendered_by (set_value name d) c = mentioning c name
-rendered_by (remove_value name) c = cond (is_some (c.facts name)) (mentioning c name) 0
+rendered_by (remove_value name) c = cond (is_some (c.«data» name)) (mentioning c name) 0
+rendered_by (set_data new) c = mentioning_any c (differs c.«data» new)
 
 -- a count that stays at its greatest value
 abbrev pub raised : ℕ → ℕ → ℕ
@@ -77,8 +96,10 @@ kept_by (remove_partial name) c pages = refreshed (λ n. is_some (listed c.parti
 kept_by (set_value name d) c pages =
     refreshed (mentions c.partials name) (page_of (stepped (set_value name d) c)) c.pages pages
 kept_by (remove_value name) c pages =
-    refreshed (λ n. cond (is_some (c.facts name)) (mentions c.partials name n) false)
+    refreshed (λ n. cond (is_some (c.«data» name)) (mentions c.partials name n) false)
     (page_of (stepped (remove_value name) c)) c.pages pages
+kept_by (set_data new) c pages = refreshed (mentions_any c.partials (differs c.«data» new))
+    (page_of (stepped (set_data new) c)) c.pages pages
 
 -- ---- the laws
 
@@ -87,7 +108,7 @@ kept_by (remove_value name) c pages =
 abbrev pub UntouchedPages : Type 0
 UntouchedPages = (contents : Contents) (name : Text) (d : Option Datum) (nodes : Nodes) →
     mentions contents.partials name nodes ≡ false
-    → page_over contents.depth contents.partials (with_fact contents.facts name d) nodes ≡
+    → page_over contents.depth contents.partials (with_value contents.«data» name d) nodes ≡
     page_of contents nodes
 
 -- rendering again what a step touches gives what rendering all from scratch gives

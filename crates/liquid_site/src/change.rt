@@ -1,6 +1,6 @@
 //! Changes of a site.
 
-use liquid_core::Value;
+use liquid_core::{Object, Value};
 
 /// A change of what a site holds: names first, sources second. A set replaces, and a removal of
 /// what isn't there changes nothing.
@@ -18,4 +18,6 @@ pub enum Change {
     SetValue(String, Value),
     /// A value that goes.
     RemoveValue(String),
+    /// All data, in place of what was there.
+    SetData(Object),
 }

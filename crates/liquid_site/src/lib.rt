@@ -2,12 +2,14 @@
 #![tactic(auto)]
 
 mod change;
-mod facts;
+mod data;
+mod differing;
 mod laws;
 mod limited_site;
 mod parts;
 mod refresh;
 mod rendering;
+mod selection;
 mod site;
 
 pub use change::Change;

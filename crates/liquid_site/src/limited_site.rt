@@ -60,18 +60,18 @@ impl LimitedSite {
         alloc: Global,
         language: Language,
         depth: u32,
-        facts: Object,
+        data: Object,
         limits: Limits,
     ) -> LimitedSite
         ensures contents { (limited_view result).contents ≡
-            record (no_contents depth) { facts = held facts } }
+            record (no_contents depth) { «data» = held «data» } }
         ensures language { (limited_view result).language ≡ language }
         ensures rendered { (limited_view result).rendered ≡ 0 }
         ensures limits { limits_of result ≡ limits }
     {
         LimitedSite {
             limits,
-            parts: SiteParts::over(alloc, language, depth, facts),
+            parts: SiteParts::over(alloc, language, depth, data),
         }
     }
 
@@ -83,10 +83,10 @@ impl LimitedSite {
     }
 
     /// The data.
-    pub fn facts(&self) -> &Object
-        ensures { held result.now ≡ (limited_view self.now).contents.facts }
+    pub fn data(&self) -> &Object
+        ensures { held result.now ≡ (limited_view self.now).contents.«data» }
     {
-        &self.parts.facts
+        &self.parts.data
     }
 
     /// The pages by name: each is what rendering it from nothing would show, or a beginning of that

@@ -1,9 +1,11 @@
 //! The parts of a site, and what a change does to them, in whatever form it keeps its pages.
 
 use crate::change::Change;
-use crate::facts::changed;
+use crate::data::changed;
+use crate::differing::{Replaced, differing_names};
 use crate::refresh::{RenderContext, put_page, rendered_pages, replace_pages};
 use crate::rendering::Rendering;
+use crate::selection::Selection;
 use liquid_core::{Object, Result, Value};
 use liquid_syntax::{Language, Partials, Template, parse};
 use std::alloc::Global;
@@ -16,7 +18,7 @@ pub(crate) struct SiteParts<P> {
     pub depth: u32,
     pub templates: BTreeMap<String, Template>,
     pub partials: Partials,
-    pub facts: Object,
+    pub data: Object,
     pub pages: BTreeMap<String, P>,
     pub rendered: u64,
 }
@@ -31,7 +33,7 @@ impl<P: Drop> Drop for SiteParts<P> {
             depth: _,
             templates: _,
             partials: _,
-            facts: _,
+            data: _,
             pages: _,
             rendered: _,
         } = self;
@@ -40,6 +42,7 @@ impl<P: Drop> Drop for SiteParts<P> {
 
 impl<P: Drop> SiteParts<P> {
     ghost use Rattle.std.specs.Prelude.{◌≡◌, IsSome, OnOk, OnErr, IfErr, [], length, option_map};
+    ghost use Rattle.std.specs.Prelude.{false};
     ghost use Rattle.std.specs.Prelude.{string_bytes};
     ghost use Rattle.liquid_model.specs.Answer.{IsValueOrMemory};
     ghost use Rattle.liquid_model.specs.Maps.{listed};
@@ -48,18 +51,22 @@ impl<P: Drop> SiteParts<P> {
     ghost use Rattle.liquid_language.specs.Entries.{put, without};
     ghost use Rattle.liquid_syntax.specs.Slots.{exchanged};
     ghost use Rattle.liquid_syntax.specs.Templates.{tree_of, slots_of};
+    ghost use Rattle.liquid_evaluation.specs.Tree.{Nodes};
+    ghost use Rattle.liquid_lib.specs.Pages.{page_over};
     ghost use Rattle.liquid_site.specs.Applied.{AppliesTo};
     ghost use Rattle.liquid_site.specs.PartViews.{parts_view};
+    ghost use Rattle.liquid_site.specs.Contents.{page_of};
     ghost use Rattle.liquid_site.specs.Parts.{by_name};
     ghost use Rattle.liquid_site.specs.Steps.{no_contents, remove_page, stepped, raised};
-    ghost use Rattle.liquid_site.specs.Steps.{mentioning, with_fact};
+    ghost use Rattle.liquid_site.specs.Steps.{differs, mentioning, mentioning_any, with_value};
+    ghost use Rattle.liquid_site.specs.inside.Fresh.{selects, selected};
     ghost use Rattle.liquid_site.specs.inside.Keeping.{KeepsPages};
 
     /// The parts of a site over this data, without pages and partials. It takes no memory.
-    pub(crate) fn over(alloc: Global, language: Language, depth: u32, facts: Object) -> Self
+    pub(crate) fn over(alloc: Global, language: Language, depth: u32, data: Object) -> Self
         ensures parts { parts_view result ≡ record {
           language = language;
-          contents = record (no_contents depth) { facts = held facts };
+          contents = record (no_contents depth) { «data» = held «data» };
           rendered = 0;
         } }
         ensures pages { result.pages.entries ≡ [] }
@@ -70,7 +77,7 @@ impl<P: Drop> SiteParts<P> {
             depth,
             templates: BTreeMap::new(alloc),
             partials: Partials::new(alloc),
-            facts,
+            data,
             pages: BTreeMap::new(alloc),
             rendered: 0,
         }
@@ -110,11 +117,12 @@ impl<P: Drop> SiteParts<P> {
                 self.change_value(rendering, name.as_str(), Some(value))
             }
             Change::RemoveValue(name) => {
-                if !self.facts.contains_key(name.as_str()) {
+                if !self.data.contains_key(name.as_str()) {
                     return Ok(());
                 }
                 self.change_value(rendering, name.as_str(), None)
             }
+            Change::SetData(data) => self.change_data(rendering, data),
         }
     }
 
@@ -145,7 +153,7 @@ impl<P: Drop> SiteParts<P> {
             &template,
             &self.partials,
             self.depth,
-            &self.facts,
+            &self.data,
         )?;
         put_page(
             self.alloc,
@@ -199,9 +207,9 @@ impl<P: Drop> SiteParts<P> {
             rendering,
             partials: &self.partials,
             depth: self.depth,
-            facts: &self.facts,
+            data: &self.data,
         };
-        let rendered = rendered_pages(self.alloc, &self.templates, &context, true, name);
+        let rendered = rendered_pages(self.alloc, &self.templates, &context, Selection::All);
         match rendered {
             Ok(fresh) => {
                 self.rendered = self.rendered.saturating_add(fresh.len() as u64);
@@ -226,7 +234,7 @@ impl<P: Drop> SiteParts<P> {
         ensures keeps { KeepsPages R.shows self.new }
         ensures set { IsValueOrMemory (λ _. (parts_view self.new).contents) result
             (record (parts_view self.old).contents {
-              facts = with_fact (parts_view self.old).contents.facts
+              «data» = with_value (parts_view self.old).contents.«data»
                   name.now (option_map view value);
             }) }
         ensures counted { OnOk result ((parts_view self.new).rendered ≡ raised
@@ -237,18 +245,70 @@ impl<P: Drop> SiteParts<P> {
             ((parts_view self.new).rendered ≡ (parts_view self.old).rendered) }
         ensures language { (parts_view self.new).language ≡ (parts_view self.old).language }
     {
-        let facts = changed(self.alloc, &self.facts, name, value)?;
-        let all = self.partials.mention(name);
+        let data = changed(self.alloc, &self.data, name, value)?;
+        let selection = Selection::by_name(&self.partials, name);
+        self.exchange_data(rendering, data, selection)
+    }
+
+    /// Puts other data in the place of its own, and renders again the pages that can see a
+    /// difference.
+    fn change_data<R: Rendering<P>>(&mut self, rendering: &R, data: Object) -> Result<()>
+        requires { KeepsPages R.shows self.old }
+        ensures keeps { KeepsPages R.shows self.new }
+        ensures set { IsValueOrMemory (λ _. (parts_view self.new).contents) result
+            (record (parts_view self.old).contents { «data» = held «data» }) }
+        ensures counted { OnOk result ((parts_view self.new).rendered ≡ raised
+            (parts_view self.old).rendered (mentioning_any (parts_view self.old).contents
+            (differs (parts_view self.old).contents.«data» (held «data»)))) }
+        ensures unchanged { OnErr result
+            ((parts_view self.new).contents ≡ (parts_view self.old).contents) }
+        ensures uncounted { OnErr result
+            ((parts_view self.new).rendered ≡ (parts_view self.old).rendered) }
+        ensures language { (parts_view self.new).language ≡ (parts_view self.old).language }
+    {
+        let both = Replaced {
+            old: &self.data,
+            new: &data,
+        };
+        let names = differing_names(self.alloc, both)?;
+        let selection = Selection::by_names(&self.partials, &names);
+        self.exchange_data(rendering, data, selection)
+    }
+
+    /// Puts data in the place of its own, and renders the selected pages again. No other page can
+    /// see a difference.
+    fn exchange_data<R: Rendering<P>>(
+        &mut self,
+        rendering: &R,
+        data: Object,
+        selection: Selection<'_>,
+    ) -> Result<()>
+        requires untouched { (nodes : Nodes) → selects selection nodes ≡ false →
+            page_over (parts_view self.old).contents.depth (parts_view self.old).contents.partials
+            (held «data») nodes ≡ page_of (parts_view self.old).contents nodes }
+        requires shown { KeepsPages R.shows self.old }
+        ensures keeps { KeepsPages R.shows self.new }
+        ensures set { IsValueOrMemory (λ _. (parts_view self.new).contents) result
+            (record (parts_view self.old).contents { «data» = held «data» }) }
+        ensures counted { OnOk result ((parts_view self.new).rendered ≡ raised
+            (parts_view self.old).rendered
+            (length (selected (selects selection) (parts_view self.old).contents.pages))) }
+        ensures unchanged { OnErr result
+            ((parts_view self.new).contents ≡ (parts_view self.old).contents) }
+        ensures uncounted { OnErr result
+            ((parts_view self.new).rendered ≡ (parts_view self.old).rendered) }
+        ensures language { (parts_view self.new).language ≡ (parts_view self.old).language }
+    {
         let context = RenderContext {
             rendering,
             partials: &self.partials,
             depth: self.depth,
-            facts: &facts,
+            data: &data,
         };
-        let fresh = rendered_pages(self.alloc, &self.templates, &context, all, name)?;
+        let fresh = rendered_pages(self.alloc, &self.templates, &context, selection)?;
         self.rendered = self.rendered.saturating_add(fresh.len() as u64);
         replace_pages(&mut self.pages, fresh);
-        self.facts = facts;
+        self.data = data;
         Ok(())
     }
 }

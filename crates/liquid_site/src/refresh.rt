@@ -8,11 +8,12 @@ ghost use Rattle.liquid_language.specs.Entries.{put, placed};
 ghost use Rattle.liquid_syntax.specs.Templates.{tree_of, partials_of};
 ghost use Rattle.liquid_lib.specs.Pages.{page_over};
 ghost use Rattle.liquid_site.specs.Contents.{all_pages};
-ghost use Rattle.liquid_site.specs.inside.Fresh.{wanted, wanted_of, all_placed, listed_pages};
+ghost use Rattle.liquid_site.specs.inside.Fresh.{selects, selected, all_placed, listed_pages};
 ghost use Rattle.liquid_site.specs.Parts.{by_name, trees_in};
 ghost use Rattle.liquid_site.specs.ShownPages.{AreShown};
 
 use crate::rendering::Rendering;
+use crate::selection::Selection;
 use liquid_core::{Error, ErrorKind, Object, Result};
 use liquid_syntax::{Partials, Template};
 use std::alloc::{AllocError, Global};
@@ -25,29 +26,28 @@ pub(crate) struct RenderContext<'g, R> {
     pub rendering: &'g R,
     pub partials: &'g Partials,
     pub depth: u32,
-    pub facts: &'g Object,
+    pub data: &'g Object,
 }
 
-/// Renders all pages, or those alone whose template mentions the name, and answers them in the
-/// order of their names. The answer is `Memory` where a growth was refused, and no other kind.
+/// Renders the selected pages, and answers them in the order of their names. The answer is `Memory`
+/// where a growth was refused, and no other kind.
 pub(crate) fn rendered_pages<P: Drop, R: Rendering<P>>(
     alloc: Global,
     templates: &BTreeMap<String, Template>,
     context: &RenderContext<'_, R>,
-    all: bool,
-    name: &str,
+    selection: Selection<'_>,
 ) -> Result<Vec<(String, P)>>
     ensures pages { IfOk result (λ v. AreShown R.shows
         (all_pages (page_over context.now.depth (partials_of context.now.partials.now)
-        (held context.now.facts.now))
-        (wanted_of (wanted all name.now) (trees_in templates.now)))
+        (held context.now.«data».now))
+        (selected (selects selection) (trees_in templates.now)))
         (listed_pages v.items)) }
     ensures ascend { IsStrictlySortedBy string_cmp (keys_of templates.now.entries) }
     ensures memory { IfErr result (λ e. e.kind ≡ ErrorKind.Memory) }
 {
     let mut pages = Vec::new(alloc);
     for (page, template) in templates.iter() {
-        if all || template.mentions(name) {
+        if selection.has(template) {
             let fresh = rendered_page(alloc, page.as_str(), template, context)?;
             pages.push(fresh)?;
         }
@@ -64,7 +64,7 @@ fn rendered_page<P: Drop, R: Rendering<P>>(
 ) -> Result<(String, P)>
     ensures name { IfOk result (λ p. string_bytes p.0 ≡ name.now) }
     ensures page { IfOk result (λ p. R.shows (page_over context.now.depth
-        (partials_of context.now.partials.now) (held context.now.facts.now)
+        (partials_of context.now.partials.now) (held context.now.«data».now)
         (tree_of template.now)) p.1) }
     ensures memory { IfErr result (λ e. e.kind ≡ ErrorKind.Memory) }
 {
@@ -74,7 +74,7 @@ fn rendered_page<P: Drop, R: Rendering<P>>(
         template,
         context.partials,
         context.depth,
-        context.facts,
+        context.data,
     )?;
     Ok((own, page))
 }

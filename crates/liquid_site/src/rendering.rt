@@ -24,17 +24,17 @@ pub(crate) trait Rendering<P> {
         template: &Template,
         partials: &Partials,
         depth: u32,
-        facts: &Object,
+        data: &Object,
     ) -> Result<P>
         ensures page { IfOk result (λ page. shows (page_over depth (partials_of partials.now)
-            (held facts.now) (tree_of template.now)) page) }
+            (held «data».now) (tree_of template.now)) page) }
         ensures memory { IfErr result (λ e. e.kind ≡ ErrorKind.Memory) };
 }
 
 /// Renders whole pages.
-pub(crate) struct Whole;
+pub(crate) struct WholePages;
 
-impl Rendering<Page> for Whole {
+impl Rendering<Page> for WholePages {
     ghost shows = { λ whole page. IsWhole whole page };
 
     fn page(
@@ -43,9 +43,9 @@ impl Rendering<Page> for Whole {
         template: &Template,
         partials: &Partials,
         depth: u32,
-        facts: &Object,
+        data: &Object,
     ) -> Result<Page> {
-        render_page(alloc, template, partials, depth, facts)
+        render_page(alloc, template, partials, depth, data)
     }
 }
 
@@ -58,8 +58,8 @@ impl Rendering<LimitedPage> for Limits {
         template: &Template,
         partials: &Partials,
         depth: u32,
-        facts: &Object,
+        data: &Object,
     ) -> Result<LimitedPage> {
-        render_page_within(alloc, template, partials, depth, facts, *self)
+        render_page_within(alloc, template, partials, depth, data, *self)
     }
 }

@@ -7,7 +7,7 @@ ghost use Rattle.liquid_site.specs.Parts.{pages_in};
 
 use crate::change::Change;
 use crate::parts::SiteParts;
-use crate::rendering::Whole;
+use crate::rendering::WholePages;
 use liquid_core::{Object, Result};
 use liquid_lib::Page;
 use liquid_syntax::Language;
@@ -50,21 +50,22 @@ impl Site {
 
     /// A site over this data, without pages and partials, of so many nested partials. It takes no
     /// memory.
-    pub fn over(alloc: Global, language: Language, depth: u32, facts: Object) -> Site
-        ensures contents { contents_of result ≡ record (no_contents depth) { facts = held facts } }
+    pub fn over(alloc: Global, language: Language, depth: u32, data: Object) -> Site
+        ensures contents { contents_of result ≡
+            record (no_contents depth) { «data» = held «data» } }
         ensures language { language_of result ≡ language }
         ensures rendered { count_of result ≡ 0 }
     {
         Site {
-            parts: SiteParts::over(alloc, language, depth, facts),
+            parts: SiteParts::over(alloc, language, depth, data),
         }
     }
 
     /// The data.
-    pub fn facts(&self) -> &Object
-        ensures { held result.now ≡ (contents_of self.now).facts }
+    pub fn data(&self) -> &Object
+        ensures { held result.now ≡ (contents_of self.now).«data» }
     {
-        &self.parts.facts
+        &self.parts.data
     }
 
     /// The pages by name: what rendering all of them from nothing would show.
@@ -92,6 +93,6 @@ impl Site {
         ensures applied { Applies change result self.old self.new }
         ensures language { language_of self.new ≡ language_of self.old }
     {
-        self.parts.apply(&Whole, change)
+        self.parts.apply(&WholePages, change)
     }
 }

@@ -1,5 +1,3 @@
 pub mod Disks
-pub mod Gone
-pub mod Known
-pub mod NewFacts
+pub mod Merged
 pub mod Takes

@@ -1,43 +1,58 @@
 -- What is taken of a file, by what the site and the data answer.
-use Rattle.std.specs.Prelude.{◌≡◌, ℕ, ◌+◌, ◌<◌, false, MatchBool, ⊤, List, [], ◌∷◌, ◌++◌, Option, Some, None, option_map, option_to_list, Result, Ok, Err, IfOk, OnOk, IfSome, String, string_bytes}
+use Rattle.std.specs.Prelude.{◌≡◌, ℕ, ◌+◌, ◌<◌, Bool, true, false, MatchBool, ⊤, List, [], ◌∷◌, ◌++◌, Option, Some, None, option_map, option_to_list, Result, Ok, Err, IfOk, OnOk, IfSome, String, string_bytes}
 use Rattle.std.proofs.Common.{inr, drop, suc, length, get_or, add-one, drop-cons, append_assoc, append-nil}
+use Rattle.std.specs.BTreeMap.{BTreeMap}
 use Rattle.std.specs.declared.alloc.Global.{Global}
 use mathlib.Core.Path.{refl, sym, ap, subst, ◌∙◌}
-use Rattle.liquid_model.specs.Answer.{Faulted}
+use Rattle.liquid_model.specs.Answer.{Faulted, IsValueOrMemory}
 use Rattle.liquid_model.specs.Texts.{Text}
 use Rattle.liquid_model.specs.ErrorKinds.{is_memory, is_refusal}
 use Rattle.liquid_model.specs.declared.error.Error.{Error}
 use Rattle.liquid_model.specs.declared.error.ErrorKind.{ErrorKind}
+use Rattle.liquid_model.specs.declared.error.ErrorKind.TheVariants.{Memory}
+use Rattle.liquid_model.specs.declared.value.Value.{Value}
+use Rattle.liquid_core.specs.Held.{held}
+use Rattle.liquid_lib.proofs.Joined.{memory_of}
 use Rattle.liquid_syntax.specs.Parsing.{IsOfSource}
 use Rattle.liquid_language.specs.declared.language.Language.{Language}
 use Rattle.liquid_json.specs.Json.{data_of}
-use Rattle.liquid_site.specs.Applied.{Refused, HasBadSource}
+use Rattle.liquid_site.specs.Applied.{Applies, Refused, HasBadSource}
 use Rattle.liquid_site.specs.Contents.{Contents}
-use Rattle.liquid_site.specs.SiteViews.{language_of}
+use Rattle.liquid_site.specs.SiteViews.{contents_of, language_of}
+use Rattle.liquid_site.specs.Steps.{stepped}
 use Rattle.liquid_site.specs.declared.change.Change.{Change}
+use Rattle.liquid_site.specs.declared.change.Change.TheVariants.{SetData}
 use Rattle.liquid_site.specs.declared.site.Site.{Site}
 use Rattle.liquid_site_files.specs.Files.{Files, found_view}
 use Rattle.liquid_site_files.specs.Paths.{path_of}
 use Rattle.liquid_site_files.specs.Refusals.{Refuses, IsRefusal, AreRefusals}
-use Rattle.liquid_site_files.specs.Taken.{Takes, TakesFacts, AreTaken, with_facts}
+use Rattle.liquid_site_files.specs.Taken.{Takes, TakesData, AreTaken, with_data}
 use Rattle.liquid_site_files.specs.inside.Changes.{TakesChange}
 use Rattle.liquid_site_files.specs.declared.folder.Changed.{Changed}
 use Rattle.liquid_site_files.specs.declared.folder.Folder.{Folder}
-use Rattle.liquid_site_files.specs.declared.take.Found.{Found}
-use Rattle.liquid_site_files.specs.declared.take.Found.TheVariants as found
-use Rattle.liquid_site_files.specs.declared.take.Refusal.{Refusal}
-use Rattle.liquid_site_files.specs.declared.take.Why.{Why}
+use Rattle.liquid_site_files.specs.declared.take.FileState.{FileState}
+use Rattle.liquid_site_files.specs.declared.take.FileState.TheVariants as found
+use Rattle.liquid_site_files.specs.declared.take.RefusedFile.{RefusedFile}
+use Rattle.liquid_site_files.specs.declared.take.RefusalReason.{RefusalReason}
 
-pub refused_change : (r : Result (Option Why) Error) (change : Change) (kind : ErrorKind) (old new : Site) → IfOk r (λ why. is_memory kind ≡ false) → Refused change kind old new → OnOk r (TakesChange change old new)
+pub refused_change : (r : Result (Option RefusalReason) Error) (change : Change) (kind : ErrorKind) (old new : Site) → IfOk r (λ why. is_memory kind ≡ false) → Refused change kind old new → OnOk r (TakesChange change old new)
 refused_change (Ok o) change kind old new h refused = inr ((subst (λ b. MatchBool b ⊤ (HasBadSource (language_of old) change × IsOfSource kind)) h refused.why).0, refused.contents)
 refused_change (Err e) change kind old new h refused = tt
 
-pub refused_facts : (r : Result (Option Why) Error) (kind : ErrorKind) (given : Text) (text : String Global) (f : Found) (c : Contents) → IfOk r (λ why. is_memory kind ≡ false) → Faulted kind (data_of given) → given ≡ string_bytes text → f ≡ found.Text text
-    → OnOk r (TakesFacts (found_view f) c c)
-refused_facts (Err e) kind given text f c h faulted is there = tt
-refused_facts (Ok o) kind given text f c h faulted is there =
+no_source : (kind : ErrorKind) (P : Type 0) (b : Bool) → is_memory kind ≡ b → MatchBool b ⊤ (⊥ × P) → kind ≡ Memory
+no_source kind P true h why = memory_of kind h
+no_source kind P false h why = absurd why.0
+
+pub data_set : (r : Result (Unit {0}) Error) (new : BTreeMap (String Global) Value) (before after : Site) → Applies (SetData new) r before after → IsValueOrMemory (λ u. contents_of after) r (record (contents_of before) { «data» = held new })
+data_set (Ok u) new before after done = done.contents ∙ ap (λ s. stepped s (contents_of before)) done.is_step
+data_set (Err e) new before after done = no_source e.kind _ (is_memory e.kind) refl done.why
+
+pub refused_data : (r : Result (Option RefusalReason) Error) (kind : ErrorKind) (given : Text) (text : String Global) (f : FileState) (c : Contents) → IfOk r (λ why. is_memory kind ≡ false) → Faulted kind (data_of given) → given ≡ string_bytes text → f ≡ found.Text text
+    → OnOk r (TakesData (found_view f) c c)
+refused_data (Err e) kind given text f c h faulted is there = tt
+refused_data (Ok o) kind given text f c h faulted is there =
     let none : data_of given ≡ Err kind = (subst (λ b. MatchBool b ⊤ ((data_of given ≡ Err kind) × (is_refusal kind ≡ false))) h faulted).0 in
-    subst (λ x. TakesFacts (found_view x) c c) (sym there) (sym (ap (λ s. with_facts (data_of s) c) (sym is) ∙ ap (λ r. with_facts r c) none))
+    subst (λ x. TakesData (found_view x) c c) (sym there) (sym (ap (λ s. with_data (data_of s) c) (sym is) ∙ ap (λ r. with_data r c) none))
 
 next_item : {X : Type 0} (xs : List X) (i : ℕ) (x : X) → x ≡ get_or xs i x → i < length xs → drop i xs ≡ x ∷ drop (i + 1) xs
 next_item xs i x is lt = rw add-one (drop-cons xs i x lt ∙ ap (λ y. y ∷ drop (suc i) xs) (sym is))
@@ -64,21 +79,21 @@ all_taken (Some f) l folder changes i first now none so = so now (subst (λ cs. 
 
 -- ---- what is told
 
-is_refusal_of : (l : Language) (folder : Folder) (files : Files) (changed : Changed) (r : Option Refusal) → Refuses l changed (files (path_of folder changed)) (option_map (λ refusal. refusal.why) r) → IfSome r (λ refusal. string_bytes refusal.path ≡ path_of folder changed)
+is_refusal_of : (l : Language) (folder : Folder) (files : Files) (changed : Changed) (r : Option RefusedFile) → Refuses l changed (files (path_of folder changed)) (option_map (λ refusal. refusal.why) r) → IfSome r (λ refusal. string_bytes refusal.path ≡ path_of folder changed)
     → IsRefusal l folder files changed r
 is_refusal_of l folder files changed None why path = why
 is_refusal_of l folder files changed (Some refusal) why path = (path, why)
 
 -- nothing is told before the first file
-pub told_first : (o : Option Files) (l : Language) (folder : Folder) (changes : List Changed) (told : List Refusal) → told ≡ [] → IfSome o (λ f. (rs : List Refusal) → AreRefusals l folder f changes rs → AreRefusals l folder f changes (told ++ rs))
+pub told_first : (o : Option Files) (l : Language) (folder : Folder) (changes : List Changed) (told : List RefusedFile) → told ≡ [] → IfSome o (λ f. (rs : List RefusedFile) → AreRefusals l folder f changes rs → AreRefusals l folder f changes (told ++ rs))
 told_first None l folder changes told none = tt
 told_first (Some f) l folder changes told none = λ rs h. subst (λ ts. AreRefusals l folder f changes (ts ++ rs)) (sym none) h
 
 -- one more file is told of, or is not refused
-pub told_on : (o : Option Files) (l own : Language) (folder : Folder) (changes : List Changed) (i : ℕ) (changed : Changed) (r : Option Refusal) (before after : List Refusal) → own ≡ l → changed ≡ get_or changes i changed → i < length changes
-    → IfSome o (λ f. (rs : List Refusal) → AreRefusals l folder f (drop i changes) rs → AreRefusals l folder f changes (before ++ rs)) → IfSome o (λ f. Refuses own changed (f (path_of folder changed)) (option_map (λ refusal. refusal.why) r))
+pub told_on : (o : Option Files) (l own : Language) (folder : Folder) (changes : List Changed) (i : ℕ) (changed : Changed) (r : Option RefusedFile) (before after : List RefusedFile) → own ≡ l → changed ≡ get_or changes i changed → i < length changes
+    → IfSome o (λ f. (rs : List RefusedFile) → AreRefusals l folder f (drop i changes) rs → AreRefusals l folder f changes (before ++ rs)) → IfSome o (λ f. Refuses own changed (f (path_of folder changed)) (option_map (λ refusal. refusal.why) r))
     → IfSome r (λ refusal. string_bytes refusal.path ≡ path_of folder changed) → after ≡ before ++ option_to_list r
-    → IfSome o (λ f. (rs : List Refusal) → AreRefusals l folder f (drop (i + 1) changes) rs → AreRefusals l folder f changes (after ++ rs))
+    → IfSome o (λ f. (rs : List RefusedFile) → AreRefusals l folder f (drop (i + 1) changes) rs → AreRefusals l folder f changes (after ++ rs))
 told_on None l own folder changes i changed r before after same is lt so why path joined = tt
 told_on (Some f) l own folder changes i changed r before after same is lt so why path joined =
     let here : IsRefusal l folder f changed r = subst (λ k. IsRefusal k folder f changed r) same (is_refusal_of own folder f changed r why path) in
@@ -86,7 +101,7 @@ told_on (Some f) l own folder changes i changed r before after same is lt so why
     (so (option_to_list r ++ rs) (subst (λ cs. AreRefusals l folder f cs (option_to_list r ++ rs)) (sym (next_item changes i changed is lt)) (r, rs, here, more, refl)))
 
 -- all files are told of
-pub all_told : (o : Option Files) (l : Language) (folder : Folder) (changes : List Changed) (i : ℕ) (told : List Refusal) → drop i changes ≡ [] → IfSome o (λ f. (rs : List Refusal) → AreRefusals l folder f (drop i changes) rs → AreRefusals l folder f changes (told ++ rs))
+pub all_told : (o : Option Files) (l : Language) (folder : Folder) (changes : List Changed) (i : ℕ) (told : List RefusedFile) → drop i changes ≡ [] → IfSome o (λ f. (rs : List RefusedFile) → AreRefusals l folder f (drop i changes) rs → AreRefusals l folder f changes (told ++ rs))
     → IfSome o (λ f. AreRefusals l folder f changes told)
 all_told None l folder changes i told none so = tt
 all_told (Some f) l folder changes i told none so = subst (λ rs. AreRefusals l folder f changes rs) (append-nil told) (so [] (subst (λ cs. AreRefusals l folder f cs []) (sym none) refl))

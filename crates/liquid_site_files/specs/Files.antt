@@ -5,8 +5,8 @@ use Rattle.std.specs.declared.alloc.Global.{Global}
 use Rattle.liquid_model.specs.Texts.{Text}
 use Rattle.liquid_site_files.specs.declared.disk.DiskFault.{DiskFault}
 use Rattle.liquid_site_files.specs.declared.disk.DiskFault.TheVariants.{Memory, Refused}
-use Rattle.liquid_site_files.specs.declared.take.Found.{Found}
-use Rattle.liquid_site_files.specs.declared.take.Found.TheVariants as found
+use Rattle.liquid_site_files.specs.declared.take.FileState.{FileState}
+use Rattle.liquid_site_files.specs.declared.take.FileState.TheVariants as found
 
 -- what stands at a path: no file, a file with a text, or one that can't be read
 pub data File : Type 0 where
@@ -38,7 +38,7 @@ abbrev pub IsPut : Text → Text → Files → Result (Unit {0}) DiskFault → O
 IsPut path text old (Ok u) new = new ≡ Some (with_file old path (holds text))
 IsPut path text old (Err e) new = ChangesAt path old new
 
-abbrev pub found_view : Found → File
+abbrev pub found_view : FileState → File
 found_view found.Gone = gone
 found_view (found.Text text) = holds (string_bytes text)
 found_view found.Unread = unread

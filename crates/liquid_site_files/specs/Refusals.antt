@@ -11,54 +11,55 @@ use Rattle.liquid_json.specs.Json.{data_of}
 use Rattle.liquid_site_files.specs.Files.{File, Files, gone, holds, unread}
 use Rattle.liquid_site_files.specs.Paths.{path_of}
 use Rattle.liquid_site_files.specs.declared.folder.Changed.{Changed}
-use Rattle.liquid_site_files.specs.declared.folder.Changed.TheVariants.{Page, Partial, Facts}
+use Rattle.liquid_site_files.specs.declared.folder.Changed.TheVariants.{Page, Partial, Data}
 use Rattle.liquid_site_files.specs.declared.folder.Folder.{Folder}
-use Rattle.liquid_site_files.specs.declared.take.Refusal.{Refusal}
-use Rattle.liquid_site_files.specs.declared.take.Why.{Why}
-use Rattle.liquid_site_files.specs.declared.take.Why.TheVariants.{Unread, Fault}
+use Rattle.liquid_site_files.specs.declared.take.RefusedFile.{RefusedFile}
+use Rattle.liquid_site_files.specs.declared.take.RefusalReason.{RefusalReason}
+use Rattle.liquid_site_files.specs.declared.take.RefusalReason.TheVariants.{Unread, Fault}
 
 -- the text of a template: none is refused that is a template, and one that is none is, by a fault
 -- of a source
-abbrev pub RefusesSource : Language → Text → Option Why → Type 0
+abbrev pub RefusesSource : Language → Text → Option RefusalReason → Type 0
 RefusesSource l source None = (t : Nodes) × IsOnlyTree l t source
 RefusesSource l source (Some (Fault e)) = HasNoTree l source × IsOfSource e.kind
 RefusesSource l source (Some Unread) = ⊥
 
 -- a template's file: one that is gone is not refused, and one that can't be read is
-abbrev pub RefusesTemplate : Language → File → Option Why → Type 0
+abbrev pub RefusesTemplate : Language → File → Option RefusalReason → Type 0
 RefusesTemplate l (holds source) why = RefusesSource l source why
 RefusesTemplate l gone why = why ≡ None
 RefusesTemplate l unread why = why ≡ Some Unread
 
 -- what a text gives as data: a text that gives none is refused, by the fault that it has
-abbrev pub RefusesData : Result Pairs ErrorKind → Option Why → Type 0
-RefusesData (Ok facts) why = why ≡ None
-RefusesData (Err kind) (Some (Fault e)) = e.kind ≡ kind
-RefusesData (Err kind) (Some Unread) = ⊥
-RefusesData (Err kind) None = ⊥
+abbrev pub RefusesJson : Result Pairs ErrorKind → Option RefusalReason → Type 0
+RefusesJson (Ok «data») why = why ≡ None
+RefusesJson (Err kind) (Some (Fault e)) = e.kind ≡ kind
+RefusesJson (Err kind) (Some Unread) = ⊥
+RefusesJson (Err kind) None = ⊥
 
 -- the data's file: also one that is gone is refused
-abbrev pub RefusesFacts : File → Option Why → Type 0
-RefusesFacts (holds source) why = RefusesData (data_of source) why
-RefusesFacts gone why = why ≡ Some Unread
-RefusesFacts unread why = why ≡ Some Unread
+abbrev pub RefusesData : File → Option RefusalReason → Type 0
+RefusesData (holds source) why = RefusesJson (data_of source) why
+RefusesData gone why = why ≡ Some Unread
+RefusesData unread why = why ≡ Some Unread
 
 -- a changed file, by what stands at its path: why it is refused, or none where it is not
-abbrev pub Refuses : Language → Changed → File → Option Why → Type 0
+abbrev pub Refuses : Language → Changed → File → Option RefusalReason → Type 0
 Refuses l (Page name) file why = RefusesTemplate l file why
 Refuses l (Partial name) file why = RefusesTemplate l file why
-Refuses l Facts file why = RefusesFacts file why
+Refuses l Data file why = RefusesData file why
 
 -- what a round says of a changed file: its path with why it is refused, or nothing
-abbrev pub IsRefusal : Language → Folder → Files → Changed → Option Refusal → Type 0
+abbrev pub IsRefusal : Language → Folder → Files → Changed → Option RefusedFile → Type 0
 IsRefusal l folder files changed None = Refuses l changed (files (path_of folder changed)) None
 IsRefusal l folder files changed (Some refusal) =
     (string_bytes refusal.path ≡ path_of folder changed) ×
     Refuses l changed (files (path_of folder changed)) (Some refusal.why)
 
 -- what a round says of all changed files, one after another
-abbrev pub AreRefusals : Language → Folder → Files → List Changed → List Refusal → Type 0
+abbrev pub AreRefusals : Language → Folder → Files → List Changed → List RefusedFile → Type 0
 AreRefusals l folder files [] told = told ≡ []
 AreRefusals l folder files (changed ∷ rest) told =
-    (refusal : Option Refusal) × (later : List Refusal) × IsRefusal l folder files changed refusal ×
-    AreRefusals l folder files rest later × (told ≡ option_to_list refusal ++ later)
+    (refusal : Option RefusedFile) × (later : List RefusedFile) ×
+    IsRefusal l folder files changed refusal × AreRefusals l folder files rest later ×
+    (told ≡ option_to_list refusal ++ later)

@@ -8,5 +8,5 @@ use Rattle.liquid_site.specs.Steps.{no_contents}
 
 -- the contents with these data alone, or the data's fault
 abbrev pub site_over : Result Pairs ErrorKind → Result Contents ErrorKind
-site_over (Ok facts) = Ok (record (no_contents 32) { facts = map_of facts })
+site_over (Ok «data») = Ok (record (no_contents 32) { «data» = map_of «data» })
 site_over (Err kind) = Err kind

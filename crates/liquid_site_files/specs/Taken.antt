@@ -13,7 +13,7 @@ use Rattle.liquid_site.specs.Steps.{stepped}
 use Rattle.liquid_site_files.specs.Files.{File, Files, gone, holds, unread}
 use Rattle.liquid_site_files.specs.Paths.{path_of}
 use Rattle.liquid_site_files.specs.declared.folder.Changed.{Changed}
-use Rattle.liquid_site_files.specs.declared.folder.Changed.TheVariants.{Page, Partial, Facts}
+use Rattle.liquid_site_files.specs.declared.folder.Changed.TheVariants.{Page, Partial, Data}
 use Rattle.liquid_site_files.specs.declared.folder.Folder.{Folder}
 
 -- a template's file: its text is set, and it is removed where it is gone. A text that is no
@@ -25,23 +25,23 @@ TakesTemplate l set remove gone c d = d ≡ stepped remove c
 TakesTemplate l set remove unread c d = d ≡ c
 
 -- the contents with these data; a fault changes nothing
-abbrev pub with_facts : Result Pairs ErrorKind → Contents → Contents
-with_facts (Ok facts) c = record c { facts = map_of facts }
-with_facts (Err kind) c = c
+abbrev pub with_data : Result Pairs ErrorKind → Contents → Contents
+with_data (Ok «data») c = record c { «data» = map_of «data» }
+with_data (Err kind) c = c
 
 -- the data's file: all that it gives, and nothing changes where it gives no data, is gone or can't
 -- be read
-abbrev pub TakesFacts : File → Contents → Contents → Type 0
-TakesFacts (holds source) c d = d ≡ with_facts (data_of source) c
-TakesFacts gone c d = d ≡ c
-TakesFacts unread c d = d ≡ c
+abbrev pub TakesData : File → Contents → Contents → Type 0
+TakesData (holds source) c d = d ≡ with_data (data_of source) c
+TakesData gone c d = d ≡ c
+TakesData unread c d = d ≡ c
 
 abbrev pub Takes : Language → Changed → File → Contents → Contents → Type 0
 Takes l (Page name) file = TakesTemplate l (set_page (string_bytes name))
     (remove_page (string_bytes name)) file
 Takes l (Partial name) file = TakesTemplate l (set_partial (string_bytes name))
     (remove_partial (string_bytes name)) file
-Takes l Facts file = TakesFacts file
+Takes l Data file = TakesData file
 
 -- the files are taken one after another
 abbrev pub AreTaken : Language → Folder → Files → List Changed → Contents → Contents → Type 0

@@ -12,7 +12,7 @@ use std::alloc::Global;
 #[derive(PartialEq, Eq, PartialOrd, Ord, Drop)]
 pub enum Changed {
     /// The data.
-    Facts,
+    Data,
     /// The template of a partial, by the partial's name.
     Partial(String),
     /// The template of a page, by the page's name.
@@ -27,7 +27,7 @@ pub struct Folder {
     /// What stands before the name of a partial in the path of its template.
     pub partials: String,
     /// The path of the data.
-    pub facts: String,
+    pub data: String,
     /// What stands before the name of a page in the path of the file that the page is written to.
     pub out: String,
 }
@@ -39,7 +39,7 @@ pub(crate) fn path_of(alloc: Global, folder: &Folder, changed: &Changed) -> Resu
     match changed {
         Changed::Page(name) => joined(alloc, folder.pages.as_str(), name.as_str()),
         Changed::Partial(name) => joined(alloc, folder.partials.as_str(), name.as_str()),
-        Changed::Facts => joined(alloc, folder.facts.as_str(), ""),
+        Changed::Data => joined(alloc, folder.data.as_str(), ""),
     }
 }
 

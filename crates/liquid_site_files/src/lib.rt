@@ -2,7 +2,6 @@
 #![tactic(auto)]
 
 mod disk;
-mod facts;
 mod folder;
 mod rounds;
 mod start;
@@ -15,4 +14,4 @@ pub use liquid_core::{Error, ErrorKind, Result};
 pub use liquid_site::{Page, Site};
 pub use rounds::{RoundOutcome, round};
 pub use start::site_of;
-pub use take::{Refusal, Why};
+pub use take::{RefusalReason, RefusedFile};

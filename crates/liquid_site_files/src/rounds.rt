@@ -9,7 +9,7 @@ ghost use Rattle.liquid_site_files.specs.Written.{TellsUnwritten};
 
 use crate::disk::Disk;
 use crate::folder::{Changed, Folder};
-use crate::take::{Refusal, take};
+use crate::take::{RefusedFile, take};
 use crate::written::write_pages;
 use liquid_core::{ErrorKind, Result};
 use liquid_site::Site;
@@ -19,7 +19,7 @@ use std::alloc::Global;
 #[derive(Drop)]
 pub struct RoundOutcome {
     /// The files that were refused, in the order of the changes.
-    pub refusals: Vec<Refusal>,
+    pub refusals: Vec<RefusedFile>,
     /// How many pages were written, up to the greatest value; or the fault that ended the writing:
     /// `Write`, whose message names the page's file that can't be written, or `Memory`. The pages
     /// in front of that one are written.
@@ -75,7 +75,7 @@ fn take_all<D: Disk>(
     folder: &Folder,
     changes: &[Changed],
     disk: &D,
-) -> Result<Vec<Refusal>>
+) -> Result<Vec<RefusedFile>>
     ensures taken { IfSome (D.files disk.now)
         (λ f. OnOk result (AreTaken (language_of site.old) folder.now f changes.now
         (contents_of site.old) (contents_of site.new))) }

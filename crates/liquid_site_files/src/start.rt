@@ -8,20 +8,17 @@ ghost use Rattle.liquid_site_files.specs.Start.{site_over};
 
 use liquid_core::Result;
 use liquid_json::data_from_json;
-use liquid_lib::language;
+use liquid_lib::{DEFAULT_DEPTH, language};
 use liquid_site::Site;
 use std::alloc::Global;
-
-/// How deep partials may be nested.
-const DEPTH: u32 = 32;
 
 /// A site in the standard language over the data of a text of JSON, without pages and partials, of
 /// at most 32 nested partials. The answer is the data's fault, `InvalidInput` or `Float`, where the
 /// text gives no data, or `Memory`.
-pub fn site_of(alloc: Global, facts: &str) -> Result<Site>
-    ensures contents { Answers contents_of result (site_over (data_of facts.now)) }
+pub fn site_of(alloc: Global, data: &str) -> Result<Site>
+    ensures contents { Answers contents_of result (site_over (data_of «data».now)) }
     ensures language { IfOk result (λ site. IsStandard (language_of site)) }
 {
-    let facts = data_from_json(alloc, facts)?;
-    Ok(Site::over(alloc, language(alloc)?, DEPTH, facts))
+    let data = data_from_json(alloc, data)?;
+    Ok(Site::over(alloc, language(alloc)?, DEFAULT_DEPTH, data))
 }

@@ -3,25 +3,25 @@ ghost use Rattle.std.specs.Prelude.{◌≡◌, false, Some, IfOk, OnOk, IfErr, I
 ghost use Rattle.std.specs.Prelude.{string_bytes};
 ghost use Rattle.liquid_model.specs.Answer.{IsValueOrMemory};
 ghost use Rattle.liquid_model.specs.ErrorKinds.{is_memory};
+ghost use Rattle.liquid_core.specs.Held.{held};
 ghost use Rattle.liquid_site.specs.SiteViews.{contents_of, language_of};
 ghost use Rattle.liquid_site.specs.Steps.{set_page, remove_page, set_partial, remove_partial};
 ghost use Rattle.liquid_site_files.specs.Files.{found_view};
 ghost use Rattle.liquid_site_files.specs.Paths.{path_of};
-ghost use Rattle.liquid_site_files.specs.Refusals.{RefusesTemplate, RefusesFacts, Refuses};
-ghost use Rattle.liquid_site_files.specs.Taken.{TakesTemplate, TakesFacts, Takes};
+ghost use Rattle.liquid_site_files.specs.Refusals.{RefusesTemplate, RefusesData, Refuses};
+ghost use Rattle.liquid_site_files.specs.Taken.{TakesTemplate, TakesData, Takes};
 ghost use Rattle.liquid_site_files.specs.inside.Changes.{TakesChange, RefusesChange};
 
 use crate::disk::{Disk, DiskFault};
-use crate::facts::change_facts;
 use crate::folder::{Changed, Folder, path_of};
-use liquid_core::{Error, ErrorKind, Result};
+use liquid_core::{Error, ErrorKind, Object, Result};
 use liquid_json::data_from_json;
 use liquid_site::{Change, Site};
 use std::alloc::{AllocError, Global};
 
-/// Why a file is refused.
+/// RefusalReason a file is refused.
 #[derive(Drop)]
-pub enum Why {
+pub enum RefusalReason {
     /// It can't be read, isn't UTF-8, or is the data's file and gone.
     Unread,
     /// Its text is no template, or no data.
@@ -30,16 +30,16 @@ pub enum Why {
 
 /// A file that is refused. The site holds what it held.
 #[derive(Drop)]
-pub struct Refusal {
+pub struct RefusedFile {
     /// The file's path.
     pub path: String,
-    /// Why it is refused.
-    pub why: Why,
+    /// RefusalReason it is refused.
+    pub why: RefusalReason,
 }
 
 /// What stands at a path.
 #[derive(Drop)]
-pub(crate) enum Found {
+pub(crate) enum FileState {
     /// No file.
     Gone,
     /// A file with this text.
@@ -56,7 +56,7 @@ pub(crate) fn take<D: Disk>(
     folder: &Folder,
     changed: &Changed,
     disk: &D,
-) -> Result<Option<Refusal>>
+) -> Result<Option<RefusedFile>>
     ensures taken { IfSome (D.files disk.now)
         (λ f. OnOk result (Takes (language_of site.old) changed.now
         (f (path_of folder.now changed.now)) (contents_of site.old) (contents_of site.new))) }
@@ -71,21 +71,21 @@ pub(crate) fn take<D: Disk>(
     let path = path_of(alloc, folder, changed)?;
     let found = found_at(disk, path.as_str())?;
     match take_found(alloc, site, changed, found)? {
-        Some(why) => Ok(Some(Refusal { path, why })),
+        Some(why) => Ok(Some(RefusedFile { path, why })),
         None => Ok(None),
     }
 }
 
 /// What stands at a path, or `Memory`.
-fn found_at<D: Disk>(disk: &D, path: &str) -> Result<Found>
+fn found_at<D: Disk>(disk: &D, path: &str) -> Result<FileState>
     ensures found { IfSome (D.files disk.now) (λ f. IsValueOrMemory found_view result
         (f path.now)) }
     ensures memory { IfErr result (λ e. e.kind ≡ ErrorKind.Memory) }
 {
     match disk.read(path) {
-        Ok(Some(text)) => Ok(Found::Text(text)),
-        Ok(None) => Ok(Found::Gone),
-        Err(DiskFault::Refused) => Ok(Found::Unread),
+        Ok(Some(text)) => Ok(FileState::Text(text)),
+        Ok(None) => Ok(FileState::Gone),
+        Err(DiskFault::Refused) => Ok(FileState::Unread),
         Err(DiskFault::Memory) => Err(Error::from(AllocError)),
     }
 }
@@ -95,8 +95,8 @@ fn take_found(
     alloc: Global,
     site: &mut Site,
     changed: &Changed,
-    found: Found,
-) -> Result<Option<Why>>
+    found: FileState,
+) -> Result<Option<RefusalReason>>
     ensures taken { OnOk result (Takes (language_of site.old) changed.now (found_view found)
         (contents_of site.old) (contents_of site.new)) }
     ensures refused { IfOk result (Refuses (language_of site.old) changed.now (found_view found)) }
@@ -106,12 +106,17 @@ fn take_found(
     match changed {
         Changed::Page(name) => take_page(alloc, site, name.as_str(), found),
         Changed::Partial(name) => take_partial(alloc, site, name.as_str(), found),
-        Changed::Facts => take_facts(alloc, site, found),
+        Changed::Data => take_data(alloc, site, found),
     }
 }
 
 /// Sets a page, or removes it where its file is gone.
-fn take_page(alloc: Global, site: &mut Site, name: &str, found: Found) -> Result<Option<Why>>
+fn take_page(
+    alloc: Global,
+    site: &mut Site,
+    name: &str,
+    found: FileState,
+) -> Result<Option<RefusalReason>>
     ensures taken { OnOk result (TakesTemplate (language_of site.old) (set_page name.now)
         (remove_page name.now)
         (found_view found) (contents_of site.old) (contents_of site.new)) }
@@ -121,14 +126,19 @@ fn take_page(alloc: Global, site: &mut Site, name: &str, found: Found) -> Result
 {
     let own = String::from_str(alloc, name)?;
     match found {
-        Found::Text(text) => apply(site, Change::SetPage(own, text)),
-        Found::Gone => apply(site, Change::RemovePage(own)),
-        Found::Unread => Ok(Some(Why::Unread)),
+        FileState::Text(text) => apply(site, Change::SetPage(own, text)),
+        FileState::Gone => apply(site, Change::RemovePage(own)),
+        FileState::Unread => Ok(Some(RefusalReason::Unread)),
     }
 }
 
 /// Sets a partial, or removes it where its file is gone.
-fn take_partial(alloc: Global, site: &mut Site, name: &str, found: Found) -> Result<Option<Why>>
+fn take_partial(
+    alloc: Global,
+    site: &mut Site,
+    name: &str,
+    found: FileState,
+) -> Result<Option<RefusalReason>>
     ensures taken { OnOk result (TakesTemplate (language_of site.old) (set_partial name.now)
         (remove_partial name.now) (found_view found) (contents_of site.old)
         (contents_of site.new)) }
@@ -138,14 +148,14 @@ fn take_partial(alloc: Global, site: &mut Site, name: &str, found: Found) -> Res
 {
     let own = String::from_str(alloc, name)?;
     match found {
-        Found::Text(text) => apply(site, Change::SetPartial(own, text)),
-        Found::Gone => apply(site, Change::RemovePartial(own)),
-        Found::Unread => Ok(Some(Why::Unread)),
+        FileState::Text(text) => apply(site, Change::SetPartial(own, text)),
+        FileState::Gone => apply(site, Change::RemovePartial(own)),
+        FileState::Unread => Ok(Some(RefusalReason::Unread)),
     }
 }
 
 /// Applies a change. The answer is why its source is refused, where it is.
-fn apply(site: &mut Site, change: Change) -> Result<Option<Why>>
+fn apply(site: &mut Site, change: Change) -> Result<Option<RefusalReason>>
     ensures taken { OnOk result (TakesChange change site.old site.new) }
     ensures refused { IfOk result (RefusesChange (language_of site.old) change) }
     ensures language { language_of site.new ≡ language_of site.old }
@@ -158,34 +168,43 @@ fn apply(site: &mut Site, change: Change) -> Result<Option<Why>>
 }
 
 /// A fault of a file's text is a refusal of this file. Without memory there is no answer.
-fn refused(error: Error) -> Result<Option<Why>>
-    ensures fault { IfOk result (λ why. why ≡ Some (Why.Fault error)) }
+fn refused(error: Error) -> Result<Option<RefusalReason>>
+    ensures fault { IfOk result (λ why. why ≡ Some (RefusalReason.Fault error)) }
     ensures told { IfOk result (λ _. is_memory error.kind ≡ false) }
     ensures same { IfErr result (λ e. e ≡ error) }
     ensures memory { IfErr result (λ e. e.kind ≡ ErrorKind.Memory) }
 {
     match error.kind {
         ErrorKind::Memory => Err(error),
-        _ => Ok(Some(Why::Fault(error))),
+        _ => Ok(Some(RefusalReason::Fault(error))),
     }
 }
 
-/// Takes the data of a file, value by value.
-fn take_facts(alloc: Global, site: &mut Site, found: Found) -> Result<Option<Why>>
-    ensures taken { OnOk result (TakesFacts (found_view found) (contents_of site.old)
+/// Takes the data of a file in the place of the site's.
+fn take_data(alloc: Global, site: &mut Site, found: FileState) -> Result<Option<RefusalReason>>
+    ensures taken { OnOk result (TakesData (found_view found) (contents_of site.old)
         (contents_of site.new)) }
-    ensures refused { IfOk result (RefusesFacts (found_view found)) }
+    ensures refused { IfOk result (RefusesData (found_view found)) }
     ensures language { language_of site.new ≡ language_of site.old }
     ensures memory { IfErr result (λ e. e.kind ≡ ErrorKind.Memory) }
 {
-    let Found::Text(text) = found else {
-        return Ok(Some(Why::Unread));
+    let FileState::Text(text) = found else {
+        return Ok(Some(RefusalReason::Unread));
     };
     match data_from_json(alloc, text.as_str()) {
-        Ok(facts) => {
-            change_facts(alloc, site, facts)?;
+        Ok(data) => {
+            set_data(site, data)?;
             Ok(None)
         }
         Err(error) => refused(error),
     }
+}
+
+/// Gives a site this data in place of its own.
+fn set_data(site: &mut Site, data: Object) -> Result<()>
+    ensures contents { IsValueOrMemory (λ _. contents_of site.new) result
+        (record (contents_of site.old) { «data» = held «data» }) }
+    ensures language { language_of site.new ≡ language_of site.old }
+{
+    site.apply(Change::SetData(data))
 }

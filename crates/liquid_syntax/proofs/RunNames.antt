@@ -8,31 +8,32 @@ use Rattle.std.specs.Map.{values_of}
 use Rattle.std.specs.Ordering.{nat_cmp}
 use Rattle.std.specs.declared.alloc.Global.{Global}
 use mathlib.Core.Path.{refl, sym, ap, ◌∙◌, fun_ext}
-use Rattle.liquid_model.specs.Texts.{Text}
+use Rattle.liquid_core.specs.Environment.{Names}
+use Rattle.liquid_model.specs.Texts.{Text, same_text}
 use Rattle.liquid_evaluation.specs.Names.{mentioned, nodes_names, partials_names, run_names}
 use Rattle.liquid_language.specs.Entries.{seen}
 use Rattle.liquid_syntax.specs.Slots.{filled, with_held}
 use Rattle.liquid_syntax.specs.inside.Mentions.{held_names, list_names, partials_list_names}
 use Rattle.liquid_syntax.specs.NameSets.{added, held}
-use Rattle.liquid_syntax.specs.inside.NameVisitors.{mentioned_both}
+use Rattle.liquid_syntax.specs.inside.NameVisitors.{any_both, mentioned_both}
 use Rattle.liquid_syntax.specs.Templates.{list_of, tree_of}
 use Rattle.liquid_syntax.specs.declared.template.Template.{Template}
 use Rattle.liquid_syntax.proofs.TreeNames.{template_mentions}
 
-pub partials_mention : (name : Text) (es : List (String Global × Option Template)) → mentioned (partials_names (filled (seen (option_map tree_of) es))) name ≡ mentioned (partials_list_names (values_of es)) name
+pub partials_mention : (N : Names) (es : List (String Global × Option Template)) → list_any N (partials_names (filled (seen (option_map tree_of) es))) ≡ list_any N (partials_list_names (values_of es))
 unfolding partials_names partials_list_names
-partials_mention name [] = refl
-partials_mention name (e ∷ es) = on e.1 (partials_mention name es)
+partials_mention N [] = refl
+partials_mention N (e ∷ es) = on e.1 (partials_mention N es)
   where
-    on : (held : Option Template) → mentioned (partials_names (filled (seen (option_map tree_of) es))) name ≡ mentioned (partials_list_names (values_of es)) name
-        → mentioned (partials_names (with_held (string_bytes e.0) (option_map tree_of held) (filled (seen (option_map tree_of) es)))) name ≡ mentioned (held_names held ++ partials_list_names (values_of es)) name
+    on : (held : Option Template) → list_any N (partials_names (filled (seen (option_map tree_of) es))) ≡ list_any N (partials_list_names (values_of es))
+        → list_any N (partials_names (with_held (string_bytes e.0) (option_map tree_of held) (filled (seen (option_map tree_of) es)))) ≡ list_any N (held_names held ++ partials_list_names (values_of es))
     on None rest = rest
     on (Some t) rest =
-        mentioned_both (nodes_names (tree_of t)) (partials_names (filled (seen (option_map tree_of) es))) name
-        ∙ (λ i. template_mentions t name i || rest i)
-        ∙ sym (mentioned_both (list_names (list_of t)) (partials_list_names (values_of es)) name)
+        any_both (nodes_names (tree_of t)) (partials_names (filled (seen (option_map tree_of) es))) N
+        ∙ (λ i. template_mentions t N i || rest i)
+        ∙ sym (any_both (list_names (list_of t)) (partials_list_names (values_of es)) N)
 
-none_held : (s : BTreeSet (String Global)) (name : Text) → s.keys ≡ [] → held s name ≡ false
+pub none_held : (s : BTreeSet (String Global)) (name : Text) → s.keys ≡ [] → held s name ≡ false
 unfolding held
 none_held s name empty = ap (λ ks. list_any (is_at (λ k. slice_cmp nat_cmp name (string_bytes k))) ks) empty
 
@@ -44,4 +45,4 @@ all_gathered t es none some all empty first then = fun_ext (λ name.
     ap (λ h. h name) then
     ∙ ap (λ h. h name || mentioned (partials_list_names (values_of es)) name) first
     ∙ ap (λ b. (b || mentioned (list_names (list_of t)) name) || mentioned (partials_list_names (values_of es)) name) (none_held none name empty)
-    ∙ sym (mentioned_both (nodes_names (tree_of t)) (partials_names (filled (seen (option_map tree_of) es))) name ∙ (λ i. template_mentions t name i || partials_mention name es i)))
+    ∙ sym (mentioned_both (nodes_names (tree_of t)) (partials_names (filled (seen (option_map tree_of) es))) name ∙ (λ i. template_mentions t (same_text name) i || partials_mention (same_text name) es i)))

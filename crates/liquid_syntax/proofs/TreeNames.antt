@@ -1,14 +1,17 @@
--- The names of a tree are those of the nodes of its list.
+-- The names of a tree are those of the nodes of its list: whatever a name is tested for, one of the
+-- former passes where one of the latter does.
 use Rattle.std.specs.Prelude.{◌≡◌, Bool, false, ◌||◌, List, [], ◌∷◌, ◌++◌, map, string_bytes, codes, Some, None, option_map}
+use Rattle.std.specs.List.{list_any}
 use mathlib.Core.Path.{refl, sym, ap, subst, ◌∙◌}
 use Rattle.std.proofs.Common.{append_assoc}
 use Rattle.std.proofs.Math.Bool.{or_comm}
+use Rattle.liquid_core.specs.Environment.{Names}
 use Rattle.liquid_core.specs.Expression.{Expression}
 use Rattle.liquid_core.specs.ExpressionView.{expression_view}
 use Rattle.liquid_model.specs.Texts.{Text}
 use Rattle.liquid_evaluation.specs.ChainView.{chain_view}
 use Rattle.liquid_evaluation.specs.ConditionView.{condition_view}
-use Rattle.liquid_evaluation.specs.Names.{mentioned, all_names, condition_names, expression_names, node_names, nodes_names, optional_names, source_names, whens_names, window_names}
+use Rattle.liquid_evaluation.specs.Names.{all_names, condition_names, expression_names, node_names, nodes_names, optional_names, source_names, whens_names, window_names}
 use Rattle.liquid_evaluation.specs.SourceView.{source_view}
 use Rattle.liquid_evaluation.specs.Tree as tree
 use Rattle.liquid_syntax.specs.Flats.{arm_values, bindings_view, each_view, flat_of, leaf, window_view}
@@ -19,27 +22,27 @@ use Rattle.liquid_syntax.specs.declared.loop_nodes.TableRow as rows
 use Rattle.liquid_syntax.specs.declared.node.Node.{Node}
 use Rattle.liquid_syntax.specs.declared.node.Node.TheVariants.{Text as Plain, Output, Assign, Raw, Comment, If, Unless, Capture, Case, For, TableRow, Break, Continue, Increment, Decrement, Cycle, IfChanged, Include, JekyllInclude, Render, RenderEach}
 use Rattle.liquid_syntax.specs.declared.template.Template.{Template}
-use Rattle.liquid_syntax.specs.inside.NameVisitors.{mentioned_both, or_assoc, or_false}
+use Rattle.liquid_syntax.specs.inside.NameVisitors.{any_both, or_assoc, or_false}
 use Rattle.liquid_syntax.proofs.Totals.{IsTotal, Makes, leaf_makes, one_makes, two_makes, of_arms, case_makes, list_total, tree_total}
 
-module _ (name : Text) where
+module _ (N : Names) where
   abbrev either : Bool → Bool → Bool
   either a b = a || b
 
   abbrev in_node : tree.Node → Bool
-  in_node n = mentioned (node_names n) name
+  in_node n = list_any N (node_names n)
 
   abbrev in_nodes : tree.Nodes → Bool
-  in_nodes ns = mentioned (nodes_names ns) name
+  in_nodes ns = list_any N (nodes_names ns)
 
   abbrev in_whens : tree.Whens → Bool
-  in_whens ws = mentioned (whens_names ws) name
+  in_whens ws = list_any N (whens_names ws)
 
   abbrev in_values : List Expression → Bool
-  in_values vs = mentioned (all_names vs) name
+  in_values vs = list_any N (all_names vs)
 
   abbrev own : Node → Bool
-  own n = mentioned (own_names n) name
+  own n = list_any N (own_names n)
 
   sum : IsTotal false either in_node in_nodes
   unfolding nodes_names
@@ -49,51 +52,51 @@ module _ (name : Text) where
     grouped = or_assoc;
     swapped = or_comm;
     nothing = refl;
-    more = λ n ns. mentioned_both (node_names n) (nodes_names ns) name;
+    more = λ n ns. any_both (node_names n) (nodes_names ns) N;
   }
 
   -- own names, and those of one body, or of two
-  one : (xs : List Text) (b : tree.Nodes) → mentioned (xs ++ nodes_names b) name ≡ (mentioned xs name || in_nodes b)
-  one xs b = mentioned_both xs (nodes_names b) name
+  one : (xs : List Text) (b : tree.Nodes) → list_any N (xs ++ nodes_names b) ≡ (list_any N xs || in_nodes b)
+  one xs b = any_both xs (nodes_names b) N
 
-  two : (xs : List Text) (b c : tree.Nodes) → mentioned (xs ++ (nodes_names b ++ nodes_names c)) name ≡ (mentioned xs name || (in_nodes b || in_nodes c))
-  two xs b c = mentioned_both xs (nodes_names b ++ nodes_names c) name ∙ ap (λ r. mentioned xs name || r) (mentioned_both (nodes_names b) (nodes_names c) name)
+  two : (xs : List Text) (b c : tree.Nodes) → list_any N (xs ++ (nodes_names b ++ nodes_names c)) ≡ (list_any N xs || (in_nodes b || in_nodes c))
+  two xs b c = any_both xs (nodes_names b ++ nodes_names c) N ∙ ap (λ r. list_any N xs || r) (any_both (nodes_names b) (nodes_names c) N)
 
   -- the `when` parts of a `case`
   one_when : (vs : List Expression) (b : tree.Nodes) (ws : tree.Whens) → in_whens (tree.when vs b ws) ≡ (in_values vs || (in_nodes b || in_whens ws))
   unfolding whens_names
-  one_when vs b ws = mentioned_both (all_names vs) (nodes_names b ++ whens_names ws) name ∙ ap (λ r. in_values vs || r) (mentioned_both (nodes_names b) (whens_names ws) name)
+  one_when vs b ws = any_both (all_names vs) (nodes_names b ++ whens_names ws) N ∙ ap (λ r. in_values vs || r) (any_both (nodes_names b) (whens_names ws) N)
 
   no_when : in_whens tree.no_whens ≡ false
   unfolding whens_names
   no_when = refl
 
-  arms_named : (vss : List (List Expression)) → of_arms false either in_node in_nodes sum in_whens in_values no_when one_when vss ≡ mentioned (arms_names vss) name
+  arms_named : (vss : List (List Expression)) → of_arms false either in_node in_nodes sum in_whens in_values no_when one_when vss ≡ list_any N (arms_names vss)
   unfolding of_arms arms_names
   arms_named [] = refl
-  arms_named (vs ∷ vss) = ap (λ r. in_values vs || r) (arms_named vss) ∙ sym (mentioned_both (all_names vs) (arms_names vss) name)
+  arms_named (vs ∷ vss) = ap (λ r. in_values vs || r) (arms_named vss) ∙ sym (any_both (all_names vs) (arms_names vss) N)
 
-  arms_are : (target : Expression) (vss : List (List Expression)) → (mentioned (expression_names target) name || of_arms false either in_node in_nodes sum in_whens in_values no_when one_when vss) ≡ mentioned (expression_names target ++ arms_names vss) name
-  arms_are target vss = ap (λ r. mentioned (expression_names target) name || r) (arms_named vss) ∙ sym (mentioned_both (expression_names target) (arms_names vss) name)
+  arms_are : (target : Expression) (vss : List (List Expression)) → (list_any N (expression_names target) || of_arms false either in_node in_nodes sum in_whens in_values no_when one_when vss) ≡ list_any N (expression_names target ++ arms_names vss)
+  arms_are target vss = ap (λ r. list_any N (expression_names target) || r) (arms_named vss) ∙ sym (any_both (expression_names target) (arms_names vss) N)
 
-  case_named : (target : Expression) (ws : tree.Whens) (o : tree.Nodes) → in_node (tree.case_of target ws o) ≡ (mentioned (expression_names target) name || (in_whens ws || in_nodes o))
+  case_named : (target : Expression) (ws : tree.Whens) (o : tree.Nodes) → in_node (tree.case_of target ws o) ≡ (list_any N (expression_names target) || (in_whens ws || in_nodes o))
   unfolding node_names
-  case_named target ws o = mentioned_both (expression_names target) (whens_names ws ++ nodes_names o) name ∙ ap (λ r. mentioned (expression_names target) name || r) (mentioned_both (whens_names ws) (nodes_names o) name)
+  case_named target ws o = any_both (expression_names target) (whens_names ws ++ nodes_names o) N ∙ ap (λ r. list_any N (expression_names target) || r) (any_both (whens_names ws) (nodes_names o) N)
 
   -- the names of a loop stand behind one another
-  for_named : (f : loops.For) (b c : tree.Nodes) → in_node (tree.for_each (string_bytes f.variable) (source_view f.source) (window_view f.window) b c) ≡ (mentioned (for_names f) name || (in_nodes b || in_nodes c))
+  for_named : (f : loops.For) (b c : tree.Nodes) → in_node (tree.for_each (string_bytes f.variable) (source_view f.source) (window_view f.window) b c) ≡ (list_any N (for_names f) || (in_nodes b || in_nodes c))
   unfolding node_names for_names head_names
   for_named f b c =
-      ap (λ rest. mentioned (codes "forloop" ∷ string_bytes f.variable ∷ rest) name) (sym (append_assoc (source_names (source_view f.source)) (window_names (window_view f.window)) (nodes_names b ++ nodes_names c)))
+      ap (λ rest. list_any N (codes "forloop" ∷ string_bytes f.variable ∷ rest)) (sym (append_assoc (source_names (source_view f.source)) (window_names (window_view f.window)) (nodes_names b ++ nodes_names c)))
       ∙ two (for_names f) b c
 
-  rows_named : (r : rows.TableRow) (b : tree.Nodes) → in_node (tree.tablerow (string_bytes r.variable) (source_view r.source) (window_view r.window) (option_map expression_view r.cols) b) ≡ (mentioned (row_names r) name || in_nodes b)
+  rows_named : (r : rows.TableRow) (b : tree.Nodes) → in_node (tree.tablerow (string_bytes r.variable) (source_view r.source) (window_view r.window) (option_map expression_view r.cols) b) ≡ (list_any N (row_names r) || in_nodes b)
   unfolding node_names row_names head_names
   rows_named r b =
       let source = source_names (source_view r.source) in
       let cols = optional_names (option_map expression_view r.cols) in
       let window = window_names (window_view r.window) in
-      ap (λ rest. mentioned (codes "tablerow" ∷ string_bytes r.variable ∷ rest) name) (ap (λ rest. source ++ rest) (sym (append_assoc cols window (nodes_names b))) ∙ sym (append_assoc source (cols ++ window) (nodes_names b)))
+      ap (λ rest. list_any N (codes "tablerow" ∷ string_bytes r.variable ∷ rest)) (ap (λ rest. source ++ rest) (sym (append_assoc cols window (nodes_names b))) ∙ sym (append_assoc source (cols ++ window) (nodes_names b)))
       ∙ one (row_names r) b
 
   without_bodies : (n : tree.Node) → Makes false either in_node in_nodes (in_node n) (leaf n)
@@ -112,7 +115,7 @@ module _ (name : Text) where
   makes (Capture target end) = one_makes false either in_node in_nodes sum (own (Capture target end)) (tree.capture (string_bytes target)) end (one (string_bytes target ∷ []))
   makes (Case target arms end) =
       subst (λ r. Makes false either in_node in_nodes r (flat_of (Case target arms end))) (arms_are (expression_view target) (arm_values arms.items))
-      (case_makes false either in_node in_nodes sum in_whens in_values no_when one_when (mentioned (expression_names (expression_view target)) name) (expression_view target) arms.items end (case_named (expression_view target)))
+      (case_makes false either in_node in_nodes sum in_whens in_values no_when one_when (list_any N (expression_names (expression_view target))) (expression_view target) arms.items end (case_named (expression_view target)))
   makes (For f ends) = two_makes false either in_node in_nodes sum (own (For f ends)) (tree.for_each (string_bytes f.value.variable) (source_view f.value.source) (window_view f.value.window)) ends (for_named f.value)
   makes (TableRow r end) = one_makes false either in_node in_nodes sum (own (TableRow r end)) (tree.tablerow (string_bytes r.value.variable) (source_view r.value.source) (window_view r.value.window) (option_map expression_view r.value.cols)) end (rows_named r.value)
   makes Break = without_bodies tree.break_loop
@@ -126,10 +129,10 @@ module _ (name : Text) where
   makes (Render partial pairs) = without_bodies (tree.render (expression_view partial) None (bindings_view pairs.items))
   makes (RenderEach partial each pairs) = without_bodies (tree.render (expression_view partial) (Some (each_view each)) (bindings_view pairs.items))
 
-  list_names_are : (ns : List Node) → list_total false either in_node in_nodes own ns ≡ mentioned (list_names ns) name
+  list_names_are : (ns : List Node) → list_total false either in_node in_nodes own ns ≡ list_any N (list_names ns)
   unfolding list_total list_names
   list_names_are [] = refl
-  list_names_are (n ∷ ns) = ap (λ r. own n || r) (list_names_are ns) ∙ sym (mentioned_both (own_names n) (list_names ns) name)
+  list_names_are (n ∷ ns) = ap (λ r. own n || r) (list_names_are ns) ∙ sym (any_both (own_names n) (list_names ns) N)
 
-pub template_mentions : (t : Template) (name : Text) → mentioned (nodes_names (tree_of t)) name ≡ mentioned (list_names (list_of t)) name
-template_mentions t name = tree_total false (either name) (in_node name) (in_nodes name) (sum name) (own name) (makes name) t ∙ list_names_are name (list_of t)
+pub template_mentions : (t : Template) (N : Names) → list_any N (nodes_names (tree_of t)) ≡ list_any N (list_names (list_of t))
+template_mentions t N = tree_total false (either N) (in_node N) (in_nodes N) (sum N) (own N) (makes N) t ∙ list_names_are N (list_of t)

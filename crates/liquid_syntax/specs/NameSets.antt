@@ -1,7 +1,8 @@
--- Sets of names, and what the visitors do that look for a name or gather all names.
+-- Sets of names, and what the visitors do that look for names or gather all names.
 use Rattle.std.specs.Prelude.{◌≡◌, Bool, ◌||◌, List, String}
 use Rattle.std.specs.Bool.{OnFalse}
 use Rattle.std.specs.BTreeSet.{BTreeSet, contains_text}
+use Rattle.std.specs.List.{list_any}
 use Rattle.std.specs.declared.alloc.Global.{Global}
 use Rattle.liquid_core.specs.Environment.{Names}
 use Rattle.liquid_model.specs.Texts.{Text}
@@ -15,10 +16,10 @@ held names name = contains_text names name
 unfoldable pub added : List Text → Names → Names
 added names before name = before name || mentioned names name
 
--- the visitor stays the same, and ends the telling where its wanted name is among those that it is
--- told
-abbrev pub Looks : {V : Type 0} → (V → Text) → V → List Text → Bool → V → Type 0
-Looks wanted u names found v = (v ≡ u) × (found ≡ mentioned names (wanted u))
+-- the visitor stays the same, and ends the telling where one of its wanted names is among those
+-- that it is told
+abbrev pub Looks : {V : Type 0} → (V → Names) → V → List Text → Bool → V → Type 0
+Looks wanted u names found v = (v ≡ u) × (found ≡ list_any (wanted u) names)
 
 -- unless it ended the telling, the visitor has the names that it had, and those that it was told
 -- besides

@@ -357,6 +357,7 @@ impl Builder {
             None => Ok(Template {
                 nodes: self.nodes,
                 positions,
+                source: None,
             }),
             Some(open) => Err(ParseError::Fault(missing_end(open.block))),
         }

@@ -15,7 +15,7 @@ use liquid_core::Expression;
 use liquid_evaluation::{ChainFilter, FilterChain, StoredFilter};
 use liquid_language::{FilterRegistry, RegisteredFilter};
 use liquid_lexer::{
-    Fault, FaultKind, Item, ParseError, Symbol, is_over, next_value, next_word, skip,
+    Expectation, Fault, FaultKind, Item, ParseError, Symbol, is_over, next_value, next_word, skip,
 };
 use std::alloc::Global;
 use std::collections::VecDeque;
@@ -35,7 +35,7 @@ pub fn read_chain(
 {
     let mut items = items;
     let Some(entry) = next_value(&mut items) else {
-        return Err(expected_before(at, items, "a value"));
+        return Err(expected_before(at, items, Expectation::Value));
     };
     let filters = read_filters(alloc, filters, &mut items, at)?;
     Ok(FilterChain { entry, filters })
@@ -56,7 +56,7 @@ fn read_filters(
     let mut filters = Vec::new(alloc);
     'filters: while !is_over(items) {
         if !skip(items, Symbol::Bar) {
-            return Err(expected(at, items.len(), "`|` or the closer"));
+            return Err(expected(at, items.len(), Expectation::FilterOrCloser));
         }
         filters.push(read_filter(alloc, known, items, at)?)?;
     }
@@ -76,7 +76,7 @@ fn read_filter(
     ensures place { FaultsAt (length at.now) result }
 {
     let Some(name) = next_word(items) else {
-        return Err(expected(at, items.len(), "the name of a filter"));
+        return Err(expected(at, items.len(), Expectation::FilterName));
     };
     let arguments = read_arguments(alloc, items, at)?;
     accepted(known, name, arguments, at)
@@ -102,14 +102,14 @@ fn accepted(
         return Err(ParseError::Fault(Fault::new(
             FaultKind::UnknownFilter,
             at,
-            "a registered filter",
+            Expectation::RegisteredFilter,
         )));
     };
     if !filter.accepts(arguments.len()) {
         return Err(ParseError::Fault(Fault::new(
             FaultKind::FilterArguments,
             at,
-            "a number of arguments that the filter takes",
+            Expectation::ArgumentCount,
         )));
     }
     match filter {
@@ -143,7 +143,7 @@ fn read_arguments(
     let mut arguments = Vec::with_capacity(alloc, 1)?;
     'arguments: loop {
         let Some(argument) = next_value(items) else {
-            return Err(expected(at, items.len(), "an argument of the filter"));
+            return Err(expected(at, items.len(), Expectation::Argument));
         };
         arguments.push(argument)?;
         if !skip(items, Symbol::Comma) {
@@ -153,7 +153,7 @@ fn read_arguments(
 }
 
 /// An `Expected` fault in the piece, at the item from which on `items_left` of its items are left.
-pub fn expected(at: &str, items_left: usize, wanted: &'static str) -> ParseError
+pub fn expected(at: &str, items_left: usize, wanted: Expectation) -> ParseError
     ensures kind { IsOfKind FaultKind.Expected result }
     ensures place { IsAt (length at.now) result }
 {
@@ -169,7 +169,7 @@ pub fn expected(at: &str, items_left: usize, wanted: &'static str) -> ParseError
 pub(crate) fn expected_before(
     at: &str,
     items: VecDeque<Item<'_>>,
-    wanted: &'static str,
+    wanted: Expectation,
 ) -> ParseError
     ensures kind { IsOfKind FaultKind.Expected result }
     ensures place { IsAt (length at.now) result }

@@ -20,7 +20,7 @@ use crate::node::Node;
 use blocks::{read_block, read_control};
 use leaves::read_leaf;
 use liquid_language::{BlockContext, Language, Role, role_of, unread_body};
-use liquid_lexer::{Body, Fault, FaultKind, Item, ParseError, Piece};
+use liquid_lexer::{Body, Expectation, Fault, FaultKind, Item, ParseError, Piece};
 use std::alloc::Global;
 use std::collections::VecDeque;
 
@@ -123,7 +123,7 @@ fn read_end(items: VecDeque<Item<'_>>, at: &str) -> Result<Statement, ParseError
     if items.is_empty() {
         Ok(Statement::Ends)
     } else {
-        Err(expected_before(at, items, "the closer"))
+        Err(expected_before(at, items, Expectation::Closer))
     }
 }
 
@@ -131,5 +131,5 @@ fn unknown_tag(at: &str) -> ParseError
     ensures kind { IsOfKind FaultKind.UnknownTag result }
     ensures place { IsAt (length at.now) result }
 {
-    ParseError::Fault(Fault::new(FaultKind::UnknownTag, at, "a registered tag"))
+    ParseError::Fault(Fault::new(FaultKind::UnknownTag, at, Expectation::RegisteredTag))
 }

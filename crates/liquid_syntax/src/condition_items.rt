@@ -11,7 +11,9 @@ ghost use Rattle.liquid_lexer.specs.Tokens.{tokens_view, token_of};
 
 use crate::chain_items::{expected, expected_before};
 use liquid_evaluation::{Atom, ComparisonOperator, Condition};
-use liquid_lexer::{FaultKind, Item, ParseError, Symbol, is_over, is_word, next_value, skip_word};
+use liquid_lexer::{
+    Expectation, FaultKind, Item, ParseError, Symbol, is_over, is_word, next_value, skip_word,
+};
 use std::alloc::Global;
 use std::collections::VecDeque;
 
@@ -36,7 +38,7 @@ pub fn read_condition(
             return Ok(Condition { conjunctions });
         }
         if !skip_word(&mut items, "or") {
-            return Err(expected_before(at, items, "`and`, `or` or the closer"));
+            return Err(expected_before(at, items, Expectation::ConnectiveOrCloser));
         }
     }
 }
@@ -71,13 +73,13 @@ fn read_atom(items: &mut VecDeque<Item<'_>>, at: &str) -> Result<Atom, ParseErro
     ensures place { FaultsAt (length at.now) result }
 {
     let Some(left) = next_value(items) else {
-        return Err(expected(at, items.len(), "a value"));
+        return Err(expected(at, items.len(), Expectation::Value));
     };
     let Some(operator) = next_operator(items) else {
         return Ok(Atom::Bare(left));
     };
     let Some(right) = next_value(items) else {
-        return Err(expected(at, items.len(), "a value to compare with"));
+        return Err(expected(at, items.len(), Expectation::ComparedValue));
     };
     Ok(Atom::Compared(left, operator, right))
 }

@@ -12,7 +12,7 @@ use crate::chain_items::{expected, expected_before};
 use crate::group::{named_group, values_group};
 use crate::value_items::{Separators, read_further, read_values};
 use liquid_core::Expression;
-use liquid_lexer::{FaultKind, Item, ParseError, Symbol, next_value, skip};
+use liquid_lexer::{Expectation, FaultKind, Item, ParseError, Symbol, next_value, skip};
 use std::alloc::Global;
 use std::collections::VecDeque;
 
@@ -30,7 +30,7 @@ pub fn read_cycle(
 {
     let mut items = items;
     let Some(first) = next_value(&mut items) else {
-        return Err(expected_before(at, items, "a value"));
+        return Err(expected_before(at, items, Expectation::Value));
     };
     if skip(&mut items, Symbol::Colon) {
         return read_named(alloc, first, items, at);
@@ -55,11 +55,7 @@ fn read_named(
 {
     if !is_name(&name) {
         let from_name = items.len().saturating_add(2);
-        return Err(expected(
-            at,
-            from_name,
-            "a name without steps, a text or a number before `:`",
-        ));
+        return Err(expected(at, from_name, Expectation::GroupName));
     }
     let values = read_any_values(alloc, items, at)?;
     let group = named_group(alloc, &name, &values)?;

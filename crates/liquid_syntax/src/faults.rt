@@ -1,11 +1,11 @@
 //! The faults of blocks: of an end that isn't one, of one that is missing, and of blocks that nest
 //! too deep.
 ghost use Rattle.std.specs.Prelude.{◌≡◌};
-ghost use Rattle.liquid_lexer.specs.Readers.{IsAt, IsOfKind};
+ghost use Rattle.liquid_lexer.specs.Readers.{IsAt, IsOfKind, end_of};
 ghost use Rattle.liquid_language.specs.Controls.{end_word};
 
 use liquid_language::{Block, end_tag};
-use liquid_lexer::{Fault, FaultKind, ParseError};
+use liquid_lexer::{Expectation, Fault, FaultKind, ParseError};
 
 /// The fault of an end, an `else` or an `elsif` where no body can end. `left` is the number of
 /// bytes of the source from it on.
@@ -16,7 +16,7 @@ pub(crate) fn no_body(left: usize) -> Fault
     Fault {
         kind: FaultKind::UnknownTag,
         left,
-        wanted: "the start of a block",
+        wanted: Expectation::BlockStart,
         items_left: 0,
     }
 }
@@ -29,7 +29,7 @@ pub(crate) fn too_nested(left: usize) -> ParseError
     ParseError::Fault(Fault {
         kind: FaultKind::TooNested,
         left,
-        wanted: "at most 200 blocks in one another",
+        wanted: Expectation::FewerBlocks,
         items_left: 0,
     })
 }
@@ -38,12 +38,12 @@ pub(crate) fn too_nested(left: usize) -> ParseError
 pub(crate) fn missing_end(block: Block) -> Fault
     ensures kind { result.kind ≡ FaultKind.MissingEnd }
     ensures place { result.left ≡ 0 }
-    ensures wanted { result.wanted.now ≡ end_word block }
+    ensures wanted { end_of result.wanted ≡ end_word block }
 {
     Fault {
         kind: FaultKind::MissingEnd,
         left: 0,
-        wanted: end_tag(block),
+        wanted: Expectation::End(end_tag(block)),
         items_left: 0,
     }
 }

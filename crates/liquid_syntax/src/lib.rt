@@ -9,6 +9,7 @@ mod condition_items;
 mod cycle_items;
 mod faults;
 mod group;
+mod item_place;
 mod laws;
 mod loop_items;
 mod loop_nodes;
@@ -24,6 +25,7 @@ mod value_items;
 mod visit_nodes;
 
 pub use condition_items::read_condition;
+pub use item_place::{PieceItem, item_position};
 pub use laws::{
     chain_laws, condition_law, item_list_laws, nesting_laws, statement_law, template_laws,
 };
@@ -41,9 +43,10 @@ pub use liquid_lexer::{
 };
 pub use loop_items::{Loop, LoopPart, LoopTag, read_loop};
 pub use loop_nodes::{Each, For, TableRow, WindowExpression};
+pub use names::add_name;
 pub use node::{Arm, Binding, Node, TwoBodies};
 pub use pair_items::PairStyle;
-pub use parser::parse;
+pub use parser::{parse, parse_kept};
 pub use partials::Partials;
 pub use positions::Position;
 pub use template::Template;

@@ -15,7 +15,8 @@ use crate::loop_nodes::WindowExpression;
 use liquid_core::Expression;
 use liquid_evaluation::RangeExpression;
 use liquid_lexer::{
-    FaultKind, Item, ParseError, Symbol, is_over, next_value, next_word, skip, skip_word,
+    Expectation, FaultKind, Item, ParseError, Symbol, is_over, next_value, next_word, skip,
+    skip_word,
 };
 use std::collections::VecDeque;
 
@@ -76,10 +77,10 @@ fn behind_colon(items: &mut VecDeque<Item<'_>>) -> Option<Expression>
 }
 
 /// What may follow a loop's source.
-fn part_wanted(kind: LoopTag) -> &'static str {
+fn part_wanted(kind: LoopTag) -> Expectation {
     match kind {
-        LoopTag::Each => "`limit: 1`, `offset: 1`, `reversed` or the closer",
-        LoopTag::Rows => "`cols: 1`, `limit: 1`, `offset: 1` or the closer",
+        LoopTag::Each => Expectation::ForPartOrCloser,
+        LoopTag::Rows => Expectation::TableRowPartOrCloser,
     }
 }
 
@@ -169,13 +170,13 @@ pub fn read_loop(items: VecDeque<Item<'_>>, kind: LoopTag, at: &str) -> Result<L
 {
     let mut items = items;
     let Some(variable) = next_word(&mut items) else {
-        return Err(expected_before(at, items, "the name of a variable"));
+        return Err(expected_before(at, items, Expectation::VariableName));
     };
     if !skip_word(&mut items, "in") {
-        return Err(expected_before(at, items, "`in`"));
+        return Err(expected_before(at, items, Expectation::In));
     }
     let Some(source) = next_source(&mut items) else {
-        return Err(expected_before(at, items, "a list or a range"));
+        return Err(expected_before(at, items, Expectation::ListOrRange));
     };
     let mut read = Loop {
         variable,

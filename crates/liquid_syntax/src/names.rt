@@ -1,6 +1,7 @@
-//! The visitors that are given the names that templates mention: one looks for a name, and one
-//! gathers all.
+//! The visitors that are given the names that templates mention: one looks for a name, one for
+//! any of a set, and one gathers all.
 ghost use Rattle.std.specs.Prelude.{◌≡◌, [], ◌∷◌, OnOk};
+ghost use Rattle.liquid_model.specs.Texts.{same_text};
 ghost use Rattle.liquid_syntax.specs.inside.NameVisitors.{gathers, looks};
 ghost use Rattle.liquid_syntax.specs.NameSets.{Gathers, Looks, added, held};
 
@@ -15,13 +16,29 @@ pub(crate) struct Search<'n> {
 }
 
 impl NameVisitor for Search<'_> {
-    ghost tells = { Looks (λ search. search.wanted.now) };
+    ghost tells = { Looks (λ search. same_text search.wanted.now) };
 
     fn visit(&mut self, name: &str) -> bool {
         name == self.wanted
     }
 
-    ghost laws = { looks (λ search. search.wanted.now) };
+    ghost laws = { looks (λ search. same_text search.wanted.now) };
+}
+
+/// Looks for the names of a set, and ends the visit where it is given one of them.
+#[derive(Clone, Copy, Drop)]
+pub(crate) struct SearchAny<'n> {
+    pub wanted: &'n BTreeSet<String>,
+}
+
+impl NameVisitor for SearchAny<'_> {
+    ghost tells = { Looks (λ search. held search.wanted.now) };
+
+    fn visit(&mut self, name: &str) -> bool {
+        self.wanted.contains(name)
+    }
+
+    ghost laws = { looks (λ search. held search.wanted.now) };
 }
 
 /// Gathers the names that it is given, and ends the visit where there is no room for one.
@@ -35,14 +52,14 @@ impl NameVisitor for Gather {
     ghost tells = { Gathers (λ gather. held gather.names) };
 
     fn visit(&mut self, name: &str) -> bool {
-        add(self.alloc, &mut self.names, name).is_err()
+        add_name(self.alloc, &mut self.names, name).is_err()
     }
 
     ghost laws = { gathers (λ gather. held gather.names) };
 }
 
 /// Puts a name into the set. It is copied only where the set doesn't have it.
-fn add(alloc: Global, names: &mut BTreeSet<String>, name: &str) -> Result<(), AllocError>
+pub fn add_name(alloc: Global, names: &mut BTreeSet<String>, name: &str) -> Result<(), AllocError>
     ensures { OnOk result (held names.new ≡ added (name.now ∷ []) (held names.old)) }
 {
     if !names.contains(name) {

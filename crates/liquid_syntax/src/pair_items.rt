@@ -10,7 +10,7 @@ ghost use Rattle.liquid_syntax.specs.Flats.{binding_view, bindings_view};
 use crate::chain_items::expected_before;
 use crate::node::Binding;
 use crate::value_items::is_last_comma;
-use liquid_lexer::{FaultKind, Item, ParseError, Symbol, next_value, next_word, skip};
+use liquid_lexer::{Expectation, FaultKind, Item, ParseError, Symbol, next_value, next_word, skip};
 use std::collections::VecDeque;
 
 /// How the pairs of a tag are written.
@@ -48,10 +48,10 @@ fn is_separated(style: PairStyle) -> bool
 }
 
 /// What a pair is to look like.
-fn pair_wanted(style: PairStyle) -> &'static str {
+fn pair_wanted(style: PairStyle) -> Expectation {
     match style {
-        PairStyle::Include | PairStyle::Render => "`, name: value`",
-        PairStyle::JekyllInclude => "`name=value`",
+        PairStyle::Include | PairStyle::Render => Expectation::FurtherPair,
+        PairStyle::JekyllInclude => Expectation::JekyllPair,
     }
 }
 

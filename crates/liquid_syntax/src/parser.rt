@@ -22,6 +22,9 @@ use liquid_lexer::{
 };
 use std::alloc::{AllocError, Global};
 
+/// How many bytes a source has at most that a template keeps.
+const MOST_KEPT: usize = 1_048_576;
+
 /// The template that a source is, in a language.
 ///
 /// The pieces are read and classified from left to right, and the first fault is the answer, with
@@ -41,6 +44,26 @@ pub fn parse(alloc: Global, source: &str, language: &Language) -> Result<Templat
     }
 }
 
+/// As [parse], for a template that keeps its source, in which a fault of a run finds the item that
+/// it is about. Of a source with more than 1 MiB nothing is kept, and the faults of its runs stand
+/// at their outputs and tags. `Memory` also where there is no room for the source.
+pub fn parse_kept(alloc: Global, source: &str, language: &Language) -> Result<Template>
+    ensures parses { ParsesTo language.now source.now result }
+    ensures kinds { IfErr result (λ e. MayRefuse e.kind) }
+{
+    let template = parse(alloc, source, language)?;
+    if source.len() > MOST_KEPT {
+        return Ok(template);
+    }
+    match String::from_str(alloc, source) {
+        Ok(kept) => Ok(template.with_source(kept)),
+        Err(refused) => {
+            drop(template);
+            Err(Error::from(refused))
+        }
+    }
+}
+
 /// The error that says why the source could not be read: which fault it has, where, and what to
 /// write instead.
 fn error_of(alloc: Global, source: &str, language: &Language, error: ParseError) -> Error
@@ -51,7 +74,7 @@ fn error_of(alloc: Global, source: &str, language: &Language, error: ParseError)
         ParseError::Fault(fault) => match explanation_of(alloc, source, language, fault) {
             Ok(told) => Error::with_message(fault.kind.kind(), told.message).located(
                 alloc,
-                location(source, told.left),
+                location(source, told.remaining),
             ),
             Err(refused) => Error::from(refused),
         },

@@ -24,7 +24,7 @@ use crate::node::{Binding, Node};
 use crate::pair_items::{PairStyle, next_pair, read_pairs};
 use liquid_core::{Expression, Value};
 use liquid_lexer::{
-    FaultKind, Item, ParseError, Symbol, is_over, next_value, next_word, skip_word,
+    Expectation, FaultKind, Item, ParseError, Symbol, is_over, next_value, next_word, skip_word,
 };
 use std::alloc::{AllocError, Global};
 use std::collections::VecDeque;
@@ -43,7 +43,7 @@ pub(crate) fn read_include(
 {
     let mut items = items;
     let Some(name) = next_value(&mut items) else {
-        return Err(expected_before(at, items, "the name of a partial"));
+        return Err(expected_before(at, items, Expectation::PartialName));
     };
     match read_included_pairs(alloc, items, at) {
         Ok(all) => Ok(Statement::Leaf(Node::Include(name, all))),
@@ -70,7 +70,7 @@ fn read_included_pairs(
         return Ok(Vec::new(alloc));
     }
     let Some(first) = next_pair(&mut items, Symbol::Colon) else {
-        return Err(expected_before(at, items, "`name: value`"));
+        return Err(expected_before(at, items, Expectation::Pair));
     };
     let first = only(alloc, first)?;
     read_pairs(first, items, PairStyle::Include, at)
@@ -98,7 +98,7 @@ pub(crate) fn read_render(
 {
     let mut items = items;
     let Some(name) = next_value(&mut items) else {
-        return Err(expected_before(at, items, "the name of a partial"));
+        return Err(expected_before(at, items, Expectation::PartialName));
     };
     match read_rendered(alloc, items, at) {
         Ok(rendered) => Ok(Statement::Leaf(render_node(name, rendered))),
@@ -149,7 +149,7 @@ fn read_rendered_with(
 {
     let mut items = items;
     let Some(first) = next_with(&mut items) else {
-        return Err(expected_before(at, items, "`value as name`"));
+        return Err(expected_before(at, items, Expectation::ValueAsName));
     };
     let first = only(alloc, first)?;
     let pairs = read_pairs(first, items, PairStyle::Render, at)?;
@@ -168,7 +168,7 @@ fn read_rendered_each(
 {
     let mut items = items;
     let Some(each) = next_each(&mut items) else {
-        return Err(expected_before(at, items, "`list as name`"));
+        return Err(expected_before(at, items, Expectation::ListAsName));
     };
     match read_pairs(Vec::new(alloc), items, PairStyle::Render, at) {
         Ok(pairs) => Ok(Rendered {
@@ -223,7 +223,7 @@ pub(crate) fn read_jekyll_include(
 {
     let mut items = items;
     let Some((value, spelling)) = next_spelled(&mut items) else {
-        return Err(expected_before(at, items, "the name of a partial"));
+        return Err(expected_before(at, items, Expectation::PartialName));
     };
     let name = spelled_name(alloc, value, spelling)?;
     let all = read_pairs(Vec::new(alloc), items, PairStyle::JekyllInclude, at)?;

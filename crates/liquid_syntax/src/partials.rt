@@ -1,23 +1,25 @@
 //! Templates by name.
 ghost use Rattle.std.specs.Prelude.{◌≡◌, [], option_map, ◌≤◌, Some, IfErr, IfSome, IsSome, OnErr};
 ghost use Rattle.std.specs.Prelude.{OnOk, string_bytes};
+ghost use Rattle.std.specs.List.{list_any};
 ghost use Rattle.std.specs.Map.{values_of};
 ghost use Rattle.liquid_model.specs.Answer.{IsValueOrMemory};
 ghost use Rattle.liquid_model.specs.Maps.{listed, insert};
 ghost use Rattle.liquid_language.specs.Entries.{put, placed};
+ghost use Rattle.liquid_syntax.specs.NameSets.{held};
 ghost use Rattle.liquid_syntax.specs.Slots.{reserved, exchanged};
 ghost use Rattle.liquid_syntax.specs.inside.Mentions.{held_names, partials_list_names};
 ghost use Rattle.liquid_syntax.specs.Templates.{most_of, node_count_of, tree_of, partials_of};
 ghost use Rattle.liquid_syntax.specs.Templates.{slots_of};
 ghost use Rattle.liquid_evaluation.specs.Names.{mentioned, partials_names};
 
-use crate::names::Search;
+use crate::names::{Search, SearchAny};
 use crate::template::Template;
 use crate::visit_nodes::visit_nodes;
 use liquid_core::{ErrorKind, Result};
 use liquid_evaluation::NameVisitor;
 use std::alloc::Global;
-use std::collections::BTreeMap;
+use std::collections::{BTreeMap, BTreeSet};
 use std::mem;
 
 /// Templates by name. A name may also have a slot that holds no template: it is kept for one, and
@@ -130,6 +132,14 @@ impl Partials {
     {
         let mut search = Search { wanted: name };
         self.visit_names(&mut search)
+    }
+
+    /// Whether one of the templates mentions one of the names. It takes no memory.
+    pub fn mention_any(&self, names: &BTreeSet<String>) -> bool
+        ensures { result ≡ list_any (held names.now) (partials_names (partials_of self.now)) }
+    {
+        let mut search_any = SearchAny { wanted: names };
+        self.visit_names(&mut search_any)
     }
 }
 

@@ -12,7 +12,7 @@ pub struct Position {
 impl Position {
     /// The place after a text that begins here. Each byte is a character but those that only
     /// continue one.
-    fn after(self, text: &str) -> Position {
+    pub(crate) fn after(self, text: &str) -> Position {
         let mut lines: usize = 0;
         let mut characters: usize = 0;
         for byte in text.bytes() {
@@ -29,6 +29,22 @@ impl Position {
             column: further(first, characters),
         }
     }
+}
+
+/// What a source has from a place on. A mark of the byte order at its very start is no column.
+pub(crate) fn rest_from<'s>(source: &'s str, place: Position) -> &'s str {
+    let mut rest = source.strip_prefix('\u{feff}').unwrap_or(source);
+    for _ in 1..place.line as usize {
+        rest = match rest.split_once('\n') {
+            Some((_, below)) => below,
+            None => "",
+        };
+    }
+    let mut characters = rest.chars();
+    for _ in 1..place.column as usize {
+        characters.next();
+    }
+    characters.as_str()
 }
 
 /// So much more, up to the greatest value.

@@ -2,7 +2,7 @@
 ghost use Rattle.liquid_syntax.specs.Flats.{ends_of_nodes};
 ghost use Rattle.liquid_syntax.specs.Nested.{AreNested, AreNested-prop};
 
-use crate::names::{Gather, Search};
+use crate::names::{Gather, Search, SearchAny};
 use crate::node::Node;
 use crate::partials::Partials;
 use crate::positions::Position;
@@ -17,6 +17,9 @@ pub struct Template {
     /// Where each node begins in the source, for the faults of runs. The meaning of a template
     /// doesn't depend on it.
     pub(crate) positions: Vec<Position>,
+    /// The source, where the template keeps it, for the faults of runs. The meaning of a template
+    /// doesn't depend on it.
+    pub(crate) source: Option<String>,
     ghost nested: { AreNested (ends_of_nodes nodes.items) } by { AreNested-prop
         (ends_of_nodes nodes.items) },
 }
@@ -28,6 +31,7 @@ impl Drop for Template {
         let Template {
             nodes: _,
             positions: _,
+            source: _,
         } = self;
     }
 }
@@ -35,6 +39,7 @@ impl Drop for Template {
 impl Template {
     ghost use Rattle.std.specs.Prelude.{◌≡◌, IfOk};
     ghost use Rattle.std.specs.BTreeSet.{IsOrdered};
+    ghost use Rattle.std.specs.List.{list_any};
     ghost use Rattle.std.specs.String.{string_cmp};
     ghost use Rattle.liquid_model.specs.Answer.{IsValueOrMemory};
     ghost use Rattle.liquid_syntax.specs.NameSets.{held};
@@ -54,6 +59,24 @@ impl Template {
         ensures { result.now ≡ positions_of self.now }
     {
         &self.positions
+    }
+
+    /// The source, where the template keeps it (`parse_kept`).
+    pub fn source(&self) -> Option<&str> {
+        match &self.source {
+            Some(source) => Some(source.as_str()),
+            None => None,
+        }
+    }
+
+    /// The same template, which keeps its source.
+    pub(crate) fn with_source(self, source: String) -> Template
+        ensures list { list_of result ≡ list_of self }
+        ensures positions { positions_of result ≡ positions_of self }
+    {
+        let mut template = self;
+        template.source = Some(source);
+        template
     }
 
     /// The number of nodes of the tree, in all depths, without memory.
@@ -95,5 +118,14 @@ impl Template {
     {
         let mut search = Search { wanted: name };
         visit_nodes(&self.nodes, &mut search)
+    }
+
+    /// Whether the template itself mentions one of the names, and not a partial that it names. It
+    /// takes no memory.
+    pub fn mentions_any(&self, names: &BTreeSet<String>) -> bool
+        ensures { result ≡ list_any (held names.now) (nodes_names (tree_of self.now)) }
+    {
+        let mut search_any = SearchAny { wanted: names };
+        visit_nodes(&self.nodes, &mut search_any)
     }
 }

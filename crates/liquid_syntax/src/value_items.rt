@@ -9,7 +9,7 @@ ghost use Rattle.liquid_syntax.specs.ValueLists.{ends_values, further_first, fur
 
 use crate::chain_items::expected_before;
 use liquid_core::Expression;
-use liquid_lexer::{FaultKind, Item, ParseError, Symbol, next_value, skip, skip_word};
+use liquid_lexer::{Expectation, FaultKind, Item, ParseError, Symbol, next_value, skip, skip_word};
 use std::alloc::Global;
 use std::collections::VecDeque;
 
@@ -66,10 +66,10 @@ fn ends_values(items: &VecDeque<Item<'_>>, separators: Separators) -> bool
 }
 
 /// What must follow a value.
-fn further_wanted(separators: Separators) -> &'static str {
+fn further_wanted(separators: Separators) -> Expectation {
     match separators {
-        Separators::Commas => "`,` and a value",
-        Separators::CommasOr => "`,` or `or` and a value",
+        Separators::Commas => Expectation::FurtherValue,
+        Separators::CommasOr => Expectation::FurtherAlternative,
     }
 }
 
@@ -87,7 +87,7 @@ pub fn read_values(
 {
     let mut items = items;
     let Some(first) = next_value(&mut items) else {
-        return Err(expected_before(at, items, "a value"));
+        return Err(expected_before(at, items, Expectation::Value));
     };
     read_further(alloc, first, items, separators, at)
 }

@@ -7,11 +7,11 @@ use crate::faults::no_call;
 use liquid_completion::complete;
 use liquid_core::{Object, Result, Use, Uses, Value};
 use liquid_json::data_for;
-use liquid_test_refusals::Row;
+use liquid_test_refusals::WorkedRow;
 use std::alloc::Global;
 
 /// A call over the row's uses.
-pub(crate) fn asked_call(alloc: Global, name: &str, row: &Row) -> Result<Value> {
+pub(crate) fn asked_call(alloc: Global, name: &str, row: &WorkedRow) -> Result<Value> {
     let uses = uses_of(alloc, &row.with)?;
     match name {
         "data_for" => Ok(Value::Object(data_for(alloc, row.source.as_str(), &uses)?)),

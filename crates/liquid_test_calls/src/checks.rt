@@ -3,11 +3,11 @@ use crate::faults::no_call;
 use liquid_check::{Finding, Findings, else_items, findings_of};
 use liquid_core::{Location, Result, Value};
 use liquid_syntax::Language;
-use liquid_test_refusals::{Row, number};
+use liquid_test_refusals::{WorkedRow, number};
 use std::alloc::Global;
 
 /// A call over the row's source.
-pub(crate) fn check_call(alloc: Global, row: &Row, language: &Language) -> Result<Value> {
+pub(crate) fn check_call(alloc: Global, row: &WorkedRow, language: &Language) -> Result<Value> {
     match row.name() {
         "findings" => findings(alloc, row.source.as_str(), language),
         "nodes" => nodes(alloc, row.source.as_str(), language),

@@ -2,13 +2,13 @@
 use crate::faults::no_call;
 use liquid_core::{Expression, Result, State, Value, Variable};
 use liquid_syntax::{Condition, FilterChain};
-use liquid_test_refusals::{Row, flag, found, owned, text};
+use liquid_test_refusals::{WorkedRow, flag, found, owned, text};
 use std::alloc::Global;
 
 /// A call of a part of an output: of its chain, its expression, or the variable that this is.
 pub(crate) fn part_call(
     alloc: Global,
-    row: &Row,
+    row: &WorkedRow,
     chain: &FilterChain,
     state: &State<'_>,
 ) -> Result<Value> {
@@ -77,7 +77,7 @@ fn variable_copied(alloc: Global, variable: &Variable) -> Result<Value> {
 
 pub(crate) fn condition_call(
     alloc: Global,
-    row: &Row,
+    row: &WorkedRow,
     condition: &Condition,
     state: &State<'_>,
 ) -> Result<Value> {

@@ -1,6 +1,6 @@
 //! Faults.
 use liquid_core::{Error, ErrorKind, Location, Origin, Result, Value};
-use liquid_test_refusals::Row;
+use liquid_test_refusals::WorkedRow;
 use std::alloc::Global;
 
 /// What a row answers whose call there isn't.
@@ -14,7 +14,7 @@ pub(crate) fn unknown(alloc: Global) -> Error {
 }
 
 /// The fault of the kind that a division by zero is, with the message of the row, as it is told.
-pub(crate) fn fault_call(alloc: Global, name: &str, row: &Row) -> Result<Value> {
+pub(crate) fn fault_call(alloc: Global, name: &str, row: &WorkedRow) -> Result<Value> {
     let message = row.source.as_str();
     match name {
         "new" => as_told(alloc, divided(alloc, message)),

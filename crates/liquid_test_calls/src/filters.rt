@@ -5,7 +5,7 @@ use liquid_core::{Expression, Filter, Object, Result, State, Value};
 use liquid_filters::{FilterKind, jekyll};
 use liquid_lib::STANDARD_FILTERS;
 use liquid_syntax::{FilterCall, apply_filters};
-use liquid_test_refusals::{Row, Told, items};
+use liquid_test_refusals::{Told, WorkedRow, items};
 use std::alloc::Global;
 
 /// Jekyll's `sort`, which the standard language lacks: its filter of that name is another.
@@ -38,7 +38,7 @@ pub(crate) fn filter_made<R: Print>(
     told: &Told<'_, R>,
     called: &mut Vec<&'static str>,
     line: &str,
-    row: &Row,
+    row: &WorkedRow,
 ) -> Result<()> {
     let filter = filter_named(told.alloc, row.name())?;
     called.push(name_in_rows(filter))?;
@@ -46,7 +46,7 @@ pub(crate) fn filter_made<R: Print>(
     made_in_a_chain(told, line, filter, row)
 }
 
-fn made_alone<R: Print>(told: &Told<'_, R>, line: &str, filter: FilterKind, row: &Row) {
+fn made_alone<R: Print>(told: &Told<'_, R>, line: &str, filter: FilterKind, row: &WorkedRow) {
     told.begin();
     let answer = alone(told.alloc, filter, row);
     told.end();
@@ -54,7 +54,7 @@ fn made_alone<R: Print>(told: &Told<'_, R>, line: &str, filter: FilterKind, row:
 }
 
 /// What the filter answers to the row's value, with the row's list as its arguments.
-fn alone(alloc: Global, filter: FilterKind, row: &Row) -> Result<Value> {
+fn alone(alloc: Global, filter: FilterKind, row: &WorkedRow) -> Result<Value> {
     let args = items(&row.with);
     if filter.accepts(args.len()) {
         return filter.evaluate(alloc, &row.on, args);
@@ -67,7 +67,7 @@ fn made_in_a_chain<R: Print>(
     told: &Told<'_, R>,
     line: &str,
     filter: FilterKind,
-    row: &Row,
+    row: &WorkedRow,
 ) -> Result<()> {
     let literals = literals(told.alloc, items(&row.with))?;
     let input = row.on.copy(told.alloc)?;
@@ -93,7 +93,11 @@ fn in_a_chain(
 }
 
 /// Makes the call of `apply_filters` without any filter, over the row's value.
-pub(crate) fn no_filter_made<R: Print>(told: &Told<'_, R>, line: &str, row: &Row) -> Result<()> {
+pub(crate) fn no_filter_made<R: Print>(
+    told: &Told<'_, R>,
+    line: &str,
+    row: &WorkedRow,
+) -> Result<()> {
     let entry = row.on.copy(told.alloc)?;
     let state = State::new(told.alloc, Object::new(told.alloc));
     let calls: &[FilterCall<'_, FilterKind>] = &[];
@@ -115,7 +119,7 @@ fn literals(alloc: Global, args: &[Value]) -> Result<Vec<Expression>> {
 
 /// Whether the filter of the name accepts the numbers of arguments from the row's first value to
 /// its second one, and no others.
-pub(crate) fn accepts_call(alloc: Global, name: &str, row: &Row) -> Result<Value> {
+pub(crate) fn accepts_call(alloc: Global, name: &str, row: &WorkedRow) -> Result<Value> {
     let filter = filter_named(alloc, name)?;
     match (&row.on, &row.with) {
         (Value::Integer(least), Value::Integer(most)) => {

@@ -2,11 +2,16 @@
 use crate::faults::no_call;
 use liquid_core::{Result, State, Value};
 use liquid_syntax::{For, Range, RangeExpression, Window, WindowExpression, evaluate_amount};
-use liquid_test_refusals::{Row, number, owned};
+use liquid_test_refusals::{WorkedRow, number, owned};
 use std::alloc::Global;
 
 /// A call of a part of the loop's head.
-pub(crate) fn loop_call(alloc: Global, row: &Row, head: &For, state: &State<'_>) -> Result<Value> {
+pub(crate) fn loop_call(
+    alloc: Global,
+    row: &WorkedRow,
+    head: &For,
+    state: &State<'_>,
+) -> Result<Value> {
     match row.kind() {
         "RangeExpression" => source_call(alloc, row.name(), &head.source, state),
         "Range" => range_call(alloc, row, &head.source, state),
@@ -42,14 +47,14 @@ fn is_counted(range: Result<Range<'_>>) -> Result<Value> {
 /// they are.
 fn range_call(
     alloc: Global,
-    row: &Row,
+    row: &WorkedRow,
     source: &RangeExpression,
     state: &State<'_>,
 ) -> Result<Value> {
     of_range(alloc, row, &source.evaluate(alloc, state)?)
 }
 
-fn of_range(alloc: Global, row: &Row, range: &Range<'_>) -> Result<Value> {
+fn of_range(alloc: Global, row: &WorkedRow, range: &Range<'_>) -> Result<Value> {
     match row.name() {
         "evaluate" => listed(alloc, range),
         "count" => counted(range.count(alloc)?),
@@ -82,7 +87,7 @@ fn place(value: &Value) -> usize {
 /// The amounts that a `for` asks for, and its window over so many items as the row says.
 fn window_call(
     alloc: Global,
-    row: &Row,
+    row: &WorkedRow,
     asked: &WindowExpression,
     state: &State<'_>,
 ) -> Result<Value> {

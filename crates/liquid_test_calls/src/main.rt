@@ -77,7 +77,7 @@ use crate::values::{order_call, test_call, value_call};
 use liquid_core::{Object, Result, State, Value};
 use liquid_lib::language;
 use liquid_syntax::{Language, Node, Template, parse};
-use liquid_test_refusals::{Row, Told, read_row, text};
+use liquid_test_refusals::{Told, WorkedRow, read_row, text};
 use std::alloc::Global;
 use std::env;
 
@@ -140,14 +140,14 @@ fn row_made<R: Print>(
 }
 
 /// Makes a call that takes no template.
-fn call_made<R: Print>(told: &Told<'_, R>, line: &str, row: &Row) {
+fn call_made<R: Print>(told: &Told<'_, R>, line: &str, row: &WorkedRow) {
     told.begin();
     let answer = called(told.alloc, row);
     told.end();
     told.answered(line, row, &answer);
 }
 
-fn called(alloc: Global, row: &Row) -> Result<Value> {
+fn called(alloc: Global, row: &WorkedRow) -> Result<Value> {
     let name = row.name();
     match row.kind() {
         "Value" => value_call(alloc, name, row),
@@ -162,7 +162,7 @@ fn called(alloc: Global, row: &Row) -> Result<Value> {
 }
 
 /// Makes a call of the row's source, which needn't be a template.
-fn check_made<R: Print>(told: &Told<'_, R>, language: &Language, line: &str, row: &Row) {
+fn check_made<R: Print>(told: &Told<'_, R>, language: &Language, line: &str, row: &WorkedRow) {
     told.begin();
     let answer = check_call(told.alloc, row, language);
     told.end();
@@ -174,7 +174,7 @@ fn template_made<R: Print>(
     told: &Told<'_, R>,
     language: &Language,
     line: &str,
-    row: &Row,
+    row: &WorkedRow,
     data: Object,
 ) -> Result<()> {
     let template = parse(told.alloc, row.source.as_str(), language)?;
@@ -192,7 +192,7 @@ fn template_made<R: Print>(
 /// What the call of a part of the template's first node answers.
 fn first_node_call(
     alloc: Global,
-    row: &Row,
+    row: &WorkedRow,
     template: &Template,
     state: &State<'_>,
 ) -> Result<Value> {

@@ -3,19 +3,21 @@ use crate::any_site::AnySite;
 use liquid_core::{ErrorKind, Object, Result, Value, look_up};
 use liquid_lib::language;
 use liquid_site::{Change, LimitedSite, Limits, Site};
-use liquid_test_refusals::{Row, Told, items, kind_of, member, name_of, optional, text_member};
+use liquid_test_refusals::{
+    Told, WorkedRow, items, kind_of, member, name_of, optional, text_member,
+};
 use std::alloc::Global;
 
-/// Applies the changes of the row. Each is a list: the change, its name, its source or its value,
+/// Applies the changes of the row. Each is a list: the change, its name, its source, value or data,
 /// the kind of its fault or an empty text, what the site shows after it, and words by which
 /// `tests/refusals/run` tells changes that make other requests.
-pub(crate) fn site_made<R: Print>(told: &Told<'_, R>, row: &Row) -> Result<()> {
+pub(crate) fn site_made<R: Print>(told: &Told<'_, R>, row: &WorkedRow) -> Result<()> {
     let mut site = Site::new(told.alloc, language(told.alloc)?, 32);
     applied_in_turn(told, &mut site, items(&row.with))
 }
 
 /// The same for a site within limits, which are the numbers `bytes` and `turns` of the map `on`.
-pub(crate) fn limited_site_made<R: Print>(told: &Told<'_, R>, row: &Row) -> Result<()> {
+pub(crate) fn limited_site_made<R: Print>(told: &Told<'_, R>, row: &WorkedRow) -> Result<()> {
     let limits = limits_of(&row.on);
     let mut site = LimitedSite::new(told.alloc, language(told.alloc)?, 32, limits);
     applied_in_turn(told, &mut site, items(&row.with))
@@ -125,8 +127,17 @@ fn change_of(alloc: Global, step: &Value) -> Result<Change> {
         "SetPartial" => Change::SetPartial(name, source),
         "RemovePartial" => Change::RemovePartial(name),
         "SetValue" => Change::SetValue(name, optional(alloc, member(step, 2))?),
+        "SetData" => Change::SetData(data_of(alloc, step)?),
         _ => Change::RemoveValue(name),
     })
+}
+
+/// The data that the step has in place of a source.
+fn data_of(alloc: Global, step: &Value) -> Result<Object> {
+    match optional(alloc, member(step, 2))? {
+        Value::Object(data) => Ok(data),
+        _ => Ok(Object::new(alloc)),
+    }
 }
 
 /// Whether the site shows just what the step says: each page as `src/any_site.rt` writes it, and

@@ -2,7 +2,7 @@
 use crate::faults::no_call;
 use liquid_core::{ErrorKind, Items, LoopFrame, LoopKind, Object, Result, State, Value};
 use liquid_test_refusals::{
-    Change, Told, change_of, found, items, items_member, kind_of, nil, optional, owned, text_member,
+    Step, Told, found, items, items_member, kind_of, nil, optional, owned, step_of, text_member,
 };
 use std::alloc::Global;
 
@@ -34,7 +34,7 @@ fn step_made<'d, R: Print>(told: &Told<'_, R>, state: &mut State<'d>, step: &'d 
 }
 
 fn called<'d>(alloc: Global, state: &mut State<'d>, step: &'d Value) -> Result<Value> {
-    match change_of(alloc, step)? {
+    match step_of(alloc, step)? {
         Some(change) => changed(state, change),
         None if text_member(step, 0) == "push_frame" => looped(state, step),
         None => looked_up(alloc, state, step),
@@ -54,12 +54,12 @@ fn looped<'d>(state: &mut State<'d>, step: &'d Value) -> Result<Value> {
     }))
 }
 
-fn changed(state: &mut State<'_>, change: Change) -> Result<Value> {
+fn changed(state: &mut State<'_>, change: Step) -> Result<Value> {
     match change {
-        Change::Index(name, value) => nil(state.set_index(name, value)),
-        Change::Global(name, value) => nil(state.set_global(name, value)),
-        Change::Push(scope) => nil(state.push_scope(scope)),
-        Change::Pop => {
+        Step::Index(name, value) => nil(state.set_index(name, value)),
+        Step::Global(name, value) => nil(state.set_global(name, value)),
+        Step::Push(scope) => nil(state.push_scope(scope)),
+        Step::Pop => {
             state.pop_scope();
             Ok(Value::Nil)
         }

@@ -3,14 +3,14 @@
 use crate::faults::no_call;
 use liquid_core::{Expression, Result, Value};
 use liquid_syntax::{Language, Partials, Template, parse};
-use liquid_test_refusals::{Row, number, text_member};
+use liquid_test_refusals::{WorkedRow, number, text_member};
 use liquid_uses::{paths_of, uses_of};
 use std::alloc::Global;
 
 /// A call of the template. The row has a partial with its name and its source.
 pub(crate) fn template_call(
     alloc: Global,
-    row: &Row,
+    row: &WorkedRow,
     language: &Language,
     template: &Template,
 ) -> Result<Value> {
@@ -29,13 +29,18 @@ fn node_count(template: &Template) -> Value {
 }
 
 /// The partials of the row.
-fn partials(alloc: Global, row: &Row, language: &Language) -> Result<Partials> {
+fn partials(alloc: Global, row: &WorkedRow, language: &Language) -> Result<Partials> {
     let mut partials = Partials::new(alloc);
     insert(alloc, row, language, &mut partials)?;
     Ok(partials)
 }
 
-fn insert(alloc: Global, row: &Row, language: &Language, partials: &mut Partials) -> Result<()> {
+fn insert(
+    alloc: Global,
+    row: &WorkedRow,
+    language: &Language,
+    partials: &mut Partials,
+) -> Result<()> {
     let name = String::from_str(alloc, text_member(&row.with, 0))?;
     let template = parse(alloc, text_member(&row.with, 1), language)?;
     partials.insert(name, template)
@@ -69,7 +74,7 @@ fn push_text(alloc: Global, texts: &mut Vec<Value>, text: &str) -> Result<()> {
 }
 
 /// How many nodes the partial has, and nil where there is none of the name.
-fn held(row: &Row, partials: &Partials) -> Value {
+fn held(row: &WorkedRow, partials: &Partials) -> Value {
     match partials.get(text_member(&row.with, 2)) {
         Some(partial) => node_count(partial),
         None => Value::Nil,

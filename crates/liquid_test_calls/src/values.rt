@@ -1,13 +1,13 @@
 //! Values: copies, texts and paths, tests, and orders.
 use crate::faults::no_call;
 use liquid_core::{Object, Result, Value, ValueCow, copy_items, store};
-use liquid_test_refusals::{Row, found, items, number, owned, text};
+use liquid_test_refusals::{WorkedRow, found, items, number, owned, text};
 use std::alloc::Global;
 use std::cmp::Ordering;
 use std::hash::{DefaultHasher, Hash, Hasher};
 
 /// A call of the row's value.
-pub(crate) fn value_call(alloc: Global, name: &str, row: &Row) -> Result<Value> {
+pub(crate) fn value_call(alloc: Global, name: &str, row: &WorkedRow) -> Result<Value> {
     let (value, path) = (&row.on, items(&row.with));
     match name {
         "copy" => value.copy(alloc),

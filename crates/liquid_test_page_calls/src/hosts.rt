@@ -6,12 +6,12 @@ use liquid_core::{
     ErrorKind, Expression, Filter, HostFilters, NamedFilters, Object, Result, State, Value,
 };
 use liquid_syntax::{FilterCall, apply_filters};
-use liquid_test_refusals::{Row, Told, items, items_member, member, text_member};
+use liquid_test_refusals::{Told, WorkedRow, items, items_member, member, text_member};
 use std::alloc::Global;
 
 /// The calls of the row, or its page, with the filters of a host: `shout`, which puts a `!` after
 /// (an earlier one of that name puts a `0`), `upcase`, which puts a `?`, and `bad`.
-pub(crate) fn hosted<R: Print>(told: &Told<'_, R>, row: &Row) -> Result<()> {
+pub(crate) fn hosted<R: Print>(told: &Told<'_, R>, row: &WorkedRow) -> Result<()> {
     let alloc = told.alloc;
     let mut filters = Vec::new(alloc);
     for (name, text) in [("shout", "0"), ("shout", "!"), ("upcase", "?")] {
@@ -30,7 +30,7 @@ pub(crate) fn hosted<R: Print>(told: &Told<'_, R>, row: &Row) -> Result<()> {
 /// The page of the row, with the filters of the host unless it lacks them.
 pub(crate) fn hosted_pages<R: Print>(
     told: &Told<'_, R>,
-    row: &Row,
+    row: &WorkedRow,
     host: &HostFilters,
 ) -> Result<()> {
     let lent = match option(&row.on, "lacks_filters") {

@@ -4,11 +4,11 @@ use crate::hosts::called_in_turn;
 use liquid_core::{Filter, HostFilters, Result, Value};
 use liquid_filter_sets::WhereExp;
 use liquid_jekyll_host_filters::{JEKYLL_FILTERS, SiteFilter};
-use liquid_test_refusals::{Row, Told, text_of};
+use liquid_test_refusals::{Told, WorkedRow, text_of};
 use std::alloc::Global;
 
 /// The calls of the row, with the filters over the site that it tells.
-pub(crate) fn jekyll_called<R: Print>(told: &Told<'_, R>, row: &Row) -> Result<()> {
+pub(crate) fn jekyll_called<R: Print>(told: &Told<'_, R>, row: &WorkedRow) -> Result<()> {
     let alloc = told.alloc;
     let address = text_option(&row.on, "address");
     let base = text_option(&row.on, "base");

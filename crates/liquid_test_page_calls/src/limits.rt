@@ -6,11 +6,15 @@ use liquid_lib::{
     Counted, LimitReached, Limited, LimitedPage, Limits, Partials, Renderable, RuntimeBuilder,
     Template, parse, render_page_within,
 };
-use liquid_test_refusals::{Row, Told, kind_of, text_of};
+use liquid_test_refusals::{Told, WorkedRow, kind_of, text_of};
 
 /// The row's page within its `bytes` and its `turns`, into a page and to a writer, each with the
 /// limit that it is `ended_by`.
-pub(crate) fn limited_made<R: Print>(told: &Told<'_, R>, row: &Row, data: Object) -> Result<()> {
+pub(crate) fn limited_made<R: Print>(
+    told: &Told<'_, R>,
+    row: &WorkedRow,
+    data: Object,
+) -> Result<()> {
     let language = language_with(told.alloc, &row.on)?;
     let partials = partials_of(told.alloc, &row.on, &language)?;
     let template = parse(told.alloc, row.source.as_str(), &language)?;
@@ -24,7 +28,7 @@ pub(crate) fn limited_made<R: Print>(told: &Told<'_, R>, row: &Row, data: Object
 /// The page as a text.
 fn page_limited<R: Print>(
     told: &Told<'_, R>,
-    row: &Row,
+    row: &WorkedRow,
     template: &Template,
     partials: &Partials,
     data: &Object,
@@ -41,7 +45,7 @@ fn page_limited<R: Print>(
 }
 
 /// `done` where the page has the text, the fault and the limit that the row says.
-fn page_limit_ending(row: &Row, limited: &LimitedPage) -> &'static str {
+fn page_limit_ending(row: &WorkedRow, limited: &LimitedPage) -> &'static str {
     if limited.page.text.as_str() != page_of(row) {
         return "another_page";
     }
@@ -57,7 +61,7 @@ fn page_limit_ending(row: &Row, limited: &LimitedPage) -> &'static str {
 /// The page to a writer, which by itself takes as many writes as the row says.
 fn writer_limited<R: Print>(
     told: &Told<'_, R>,
-    row: &Row,
+    row: &WorkedRow,
     template: &Template,
     partials: &Partials,
     data: Object,
@@ -84,7 +88,7 @@ fn writer_limited<R: Print>(
 }
 
 /// `done` where the writer took the page and was ended by the limit that the row says.
-fn writer_limit_ending(row: &Row, limited: Limited<Counted<FailingWriter>>) -> &'static str {
+fn writer_limit_ending(row: &WorkedRow, limited: Limited<Counted<FailingWriter>>) -> &'static str {
     if limit_name(limited.ended_by()) != ended_by(row) {
         return "another_limit";
     }
@@ -95,14 +99,14 @@ fn writer_limit_ending(row: &Row, limited: Limited<Counted<FailingWriter>>) -> &
 }
 
 /// The limits of the row: of each a number, or none.
-fn limits_of(row: &Row) -> Limits {
+fn limits_of(row: &WorkedRow) -> Limits {
     Limits {
         bytes: limit_option(row, "bytes"),
         turns: limit_option(row, "turns"),
     }
 }
 
-fn limit_option(row: &Row, name: &str) -> Option<u64> {
+fn limit_option(row: &WorkedRow, name: &str) -> Option<u64> {
     match option(&row.on, name) {
         Some(Value::Integer(number)) => u64::try_from(*number).ok(),
         _ => None,
@@ -110,7 +114,7 @@ fn limit_option(row: &Row, name: &str) -> Option<u64> {
 }
 
 /// The limit that is to end the page, by its name, or no name.
-fn ended_by(row: &Row) -> &str {
+fn ended_by(row: &WorkedRow) -> &str {
     match option(&row.on, "ended_by") {
         Some(name) => text_of(name),
         None => "",

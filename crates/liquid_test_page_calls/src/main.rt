@@ -36,7 +36,7 @@ use crate::registers::{forloop, has_filter, registered};
 use crate::runtimes::runtime_made;
 use crate::shops::shop_made;
 use liquid_core::{Object, Result, Value};
-use liquid_test_refusals::{Row, Told, flag, read_row, text};
+use liquid_test_refusals::{Told, WorkedRow, flag, read_row, text};
 use std::alloc::Global;
 use std::env;
 
@@ -71,7 +71,7 @@ fn row_read<R: Print>(told: &Told<'_, R>, line: &str) -> Result<()> {
 }
 
 /// Makes the calls of the row.
-fn row_made<R: Print>(told: &Told<'_, R>, line: &str, row: &Row, data: Object) -> Result<()> {
+fn row_made<R: Print>(told: &Told<'_, R>, line: &str, row: &WorkedRow, data: Object) -> Result<()> {
     match row.call.as_str() {
         "page" => pages_made(told, row, data, None),
         "rendering" => rendering_made(told, row, data, None),
@@ -89,14 +89,14 @@ fn row_made<R: Print>(told: &Told<'_, R>, line: &str, row: &Row, data: Object) -
 }
 
 /// Makes the one call of the row.
-fn call_made<R: Print>(told: &Told<'_, R>, line: &str, row: &Row) {
+fn call_made<R: Print>(told: &Told<'_, R>, line: &str, row: &WorkedRow) {
     told.begin();
     let answer = called(told.alloc, row);
     told.end();
     told.answered(line, row, &answer);
 }
 
-fn called(alloc: Global, row: &Row) -> Result<Value> {
+fn called(alloc: Global, row: &WorkedRow) -> Result<Value> {
     match row.call.as_str() {
         "example" => text(example(alloc, row.source.as_str())),
         "forloop" => forloop(alloc, row),

@@ -6,12 +6,12 @@ use liquid_lib::{
     Counted, Language, Page, Partials, Renderable, Runtime, RuntimeBuilder, Template, parse,
     render_page, render_source,
 };
-use liquid_test_refusals::{Row, Told, items, kind_of, text_member, text_of};
+use liquid_test_refusals::{Told, WorkedRow, items, kind_of, text_member, text_of};
 
 /// What the pages of a row are made of.
 #[derive(Drop)]
 struct Given<'g> {
-    row: &'g Row,
+    row: &'g WorkedRow,
     language: &'g Language,
     partials: &'g Partials,
     template: &'g Template,
@@ -22,7 +22,7 @@ struct Given<'g> {
 /// The page of the row by each call, with these filters of a host or without any.
 pub(crate) fn pages_made<R: Print>(
     told: &Told<'_, R>,
-    row: &Row,
+    row: &WorkedRow,
     data: Object,
     host: Option<&HostFilters>,
 ) -> Result<()> {
@@ -33,7 +33,7 @@ pub(crate) fn pages_made<R: Print>(
 /// The page in the language.
 fn pages_in<R: Print>(
     told: &Told<'_, R>,
-    row: &Row,
+    row: &WorkedRow,
     data: &Value,
     host: Option<&HostFilters>,
     language: &Language,
@@ -59,7 +59,7 @@ fn pages_in<R: Print>(
 /// any. It is parsed before them, so that nothing but they stands between marks.
 pub(crate) fn rendering_made<R: Print>(
     told: &Told<'_, R>,
-    row: &Row,
+    row: &WorkedRow,
     data: Object,
     host: Option<&HostFilters>,
 ) -> Result<()> {
@@ -70,7 +70,7 @@ pub(crate) fn rendering_made<R: Print>(
 /// The same in the language.
 fn rendering_in<R: Print>(
     told: &Told<'_, R>,
-    row: &Row,
+    row: &WorkedRow,
     data: &Value,
     host: Option<&HostFilters>,
     language: &Language,
@@ -98,7 +98,7 @@ fn rendered_twice<R: Print>(told: &Told<'_, R>, given: &Given<'_>) -> Result<()>
 
 /// The template, parsed again where memory was refused, or none where the row's source is refused
 /// by its fault.
-fn parsed<R: Print>(told: &Told<'_, R>, row: &Row, language: &Language) -> Option<Template> {
+fn parsed<R: Print>(told: &Told<'_, R>, row: &WorkedRow, language: &Language) -> Option<Template> {
     let source = row.source.as_str();
     told.begin();
     let answer = parse(told.alloc, source, language);
@@ -112,7 +112,7 @@ fn parsed<R: Print>(told: &Told<'_, R>, row: &Row, language: &Language) -> Optio
 }
 
 /// `done` where the source was parsed, or is refused by the kind of the row's fault.
-fn parse_ending(row: &Row, kind: Option<ErrorKind>) -> &'static str {
+fn parse_ending(row: &WorkedRow, kind: Option<ErrorKind>) -> &'static str {
     match kind {
         None => "done",
         Some(ErrorKind::Memory) => "Memory",
@@ -216,7 +216,11 @@ fn rendered_then<R: Print>(
 /// The further sources: those of `refused` after a rendering that was refused memory, and else
 /// those of `then`, which are as many. Where calls stand between marks and the row has no
 /// `refused` there are none, since each run makes the same calls.
-fn further<'r, R: Print>(told: &Told<'_, R>, row: &'r Row, kind: Option<ErrorKind>) -> &'r [Value] {
+fn further<'r, R: Print>(
+    told: &Told<'_, R>,
+    row: &'r WorkedRow,
+    kind: Option<ErrorKind>,
+) -> &'r [Value] {
     let refused = option(&row.on, "refused");
     let steps = match kind {
         Some(ErrorKind::Memory) => refused,
@@ -277,7 +281,7 @@ fn page_rendered<R: Print>(told: &Told<'_, R>, given: &Given<'_>) {
 }
 
 /// `done` where the page has the text and the fault that the row says.
-fn shown_ending(row: &Row, page: &Page) -> &'static str {
+fn shown_ending(row: &WorkedRow, page: &Page) -> &'static str {
     if page.text.as_str() != page_of(row) {
         return "another_page";
     }

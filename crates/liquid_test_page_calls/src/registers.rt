@@ -6,12 +6,12 @@ use liquid_filters::stdlib::Sort;
 use liquid_lib::stdlib::{ForloopObject, IfBlock};
 use liquid_lib::{Language, Partials, language, parse};
 use liquid_syntax::{BlockKind, TagKind};
-use liquid_test_refusals::{Row, Told, items, text_of};
+use liquid_test_refusals::{Told, WorkedRow, items, text_of};
 use std::alloc::Global;
 
 /// Whether the standard language, as it is made, has a filter of the row's source that takes so
 /// many arguments.
-pub(crate) fn has_filter(alloc: Global, row: &Row) -> Result<bool> {
+pub(crate) fn has_filter(alloc: Global, row: &WorkedRow) -> Result<bool> {
     let language = language(alloc)?;
     Ok(accepts(&language, row.source.as_str(), number_or(&row.on, 0)))
 }
@@ -35,7 +35,7 @@ const CALLS: [&str; 5] = [
 
 /// Registers a kind of each sort under each name of the row, in a language of its own, and puts a
 /// partial in under it.
-pub(crate) fn registered<R: Print>(told: &Told<'_, R>, row: &Row) -> Result<()> {
+pub(crate) fn registered<R: Print>(told: &Told<'_, R>, row: &WorkedRow) -> Result<()> {
     let mut language = Language::new(told.alloc);
     let mut partials = Partials::new(told.alloc);
     put_under_each(told, &mut language, &mut partials, items(&row.with))
@@ -125,7 +125,7 @@ fn has_partial(partials: &Partials, name: &str) -> bool {
 }
 
 /// What `forloop` is at the second of three items, in a loop or in none.
-pub(crate) fn forloop(alloc: Global, row: &Row) -> Result<Value> {
+pub(crate) fn forloop(alloc: Global, row: &WorkedRow) -> Result<Value> {
     let parent = match &row.on {
         Value::Nil => None,
         parent => Some(parent),

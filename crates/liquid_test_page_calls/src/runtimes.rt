@@ -3,7 +3,7 @@ use crate::given::depth;
 use liquid_core::{ErrorKind, Object, Result, Value};
 use liquid_lib::{Partials, Runtime, RuntimeBuilder};
 use liquid_test_refusals::{
-    Change, Row, Told, change_of, found, items, items_member, kind_of, nil, optional, owned,
+    Step, Told, WorkedRow, found, items, items_member, kind_of, nil, optional, owned, step_of,
     text_member,
 };
 use std::alloc::Global;
@@ -12,7 +12,11 @@ use std::alloc::Global;
 /// name or a path of the runtime, a value, and what it answers, which is the kind of its fault as a
 /// text where it ends by one. A call that was refused memory is made again, so that those after it
 /// find what it does.
-pub(crate) fn runtime_made<R: Print>(told: &Told<'_, R>, row: &Row, data: Object) -> Result<()> {
+pub(crate) fn runtime_made<R: Print>(
+    told: &Told<'_, R>,
+    row: &WorkedRow,
+    data: Object,
+) -> Result<()> {
     let partials = Partials::new(told.alloc);
     let mut runtime = RuntimeBuilder::new(told.alloc)
         .set_globals(data)
@@ -24,11 +28,11 @@ pub(crate) fn runtime_made<R: Print>(told: &Told<'_, R>, row: &Row, data: Object
         for is_first in [true, false] {
             // made here: of a runtime that is handed on rt ci takes it that filters of a host are
             // made for it
-            let answer = match change_of(told.alloc, step) {
-                Ok(Some(Change::Index(name, value))) => nil(runtime.set_index(name, value)),
-                Ok(Some(Change::Global(name, value))) => nil(runtime.set_global(name, value)),
-                Ok(Some(Change::Push(scope))) => nil(runtime.push_scope(scope)),
-                Ok(Some(Change::Pop)) => {
+            let answer = match step_of(told.alloc, step) {
+                Ok(Some(Step::Index(name, value))) => nil(runtime.set_index(name, value)),
+                Ok(Some(Step::Global(name, value))) => nil(runtime.set_global(name, value)),
+                Ok(Some(Step::Push(scope))) => nil(runtime.push_scope(scope)),
+                Ok(Some(Step::Pop)) => {
                     runtime.pop_scope();
                     Ok(Value::Nil)
                 }

@@ -3,13 +3,13 @@
 use crate::hosts::{called_in_turn, hosted_pages};
 use liquid_core::{Filter, HostFilters, Result};
 use liquid_shopify_host_filters::{MoneyFormat, MoneyStyle, SHOPIFY_FILTERS, Shop, ShopifyFilter};
-use liquid_test_refusals::{Row, Told};
+use liquid_test_refusals::{Told, WorkedRow};
 use std::alloc::Global;
 use std::rc::Rc;
 
 /// The calls of the row, or its page, with all filters of the set in the shop of the engine's own
 /// themes.
-pub(crate) fn shop_made<R: Print>(told: &Told<'_, R>, row: &Row) -> Result<()> {
+pub(crate) fn shop_made<R: Print>(told: &Told<'_, R>, row: &WorkedRow) -> Result<()> {
     let alloc = told.alloc;
     let shop = Rc::new(alloc, shop(alloc)?)?;
     let mut filters = Vec::new(alloc);

@@ -2,7 +2,7 @@
 use crate::given::{number_option, option};
 use liquid_core::{ErrorKind, Result};
 use liquid_lib::{Counted, CountedWrite};
-use liquid_test_refusals::{Row, name_of, text_of};
+use liquid_test_refusals::{WorkedRow, name_of, text_of};
 use std::alloc::Global;
 use std::io;
 use std::io::Write;
@@ -35,7 +35,7 @@ impl Write for FailingWriter {
 }
 
 /// The writer of the row, with room for its page, so that it asks for none.
-pub(crate) fn writer(alloc: Global, row: &Row) -> Result<FailingWriter> {
+pub(crate) fn writer(alloc: Global, row: &WorkedRow) -> Result<FailingWriter> {
     let most = number_option(&row.on, "most", 4096);
     let room = number_option(&row.on, "room", usize::MAX);
     let writes_left = number_option(&row.on, "writes", 4096);
@@ -48,14 +48,14 @@ pub(crate) fn writer(alloc: Global, row: &Row) -> Result<FailingWriter> {
 }
 
 /// The page that the row says.
-pub(crate) fn page_of(row: &Row) -> &str {
+pub(crate) fn page_of(row: &WorkedRow) -> &str {
     text_of(&row.answer)
 }
 
 /// `done` where the page was written and ended by the kind, as the row says. After refused memory
 /// what was written may be left.
 pub(crate) fn page_ending(
-    row: &Row,
+    row: &WorkedRow,
     kind: Option<ErrorKind>,
     written: Counted<FailingWriter>,
 ) -> &'static str {
@@ -73,7 +73,7 @@ pub(crate) fn page_ending(
 
 /// Whether a rendering that was refused memory may have written this: a beginning of the page, or
 /// what the row says as `written`.
-fn may_be_left(row: &Row, bytes: &[u8]) -> bool {
+fn may_be_left(row: &WorkedRow, bytes: &[u8]) -> bool {
     match option(&row.on, "written") {
         Some(text) => text_of(text).as_bytes() == bytes,
         None => page_of(row).as_bytes().starts_with(bytes),
@@ -89,7 +89,7 @@ fn failed_writes(kind: Option<ErrorKind>) -> u64 {
 }
 
 /// `done` where the kind is the one of the row's fault, or there is none of both.
-pub(crate) fn kind_ending(row: &Row, kind: Option<ErrorKind>) -> &'static str {
+pub(crate) fn kind_ending(row: &WorkedRow, kind: Option<ErrorKind>) -> &'static str {
     if name_of(kind) == row.fault.as_str() {
         return "done";
     }

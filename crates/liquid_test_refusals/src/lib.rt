@@ -7,6 +7,6 @@ mod row;
 mod steps;
 mod told;
 
-pub use row::{Row, items, items_member, member, read_row, text_member, text_of};
-pub use steps::{Change, change_of};
+pub use row::{WorkedRow, items, items_member, member, read_row, text_member, text_of};
+pub use steps::{Step, step_of};
 pub use told::{Told, ending, flag, found, kind_of, name_of, nil, number, optional, owned, text};

@@ -4,7 +4,7 @@ use liquid_json::data_from_json;
 use std::alloc::Global;
 
 /// A call, what it is made with, and how it must end.
-pub struct Row {
+pub struct WorkedRow {
     /// The call, as its type and its name.
     pub call: String,
     /// A template's source, or another text.
@@ -21,9 +21,9 @@ pub struct Row {
 
 /// Drops the fields. Written by hand, so that each early return drops the value by one call to
 /// prove.
-impl Drop for Row {
+impl Drop for WorkedRow {
     fn drop(self) {
-        let Row {
+        let WorkedRow {
             call: _,
             source: _,
             on: _,
@@ -34,7 +34,7 @@ impl Drop for Row {
     }
 }
 
-impl Row {
+impl WorkedRow {
     /// The type of the call, or the whole call where no name follows a `::`.
     pub fn kind(&self) -> &str {
         match self.call.as_str().split_once("::") {
@@ -53,10 +53,10 @@ impl Row {
 }
 
 /// The row that the line holds, and the data of its state. A field that it lacks is nil, or empty.
-pub fn read_row(alloc: Global, line: &str) -> Result<(Row, Object)> {
+pub fn read_row(alloc: Global, line: &str) -> Result<(WorkedRow, Object)> {
     let mut fields = data_from_json(alloc, line)?;
     let data = taken_object(alloc, &mut fields, "data");
-    let row = Row {
+    let row = WorkedRow {
         call: taken(alloc, &mut fields, "call"),
         source: taken(alloc, &mut fields, "source"),
         on: fields.remove("on").unwrap_or(Value::Nil),

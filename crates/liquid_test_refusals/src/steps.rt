@@ -6,7 +6,7 @@ use std::alloc::Global;
 
 /// What a call changes in a state or a runtime.
 #[derive(Drop)]
-pub enum Change {
+pub enum Step {
     /// `set_index`.
     Index(String, Value),
     /// `set_global`.
@@ -19,24 +19,24 @@ pub enum Change {
 
 /// What the step's call changes, or none where it looks something up. A step is a list of the
 /// call's name, a name, and a value.
-pub fn change_of(alloc: Global, step: &Value) -> Result<Option<Change>> {
+pub fn step_of(alloc: Global, step: &Value) -> Result<Option<Step>> {
     match text_member(step, 0) {
         "set_index" => index(alloc, step),
         "set_global" => global(alloc, step),
-        "push_scope" => Ok(Some(Change::Push(scope(alloc, step)?))),
-        "pop_scope" => Ok(Some(Change::Pop)),
+        "push_scope" => Ok(Some(Step::Push(scope(alloc, step)?))),
+        "pop_scope" => Ok(Some(Step::Pop)),
         _ => Ok(None),
     }
 }
 
-fn index(alloc: Global, step: &Value) -> Result<Option<Change>> {
+fn index(alloc: Global, step: &Value) -> Result<Option<Step>> {
     let name = String::from_str(alloc, text_member(step, 1))?;
-    Ok(Some(Change::Index(name, given(alloc, step)?)))
+    Ok(Some(Step::Index(name, given(alloc, step)?)))
 }
 
-fn global(alloc: Global, step: &Value) -> Result<Option<Change>> {
+fn global(alloc: Global, step: &Value) -> Result<Option<Step>> {
     let name = String::from_str(alloc, text_member(step, 1))?;
-    Ok(Some(Change::Global(name, given(alloc, step)?)))
+    Ok(Some(Step::Global(name, given(alloc, step)?)))
 }
 
 /// The value that the call is given.

@@ -3,7 +3,7 @@ ghost use Rattle.std.specs.Prelude.{◌≡◌, option_map};
 ghost use Rattle.liquid_model.specs.View.{view};
 ghost use Rattle.liquid_test_refusals.specs.Endings.{ending_of};
 
-use crate::row::{Row, member, text_member, text_of};
+use crate::row::{WorkedRow, member, text_member, text_of};
 use liquid_core::{ErrorKind, Result, Value, ValueCow};
 use std::alloc::Global;
 
@@ -31,12 +31,12 @@ impl<R: Print> Told<'_, R> {
     }
 
     /// How the row's call ended.
-    pub fn answered(&self, line: &str, row: &Row, answer: &Result<Value>) {
+    pub fn answered(&self, line: &str, row: &WorkedRow, answer: &Result<Value>) {
         self.answered_by(row.call.as_str(), line, row, answer);
     }
 
     /// How another call ended that answers what the row's does.
-    pub fn answered_by(&self, call: &str, line: &str, row: &Row, answer: &Result<Value>) {
+    pub fn answered_by(&self, call: &str, line: &str, row: &WorkedRow, answer: &Result<Value>) {
         let wanted = match row.fault.as_str() {
             "" => None,
             fault => Some(fault),

@@ -2,6 +2,7 @@
 //! comes of it is tested by `covers`.
 
 use crate::demands::{Demands, Wanted};
+use crate::needs::use_before;
 use liquid_core::{Expression, Use};
 use liquid_syntax::{
     Arm, Atom, Binding, Condition, Each, FilterChain, For, Node, RangeExpression, TableRow,
@@ -55,15 +56,17 @@ fn ask_optional(demands: &mut Demands<'_>, value: &Option<Expression>) -> Asked 
     }
 }
 
-/// A filter sees everything.
+/// The arguments of filters are seen whole.
 fn ask_chain(demands: &mut Demands<'_>, chain: &FilterChain, wanted: Wanted<'_>) -> Asked {
-    if chain.filters.is_empty() {
-        return demands.ask(&chain.entry, wanted);
-    }
     for filter in &chain.filters {
         ask_all(demands, &filter.arguments)?;
     }
-    demands.ask(&chain.entry, Wanted::Whole)
+    if matches!(chain.entry, Expression::Literal(_)) {
+        return Ok(());
+    }
+    let last = demands.use_of(wanted)?;
+    let first = use_before(demands, &chain.filters, last)?;
+    demands.ask_value(&chain.entry, first)
 }
 
 fn ask_condition(demands: &mut Demands<'_>, condition: &Condition) -> Asked {

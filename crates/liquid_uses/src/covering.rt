@@ -15,8 +15,8 @@ use liquid_syntax::{Partials, Template};
 /// Whether the uses ask for all that a run of the template over these partials can see, whatever
 /// the filters of a host answer. It takes no memory.
 ///
-/// Where the answer is false they may ask for it all the same: a filter is taken to see all of its
-/// input, and a step that isn't a literal text all of the value that it is taken from.
+/// Where the answer is false they may ask for it all the same: most filters are taken to see all of
+/// their input, and a step that isn't a literal text all of the value that it is taken from.
 pub fn covers(uses: &Uses, template: &Template, partials: &Partials) -> bool
     ensures { (answers : FilterAnswers) → result ≡ true
         → covers known_needs (uses_view uses.now) (setting_of answers partials.now) (tree_of

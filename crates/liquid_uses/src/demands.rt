@@ -49,6 +49,18 @@ impl Demands<'_> {
         }
     }
 
+    /// Asks for that of an expression, and for everything of each variable in its steps.
+    pub(crate) fn ask_value(
+        &mut self,
+        expression: &Expression,
+        asked: Use,
+    ) -> Result<(), AllocError> {
+        match expression {
+            Expression::Literal(_) => Ok(()),
+            Expression::Variable(variable) => self.ask_variable(variable, asked),
+        }
+    }
+
     /// Asks for that of the value of a name.
     pub(crate) fn ask_name(&mut self, name: &str, asked: Use) -> Result<(), AllocError> {
         let both = match self.found.remove(name) {
@@ -60,7 +72,7 @@ impl Demands<'_> {
         Ok(())
     }
 
-    fn use_of(&mut self, wanted: Wanted<'_>) -> Result<Use, AllocError> {
+    pub(crate) fn use_of(&mut self, wanted: Wanted<'_>) -> Result<Use, AllocError> {
         match wanted {
             Wanted::Whole => Ok(Use::Everything),
             Wanted::Present => Ok(present(self.alloc)),
@@ -83,7 +95,7 @@ impl Demands<'_> {
     }
 
     /// A copy of the use, or everything where there is no room for it.
-    fn handed_on(&mut self, asked: &Use) -> Result<Use, AllocError> {
+    pub(crate) fn handed_on(&mut self, asked: &Use) -> Result<Use, AllocError> {
         let parts = part_count(asked, 0);
         if parts > self.room {
             return Ok(Use::Everything);

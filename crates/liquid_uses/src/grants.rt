@@ -6,14 +6,17 @@ ghost use Rattle.liquid_evaluation.specs.ChainView.{chain_view, chain_filter_vie
 ghost use Rattle.liquid_evaluation.specs.ConditionView.{atom_view, atoms_view, condition_view};
 ghost use Rattle.liquid_evaluation.specs.SourceView.{source_view};
 ghost use Rattle.liquid_syntax.specs.Flats.{arm_values, bindings_view, window_view};
+ghost use Rattle.liquid_model.specs.Uses as seen;
 ghost use Rattle.liquid_model.specs.Uses.{everything, no_fields, there, parts, every, present};
 ghost use Rattle.liquid_model.specs.UseViews.{uses_view};
 ghost use Rattle.liquid_meaning.specs.FilterNeeds.{known_needs};
 ghost use Rattle.liquid_meaning.specs.Reading.{all_of, bound_use, grants, grants_all, grants_atom};
 ghost use Rattle.liquid_meaning.specs.Reading.{grants_atoms, grants_bindings, grants_chain};
 ghost use Rattle.liquid_meaning.specs.Reading.{grants_condition, grants_filters, grants_optional};
-ghost use Rattle.liquid_meaning.specs.Reading.{grants_source, grants_window};
+ghost use Rattle.liquid_meaning.specs.Reading.{grants_source, grants_window, use_before};
+ghost use Rattle.liquid_uses.specs.inside.Chains.{sees};
 
+use crate::chain_places::ChainPlace;
 use crate::places::reached;
 use liquid_core::{Expression, Use, Uses, member_of};
 use liquid_evaluation::ChainFilter;
@@ -92,23 +95,33 @@ fn filters_granted(uses: &Uses, filters: &[ChainFilter]) -> bool
     true
 }
 
+/// What may be asked of a chain's value.
+fn chain_place<'u>(uses: &'u Uses, chain: &FilterChain) -> ChainPlace<'u>
+    ensures { (v : seen.Use) → sees result v ≡ true → grants (uses_view uses.now) (chain_view
+        chain.now).entry (use_before known_needs (chain_view chain.now).filters v) ≡ true }
+{
+    let mut place = ChainPlace::of(reached(&chain.entry, uses));
+    for filter in &chain.filters {
+        place = place.after(filter);
+    }
+    place
+}
+
 /// A chain whose value is written.
 pub(crate) fn written(uses: &Uses, chain: &FilterChain) -> bool
     ensures { result ≡ true → grants_chain known_needs (uses_view uses.now) everything
         (chain_view chain.now) ≡ true }
 {
-    whole(uses, &chain.entry) && filters_granted(uses, &chain.filters)
+    chain_place(uses, chain).is_whole() && filters_granted(uses, &chain.filters)
 }
 
-/// A chain whose value is assigned to that name. A filter is taken to see everything.
+/// A chain whose value is assigned to that name.
 pub(crate) fn assigned(uses: &Uses, name: &str, chain: &FilterChain) -> bool
     ensures { result ≡ true → grants_chain known_needs (uses_view uses.now) (present (uses_view
         uses.now name.now)) (chain_view chain.now) ≡ true }
 {
-    if chain.filters.is_empty() {
-        return as_named(uses, &chain.entry, name);
-    }
-    whole(uses, &chain.entry) && filters_granted(uses, &chain.filters)
+    let place = chain_place(uses, chain).present();
+    place.sees(member_of(uses, name)) && filters_granted(uses, &chain.filters)
 }
 
 #[tactic(auto, unfolding(liquid_meaning::specs::Reading::grants_atom))]

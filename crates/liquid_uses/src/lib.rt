@@ -2,13 +2,17 @@
 #![tactic(auto)]
 
 mod asking;
+mod chain_places;
 mod covering;
 mod demands;
 mod grants;
 mod merge;
+mod needs;
 mod nodes;
 mod paths;
+mod place_pairs;
 mod places;
+mod properties;
 mod rounds;
 mod uses;
 mod whole_names;

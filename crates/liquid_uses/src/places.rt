@@ -3,9 +3,11 @@ ghost use Rattle.std.specs.Prelude.{◌≡◌, true};
 ghost use Rattle.liquid_core.specs.Expression.{literal};
 ghost use Rattle.liquid_model.specs.Data.{text};
 ghost use Rattle.liquid_model.specs.View.{view};
+ghost use Rattle.liquid_meaning.specs.FilterNeeds.{items_each, one_field};
 ghost use Rattle.liquid_meaning.specs.Reading.{Uses, grants};
 ghost use Rattle.liquid_core.specs.ExpressionView.{expression_view, steps_view, variable_view};
-ghost use Rattle.liquid_model.specs.Uses.{everything, includes, no_fields, there, parts, every};
+ghost use Rattle.liquid_model.specs.Uses.{everything, includes, no_fields, nothing, there, parts};
+ghost use Rattle.liquid_model.specs.Uses.{every, present};
 ghost use Rattle.liquid_model.specs.UseViews.{uses_view, use_view};
 ghost use Rattle.liquid_uses.specs.inside.Placing.{gives, option_use, place_of, whole_if};
 ghost use Rattle.liquid_uses.specs.inside.Placing.{IsReached, IsReachedAlong, Leads};
@@ -58,6 +60,16 @@ impl<'u> Place<'u> {
         }
     }
 
+    /// Whether it isn't refused: then nothing may be asked at least.
+    pub(crate) fn is_open(self) -> bool
+        ensures { result ≡ gives self.entry nothing }
+    {
+        match self {
+            Place::Whole | Place::Asked(_) | Place::Unnamed => true,
+            Place::Refused => false,
+        }
+    }
+
     /// Whether all is asked that this use asks.
     pub(crate) fn includes(self, other: &Use) -> bool
         ensures { result ≡ gives self.entry (use_view other.now) }
@@ -79,6 +91,39 @@ impl<'u> Place<'u> {
             Place::Whole => true,
             Place::Asked(asked) => asks_each(asked, other),
             Place::Unnamed | Place::Refused => false,
+        }
+    }
+
+    /// The place, where it is asked if there is a value.
+    pub(crate) fn if_present(self) -> Place<'u>
+        ensures { (u : _) → gives result u ≡ true → gives self.entry (present u) ≡ true }
+    {
+        if self.is_present() {
+            self
+        } else {
+            Place::Refused
+        }
+    }
+
+    /// What is asked of the member that the step of this text finds.
+    pub(crate) fn member(self, key: &str) -> Place<'u>
+        ensures { (u : _) → gives result u ≡ true → gives self.entry (one_field key.now u) ≡ true }
+    {
+        if self.is_present() {
+            self.at(key)
+        } else {
+            Place::Refused
+        }
+    }
+
+    /// What is asked of each item.
+    pub(crate) fn each(self) -> Place<'u>
+        ensures { (u : _) → gives result u ≡ true → gives self.entry (items_each u) ≡ true }
+    {
+        match self {
+            Place::Whole => Place::Whole,
+            Place::Asked(asked) => each_of(asked),
+            Place::Unnamed | Place::Refused => Place::Refused,
         }
     }
 
@@ -120,6 +165,21 @@ fn asks_each(asked: &Use, other: Option<&Use>) -> bool
                 None => true,
                 Some(other) => item.includes(other),
             },
+        },
+    }
+}
+
+/// What a use asks of each item.
+fn each_of<'u>(asked: &'u Use) -> Place<'u>
+    ensures { (u : _) → gives result u ≡ true → includes (use_view asked.now) (items_each u)
+        ≡ true }
+{
+    match asked {
+        Use::Nothing => Place::Refused,
+        Use::Everything => Place::Whole,
+        Use::Parts { members: _, items } => match items {
+            None => Place::Refused,
+            Some(item) => Place::Asked(item),
         },
     }
 }

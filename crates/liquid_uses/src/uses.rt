@@ -17,8 +17,9 @@ use std::alloc::Global;
 /// The parts of its data that a run of the template over these partials can see, name by name.
 ///
 /// Over data that are alike in them a run writes the same text and ends alike, whatever the filters
-/// of a host answer. They are no less than a run can see, and may be more: a filter is taken to see
-/// all of its input, and a step that isn't a literal text all of the value that it is taken from.
+/// of a host answer. They are no less than a run can see, and may be more: most filters are taken
+/// to see all of their input, and a step that isn't a literal text all of the value that it is
+/// taken from.
 /// Names that the template sets or binds stand among them, since data of these names is seen
 /// wherever they aren't set. Where rounds over the template don't find the parts, each name that
 /// the template or a partial mentions is answered whole.

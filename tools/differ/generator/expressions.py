@@ -77,11 +77,23 @@ TAKEN = {
     "number": ("number", "digits", "decimal"),
     "decimal": ("decimal", "number", "digits"),
 }
-# the filters that take a kind, where all take what may be of any
-FITTING = {
-    kind: [name for name, (taken, _, _) in FILTERS.items() if "any" in (taken, kind) or kind in TAKEN.get(taken, (taken,))]
-    for kind in (*POOLS, *LISTS, "map", "any")
-}
+
+
+class Filters:
+    """The filters that are called, with those by which chains begin most often."""
+
+    def __init__(self, called, favourites, is_jekyll=False):
+        self.called = called
+        self.is_jekyll = is_jekyll
+        self.favourites = favourites
+        # the filters that take a kind, where all take what may be of any
+        self.fitting = {
+            kind: [name for name, (taken, _, _) in called.items() if "any" in (taken, kind) or kind in TAKEN.get(taken, (taken,))]
+            for kind in (*POOLS, *LISTS, "map", "any")
+        }
+
+
+STANDARD = Filters(FILTERS, list(FILTERS))
 OPERATORS = ("==", "!=", "<>", "<", ">", "<=", ">=", "contains")
 
 
@@ -122,8 +134,9 @@ def space(rng, before, after):
 class Expressions:
     """Makes expressions over the names that are known."""
 
-    def __init__(self, rng, known):
+    def __init__(self, rng, known, filters):
         self.rng = rng
+        self.filters = filters
         # how often what likely ends in a fault is made: seldom in half of the templates, which then run further
         self.daring = rng.choice((0.1, 1))
         # paths by the kind that they lead to
@@ -192,9 +205,9 @@ class Expressions:
         if self.chance(0.2):
             kind = self.rng.choice((*POOLS, *LISTS, "map"))
             return [self.expression(kind)], kind
-        name = self.rng.choice(list(FILTERS))
-        items = [self.expression(FILTERS[name][0]), "|", name, *self.arguments(name)]
-        kind = FILTERS[name][2]
+        name = self.rng.choice(self.filters.favourites)
+        taken, _, kind = self.filters.called[name]
+        items = [self.expression(taken), "|", name, *self.arguments(name)]
         for _ in range(self.rng.choice((0, 0, 0, 0, 1, 1, 1, 2, 4))):
             name, kind = self.filter(kind)
             items += ["|", name, *self.arguments(name)]
@@ -204,12 +217,13 @@ class Expressions:
         """A filter that takes the kind, mostly, and the kind of what it answers."""
         if self.dares(0.002):
             return "nosuch", "any"
-        name = self.rng.choice(list(FILTERS) if self.dares(0.15) else FITTING[kind])
-        return name, FILTERS[name][2]
+        called = self.filters.called
+        name = self.rng.choice(list(called) if self.dares(0.15) else self.filters.fitting[kind])
+        return name, called[name][2]
 
     def arguments(self, name):
         """The items of a filter's arguments, rarely too many or too few."""
-        kinds = FILTERS[name][1] if name in FILTERS else ["any?"]
+        kinds = self.filters.called[name][1] if name in self.filters.called else ["any?"]
         given = [kind.rstrip("?") for kind in kinds if not kind.endswith("?") or self.chance(0.5)]
         if self.dares(0.004):
             given = given[:-1] if self.chance(0.5) else [*given, "any"]

@@ -1,6 +1,6 @@
 """Nodes of a template, by a seed: texts, outputs, and every tag and block."""
 from . import samples
-from .expressions import Expressions, literal, separated, spelled
+from .expressions import STANDARD, Expressions, literal, separated, spelled
 
 SCALAR_KINDS = ("number", "text", "truth", "nil")
 
@@ -8,9 +8,10 @@ SCALAR_KINDS = ("number", "text", "truth", "nil")
 class Nodes:
     """Makes the source of one template or partial."""
 
-    def __init__(self, rng, known, partials, size):
+    def __init__(self, rng, known, partials, size, filters=STANDARD):
         self.rng = rng
-        self.made = Expressions(rng, known)
+        self.made = Expressions(rng, known, filters)
+        self.is_jekyll = filters.is_jekyll
         # names of partials, each with whether it is written for render
         self.partials = partials
         # how many nodes there may still be
@@ -108,11 +109,20 @@ class Nodes:
         if not self.partials and self.chance(0.9):
             return self.value(depth)
         items = [self.partial_name(False)]
+        if self.is_jekyll:
+            return self.jekyll_include(items[0])
         if self.chance(0.5):
             items += [item for pair in separated(self.pair_items(), [","]) for item in pair]
             if self.chance(0.08):
                 items.append(self.rng.choice((",", "junk", "5", "==", "(1..2)", "'x'")))
         return self.tag("include", *items)
+
+    def jekyll_include(self, name):
+        """The name mostly without quotes, where it could be a variable."""
+        bare = name.strip("'\"")
+        name = bare if bare.replace(".", "").isalnum() and self.chance(0.7) else name
+        pairs = self.pair_items("=") if self.chance(0.6) else []
+        return self.tag("include", name, *(item for pair in pairs for item in pair))
 
     def render(self, depth):
         if not self.partials and self.chance(0.9):
@@ -190,6 +200,10 @@ class Nodes:
         """The body of a loop, in which its names are known."""
         outer = {name: list(paths) for name, paths in self.made.known.items()}
         self.made.know(variable, kind)
+        if kind == "map" and self.chance(0.4):
+            # members that not every item has
+            for key, held in self.rng.sample((("a", "number"), ("b", "text"), ("k", "text"), ("title", "text"), ("price", "number")), 2):
+                self.made.know(f"{variable}.{key}", held)
         words = ("index", "index0", "rindex", "rindex0", "length", "col", "col0") if about == "tablerow" else ("index", "index0", "rindex", "rindex0", "length")
         for word in words:
             self.made.know(f"{about}.{word}", "number")

@@ -2,7 +2,9 @@
 
 
 class Environment:
-    def __init__(self, scope=None, data=None):
+    def __init__(self, filters, scope=None, data=None):
+        # the function of each filter by its name
+        self.filters = filters
         # the innermost scope is the last one
         self.scopes = [scope] if scope else []
         self.assigned = {}

@@ -4,7 +4,7 @@ from .environment import Environment
 from .expressions import evaluate, evaluate_chain, holds
 from .faults import Fault, TooLong
 from .loops import Window, cell_map, items_of, place_map
-from .values import GREATEST, LEAST, is_scalar, same, text_of
+from .values import GREATEST, LEAST, is_scalar, new_map, same, text_of
 
 DEPTH = 32
 MOST_STEPS = 20_000
@@ -14,9 +14,9 @@ MOST_TEXT = 200_000
 class Run:
     """A run over the partials, each a list of nodes by its name."""
 
-    def __init__(self, partials, data):
+    def __init__(self, partials, data, filters):
         self.partials = partials
-        self.environment = Environment(data=data)
+        self.environment = Environment(filters, data=data)
         self.depth = DEPTH
         self.written = []
         self.steps = 0
@@ -176,6 +176,11 @@ class Run:
         self.with_scope(scope, self.enter(name))
         self.depth += 1
 
+    def jekyll_include(self, node):
+        scope = {"include": new_map(self.pairs(node).items())} if node.pairs else {}
+        self.with_scope(scope, self.enter(node.name))
+        self.depth += 1
+
     def render(self, node):
         name = self.name(node)
         if not node.each:
@@ -193,7 +198,7 @@ class Run:
         self.step()
         pairs = self.pairs(node)
         body = self.enter(name, f"{name}.liquid")
-        outer, self.environment = self.environment, Environment({**pairs, **more})
+        outer, self.environment = self.environment, Environment(self.environment.filters, {**pairs, **more})
         try:
             self.nodes(body)
             return self.environment.interrupt
@@ -215,5 +220,6 @@ RULES = {
     tree.Capture: Run.capture,
     tree.IfChanged: Run.ifchanged,
     tree.Include: Run.include,
+    tree.JekyllInclude: Run.jekyll_include,
     tree.Render: Run.render,
 }

@@ -31,7 +31,7 @@ def evaluate_chain(chain, environment):
     value = found[0] if found else None
     for call in chain.calls:
         arguments = [evaluate(argument, environment) for argument in call.arguments]
-        value = apply(call.name, value, arguments)
+        value = apply(environment.filters[call.name], value, arguments)
     return value
 
 

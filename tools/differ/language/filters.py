@@ -12,12 +12,11 @@ FILTERS = {
     **web_filters.FILTERS,
     **date_filters.FILTERS,
 }
-COUNTS = {name: (least, most) for name, (least, most, _) in FILTERS.items()}
 
 
-def apply(name, value, arguments):
-    """What the filter answers."""
-    answer = FILTERS[name][2](value, *arguments)
+def apply(function, value, arguments):
+    """What a filter answers."""
+    answer = function(value, *arguments)
     if weight(answer, MOST_PARTS) > MOST_PARTS:
         raise TooLong
     return answer

@@ -1,16 +1,16 @@
 """The items of a piece, taken one after another: values, chains, conditions, pairs."""
 from .faults import Fault
-from .filters import COUNTS
 from .tree import Atom, Call, Chain, Literal, Range, Symbol, Variable
 
 OPERATORS = ("==", "!=", "<>", "<", ">", "<=", ">=")
 
 
 class Items:
-    """The items that are left of a piece."""
+    """The items that are left of a piece, in a language with these counts of arguments."""
 
-    def __init__(self, items):
+    def __init__(self, items, counts):
         self.items = items
+        self.counts = counts
         self.at = 0
 
     def is_over(self):
@@ -76,9 +76,9 @@ class Items:
     def call(self):
         name = self.identifier()
         arguments = self.values(",") if self.skip_symbol(":") else []
-        if name not in COUNTS:
+        if name not in self.counts:
             raise Fault("UnknownFilter")
-        least, most = COUNTS[name]
+        least, most = self.counts[name]
         if not least <= len(arguments) <= most:
             raise Fault("FilterArguments")
         return Call(name, arguments)
@@ -116,9 +116,9 @@ class Items:
             return self.take().text
         return None
 
-    def pair(self):
+    def pair(self, symbol=":"):
         name = self.identifier()
-        self.want_symbol(":")
+        self.want_symbol(symbol)
         return name, self.value()
 
 

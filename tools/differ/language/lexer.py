@@ -1,6 +1,7 @@
 """A source, cut into texts and pieces, and a piece into its items (docs/GRAMMAR.md)."""
 import re
-from dataclasses import dataclass
+from dataclasses import dataclass, field, replace
+from typing import Optional
 
 from .faults import Fault
 from .tree import Literal, Range, Symbol, Variable
@@ -21,11 +22,13 @@ LETTER = re.compile(r"[A-Za-z_]")
 
 @dataclass
 class Piece:
-    """An output, or a tag with its name; its items are read whole."""
+    """An output, or a tag with its name; its items are read whole. It ends nowhere where it can't be read to its closer."""
 
     opener: str
-    name: str
-    items: list
+    start: int
+    name: str = ""
+    items: list = field(default_factory=list)
+    end: Optional[int] = None
 
 
 def mark(*names):
@@ -63,11 +66,17 @@ class Reader:
         opener = self.source[self.at : self.at + 2]
         if not opener:
             return None
+        piece = Piece(opener, self.at)
         self.at += 2
         if self.source.startswith("-", self.at):
             self.at += 1
-        name = self.tag_name() if opener == "{%" else ""
-        return Piece(opener, name, self.items(CLOSERS[opener]))
+        try:
+            piece.name = self.tag_name() if opener == "{%" else ""
+            piece.items = self.items(CLOSERS[opener])
+        except Fault as fault:
+            raise fault.within(piece)
+        piece.end = self.at
+        return piece
 
     def tag_name(self):
         self.skip_space()
@@ -106,7 +115,8 @@ class Reader:
             return self.range()
         symbol = SYMBOL.match(self.source, self.at)
         if not symbol:
-            return self.value(0)
+            start, value = self.at, self.value(0)
+            return replace(value, spelled=self.source[start : self.at])
         self.at = symbol.end()
         return Symbol(symbol[0])
 

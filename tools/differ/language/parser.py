@@ -2,20 +2,21 @@
 from .faults import Fault
 from .items import Items
 from .lexer import Reader
-from .tags import BLOCKS, TAGS, VERBATIM, when
+from .tags import BLOCKS, VERBATIM, when
 from .tree import Output, Text
 
 MOST_BLOCKS = 200
 
 
-def parse(source):
+def parse(source, language):
     """The nodes of a template."""
-    return Parser(source).nodes(0)
+    return Parser(source, language).nodes(0)
 
 
 class Parser:
-    def __init__(self, source):
+    def __init__(self, source, language):
         self.reader = Reader(source)
+        self.language = language
         # the name of the tag that ended the last list of nodes, with its items
         self.ended_by = None
 
@@ -32,14 +33,20 @@ class Parser:
             if piece is None or piece.opener == "{%" and piece.name in ends:
                 self.ended_by = piece
                 return found
-            found.append(self.node(piece, depth))
+            try:
+                found.append(self.node(piece, depth))
+            except Fault as fault:
+                raise fault.within(piece)
+
+    def items(self, piece):
+        return Items(piece.items, self.language.counts)
 
     def node(self, piece, depth):
-        items = Items(piece.items)
+        items = self.items(piece)
         if piece.opener == "{{":
             return Output(items.chain())
-        if piece.name in TAGS:
-            return TAGS[piece.name](items)
+        if piece.name in self.language.tags:
+            return self.language.tags[piece.name](items)
         if piece.name in VERBATIM:
             return self.verbatim(piece.name, items, depth)
         if piece.name not in BLOCKS:
@@ -58,15 +65,22 @@ class Parser:
         items.end()
         return Text(text)
 
+    def of_end(self, read):
+        """What is read of the tag that ended the last list of nodes."""
+        try:
+            return read(self.items(self.ended_by))
+        except Fault as fault:
+            raise fault.within(self.ended_by)
+
     def end(self):
         """The block ends here, by a tag without items."""
-        Items(self.ended_by.items).end()
+        self.of_end(Items.end)
 
     def fill_if(self, node, depth):
         ends = ("endif", "elsif", "else")
         node.branches[0][1].extend(self.nodes(depth, *ends))
         while self.ended_by.name == "elsif":
-            condition = Items(self.ended_by.items).condition()
+            condition = self.of_end(Items.condition)
             node.branches.append((condition, self.nodes(depth, *ends)))
         self.fill_else(node, depth, "endif")
 
@@ -83,7 +97,7 @@ class Parser:
         ends = ("endcase", "when", "else")
         self.nodes(depth, *ends)
         while self.ended_by.name == "when":
-            values = when(Items(self.ended_by.items))
+            values = self.of_end(when)
             node.parts.append((values, self.nodes(depth, *ends)))
         self.fill_bare_else(node, depth, "endcase")
 

@@ -1,7 +1,7 @@
 """How the items of each tag are read, and what its node is."""
 from .faults import Fault
 from .items import is_identifier
-from .tree import Assign, Capture, Case, Choice, Count, Cycle, IfChanged, Include, Interrupt, Literal, Loop, Render, Variable
+from .tree import Assign, Capture, Case, Choice, Count, Cycle, IfChanged, Include, Interrupt, JekyllInclude, Literal, Loop, Render, Variable
 from .values import text_of
 
 
@@ -76,6 +76,18 @@ def include(items):
         items.take()
     items.end()
     return Include(name, pairs)
+
+
+def jekyll_include(items):
+    """The name is the text of a text literal, or else the value as it is spelled."""
+    name, pairs = items.value(), []
+    while not items.is_over():
+        pairs.append(items.pair("="))
+    return JekyllInclude(spelling(name), pairs)
+
+
+def spelling(item):
+    return item.value if isinstance(item, Literal) and isinstance(item.value, str) else item.spelled
 
 
 def begins_pair(items):

@@ -6,12 +6,15 @@ from typing import Any, Optional
 @dataclass(frozen=True)
 class Literal:
     value: Any
+    # as it stands in the source
+    spelled: str = field(default="", compare=False)
 
 
 @dataclass(frozen=True)
 class Variable:
     name: str
     steps: tuple = ()
+    spelled: str = field(default="", compare=False)
 
 
 @dataclass(frozen=True)
@@ -128,6 +131,14 @@ class IfChanged:
 @dataclass
 class Include:
     name: Any
+    pairs: list
+
+
+@dataclass
+class JekyllInclude:
+    """The name is a text."""
+
+    name: str
     pairs: list
 
 

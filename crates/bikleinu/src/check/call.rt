@@ -1,10 +1,11 @@
 //! The words of `check`.
 use super::format::Format;
-use crate::command::{DataFile, STATUSES, data_file, data_option, partials_option};
-use crate::filters::{FilterSet, filter_set, filters_option};
-use crate::forms::{Forms, with_form_options};
 use crate::stop::Stop;
 use clap::{Arg, ArgMatches, Command};
+use liquid_commands::{
+    DataFile, FilterSet, Forms, STATUSES, data_file, data_option, filter_set, filters_option,
+    partials_option, with_form_options,
+};
 use std::alloc::{AllocError, Global};
 
 /// The words that name a format, the one without a word first.

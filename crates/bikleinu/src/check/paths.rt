@@ -1,7 +1,8 @@
 //! The files that a call of `check` names.
 use super::call::CheckCall;
-use crate::folder::{files_below, joined, without_suffix};
+use crate::folder::files_below;
 use crate::stop::Stop;
+use liquid_partial_names::{PartialNames, joined_path, named_file};
 use std::alloc::{AllocError, Global};
 use std::collections::BTreeMap;
 use std::fs;
@@ -20,8 +21,8 @@ pub struct CheckedPath {
 #[derive(Drop)]
 pub struct Paths {
     pub files: Vec<CheckedPath>,
-    /// Each name of a partial, with the place of its file. Of one name the later counts.
-    pub partials: Vec<(String, usize)>,
+    /// The names of the partials, each with the place of its file.
+    pub partials: PartialNames,
     /// How many words name nothing that can be read.
     pub unread: usize,
     /// The place of each path.
@@ -33,7 +34,7 @@ pub struct Paths {
 pub fn checked_paths(rt: &HostRuntime, call: &CheckCall<'_>) -> Result<Paths, Stop> {
     let mut paths = Paths {
         files: Vec::new(rt.alloc()),
-        partials: Vec::new(rt.alloc()),
+        partials: PartialNames::new(rt.alloc()),
         unread: 0,
         places: BTreeMap::new(rt.alloc()),
     };
@@ -62,7 +63,7 @@ impl Paths {
             self.unread = self.unread.saturating_add(1);
         }
         for file in &files {
-            let path = joined(rt.alloc(), word, file.as_str())?;
+            let path = joined_path(rt.alloc(), word, file.as_str())?;
             let place = self.add_file(rt.alloc(), path.as_str(), true)?;
             self.set_page(place, true);
         }
@@ -78,30 +79,23 @@ impl Paths {
     /// Adds the partials that a word names: NAME=FILE, or the files below a folder. Where that is
     /// inside a folder of pages, its files are none.
     fn add_partials(&mut self, rt: &HostRuntime, word: &str, is_inside: bool) -> Result<(), Stop> {
-        if let Some((name, path)) = word.split_once('=') {
+        if let Some((name, path)) = named_file(word) {
             let place = self.add_file(rt.alloc(), path, false)?;
-            return self.add_name(rt.alloc(), name, place);
+            return Ok(self.partials.add(rt.alloc(), name, place)?);
         }
         let Some(files) = self.files_of(rt, word)? else {
             return Ok(());
         };
         let mut places = Vec::new(rt.alloc());
-        for file in &files {
-            let path = joined(rt.alloc(), word, file.as_str())?;
+        for file in files {
+            let path = joined_path(rt.alloc(), word, file.as_str())?;
             let place = self.add_file(rt.alloc(), path.as_str(), true)?;
-            places.push(place)?;
             if is_inside {
                 self.set_page(place, false);
             }
-            if let Some(stem) = without_suffix(file.as_str()) {
-                self.add_name(rt.alloc(), stem, place)?;
-            }
+            places.push((file, place))?;
         }
-        // so that a whole name wins against another one without its suffix
-        for (file, place) in files.iter().zip(&places) {
-            self.add_name(rt.alloc(), file.as_str(), *place)?;
-        }
-        Ok(())
+        Ok(self.partials.add_folder(rt.alloc(), places.as_slice())?)
     }
 
     /// The files below a folder; none where it can't be read, which is reported.
@@ -131,11 +125,6 @@ impl Paths {
         })?;
         drop(self.places.insert(String::from_str(alloc, path)?, place)?);
         Ok(place)
-    }
-
-    fn add_name(&mut self, alloc: Global, name: &str, place: usize) -> Result<(), Stop> {
-        self.partials.push((String::from_str(alloc, name)?, place))?;
-        Ok(())
     }
 }
 

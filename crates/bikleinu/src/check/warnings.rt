@@ -106,7 +106,7 @@ fn add_source_warnings(
 /// The files of the partials by their names. The later of one name counts.
 fn names_by_file(alloc: Global, paths: &Paths) -> Result<Names, AllocError> {
     let mut names = BTreeMap::new(alloc);
-    for (name, place) in &paths.partials {
+    for (name, place) in paths.partials.as_slice() {
         drop(names.insert(String::from_str(alloc, name.as_str())?, *place)?);
     }
     Ok(names)

@@ -2,7 +2,8 @@
 use super::names::meant_tag;
 use super::near::nearest;
 use super::outline::{Opener, Otherwise, Outline};
-use super::wording::Wording;
+use super::phrasing::Phrasing;
+use super::wanted::words_of;
 use crate::block::{Block, end_tag};
 use crate::language::Language;
 use liquid_core::{NearName, nearer};
@@ -16,7 +17,7 @@ pub fn unknown_tag<'s>(
     language: &'s Language,
     outline: &Outline<'s>,
     piece: &PlacedPiece<'s>,
-) -> Result<Wording<'s>, AllocError> {
+) -> Result<Phrasing<'s>, AllocError> {
     let name = piece.name;
     if is_end(name) {
         return Ok(wrong_end(outline, name));
@@ -42,50 +43,49 @@ fn is_control(name: &str) -> bool {
 /// Of a source that ends in a block, at the tag that begins it. The name is that of the piece which
 /// the fault is in, if it is in one:
 /// then that piece begins a verbatim body.
-pub fn missing_end<'s>(fault: &Fault, outline: &Outline<'s>, name: &'s str) -> Wording<'s> {
+pub fn missing_end<'s>(fault: &Fault, outline: &Outline<'s>, name: &'s str) -> Phrasing<'s> {
     if !outline.at.is_empty() {
-        return Wording::quoting(outline.at, "`{% … %}` has no ¤", name, fault.wanted);
+        let words = "`{% … %}` has no `{% ¤ %}`";
+        return Phrasing::quoting(outline.at, words, name, words_of(fault.wanted).words);
     }
     match outline.open.last() {
         Some(opener) => block_without_end(opener),
-        None => Wording::quoting(
-            "",
-            "the source ends where `{% ¤ %}` is wanted",
-            fault.wanted,
-            "",
-        ),
+        None => {
+            let words = "the source ends where `{% ¤ %}` is wanted";
+            Phrasing::quoting("", words, words_of(fault.wanted).words, "")
+        }
     }
 }
 
-fn block_without_end<'s>(opener: &Opener<'s>) -> Wording<'s> {
+fn block_without_end<'s>(opener: &Opener<'s>) -> Phrasing<'s> {
     let words = "`{% … %}` has no `{% ¤ %}`";
-    Wording::quoting(opener.from, words, opener.name, end_tag(opener.block))
+    Phrasing::quoting(opener.from, words, opener.name, end_tag(opener.block))
 }
 
 /// An end of another block than the innermost, or of none.
-fn wrong_end<'s>(outline: &Outline<'s>, name: &'s str) -> Wording<'s> {
+fn wrong_end<'s>(outline: &Outline<'s>, name: &'s str) -> Phrasing<'s> {
     match outline.open.last() {
         Some(opener) => {
             let words = "found `{% … %}` where `{% ¤ %}` is wanted, the end of the `{% … %}` of §";
-            Wording {
+            Phrasing {
                 third: opener.name,
                 other: opener.from,
-                ..Wording::quoting(outline.at, words, name, end_tag(opener.block))
+                ..Phrasing::quoting(outline.at, words, name, end_tag(opener.block))
             }
         }
         None => {
             let words = "found `{% … %}`, and no block is open here that ends";
-            Wording::quoting(outline.at, words, name, "")
+            Phrasing::quoting(outline.at, words, name, "")
         }
     }
 }
 
 /// A control word that the innermost block doesn't know, or knows no longer, or that stands in no
 /// block.
-fn wrong_control<'s>(outline: &Outline<'s>, name: &'s str) -> Wording<'s> {
+fn wrong_control<'s>(outline: &Outline<'s>, name: &'s str) -> Phrasing<'s> {
     let Some(opener) = outline.open.last() else {
         let words = "found `{% ¤ %}`, and no block is open here";
-        return Wording::quoting(outline.at, words, name, "");
+        return Phrasing::quoting(outline.at, words, name, "");
     };
     match (opener.block, opener.otherwise) {
         (Block::If | Block::Unless | Block::Case | Block::For, Some(otherwise)) => {
@@ -96,31 +96,31 @@ fn wrong_control<'s>(outline: &Outline<'s>, name: &'s str) -> Wording<'s> {
 }
 
 /// A control word that its block doesn't know.
-fn strange_control<'s>(at: &'s str, opener: &Opener<'s>, name: &'s str) -> Wording<'s> {
+fn strange_control<'s>(at: &'s str, opener: &Opener<'s>, name: &'s str) -> Phrasing<'s> {
     let words = if name == "elsif" && matches!(opener.block, Block::Unless) {
         "found `{% ¤ %}`, which the `{% … %}` of § can't have; it may have one `{% else %}`"
     } else {
         "found `{% ¤ %}`, which the `{% … %}` of § can't have; is its `{% ¤ %}` missing?"
     };
-    Wording {
+    Phrasing {
         third: end_tag(opener.block),
         other: opener.from,
-        ..Wording::quoting(at, words, name, opener.name)
+        ..Phrasing::quoting(at, words, name, opener.name)
     }
 }
 
 /// A control word in the last body of its block.
-fn after_else<'s>(at: &'s str, otherwise: Otherwise<'s>, name: &'s str) -> Wording<'s> {
+fn after_else<'s>(at: &'s str, otherwise: Otherwise<'s>, name: &'s str) -> Phrasing<'s> {
     let then = if otherwise.has_items {
         "; write `elsif` in place of `else if`"
     } else {
         ""
     };
     let words = "found `{% ¤ %}` after the `else` of §, which comes last";
-    Wording {
+    Phrasing {
         then,
         other: otherwise.from,
-        ..Wording::quoting(at, words, name, "")
+        ..Phrasing::quoting(at, words, name, "")
     }
 }
 
@@ -130,22 +130,22 @@ fn unknown_name<'s>(
     language: &'s Language,
     at: &'s str,
     piece: &PlacedPiece<'s>,
-) -> Result<Wording<'s>, AllocError> {
+) -> Result<Phrasing<'s>, AllocError> {
     let name = piece.name;
     if let Some(words) = meant_tag(name) {
-        return Ok(Wording::plain(at, words));
+        return Ok(Phrasing::plain(at, words));
     }
     let near = near_tag(alloc, language, name)?;
     Ok(match near {
         Some(near) => {
             let words = "no tag is named `…`; did you mean `…`?";
-            Wording::quoting(at, words, name, near.name)
+            Phrasing::quoting(at, words, name, near.name)
         }
         None if piece.items.is_empty() => {
             let words = "no tag is named `…`; a value is shown by `{{ … }}`";
-            Wording::quoting(at, words, name, name)
+            Phrasing::quoting(at, words, name, name)
         }
-        None => Wording::quoting(at, "no tag is named `…`", name, ""),
+        None => Phrasing::quoting(at, "no tag is named `…`", name, ""),
     })
 }
 

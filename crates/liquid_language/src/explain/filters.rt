@@ -2,7 +2,7 @@
 //! takes.
 use super::names::{kind_of_filter, lacking_filter, meant_filter};
 use super::near::nearest;
-use super::wording::Wording;
+use super::phrasing::Phrasing;
 use crate::registered_filter::{FilterRegistry, RegisteredFilter};
 use liquid_lexer::{Item, PlacedItem, PlacedPiece, Symbol};
 use std::alloc::{AllocError, Global};
@@ -12,7 +12,7 @@ const MOST_ARGUMENTS: usize = 8;
 
 /// A filter of a chain.
 #[derive(Clone, Copy)]
-struct Call<'s> {
+struct WrittenFilter<'s> {
     name: &'s str,
     /// The source from its name on.
     from: &'s str,
@@ -29,11 +29,11 @@ pub fn unknown_filter<'s>(
     filters: &'s FilterRegistry,
     piece: &PlacedPiece<'s>,
     at: &'s str,
-) -> Result<Wording<'s>, AllocError> {
+) -> Result<Phrasing<'s>, AllocError> {
     let calls = calls(alloc, &piece.items)?;
     match unregistered(filters, &calls) {
         Some(call) => unknown_name(alloc, filters, &call),
-        None => Ok(Wording::plain(at, "a filter isn't known")),
+        None => Ok(Phrasing::plain(at, "a filter isn't known")),
     }
 }
 
@@ -41,10 +41,10 @@ pub fn unknown_filter<'s>(
 fn unknown_name<'s>(
     alloc: Global,
     filters: &'s FilterRegistry,
-    call: &Call<'s>,
-) -> Result<Wording<'s>, AllocError> {
+    call: &WrittenFilter<'s>,
+) -> Result<Phrasing<'s>, AllocError> {
     match meant_elsewhere(filters, call.name, call.from) {
-        Some(wording) => Ok(wording),
+        Some(phrasing) => Ok(phrasing),
         None => near_filter(alloc, filters, call),
     }
 }
@@ -54,13 +54,13 @@ pub fn meant_elsewhere<'s>(
     filters: &FilterRegistry,
     name: &'s str,
     from: &'s str,
-) -> Option<Wording<'s>> {
+) -> Option<Phrasing<'s>> {
     if let Some(meant) = meant_here(filters, name) {
         let words = "no filter is named `…`; write `¤`";
-        return Some(Wording::quoting(from, words, name, meant));
+        return Some(Phrasing::quoting(from, words, name, meant));
     }
-    let wording = lacking_filter(name)?;
-    Some(Wording::quoting(from, "no filter is named `…`; ¤", name, wording))
+    let phrasing = lacking_filter(name)?;
+    Some(Phrasing::quoting(from, "no filter is named `…`; ¤", name, phrasing))
 }
 
 /// The filter that is meant by a name of another language, where it is registered.
@@ -75,22 +75,22 @@ pub fn meant_here(filters: &FilterRegistry, name: &str) -> Option<&'static str> 
 fn near_filter<'s>(
     alloc: Global,
     filters: &'s FilterRegistry,
-    call: &Call<'s>,
-) -> Result<Wording<'s>, AllocError> {
+    call: &WrittenFilter<'s>,
+) -> Result<Phrasing<'s>, AllocError> {
     let near = nearest(alloc, filters.names(), call.name, None)?;
     Ok(match near {
         Some(near) => {
             let words = "no filter is named `…`; did you mean `…`?";
-            Wording::quoting(call.from, words, call.name, near.name)
+            Phrasing::quoting(call.from, words, call.name, near.name)
         }
         None => match kind_of_filter(call.name) {
-            Some(words) => Wording::quoting(
+            Some(words) => Phrasing::quoting(
                 call.from,
                 "no filter is named `…`; ¤",
                 call.name,
                 words,
             ),
-            None => Wording::quoting(call.from, "no filter is named `…`", call.name, ""),
+            None => Phrasing::quoting(call.from, "no filter is named `…`", call.name, ""),
         },
     })
 }
@@ -101,25 +101,25 @@ pub fn miscounted<'s>(
     filters: &FilterRegistry,
     piece: &PlacedPiece<'s>,
     at: &'s str,
-) -> Result<Wording<'s>, AllocError> {
+) -> Result<Phrasing<'s>, AllocError> {
     let calls = calls(alloc, &piece.items)?;
     Ok(match refused(filters, &calls) {
         Some((call, filter)) => miscount(&call, bounds(filter)),
-        None => Wording::plain(at, "a filter takes another number of arguments"),
+        None => Phrasing::plain(at, "a filter takes another number of arguments"),
     })
 }
 
 /// Of a filter that takes a least and a greatest number of arguments, and other ones are given, or
 /// without a `:`.
-fn miscount<'s>(call: &Call<'s>, (least, most): (usize, usize)) -> Wording<'s> {
+fn miscount<'s>(call: &WrittenFilter<'s>, (least, most): (usize, usize)) -> Phrasing<'s> {
     let count = taken(call);
     let bound = if count > most { most } else { least };
     let noun = if bound == 1 { "argument" } else { "arguments" };
     let words = words_of_bounds(least, most, count);
-    Wording {
+    Phrasing {
         numbers: (bound, call.arguments),
         then: words_of_given(call),
-        ..Wording::quoting(call.from, words, call.name, noun)
+        ..Phrasing::quoting(call.from, words, call.name, noun)
     }
 }
 
@@ -138,7 +138,7 @@ fn words_of_bounds(least: usize, most: usize, count: usize) -> &'static str {
 }
 
 /// The words for the arguments that a filter is given.
-fn words_of_given(call: &Call<'_>) -> &'static str {
+fn words_of_given(call: &WrittenFilter<'_>) -> &'static str {
     if !call.has_colon && call.arguments > 0 {
         return ", after a `:`";
     }
@@ -153,7 +153,7 @@ fn words_of_given(call: &Call<'_>) -> &'static str {
 }
 
 /// How many arguments a filter is given: none without a `:`.
-fn taken(call: &Call<'_>) -> usize {
+fn taken(call: &WrittenFilter<'_>) -> usize {
     if call.has_colon { call.arguments } else { 0 }
 }
 
@@ -174,7 +174,10 @@ fn bounds(filter: RegisteredFilter) -> (usize, usize) {
 }
 
 /// The first call of a filter that no registered one has the name of.
-fn unregistered<'s>(filters: &FilterRegistry, calls: &[Call<'s>]) -> Option<Call<'s>> {
+fn unregistered<'s>(
+    filters: &FilterRegistry,
+    calls: &[WrittenFilter<'s>],
+) -> Option<WrittenFilter<'s>> {
     for call in calls {
         if filters.get(call.name).is_none() {
             return Some(*call);
@@ -186,8 +189,8 @@ fn unregistered<'s>(filters: &FilterRegistry, calls: &[Call<'s>]) -> Option<Call
 /// The first call of a filter that doesn't accept so many arguments.
 fn refused<'s>(
     filters: &FilterRegistry,
-    calls: &[Call<'s>],
-) -> Option<(Call<'s>, RegisteredFilter)> {
+    calls: &[WrittenFilter<'s>],
+) -> Option<(WrittenFilter<'s>, RegisteredFilter)> {
     for call in calls {
         if let Some(filter) = filters.get(call.name) {
             if !filter.accepts(taken(call)) {
@@ -200,14 +203,17 @@ fn refused<'s>(
 
 /// The filters of a chain, in order. The values after a name count as its arguments, also where
 /// the `:` is missing, up to the value of an argument with a name.
-fn calls<'s>(alloc: Global, items: &[PlacedItem<'s>]) -> Result<Vec<Call<'s>>, AllocError> {
+fn calls<'s>(
+    alloc: Global,
+    items: &[PlacedItem<'s>],
+) -> Result<Vec<WrittenFilter<'s>>, AllocError> {
     let mut calls = Vec::new(alloc);
     let mut is_name = false;
     for placed in items {
         match &placed.item {
             Item::Symbol(Symbol::Bar) => is_name = true,
             Item::Value(_, _) if is_name => {
-                calls.push(Call {
+                calls.push(WrittenFilter {
                     name: placed.spelling,
                     from: placed.from,
                     arguments: 0,
@@ -224,7 +230,7 @@ fn calls<'s>(alloc: Global, items: &[PlacedItem<'s>]) -> Result<Vec<Call<'s>>, A
     Ok(calls)
 }
 
-fn count_argument(calls: &mut Vec<Call<'_>>) {
+fn count_argument(calls: &mut Vec<WrittenFilter<'_>>) {
     if let Some(call) = calls.last_mut() {
         if !call.names_arguments {
             call.arguments = call.arguments.saturating_add(1);
@@ -232,7 +238,7 @@ fn count_argument(calls: &mut Vec<Call<'_>>) {
     }
 }
 
-fn see_colon(calls: &mut Vec<Call<'_>>) {
+fn see_colon(calls: &mut Vec<WrittenFilter<'_>>) {
     if let Some(call) = calls.last_mut() {
         if call.has_colon {
             call.names_arguments = true;

@@ -6,14 +6,14 @@ mod tags;
 
 use super::characters::{follows_dot, is_digit, is_in_word, is_letter, is_quote};
 use conditions::CONDITION;
-use liquid_lexer::{Delimiter, PlacedPiece};
+use liquid_lexer::{Delimiter, Expectation, PlacedPiece};
 use outputs::{OUTPUT, VALUE};
 use pieces::ANYWHERE;
 use tags::{ASSIGN, ELSE, LOOP, NAME, PARTIAL, SETTING, TAG};
 
 /// What kind of piece a fault is in.
 #[derive(Clone, Copy)]
-pub enum Site {
+pub enum FaultSite {
     Output,
     /// A tag, where its name is wanted.
     Name,
@@ -33,9 +33,9 @@ pub enum Site {
 #[derive(Clone, Copy)]
 pub struct Spot<'s> {
     pub kind: Delimiter,
-    pub site: Site,
-    /// What is wanted at it, in words.
-    pub wanted: &'static str,
+    pub site: FaultSite,
+    /// What is wanted at it.
+    pub wanted: Expectation,
     /// The item before it, or `^` where there is none.
     pub before: &'s str,
     /// The item at it, as far as one can be read.
@@ -51,8 +51,8 @@ pub struct Spot<'s> {
 /// What the message says of a habit, where one is met.
 pub fn advice(spot: &Spot<'_>) -> Option<&'static str> {
     match spot.site {
-        Site::Name => first_of(NAME, spot),
-        Site::Output => of_output(spot).or(of_any_piece(spot)),
+        FaultSite::Name => first_of(NAME, spot),
+        FaultSite::Output => of_output(spot).or(of_any_piece(spot)),
         _ => first_of(TAG, spot).or(of_tag(spot)).or(of_any_piece(spot)),
     }
 }
@@ -62,22 +62,22 @@ fn of_output(spot: &Spot<'_>) -> Option<&'static str> {
 }
 
 fn of_assign(spot: &Spot<'_>) -> Option<&'static str> {
-    let wording = first_of(ASSIGN, spot);
+    let phrasing = first_of(ASSIGN, spot);
     if spot.count < 2 {
-        wording.or(first_of(SETTING, spot))
+        phrasing.or(first_of(SETTING, spot))
     } else {
-        wording.or(of_value(spot))
+        phrasing.or(of_value(spot))
     }
 }
 
 fn of_tag(spot: &Spot<'_>) -> Option<&'static str> {
     match spot.site {
-        Site::Else => first_of(ELSE, spot),
-        Site::Condition => first_of(CONDITION, spot),
-        Site::Assign => of_assign(spot),
-        Site::Loop => first_of(LOOP, spot),
-        Site::Partial => first_of(PARTIAL, spot),
-        Site::Name | Site::Output | Site::Tag => None,
+        FaultSite::Else => first_of(ELSE, spot),
+        FaultSite::Condition => first_of(CONDITION, spot),
+        FaultSite::Assign => of_assign(spot),
+        FaultSite::Loop => first_of(LOOP, spot),
+        FaultSite::Partial => first_of(PARTIAL, spot),
+        FaultSite::Name | FaultSite::Output | FaultSite::Tag => None,
     }
 }
 
@@ -114,7 +114,7 @@ fn of_map(spot: &Spot<'_>) -> Option<&'static str> {
 fn of_sum(spot: &Spot<'_>) -> Option<&'static str> {
     let after = spot.rest.strip_prefix("+")?;
     let is_text = spot.before.starts_with(is_quote) || after.trim_start().starts_with(is_quote);
-    if is_text && !matches!(spot.site, Site::Condition) {
+    if is_text && !matches!(spot.site, FaultSite::Condition) {
         return Some("texts are joined by a filter, as `a | append: 'text'`");
     }
     None
@@ -123,8 +123,8 @@ fn of_sum(spot: &Spot<'_>) -> Option<&'static str> {
 /// What the message says of the first of these habits that fits, each on a line.
 fn first_of(habits: &'static str, spot: &Spot<'_>) -> Option<&'static str> {
     for habit in habits.lines() {
-        if let Some(wording) = wording_of(habit, spot) {
-            return Some(wording);
+        if let Some(phrasing) = phrasing_of(habit, spot) {
+            return Some(phrasing);
         }
     }
     None
@@ -133,11 +133,11 @@ fn first_of(habits: &'static str, spot: &Spot<'_>) -> Option<&'static str> {
 /// What the message says of a habit, where it fits: what stands before the fault (`^` for no item,
 /// empty for any), what stands at it (empty for anything), and what the message says, with a `¦`
 /// between them.
-fn wording_of(habit: &'static str, spot: &Spot<'_>) -> Option<&'static str> {
+fn phrasing_of(habit: &'static str, spot: &Spot<'_>) -> Option<&'static str> {
     let (before, after) = habit.split_once('¦')?;
-    let (found, wording) = after.split_once('¦')?;
+    let (found, phrasing) = after.split_once('¦')?;
     if (before.is_empty() || before == spot.before) && is_found(found, spot) {
-        return Some(wording);
+        return Some(phrasing);
     }
     None
 }
@@ -182,21 +182,21 @@ fn of_step(spot: &Spot<'_>) -> Option<&'static str> {
 }
 
 /// The site of a piece.
-pub fn site_of(piece: &PlacedPiece<'_>) -> Site {
+pub fn site_of(piece: &PlacedPiece<'_>) -> FaultSite {
     match piece.kind {
-        Delimiter::Output => Site::Output,
+        Delimiter::Output => FaultSite::Output,
         Delimiter::Tag => site_of_tag(piece.name),
     }
 }
 
-fn site_of_tag(name: &str) -> Site {
+fn site_of_tag(name: &str) -> FaultSite {
     match name {
-        "" => Site::Name,
-        "if" | "elsif" | "unless" => Site::Condition,
-        "else" => Site::Else,
-        "assign" => Site::Assign,
-        "for" | "tablerow" => Site::Loop,
-        "include" | "render" => Site::Partial,
-        _ => Site::Tag,
+        "" => FaultSite::Name,
+        "if" | "elsif" | "unless" => FaultSite::Condition,
+        "else" => FaultSite::Else,
+        "assign" => FaultSite::Assign,
+        "for" | "tablerow" => FaultSite::Loop,
+        "include" | "render" => FaultSite::Partial,
+        _ => FaultSite::Tag,
     }
 }

@@ -1,21 +1,22 @@
 //! Faults of items that aren't allowed where they stand.
 use super::characters::{begins_value, is_digit, is_letter, is_quote};
-use super::habits::{Site, Spot, advice, site_of};
-use super::wording::Wording;
+use super::habits::{FaultSite, Spot, advice, site_of};
+use super::phrasing::Phrasing;
+use super::wanted::words_of;
 use crate::language::Language;
-use liquid_lexer::{Delimiter, Fault, PlacedItem, PlacedPiece};
+use liquid_lexer::{Delimiter, Expectation, Fault, PlacedItem, PlacedPiece};
 
 /// Of an item that isn't allowed, or of a closer before which one is wanted.
-pub fn misplaced<'s>(language: &Language, fault: &Fault, piece: &PlacedPiece<'s>) -> Wording<'s> {
+pub fn misplaced<'s>(language: &Language, fault: &Fault, piece: &PlacedPiece<'s>) -> Phrasing<'s> {
     let spot = spot_of(fault, piece);
-    if let Some(wording) = meant(language, &spot, &piece.items) {
-        return wording;
+    if let Some(phrasing) = meant(language, &spot, &piece.items) {
+        return phrasing;
     }
-    if let Some(wording) = unquoted_file(&spot, &piece.items) {
-        return wording;
+    if let Some(phrasing) = unquoted_file(&spot, &piece.items) {
+        return phrasing;
     }
     match advice(&spot) {
-        Some(words) => Wording::plain(spot.rest, words),
+        Some(words) => Phrasing::plain(spot.rest, words),
         None => not_wanted(&spot, spot.found),
     }
 }
@@ -40,17 +41,14 @@ fn spot_of<'s>(fault: &Fault, piece: &PlacedPiece<'s>) -> Spot<'s> {
 }
 
 /// `found X where W is wanted`
-pub fn not_wanted<'s>(spot: &Spot<'s>, found: &'s str) -> Wording<'s> {
-    match spot.wanted.strip_suffix("the closer") {
-        Some(front) => {
-            let words = match spot.kind {
-                Delimiter::Output => "found `…` where ¤`}}` is wanted",
-                Delimiter::Tag => "found `…` where ¤`%}` is wanted",
-            };
-            Wording::quoting(spot.rest, words, found, front)
-        }
-        None => Wording::quoting(spot.rest, "found `…` where ¤ is wanted", found, spot.wanted),
-    }
+pub fn not_wanted<'s>(spot: &Spot<'s>, found: &'s str) -> Phrasing<'s> {
+    let wanted = words_of(spot.wanted);
+    let words = match spot.kind {
+        _ if !wanted.ends_in_closer => "found `…` where ¤ is wanted",
+        Delimiter::Output => "found `…` where ¤`}}` is wanted",
+        Delimiter::Tag => "found `…` where ¤`%}` is wanted",
+    };
+    Phrasing::quoting(spot.rest, words, found, wanted.words)
 }
 
 /// What the words of a chain or of an output show to be meant.
@@ -58,25 +56,23 @@ fn meant<'s>(
     language: &Language,
     spot: &Spot<'s>,
     items: &[PlacedItem<'s>],
-) -> Option<Wording<'s>> {
-    if let Some(wording) = decimal_comma(spot, items) {
-        return Some(wording);
+) -> Option<Phrasing<'s>> {
+    if let Some(phrasing) = decimal_comma(spot, items) {
+        return Some(phrasing);
     }
     match spot.wanted {
-        "`|` or the closer" => after_value(language, spot, items),
-        "the name of a filter" => in_place_of_filter(language, spot, items),
-        "the name of a variable" if !spot.found.is_empty() => Some(Wording::quoting(
+        Expectation::FilterOrCloser => after_value(language, spot, items),
+        Expectation::FilterName => in_place_of_filter(language, spot, items),
+        Expectation::VariableName if !spot.found.is_empty() => Some(Phrasing::quoting(
             spot.rest,
             words_of_name(spot.found),
             spot.found,
             "",
         )),
-        "`=`" if spot.count == 1 && spot.found.starts_with(is_letter) => Some(Wording::quoting(
-            spot.rest,
-            "a name is one word: write `…_…`",
-            spot.before,
-            spot.found,
-        )),
+        Expectation::EqualsSign if spot.count == 1 && spot.found.starts_with(is_letter) => {
+            let words = "a name is one word: write `…_…`";
+            Some(Phrasing::quoting(spot.rest, words, spot.before, spot.found))
+        }
         _ => None,
     }
 }
@@ -93,7 +89,7 @@ fn words_of_name(found: &str) -> &'static str {
 }
 
 /// What is meant by a number with a `,` and another one directly after it.
-fn decimal_comma<'s>(spot: &Spot<'s>, items: &[PlacedItem<'s>]) -> Option<Wording<'s>> {
+fn decimal_comma<'s>(spot: &Spot<'s>, items: &[PlacedItem<'s>]) -> Option<Phrasing<'s>> {
     let is_number = spot.before.starts_with(is_digit) && spot.before.ends_with(is_digit);
     if spot.found != "," || !is_number || !spot.rest.get(1..)?.starts_with(is_digit) {
         return None;
@@ -101,18 +97,18 @@ fn decimal_comma<'s>(spot: &Spot<'s>, items: &[PlacedItem<'s>]) -> Option<Wordin
     let number = items.get(spot.count.checked_sub(1)?)?;
     let words = "`…,…` is no whole number, and templates have no others; count in a smaller unit";
     let fraction = spelling_at(items, spot.count.saturating_add(1));
-    Some(Wording::quoting(number.from, words, spot.before, fraction))
+    Some(Phrasing::quoting(number.from, words, spot.before, fraction))
 }
 
 /// What is meant by the name of a file without quotes, in an `include` or a `render`.
-fn unquoted_file<'s>(spot: &Spot<'s>, items: &[PlacedItem<'s>]) -> Option<Wording<'s>> {
+fn unquoted_file<'s>(spot: &Spot<'s>, items: &[PlacedItem<'s>]) -> Option<Phrasing<'s>> {
     let name = items.first()?;
     let is_file = name.spelling.ends_with(".html") || name.spelling.ends_with(".liquid");
-    if !matches!(spot.site, Site::Partial) || !is_file {
+    if !matches!(spot.site, FaultSite::Partial) || !is_file {
         return None;
     }
     let words = "the name of a partial stands in quotes: write `'…'`";
-    Some(Wording::quoting(name.from, words, name.spelling, ""))
+    Some(Phrasing::quoting(name.from, words, name.spelling, ""))
 }
 
 /// What is meant by what stands in the place of a filter's name.
@@ -120,17 +116,17 @@ fn in_place_of_filter<'s>(
     language: &Language,
     spot: &Spot<'s>,
     items: &[PlacedItem<'s>],
-) -> Option<Wording<'s>> {
+) -> Option<Phrasing<'s>> {
     let next = spelling_at(items, spot.count.saturating_add(1));
     if spot.found == "|" && language.filters.get(next).is_some() {
         let words = "`||` is written `|`: write `| …`";
-        return Some(Wording::quoting(spot.rest, words, next, ""));
+        return Some(Phrasing::quoting(spot.rest, words, next, ""));
     }
     let (filter, step) = spot.found.split_once('.')?;
     language.filters.get(filter)?;
     let words =
         "a filter's name has no parts; `{% assign x = a | ¤ %}` keeps the value, and then `x.…` is its part";
-    Some(Wording::quoting(spot.rest, words, filter, step))
+    Some(Phrasing::quoting(spot.rest, words, filter, step))
 }
 
 /// What is meant by what stands where a filter or the closer is wanted.
@@ -138,15 +134,15 @@ fn after_value<'s>(
     language: &Language,
     spot: &Spot<'s>,
     items: &[PlacedItem<'s>],
-) -> Option<Wording<'s>> {
+) -> Option<Phrasing<'s>> {
     if is_adjacent(spot, items) {
-        if let Some(wording) = directly_after(spot) {
-            return Some(wording);
+        if let Some(phrasing) = directly_after(spot) {
+            return Some(phrasing);
         }
     }
     if language.filters.get(spot.found).is_some() {
         let words = "a filter follows a `|`: write `| …`";
-        return Some(Wording::quoting(spot.rest, words, spot.found, ""));
+        return Some(Phrasing::quoting(spot.rest, words, spot.found, ""));
     }
     match spot.count {
         0 => None,
@@ -156,28 +152,28 @@ fn after_value<'s>(
 }
 
 /// What is meant by the name of a tag at the front of an output.
-fn tag_in_output<'s>(language: &Language, spot: &Spot<'s>) -> Option<Wording<'s>> {
-    if !matches!(spot.site, Site::Output) || !is_tag(language, spot.before) {
+fn tag_in_output<'s>(language: &Language, spot: &Spot<'s>) -> Option<Phrasing<'s>> {
+    if !matches!(spot.site, FaultSite::Output) || !is_tag(language, spot.before) {
         return None;
     }
     let words = "`…` begins a tag: write `{% … .. %}`";
-    Some(Wording::quoting(spot.rest, words, spot.before, spot.before))
+    Some(Phrasing::quoting(spot.rest, words, spot.before, spot.before))
 }
 
 /// What is meant by what stands where the arguments of a filter may; the bar stands two items
 /// before it.
-fn in_arguments<'s>(spot: &Spot<'s>, bar: &str) -> Option<Wording<'s>> {
+fn in_arguments<'s>(spot: &Spot<'s>, bar: &str) -> Option<Phrasing<'s>> {
     if spot.rest.starts_with("=>") {
         return None;
     }
     if let Some(words) = sign_in_arguments(bar, spot.found) {
-        return Some(Wording::plain(spot.rest, words));
+        return Some(Phrasing::plain(spot.rest, words));
     }
     if !spot.found.starts_with(begins_value) {
         return None;
     }
     let words = one_more_argument(bar)?;
-    Some(Wording::quoting(spot.rest, words, spot.before, spot.found))
+    Some(Phrasing::quoting(spot.rest, words, spot.before, spot.found))
 }
 
 /// What the message says of a sign after a filter or an argument of one.
@@ -202,19 +198,19 @@ fn one_more_argument(bar: &str) -> Option<&'static str> {
 }
 
 /// What is meant by what directly follows a value.
-fn directly_after<'s>(spot: &Spot<'s>) -> Option<Wording<'s>> {
+fn directly_after<'s>(spot: &Spot<'s>) -> Option<Phrasing<'s>> {
     if spot.before.ends_with(']') && spot.found.starts_with(is_letter) {
         let words = "a `.` is missing: write `….…`";
-        return Some(Wording::quoting(spot.rest, words, spot.before, spot.found));
+        return Some(Phrasing::quoting(spot.rest, words, spot.before, spot.found));
     }
     if spot.before.ends_with(is_quote) && spot.found.starts_with(is_quote) {
         let words =
             "a text with a `'` in it stands between two `\"`, and one with a `\"` between two `'`";
-        return Some(Wording::plain(spot.rest, words));
+        return Some(Phrasing::plain(spot.rest, words));
     }
     if spot.count == 1 && spot.found == ":" && !spot.rest.starts_with("::") {
         let words = "found `:`; a part is written `a.b`, and arguments follow a filter's name";
-        return Some(Wording::plain(spot.rest, words));
+        return Some(Phrasing::plain(spot.rest, words));
     }
     None
 }

@@ -353,7 +353,7 @@ pub fn kind_of_filter(name: &str) -> Option<&'static str> {
 fn words_in(table: &'static str, name: &str) -> Option<&'static str> {
     for line in table.lines() {
         match line.split_once(": ") {
-            Some((known, wording)) if known == name => return Some(wording),
+            Some((known, phrasing)) if known == name => return Some(phrasing),
             _ => {}
         }
     }

@@ -1,20 +1,20 @@
 //! Numbers that aren't whole.
 use super::characters::{ends_value, is_digit, is_sign};
-use super::habits::{Site, Spot, site_of};
+use super::habits::{FaultSite, Spot, site_of};
 use super::items::front_before;
-use super::wording::Wording;
+use super::phrasing::Phrasing;
 use liquid_lexer::PlacedPiece;
 
 /// Of a number with a fraction: what it is in a smaller unit, where it can be computed with. It
 /// needs the `before` in front of it to be a text that is a number.
-pub fn no_whole<'s>(from: &'s str, before: &'static str, piece: &PlacedPiece<'s>) -> Wording<'s> {
+pub fn no_whole<'s>(from: &'s str, before: &'static str, piece: &PlacedPiece<'s>) -> Phrasing<'s> {
     let number = number_front(from);
     let Some((smaller, unit)) = in_smaller_unit(number) else {
         let words =
             "`…` is no whole number, and templates have no others; as a text, `'¤…'`, it can be shown and rounded";
-        return Wording {
+        return Phrasing {
             third: number,
-            ..Wording::quoting(from, words, number, before)
+            ..Phrasing::quoting(from, words, number, before)
         };
     };
     let words = if unit == 1 {
@@ -22,10 +22,10 @@ pub fn no_whole<'s>(from: &'s str, before: &'static str, piece: &PlacedPiece<'s>
     } else {
         words_of_fraction(piece)
     };
-    Wording {
+    Phrasing {
         third: number,
         numbers: (smaller, unit),
-        ..Wording::quoting(from, words, number, before)
+        ..Phrasing::quoting(from, words, number, before)
     }
 }
 
@@ -38,12 +38,12 @@ fn words_of_fraction(piece: &PlacedPiece<'_>) -> &'static str {
         (Some("divided_by"), _) => {
             "`…` is no whole number, and templates have no others; write `times: ² | divided_by: ¹`"
         }
-        (Some("plus" | "minus" | "modulo" | "at_least" | "at_most"), _) | (None, Site::Condition) =>
-            {
-                "`…` is no whole number, and templates have no others; count in a smaller unit, of which ² make 1, and write `¹`"
-            }
+        (Some("plus" | "minus" | "modulo" | "at_least" | "at_most"), _)
+        | (None, FaultSite::Condition) => {
+            "`…` is no whole number, and templates have no others; count in a smaller unit, of which ² make 1, and write `¹`"
+        }
         (Some("append" | "prepend" | "default" | "replace"), _)
-        | (None, Site::Output | Site::Assign) => {
+        | (None, FaultSite::Output | FaultSite::Assign) => {
             "`…` is no whole number, and templates have no others; as a text, `'¤…'`, it can be shown and rounded, and to compute count in a smaller unit, of which ² make 1, and write `¹`"
         }
         _ => "`…` is no whole number, and a whole one is wanted here",

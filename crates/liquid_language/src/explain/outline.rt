@@ -54,18 +54,18 @@ fn is_last(opener: &Opener<'_>) -> bool {
     }
 }
 
-/// What stands around the place with so many bytes of the source left: the pieces before it are
-/// read from the start, and can be.
+/// What stands around the place with so many bytes of the source remaining: the pieces before it
+/// are read from the start, and can be.
 pub fn outline_at<'s>(
     alloc: Global,
     source: &'s str,
     language: &Language,
-    left: usize,
+    remaining: usize,
 ) -> Result<Outline<'s>, AllocError> {
     let mut outline = Outline {
         open: Vec::new(alloc),
         at: "",
-        from: rest_of(source, left),
+        from: rest_of(source, remaining),
     };
     let mut rest = source;
     // each piece takes a byte at least
@@ -165,9 +165,9 @@ fn block_of(kind: BlockKind) -> Option<Block> {
     }
 }
 
-/// The source from the place on with so many bytes left.
-fn rest_of(source: &str, left: usize) -> &str {
+/// The source from the place on with so many bytes remaining.
+fn rest_of(source: &str, remaining: usize) -> &str {
     source
-        .get(source.len().saturating_sub(left)..)
+        .get(source.len().saturating_sub(remaining)..)
         .unwrap_or("")
 }

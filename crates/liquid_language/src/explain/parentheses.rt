@@ -1,9 +1,9 @@
 //! Parentheses that hold no range: calls, lists and conditions of other languages.
 use super::characters::is_letter;
 use super::filters::{meant_elsewhere, meant_here};
-use super::habits::{Site, Spot};
+use super::habits::{FaultSite, Spot};
 use super::items::{front_before, spelling_before};
-use super::wording::Wording;
+use super::phrasing::Phrasing;
 use crate::language::Language;
 use liquid_lexer::PlacedPiece;
 
@@ -12,7 +12,7 @@ pub fn in_parentheses<'s>(
     language: &Language,
     spot: &Spot<'s>,
     piece: &PlacedPiece<'s>,
-) -> Option<Wording<'s>> {
+) -> Option<Phrasing<'s>> {
     if !piece.rest.starts_with("(") || spot.at_item || spot.rest.starts_with("%}") {
         return None;
     }
@@ -23,19 +23,19 @@ pub fn in_parentheses<'s>(
     if is_call(spot, piece) {
         return Some(called(language, spot, piece.rest));
     }
-    let is_name = matches!(spot.site, Site::Loop) && spot.count == 0;
+    let is_name = matches!(spot.site, FaultSite::Loop) && spot.count == 0;
     if !is_name && is_list(piece.rest) {
         let words = "a list can't be written in a template; `'a,b' | split: ','` makes one";
-        return Some(Wording::plain(piece.rest, words));
+        return Some(Phrasing::plain(piece.rest, words));
     }
-    Some(Wording::plain(piece.rest, no_range(spot)?))
+    Some(Phrasing::plain(piece.rest, no_range(spot)?))
 }
 
 /// Of a filter with parentheses after its name.
-fn called_filter<'s>(language: &Language, spot: &Spot<'s>, opening: &'s str) -> Wording<'s> {
+fn called_filter<'s>(language: &Language, spot: &Spot<'s>, opening: &'s str) -> Phrasing<'s> {
     if language.filters.get(spot.before).is_none() {
-        if let Some(wording) = meant_elsewhere(&language.filters, spot.before, opening) {
-            return wording;
+        if let Some(phrasing) = meant_elsewhere(&language.filters, spot.before, opening) {
+            return phrasing;
         }
     }
     let words = if is_empty(spot, opening) {
@@ -43,7 +43,7 @@ fn called_filter<'s>(language: &Language, spot: &Spot<'s>, opening: &'s str) -> 
     } else {
         "arguments follow a `:`: write `…: ..` for `…(..)`"
     };
-    Wording::quoting(opening, words, spot.before, spot.before)
+    Phrasing::quoting(opening, words, spot.before, spot.before)
 }
 
 /// Whether the parentheses are empty.
@@ -75,18 +75,18 @@ fn is_list(opening: &str) -> bool {
 }
 
 /// Of a name with parentheses after it.
-fn called<'s>(language: &Language, spot: &Spot<'s>, opening: &'s str) -> Wording<'s> {
-    if let Site::Condition = spot.site {
+fn called<'s>(language: &Language, spot: &Spot<'s>, opening: &'s str) -> Phrasing<'s> {
+    if let FaultSite::Condition = spot.site {
         let words =
             "a condition has no calls; write `a contains 'text'`, or `assign` the value before it";
-        return Wording::plain(opening, words);
+        return Phrasing::plain(opening, words);
     }
     match spot.before.rsplit_once('.') {
         Some((front, step)) => called_step(language, front, step, opening),
         None => {
             let words =
                 "`…(..)` isn't known: a filter, as `a | size`, stands for a call, and parentheses hold a range, as `(1..5)`";
-            Wording::quoting(opening, words, spot.before, "")
+            Phrasing::quoting(opening, words, spot.before, "")
         }
     }
 }
@@ -97,30 +97,30 @@ fn called_step<'s>(
     front: &'s str,
     step: &'s str,
     opening: &'s str,
-) -> Wording<'s> {
+) -> Phrasing<'s> {
     if language.filters.get(step).is_some() {
         let words = "a filter follows a `|`: write `… | …`";
-        return Wording::quoting(opening, words, front, step);
+        return Phrasing::quoting(opening, words, front, step);
     }
     if let Some(filter) = meant_here(&language.filters, step) {
-        return Wording::quoting(opening, "write `… | ¤`", front, filter);
+        return Phrasing::quoting(opening, "write `… | ¤`", front, filter);
     }
     match step {
         "get" => {
             let words = "write `….name` or `…['name']` for a part of `…`";
-            Wording {
+            Phrasing {
                 third: front,
-                ..Wording::quoting(opening, words, front, front)
+                ..Phrasing::quoting(opening, words, front, front)
             }
         }
         "items" | "each" | "entries" | "keys" | "values" => {
             let words =
                 "a `for` goes over a map itself and gives pairs: `pair[0]` is the key, `pair[1]` the value";
-            Wording::plain(opening, words)
+            Phrasing::plain(opening, words)
         }
         _ => {
             let words = "`….…()` isn't known; a filter, as `a | size`, stands for a call";
-            Wording::quoting(opening, words, front, step)
+            Phrasing::quoting(opening, words, front, step)
         }
     }
 }
@@ -128,13 +128,13 @@ fn called_step<'s>(
 /// What the message says of parentheses that hold no range, where nothing is called.
 fn no_range(spot: &Spot<'_>) -> Option<&'static str> {
     match spot.site {
-        Site::Condition => {
+        FaultSite::Condition => {
             Some("a condition has no parentheses; put one `{% if %}` inside another")
         }
-        Site::Loop if spot.count == 0 => {
+        FaultSite::Loop if spot.count == 0 => {
             Some("a loop has one name and no parentheses around it, as `{% for i in list %}`")
         }
-        Site::Loop => Some("a range has two ends and two dots between them, as `(1..5)`"),
+        FaultSite::Loop => Some("a range has two ends and two dots between them, as `(1..5)`"),
         _ if spot.rest.starts_with("}}") => None,
         _ => Some(
             "parentheses hold a range alone, as `(1..5)`; a filter, as `a | size`, stands for a call",

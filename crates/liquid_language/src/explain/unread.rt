@@ -7,9 +7,9 @@ use super::names::meant_tag;
 use super::numbers::{is_fraction, no_whole, number_front};
 use super::outline::Outline;
 use super::parentheses::in_parentheses;
-use super::wording::Wording;
+use super::phrasing::Phrasing;
 use crate::language::Language;
-use liquid_lexer::{Delimiter, Fault, FaultKind, PlacedPiece};
+use liquid_lexer::{Delimiter, Expectation, Fault, FaultKind, PlacedPiece};
 
 /// The words that are values, and no names.
 static LITERALS: [&str; 4] = ["nil", "null", "true", "false"];
@@ -20,16 +20,16 @@ pub fn unread<'s>(
     fault: &Fault,
     outline: &Outline<'s>,
     piece: &PlacedPiece<'s>,
-) -> Wording<'s> {
+) -> Phrasing<'s> {
     if let FaultKind::Unclosed = fault.kind {
         return unclosed(outline, piece);
     }
     if let Some(words) = foreign_tag(language, piece) {
-        return Wording::plain(outline.at, words);
+        return Phrasing::plain(outline.at, words);
     }
     if !is_tag(language, piece.name) && !piece.name.is_empty() && piece.rest.starts_with(".") {
         let words = "no tag is named `…`; a value is shown by `{{ … }}`";
-        return Wording::quoting(outline.at, words, piece.name, piece.name);
+        return Phrasing::quoting(outline.at, words, piece.name, piece.name);
     }
     unread_item(language, fault, outline, piece)
 }
@@ -48,18 +48,18 @@ fn unread_item<'s>(
     fault: &Fault,
     outline: &Outline<'s>,
     piece: &PlacedPiece<'s>,
-) -> Wording<'s> {
+) -> Phrasing<'s> {
     let from = outline.from;
     match fault.kind {
         FaultKind::NumberLiteral => {
             let words =
                 "`…` is beyond the whole numbers of 64 bits, from -9223372036854775808 to 9223372036854775807";
-            Wording::quoting(from, words, number_front(from), "")
+            Phrasing::quoting(from, words, number_front(from), "")
         }
         FaultKind::FloatLiteral => no_whole(from, "", piece),
         FaultKind::StateWord => {
             let words = "`empty` and `blank` aren't known; compare with `''`, or `.size` with 0";
-            Wording::plain(from, words)
+            Phrasing::plain(from, words)
         }
         _ => unreadable(language, fault, outline, piece),
     }
@@ -67,12 +67,12 @@ fn unread_item<'s>(
 
 /// Of a source that ends inside a piece, which is reported at its opener, or inside a text, which
 /// is reported at its quote.
-fn unclosed<'s>(outline: &Outline<'s>, piece: &PlacedPiece<'s>) -> Wording<'s> {
+fn unclosed<'s>(outline: &Outline<'s>, piece: &PlacedPiece<'s>) -> Phrasing<'s> {
     match outline.from.get(..1) {
         Some(quote) => unclosed_text(outline.from, quote, piece),
         None => {
             let words = "this `¤` has no `¤`";
-            Wording::quoting(
+            Phrasing::quoting(
                 outline.at,
                 words,
                 opener_word(piece.kind),
@@ -83,13 +83,13 @@ fn unclosed<'s>(outline: &Outline<'s>, piece: &PlacedPiece<'s>) -> Wording<'s> {
 }
 
 /// Of a source that ends inside a text.
-fn unclosed_text<'s>(from: &'s str, quote: &'s str, piece: &PlacedPiece<'_>) -> Wording<'s> {
+fn unclosed_text<'s>(from: &'s str, quote: &'s str, piece: &PlacedPiece<'_>) -> Phrasing<'s> {
     let words = if escapes_quote(piece) {
         "the text that begins here has no closing `¤`; `\\` escapes nothing, and a text stands between two `'` or two `\"`"
     } else {
         "the text that begins here has no closing `¤`"
     };
-    Wording::quoting(from, words, quote, "")
+    Phrasing::quoting(from, words, quote, "")
 }
 
 /// Whether a text of the piece ends by a `\` before its quote.
@@ -108,35 +108,35 @@ fn unreadable<'s>(
     fault: &Fault,
     outline: &Outline<'s>,
     piece: &PlacedPiece<'s>,
-) -> Wording<'s> {
+) -> Phrasing<'s> {
     let spot = spot_of(fault, outline.from, piece);
-    if let Some(wording) = in_parentheses(language, &spot, piece) {
-        return wording;
+    if let Some(phrasing) = in_parentheses(language, &spot, piece) {
+        return phrasing;
     }
-    if let Some(wording) = in_value(&spot, outline.at, piece) {
-        return wording;
+    if let Some(phrasing) = in_value(&spot, outline.at, piece) {
+        return phrasing;
     }
-    if let Some(wording) = after_text(&spot, piece) {
-        return wording;
+    if let Some(phrasing) = after_text(&spot, piece) {
+        return phrasing;
     }
     if spot.before == "<" && spot.rest.starts_with("/") {
         return before_html(&spot, outline.at);
     }
     match advice(&spot) {
-        Some(words) => Wording::plain(spot.rest, words),
+        Some(words) => Phrasing::plain(spot.rest, words),
         None => with_opener(found_there(&spot), outline.at, spot.kind),
     }
 }
 
 /// Of a piece in which a text holds the closer, so that the piece goes on after it.
-fn after_text<'s>(spot: &Spot<'s>, piece: &PlacedPiece<'s>) -> Option<Wording<'s>> {
+fn after_text<'s>(spot: &Spot<'s>, piece: &PlacedPiece<'s>) -> Option<Phrasing<'s>> {
     let closer = closer_word(spot.kind);
     for placed in &piece.items {
         if placed.spelling.starts_with(is_quote) && placed.spelling.contains(closer) {
             let words = "found `…`; the text of § holds `¤`: is its closing quote missing?";
-            return Some(Wording {
+            return Some(Phrasing {
                 other: placed.from,
-                ..Wording::quoting(spot.rest, words, first_word(spot.rest, spot.kind), closer)
+                ..Phrasing::quoting(spot.rest, words, first_word(spot.rest, spot.kind), closer)
             });
         }
     }
@@ -144,11 +144,11 @@ fn after_text<'s>(spot: &Spot<'s>, piece: &PlacedPiece<'s>) -> Option<Wording<'s
 }
 
 /// Of an end of HTML before the closer.
-fn before_html<'s>(spot: &Spot<'s>, at: &'s str) -> Wording<'s> {
+fn before_html<'s>(spot: &Spot<'s>, at: &'s str) -> Phrasing<'s> {
     let words = "`</` is of HTML, and the `¤` of § has no `¤`";
-    Wording {
+    Phrasing {
         other: at,
-        ..Wording::quoting(
+        ..Phrasing::quoting(
             spot.rest,
             words,
             opener_word(spot.kind),
@@ -174,17 +174,17 @@ fn spot_of<'s>(fault: &Fault, from: &'s str, piece: &PlacedPiece<'s>) -> Spot<'s
 
 /// What the message says of the end of the source, or of the value that the fault is in, at the end
 /// of what was read of the piece, which begins at the other place.
-fn in_value<'s>(spot: &Spot<'s>, at: &'s str, piece: &PlacedPiece<'s>) -> Option<Wording<'s>> {
+fn in_value<'s>(spot: &Spot<'s>, at: &'s str, piece: &PlacedPiece<'s>) -> Option<Phrasing<'s>> {
     if matches!(spot.rest.trim_end(), "-" | ".") {
         return Some(at_end(spot, at));
     }
     let front = front_before(piece.rest, spot.rest);
-    if spot.wanted == "a literal without a step" {
+    if let Expectation::LiteralWithoutStep = spot.wanted {
         return Some(step_of_literal(spot.rest, front));
     }
     if spot.rest.starts_with("]") && front.trim_end().ends_with("[") {
         let words = "a place or a key is wanted in the brackets, as `a[0]` or `a['b']`";
-        return Some(Wording::plain(spot.rest, words));
+        return Some(Phrasing::plain(spot.rest, words));
     }
     if is_fraction(spot) {
         return Some(no_whole(spot.rest, "0", piece));
@@ -193,25 +193,25 @@ fn in_value<'s>(spot: &Spot<'s>, at: &'s str, piece: &PlacedPiece<'s>) -> Option
 }
 
 /// What the message says of a fault in brackets, after what was read of the value.
-fn in_brackets<'s>(spot: &Spot<'s>, front: &str) -> Option<Wording<'s>> {
-    if spot.wanted == "`]`" && spot.rest.starts_with(":") {
+fn in_brackets<'s>(spot: &Spot<'s>, front: &str) -> Option<Phrasing<'s>> {
+    if matches!(spot.wanted, Expectation::ClosingBracket) && spot.rest.starts_with(":") {
         let words = "a part of a list is taken by a filter, as `a | slice: 0, 2`";
-        return Some(Wording::plain(spot.rest, words));
+        return Some(Phrasing::plain(spot.rest, words));
     }
     let after = spot.rest.trim_start_matches(is_digit).strip_prefix(".")?;
     if front.ends_with("[") && after.starts_with(is_letter) {
         let words = "a `]` is missing after the place, as in `a[0].b`";
-        return Some(Wording::plain(spot.rest, words));
+        return Some(Phrasing::plain(spot.rest, words));
     }
     None
 }
 
 /// Of a piece that the end of the source cuts off.
-fn at_end<'s>(spot: &Spot<'s>, at: &'s str) -> Wording<'s> {
+fn at_end<'s>(spot: &Spot<'s>, at: &'s str) -> Phrasing<'s> {
     let words = "the source ends here, and the `¤` of § has no `¤`";
-    Wording {
+    Phrasing {
         other: at,
-        ..Wording::quoting(
+        ..Phrasing::quoting(
             spot.rest,
             words,
             opener_word(spot.kind),
@@ -221,10 +221,10 @@ fn at_end<'s>(spot: &Spot<'s>, at: &'s str) -> Wording<'s> {
 }
 
 /// Of a step after a literal, with which the front ends.
-fn step_of_literal<'s>(from: &'s str, front: &str) -> Wording<'s> {
+fn step_of_literal<'s>(from: &'s str, front: &str) -> Phrasing<'s> {
     let step = from.get(..1).unwrap_or("");
     let words = "`¤` is a value without parts; a name is wanted before `¤`";
-    Wording::quoting(from, words, literal_at_end(front), step)
+    Phrasing::quoting(from, words, literal_at_end(front), step)
 }
 
 /// The literal that a text ends with.
@@ -238,36 +238,37 @@ fn literal_at_end(text: &str) -> &'static str {
 }
 
 /// `found X where W is wanted`
-fn found_there<'s>(spot: &Spot<'s>) -> Wording<'s> {
+fn found_there<'s>(spot: &Spot<'s>) -> Phrasing<'s> {
     let found = first_word(spot.rest, spot.kind);
     if begins_beyond(spot.rest) {
         let words =
             "found `…`; a name has the letters a to z, digits, `_` and `-`, and others as in `a['é']`";
-        return Wording::quoting(spot.rest, words, found, "");
+        return Phrasing::quoting(spot.rest, words, found, "");
     }
-    if spot.wanted == "a value" && spot.found.is_empty() && spot.count > 0 {
-        return Wording::quoting(spot.rest, "found `…`, which means nothing here", found, "");
+    let is_value = matches!(spot.wanted, Expectation::Value);
+    if is_value && spot.found.is_empty() && spot.count > 0 {
+        return Phrasing::quoting(spot.rest, "found `…`, which means nothing here", found, "");
     }
-    if spot.wanted == "a whole number" {
+    if let Expectation::WholeNumber = spot.wanted {
         let words = "found `…` where a whole number is wanted, which has digits alone";
-        return Wording::quoting(spot.rest, words, found, "");
+        return Phrasing::quoting(spot.rest, words, found, "");
     }
     not_wanted(spot, found)
 }
 
 /// Adds where the piece opens that may lack its closer, if that is on another line.
-fn with_opener<'s>(wording: Wording<'s>, at: &'s str, kind: Delimiter) -> Wording<'s> {
-    if !front_before(at, wording.from).contains('\n') {
-        return wording;
+fn with_opener<'s>(phrasing: Phrasing<'s>, at: &'s str, kind: Delimiter) -> Phrasing<'s> {
+    if !front_before(at, phrasing.from).contains('\n') {
+        return phrasing;
     }
     let then = match kind {
         Delimiter::Output => "; is the `{{` of § closed?",
         Delimiter::Tag => "; is the `{%` of § closed?",
     };
-    Wording {
+    Phrasing {
         then,
         other: at,
-        ..wording
+        ..phrasing
     }
 }
 

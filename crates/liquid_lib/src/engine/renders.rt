@@ -27,7 +27,7 @@ pub(super) fn run_render<'d, W: CountedWrite, H: NamedFilters>(
     alloc: Global,
     context: &RunContext<'d, H>,
     name: &Expression,
-    bindings: &[Binding],
+    bindings: &'d [Binding],
     out: &mut Output<'_, W>,
     state: &State<'d>,
 ) -> Result<()>
@@ -73,7 +73,7 @@ pub(super) fn run_render_each<'d, W: CountedWrite, H: NamedFilters>(
         partials: &*context.partials,
         host: &*context.host,
         depth: context.depth,
-        positions: context.positions,
+        places: context.places,
     };
     let mut at = 0;
     while at < source.count {

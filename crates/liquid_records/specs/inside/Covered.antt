@@ -6,7 +6,7 @@ use Rattle.liquid_model.specs.Maps.{Map}
 use Rattle.liquid_model.specs.Texts.{Text}
 use Rattle.liquid_model.specs.View.{view}
 use Rattle.liquid_model.specs.declared.value.Value.{Value}
-use Rattle.liquid_site.specs.Steps.{with_fact}
+use Rattle.liquid_site.specs.Steps.{with_value}
 
 -- each name, in turn, with the value that it had
 abbrev pub Covered : Type 0
@@ -15,7 +15,7 @@ Covered = List (Text × Option Datum)
 -- the map once what was covered stands there again, the last of it first
 abbrev pub uncovered : Covered → Map Datum → Map Datum
 uncovered [] m = m
-uncovered (c ∷ cs) m = with_fact (uncovered cs m) c.0 c.1
+uncovered (c ∷ cs) m = with_value (uncovered cs m) c.0 c.1
 
 abbrev pub covered_view : List (String Global × Option Value) → Covered
 covered_view cs = map (λ c. (string_bytes c.0, option_map view c.1)) cs

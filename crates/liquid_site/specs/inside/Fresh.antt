@@ -1,18 +1,24 @@
 -- Pages that are rendered again, and put in the place of those before.
-use Rattle.std.specs.Prelude.{Bool, ◌||◌, List, [], ◌∷◌, filter, map, String, string_bytes}
+use Rattle.std.specs.Prelude.{Bool, true, List, [], ◌∷◌, filter, map, String, string_bytes}
+use Rattle.std.specs.List.{list_any}
 use Rattle.std.specs.declared.alloc.Global.{Global}
 use Rattle.liquid_model.specs.Texts.{Text}
 use Rattle.liquid_evaluation.specs.Tree.{Nodes}
 use Rattle.liquid_evaluation.specs.Names.{mentioned, nodes_names}
 use Rattle.liquid_language.specs.Entries.{placed}
+use Rattle.liquid_syntax.specs.NameSets.{held}
 use Rattle.liquid_site.specs.Contents.{Trees}
+use Rattle.liquid_site.specs.declared.selection.Selection.{Selection}
+use Rattle.liquid_site.specs.declared.selection.Selection.TheVariants.{All, Naming, NamingAny}
 
--- all pages, or those whose template mentions the name
-abbrev pub wanted : Bool → Text → Nodes → Bool
-wanted all name nodes = all || mentioned (nodes_names nodes) name
+-- all pages, or those whose template mentions the name or one of the names
+abbrev pub selects : Selection → Nodes → Bool
+selects All nodes = true
+selects (Naming name) nodes = mentioned (nodes_names nodes) name.now
+selects (NamingAny names) nodes = list_any (held names.now) (nodes_names nodes)
 
-abbrev pub wanted_of : (Nodes → Bool) → Trees → Trees
-wanted_of test pages = filter (λ p. test p.1) pages
+abbrev pub selected : (Nodes → Bool) → Trees → Trees
+selected test pages = filter (λ p. test p.1) pages
 
 module _ {P : Type 0} where
   abbrev pub all_placed : List (Text × P) → List (Text × P) → List (Text × P)

@@ -7,7 +7,7 @@ use Rattle.liquid_site.specs.declared.change.Change.{Change}
 use Rattle.liquid_site.specs.declared.change.Change.TheVariants.{SetPage, SetPartial}
 use Rattle.liquid_site.specs.declared.site.Site.{Site}
 use Rattle.liquid_site_files.specs.Refusals.{RefusesSource}
-use Rattle.liquid_site_files.specs.declared.take.Why.{Why}
+use Rattle.liquid_site_files.specs.declared.take.RefusalReason.{RefusalReason}
 
 -- a change was accepted, or its source is no template and nothing changed
 abbrev pub TakesChange : Change → Site → Site → Type 0
@@ -15,7 +15,7 @@ TakesChange change old new = Accepted change old new ⊎ (HasBadSource (language
     (contents_of new ≡ contents_of old))
 
 -- a change is refused for its source, and one without a source is not
-abbrev pub RefusesChange : Language → Change → Option Why → Type 0
+abbrev pub RefusesChange : Language → Change → Option RefusalReason → Type 0
 RefusesChange l (SetPage name source) why = RefusesSource l (string_bytes source) why
 RefusesChange l (SetPartial name source) why = RefusesSource l (string_bytes source) why
 RefusesChange l _ why = why ≡ None

@@ -1,5 +1,6 @@
 -- What is asked of each visitor of names.
 use Rattle.std.specs.Prelude.{◌≡◌, Bool, true, false, ◌||◌, List, [], ◌++◌}
+use Rattle.std.specs.List.{list_any}
 use Rattle.std.proofs.lemmas.List.Folds.{list_any-append}
 use mathlib.Core.Path.{refl, sym, ap, ◌∙◌, fun_ext}
 use Rattle.liquid_core.specs.Environment.{Names}
@@ -7,6 +8,10 @@ use Rattle.liquid_model.specs.Texts.{Text, same_text}
 use Rattle.liquid_evaluation.specs.Names.{mentioned}
 use Rattle.liquid_evaluation.specs.Telling.{IsTelling}
 use Rattle.liquid_syntax.specs.NameSets.{added, Looks, Gathers}
+
+pub any_both : (xs ys : List Text) (N : Names) → list_any N (xs ++ ys) ≡
+    (list_any N xs || list_any N ys)
+any_both xs ys N = list_any-append N xs ys
 
 pub mentioned_both : (xs ys : List Text) (name : Text) → mentioned (xs ++ ys) name ≡
     (mentioned xs name || mentioned ys name)
@@ -30,18 +35,18 @@ added_both xs ys h =
     fun_ext (λ name. ap (λ b. h name || b) (mentioned_both xs ys name) ∙ sym
     (or_assoc (h name) (mentioned xs name) (mentioned ys name)))
 
-pub looks : {V : Type 0} (wanted : V → Text) → IsTelling (Looks wanted)
+pub looks : {V : Type 0} (wanted : V → Names) → IsTelling (Looks wanted)
 looks wanted = record {
   none = λ v. (refl, refl);
   both = λ u v w xs ys b h k. (
     k.0 ∙ h.0,
-    k.1 ∙ ap (λ x. mentioned ys (wanted x)) h.0 ∙ ap
-        (λ a. a || mentioned ys (wanted u)) h.1 ∙ sym (mentioned_both xs ys (wanted u)),
+    k.1 ∙ ap (λ x. list_any (wanted x) ys) h.0 ∙ ap
+        (λ a. a || list_any (wanted u) ys) h.1 ∙ sym (any_both xs ys (wanted u)),
   );
   ends = λ u v xs ys h. (
     h.0,
-    ap (λ a. a || mentioned ys (wanted u)) h.1 ∙ sym
-        (mentioned_both xs ys (wanted u)),
+    ap (λ a. a || list_any (wanted u) ys) h.1 ∙ sym
+        (any_both xs ys (wanted u)),
   );
 }
 

@@ -18,7 +18,7 @@ use crate::loop_nodes::{For, TableRow};
 use crate::node::{Node, TwoBodies};
 use crate::value_items::{Separators, read_values};
 use liquid_language::{Block, BlockKind, Control};
-use liquid_lexer::{FaultKind, Item, ParseError, is_over, next_value};
+use liquid_lexer::{Expectation, FaultKind, Item, ParseError, is_over, next_value};
 use std::alloc::Global;
 use std::collections::VecDeque;
 
@@ -47,7 +47,7 @@ pub(super) fn read_block(
                 read_table_row(alloc, items, at),
             )
         }
-        BlockKind::Raw | BlockKind::Comment => Err(expected_before(at, items, "the closer")),
+        BlockKind::Raw | BlockKind::Comment => Err(expected_before(at, items, Expectation::Closer)),
     }
 }
 
@@ -165,10 +165,10 @@ fn read_case(alloc: Global, items: VecDeque<Item<'_>>, at: &str) -> Result<Node,
 {
     let mut items = items;
     let Some(target) = next_value(&mut items) else {
-        return Err(expected_before(at, items, "a value"));
+        return Err(expected_before(at, items, Expectation::Value));
     };
     if is_over(&items) {
         return Ok(Node::Case(target, Vec::new(alloc), 0));
     }
-    Err(expected_before(at, items, "the closer"))
+    Err(expected_before(at, items, Expectation::Closer))
 }

@@ -12,7 +12,7 @@ use crate::build::{Stage, Statement};
 use crate::chain_items::{expected_before, read_chain};
 use crate::node::Node;
 use liquid_language::{Block, Language};
-use liquid_lexer::{FaultKind, Item, ParseError, Symbol, is_over, next_word, skip};
+use liquid_lexer::{Expectation, FaultKind, Item, ParseError, Symbol, is_over, next_word, skip};
 use std::alloc::Global;
 use std::collections::VecDeque;
 
@@ -53,7 +53,7 @@ pub(super) fn read_bare(
     if items.is_empty() {
         Ok(statement_of(tag))
     } else {
-        Err(expected_before(at, items, "the closer"))
+        Err(expected_before(at, items, Expectation::Closer))
     }
 }
 
@@ -65,12 +65,12 @@ pub(super) fn read_word(items: VecDeque<Item<'_>>, at: &str) -> Result<String, P
 {
     let mut items = items;
     let Some(name) = next_word(&mut items) else {
-        return Err(expected_before(at, items, "the name of a variable"));
+        return Err(expected_before(at, items, Expectation::VariableName));
     };
     if is_over(&items) {
         return Ok(name);
     }
-    Err(expected_before(at, items, "the closer"))
+    Err(expected_before(at, items, Expectation::Closer))
 }
 
 /// `name = chain`
@@ -86,10 +86,10 @@ pub(super) fn read_assign(
 {
     let mut items = items;
     let Some(name) = next_word(&mut items) else {
-        return Err(expected_before(at, items, "the name of a variable"));
+        return Err(expected_before(at, items, Expectation::VariableName));
     };
     if !skip(&mut items, Symbol::Assign) {
-        return Err(expected_before(at, items, "`=`"));
+        return Err(expected_before(at, items, Expectation::EqualsSign));
     }
     Ok(Statement::Leaf(Node::Assign(name, read_chain(alloc, &language.filters, items, at)?)))
 }

@@ -1,4 +1,4 @@
-use Rattle.std.proofs.Common.{subst}
+use Rattle.std.proofs.Common.{subst, map}
 use Rattle.std.proofs.lemmas.Result.{err_from_is_err_and}
 use Rattle.liquid_core.specs.FilterAnswers.{AnswersIf}
 use Rattle.liquid_core.specs.States.{environment_of}
@@ -21,3 +21,9 @@ returns g c =
     one_call within (call_of answer c.args.call.now.args.now) (environment_of c.args.state.now) (view c.args.input.now) (arguments_view c.in_ok-arguments.arguments) c.evaluate-answer.result
     c.in_ok-arguments.ensures.values
     (subst (λ ds. AnswersIf within view c.evaluate-answer.result (answer (view c.args.input.now) ds)) c.as_slice.ensures c.evaluate-answer.ensures)
+
+pub returns-in-Some : goal.returns-in-Some
+returns-in-Some g c =
+    let answer = g.F.Filter.answer c.args.call.now.filter in
+    one_call (g.F.Filter.within c.args.call.now.filter) (call_of answer c.args.call.now.args.now) (environment_of c.args.state.now) (view c.args.input.now) (map view c.in-Some.lent.now) c.evaluate.result
+    c.in-Some.ensures.values c.evaluate.ensures

@@ -125,7 +125,7 @@ planned_items-items-preserved t c =
     let going : (after_end_array l.reader ≡ None) × (c.take_end_array.new.self ≡ l.reader) = grind arith in
     let done = c.in_ok-item.ensures in
     let v = c.in_ok-item.item in
-    let r = c.read_planned.new.reader in
+    let r = c.read_item.new.reader in
     let less : length r < length l.reader = rw (← going.1) done.shorter in
     let turn = item_read p n l.reader r done.ok.0 (omega (arith, l.invariant.1)) going.0 (rw (← going.1) done.ok.1) in (
       n - 1,
@@ -219,3 +219,8 @@ read_planned-returns-in_ok-value-in-Parts-clause-ok t c =
     let same : use_view c.args.asked.now ≡ parts (members_view c.in-Parts.members.entries) (turns_view c.in-Parts.items) =
     ap use_view c.in-Parts.is ∙ view-Parts c.in-Parts.members c.in-Parts.items in
     subst (λ u. IsPlanned u c.args.depth c.args.reader.now (view c.in_ok-value-in-Parts.value) c.read_parts.new.reader) (sym same) c.in_ok-value-in-Parts.ensures.ok
+
+pub read_item-returns-in_ok-whole-in-Whole-clause-ok : goal.read_item-returns-in_ok-whole-in-Whole-clause-ok
+read_item-returns-in_ok-whole-in-Whole-clause-ok t c =
+    let done = c.in_ok-whole-in-Whole.ensures in
+    (view c.in_ok-whole-in-Whole.whole, done.ok, alike_equal (use_view c.args.asked.now) _ _ refl)

@@ -13,16 +13,19 @@ use Rattle.liquid_json.proofs.After.{after}
 use Rattle.liquid_json.proofs.planned.+planned.Given as goal
 
 abbrev pub decreases-read_planned : goal.decreases-read_planned
-decreases-read_planned l = 3 * l.depth + 1
+decreases-read_planned l = 4 * l.depth + 1
 
 abbrev pub decreases-read_parts : goal.decreases-read_parts
-decreases-read_parts l = 3 * l.depth
+decreases-read_parts l = 4 * l.depth
+
+abbrev pub decreases-read_item : goal.decreases-read_item
+decreases-read_item l = 4 * l.depth + 2
 
 abbrev pub decreases-planned_items : goal.decreases-planned_items
-decreases-planned_items l = 3 * l.depth + 2
+decreases-planned_items l = 4 * l.depth + 3
 
 abbrev pub decreases-planned_pairs : goal.decreases-planned_pairs
-decreases-planned_pairs l = 3 * l.depth + 2
+decreases-planned_pairs l = 4 * l.depth + 3
 
 -- whatever items are left, and whatever is built of them: with those before, all items and what is built of them
 abbrev pub invariant-planned_items-items : goal.invariant-planned_items-items

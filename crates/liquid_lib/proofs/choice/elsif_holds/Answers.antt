@@ -5,4 +5,4 @@ use Rattle.liquid_evaluation.proofs.Calls.{faulted_told}
 use Rattle.liquid_lib.proofs.choice.elsif_holds.Goals as goal
 
 pub returns-in-Err : goal.returns-in-Err
-returns-in-Err c = faulted_told c.in-Err.fault.kind c.located.result.kind (truth_of (condition_view c.args.condition.now) (environment_of c.args.state.now)) c.located.ensures c.in-Err.ensures
+returns-in-Err c = faulted_told c.in-Err.fault.kind c.located_elsif.result.kind (truth_of (condition_view c.args.condition.now) (environment_of c.args.state.now)) c.located_elsif.ensures c.in-Err.ensures

@@ -1,19 +1,16 @@
-use Rattle.std.proofs.Common.{◌≡◌, [], map, sym, ap, ◌∙◌}
-use Rattle.liquid_evaluation.specs.ChainView.{chain_view, chain_filter_view}
-use Rattle.liquid_meaning.specs.FilterNeeds.{known_needs}
+use Rattle.std.proofs.Common.{◌≡◌, true, sym, ap}
+use mathlib.Core.Path.{subst}
+use Rattle.liquid_evaluation.specs.ChainView.{chain_view}
 use Rattle.liquid_model.specs.Uses.{present}
 use Rattle.liquid_model.specs.UseViews.{uses_view}
-use Rattle.liquid_uses.proofs.Steps.{whole_chain, entry_alone, empty_vec}
+use Rattle.liquid_uses.specs.inside.Chains.{sees}
+use Rattle.liquid_uses.specs.inside.Placing.{option_use}
+use Rattle.liquid_uses.proofs.Chains.{chain_granted, found_use_is}
 use Rattle.liquid_uses.proofs.grants.assigned.Goals as goal
 
-pub returns-then-is_empty : goal.returns-then-is_empty
-returns-then-is_empty c = λ h.
-    let U = uses_view c.args.uses.now in
-    let none : (chain_view c.args.chain.now).filters ≡ [] = ap (map chain_filter_view) (empty_vec c.args.chain.now.filters (sym c.is_empty.ensures ∙ c.if-is_empty.true)) in
-    entry_alone known_needs U (present (U c.args.name.now)) (chain_view c.args.chain.now) none (c.as_named.ensures h)
-
-pub returns-then-whole : goal.returns-then-whole
-returns-then-whole c = λ h.
+pub returns-then-sees : goal.returns-then-sees
+returns-then-sees c = λ h.
     let U = uses_view c.args.uses.now in
     let filters = rw c.deref.ensures.value at c.filters_granted.ensures in
-    whole_chain known_needs U (present (U c.args.name.now)) (chain_view c.args.chain.now) (c.whole.ensures c.if-whole.true) (filters h)
+    let asked = subst (λ u. sees c.present-place.result u ≡ true) (sym (found_use_is (U c.args.name.now) c.member_of.result c.member_of.ensures)) (c.sees.ensures c.if-sees.true) in
+    chain_granted U (present (U c.args.name.now)) (chain_view c.args.chain.now) (c.chain_place.ensures (present (U c.args.name.now)) (c.present-place.ensures (U c.args.name.now) asked)) (filters h)

@@ -7,6 +7,7 @@ use Rattle.std.proofs.lemmas.Result.{err_from_is_err_and}
 use Rattle.liquid_model.specs.Answer.{Faulted}
 use Rattle.liquid_model.specs.Cow.{cow_view}
 use Rattle.liquid_model.specs.Data.{Datum}
+use Rattle.liquid_model.specs.View.{view}
 use Rattle.liquid_model.specs.declared.error.ErrorKind.{ErrorKind}
 use Rattle.liquid_core.specs.States.{environment_of}
 use Rattle.liquid_evaluation.specs.Calls.{Call, applied}
@@ -32,7 +33,7 @@ returns-in-Err-clause-value g c =
     let value_with : Call → Result Datum ErrorKind = λ call. applied (call ∷ []) (cow_view c.loop-stored.value) e in
     filters_stop (answers_with (g.H.NamedFilters.named c.args.host.now)) chain_filter_view (chain_value (answers_with (g.H.NamedFilters.named c.args.host.now)) (chain_view c.args.self.now) e) e c.deref-stored-items.result.now c.loop-stored.stored-index c.stored-item.result (cow_view c.loop-stored.value)
     c.of_filter.result.kind c.loop-stored-test.true c.stored-item.is
-    (faulted_told c.in-Err.fault.kind c.of_filter.result.kind (value_with _) c.of_filter.ensures (subst (λ call. Faulted c.in-Err.fault.kind (value_with call)) c.call.ensures.call c.in-Err.ensures.value))
+    (faulted_told c.in-Err.fault.kind c.of_filter.result.kind (value_with _) c.of_filter.ensures (subst (λ call. Faulted c.in-Err.fault.kind (value_with call)) c.call.ensures.call (rw c.as_value.ensures at c.in-Err.ensures)))
     c.loop-stored.invariant
 
 pub loop-stored-preserved : goal.loop-stored-preserved
@@ -40,8 +41,8 @@ loop-stored-preserved g c =
     let e = environment_of c.args.state.now in
     let value_with : Call → Result Datum ErrorKind = λ call. applied (call ∷ []) (cow_view c.loop-stored.value) e in
     filters_more (answers_with (g.H.NamedFilters.named c.args.host.now)) chain_filter_view (chain_value (answers_with (g.H.NamedFilters.named c.args.host.now)) (chain_view c.args.self.now) e) e c.deref-stored-items.result.now c.loop-stored.stored-index c.stored-item.result (cow_view c.loop-stored.value)
-    (cow_view c.in-Ok.next) c.loop-stored-test.true c.stored-item.is
-    (ap value_with (sym c.call.ensures.call) ∙ c.in-Ok.ensures.value)
+    (view c.in-Ok.next) c.loop-stored-test.true c.stored-item.is
+    (ap value_with (sym c.call.ensures.call) ∙ (rw c.as_value.ensures at c.in-Ok.ensures))
     c.loop-stored.invariant
 
 pub returns-clause-value : goal.returns-clause-value

@@ -15,7 +15,7 @@ use Rattle.liquid_language.specs.declared.language.Language.{Language}
 use Rattle.liquid_site.specs.Contents.{Contents, page_of, pages_from_scratch}
 use Rattle.liquid_site.specs.PartViews.{parts_view}
 use Rattle.liquid_site.specs.declared.parts.SiteParts.{SiteParts}
-use Rattle.liquid_site.specs.Steps.{set_page, remove_page, set_partial, remove_partial, set_value, remove_value, stepped, raised, mentioning}
+use Rattle.liquid_site.specs.Steps.{set_page, remove_page, set_partial, remove_partial, set_value, remove_value, set_data, stepped, raised, mentioning}
 use Rattle.liquid_site.proofs.Kept.{without_shown}
 use Rattle.liquid_site.proofs.Shown.{shown_as, shown_without}
 use Rattle.liquid_site.proofs.Applying.{applied, held_there, no_partial, no_value, raised_none, value_there}
@@ -76,10 +76,10 @@ returns-in_ok-reserve-in-SetPartial-clause-applied g c =
     let only : IsOnlyTree l t (string_bytes c.in-SetPartial.source) = subst (IsOnlyTree l t) c.as_str-in-SetPartial.ensures.value c.in_ok-template-in-SetPartial.ensures.parses in
     let named = c.as_str-in-SetPartial-3.ensures.value in
     let same = c.in_ok-reserve-in-SetPartial.ensures.same in
-    let meant : record { depth = old.depth; pages = trees_in old.templates; partials = put c.as_str-in-SetPartial-3.result.now t (partials_of c.reserve.new.self); facts = held old.facts } ≡ stepped s (contents_of old) =
-    λ i. record { depth = old.depth; pages = trees_in old.templates; partials = put (named i) t (same i); facts = held old.facts } in
-    let before : record { depth = old.depth; pages = trees_in old.templates; partials = partials_of c.reserve.new.self; facts = held old.facts } ≡ contents_of old =
-    λ i. record { depth = old.depth; pages = trees_in old.templates; partials = same i; facts = held old.facts } in
+    let meant : record { depth = old.depth; pages = trees_in old.templates; partials = put c.as_str-in-SetPartial-3.result.now t (partials_of c.reserve.new.self); «data» = held old.«data» } ≡ stepped s (contents_of old) =
+    λ i. record { depth = old.depth; pages = trees_in old.templates; partials = put (named i) t (same i); «data» = held old.«data» } in
+    let before : record { depth = old.depth; pages = trees_in old.templates; partials = partials_of c.reserve.new.self; «data» = held old.«data» } ≡ contents_of old =
+    λ i. record { depth = old.depth; pages = trees_in old.templates; partials = same i; «data» = held old.«data» } in
     applied c.args.change r (parts_view old) (parts_view new) s (subst (λ ch. IsStep l ch s) (sym c.in-SetPartial.is) (t, only, refl)) (subst (λ x. IsValueOrMemory (λ u. contents_of new) r x) meant c.exchange_partial.ensures.set) c.exchange_partial.ensures.counted
     (subst (λ x. OnErr r (contents_of new ≡ x)) before c.exchange_partial.ensures.unchanged) c.exchange_partial.ensures.uncounted
 
@@ -140,7 +140,7 @@ returns-then-not-contains_key-clause-applied g c =
     let l = language_of old in
     let n = string_bytes c.in-RemoveValue.name in
     let s = remove_value n in
-    let none : is_some ((contents_of old).facts n) ≡ false = value_there old.facts n false (sym c.if-not-contains_key.true ∙ c.contains_key.ensures ∙ ap (λ q. is_some (lookup (named q) old.facts.entries)) c.as_str-in-RemoveValue.ensures.value) in
+    let none : is_some ((contents_of old).«data» n) ≡ false = value_there old.«data» n false (sym c.if-not-contains_key.true ∙ c.contains_key.ensures ∙ ap (λ q. is_some (lookup (named q) old.«data».entries)) c.as_str-in-RemoveValue.ensures.value) in
     record {
       step = s;
       is_step = subst (λ ch. IsStep l ch s) (sym c.in-RemoveValue.is) refl;
@@ -157,11 +157,19 @@ returns-else-not-contains_key-clause-applied g c =
     let n = string_bytes c.in-RemoveValue.name in
     let s = remove_value n in
     let is = c.as_str-in-RemoveValue-2.ensures.value in
-    let some : is_some ((contents_of old).facts n) ≡ true = value_there old.facts n true (sym c.if-not-contains_key.false ∙ c.contains_key.ensures ∙ ap (λ q. is_some (lookup (named q) old.facts.entries)) c.as_str-in-RemoveValue.ensures.value) in
+    let some : is_some ((contents_of old).«data» n) ≡ true = value_there old.«data» n true (sym c.if-not-contains_key.false ∙ c.contains_key.ensures ∙ ap (λ q. is_some (lookup (named q) old.«data».entries)) c.as_str-in-RemoveValue.ensures.value) in
     let meant : stepped (remove_value c.as_str-in-RemoveValue-2.result.now) (contents_of old) ≡ stepped s (contents_of old) = ap (λ q. stepped (remove_value q) (contents_of old)) is in
     applied c.args.change r (parts_view old) (parts_view new) s (subst (λ ch. IsStep l ch s) (sym c.in-RemoveValue.is) refl) (subst (λ x. IsValueOrMemory (λ u. contents_of new) r x) meant c.change_value-in-RemoveValue.ensures.set)
     (subst (λ x. OnOk r (count_of new ≡ raised (count_of old) x)) (ap (mentioning (contents_of old)) is ∙ sym (ap (λ b. cond b (mentioning (contents_of old) n) 0) some)) c.change_value-in-RemoveValue.ensures.counted)
     c.change_value-in-RemoveValue.ensures.unchanged c.change_value-in-RemoveValue.ensures.uncounted
+
+pub returns-in-SetData-clause-applied : goal.returns-in-SetData-clause-applied
+returns-in-SetData-clause-applied g c =
+    let old = c.args.self.now in
+    let l = language_of old in
+    let new = c.change_data.new.self in
+    let s = set_data (held c.in-SetData.«data») in
+    applied c.args.change c.change_data.result (parts_view old) (parts_view new) s (subst (λ ch. IsStep l ch s) (sym c.in-SetData.is) refl) c.change_data.ensures.set c.change_data.ensures.counted c.change_data.ensures.unchanged c.change_data.ensures.uncounted
 
 pub returns-in-RemovePage-clause-keeps : goal.returns-in-RemovePage-clause-keeps
 returns-in-RemovePage-clause-keeps g c =

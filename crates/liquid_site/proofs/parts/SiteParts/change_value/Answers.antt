@@ -1,41 +1,30 @@
-use Rattle.std.proofs.Common.{◌≡◌, rules, option_map, length, sym, ap, ◌∙◌}
-use Rattle.std.specs.Vec.{vec_len}
-use Rattle.std.proofs.lemmas.List.{length-map}
+use Rattle.std.proofs.Common.{◌≡◌, Bool, OnOk, option_map, length, subst, sym, ap, ◌∙◌}
+use Rattle.liquid_model.specs.Answer.{IsValueOrMemory}
 use Rattle.liquid_model.specs.View.{view}
 use Rattle.liquid_core.specs.Held.{held}
-use Rattle.liquid_syntax.specs.Templates.{tree_of, partials_of}
-use Rattle.liquid_syntax.proofs.Held.{ascend_seen}
+use Rattle.liquid_evaluation.specs.Tree.{Nodes}
+use Rattle.liquid_syntax.specs.Templates.{partials_of}
 use Rattle.liquid_lib.specs.Pages.{page_over}
-use Rattle.liquid_site.specs.Contents.{all_pages, pages_from_scratch}
 use Rattle.liquid_site.specs.PartViews.{parts_view}
-use Rattle.liquid_site.specs.Parts.{by_name, trees_in}
-use Rattle.liquid_site.specs.Steps.{raised}
-use Rattle.liquid_site.specs.inside.Fresh.{wanted, wanted_of, all_placed, listed_pages}
-use Rattle.liquid_site.proofs.Placing.{changed_pages, counted_mentions}
-use Rattle.liquid_site.proofs.Shown.{same_length, shown_as, shown_all_placed}
+use Rattle.liquid_site.specs.Steps.{raised, with_value}
+use Rattle.liquid_site.specs.inside.Fresh.{selected}
+use Rattle.liquid_site.proofs.Untouched.{untouched}
 use Rattle.liquid_site.proofs.parts.SiteParts.change_value.Goals as goal
 
-pub returns-clause-keeps : goal.returns-clause-keeps
-returns-clause-keeps g c =
+pub exchange_data-requires-clause-untouched : goal.exchange_data-requires-clause-untouched
+exchange_data-requires-clause-untouched g c = λ nodes h.
     let s = c.args.self.now in
-    let n = c.args.name.now in
-    let facts = held c.in_ok-facts.facts in
-    let show = page_over s.depth (partials_of s.partials) facts in
-    let before = pages_from_scratch (parts_view s).contents in
-    let fresh = all_pages show (wanted_of (wanted c.mention-all.result n) (trees_in s.templates)) in
-    let pages = listed_pages c.in_ok-fresh.fresh.items in
-    shown_as g.R.Rendering.shows (all_placed fresh before) (all_pages show (trees_in s.templates)) (all_placed pages (by_name s.pages)) (by_name c.replace_pages.new.pages)
-    (changed_pages (parts_view s).contents n (option_map view c.args.value) facts c.mention-all.result (ascend_seen tree_of s.templates.entries c.in_ok-fresh.ensures.ascend) c.in_ok-facts.ensures c.mention-all.ensures)
-    (sym c.replace_pages.ensures) (shown_all_placed g.R.Rendering.shows fresh pages before (by_name s.pages) c.in_ok-fresh.ensures.pages c.requires)
+    ap (λ m. page_over s.depth (partials_of s.partials) m nodes) c.in_ok-data.ensures
+    ∙ untouched (parts_view s).contents c.args.name.now (option_map view c.args.value) nodes (sym (ap (λ (test : Nodes → Bool). test nodes) c.by_name-selection.ensures) ∙ h)
+
+pub returns-clause-set : goal.returns-clause-set
+returns-clause-set g c =
+    let contents = (parts_view c.args.self.now).contents in
+    let meant : record contents { «data» = held c.in_ok-data.«data» } ≡ record contents { «data» = with_value contents.«data» c.args.name.now (option_map view c.args.value) } = λ i. record contents { «data» = c.in_ok-data.ensures i } in
+    subst (λ x. IsValueOrMemory (λ u. (parts_view c.exchange_data.new.self).contents) c.exchange_data.result x) meant c.exchange_data.ensures.set
 
 pub returns-clause-counted : goal.returns-clause-counted
 returns-clause-counted g c =
     let s = c.args.self.now in
-    let n = c.args.name.now in
-    let ts = trees_in s.templates in
-    let show = page_over s.depth (partials_of s.partials) (held c.in_ok-facts.facts) in
-    let fresh = all_pages show (wanted_of (wanted c.mention-all.result n) ts) in
-    let items : vec_len c.in_ok-fresh.fresh ≡ length c.in_ok-fresh.fresh.items = search rules in
-    let as_many = sym (length-map c.in_ok-fresh.fresh.items _) ∙ same_length g.R.Rendering.shows fresh (listed_pages c.in_ok-fresh.fresh.items) c.in_ok-fresh.ensures.pages in
-    c.saturating_add-self.ensures
-    ∙ ap (raised s.rendered) (c.len.ensures ∙ items ∙ as_many ∙ length-map _ _ ∙ ap (λ b. length (wanted_of (wanted b n) ts)) c.mention-all.ensures ∙ counted_mentions (partials_of s.partials) n ts)
+    let pages = (parts_view s).contents.pages in
+    subst (λ (test : Nodes → Bool). OnOk c.exchange_data.result ((parts_view c.exchange_data.new.self).rendered ≡ raised s.rendered (length (selected test pages)))) c.by_name-selection.ensures c.exchange_data.ensures.counted

@@ -2,10 +2,10 @@ use Rattle.std.proofs.Common.{ap, ◌∙◌}
 use Rattle.liquid_model.specs.View.{pairs_view}
 use Rattle.liquid_core.specs.Held.{map_of}
 use Rattle.liquid_site.specs.Steps.{no_contents}
-use Rattle.liquid_site.proofs.Changed.{no_facts}
+use Rattle.liquid_site.proofs.Changed.{no_data}
 use Rattle.liquid_site.proofs.site.Site.new.Goals as goal
 
 pub returns-clause-contents : goal.returns-clause-contents
 returns-clause-contents c =
-    let facts = ap (λ es. map_of (pairs_view es)) c.new.ensures.empty ∙ no_facts in
-    c.over.ensures.contents ∙ ap (λ f. record (no_contents c.args.depth) { facts = f }) facts
+    let none = ap (λ es. map_of (pairs_view es)) c.new.ensures.empty ∙ no_data in
+    c.over.ensures.contents ∙ ap (λ f. record (no_contents c.args.depth) { «data» = f }) none

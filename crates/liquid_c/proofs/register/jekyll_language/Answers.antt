@@ -1,5 +1,0 @@
-use Rattle.std.proofs.Common.{rules}
-use Rattle.liquid_c.proofs.register.jekyll_language.Goals as goal
-
-pub returns-clause-language : goal.returns-clause-language
-returns-clause-language c = record { tags = search rules; blocks = search rules; filters = search rules }

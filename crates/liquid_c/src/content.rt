@@ -1,0 +1,90 @@
+//! What calls make.
+ghost use Rattle.std.specs.Prelude.{◌≡◌, option_map};
+ghost use Rattle.liquid_c.specs.Numbers.{fault_behind, text_behind};
+ghost use Rattle.liquid_c.specs.Numbers.{number_of_fault, number_of_content, number_of_limit};
+
+use crate::levels::Levels;
+use liquid_answers::{Answers, Lacking};
+use liquid_core::{Error, Object, Uses};
+use liquid_lib::{Language, LimitReached, Page, Partials, Template};
+
+/// What a call makes.
+#[derive(Drop)]
+pub enum Content {
+    Language(Language),
+    /// With the levels that it reaches by itself.
+    Template(Template, Levels),
+    /// With the most that the templates reach which were ever put among them.
+    Partials(Partials, Levels),
+    Data(Object),
+    Page(Page),
+    /// A page that a limit of the caller's ended.
+    Ended(Page, LimitReached),
+    /// Answers to calls of the caller's filters.
+    Answers(Answers),
+    /// Calls that such a table lacks, in place of a page.
+    Lacking(Lacking),
+    /// Names, as a list of texts in JSON.
+    Names(String),
+    /// What a template asks of its data, with the paths as a list of texts in JSON.
+    Paths(Uses, String),
+    /// Why there is none of these.
+    Fault(Error),
+}
+
+impl Content {
+    /// 0, or the number of the limit that ended a page, of lacking answers, or of the fault's kind.
+    pub(crate) fn number(&self) -> u32
+        ensures { result ≡ number_of_content self.now }
+    {
+        match self {
+            Content::Ended(_, limit) => limit_number(*limit),
+            Content::Lacking(_) => 106,
+            _ => fault_number(self.fault()),
+        }
+    }
+
+    /// The text of a page, or of calls, names or paths in JSON.
+    pub(crate) fn text(&self) -> &str
+        ensures { result.now ≡ text_behind self.now }
+    {
+        match self {
+            Content::Page(page) => page.text.as_str(),
+            Content::Ended(page, _) => page.text.as_str(),
+            Content::Lacking(calls) => calls.text(),
+            Content::Names(text) => text.as_str(),
+            Content::Paths(_, text) => text.as_str(),
+            _ => "",
+        }
+    }
+
+    /// The fault, also that of a page.
+    pub(crate) fn fault(&self) -> Option<&Error>
+        ensures { option_map (λ e. e.now) result ≡ fault_behind self.now }
+    {
+        match self {
+            Content::Page(page) => page.fault.as_ref(),
+            Content::Ended(page, _) => page.fault.as_ref(),
+            Content::Fault(fault) => Some(fault),
+            _ => None,
+        }
+    }
+}
+
+fn fault_number(fault: Option<&Error>) -> u32
+    ensures { result ≡ number_of_fault (option_map (λ e. e.now) fault.entry) }
+{
+    match fault {
+        Some(fault) => u32::from(fault.kind.number()),
+        None => 0,
+    }
+}
+
+fn limit_number(limit: LimitReached) -> u32
+    ensures { result ≡ number_of_limit limit }
+{
+    match limit {
+        LimitReached::Bytes => 104,
+        LimitReached::Turns => 105,
+    }
+}

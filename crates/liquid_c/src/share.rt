@@ -1,0 +1,76 @@
+//! Handles that share what they hold.
+ghost use Rattle.std.specs.Prelude.{◌≡◌, None, Some};
+ghost use Rattle.std.specs.Arc.{arc_value};
+ghost use Rattle.liquid_c.specs.Shared.{HandsOut, IsSharing, Shares, behind, content_of};
+
+use crate::content::Content;
+use crate::handle::Handle;
+use crate::held::{Held, blank};
+use crate::refusal::Refusal;
+use liquid_core::ErrorKind;
+use std::alloc::Global;
+use std::mem;
+use std::sync::Arc;
+
+/// Makes another handle on what a handle holds, without a copy of it. A call with the one may run
+/// beside a call with the other, and neither can be changed as long as both are there. 0, or
+/// `Memory`; then `made` holds nothing, and the handle what it held.
+#[unsafe(no_mangle)]
+pub extern "C" fn bikleinu_share(alloc: Global, handle: &mut Handle, made: &mut Handle) -> u32
+    ensures { IsSharing (behind handle.old.held) result handle.new.held made.new.held }
+{
+    made.put(alloc, None);
+    let mut held = handle.take(alloc);
+    let number = match &mut held {
+        Some(held) => share(alloc, &mut **held, made),
+        None => Refusal::OtherHandle.number(),
+    };
+    handle.put(alloc, held);
+    number
+}
+
+/// Shares what an owner holds with a handle that holds nothing.
+fn share(alloc: Global, held: &mut Held, made: &mut Handle) -> u32
+    requires { made.now.held ≡ None }
+    ensures { Shares (content_of held.old) result (Some held.new) made.new.held }
+{
+    let was = mem::replace(held, blank(alloc));
+    *held = shared(alloc, was);
+    match held {
+        Held::Shared(content) => match Arc::try_clone(content) {
+            Ok(content) => hand_out(alloc, content, made),
+            Err(_) => u32::from(ErrorKind::Memory.number()),
+        },
+        Held::Own(_) => u32::from(ErrorKind::Memory.number()),
+    }
+}
+
+/// The same content, shared where there was room for that.
+fn shared(alloc: Global, held: Held) -> Held
+    ensures { content_of result ≡ content_of held }
+{
+    match held {
+        Held::Own(content) => match Arc::new(alloc, content) {
+            Ok(content) => Held::Shared(content),
+            Err(refused) => Held::Own(refused.value),
+        },
+        Held::Shared(content) => Held::Shared(content),
+    }
+}
+
+/// Puts what is shared behind a handle.
+fn hand_out(alloc: Global, content: Arc<Content>, made: &mut Handle) -> u32
+    ensures { HandsOut (arc_value content) result made.new.held }
+{
+    match Box::new(alloc, Held::Shared(content)) {
+        Ok(held) => {
+            made.put(alloc, Some(held));
+            0
+        }
+        Err(refused) => {
+            drop(refused);
+            made.put(alloc, None);
+            u32::from(ErrorKind::Memory.number())
+        }
+    }
+}

@@ -1,0 +1,26 @@
+//! The command line of the program `bikleinu`: its commands and options, and what the words of a
+//! call ask for.
+#![tactic(auto)]
+
+mod commands;
+mod forms;
+mod inputs;
+mod merge;
+mod options;
+mod paths;
+mod render;
+mod words;
+
+pub use commands::program;
+pub use forms::{Forms, with_form_options};
+pub use inputs::{Inputs, WordFault};
+pub use merge::{MergeCall, merge_call, merge_command};
+pub use options::{
+    STATUSES, data_option, filters_option, flag, limit_option, partials_option, template_word,
+};
+pub use paths::{PathsCall, PathsFormat, paths_call, paths_command};
+pub use render::{RenderCall, render_call, render_command};
+pub use words::{
+    DataFile, FilterSet, Missing, are_in_csv, data_file, filter_set, is_selected, is_toml,
+    missing_of,
+};

@@ -1,0 +1,120 @@
+//! What single words mean.
+ghost use Rattle.std.specs.Prelude.{◌≡◌, codes, option_map};
+ghost use Rattle.liquid_commands.specs.Words.{are_in_csv, data_file, file_view, filter_set};
+ghost use Rattle.liquid_commands.specs.Words.{ends_in, is_selected, missing_of, parts_view};
+ghost use Rattle.liquid_commands.specs.Words.{named_file, set_named};
+
+/// A file of data, with the name that it is given in a template, where it has one.
+#[derive(Clone, Copy, Drop)]
+pub struct DataFile<'w> {
+    pub name: Option<&'w str>,
+    pub path: &'w str,
+}
+
+/// A set of filters.
+#[derive(Clone, Copy, Drop)]
+pub enum FilterSet {
+    Jekyll,
+    Shopify,
+}
+
+/// What a name or a member that is missing in the data is.
+#[derive(Clone, Copy, Drop)]
+pub enum Missing {
+    /// A fault of the page that asks for it.
+    Fault,
+    /// Nil.
+    Nil,
+}
+
+/// A word FILE or NAME=FILE, which is parted at the first `=`. It takes no memory.
+pub fn data_file(word: &str) -> DataFile<'_>
+    ensures { file_view result ≡ data_file word.now }
+{
+    match named_file(word) {
+        Some((name, path)) => DataFile {
+            name: Some(name),
+            path,
+        },
+        None => DataFile {
+            name: None,
+            path: word,
+        },
+    }
+}
+
+/// The texts before and after the first `=`.
+fn named_file(word: &str) -> Option<(&str, &str)>
+    ensures { parts_view result ≡ named_file word.now }
+{
+    word.split_once('=')
+}
+
+/// The set of a name, where one is given. It takes no memory.
+pub fn filter_set(name: Option<&str>) -> Option<FilterSet>
+    ensures { result ≡ filter_set (option_map (λ n. n.now) name.entry) }
+{
+    match name {
+        Some(name) => set_named(name),
+        None => None,
+    }
+}
+
+fn set_named(name: &str) -> Option<FilterSet>
+    ensures { result ≡ set_named name.now }
+{
+    match name {
+        "jekyll" => Some(FilterSet::Jekyll),
+        "shopify" => Some(FilterSet::Shopify),
+        _ => None,
+    }
+}
+
+/// What is missing is nil where the word says so, and else a fault. It takes no memory.
+pub fn missing_of(word: Option<&str>) -> Missing
+    ensures { result ≡ missing_of (option_map (λ w. w.now) word.entry) }
+{
+    match word {
+        Some("nil") => Missing::Nil,
+        _ => Missing::Fault,
+    }
+}
+
+/// Whether records are a table in CSV: as the format says, and where none is given, by the end of
+/// their path. It takes no memory.
+pub fn are_in_csv(format: Option<&str>, path: &str) -> bool
+    ensures { result ≡ are_in_csv (option_map (λ f. f.now) format.entry) path.now }
+{
+    match format {
+        Some(format) => format == "csv",
+        None => ends_in(path, ".csv"),
+    }
+}
+
+/// Whether a file of data is read as TOML, by the end of its path. It takes no memory.
+pub fn is_toml(path: &str) -> bool
+    ensures { result ≡ ends_in (codes ".toml") path.now }
+{
+    ends_in(path, ".toml")
+}
+
+fn ends_in(path: &str, ending: &str) -> bool
+    ensures { result ≡ ends_in ending.now path.now }
+{
+    let bytes = path.as_bytes();
+    match bytes.len().checked_sub(ending.len()) {
+        Some(start) => &bytes[start..] == ending.as_bytes(),
+        None => false,
+    }
+}
+
+/// Whether a record of this number is among those that are asked for: so many at most, from the one
+/// with this number on. It takes no memory.
+pub fn is_selected(number: u64, from: u64, count: u64) -> bool
+    ensures { result ≡ is_selected number from count }
+{
+    match number.checked_sub(from) {
+        Some(before) => before < count,
+        None => false,
+    }
+}

@@ -1,0 +1,83 @@
+-- The names of columns, which the cells of the first row are.
+--     column_names cells      the names, or what is wrong with the first column that has none of
+--                             its own
+use Rattle.std.specs.Prelude.{ℕ, ◌+◌, ◌==◌, cond, length, List, [], ◌∷◌, ◌++◌, map}
+use Rattle.std.specs.Prelude.{Option, Some, None, Result, Ok, Err, String, Vec, codes}
+use Rattle.std.specs.Prelude.{string_bytes}
+use Rattle.std.specs.BTreeMap.{get_by_text}
+use Rattle.std.specs.Fmt.{decimal}
+use Rattle.std.specs.declared.alloc.Global.{Global}
+use Rattle.liquid_model.specs.Maps.{Map, empty, insert}
+use Rattle.liquid_model.specs.Texts.{Text}
+use Rattle.liquid_row_records.specs.Cells.{cell_text}
+use Rattle.liquid_row_records.specs.declared.head.Columns.{Columns}
+use Rattle.liquid_row_records.specs.declared.head.HeadFault.{HeadFault}
+use Rattle.liquid_row_records.specs.declared.head.HeadFault.TheVariants.{NotUtf8, Unnamed, Again}
+
+-- the names so far, and each of them with its column, from 1
+pub record Named : Type 0 where
+  pub names : List Text
+  pub places : Map ℕ
+
+abbrev pub none_named : Named
+none_named = record { names = []; places = empty }
+
+-- the column after those so far
+abbrev pub next_column : Named → ℕ
+next_column m = length m.names + 1
+
+abbrev pub with_column : Named → Text → ℕ → Named
+with_column m name column = record {
+  names = m.names ++ name ∷ [];
+  places = insert m.places name column;
+}
+
+-- a name that stands at a column before is none of its own
+abbrev pub unless_before : Named → Text → Option ℕ → Result Named HeadFault
+unless_before m name (Some before) = Err (Again before (next_column m))
+unless_before m name None = Ok (with_column m name (next_column m))
+
+-- one more column, of this text
+abbrev pub one_name : Named → Option Text → Result Named HeadFault
+one_name m None = Err (NotUtf8 (next_column m))
+one_name m (Some name) = cond (length name == 0) (Err (Unnamed (next_column m)))
+    (unless_before m name (m.places name))
+
+abbrev pub all_named : Result Named HeadFault → List Text → Result Named HeadFault
+all_named (Err fault) cells = Err fault
+all_named (Ok m) [] = Ok m
+all_named (Ok m) (cell ∷ cells) = all_named (one_name m (cell_text cell)) cells
+
+abbrev pub names_alone : Result Named HeadFault → Result (List Text) HeadFault
+names_alone (Ok m) = Ok m.names
+names_alone (Err fault) = Err fault
+
+abbrev pub column_names : List Text → Result (List Text) HeadFault
+column_names cells = names_alone (all_named (Ok none_named) cells)
+
+-- ---- what is told of a fault
+
+abbrev pub head_fault_text : HeadFault → Text
+head_fault_text (NotUtf8 column) = codes "the name of column " ++ (decimal column
+    ++ codes " isn't UTF-8")
+head_fault_text (Unnamed column) = codes "column " ++ (decimal column
+    ++ codes " has no name in the first row")
+head_fault_text (Again before column) = codes "columns " ++ (decimal before ++ (codes " and "
+    ++ (decimal column ++ codes " have the same name in the first row")))
+
+-- ---- as contracts see them
+
+abbrev pub columns_view : Columns → Named
+columns_view c = record {
+  names = map string_bytes c.names.items;
+  places = λ name. get_by_text c.places name;
+}
+
+abbrev pub added_view : Result (Unit {0}) HeadFault → Named → Result Named HeadFault
+added_view (Ok done) m = Ok m
+added_view (Err fault) m = Err fault
+
+abbrev pub names_view : Result (Vec (String Global) Global) HeadFault
+    → Result (List Text) HeadFault
+names_view (Ok names) = Ok (map string_bytes names.items)
+names_view (Err fault) = Err fault

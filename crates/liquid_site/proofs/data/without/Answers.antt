@@ -1,0 +1,5 @@
+use Rattle.liquid_site.proofs.Changed.{value_taken}
+use Rattle.liquid_site.proofs.data.without.Goals as goal
+
+pub returns : goal.returns
+returns c = value_taken c.args.name.now c.args.«data» c.remove.new.self c.remove.ensures.updates

@@ -1,6 +1,0 @@
-use Rattle.liquid_site.specs.SiteViews.{contents_of}
-use Rattle.liquid_site_files.proofs.Takes.{refused_facts}
-use Rattle.liquid_site_files.proofs.take.take_facts.Goals as goal
-
-pub returns-clause-taken : goal.returns-clause-taken
-returns-clause-taken c = refused_facts c.refused.result c.in-Err.error.kind c.as_str.result.now c.in-Text.text c.args.found (contents_of c.args.site.now) c.refused.ensures.told c.in-Err.ensures c.as_str.ensures.value c.in-Text.is

@@ -1,0 +1,7 @@
+use Rattle.std.proofs.Common.{refl, sym, ◌∙◌}
+use Rattle.liquid_model.specs.Uses.{nothing}
+use Rattle.liquid_uses.proofs.Chains.{takes_plain}
+use Rattle.liquid_uses.proofs.place_pairs.Pair.is_open.Goals as goal
+
+pub returns-then-first : goal.returns-then-first
+returns-then-first c = λ h. takes_plain c.args.self nothing refl (sym c.is_open-first.ensures ∙ c.if-first.true) (sym c.is_open-second.ensures ∙ h)

@@ -1,0 +1,7 @@
+use Rattle.std.proofs.Common.{refl, sym, ◌∙◌}
+use Rattle.liquid_model.specs.Uses.{everything}
+use Rattle.liquid_uses.proofs.Chains.{takes_plain}
+use Rattle.liquid_uses.proofs.place_pairs.Pair.is_whole.Goals as goal
+
+pub returns-then-first : goal.returns-then-first
+returns-then-first c = λ h. takes_plain c.args.self everything refl (sym c.is_whole-first.ensures ∙ c.if-first.true) (sym c.is_whole-second.ensures ∙ h)

@@ -1,0 +1,121 @@
+"""The filters of hosts: what each takes, and what the data says of the site or the shop."""
+from . import samples
+from .expressions import ARGUMENTS, FILTERS, Filters
+
+PATHS = ("a b", "/a/b", "", "/", "//", "a/./../b", "http://y/z", "x:y", "1a:b", "a?b=c&d=é", "#f", "%41", "%4", "%zz", "a%20b", "mailto:x@y", "HTTP://A", "é/日", "[x]", "a\\b", "^`{|}", "b/", " a ", "a+b:c", "-x:y", "a.b:c", "\t", "a;b,c", "~*'()!$@")
+CONDITIONS = (
+    "item.price > 1", "item.a == 'a'", "item.title contains 'a'", "item", "item.k", "item.a == nil", "item.a or item.b and item.k", "item.price <= 3 and item.title != 'x'",
+    "other == nil", "item.size > 1", "item contains 'a'", "item ==", "", "item.a = 1", "item.a | size", "(1..2)", "item.a == 1.5", "item %}", "not item", "item[other]", "item['a'] < item.b",
+    "x > 1", "x.a == x.b", "item == 'a' or", "true", "nil", "item.a == empty", "  item.a  ", "item.a,item.b", "item and\nitem.b", "'", "item.first == 1", "item[0] > 0",
+)
+DIGESTED = ("md5", "sha1", "sha256")
+MORE_ARGUMENTS = {
+    "dotted": (*samples.PROPERTIES, "a.b", "a.k", ".", "a.", "k.title", "nope"),
+    "path": ("a", "a.b", "a[0]", "a['k']", "title.size", "price", "a-b", "a b", "", ".a", "a.", "a[", "a[b]", "a[-1].k", 'a["b c"]', "nil", "true.a", "a.1", "a[ 0 ]", "empty", "é", "a[99999999999999999999]", "a[+1]", "_u"),
+    "nils": ("first", "last", "last", "First", "", "none"),
+    "style": ("ordinal", "ordinal", "other", ""),
+    "country": ("US", "US", "UK", ""),
+    "variable": ("item", "item", "item", "x", "", "i t"),
+    "conditional": CONDITIONS,
+    "image": ("small", "grande", "large", "medium", "compact", "thumb", "icon", "original", "Small", "", "1x1"),
+}
+JEKYLL = {
+    "relative_url": ("address", [], "text"),
+    "absolute_url": ("address", [], "text"),
+    "uri_escape": ("address", [], "text"),
+    "cgi_escape": ("address", [], "text"),
+    "date_to_string": ("date", ["style?", "country?"], "text"),
+    "date_to_long_string": ("date", ["style?", "country?"], "text"),
+    "date_to_xmlschema": ("date", [], "text"),
+    "date_to_rfc822": ("date", [], "text"),
+    "xml_escape": ("markup", [], "text"),
+    "normalize_whitespace": ("text", [], "text"),
+    "number_of_words": ("text", [], "number"),
+    "to_integer": ("decimal", [], "number"),
+    "jsonify": ("any", [], "text"),
+    "array_to_sentence_string": ("list", ["text?"], "text"),
+    "where": ("maps", ["dotted", "any"], "maps"),
+    "find": ("maps", ["dotted", "any"], "map"),
+    "group_by": ("maps", ["dotted"], "maps"),
+    "where_exp": ("maps", ["variable", "conditional"], "maps"),
+    "sort": ("maps", ["path?", "nils?"], "list"),
+}
+SHOPIFY = {
+    "money": ("number", [], "text"),
+    "money_with_currency": ("number", [], "text"),
+    "money_without_currency": ("number", [], "text"),
+    "money_without_trailing_zeros": ("number", [], "text"),
+    "asset_url": ("text", [], "text"),
+    "global_asset_url": ("text", [], "text"),
+    "shopify_asset_url": ("text", [], "text"),
+    "url_for_vendor": ("text", [], "text"),
+    "url_for_type": ("text", [], "text"),
+    "product_img_url": ("picture", ["image?"], "text"),
+    "within": ("text", ["map"], "text"),
+    "link_to": ("text", ["text", "text?"], "text"),
+    "link_to_vendor": ("any", [], "text"),
+    "link_to_type": ("text", [], "text"),
+    "link_to_tag": ("text", ["tag"], "text"),
+    "link_to_add_tag": ("text", ["tag"], "text"),
+    "link_to_remove_tag": ("text", ["tag"], "text"),
+    "highlight_active_tag": ("tag", ["text?"], "text"),
+    "img_tag": ("text", ["text?"], "text"),
+    "script_tag": ("text", [], "text"),
+    "stylesheet_tag": ("text", ["text?"], "text"),
+    "handle": ("text", [], "text"),
+    "handleize": ("text", [], "text"),
+    "camelize": ("text", [], "text"),
+    "squish": ("text", [], "text"),
+    "replace_last": ("text", ["text", "text"], "text"),
+    "remove_last": ("text", ["text"], "text"),
+    "base64_encode": ("text", [], "text"),
+    "base64_decode": ("base64", [], "text"),
+    **{name: ("text", [], "text") for name in DIGESTED},
+    "hmac_sha256": ("text", ["text"], "text"),
+    "json": ("any", [], "text"),
+    "reject": ("maps", ["property", "any?"], "maps"),
+    "find": ("maps", ["property", "any?"], "map"),
+    "find_index": ("maps", ["property", "any?"], "number"),
+    "has": ("maps", ["property", "any?"], "truth"),
+    "sum": ("numbers", ["property?"], "number"),
+    "weight_with_unit": ("number", [], "text"),
+}
+INPUTS = {
+    "address": PATHS,
+    "picture": ("products/tea.jpg", "products/a-b_c.jpeg?x=1", "products/x.j", "products/x.abcde", "/products/x.png", "products/é.jpg", "products/x_small.gif.png", "products/.jpg", "x products/tea.jpg", ""),
+    "tag": ("new", "green", "a b", "", "Green", "x+y"),
+    "base64": ("", "YQ==", "YWI=", "YWJj", "YQ", "YQ=", "Y Q==", "/w==", "w6k=", "YR==", "YWJj\n", "____", "=", "AAAA"),
+}
+ARGUMENTS.update(MORE_ARGUMENTS, **INPUTS)
+FORMATS = (
+    "{{amount}} kr", "${{ amount }}", "{{amount_no_decimals}}", "{{ amount_with_comma_separator }} €", "x{{amount_no_decimals_with_comma_separator}}y", "{{amount_with_apostrophe_separator}}",
+    "{{amount_no_decimals_with_space_separator}}", "{{amount_with_space_separator}}", "{{amount_with_period_and_space_separator}}", "plain", "", "{{nope}}", "{{amount", "{{amount}}{{amount}}",
+    "{{  amount}}", "{{ Amount }}", "{amount}", "{{amount }} {{nope}}", "{{nope}} {{amount}}", "{{{amount}}}", "{{}}", "<b>{{amount}}</b>",
+)
+
+
+def jekyll_data(rng):
+    """What the data says of a site, or doesn't."""
+    if rng.random() < 0.2:
+        return {"site": rng.choice((None, 1, "x", [], {}))} if rng.random() < 0.3 else {}
+    urls, bases = ("http://x.org", "", "https://a.b/c", "http://x.org/", "//h", "x y", 1, None), ("/blog", "", "/", "blog", "/a/b/", "/a b", "é", 2, None)
+    return {"site": {"url": rng.choice(urls), "baseurl": rng.choice(bases), "posts": []}}
+
+
+def shopify_data(rng):
+    """What the data says of a shop and of the page, or doesn't."""
+    data = {}
+    if rng.random() < 0.8:
+        shop = {"money_format": rng.choice(FORMATS), "money_with_currency_format": rng.choice(FORMATS)}
+        data["shop"] = {name: held for name, held in shop.items() if rng.random() < 0.8} if rng.random() < 0.95 else "shop"
+    if rng.random() < 0.7:
+        data["collection"] = rng.choice(({"handle": "tea"}, {"handle": "a b"}, {"handle": 5}, {}, "tea", None))
+    if rng.random() < 0.7:
+        data["current_tags"] = rng.choice((["new", "green"], ["new"], [], ["a b", "new", "a b"], ["x+y", 1, None], "new", None, ["Green", ""]))
+    return data
+
+
+PACKS = {
+    "jekyll": (Filters({**FILTERS, **JEKYLL}, list(JEKYLL), is_jekyll=True), jekyll_data),
+    "shopify": (Filters({**FILTERS, **SHOPIFY}, list(SHOPIFY)), shopify_data),
+}

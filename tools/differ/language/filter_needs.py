@@ -1,0 +1,69 @@
+"""What filters see of their input (docs/USES.md), by what is asked of the answer."""
+from . import tree
+from .parts import THERE, WHOLE, Use
+
+MOST_CALLS = 32
+ENDS = ("first", "last")
+PICKING = ("where", "sort", "sort_natural")
+
+
+def input_use(calls, use):
+    """What a chain of these calls asks of its entry."""
+    if len(calls) > MOST_CALLS:
+        return WHOLE
+    for call in reversed(calls):
+        use = needs(call, use)
+    return use
+
+
+def needs(call, use):
+    """What a call asks of its input for this use of its answer."""
+    name, key = call.name, property_of(call)
+    of_item = items_wanted(use)
+    if name == "size":
+        return Use(items=THERE)
+    if name in ENDS:
+        # before a filter that picks, which asks for items and for members, all is asked
+        return WHOLE if use.items and use.members else Use(members={name: use})
+    if name in ("reverse", "concat"):
+        return Use(items=of_item)
+    if name == "map" and key:
+        return Use(items=Use(members={key: of_item}))
+    if name in PICKING and key:
+        return picked(of_item.joined(Use(members={key: WHOLE})))
+    if name == "compact" and not call.arguments:
+        return Use(items=of_item)
+    if name == "compact" and key:
+        return Use(items=of_item.joined(Use(members={key: THERE})))
+    if name == "default":
+        return use.joined(Use(items=THERE))
+    return WHOLE
+
+
+def property_of(call):
+    """The property that a literal text other than size names, None where there is none."""
+    if not call.arguments or not isinstance(call.arguments[0], tree.Literal):
+        return None
+    value = call.arguments[0].value
+    return value if isinstance(value, str) and value != "size" else None
+
+
+def picked(of_item):
+    """A map counts as the list of itself. A list that is handed on in a list is asked for whole."""
+    if of_item.is_whole or of_item.items or any(is_place(key) for key in of_item.members):
+        return WHOLE
+    return Use(False, of_item.members, of_item)
+
+
+def items_wanted(use):
+    """All that is asked of an item of a list, in a loop or by its place."""
+    if use.is_whole:
+        return WHOLE
+    wanted = use.items or THERE
+    for key, part in use.members.items():
+        wanted = wanted.joined(part) if is_place(key) else wanted
+    return wanted
+
+
+def is_place(key):
+    return key in ENDS or key.lstrip("+-").isdigit()

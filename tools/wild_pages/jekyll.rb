@@ -1,0 +1,54 @@
+# Builds a site by Jekyll, and writes down each page that its Liquid makes: ruby jekyll.rb SITE OUT
+#
+# OUT/N.json has the template, the data, the partials that the page ran, each with its file, and the page.
+require "fileutils"
+require "jekyll"
+require "tmpdir"
+require_relative "values"
+
+module Recording
+  class << self
+    attr_accessor :folder, :count, :partials
+  end
+
+  # What runs while the data is read is no page of its own.
+  def render_liquid(content, payload, info, path = nil)
+    return super if Recording.partials || !content.match?(/\{\{|\{%/)
+
+    Recording.partials = {}
+    data = Values.new.of(payload)
+    Recording.partials = {}
+    page = super
+    Recording.write("template" => content, "data" => data, "partials" => Recording.partials, "page" => page, "path" => path.to_s)
+    page
+  ensure
+    Recording.partials = nil
+  end
+
+  def self.write(page)
+    self.count += 1
+    File.write("#{folder}/#{format('%04d', count)}.json", JSON.generate(page))
+  end
+end
+
+module Including
+  def render(context)
+    Recording.partials[name] = File.realpath(path) if Recording.partials
+    super
+  end
+end
+
+Jekyll::Renderer.prepend(Recording)
+Jekyll::Inclusion.prepend(Including)
+
+source, Recording.folder = ARGV
+Recording.count = 0
+FileUtils.mkdir_p(Recording.folder)
+Jekyll.logger.log_level = :error
+config = Jekyll::Configuration.new.read_config_file("#{source}/_config.yml")
+# the site's plugins of those that are here, and the tag `seo`, which sites expect without naming it
+plugins = [*config["plugins"], *config["gems"]].select { |name| Gem::Specification.any? { |it| it.name == name } }
+Dir.mktmpdir do |out|
+  options = { "source" => source, "destination" => out, "disable_disk_cache" => true, "plugins" => plugins | ["jekyll-seo-tag"] }
+  Jekyll::Site.new(Jekyll.configuration(options)).process
+end
