@@ -3,7 +3,8 @@ ghost use Rattle.std.specs.Prelude.{◌≡◌, [], ◌++◌, length, option_map,
 ghost use Rattle.liquid_model.specs.Answer.{IsValueOrMemory};
 ghost use Rattle.liquid_model.specs.Find.{value_at};
 ghost use Rattle.liquid_model.specs.View.{view, items_view, pairs_view};
-ghost use Rattle.liquid_data_paths.specs.DataPaths.{first_lack, in_items, in_member, lack_at, lack_of};
+ghost use Rattle.liquid_data_paths.specs.DataPaths.{first_lack, in_items, in_member, lack_at};
+ghost use Rattle.liquid_data_paths.specs.DataPaths.{lack_of};
 ghost use Rattle.liquid_data_paths.specs.DataPaths.{of_each, of_found, values_along, values_of};
 ghost use Rattle.liquid_data_paths.specs.Views.{lack_view, values_view};
 

@@ -5,8 +5,9 @@ ghost use Rattle.liquid_model.specs.View.{view, pairs_view};
 ghost use Rattle.liquid_date_filters.specs.Spelling.{read};
 ghost use Rattle.liquid_data_paths.specs.DoubtViews.{doubt_view};
 ghost use Rattle.liquid_data_paths.specs.Doubts.{asks_values, at_most, count_of, date_doubt};
-ghost use Rattle.liquid_data_paths.specs.Doubts.{doubt_of, first_doubt, is_empty_or_date, items_doubt};
-ghost use Rattle.liquid_data_paths.specs.Doubts.{passes_end, span_doubt, unlisted_doubt, value_doubt};
+ghost use Rattle.liquid_data_paths.specs.Doubts.{doubt_of, first_doubt, is_empty_or_date};
+ghost use Rattle.liquid_data_paths.specs.Doubts.{items_doubt, passes_end, span_doubt};
+ghost use Rattle.liquid_data_paths.specs.Doubts.{unlisted_doubt, value_doubt};
 
 use crate::data_path::{DataPath, Lack, lacking, values_at};
 use liquid_core::{Object, Result, Value};
