@@ -13,8 +13,8 @@ use liquid_lib::{Language, parse_kept};
 use std::alloc::Global;
 
 /// Parses a source in a language. 0, or the number of the fault that `made` then has: a kind of a
-/// source, or `Memory`. The template keeps its source, where that has at most 1 MiB, so that a fault
-/// of a run stands at its item.
+/// source, or `Memory`. The template keeps its source, where that has at most 1 MiB, so that a
+/// fault of a run stands at its item.
 #[unsafe(no_mangle)]
 pub extern "C" fn bikleinu_parse(
     alloc: Global,
