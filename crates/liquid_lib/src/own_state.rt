@@ -12,7 +12,7 @@ ghost use Rattle.liquid_core.specs.LoopFrames.{item_of, frame_map};
 ghost use Rattle.liquid_syntax.specs.Flats.{bindings_view};
 ghost use Rattle.liquid_syntax.specs.Templates.{partials_of, tree_of};
 ghost use Rattle.liquid_lib.specs.inside.Partials.{IsWithin, item_entry, item_scope, left_with};
-ghost use Rattle.liquid_lib.specs.inside.Partials.{render_entry};
+ghost use Rattle.liquid_lib.specs.inside.Partials.{bound_scope, render_entry};
 ghost use Rattle.liquid_lib.specs.inside.Given.{given_map};
 
 use crate::context::RunContext;
@@ -90,7 +90,8 @@ fn given_names<'d>(alloc: Global, bindings: &'d [Binding], state: &State<'d>) ->
 
 /// A state that holds these names alone.
 fn given_state<'d>(alloc: Global, names: Given<'d>) -> Result<State<'d>>
-    ensures { IsValueOrMemory environment_of result (new_environment (given_map names)) }
+    ensures { IsValueOrMemory environment_of result
+        (new_environment (given_map names.entry)) }
 {
     match names {
         Given::Names(names) => own_state(alloc, names),
