@@ -29,7 +29,7 @@ impl<'r> Disk for SystemFiles<'r> {
     }
 }
 
-/// RefusalReason a file has no text, by another look at it, or none where it has one now.
+/// Why a file has no text, by another look at it, or none where it has one now.
 pub fn reason_of(rt: &HostRuntime, path: &str) -> Option<Reason> {
     match fs::read(rt, path) {
         Ok(bytes) => match String::from_utf8(bytes) {

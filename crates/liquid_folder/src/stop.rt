@@ -1,4 +1,4 @@
-//! RefusalReason the program ends before its input does.
+//! Why the program ends before its input does.
 ghost use Rattle.std.specs.Prelude.{◌≡◌};
 ghost use Rattle.liquid_folder.specs.Stops.{status_of};
 
@@ -7,7 +7,7 @@ use liquid_excerpts::{Reason, ShownPath};
 use std::alloc::{AllocError, AllocFailed, Global};
 use std::{fmt, io};
 
-/// RefusalReason the program ends before its input does.
+/// Why the program ends before its input does.
 #[derive(Drop)]
 pub enum FolderStop {
     /// The words are no call.

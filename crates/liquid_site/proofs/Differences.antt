@@ -6,7 +6,7 @@ use Rattle.std.specs.BTreeSet.{BTreeSet}
 use Rattle.std.specs.Map.{keys_of}
 use Rattle.std.specs.declared.alloc.Global.{Global}
 use mathlib.Core.Path.{refl, sym, ap, fun_ext, ◌∙◌}
-use Rattle.liquid_model.specs.Texts.{Text, same_text}
+use Rattle.liquid_model.specs.Texts.{Text}
 use Rattle.liquid_model.specs.Data.{Datum, Pairs}
 use Rattle.liquid_model.specs.Find.{value_at}
 use Rattle.liquid_model.specs.Maps.{Map}
@@ -91,7 +91,10 @@ all_differing old new none some all o n is_old is_new empty first then = fun_ext
 
 -- ---- one name
 
-pub found_both : (old new : Pairs) (name : Text) (o p : Option (Bor Value)) → option_map (λ v. view v.now) o ≡ value_at name old → option_map (λ v. view v.now) p ≡ value_at name new
-    → not (is_same (option_map (λ v. view v.now) o) (option_map (λ v. view v.now) p)) ≡ differs (map_of old) (map_of new) name
+-- two values that were looked up, each as a branch has it, differ where the data do
+pub found_both : (old new : Pairs) (name : Text) (o p a b : Option (Bor Value)) → o ≡ a → p ≡ b → option_map (λ v. view v.now) o ≡ value_at name old → option_map (λ v. view v.now) p ≡ value_at name new
+    → not (is_same (option_map (λ v. view v.now) a) (option_map (λ v. view v.now) b)) ≡ differs (map_of old) (map_of new) name
 unfolding map_of
-found_both old new name o p h k = λ i. not (is_same (h i) (k i))
+found_both old new name o p a b d e h k =
+    (λ i. not (is_same (option_map (λ v. view v.now) (sym d i)) (option_map (λ v. view v.now) (sym e i))))
+    ∙ (λ i. not (is_same (h i) (k i)))

@@ -55,12 +55,12 @@ untouched c name d nodes out =
 -- none of the names passes the test
 none_passes : (test : Names) (names : List Text) (q : Text) → list_any test names ≡ false → list_any (same_text q) names ≡ true → test q ≡ false
 none_passes test [] q out h = absurd (apart (sym h))
-none_passes test (name ∷ names) q out h = on (test name) (same_text q name) refl refl out h
+none_passes test (name ∷ names) q out h = on (test name) (same_text q name) refl refl out h (none_passes test names q)
   where
-    on : (t b : Bool) → t ≡ test name → b ≡ same_text q name → (t || list_any test names) ≡ false → (b || list_any (same_text q) names) ≡ true → test q ≡ false
-    on true b e f k m = absurd (apart k)
-    on false true e f k m = ap test (same_text_equal q name (subst T f tt)) ∙ sym e
-    on false false e f k m = none_passes test names q k m
+    on : (t b : Bool) → t ≡ test name → b ≡ same_text q name → (t || list_any test names) ≡ false → (b || list_any (same_text q) names) ≡ true → (list_any test names ≡ false → list_any (same_text q) names ≡ true → test q ≡ false) → test q ≡ false
+    on true b e f k m rest = absurd (apart k)
+    on false true e f k m rest = ap test (same_text_equal q name (subst T f tt)) ∙ sym e
+    on false false e f k m rest = rest k m
 
 same_value : (o p : Option Datum) → not (is_same o p) ≡ false → p ≡ o
 same_value None None h = refl

@@ -21,8 +21,8 @@ pub(crate) struct Replaced<'d> {
 
 /// The names under which the two data differ.
 pub(crate) fn differing_names(alloc: Global, data: Replaced<'_>) -> Result<BTreeSet<String>>
-    ensures { IsValueOrMemory held_names result (differs (held «data».old.now)
-        (held «data».new.now)) }
+    ensures { IsValueOrMemory held_names result (differs (held «data».entry.old.now)
+        (held «data».entry.new.now)) }
 {
     let mut names = BTreeSet::new(alloc);
     add_differing(alloc, &mut names, data.old, data)?;
@@ -38,8 +38,8 @@ fn add_differing(
     data: Replaced<'_>,
 ) -> Result<()>
     ensures { IsValueOrMemory (λ _. held_names names.new) result
-        (added (differing (held «data».old.now) (held «data».new.now) (keys_of object.now.entries))
-        (held_names names.old)) }
+        (added (differing (held «data».entry.old.now) (held «data».entry.new.now)
+        (keys_of object.now.entries)) (held_names names.old)) }
 {
     for (name, _) in object.iter() {
         if data.differ(name.as_str()) {

@@ -292,7 +292,8 @@ impl<P: Drop> SiteParts<P> {
             (record (parts_view self.old).contents { «data» = held «data» }) }
         ensures counted { OnOk result ((parts_view self.new).rendered ≡ raised
             (parts_view self.old).rendered
-            (length (selected (selects selection) (parts_view self.old).contents.pages))) }
+            (length (selected (selects selection.entry)
+            (parts_view self.old).contents.pages))) }
         ensures unchanged { OnErr result
             ((parts_view self.new).contents ≡ (parts_view self.old).contents) }
         ensures uncounted { OnErr result

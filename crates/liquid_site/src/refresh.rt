@@ -40,7 +40,7 @@ pub(crate) fn rendered_pages<P: Drop, R: Rendering<P>>(
     ensures pages { IfOk result (λ v. AreShown R.shows
         (all_pages (page_over context.now.depth (partials_of context.now.partials.now)
         (held context.now.«data».now))
-        (selected (selects selection) (trees_in templates.now)))
+        (selected (selects selection.entry) (trees_in templates.now)))
         (listed_pages v.items)) }
     ensures ascend { IsStrictlySortedBy string_cmp (keys_of templates.now.entries) }
     ensures memory { IfErr result (λ e. e.kind ≡ ErrorKind.Memory) }

@@ -87,8 +87,9 @@ impl Site {
     ///
     /// Rendered again are: by `SetPage` that page; by `SetPartial`, and by `RemovePartial` of one
     /// that is there, every page; by `SetValue`, and by `RemoveValue` of one that is there, the
-    /// pages that mention the name, or all where a partial mentions it; by `RemovePage` none. A
-    /// fault of a page is that page's end, and no refusal.
+    /// pages that mention the name, or all where a partial mentions it; by `SetData`, once, those
+    /// that mention a name under which the data differ, or all where a partial mentions one; by
+    /// `RemovePage` none. A fault of a page is that page's end, and no refusal.
     pub fn apply(&mut self, change: Change) -> Result<()>
         ensures applied { Applies change result self.old self.new }
         ensures language { language_of self.new ≡ language_of self.old }

@@ -2,7 +2,7 @@
 ghost use Rattle.std.specs.Prelude.{None, Option, IfSome};
 ghost use Rattle.liquid_site_files.specs.Files.{Files, IsFound, IsPut};
 
-/// RefusalReason a file isn't read or written.
+/// Why a file isn't read or written.
 #[derive(Clone, Copy, Debug, Drop)]
 pub enum DiskFault {
     /// No memory was to be had.

@@ -19,7 +19,7 @@ use liquid_json::data_from_json;
 use liquid_site::{Change, Site};
 use std::alloc::{AllocError, Global};
 
-/// RefusalReason a file is refused.
+/// Why a file is refused.
 #[derive(Drop)]
 pub enum RefusalReason {
     /// It can't be read, isn't UTF-8, or is the data's file and gone.
@@ -33,7 +33,7 @@ pub enum RefusalReason {
 pub struct RefusedFile {
     /// The file's path.
     pub path: String,
-    /// RefusalReason it is refused.
+    /// Why it is refused.
     pub why: RefusalReason,
 }
 

@@ -4,11 +4,11 @@ use Rattle.liquid_core.specs.Held.{held}
 use Rattle.liquid_syntax.specs.NameSets.{added, held as held_names}
 use Rattle.liquid_site.specs.Steps.{differs}
 use Rattle.liquid_site.specs.inside.Differing.{texts, differing}
-use Rattle.liquid_site.proofs.Differences.{one_added, one_passed}
+use Rattle.liquid_site.proofs.Differences.{one_added, one_passed, none_added}
 use Rattle.liquid_site.proofs.differing.add_differing.Goals as goal
 
-pub loop-name-preserved-in_ok-add_name : goal.loop-name-preserved-in_ok-add_name
-loop-name-preserved-in_ok-add_name c =
+pub loop-name-preserved-in-Continue-1 : goal.loop-name-preserved-in-Continue-1
+loop-name-preserved-in-Continue-1 c =
     let test = differs (held c.args.«data».old.now) (held c.args.«data».new.now) in
     let name = string_bytes c.in-Some.name.now in
     let before = held_names c.loop-name.names in
@@ -25,3 +25,8 @@ loop-name-preserved c =
     let miss : test name ≡ false = sym (ap test c.as_str.ensures.value) ∙ sym c.differ.ensures ∙ c.if-differ.false in
     one_passed test name (texts (keys_of c.next.new.self)) before _ miss
     (ap (λ es. added (differing (held c.args.«data».old.now) (held c.args.«data».new.now) (keys_of es)) before) (sym c.in-Some.ensures.steps) ∙ c.loop-name.invariant)
+
+pub returns : goal.returns
+returns c =
+    let left = held_names c.loop-name.names in
+    none_added left ∙ ap (λ es. added (differing (held c.args.«data».old.now) (held c.args.«data».new.now) (keys_of es)) left) (sym c.in-None.ensures.steps.0) ∙ c.loop-name.invariant

@@ -14,8 +14,8 @@ use Rattle.liquid_site.proofs.Placing.{taken, passed}
 use Rattle.liquid_site.proofs.Shown.{shown_append}
 use Rattle.liquid_site.proofs.refresh.rendered_pages.Goals as goal
 
-pub loop-page-preserved-in_ok-push : goal.loop-page-preserved-in_ok-push
-loop-page-preserved-in_ok-push g c =
+pub loop-page-preserved-in-Continue-branch-2 : goal.loop-page-preserved-in-Continue-branch-2
+loop-page-preserved-in-Continue-branch-2 g c =
     let context = c.args.context.now in
     let show = page_over context.depth (partials_of context.partials.now) (held context.«data».now) in
     let test = selects c.args.selection in

@@ -8,5 +8,5 @@ use Rattle.liquid_site.proofs.selection.Selection.by_name.Goals as goal
 pub returns-then-mention : goal.returns-then-mention
 returns-then-mention c = fun_ext (λ nodes. partials_mention (partials_of c.args.partials.now) (same_text c.args.name.now) nodes (sym c.mention.ensures ∙ c.if-mention.true))
 
-pub returns-else-mention : goal.returns-else-mention
-returns-else-mention c = fun_ext (λ nodes. page_mentions (partials_of c.args.partials.now) (same_text c.args.name.now) nodes (sym c.mention.ensures ∙ c.if-mention.false))
+pub returns : goal.returns
+returns c = fun_ext (λ nodes. page_mentions (partials_of c.args.partials.now) (same_text c.args.name.now) nodes (sym c.mention.ensures ∙ c.if-mention.false))

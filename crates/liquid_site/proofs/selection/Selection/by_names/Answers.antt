@@ -8,5 +8,5 @@ use Rattle.liquid_site.proofs.selection.Selection.by_names.Goals as goal
 pub returns-then-mention_any : goal.returns-then-mention_any
 returns-then-mention_any c = fun_ext (λ nodes. partials_mention (partials_of c.args.partials.now) (held c.args.names.now) nodes (sym c.mention_any.ensures ∙ c.if-mention_any.true))
 
-pub returns-else-mention_any : goal.returns-else-mention_any
-returns-else-mention_any c = fun_ext (λ nodes. page_mentions (partials_of c.args.partials.now) (held c.args.names.now) nodes (sym c.mention_any.ensures ∙ c.if-mention_any.false))
+pub returns : goal.returns
+returns c = fun_ext (λ nodes. page_mentions (partials_of c.args.partials.now) (held c.args.names.now) nodes (sym c.mention_any.ensures ∙ c.if-mention_any.false))
