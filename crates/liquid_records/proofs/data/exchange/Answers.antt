@@ -2,12 +2,12 @@ use Rattle.std.proofs.Common.{string_bytes, option_map, sym, ap, ◌∙◌}
 use Rattle.liquid_model.specs.View.{view, pairs_view}
 use Rattle.liquid_model.proofs.Views.{pairs_view-insert_entry, view-lookup}
 use Rattle.liquid_core.proofs.States.{held_at}
-use Rattle.liquid_site.proofs.Changed.{fact_set}
+use Rattle.liquid_site.proofs.Changed.{value_put}
 use Rattle.liquid_records.proofs.data.exchange.Goals as goal
 
 pub returns-clause-put : goal.returns-clause-put
 returns-clause-put c =
-    fact_set (string_bytes c.args.name) (view c.args.value) (pairs_view c.args.«data».now.entries) (pairs_view c.insert.new.self.entries)
+    value_put (string_bytes c.args.name) (view c.args.value) (pairs_view c.args.«data».now.entries) (pairs_view c.insert.new.self.entries)
     (ap pairs_view c.in_ok-insert.ensures.entries ∙ pairs_view-insert_entry c.args.«data».now.entries c.args.name c.args.value)
 
 pub returns-clause-before : goal.returns-clause-before
