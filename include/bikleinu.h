@@ -130,9 +130,9 @@ uint32_t bikleinu_share(bikleinu_handle *handle, bikleinu_handle *made);
  *
  * A run takes stack of the thread that it runs in. A page is one level; each block in it, and each partial that runs in it, is one
  * more, up to the deepest that could stand in one another. A level takes at most BIKLEINU_LEVEL_STACK bytes (as measured, a block
- * 704 to 1,632 and a partial 1,296 to 2,736), and what stands at the end of the deepest one at most BIKLEINU_REST_STACK. bikleinu_render
- * begins no run that could reach more than BIKLEINU_LEVELS levels: it answers BIKLEINU_TOO_MANY_LEVELS. So with a depth of up to 200 it
- * stays within a stack of 1 MiB, and with any depth within 1.25 MiB. What a run could reach is known before it begins:
+ * 784 to 1,744 and a partial 1,456 to 2,928), and what stands at the end of the deepest one at most BIKLEINU_REST_STACK. bikleinu_render
+ * begins no run that could reach more than BIKLEINU_LEVELS levels: it answers BIKLEINU_TOO_MANY_LEVELS. So with a depth of up to 160 it
+ * stays within a stack of 1 MiB, and with any depth within 1.5 MiB. What a run could reach is known before it begins:
  *
  *   - Every body counts, whether it would run or not. An elsif is no level of its own.
  *   - A tag that runs a partial counts as if it could name any of the partials, since names may be values of the data. With no
@@ -141,7 +141,7 @@ uint32_t bikleinu_share(bikleinu_handle *handle, bikleinu_handle *made);
  *   - Of the partials behind a handle all count that were ever put there. */
 uint32_t bikleinu_render(bikleinu_handle *template_, bikleinu_handle *data, bikleinu_handle *partials, uint32_t depth, bikleinu_handle *page);
 
-enum { BIKLEINU_LEVELS = 400, BIKLEINU_LEVEL_STACK = 2816, BIKLEINU_REST_STACK = 139264 };
+enum { BIKLEINU_LEVELS = 400, BIKLEINU_LEVEL_STACK = 3008, BIKLEINU_REST_STACK = 139264 };
 
 /* What a caller allows a run. A number that is 0 stands for what is usual: so many levels, and any number of bytes and turns. */
 typedef struct {
