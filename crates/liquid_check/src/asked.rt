@@ -19,8 +19,8 @@ pub struct Asked {
 
 /// The paths in the data that the pieces of a template ask for, piece after piece. The names are
 /// those that tags of this template or others set or bind: what stands under these is known only
-/// where a loop around the piece binds the name to the items of a path, and nothing else is told
-/// of them. A path ends before a step that isn't a literal text.
+/// where a loop around the piece binds the name to the items of a path, and paths under other such
+/// names are left out. A path ends before a step that isn't a literal text.
 ///
 /// The answer is `Memory` where a growth was refused, and no other kind.
 pub fn asked_paths(

@@ -1,4 +1,4 @@
-//! What is told of a record without a page.
+//! The message about a record without a page.
 ghost use Rattle.std.specs.Prelude.{Some};
 ghost use Rattle.liquid_records.specs.Told.{failure_text, why_text};
 
