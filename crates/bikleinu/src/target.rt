@@ -4,7 +4,7 @@ use crate::output::print_text;
 use crate::records::Facts;
 use crate::report::Report;
 use crate::stop::Stop;
-use liquid_records::{Disk, Fate, Job, Made, Merge, Outcome};
+use liquid_records::{Disk, Fate, Job, Made, Merge, RecordResult};
 use std::alloc::Global;
 
 /// Whether a record's page is there, or why not.
@@ -96,7 +96,7 @@ fn named(rt: &HostRuntime, fate: Fate) -> Result<Taken, Stop> {
 }
 
 /// A record whose page is printed.
-fn printed(rt: &HostRuntime, separator: &str, outcome: Outcome<Made>) -> Result<Taken, Stop> {
+fn printed(rt: &HostRuntime, separator: &str, outcome: RecordResult<Made>) -> Result<Taken, Stop> {
     match outcome {
         Ok(Made { name: _, text }) => {
             print_text(rt, text.as_str())?;

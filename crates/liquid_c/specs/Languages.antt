@@ -56,18 +56,18 @@ HoldsLanguage P (Some (Own (content.Language l))) = P l
 HoldsLanguage P _ = ⊥
 
 -- the filter stands in the language;  memory ran out, and nothing changed;  the name is no text
-pub data Registers (old : Language) (name : List ℕ) (least most number : ℕ) (left : Option Held)
-    : Type 0 where
+pub data RegistersFilter (old : Language) (name : List ℕ) (least most number : ℕ)
+    (left : Option Held) : Type 0 where
   done : IsUtf8 name → number ≡ 0 → HoldsLanguage (IsWith name least most old) left →
-      Registers old name least most number left
+      RegistersFilter old name least most number left
   refused : IsUtf8 name → number ≡ number_of Memory → HoldsLanguage (IsSameLanguage old) left →
-      Registers old name least most number left
+      RegistersFilter old name least most number left
   no_text : (IsUtf8 name → ⊥) → number ≡ number_of_refusal NoText →
-      HoldsLanguage (IsSameLanguage old) left → Registers old name least most number left
+      HoldsLanguage (IsSameLanguage old) left → RegistersFilter old name least most number left
 
 abbrev pub IsRegistration : Option Held → List ℕ → ℕ → ℕ → ℕ → Option Held → Type 0
 IsRegistration (Some (Own (content.Language l))) name least most number left =
-    Registers l name least most number left
+    RegistersFilter l name least most number left
 IsRegistration (Some (Shared c)) name least most number left =
     (number ≡ number_of_refusal SharedHandle) × (left ≡ Some (Shared c))
 IsRegistration old name least most number left =

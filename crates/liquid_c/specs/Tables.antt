@@ -43,11 +43,11 @@ IsSameTable old new = (names_of new ≡ names_of old)
     × ((call : Datum) → answer_at new call ≡ answer_at old call)
 
 -- the table changed as R says;  or memory ran out, and nothing changed
-pub data Changes (R : Answers → Answers → Type 0) (old : Answers) (number : ℕ)
+pub data ChangesTable (R : Answers → Answers → Type 0) (old : Answers) (number : ℕ)
     (left : Option Held) : Type 0 where
-  done : number ≡ 0 → HoldsTable (R old) left → Changes R old number left
+  done : number ≡ 0 → HoldsTable (R old) left → ChangesTable R old number left
   refused : number ≡ number_of Memory → HoldsTable (IsSameTable old) left →
-      Changes R old number left
+      ChangesTable R old number left
 
 -- ---- names
 
@@ -58,7 +58,7 @@ HasName name old new = (names_of new ≡ with_name name (names_of old))
 
 abbrev pub IsNaming : Option Held → List ℕ → ℕ → Option Held → Type 0
 IsNaming (Some (Own (content.Answers table))) name number left =
-    (IsUtf8 name × Changes (HasName name) table number left)
+    (IsUtf8 name × ChangesTable (HasName name) table number left)
     ⊎ ((IsUtf8 name → ⊥) × (number ≡ number_of_refusal NoText)
     × HoldsTable (IsSameTable table) left)
 IsNaming (Some (Shared c)) name number left =
@@ -113,7 +113,7 @@ abbrev pub IsAnswering : Option Held → Result Datum Refusal
 IsAnswering old (Err r) answer number left = (number ≡ number_of_refusal r) × (left ≡ old)
 IsAnswering old (Ok call) (Err r) number left = (number ≡ number_of_refusal r) × (left ≡ old)
 IsAnswering (Some (Own (content.Answers table))) (Ok call) (Ok said) number left =
-    Changes (Says call said) table number left
+    ChangesTable (Says call said) table number left
 IsAnswering (Some (Shared c)) (Ok call) (Ok said) number left =
     (number ≡ number_of_refusal SharedHandle) × (left ≡ Some (Shared c))
 IsAnswering old (Ok call) (Ok said) number left =

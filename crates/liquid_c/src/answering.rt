@@ -6,7 +6,7 @@ ghost use Rattle.liquid_model.specs.Data.{Datum};
 ghost use Rattle.liquid_model.specs.View.{view};
 ghost use Rattle.liquid_model.specs.declared.error.ErrorKind.{ErrorKind};
 ghost use Rattle.liquid_answers.specs.Tables.{said_by};
-ghost use Rattle.liquid_c.specs.Tables.{Changes, Given, IsAnswering, IsRefusing, Says};
+ghost use Rattle.liquid_c.specs.Tables.{ChangesTable, Given, IsAnswering, IsRefusing, Says};
 ghost use Rattle.liquid_c.specs.Tables.{answer_among, answer_behind, call_behind, calls_behind};
 ghost use Rattle.liquid_c.specs.Tables.{kind_among, kinds_of_runs};
 ghost use Rattle.liquid_c.specs.Shared.{Regaining, behind};
@@ -226,7 +226,7 @@ fn put(
 
 fn put_answer(alloc: Global, table: &mut Answers, call: &Value, answer: Option<Answer>) -> u32
     ensures { (said : Answered Datum ErrorKind) → MatchOption answer ⊤ (λ a. said_by a ≡ said) →
-        Changes (Says (view call.now) said) table.old result
+        ChangesTable (Says (view call.now) said) table.old result
         (Some (Own (content.Answers table.new))) }
 {
     let Some(answer) = answer else {

@@ -12,7 +12,8 @@ use crate::handle::Handle;
 use crate::held::seen;
 use crate::refusal::{Refusal, settle};
 use crate::render::{
-    Allowed, Limits, allowed_by, empty_facts, facts_held, levels_held, limits_of, partials_held,
+    Allowed, RenderLimits, allowed_by, empty_facts, facts_held, levels_held, limits_of,
+    partials_held,
 };
 use liquid_answers::{Answered, Answers, render_page_answered};
 use liquid_core::Object;
@@ -29,7 +30,7 @@ pub extern "C" fn bikleinu_render_with(
     facts: &mut Handle,
     partials: &mut Handle,
     depth: u32,
-    limits: &Limits,
+    limits: &RenderLimits,
     answers: &mut Handle,
     made: &mut Handle,
 ) -> u32

@@ -1,6 +1,6 @@
 //! Languages of the caller's choice.
 ghost use Rattle.std.specs.Prelude.{◌≡◌, IfErr, IfOk, option_map};
-ghost use Rattle.liquid_c.specs.Languages.{IsRegistration, MakesIncludeAndSort, Registers};
+ghost use Rattle.liquid_c.specs.Languages.{IsRegistration, MakesIncludeAndSort, RegistersFilter};
 ghost use Rattle.liquid_c.specs.Languages.{WithIncludeAndSort};
 ghost use Rattle.liquid_c.specs.Settled.{Settled};
 ghost use Rattle.liquid_c.specs.Shared.{Regaining};
@@ -91,7 +91,7 @@ fn register_behind(
 }
 
 fn register(alloc: Global, language: &mut Language, name: &[u8], least: usize, most: usize) -> u32
-    ensures { Registers language.old name.now least most result
+    ensures { RegistersFilter language.old name.now least most result
         (Some (Own (content.Language language.new))) }
 {
     let Ok(name) = str::from_utf8(name) else {

@@ -27,7 +27,7 @@ const USUAL_LEVELS: u32 = 400;
 /// number of bytes and turns.
 #[repr(C)]
 #[derive(Clone, Copy, Drop)]
-pub struct Limits {
+pub struct RenderLimits {
     /// How many levels it may reach.
     levels: u32,
     /// How many bytes it may write.
@@ -91,7 +91,7 @@ pub extern "C" fn bikleinu_render_within(
     facts: &mut Handle,
     partials: &mut Handle,
     depth: u32,
-    limits: &Limits,
+    limits: &RenderLimits,
     made: &mut Handle,
 ) -> u32
     ensures rendered { Settled
@@ -108,7 +108,7 @@ pub extern "C" fn bikleinu_render_within(
 }
 
 /// What these limits allow.
-pub(crate) fn allowed_by(depth: u32, limits: &Limits) -> Allowed
+pub(crate) fn allowed_by(depth: u32, limits: &RenderLimits) -> Allowed
     ensures depth { result.depth ≡ depth }
     ensures levels { result.levels ≡ bound_of limits.now.levels }
     ensures bytes { result.bytes ≡ limits.now.bytes }

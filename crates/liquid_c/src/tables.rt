@@ -2,7 +2,7 @@
 ghost use Rattle.std.specs.Prelude.{◌≡◌, Some, option_map};
 ghost use Rattle.liquid_c.specs.Settled.{Settled};
 ghost use Rattle.liquid_c.specs.Shared.{Regaining};
-ghost use Rattle.liquid_c.specs.Tables.{Changes, HasName, IsNaming, IsNewTable};
+ghost use Rattle.liquid_c.specs.Tables.{ChangesTable, HasName, IsNaming, IsNewTable};
 ghost use Rattle.liquid_c.specs.declared.content.Content.TheVariants as content;
 ghost use Rattle.liquid_c.specs.declared.held.Held.TheVariants.{Own};
 
@@ -57,7 +57,7 @@ fn add_behind(alloc: Global, held: &mut Option<Box<Held>>, name: &[u8]) -> u32
 }
 
 fn add_name(alloc: Global, table: &mut Answers, name: &str) -> u32
-    ensures { Changes (HasName name.now) table.old result
+    ensures { ChangesTable (HasName name.now) table.old result
         (Some (Own (content.Answers table.new))) }
 {
     let Ok(name) = String::from_str(alloc, name) else {

@@ -5,7 +5,7 @@ use Rattle.std.proofs.lemmas.Option.{slice_get-get_or}
 use Rattle.liquid_model.specs.Data.{Datum, nil}
 use Rattle.liquid_core.specs.Places.{place_of}
 use Rattle.liquid_evaluation.specs.Evaluation.{count_to, numbers_from, skipped, wanted, items_at}
-use Rattle.liquid_evaluation.specs.Laws.{AreItems, WindowByPlace, CountedWindow}
+use Rattle.liquid_evaluation.specs.Laws.{AreItemsByPlace, WindowByPlace, CountedWindow}
 use Rattle.liquid_evaluation.proofs.Ranges.{numbers_count, number_by_place}
 
 pub items_count : (ds : List Datum) (o m : ℕ) → length (items_at ds o m) ≡ m
@@ -22,7 +22,7 @@ item_place ds o zero k h = absurd (omega arith)
 item_place ds o (suc m) zero h = ap (λ i. get_or ds i nil) (let e : o ≡ o + 0 = omega arith in e)
 item_place ds o (suc m) (suc k) h = item_place ds (suc o) m k (omega arith) ∙ ap (λ i. get_or ds i nil) (let e : suc o + k ≡ o + suc k = omega arith in e)
 
-placed : (ds : List Datum) (o m : ℕ) (reversed : Bool) → AreItems (cond reversed (reverse (items_at ds o m)) (items_at ds o m)) m (λ k. get_or ds (place_of reversed o m k) nil)
+placed : (ds : List Datum) (o m : ℕ) (reversed : Bool) → AreItemsByPlace (cond reversed (reverse (items_at ds o m)) (items_at ds o m)) m (λ k. get_or ds (place_of reversed o m k) nil)
 placed ds o m false = record { count = items_count ds o m; each = items_place ds o m }
 placed ds o m true = record { count = turned_count; each = each }
   where

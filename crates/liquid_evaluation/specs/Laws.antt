@@ -21,7 +21,7 @@ ItemsByPlace = (r : Range) (ds : List Datum) → range_items r ≡ Ok ds → (i 
     get_or ds i nil
 
 -- item by item, m items are these
-pub record AreItems (items : List Datum) (m : ℕ) (item : ℕ → Datum) : Type 0 where
+pub record AreItemsByPlace (items : List Datum) (m : ℕ) (item : ℕ → Datum) : Type 0 where
   pub count : length items ≡ m
   pub each : (k : ℕ) → k < m → slice_get items k ≡ Some (item k)
 
@@ -30,12 +30,12 @@ pub record AreItems (items : List Datum) (m : ℕ) (item : ℕ → Datum) : Type
 abbrev pub WindowByPlace : Type 0
 WindowByPlace = (ds : List Datum) (limit offset : Option ℤ) (reversed : Bool)
     → (let o = skipped (length ds) offset in let m = wanted (length ds) o limit in
-    AreItems (window_items ds limit offset reversed) m
+    AreItemsByPlace (window_items ds limit offset reversed) m
     (λ k. get_or ds (place_of reversed o m k) nil))
 
 -- over the range `(a..b)` it is the number that stands at this place, counted from a
 abbrev pub CountedWindow : Type 0
 CountedWindow = (a b : ℤ) (limit offset : Option ℤ) (reversed : Bool)
     → (let o = skipped (count_to a b) offset in let m = wanted (count_to a b) o limit in
-    AreItems (window_items (numbers_from a (count_to a b)) limit offset reversed) m
+    AreItemsByPlace (window_items (numbers_from a (count_to a b)) limit offset reversed) m
     (λ k. number_at a b (place_of reversed o m k)))

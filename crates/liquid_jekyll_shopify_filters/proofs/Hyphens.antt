@@ -4,14 +4,14 @@ use Rattle.std.proofs.lemmas.Bool.Decides.{nat_tests}
 use Rattle.std.specs.List.{concat}
 use Rattle.std.proofs.Math.Bool.{and-false}
 use Rattle.liquid_model.specs.Answer.{IsTheOne}
-use Rattle.liquid_jekyll_shopify_filters.specs.Runs.{Part, kept, other, characters_of, shown_of, AreOther, EndsRun, AreParts, Hyphens, AreHyphens, StartsOther, EndsOther, CutsHyphens}
+use Rattle.liquid_jekyll_shopify_filters.specs.Runs.{TextPart, kept, other, characters_of, shown_of, AreOther, EndsRun, AreParts, Hyphens, AreHyphens, StartsOther, EndsOther, CutsHyphens}
 use Rattle.liquid_jekyll_shopify_filters.specs.Slugs.{hyphened, without_outer, slug_character, without_first, without_last}
 
 -- ---- runs
-abbrev flat : List Part → List ℕ
+abbrev flat : List TextPart → List ℕ
 flat ps = concat (map characters_of ps)
 
-abbrev seen : List Part → List ℕ
+abbrev seen : List TextPart → List ℕ
 seen ps = concat (map shown_of ps)
 
 module _ (keeps : ℕ → Bool) where
@@ -20,29 +20,29 @@ module _ (keeps : ℕ → Bool) where
   past_others (c ∷ cs) rest h =
       ap (λ b. slug_character b true c ++ hyphened keeps (not b) (cs ++ rest)) h.0 ∙ past_others cs rest h.1
 
-  after_run : (ps : List Part) → EndsRun ps → AreParts keeps ps → hyphened keeps true (flat ps) ≡ hyphened keeps false (flat ps)
+  after_run : (ps : List TextPart) → EndsRun ps → AreParts keeps ps → hyphened keeps true (flat ps) ≡ hyphened keeps false (flat ps)
   after_run [] e h = refl
   after_run (kept c ∷ ps) e h =
       ap (λ b. slug_character b true c ++ hyphened keeps (not b) (flat ps)) h.0 ∙ sym (ap (λ b. slug_character b false c ++ hyphened keeps (not b) (flat ps)) h.0)
   after_run (other c cs ∷ ps) e h = absurd e
 
-  shown_parts : (ps : List Part) → AreParts keeps ps → hyphened keeps false (flat ps) ≡ seen ps
+  shown_parts : (ps : List TextPart) → AreParts keeps ps → hyphened keeps false (flat ps) ≡ seen ps
   shown_parts [] h = refl
   shown_parts (kept c ∷ ps) h = ap (λ b. slug_character b false c ++ hyphened keeps (not b) (flat ps)) h.0 ∙ ap (λ l. c ∷ l) (shown_parts ps h.1)
   shown_parts (other c cs ∷ ps) h =
       ap (λ b. slug_character b false c ++ hyphened keeps (not b) (cs ++ flat ps)) h.0.0
       ∙ ap (λ l. 45 ∷ l) (past_others cs (flat ps) h.0.1 ∙ after_run ps h.1 h.2 ∙ shown_parts ps h.2)
 
-  add : Bool → ℕ → List Part → List Part
+  add : Bool → ℕ → List TextPart → List TextPart
   add true c ps = kept c ∷ ps
   add false c (other d ds ∷ ps) = other c (d ∷ ds) ∷ ps
   add false c ps = other c [] ∷ ps
 
-  parts : List ℕ → List Part
+  parts : List ℕ → List TextPart
   parts [] = []
   parts (c ∷ cs) = add (keeps c) c (parts cs)
 
-  added : (b : Bool) (c : ℕ) (ps : List Part) → keeps c ≡ b → AreParts keeps ps → AreParts keeps (add b c ps) × (flat (add b c ps) ≡ c ∷ flat ps)
+  added : (b : Bool) (c : ℕ) (ps : List TextPart) → keeps c ≡ b → AreParts keeps ps → AreParts keeps (add b c ps) × (flat (add b c ps) ≡ c ∷ flat ps)
   unfolding add
   added true c ps e h = ((e, h), refl)
   added false c [] e h = (((e, tt), tt, tt), refl)

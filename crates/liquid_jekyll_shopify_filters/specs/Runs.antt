@@ -9,15 +9,15 @@ use Rattle.liquid_jekyll_shopify_filters.specs.Slugs.{keeps}
 use Rattle.liquid_jekyll_shopify_filters.specs.declared.jekyll.slugify.Mode.{Mode}
 
 -- a character that is kept, or a run of others, which isn't empty
-pub data Part : Type 0 where
-  kept : ℕ → Part
-  other : ℕ → List ℕ → Part
+pub data TextPart : Type 0 where
+  kept : ℕ → TextPart
+  other : ℕ → List ℕ → TextPart
 
-abbrev pub characters_of : Part → List ℕ
+abbrev pub characters_of : TextPart → List ℕ
 characters_of (kept c) = c ∷ []
 characters_of (other c cs) = c ∷ cs
 
-abbrev pub shown_of : Part → List ℕ
+abbrev pub shown_of : TextPart → List ℕ
 shown_of (kept c) = c ∷ []
 shown_of (other c cs) = 45 ∷ []
 
@@ -27,19 +27,19 @@ AreOther keeps [] = ⊤
 AreOther keeps (c ∷ cs) = (keeps c ≡ false) × AreOther keeps cs
 
 -- a run of others is as long as it can be: no other one follows
-abbrev pub EndsRun : List Part → Type 0
+abbrev pub EndsRun : List TextPart → Type 0
 EndsRun (other c cs ∷ ps) = ⊥
 EndsRun ps = ⊤
 
-abbrev pub AreParts : (ℕ → Bool) → List Part → Type 0
+abbrev pub AreParts : (ℕ → Bool) → List TextPart → Type 0
 AreParts keeps [] = ⊤
 AreParts keeps (kept c ∷ ps) = (keeps c ≡ true) × AreParts keeps ps
 AreParts keeps (other c cs ∷ ps) = AreOther keeps (c ∷ cs) × EndsRun ps × AreParts keeps ps
 
 -- ds is cs with each longest run of characters that aren't kept as one hyphen
 abbrev pub Hyphens : (ℕ → Bool) → List ℕ → List ℕ → Type 0
-Hyphens keeps cs ds = (ps : List Part) × AreParts keeps ps × (cs ≡ concat (map characters_of ps)) ×
-    (ds ≡ concat (map shown_of ps))
+Hyphens keeps cs ds = (ps : List TextPart) × AreParts keeps ps ×
+    (cs ≡ concat (map characters_of ps)) × (ds ≡ concat (map shown_of ps))
 
 abbrev pub AreHyphens : List ℕ → Type 0
 AreHyphens [] = ⊤

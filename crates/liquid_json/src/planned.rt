@@ -9,7 +9,7 @@ ghost use Rattle.liquid_json.specs.PlainUses.{plain, plain_fields, plain_turns};
 ghost use Rattle.liquid_json.specs.inside.Planned.{IsPlanned, ArePlanned, PairsPlanned};
 
 use crate::skip::{skip_items, skipped};
-use crate::tokens::{MAX_DEPTH, Stop, read, read_pairs};
+use crate::tokens::{MAX_DEPTH, NoData, read, read_pairs};
 use crate::whole::integer_of;
 use json::{Reader, Scratch, Token};
 use liquid_core::{Object, Use, Uses, Value, member_of};
@@ -89,8 +89,8 @@ pub fn data_from_planned(
     let items = None;
     let value = match read_parts(alloc, &mut reader, MAX_DEPTH, &items, uses) {
         Ok(value) => value,
-        Err(Stop::Memory) => return Err(AllocError),
-        Err(Stop::Other) => return Ok(None),
+        Err(NoData::Memory) => return Err(AllocError),
+        Err(NoData::Other) => return Ok(None),
     };
     if reader.next().is_some() {
         return Ok(None);
@@ -108,7 +108,7 @@ fn read_planned(
     reader: &mut Reader<'_>,
     depth: usize,
     asked: &Use,
-) -> Result<Value, Stop>
+) -> Result<Value, NoData>
     requires plain { IsTrue (plain (use_view asked.now)) }
     ensures ok { IfOk result (λ v. IsPlanned (use_view asked.now) depth reader.old
         (view v) reader.new) }
@@ -137,7 +137,7 @@ fn read_parts(
     depth: usize,
     items: &Option<Box<Use>>,
     members: &Uses,
-) -> Result<Value, Stop>
+) -> Result<Value, NoData>
     requires plain_members { IsTrue (plain_fields (members_view members.now.entries)) }
     requires plain_items { IsTrue (plain_turns (turns_view items.now)) }
     ensures ok { IfOk result (λ v.
@@ -145,19 +145,19 @@ fn read_parts(
         reader.old (view v) reader.new) }
     ensures shorter { OnOk result (length reader.new < length reader.old) }
 {
-    let token = reader.next().ok_or(Stop::Other)?;
+    let token = reader.next().ok_or(NoData::Other)?;
     match token {
         Token::String(text) => Ok(Value::Text(String::from_str(alloc, text)?)),
         Token::Number(text) => match integer_of(text) {
             Some(n) => Ok(Value::Integer(n)),
-            None => Err(Stop::Other),
+            None => Err(NoData::Other),
         },
         Token::Bool(b) => Ok(Value::Bool(b)),
         Token::Null => Ok(Value::Nil),
-        Token::EndObject | Token::EndArray | Token::Key(_) | Token::Bad => Err(Stop::Other),
+        Token::EndObject | Token::EndArray | Token::Key(_) | Token::Bad => Err(NoData::Other),
         Token::BeginArray => {
             if depth == 0 {
-                return Err(Stop::Other);
+                return Err(NoData::Other);
             }
             match items {
                 None => {
@@ -169,7 +169,7 @@ fn read_parts(
         }
         Token::BeginObject => {
             if depth == 0 {
-                return Err(Stop::Other);
+                return Err(NoData::Other);
             }
             match items {
                 None => Ok(Value::Object(planned_pairs(alloc, reader, depth - 1, members)?)),
@@ -186,7 +186,7 @@ fn planned_items(
     reader: &mut Reader<'_>,
     depth: usize,
     asked: &Use,
-) -> Result<Vec<Value>, Stop>
+) -> Result<Vec<Value>, NoData>
     requires plain { IsTrue (plain (use_view asked.now)) }
     ensures ok { IfOk result (λ v. ArePlanned (use_view asked.now) depth reader.old
         (items_view v.items) reader.new) }
@@ -211,7 +211,7 @@ fn read_item(
     depth: usize,
     asked: &Use,
     extent: Extent,
-) -> Result<Value, Stop>
+) -> Result<Value, NoData>
     requires plain { IsTrue (plain (use_view asked.now)) }
     ensures ok { IfOk result (λ v. IsPlanned (use_view asked.now) depth reader.old
         (view v) reader.new) }
@@ -236,7 +236,7 @@ fn planned_pairs(
     reader: &mut Reader<'_>,
     depth: usize,
     members: &Uses,
-) -> Result<Object, Stop>
+) -> Result<Object, NoData>
     requires plain { IsTrue (plain_fields (members_view members.now.entries)) }
     ensures ok { IfOk result (λ m. PairsPlanned (members_view members.now.entries) depth reader.old
         (pairs_view m.entries) reader.new) }

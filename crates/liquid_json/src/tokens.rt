@@ -17,32 +17,32 @@ pub const MAX_DEPTH: usize = 127;
 
 /// Why the tokens gave no data: memory was refused, or they have what only the tree tells.
 #[derive(Clone, Copy, Drop)]
-pub enum Stop {
+pub enum NoData {
     Memory,
     Other,
 }
 
-impl From<AllocError> for Stop {
-    fn from(_refused: AllocError) -> Stop {
-        Stop::Memory
+impl From<AllocError> for NoData {
+    fn from(_refused: AllocError) -> NoData {
+        NoData::Memory
     }
 }
 
-impl<T: Drop> From<AllocFailed<T>> for Stop {
-    fn from(_refused: AllocFailed<T>) -> Stop {
-        Stop::Memory
+impl<T: Drop> From<AllocFailed<T>> for NoData {
+    fn from(_refused: AllocFailed<T>) -> NoData {
+        NoData::Memory
     }
 }
 
-impl From<crate::skip::Refused> for Stop {
-    fn from(_refused: crate::skip::Refused) -> Stop {
-        Stop::Other
+impl From<crate::skip::Refused> for NoData {
+    fn from(_refused: crate::skip::Refused) -> NoData {
+        NoData::Other
     }
 }
 
-impl From<Invalid> for Stop {
-    fn from(_invalid: Invalid) -> Stop {
-        Stop::Other
+impl From<Invalid> for NoData {
+    fn from(_invalid: Invalid) -> NoData {
+        NoData::Other
     }
 }
 
@@ -55,8 +55,8 @@ pub fn data_from_tokens(alloc: Global, text: &str) -> Result<Option<Object>, All
     let mut reader = Reader::new(text, &mut scratch)?;
     let value = match read(alloc, &mut reader, MAX_DEPTH) {
         Ok(value) => value,
-        Err(Stop::Memory) => return Err(AllocError),
-        Err(Stop::Other) => return Ok(None),
+        Err(NoData::Memory) => return Err(AllocError),
+        Err(NoData::Other) => return Ok(None),
     };
     if reader.next().is_some() {
         return Ok(None);
@@ -69,29 +69,29 @@ pub fn data_from_tokens(alloc: Global, text: &str) -> Result<Option<Object>, All
 
 #[cycle(read)]
 #[inline(always)]
-pub fn read(alloc: Global, reader: &mut Reader<'_>, depth: usize) -> Result<Value, Stop>
+pub fn read(alloc: Global, reader: &mut Reader<'_>, depth: usize) -> Result<Value, NoData>
     ensures ok { IfOk result (λ v. datum_at depth reader.old ≡ Some (view v, reader.new)) }
     ensures shorter { OnOk result (length reader.new < length reader.old) }
 {
-    let token = reader.next().ok_or(Stop::Other)?;
+    let token = reader.next().ok_or(NoData::Other)?;
     match token {
         Token::String(text) => Ok(Value::Text(String::from_str(alloc, text)?)),
         Token::Number(text) => match integer_of(text) {
             Some(n) => Ok(Value::Integer(n)),
-            None => Err(Stop::Other),
+            None => Err(NoData::Other),
         },
         Token::Bool(b) => Ok(Value::Bool(b)),
         Token::Null => Ok(Value::Nil),
-        Token::EndObject | Token::EndArray | Token::Key(_) | Token::Bad => Err(Stop::Other),
+        Token::EndObject | Token::EndArray | Token::Key(_) | Token::Bad => Err(NoData::Other),
         Token::BeginArray => {
             if depth == 0 {
-                return Err(Stop::Other);
+                return Err(NoData::Other);
             }
             Ok(Value::Array(read_items(alloc, reader, depth - 1)?))
         }
         Token::BeginObject => {
             if depth == 0 {
-                return Err(Stop::Other);
+                return Err(NoData::Other);
             }
             Ok(Value::Object(read_pairs(alloc, reader, depth - 1)?))
         }
@@ -100,7 +100,7 @@ pub fn read(alloc: Global, reader: &mut Reader<'_>, depth: usize) -> Result<Valu
 
 #[cycle(read)]
 #[inline(never)]
-fn read_items(alloc: Global, reader: &mut Reader<'_>, depth: usize) -> Result<Vec<Value>, Stop>
+fn read_items(alloc: Global, reader: &mut Reader<'_>, depth: usize) -> Result<Vec<Value>, NoData>
     ensures ok { IfOk result (λ v. items_at depth (length reader.old) reader.old ≡
         Some (items_view v.items, reader.new)) }
     ensures shorter { OnOk result (length reader.new < length reader.old) }
@@ -115,7 +115,7 @@ fn read_items(alloc: Global, reader: &mut Reader<'_>, depth: usize) -> Result<Ve
 
 #[cycle(read)]
 #[inline(never)]
-pub fn read_pairs(alloc: Global, reader: &mut Reader<'_>, depth: usize) -> Result<Object, Stop>
+pub fn read_pairs(alloc: Global, reader: &mut Reader<'_>, depth: usize) -> Result<Object, NoData>
     ensures ok { IfOk result (λ m. pairs_at depth no_pairs (length reader.old) reader.old ≡
         Some (pairs_view m.entries, reader.new)) }
     ensures shorter { OnOk result (length reader.new < length reader.old) }

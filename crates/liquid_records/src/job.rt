@@ -46,7 +46,7 @@ pub enum Why {
 }
 
 /// What a record comes to.
-pub type Outcome<T> = std::result::Result<T, Why>;
+pub type RecordResult<T> = std::result::Result<T, Why>;
 
 impl Job {
     /// What a record with these members comes to, over the shared data: the record's member stands
@@ -61,7 +61,7 @@ impl Job {
         alloc: Global,
         facts: Object,
         pattern: Option<&Template>,
-    ) -> Result<(Job, Outcome<Made>)>
+    ) -> Result<(Job, RecordResult<Made>)>
         ensures made { IsValueOrMemory (λ p. outcome_view made_view p.1) result
             (comes_to (job_view self) (pattern_view pattern.entry)
             (Ok (pairs_view facts.entries))) }
@@ -103,7 +103,7 @@ impl Job {
         alloc: Global,
         text: &str,
         pattern: Option<&Template>,
-    ) -> Result<(Job, Outcome<Made>)>
+    ) -> Result<(Job, RecordResult<Made>)>
         ensures made { IsValueOrMemory (λ p. outcome_view made_view p.1) result
             (comes_to (job_view self) (pattern_view pattern.entry) (data_of text.now)) }
         ensures same { IfOk result (λ p. job_view p.0 ≡ job_view self) }
@@ -119,7 +119,7 @@ impl Job {
 
     /// The name and the page, over the data as it stands.
     #[tactic(auto, using(crate::proofs::Making::made_is, crate::proofs::Making::unnamed_is))]
-    fn made_over(&self, alloc: Global, pattern: Option<&Template>) -> Result<Outcome<Made>>
+    fn made_over(&self, alloc: Global, pattern: Option<&Template>) -> Result<RecordResult<Made>>
         ensures { IsValueOrMemory (outcome_view made_view) result
             (made_by (job_view self.now) (pattern_view pattern.entry)) }
     {
@@ -134,7 +134,7 @@ impl Job {
 
     /// The name of the page's file.
     #[tactic(auto, using(crate::proofs::Making::name_is))]
-    fn name_over(&self, alloc: Global, pattern: Option<&Template>) -> Result<Outcome<String>>
+    fn name_over(&self, alloc: Global, pattern: Option<&Template>) -> Result<RecordResult<String>>
         ensures { IsValueOrMemory (outcome_view string_bytes) result
             (name_of (job_view self.now) (pattern_view pattern.entry)) }
     {
@@ -156,7 +156,7 @@ impl Job {
 }
 
 /// A page under its name, where it has no fault.
-fn page_named(name: String, page: Page) -> Outcome<Made>
+fn page_named(name: String, page: Page) -> RecordResult<Made>
     ensures { outcome_view made_view result ≡ made_page (string_bytes name) (page_view page) }
 {
     let Page { text, fault } = page;
@@ -167,7 +167,7 @@ fn page_named(name: String, page: Page) -> Outcome<Made>
 }
 
 /// The name that a page is, where it has no fault.
-fn name_in(page: Page) -> Outcome<String>
+fn name_in(page: Page) -> RecordResult<String>
     ensures { outcome_view string_bytes result ≡ named_by (page_view page) }
 {
     let Page { text, fault } = page;
@@ -178,7 +178,7 @@ fn name_in(page: Page) -> Outcome<String>
 }
 
 /// A name, where it is one of a file.
-fn checked_name(name: String) -> Outcome<String>
+fn checked_name(name: String) -> RecordResult<String>
     ensures { outcome_view string_bytes result ≡ checked_name (string_bytes name) }
 {
     if is_file_name(name.as_str()) {

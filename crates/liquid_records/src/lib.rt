@@ -11,7 +11,7 @@ mod told;
 
 pub use data::with_members;
 pub use file_name::is_file_name;
-pub use job::{Job, Made, Outcome, Why};
+pub use job::{Job, Made, RecordResult, Why};
 pub use laws::merge_laws;
 pub use liquid_site_files::{Disk, DiskFault};
 pub use merge::{Failure, Fate, Merge};

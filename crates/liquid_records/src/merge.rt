@@ -10,7 +10,7 @@ ghost use Rattle.liquid_records.specs.Views.{fate_view, job_of, job_view, made_v
 ghost use Rattle.liquid_records.specs.Views.{outcome_view, pattern_of};
 ghost use Rattle.liquid_records.specs.inside.Puts.{map_names};
 
-use crate::job::{Job, Made, Outcome, Why};
+use crate::job::{Job, Made, RecordResult, Why};
 use liquid_core::{ErrorKind, Object, Result};
 use liquid_json::data_from_json;
 use liquid_lib::Template;
@@ -129,7 +129,7 @@ impl Merge {
 fn put_if_made<D: Disk>(
     alloc: Global,
     number: usize,
-    outcome: Outcome<Made>,
+    outcome: RecordResult<Made>,
     names: &mut BTreeMap<String, usize>,
     disk: &mut D,
 ) -> Result<Fate>

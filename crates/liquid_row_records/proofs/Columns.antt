@@ -9,26 +9,26 @@ use Rattle.liquid_model.specs.Texts.{Text}
 use Rattle.liquid_row_records.proofs.Fields.{no_field, one_field}
 use Rattle.liquid_row_records.proofs.Places.{named, none_yet, places}
 use Rattle.liquid_row_records.specs.Cells.{cell_text}
-use Rattle.liquid_row_records.specs.Heads.{Named, added_view, all_named, column_names, names_alone, none_named, one_name}
+use Rattle.liquid_row_records.specs.Heads.{NamedColumns, added_view, all_named, column_names, names_alone, none_named, one_name}
 use Rattle.liquid_row_records.specs.declared.head.HeadFault.{HeadFault}
 
 pub columns_start : (fs : List Text) (names : List (String Global)) (m : BTreeMap (String Global) ℕ) (n : ℕ) → names ≡ [] → m.entries ≡ [] → n ≡ 0 → all_named (Ok none_named) fs ≡ all_named (Ok (named names m)) (drop n fs)
 columns_start fs names m n p q r = λ i. all_named (Ok (record { names = map string_bytes (sym p i); places = sym (none_yet m q) i })) (drop (sym r i) fs)
 
 -- what the cell that is next makes of the columns so far
-next_is : (fs : List Text) (n : ℕ) (c : Text) (before : Named) → Some c ≡ field_at fs n → all_named (Ok none_named) fs ≡ all_named (Ok before) (drop n fs) → all_named (Ok none_named) fs ≡ all_named (one_name before (cell_text c)) (drop (suc n) fs)
+next_is : (fs : List Text) (n : ℕ) (c : Text) (before : NamedColumns) → Some c ≡ field_at fs n → all_named (Ok none_named) fs ≡ all_named (Ok before) (drop n fs) → all_named (Ok none_named) fs ≡ all_named (one_name before (cell_text c)) (drop (suc n) fs)
 next_is fs n c before there inv = inv ∙ ap (all_named (Ok before)) (one_field fs n c there)
 
-pub column_turn : (fs : List Text) (n k : ℕ) (c : Text) (before after : Named) (r : Result (Unit {0}) HeadFault) (u : Unit {0}) → Some c ≡ field_at fs n → k ≡ n + 1 → r ≡ Ok u → added_view r after ≡ one_name before (cell_text c)
+pub column_turn : (fs : List Text) (n k : ℕ) (c : Text) (before after : NamedColumns) (r : Result (Unit {0}) HeadFault) (u : Unit {0}) → Some c ≡ field_at fs n → k ≡ n + 1 → r ≡ Ok u → added_view r after ≡ one_name before (cell_text c)
     → all_named (Ok none_named) fs ≡ all_named (Ok before) (drop n fs) → all_named (Ok none_named) fs ≡ all_named (Ok after) (drop k fs)
 column_turn fs n k c before after r u there step is added inv =
     let next : suc n ≡ k = omega (arith, step) in
     next_is fs n c before there inv ∙ (λ i. all_named ((sym added ∙ ap (λ x. added_view x after) is) i) (drop (next i) fs))
 
-pub column_fault : (fs : List Text) (n : ℕ) (c : Text) (before after : Named) (r : Result (Unit {0}) HeadFault) (fault : HeadFault) → Some c ≡ field_at fs n → r ≡ Err fault → added_view r after ≡ one_name before (cell_text c)
+pub column_fault : (fs : List Text) (n : ℕ) (c : Text) (before after : NamedColumns) (r : Result (Unit {0}) HeadFault) (fault : HeadFault) → Some c ≡ field_at fs n → r ≡ Err fault → added_view r after ≡ one_name before (cell_text c)
     → all_named (Ok none_named) fs ≡ all_named (Ok before) (drop n fs) → Err fault ≡ column_names fs
 column_fault fs n c before after r fault there is added inv =
     sym (ap names_alone (next_is fs n c before there inv ∙ ap (λ x. all_named x (drop (suc n) fs)) (sym added ∙ ap (λ x. added_view x after) is)))
 
-pub columns_end : (fs : List Text) (n : ℕ) (m : Named) → None ≡ field_at fs n → all_named (Ok none_named) fs ≡ all_named (Ok m) (drop n fs) → Ok m.names ≡ column_names fs
+pub columns_end : (fs : List Text) (n : ℕ) (m : NamedColumns) → None ≡ field_at fs n → all_named (Ok none_named) fs ≡ all_named (Ok m) (drop n fs) → Ok m.names ≡ column_names fs
 columns_end fs n m none inv = sym (ap names_alone (inv ∙ ap (all_named (Ok m)) (no_field fs n none)))

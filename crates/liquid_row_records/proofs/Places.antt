@@ -12,12 +12,12 @@ use Rattle.std.proofs.lemmas.Map.Text.{btree_map_updates_text}
 use mathlib.Core.Path.{ap, fun_ext, ◌∙◌}
 use Rattle.liquid_model.specs.Maps.{Map, empty, insert}
 use Rattle.liquid_model.specs.Texts.{Text}
-use Rattle.liquid_row_records.specs.Heads.{Named, with_column}
+use Rattle.liquid_row_records.specs.Heads.{NamedColumns, with_column}
 
 abbrev pub places : BTreeMap (String Global) ℕ → Map ℕ
 places m = λ name. get_by_text m name
 
-abbrev pub named : List (String Global) → BTreeMap (String Global) ℕ → Named
+abbrev pub named : List (String Global) → BTreeMap (String Global) ℕ → NamedColumns
 named names m = record { names = map string_bytes names; places = places m }
 
 pub none_yet : (m : BTreeMap (String Global) ℕ) → m.entries ≡ [] → places m ≡ empty

@@ -15,40 +15,40 @@ use Rattle.liquid_row_records.specs.declared.head.HeadFault.{HeadFault}
 use Rattle.liquid_row_records.specs.declared.head.HeadFault.TheVariants.{NotUtf8, Unnamed, Again}
 
 -- the names so far, and each of them with its column, from 1
-pub record Named : Type 0 where
+pub record NamedColumns : Type 0 where
   pub names : List Text
   pub places : Map ℕ
 
-abbrev pub none_named : Named
+abbrev pub none_named : NamedColumns
 none_named = record { names = []; places = empty }
 
 -- the column after those so far
-abbrev pub next_column : Named → ℕ
+abbrev pub next_column : NamedColumns → ℕ
 next_column m = length m.names + 1
 
-abbrev pub with_column : Named → Text → ℕ → Named
+abbrev pub with_column : NamedColumns → Text → ℕ → NamedColumns
 with_column m name column = record {
   names = m.names ++ name ∷ [];
   places = insert m.places name column;
 }
 
 -- a name that stands at a column before is none of its own
-abbrev pub unless_before : Named → Text → Option ℕ → Result Named HeadFault
+abbrev pub unless_before : NamedColumns → Text → Option ℕ → Result NamedColumns HeadFault
 unless_before m name (Some before) = Err (Again before (next_column m))
 unless_before m name None = Ok (with_column m name (next_column m))
 
 -- one more column, of this text
-abbrev pub one_name : Named → Option Text → Result Named HeadFault
+abbrev pub one_name : NamedColumns → Option Text → Result NamedColumns HeadFault
 one_name m None = Err (NotUtf8 (next_column m))
 one_name m (Some name) = cond (length name == 0) (Err (Unnamed (next_column m)))
     (unless_before m name (m.places name))
 
-abbrev pub all_named : Result Named HeadFault → List Text → Result Named HeadFault
+abbrev pub all_named : Result NamedColumns HeadFault → List Text → Result NamedColumns HeadFault
 all_named (Err fault) cells = Err fault
 all_named (Ok m) [] = Ok m
 all_named (Ok m) (cell ∷ cells) = all_named (one_name m (cell_text cell)) cells
 
-abbrev pub names_alone : Result Named HeadFault → Result (List Text) HeadFault
+abbrev pub names_alone : Result NamedColumns HeadFault → Result (List Text) HeadFault
 names_alone (Ok m) = Ok m.names
 names_alone (Err fault) = Err fault
 
@@ -67,13 +67,13 @@ head_fault_text (Again before column) = codes "columns " ++ (decimal before ++ (
 
 -- ---- as contracts see them
 
-abbrev pub columns_view : Columns → Named
+abbrev pub columns_view : Columns → NamedColumns
 columns_view c = record {
   names = map string_bytes c.names.items;
   places = λ name. get_by_text c.places name;
 }
 
-abbrev pub added_view : Result (Unit {0}) HeadFault → Named → Result Named HeadFault
+abbrev pub added_view : Result (Unit {0}) HeadFault → NamedColumns → Result NamedColumns HeadFault
 added_view (Ok done) m = Ok m
 added_view (Err fault) m = Err fault
 
