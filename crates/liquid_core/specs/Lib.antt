@@ -1,3 +1,4 @@
+pub mod DataChanges
 pub mod Environment
 pub mod Expression
 pub mod ExpressionView

@@ -11,8 +11,8 @@ use Rattle.liquid_model.specs.View.{view, pairs_view}
 use Rattle.liquid_model.specs.declared.value.Value.{Value}
 use Rattle.liquid_model.proofs.Views.{Entry}
 use Rattle.liquid_core.specs.Held.{map_of}
-use Rattle.liquid_site.specs.Steps.{with_value}
-use Rattle.liquid_site_files.proofs.Merged.{one_set}
+use Rattle.liquid_core.specs.DataChanges.{with_value}
+use Rattle.liquid_core.proofs.DataChanges.{one_set}
 use Rattle.liquid_records.specs.inside.Covered.{Covered, covered_view, uncovered}
 
 -- what stands at a name, put back there after another value

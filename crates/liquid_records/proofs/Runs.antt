@@ -9,7 +9,7 @@ use Rattle.liquid_model.specs.Data.{Pairs}
 use Rattle.liquid_model.specs.Maps.{insert}
 use Rattle.liquid_model.specs.Texts.{Text}
 use Rattle.liquid_model.specs.declared.error.ErrorKind.{ErrorKind}
-use Rattle.liquid_site_files.specs.Files.{File, Files, ChangesAt, holds, with_file}
+use Rattle.liquid_disk.specs.Files.{File, Files, ChangesAt, holds, with_file}
 use Rattle.liquid_records.specs.Records.{Made, Reason}
 use Rattle.liquid_records.specs.Steps.{Names, Fate, no_page, again, unwritten, IsNamed, IsTried, Leaves}
 use Rattle.liquid_records.specs.Runs.{Records, Stand, IsTaken, AreTaken, tried, written_names, AreApart, HasPage, HavePages}

@@ -1,7 +1,7 @@
 -- A step of a merge, by what the record comes to.
 use Rattle.std.specs.Prelude.{◌≡◌, ℕ, Option, IfSome, Result}
 use mathlib.Core.Path.{subst}
-use Rattle.liquid_site_files.specs.Files.{Files}
+use Rattle.liquid_disk.specs.Files.{Files}
 use Rattle.liquid_records.specs.Records.{Made, Reason}
 use Rattle.liquid_records.specs.Steps.{Names, Fate, IsStep, Leaves}
 

@@ -10,7 +10,7 @@ use Rattle.liquid_model.specs.Maps.{empty}
 use Rattle.liquid_model.specs.Texts.{Text}
 use Rattle.liquid_model.specs.declared.error.ErrorKind.{ErrorKind}
 use Rattle.liquid_evaluation.specs.Tree.{Nodes}
-use Rattle.liquid_site_files.specs.Files.{Files, holds}
+use Rattle.liquid_disk.specs.Files.{Files, holds}
 use Rattle.liquid_records.specs.Records.{Job, Made, Reason, comes_to}
 use Rattle.liquid_records.specs.Steps.{Names, Fate, IsStep, Leaves, unwritten}
 

@@ -5,7 +5,7 @@
 use Rattle.std.specs.Prelude.{◌≡◌, ◌⊎◌, ℕ, Option, Some, None, Result, Ok, Err}
 use Rattle.liquid_model.specs.Maps.{Map, insert}
 use Rattle.liquid_model.specs.Texts.{Text}
-use Rattle.liquid_site_files.specs.Files.{Files, ChangesAt, holds, with_file}
+use Rattle.liquid_disk.specs.Files.{Files, ChangesAt, holds, with_file}
 use Rattle.liquid_records.specs.Records.{Made, Reason}
 
 -- the names that came before, each with the number of its record

@@ -4,7 +4,7 @@ ghost use Rattle.liquid_model.specs.Answer.{IsValueOrMemory};
 ghost use Rattle.liquid_model.specs.Maps.{merged};
 ghost use Rattle.liquid_model.specs.View.{view};
 ghost use Rattle.liquid_core.specs.Held.{held};
-ghost use Rattle.liquid_site.specs.Steps.{with_value};
+ghost use Rattle.liquid_core.specs.DataChanges.{with_value};
 ghost use Rattle.liquid_records.specs.inside.Covered.{covered_view, uncovered};
 
 use liquid_core::{Object, Result, Value};

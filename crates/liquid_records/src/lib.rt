@@ -13,5 +13,5 @@ pub use data::with_members;
 pub use file_name::is_file_name;
 pub use job::{Job, Made, RecordResult, Why};
 pub use laws::merge_laws;
-pub use liquid_site_files::{Disk, DiskFault};
+pub use liquid_disk::{Disk, DiskFault};
 pub use merge::{Failure, Fate, Merge};

@@ -12,9 +12,9 @@ ghost use Rattle.liquid_records.specs.inside.Puts.{map_names};
 
 use crate::job::{Job, Made, RecordResult, Why};
 use liquid_core::{ErrorKind, Object, Result};
+use liquid_disk::Disk;
 use liquid_json::data_from_json;
 use liquid_lib::Template;
-use liquid_site_files::Disk;
 use std::alloc::Global;
 use std::collections::BTreeMap;
 

@@ -14,7 +14,8 @@ use Rattle.liquid_syntax.proofs.Held.{apart}
 use Rattle.liquid_model.proofs.Maps.{same_text_equal}
 use Rattle.liquid_lib.specs.Pages.{Shown, page_over}
 use Rattle.liquid_site.specs.Contents.{Trees, Contents, page_of, all_pages, pages_from_scratch, mentions}
-use Rattle.liquid_site.specs.Steps.{Step, set_page, remove_page, set_partial, remove_partial, set_value, remove_value, set_data, with_value, no_contents, stepped, refreshed, KeptIsFromScratch, all_stepped, all_kept, PagesKept}
+use Rattle.liquid_core.specs.DataChanges.{with_value}
+use Rattle.liquid_site.specs.Steps.{Step, set_page, remove_page, set_partial, remove_partial, set_value, remove_value, set_data, no_contents, stepped, refreshed, KeptIsFromScratch, all_stepped, all_kept, PagesKept}
 use Rattle.liquid_site.proofs.Untouched.{untouched, untouched_by_data}
 
 by_order : {X Y : Type 0} (f : X → Y) (o : Ordering) (a b c : X) → f (match_ordering o a b c) ≡ match_ordering o (f a) (f b) (f c)

@@ -17,7 +17,8 @@ use Rattle.liquid_meaning.proofs.Changes.{agreeing_runs}
 use Rattle.liquid_lib.specs.Pages.{fault_of, fresh, setting_over, page_over}
 use Rattle.liquid_syntax.proofs.Held.{apart}
 use Rattle.liquid_site.specs.Contents.{Trees, Contents, page_of, mentions_any}
-use Rattle.liquid_site.specs.Steps.{with_value, is_same, differs, UntouchedPages}
+use Rattle.liquid_core.specs.DataChanges.{with_value}
+use Rattle.liquid_site.specs.Steps.{is_same, differs, UntouchedPages}
 
 agree_other : (N : Names) (m : Map Datum) (name : Text) (d : Option Datum) → N name ≡ false → AgreeAt N (with_value m name d) m
 unfolding with_value

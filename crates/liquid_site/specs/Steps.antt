@@ -4,12 +4,12 @@
 --                             contents      how many these are
 --     kept_by s contents pages      the pages, of which those alone are rendered again
 use Rattle.std.specs.Prelude.{◌≡◌, ℕ, ◌+◌, min, Bool, true, false, cond, List, [], ◌∷◌, length}
-use Rattle.std.specs.Prelude.{filter, not, Option, Some, None, is_some, bytes_eq}
-use Rattle.std.specs.Map.{update}
+use Rattle.std.specs.Prelude.{filter, not, Option, Some, None, is_some}
 use Rattle.liquid_model.specs.Texts.{Text}
 use Rattle.liquid_model.specs.Data.{Datum}
 use Rattle.liquid_model.specs.Maps.{Map, empty, listed}
 use Rattle.liquid_model.specs.Order.{same}
+use Rattle.liquid_core.specs.DataChanges.{with_value}
 use Rattle.liquid_core.specs.Environment.{Names}
 use Rattle.liquid_evaluation.specs.Tree.{Nodes}
 use Rattle.liquid_language.specs.Entries.{put, without}
@@ -25,10 +25,6 @@ pub data Step : Type 0 where
   set_value : Text → Datum → Step
   remove_value : Text → Step
   set_data : Map Datum → Step
-
--- the data with a value at a name, or with none
-unfoldable pub with_value : Map Datum → Text → Option Datum → Map Datum
-with_value «data» name d = update bytes_eq «data» name d
 
 -- whether the values of two data are the same under a name, or neither has one
 abbrev pub is_same : Option Datum → Option Datum → Bool

@@ -3,7 +3,7 @@ ghost use Rattle.std.specs.Prelude.{◌≡◌, Some, None, option_map};
 ghost use Rattle.liquid_model.specs.Answer.{IsValueOrMemory};
 ghost use Rattle.liquid_model.specs.View.{view, pairs_view};
 ghost use Rattle.liquid_core.specs.Held.{held};
-ghost use Rattle.liquid_site.specs.Steps.{with_value};
+ghost use Rattle.liquid_core.specs.DataChanges.{with_value};
 
 use liquid_core::{Object, Result, Value, store};
 use std::alloc::Global;

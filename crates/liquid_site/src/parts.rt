@@ -58,7 +58,8 @@ impl<P: Drop> SiteParts<P> {
     ghost use Rattle.liquid_site.specs.Contents.{page_of};
     ghost use Rattle.liquid_site.specs.Parts.{by_name};
     ghost use Rattle.liquid_site.specs.Steps.{no_contents, remove_page, stepped, raised};
-    ghost use Rattle.liquid_site.specs.Steps.{differs, mentioning, mentioning_any, with_value};
+    ghost use Rattle.liquid_core.specs.DataChanges.{with_value};
+    ghost use Rattle.liquid_site.specs.Steps.{differs, mentioning, mentioning_any};
     ghost use Rattle.liquid_site.specs.inside.Fresh.{selects, selected};
     ghost use Rattle.liquid_site.specs.inside.Keeping.{KeepsPages};
 

@@ -12,8 +12,8 @@ use Rattle.liquid_lib.specs.Pages.{Shown}
 use Rattle.liquid_site.specs.Contents.{Pages}
 use Rattle.liquid_site.specs.Steps.{raised}
 use Rattle.liquid_site_files.specs.Written.{all_written, count_from, is_page_path, KeepsOthers, unwritten_message, IsUnwritten, TellsUnwritten}
-use Rattle.liquid_site_files.specs.Files.{File, Files, gone, holds, unread, with_file, is_held, ChangesAt, IsPut}
-use Rattle.liquid_site_files.specs.declared.disk.DiskFault.{DiskFault}
+use Rattle.liquid_disk.specs.Files.{File, Files, gone, holds, unread, with_file, is_held, ChangesAt, IsPut}
+use Rattle.liquid_disk.specs.declared.disk.DiskFault.{DiskFault}
 use Rattle.liquid_site_files.specs.inside.Needed.{NeededUnlessMemory}
 
 pub file_there : (files : Files) (path : Text) (file : File) → files path ≡ file → with_file files path file ≡ files

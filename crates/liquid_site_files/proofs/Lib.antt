@@ -1,3 +1,2 @@
 pub mod Disks
-pub mod Merged
 pub mod Takes

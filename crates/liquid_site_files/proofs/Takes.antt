@@ -23,7 +23,8 @@ use Rattle.liquid_site.specs.Steps.{stepped}
 use Rattle.liquid_site.specs.declared.change.Change.{Change}
 use Rattle.liquid_site.specs.declared.change.Change.TheVariants.{SetData}
 use Rattle.liquid_site.specs.declared.site.Site.{Site}
-use Rattle.liquid_site_files.specs.Files.{Files, found_view}
+use Rattle.liquid_disk.specs.Files.{Files}
+use Rattle.liquid_site_files.specs.inside.Found.{found_view}
 use Rattle.liquid_site_files.specs.Paths.{path_of}
 use Rattle.liquid_site_files.specs.Refusals.{Refuses, IsRefusal, AreRefusals}
 use Rattle.liquid_site_files.specs.Taken.{Takes, TakesData, AreTaken, with_data}

@@ -1,4 +1,3 @@
-pub mod Files
 pub mod Paths
 pub mod Refusals
 pub mod Start

@@ -10,7 +10,7 @@ use Rattle.liquid_json.specs.Json.{data_of}
 use Rattle.liquid_site.specs.Contents.{Contents}
 use Rattle.liquid_site.specs.Steps.{Step, set_page, remove_page, set_partial, remove_partial}
 use Rattle.liquid_site.specs.Steps.{stepped}
-use Rattle.liquid_site_files.specs.Files.{File, Files, gone, holds, unread}
+use Rattle.liquid_disk.specs.Files.{File, Files, gone, holds, unread}
 use Rattle.liquid_site_files.specs.Paths.{path_of}
 use Rattle.liquid_site_files.specs.declared.folder.Changed.{Changed}
 use Rattle.liquid_site_files.specs.declared.folder.Changed.TheVariants.{Page, Partial, Data}

@@ -11,7 +11,7 @@ use Rattle.liquid_model.specs.declared.error.ErrorKind.TheVariants.{Memory, Writ
 use Rattle.liquid_lib.specs.Pages.{Shown}
 use Rattle.liquid_site.specs.Contents.{Pages}
 use Rattle.liquid_site.specs.Steps.{raised}
-use Rattle.liquid_site_files.specs.Files.{Files, ChangesAt, holds, with_file, is_held}
+use Rattle.liquid_disk.specs.Files.{Files, ChangesAt, holds, with_file, is_held}
 
 -- why a page's file isn't written: memory ran out, or the disk refused it
 abbrev pub IsStop : ErrorKind → Type 0

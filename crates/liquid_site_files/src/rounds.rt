@@ -7,11 +7,11 @@ ghost use Rattle.liquid_site_files.specs.Taken.{AreTaken};
 ghost use Rattle.liquid_site_files.specs.Written.{IsStop, all_written, count_from, KeepsOthers};
 ghost use Rattle.liquid_site_files.specs.Written.{TellsUnwritten};
 
-use crate::disk::Disk;
 use crate::folder::{Changed, Folder};
 use crate::take::{RefusedFile, take};
 use crate::written::write_pages;
 use liquid_core::{ErrorKind, Result};
+use liquid_disk::Disk;
 use liquid_site::Site;
 use std::alloc::Global;
 

@@ -6,15 +6,15 @@ ghost use Rattle.liquid_model.specs.ErrorKinds.{is_memory};
 ghost use Rattle.liquid_core.specs.Held.{held};
 ghost use Rattle.liquid_site.specs.SiteViews.{contents_of, language_of};
 ghost use Rattle.liquid_site.specs.Steps.{set_page, remove_page, set_partial, remove_partial};
-ghost use Rattle.liquid_site_files.specs.Files.{found_view};
+ghost use Rattle.liquid_site_files.specs.inside.Found.{found_view};
 ghost use Rattle.liquid_site_files.specs.Paths.{path_of};
 ghost use Rattle.liquid_site_files.specs.Refusals.{RefusesTemplate, RefusesData, Refuses};
 ghost use Rattle.liquid_site_files.specs.Taken.{TakesTemplate, TakesData, Takes};
 ghost use Rattle.liquid_site_files.specs.inside.Changes.{TakesChange, RefusesChange};
 
-use crate::disk::{Disk, DiskFault};
 use crate::folder::{Changed, Folder, path_of};
 use liquid_core::{Error, ErrorKind, Object, Result};
+use liquid_disk::{Disk, DiskFault};
 use liquid_json::data_from_json;
 use liquid_site::{Change, Site};
 use std::alloc::{AllocError, Global};

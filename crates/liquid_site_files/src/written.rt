@@ -4,14 +4,14 @@ ghost use Rattle.std.specs.Prelude.{string_bytes};
 ghost use Rattle.liquid_model.specs.Answer.{IsValueOrMemory};
 ghost use Rattle.liquid_model.specs.Errors.{HasMessageUnlessMemory};
 ghost use Rattle.liquid_site.specs.Parts.{pages_in};
-ghost use Rattle.liquid_site_files.specs.Files.{ChangesAt, is_held, holds, with_file};
+ghost use Rattle.liquid_disk.specs.Files.{ChangesAt, is_held, holds, with_file};
 ghost use Rattle.liquid_site_files.specs.Written.{IsStop, all_written, count_from, KeepsOthers};
 ghost use Rattle.liquid_site_files.specs.Written.{unwritten_message, TellsUnwritten};
 ghost use Rattle.liquid_site_files.specs.inside.Needed.{NeededUnlessMemory};
 
-use crate::disk::{Disk, DiskFault};
 use crate::folder::joined;
 use liquid_core::{Error, ErrorKind, Result};
+use liquid_disk::{Disk, DiskFault};
 use liquid_site::Page;
 use std::alloc::{AllocError, Global};
 use std::collections::BTreeMap;

@@ -6,7 +6,7 @@ use Rattle.liquid_model.specs.Maps.{Map}
 use Rattle.liquid_model.specs.Texts.{Text}
 use Rattle.liquid_model.specs.View.{view}
 use Rattle.liquid_model.specs.declared.value.Value.{Value}
-use Rattle.liquid_site.specs.Steps.{with_value}
+use Rattle.liquid_core.specs.DataChanges.{with_value}
 
 -- each name, in turn, with the value that it had
 abbrev pub Covered : Type 0

@@ -2,7 +2,7 @@ use Rattle.std.proofs.Common.{string_bytes, option_map, sym, ap, ◌∙◌}
 use Rattle.liquid_model.specs.View.{view, pairs_view}
 use Rattle.liquid_model.proofs.Views.{pairs_view-insert_entry, view-lookup}
 use Rattle.liquid_core.proofs.States.{held_at}
-use Rattle.liquid_site.proofs.Changed.{value_put}
+use Rattle.liquid_core.proofs.DataChanges.{value_put}
 use Rattle.liquid_records.proofs.data.exchange.Goals as goal
 
 pub returns-clause-put : goal.returns-clause-put

@@ -5,7 +5,7 @@ use Rattle.std.specs.String.{string_cmp}
 use Rattle.liquid_model.specs.View.{view}
 use Rattle.liquid_model.proofs.Views.{Entry, put_last}
 use Rattle.liquid_core.specs.Held.{held}
-use Rattle.liquid_site_files.proofs.Merged.{none_set}
+use Rattle.liquid_core.proofs.DataChanges.{none_set}
 use Rattle.liquid_records.specs.inside.Covered.{covered_view, uncovered}
 use Rattle.liquid_records.proofs.Over.{one_over, one_covered}
 use Rattle.liquid_records.proofs.data.lay_over.Goals as goal

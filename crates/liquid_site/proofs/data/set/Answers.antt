@@ -1,7 +1,7 @@
 use Rattle.std.proofs.Common.{ap, ◌∙◌}
 use Rattle.liquid_model.specs.Data.{put}
 use Rattle.liquid_model.specs.View.{view, pairs_view}
-use Rattle.liquid_site.proofs.Changed.{value_put}
+use Rattle.liquid_core.proofs.DataChanges.{value_put}
 use Rattle.liquid_site.proofs.data.set.Goals as goal
 
 pub returns : goal.returns

@@ -1,4 +1,4 @@
-use Rattle.liquid_site.proofs.Changed.{value_taken}
+use Rattle.liquid_core.proofs.DataChanges.{value_taken}
 use Rattle.liquid_site.proofs.data.without.Goals as goal
 
 pub returns : goal.returns

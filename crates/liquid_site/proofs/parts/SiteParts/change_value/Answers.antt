@@ -6,7 +6,8 @@ use Rattle.liquid_evaluation.specs.Tree.{Nodes}
 use Rattle.liquid_syntax.specs.Templates.{partials_of}
 use Rattle.liquid_lib.specs.Pages.{page_over}
 use Rattle.liquid_site.specs.PartViews.{parts_view}
-use Rattle.liquid_site.specs.Steps.{raised, with_value}
+use Rattle.liquid_core.specs.DataChanges.{with_value}
+use Rattle.liquid_site.specs.Steps.{raised}
 use Rattle.liquid_site.specs.inside.Fresh.{selected}
 use Rattle.liquid_site.proofs.Untouched.{untouched}
 use Rattle.liquid_site.proofs.parts.SiteParts.change_value.Goals as goal

@@ -3,10 +3,8 @@ use Rattle.std.specs.Prelude.{◌≡◌, cond, bytes_eq, Bool, false, Option, So
 use Rattle.std.specs.Prelude.{⊤, String, string_bytes}
 use Rattle.std.specs.declared.alloc.Global.{Global}
 use Rattle.liquid_model.specs.Texts.{Text}
-use Rattle.liquid_site_files.specs.declared.disk.DiskFault.{DiskFault}
-use Rattle.liquid_site_files.specs.declared.disk.DiskFault.TheVariants.{Memory, Refused}
-use Rattle.liquid_site_files.specs.declared.take.FileState.{FileState}
-use Rattle.liquid_site_files.specs.declared.take.FileState.TheVariants as found
+use Rattle.liquid_disk.specs.declared.disk.DiskFault.{DiskFault}
+use Rattle.liquid_disk.specs.declared.disk.DiskFault.TheVariants.{Memory, Refused}
 
 -- what stands at a path: no file, a file with a text, or one that can't be read
 pub data File : Type 0 where
@@ -37,11 +35,6 @@ ChangesAt path old new = (file : File) × (new ≡ Some (with_file old path file
 abbrev pub IsPut : Text → Text → Files → Result (Unit {0}) DiskFault → Option Files → Type 0
 IsPut path text old (Ok u) new = new ≡ Some (with_file old path (holds text))
 IsPut path text old (Err e) new = ChangesAt path old new
-
-abbrev pub found_view : FileState → File
-found_view found.Gone = gone
-found_view (found.Text text) = holds (string_bytes text)
-found_view found.Unread = unread
 
 -- whether a file holds this text
 abbrev pub is_held : File → Text → Bool

@@ -1,6 +1,6 @@
 //! Where the texts of files are.
 ghost use Rattle.std.specs.Prelude.{None, Option, IfSome};
-ghost use Rattle.liquid_site_files.specs.Files.{Files, IsFound, IsPut};
+ghost use Rattle.liquid_disk.specs.Files.{Files, IsFound, IsPut};
 
 /// Why a file isn't read or written.
 #[derive(Clone, Copy, Debug, Drop)]
