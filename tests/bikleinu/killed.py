@@ -8,7 +8,7 @@ import subprocess
 import tempfile
 import time
 
-RECORDS, LINES, KILLS = 120, 200, 200
+RECORDS, LINES, KILLS = 40, 2500, 200
 TEMPLATE = "{% for line in lines %}{{ name }}, {{ line }}\n{% endfor %}"
 MERGE = ("merge", "t", "r", "-d", "d", "-o", "mails/{{ id }}.eml")
 
