@@ -1,8 +1,8 @@
 //! The sets of filters: the language and the filters of Jekyll's or Shopify's templates.
-use crate::settings::{Site, shop};
-use crate::sources::Parts;
+use crate::parts::Parts;
 use liquid_commands::FilterSet;
 use liquid_core::{Filter, HostFilters, Result};
+use liquid_filter_settings::{Site, shop_of};
 use liquid_filter_sets::{WhereExp, jekyll_language, shopify_language};
 use liquid_jekyll_host_filters::{JEKYLL_FILTERS, SiteFilter};
 use liquid_lib::{
@@ -57,7 +57,7 @@ fn jekyll_page(alloc: Global, parts: &Parts, limits: Limits) -> Result<LimitedPa
 }
 
 fn shopify_page(alloc: Global, parts: &Parts, limits: Limits) -> Result<LimitedPage> {
-    let shop = Rc::new(alloc, shop(alloc, &parts.data)?)?;
+    let shop = Rc::new(alloc, shop_of(alloc, &parts.data)?)?;
     let mut filters = Vec::new(alloc);
     for kind in SHOPIFY_FILTERS {
         let shop = shop.clone()?;

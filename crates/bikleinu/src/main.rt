@@ -2,35 +2,26 @@
 //! `paths ..`.
 #![tactic(auto)]
 
-mod check;
 mod files;
 mod filters;
-mod folder;
-mod forms;
-mod input;
-mod lines;
 mod merge;
-mod missing;
-mod output;
+mod parts;
 mod paths;
 mod progress;
-mod records;
 mod render;
 mod report;
-mod rows;
-mod settings;
-mod sources;
-mod stop;
 mod target;
 
-use crate::check::{check, check_call, check_command};
+use crate::filters::language_with;
 use crate::merge::merge;
 use crate::paths::paths;
 use crate::render::render;
-use crate::stop::Stop;
 use clap::error::ErrorKind;
-use liquid_commands::{merge_call, paths_call, program, render_call};
-use std::alloc::AllocError;
+use clap::ArgMatches;
+use liquid_check_command::check;
+use liquid_command_files::Stop;
+use liquid_commands::{check_call, merge_call, paths_call, program, render_call};
+use std::alloc::{AllocError, Global};
 use std::process::ExitCode;
 use std::{env, io};
 
@@ -47,18 +38,27 @@ fn main(rt: HostRuntime) -> ExitCode {
 /// Does what the command line asks.
 fn run(rt: &HostRuntime) -> Result<(), Stop> {
     let words = words_given(rt)?;
-    let command = program(rt.alloc(), check_command(rt.alloc())?)?;
-    let matches = match command.try_get_matches_from(words.as_slice()) {
-        Ok(matches) => matches,
-        Err(answer) => return answered(rt, &answer),
-    };
+    match program(rt.alloc())?.try_get_matches_from(words.as_slice()) {
+        Ok(matches) => called(rt, &matches),
+        Err(answer) => answered(rt, &answer),
+    }
+}
+
+/// Does what a command is called for.
+fn called(rt: &HostRuntime, matches: &ArgMatches<'_>) -> Result<(), Stop> {
     match matches.subcommand() {
         Some(("render", given)) => render(rt, &render_call(rt.alloc(), given)?),
         Some(("merge", given)) => merge(rt, &merge_call(rt.alloc(), given)?),
-        Some(("check", given)) => check(rt, &check_call(rt.alloc(), given)?),
+        Some(("check", given)) => checked(rt, given),
         Some(("paths", given)) => paths(rt, &paths_call(rt.alloc(), given)?),
         _ => Err(Stop::Usage("there is no such command")),
     }
+}
+
+/// Checks templates in the language of the filters that are asked for.
+fn checked(rt: &HostRuntime, given: &ArgMatches<'_>) -> Result<(), Stop> {
+    let call = check_call(rt.alloc(), given)?;
+    check(rt, &call, &language_with(rt.alloc(), call.filters)?)
 }
 
 /// Prints the help or the version that was asked for, or what is wrong in the command line.
@@ -75,17 +75,24 @@ fn answered(rt: &HostRuntime, answer: &clap::Error) -> Result<(), Stop> {
 
 /// The words of the command line.
 fn words_given(rt: &HostRuntime) -> Result<Vec<String>, Stop> {
-    let mut words: Vec<String> = Vec::new(rt.alloc());
     match env::args(rt) {
-        Ok(all) => for word in all {
-            words.push(word)?;
-        },
-        Err(refused) => {
-            if refused.kind() == io::ErrorKind::OutOfMemory {
-                return Err(Stop::from(AllocError));
-            }
-            return Err(Stop::Usage("a word of the command line isn't UTF-8"));
-        }
+        Ok(all) => Ok(listed(rt.alloc(), all)?),
+        Err(refused) => Err(no_words(refused.kind())),
+    }
+}
+
+fn listed(alloc: Global, all: env::Args<Global>) -> Result<Vec<String>, AllocError> {
+    let mut words = Vec::new(alloc);
+    for word in all {
+        words.push(word)?;
     }
     Ok(words)
+}
+
+/// Why the words of the command line aren't read.
+fn no_words(kind: io::ErrorKind) -> Stop {
+    match kind {
+        io::ErrorKind::OutOfMemory => Stop::from(AllocError),
+        _ => Stop::Usage("a word of the command line isn't UTF-8"),
+    }
 }

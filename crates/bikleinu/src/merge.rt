@@ -1,15 +1,14 @@
 //! The command `merge`.
-use crate::forms::form_of;
-use crate::input::called;
+use crate::parts::{Parts, read_parts, read_pattern};
 use crate::progress::Progress;
-use crate::records::{HeadStop, Records};
-use crate::sources::{Parts, Sources, read_parts, read_pattern};
-use crate::stop::Stop;
+use crate::report::Report;
 use crate::target::Target;
+use liquid_command_files::{Sources, Stop, called, form_of};
 use liquid_commands::{MergeCall, is_selected};
 use liquid_excerpts::Reason;
 use liquid_lib::DEFAULT_DEPTH;
 use liquid_records::{Job, Merge};
+use liquid_row_records::{HeadStop, Records};
 use std::alloc::AllocError;
 use std::io::Read;
 use std::{fs, io};
@@ -114,7 +113,7 @@ impl Run<'_> {
         let form = form_of(self.call.inputs.forms);
         let (target, outcome) = match records.facts(self.rt.alloc(), form)? {
             Ok(facts) => target.take(self.rt, self.call.separator, number as usize, facts)?,
-            Err(report) => (target, Err(report)),
+            Err(fault) => (target, Err(Report::from(fault))),
         };
         match outcome {
             Ok(()) => progress.done(self.rt),

@@ -1,7 +1,6 @@
 //! The command `paths`.
-use crate::output::print_text;
-use crate::sources::read_parts;
-use crate::stop::Stop;
+use crate::parts::read_parts;
+use liquid_command_files::{Stop, print_text};
 use liquid_commands::{PathsCall, PathsFormat};
 use liquid_core::Uses;
 use liquid_schemas::schema_of;

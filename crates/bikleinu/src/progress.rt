@@ -1,5 +1,5 @@
 //! How far a merge is.
-use crate::stop::Stop;
+use liquid_command_files::Stop;
 use std::time::Instant;
 
 /// How many pages there are, and how many records failed.

@@ -1,8 +1,7 @@
 //! The command `render`.
 use crate::filters::page_with;
-use crate::output::{print_text, put_file};
-use crate::sources::{Sources, read_parts};
-use crate::stop::Stop;
+use crate::parts::read_parts;
+use liquid_command_files::{Sources, Stop, print_text, put_file};
 use liquid_commands::RenderCall;
 use liquid_lib::{LimitReached, LimitedPage, Limits, Page};
 

@@ -1,7 +1,7 @@
 //! What is printed of a record that has no page.
-use crate::sources::{Sources, print_excerpt};
+use liquid_command_files::{Sources, print_excerpt};
 use liquid_records::{Failure, Why};
-use liquid_row_records::RowFault;
+use liquid_row_records::{RecordFault, RowFault};
 use std::{fmt, io};
 
 /// Why a record has no page, or none in a file.
@@ -15,6 +15,16 @@ pub enum Report {
     NoPage(Why),
     /// The page is in no file; and why the last file that was refused was.
     NoFile(Failure, Option<io::ErrorKind>),
+}
+
+impl From<RecordFault> for Report {
+    fn from(fault: RecordFault) -> Report {
+        match fault {
+            RecordFault::NotUtf8 => Report::NotUtf8,
+            RecordFault::NoRow(fault) => Report::NoRow(fault),
+            RecordFault::NoData(fault) => Report::NoPage(Why::NoData(fault)),
+        }
+    }
 }
 
 impl Report {

@@ -1,10 +1,9 @@
 //! Where the pages of a merge go.
 use crate::files::{Files, Nowhere};
-use crate::output::print_text;
-use crate::records::Facts;
 use crate::report::Report;
-use crate::stop::Stop;
+use liquid_command_files::{Stop, print_text};
 use liquid_records::{Disk, Fate, Job, Made, Merge, RecordResult};
+use liquid_row_records::Facts;
 use std::alloc::Global;
 
 /// Whether a record's page is there, or why not.

@@ -1,11 +1,14 @@
 -- What single words of a call mean.
 --     data_file word      a file of data, with its name where the word is NAME=FILE
---     filter_set, missing_of, are_in_csv      what the values of options ask for
+--     filter_set, missing_of, are_in_csv, format_of      what the values of options ask for
 --     is_selected number from count      whether a record is among those that are asked for
 use Rattle.std.specs.Prelude.{ℕ, Bool, false, cond, ◌-◌, ◌==◌, nat_lt, nat_le, length}
 use Rattle.std.specs.Prelude.{List, drop, codes, bytes_eq, Option, Some, None, option_map}
 use Rattle.std.specs.Borrow.{Bor}
 use Rattle.std.specs.List.{after_first, before_first, position_or_len}
+use Rattle.liquid_diagnostics.specs.declared.diagnostic.DiagnosticFormat.{DiagnosticFormat}
+use Rattle.liquid_diagnostics.specs.declared.diagnostic.DiagnosticFormat.TheVariants.{Text, Json}
+use Rattle.liquid_diagnostics.specs.declared.diagnostic.DiagnosticFormat.TheVariants.{Github}
 use Rattle.liquid_commands.specs.declared.words.DataFile.{DataFile}
 use Rattle.liquid_commands.specs.declared.words.FilterSet.{FilterSet}
 use Rattle.liquid_commands.specs.declared.words.FilterSet.TheVariants.{Jekyll, Shopify}
@@ -50,6 +53,15 @@ filter_set (Some name) = set_named name
 abbrev pub missing_of : Option Word → Missing
 missing_of None = Fault
 missing_of (Some word) = cond (bytes_eq word (codes "nil")) Nil Fault
+
+abbrev pub format_named : Word → DiagnosticFormat
+format_named name = cond (bytes_eq name (codes "json")) Json
+    (cond (bytes_eq name (codes "github")) Github Text)
+
+-- the format of a name, and without one that for people
+abbrev pub format_of : Option Word → DiagnosticFormat
+format_of None = Text
+format_of (Some name) = format_named name
 
 abbrev pub ends_in : Word → Word → Bool
 ends_in ending path = cond (nat_le (length ending) (length path))

@@ -1,4 +1,5 @@
 //! The program with its commands.
+use crate::check::check_command;
 use crate::merge::merge_command;
 use crate::paths::paths_command;
 use crate::render::render_command;
@@ -8,9 +9,8 @@ use std::alloc::{AllocError, Global};
 /// The version of the repository, which the file VERSION holds.
 const VERSION: &str = "0.1.0";
 
-/// The program with its commands, of which `check` is handed in. `AllocError` where there is no
-/// room for it, and nowhere else.
-pub fn program<'a>(alloc: Global, check: Command<'a>) -> Result<Command<'a>, AllocError> {
+/// The program with its commands. `AllocError` where there is no room for it, and nowhere else.
+pub fn program<'a>(alloc: Global) -> Result<Command<'a>, AllocError> {
     Command::new(alloc, "bikleinu")
         .version(VERSION)
         .about(
@@ -20,6 +20,6 @@ pub fn program<'a>(alloc: Global, check: Command<'a>) -> Result<Command<'a>, All
         .arg_required_else_help(true)
         .subcommand(render_command(alloc)?)?
         .subcommand(merge_command(alloc)?)?
-        .subcommand(check)?
+        .subcommand(check_command(alloc)?)?
         .subcommand(paths_command(alloc)?)
 }

@@ -62,7 +62,7 @@ pub(crate) fn inputs_of<'w>(
     Ok(inputs)
 }
 
-fn data_of<'w>(
+pub(crate) fn data_of<'w>(
     alloc: Global,
     given: &ArgMatches<'w>,
     has_own: bool,
@@ -79,7 +79,10 @@ fn data_of<'w>(
     Ok(data)
 }
 
-fn partials_of<'w>(alloc: Global, given: &ArgMatches<'w>) -> Result<Vec<&'w str>, AllocError> {
+pub(crate) fn partials_of<'w>(
+    alloc: Global,
+    given: &ArgMatches<'w>,
+) -> Result<Vec<&'w str>, AllocError> {
     let mut partials = Vec::new(alloc);
     for word in given.get_strs("partials").unwrap_or_default() {
         partials.push(*word)?;
@@ -90,13 +93,19 @@ fn partials_of<'w>(alloc: Global, given: &ArgMatches<'w>) -> Result<Vec<&'w str>
 impl Inputs<'_> {
     /// How many of the files are standard input.
     fn from_standard_input(&self) -> usize {
-        let mut count = (self.template == "-") as usize;
-        for file in &self.data {
-            count = count.saturating_add((file.path == "-") as usize);
-        }
-        for word in &self.partials {
-            count = count.saturating_add(word.ends_with("=-") as usize);
-        }
-        count
+        let others = count_from_standard_input(&self.data, &self.partials);
+        others.saturating_add((self.template == "-") as usize)
     }
+}
+
+/// How many of these files are standard input.
+pub(crate) fn count_from_standard_input(data: &[DataFile<'_>], partials: &[&str]) -> usize {
+    let mut count: usize = 0;
+    for file in data {
+        count = count.saturating_add((file.path == "-") as usize);
+    }
+    for word in partials {
+        count = count.saturating_add(word.ends_with("=-") as usize);
+    }
+    count
 }

@@ -2,6 +2,7 @@
 //! call ask for.
 #![tactic(auto)]
 
+mod check;
 mod commands;
 mod forms;
 mod inputs;
@@ -11,6 +12,7 @@ mod paths;
 mod render;
 mod words;
 
+pub use check::{CheckCall, check_call, check_command};
 pub use commands::program;
 pub use forms::{Forms, with_form_options};
 pub use inputs::{Inputs, WordFault};

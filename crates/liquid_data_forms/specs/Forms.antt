@@ -1,7 +1,8 @@
 -- Data in the form that is asked for.
 --     data_in_form form source      the data of a text of JSON
+--     put_all members ps      data with each of these members
 --     with_now s ps      data with an instant under the name `now`, where the text is one
-use Rattle.std.specs.Prelude.{Bool, cond, List, ℕ, codes, Option, option_map, Result, Ok, Err}
+use Rattle.std.specs.Prelude.{Bool, cond, List, ℕ, [], ◌∷◌, codes, Option, option_map, Result, Ok, Err}
 use Rattle.liquid_model.specs.Data.{Pairs, put, text}
 use Rattle.liquid_model.specs.Texts.{Text}
 use Rattle.liquid_model.specs.declared.error.ErrorKind.{ErrorKind}
@@ -25,6 +26,11 @@ formed dates (Err kind) = Err kind
 
 abbrev pub data_in_form : DataForm → List ℕ → Result Pairs ErrorKind
 data_in_form form source = formed form.dates (read_data form.decimals_as_texts source)
+
+-- each of these members in place of what stands under its name
+abbrev pub put_all : Pairs → Pairs → Pairs
+put_all [] ps = ps
+put_all (m ∷ members) ps = put_all members (put m.0 m.1 ps)
 
 abbrev pub with_now : Text → Pairs → Option Pairs
 with_now now ps = option_map (λ s. put (codes "now") (text s) ps) (date_spelling now)

@@ -3,7 +3,7 @@ ghost use Rattle.std.specs.Prelude.{option_map};
 ghost use Rattle.liquid_model.specs.Answer.{Answers, IsValueOrMemory};
 ghost use Rattle.liquid_model.specs.Data.{object, put};
 ghost use Rattle.liquid_model.specs.View.{pairs_view};
-ghost use Rattle.liquid_data_forms.specs.Forms.{data_in_form, in_form, read_data, with_now};
+ghost use Rattle.liquid_data_forms.specs.Forms.{data_in_form, in_form, put_all, read_data, with_now};
 
 use crate::dates::dated;
 use crate::decimals::data_with_decimals;
@@ -70,6 +70,19 @@ pub fn with_named(alloc: Global, data: Object, name: &str, members: Object) -> R
         Value::Object(members),
     )?;
     Ok(data)
+}
+
+/// The data with each of these members, in place of what stands under the member's name. The answer
+/// is `Memory` where a growth was refused, and no other kind.
+pub fn with_members(data: Object, members: Object) -> Result<Object>
+    ensures { IsValueOrMemory (λ m. pairs_view m.entries) result
+        (put_all (pairs_view members.entries) (pairs_view «data».entries)) }
+{
+    let mut all = data;
+    for (name, value) in members {
+        store(&mut all, name, value)?;
+    }
+    Ok(all)
 }
 
 /// The data with a day or an instant of ISO 8601 under the name `now`, in the spelling that the

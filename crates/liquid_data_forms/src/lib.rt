@@ -11,6 +11,6 @@ mod whole;
 
 pub use dates::dated;
 pub use decimals::data_with_decimals;
-pub use forms::{DataForm, data_in_form, in_form, with_named, with_now};
+pub use forms::{DataForm, data_in_form, in_form, with_members, with_named, with_now};
 pub use instant::date_spelling;
 pub use laws::decimal_laws;

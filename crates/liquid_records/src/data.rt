@@ -10,15 +10,6 @@ ghost use Rattle.liquid_records.specs.inside.Covered.{covered_view, uncovered};
 use liquid_core::{Object, Result, Value};
 use std::alloc::Global;
 
-/// The data with each of these members, in place of what it has under the member's name. The answer
-/// is `Memory` where a growth was refused, and no other kind.
-pub fn with_members(alloc: Global, data: Object, members: Object) -> Result<Object>
-    ensures { IsValueOrMemory held result (merged (held members) (held «data»)) }
-{
-    let (over, _) = lay_over(alloc, data, members)?;
-    Ok(over)
-}
-
 /// The data with these members over it, and what was covered by them: the name of each in turn,
 /// with the value that stood there.
 pub(crate) fn lay_over(

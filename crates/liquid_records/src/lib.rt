@@ -9,7 +9,6 @@ mod laws;
 mod merge;
 mod told;
 
-pub use data::with_members;
 pub use file_name::is_file_name;
 pub use job::{Job, Made, RecordResult, Why};
 pub use laws::merge_laws;

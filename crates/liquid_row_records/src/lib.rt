@@ -1,9 +1,16 @@
-//! Records from the rows of a table: each cell a text under the name of its column.
+//! Records that a reader gives: the lines of a text, and the rows of a table, each cell a text under
+//! the name of its column.
 #![tactic(auto)]
 
 mod cells;
 mod head;
+mod lines;
 mod record;
+mod records;
+mod rows;
 
 pub use head::{HeadFault, column_names};
+pub use lines::Lines;
 pub use record::{RowFault, record_of};
+pub use records::{Facts, RecordFacts, RecordFault, Records};
+pub use rows::{HeadStop, Rows};

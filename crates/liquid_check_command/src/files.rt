@@ -1,0 +1,123 @@
+//! The files that are checked.
+use crate::paths::CheckedPath;
+use liquid_check::{Finding, Findings, findings_of};
+use liquid_command_files::{Stop, bytes_at, called, text_of};
+use liquid_core::Result as Answer;
+use liquid_excerpts::Reason;
+use liquid_language::Language;
+use liquid_syntax::Template;
+use liquid_warnings::CheckedFile;
+use std::alloc::{AllocError, Global};
+
+/// A template, and the faults of its source.
+pub(crate) struct Checked {
+    pub(crate) path: String,
+    pub(crate) text: String,
+    pub(crate) findings: Vec<Finding>,
+    /// The template that is there once its faults are text; none where they are too many.
+    pub(crate) template: Option<Template>,
+}
+
+impl Drop for Checked {
+    fn drop(self) {
+        let Checked {
+            path: _,
+            text: _,
+            findings: _,
+            template: _,
+        } = self;
+    }
+}
+
+/// What is known of a file.
+#[derive(Drop)]
+pub(crate) enum File {
+    Checked(Checked),
+    /// It was found in a folder, and is no text.
+    Binary,
+    /// It can't be read, and that is reported.
+    Unread,
+}
+
+/// Reads the templates of paths, and finds their faults. One that can't be read is reported.
+pub(crate) fn read_files(
+    rt: &HostRuntime,
+    language: &Language,
+    paths: &[CheckedPath],
+) -> Result<Vec<File>, Stop> {
+    let mut files = Vec::new(rt.alloc());
+    for path in paths {
+        files.push(read_file(rt, language, path)?)?;
+    }
+    Ok(files)
+}
+
+fn read_file(rt: &HostRuntime, language: &Language, file: &CheckedPath) -> Result<File, Stop> {
+    let path = file.path.as_str();
+    match read_text(rt, path, file.is_found) {
+        Ok(Some(text)) => Ok(File::Checked(checked(rt.alloc(), language, path, text)?)),
+        Ok(None) => Ok(File::Binary),
+        Err(stop) => {
+            stop.passed_over(rt)?;
+            Ok(File::Unread)
+        }
+    }
+}
+
+/// The text at a path; none where it was found in a folder and is no text.
+fn read_text(rt: &HostRuntime, path: &str, is_found: bool) -> Result<Option<String>, Stop> {
+    let bytes = match bytes_at(rt, path) {
+        Ok(bytes) => bytes,
+        Err(refused) => {
+            let reason = Reason::from(refused.kind());
+            return Err(Stop::unread(rt.alloc(), called(path), reason));
+        }
+    };
+    if is_found && bytes.contains(&0) {
+        return Ok(None);
+    }
+    Ok(Some(text_of(rt.alloc(), path, bytes)?))
+}
+
+/// The template of a text, and the faults of it.
+fn checked(alloc: Global, language: &Language, path: &str, text: String) -> Answer<Checked> {
+    let path = String::from_str(alloc, called(path))?;
+    let Findings { findings, template } = findings_of(alloc, text.as_str(), language)?;
+    Ok(Checked {
+        path,
+        text,
+        findings,
+        template,
+    })
+}
+
+/// What the warnings are made by of each file.
+pub(crate) fn checked_files<'f>(
+    alloc: Global,
+    files: &'f [File],
+    paths: &[CheckedPath],
+) -> Result<Vec<CheckedFile<'f>>, AllocError> {
+    let mut checked = Vec::new(alloc);
+    for (file, path) in files.iter().zip(paths) {
+        checked.push(file.as_checked(path.is_page))?;
+    }
+    Ok(checked)
+}
+
+impl File {
+    /// The text and the template, where they are there.
+    fn as_checked(&self, is_page: bool) -> CheckedFile<'_> {
+        match self {
+            File::Checked(checked) => CheckedFile {
+                text: Some(checked.text.as_str()),
+                template: checked.template.as_ref(),
+                is_page,
+            },
+            File::Binary | File::Unread => CheckedFile {
+                text: None,
+                template: None,
+                is_page,
+            },
+        }
+    }
+}

@@ -1,0 +1,9 @@
+//! The command `check`: the faults and the warnings of the templates that a call names.
+#![tactic(auto)]
+
+mod command;
+mod files;
+mod paths;
+mod print;
+
+pub use command::check;

@@ -1,0 +1,182 @@
+//! The files that a call of `check` names.
+use liquid_command_files::{Stop, files_below};
+use liquid_commands::CheckCall;
+use liquid_partial_names::{PartialNames, joined_path, named_file};
+use std::alloc::{AllocError, Global};
+use std::collections::BTreeMap;
+use std::fs;
+
+/// A file to check.
+#[derive(Drop)]
+pub(crate) struct CheckedPath {
+    pub(crate) path: String,
+    /// Whether it was found in a folder, so that it may be no text.
+    pub(crate) is_found: bool,
+    /// Whether it is a template of its own, also where no other runs it.
+    pub(crate) is_page: bool,
+}
+
+/// The files to check, each once, and the names of those that are partials.
+pub(crate) struct Paths {
+    pub(crate) files: Vec<CheckedPath>,
+    /// The names of the partials, each with the place of its file.
+    pub(crate) partials: PartialNames,
+    /// How many words name nothing that can be read.
+    pub(crate) unread: usize,
+    /// The place of each path.
+    places: BTreeMap<String, usize>,
+}
+
+impl Drop for Paths {
+    fn drop(self) {
+        let Paths {
+            files: _,
+            partials: _,
+            unread: _,
+            places: _,
+        } = self;
+    }
+}
+
+/// The files that a call names, and the partials, which are checked too. A word that names nothing
+/// that can be read is reported, and so is an empty folder.
+pub(crate) fn checked_paths(rt: &HostRuntime, call: &CheckCall<'_>) -> Result<Paths, Stop> {
+    let mut paths = Paths {
+        files: Vec::new(rt.alloc()),
+        partials: PartialNames::new(rt.alloc()),
+        unread: 0,
+        places: BTreeMap::new(rt.alloc()),
+    };
+    paths.add_all(rt, call)?;
+    Ok(paths)
+}
+
+impl Paths {
+    fn add_all(&mut self, rt: &HostRuntime, call: &CheckCall<'_>) -> Result<(), Stop> {
+        for word in &call.paths {
+            self.add_word(rt, word)?;
+        }
+        for word in &call.partials {
+            match named_file(word) {
+                Some((name, path)) => self.add_partial(rt.alloc(), name, path)?,
+                None => self.add_partials(rt, word, !is_inside(word, &call.paths))?,
+            }
+        }
+        Ok(())
+    }
+
+    /// Adds a file, or the files below a folder.
+    fn add_word(&mut self, rt: &HostRuntime, word: &str) -> Result<(), Stop> {
+        if is_folder(rt, word) {
+            return self.add_folder(rt, word);
+        }
+        let place = self.add_file(rt.alloc(), word, false)?;
+        self.set_page(place, true);
+        Ok(())
+    }
+
+    /// Adds the files below a folder.
+    fn add_folder(&mut self, rt: &HostRuntime, folder: &str) -> Result<(), Stop> {
+        let Some(files) = self.files_of(rt, folder)? else {
+            return Ok(());
+        };
+        if files.is_empty() {
+            let _ = eprintln!(rt; "error: {folder}: there is no file in this folder");
+            self.unread = self.unread.saturating_add(1);
+        }
+        for file in &files {
+            let place = self.add_found(rt.alloc(), folder, file.as_str())?;
+            self.set_page(place, true);
+        }
+        Ok(())
+    }
+
+    /// Adds the file of a partial.
+    fn add_partial(&mut self, alloc: Global, name: &str, path: &str) -> Result<(), AllocError> {
+        let place = self.add_file(alloc, path, false)?;
+        self.partials.add(alloc, name, place)
+    }
+
+    /// Adds the partials that are the files below a folder. They are no pages, unless they are
+    /// among those that a call names and their folder stays one of pages.
+    fn add_partials(
+        &mut self,
+        rt: &HostRuntime,
+        folder: &str,
+        keeps_pages: bool,
+    ) -> Result<(), Stop> {
+        let Some(files) = self.files_of(rt, folder)? else {
+            return Ok(());
+        };
+        let mut places = Vec::new(rt.alloc());
+        for file in files {
+            let place = self.add_found(rt.alloc(), folder, file.as_str())?;
+            if !keeps_pages {
+                self.set_page(place, false);
+            }
+            places.push((file, place))?;
+        }
+        Ok(self.partials.add_folder(rt.alloc(), places.as_slice())?)
+    }
+
+    /// The files below a folder; none where it can't be read, which is reported.
+    fn files_of(&mut self, rt: &HostRuntime, folder: &str) -> Result<Option<Vec<String>>, Stop> {
+        match files_below(rt, folder) {
+            Ok(files) => Ok(Some(files)),
+            Err(stop) => {
+                stop.passed_over(rt)?;
+                self.unread = self.unread.saturating_add(1);
+                Ok(None)
+            }
+        }
+    }
+
+    /// Adds a file that was found in a folder, and gives its place.
+    fn add_found(&mut self, alloc: Global, folder: &str, file: &str) -> Result<usize, AllocError> {
+        let path = joined_path(alloc, folder, file)?;
+        self.add_file(alloc, path.as_str(), true)
+    }
+
+    /// Adds a file, unless it is there already, and gives its place.
+    fn add_file(&mut self, alloc: Global, word: &str, is_found: bool) -> Result<usize, AllocError> {
+        let path = plain(word);
+        if let Some(place) = self.places.get(path) {
+            return Ok(*place);
+        }
+        let place = self.files.len();
+        self.files.push(CheckedPath {
+            path: String::from_str(alloc, word)?,
+            is_found,
+            is_page: false,
+        })?;
+        drop(self.places.insert(String::from_str(alloc, path)?, place)?);
+        Ok(place)
+    }
+
+    fn set_page(&mut self, place: usize, is_page: bool) {
+        if let Some(file) = self.files.get_mut(place) {
+            file.is_page = is_page;
+        }
+    }
+}
+
+/// Whether a folder is inside one of others, and isn't one of them.
+fn is_inside(folder: &str, others: &[&str]) -> bool {
+    others.iter().any(|other| match plain(folder).strip_prefix(plain(other)) {
+        Some(inner) => plain(other).is_empty() || inner.starts_with('/'),
+        None => false,
+    })
+}
+
+/// A path without `./` before it and `/` after it.
+fn plain(path: &str) -> &str {
+    let path = path.trim_start_matches("./").trim_end_matches('/');
+    if path == "." { "" } else { path }
+}
+
+fn is_folder(rt: &HostRuntime, path: &str) -> bool {
+    match fs::metadata(rt, path) {
+        Ok(found) => found.is_dir(),
+        Err(_) => false,
+    }
+}

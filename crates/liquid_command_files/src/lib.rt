@@ -1,0 +1,21 @@
+//! What commands read and print: files, folders, data and the sources of templates, and why a
+//! command ends before it is done.
+#![tactic(auto)]
+
+mod data;
+mod faults;
+mod folder;
+mod forms;
+mod input;
+mod output;
+mod sources;
+mod stop;
+
+pub use data::read_data;
+pub use faults::{print_excerpt, print_fault};
+pub use folder::files_below;
+pub use forms::{data_of_file, form_of, with_time};
+pub use input::{bytes_at, called, text_at, text_of};
+pub use output::{print_text, put_file};
+pub use sources::{Source, Sources};
+pub use stop::Stop;

@@ -1,0 +1,149 @@
+//! The texts of a template and its partials, and what is printed of a fault in one of them.
+use crate::faults::print_excerpt;
+use crate::folder::files_below;
+use crate::input::{called, text_at};
+use crate::stop::Stop;
+use liquid_core::{Error, Location, Origin};
+use liquid_excerpts::ShownPath;
+use liquid_partial_names::{PartialNames, joined_path, named_file};
+
+/// A text, and the path that it is from.
+#[derive(Drop)]
+pub struct Source {
+    pub path: String,
+    pub text: String,
+}
+
+/// The texts of a template and its partials.
+pub struct Sources {
+    template: Source,
+    partials: Vec<Source>,
+    /// The names of the partials, each with the place of its text.
+    names: PartialNames,
+}
+
+impl Drop for Sources {
+    fn drop(self) {
+        let Sources {
+            template: _,
+            partials: _,
+            names: _,
+        } = self;
+    }
+}
+
+impl Sources {
+    /// The text of a template, without partials.
+    pub fn read(rt: &HostRuntime, template: &str) -> Result<Sources, Stop> {
+        Ok(Sources {
+            template: source_at(rt, template)?,
+            partials: Vec::new(rt.alloc()),
+            names: PartialNames::new(rt.alloc()),
+        })
+    }
+
+    /// Reads the partials that words name, each NAME=FILE, or the files below a folder. The later
+    /// of one name counts.
+    pub fn read_partials(&mut self, rt: &HostRuntime, words: &[&str]) -> Result<(), Stop> {
+        for word in words {
+            match named_file(word) {
+                Some((name, path)) => self.read_named(rt, name, path)?,
+                None => self.read_folder(rt, word)?,
+            }
+        }
+        Ok(())
+    }
+
+    fn read_named(&mut self, rt: &HostRuntime, name: &str, path: &str) -> Result<(), Stop> {
+        let place = self.add_source(rt, path)?;
+        Ok(self.names.add(rt.alloc(), name, place)?)
+    }
+
+    fn read_folder(&mut self, rt: &HostRuntime, folder: &str) -> Result<(), Stop> {
+        let mut files = Vec::new(rt.alloc());
+        for file in files_below(rt, folder)? {
+            let path = joined_path(rt.alloc(), folder, file.as_str())?;
+            let place = self.add_source(rt, path.as_str())?;
+            files.push((file, place))?;
+        }
+        Ok(self.names.add_folder(rt.alloc(), files.as_slice())?)
+    }
+
+    /// Reads a text, and gives its place.
+    fn add_source(&mut self, rt: &HostRuntime, path: &str) -> Result<usize, Stop> {
+        let place = self.partials.len();
+        self.partials.push(source_at(rt, path)?)?;
+        Ok(place)
+    }
+
+    /// The template.
+    pub fn template(&self) -> &Source {
+        &self.template
+    }
+
+    /// The path of the template, as a message shows it.
+    pub fn template_path(&self) -> ShownPath<'_> {
+        ShownPath {
+            path: self.template.path.as_str(),
+        }
+    }
+
+    /// The names of the partials, each with the place of its text.
+    pub fn names(&self) -> &[(String, usize)] {
+        self.names.as_slice()
+    }
+
+    /// The partial at a place.
+    pub fn partial_at(&self, place: usize) -> Option<&Source> {
+        self.partials.get(place)
+    }
+
+    /// The text that a location is in, where there is one. A partial that is rendered may be found
+    /// by its name with `.liquid`. It takes no memory.
+    pub fn text_of(&self, location: &Location) -> Option<&str> {
+        match &location.origin {
+            Origin::Template => Some(self.template.text.as_str()),
+            Origin::Data => None,
+            Origin::Partial(name) => self.text_at(self.place_of(name.as_str())?),
+        }
+    }
+
+    /// The place of a partial, or else of the one whose name has `.liquid` after this.
+    fn place_of(&self, name: &str) -> Option<usize> {
+        match self.names.place(name) {
+            Some(place) => Some(place),
+            None => self.names.place_of_liquid(name),
+        }
+    }
+
+    fn text_at(&self, place: usize) -> Option<&str> {
+        match self.partials.get(place) {
+            Some(source) => Some(source.text.as_str()),
+            None => None,
+        }
+    }
+
+    /// Prints the fault of a page in one line, and the line of the template or the partial that it
+    /// is in. What standard error refuses is lost.
+    pub fn print_page_fault(&self, rt: &HostRuntime, fault: &Error) {
+        let path = self.template_path();
+        let _ = eprintln!(rt; "error: {path}: {fault}");
+        self.print_excerpt_of(rt, fault);
+    }
+
+    /// Prints the line of the template or the partial that a fault is in.
+    pub fn print_excerpt_of(&self, rt: &HostRuntime, fault: &Error) {
+        let text = match &fault.location {
+            Some(location) => self.text_of(location),
+            None => None,
+        };
+        print_excerpt(rt, fault, text);
+    }
+}
+
+fn source_at(rt: &HostRuntime, path: &str) -> Result<Source, Stop> {
+    Ok(Source {
+        text: text_at(rt, path)?,
+        path: String::from_str(rt.alloc(), called(path))?,
+    })
+}

@@ -1,0 +1,130 @@
+//! Why a command ends before it is done.
+ghost use Rattle.std.specs.Prelude.{◌≡◌};
+ghost use Rattle.liquid_command_files.specs.Stops.{status_of};
+
+use liquid_commands::WordFault;
+use liquid_core::Error;
+use liquid_excerpts::{Reason, ShownPath};
+use std::alloc::{AllocError, AllocFailed, Global};
+use std::{fmt, io};
+
+/// Why a command ends before it is done.
+#[derive(Drop)]
+pub enum Stop {
+    /// The command line is wrong, and what is wrong is printed.
+    Refused,
+    /// The command line is wrong in this.
+    Usage(&'static str),
+    /// A template, the data or a page has a fault, and it is printed.
+    Faulted,
+    /// A fault of no text, as that memory ran out.
+    Fault(Error),
+    /// The file or folder of this path can't be read.
+    Unread(String, Reason),
+    /// The file of this path can't be written.
+    Unwritten(String, io::ErrorKind),
+    /// Standard output can't be written.
+    Output(io::ErrorKind),
+}
+
+impl Stop {
+    /// A path that can't be read.
+    pub fn unread(alloc: Global, path: &str, reason: Reason) -> Stop {
+        match String::from_str(alloc, path) {
+            Ok(path) => Stop::Unread(path, reason),
+            Err(refused) => Stop::from(refused),
+        }
+    }
+
+    /// A path that can't be written.
+    pub fn unwritten(alloc: Global, path: &str, kind: io::ErrorKind) -> Stop {
+        match String::from_str(alloc, path) {
+            Ok(path) => Stop::Unwritten(path, kind),
+            Err(refused) => Stop::from(refused),
+        }
+    }
+
+    /// The status that the program ends with.
+    pub fn status(&self) -> u8
+        ensures { result ≡ status_of self.now }
+    {
+        match self {
+            Stop::Refused | Stop::Usage(_) => 2,
+            _ => 1,
+        }
+    }
+
+    /// Prints that a path can't be read, so that a command can go on without it. What isn't that
+    /// ends the command.
+    pub fn passed_over(self, rt: &HostRuntime) -> Result<(), Stop> {
+        if let Stop::Unread(_, _) = &self {
+            self.print(rt);
+            return Ok(());
+        }
+        Err(self)
+    }
+
+    /// Prints one line on standard error, unless it is printed already. What standard error refuses
+    /// is lost.
+    pub fn print(&self, rt: &HostRuntime) {
+        match self {
+            Stop::Refused | Stop::Faulted => {}
+            stop => {
+                let _ = eprintln!(rt; "error: {stop}");
+            }
+        }
+    }
+}
+
+fn shown(path: &String) -> ShownPath<'_> {
+    ShownPath {
+        path: path.as_str(),
+    }
+}
+
+/// What follows `error: `.
+impl fmt::Display for Stop {
+    fn fmt<W: fmt::Write>(&self, f: &mut fmt::Formatter<W>) -> fmt::Result {
+        match self {
+            Stop::Refused | Stop::Faulted => Ok(()),
+            Stop::Usage(told) => f.write_str(told),
+            Stop::Fault(fault) => write!(f, "{fault}"),
+            Stop::Unread(path, reason) => {
+                let path = shown(path);
+                write!(f, "{path}: {reason}")
+            }
+            Stop::Unwritten(path, kind) => {
+                let path = shown(path);
+                write!(f, "{path}: it can't be written: {kind}")
+            }
+            Stop::Output(kind) => write!(f, "standard output: {kind}"),
+        }
+    }
+}
+
+impl From<Error> for Stop {
+    fn from(fault: Error) -> Stop {
+        Stop::Fault(fault)
+    }
+}
+
+impl From<WordFault> for Stop {
+    fn from(fault: WordFault) -> Stop {
+        match fault {
+            WordFault::Wrong(told) => Stop::Usage(told),
+            WordFault::Memory => Stop::from(AllocError),
+        }
+    }
+}
+
+impl From<AllocError> for Stop {
+    fn from(refused: AllocError) -> Stop {
+        Stop::Fault(Error::from(refused))
+    }
+}
+
+impl<T: Drop> From<AllocFailed<T>> for Stop {
+    fn from(refused: AllocFailed<T>) -> Stop {
+        Stop::Fault(Error::from(refused))
+    }
+}

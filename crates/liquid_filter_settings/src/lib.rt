@@ -1,0 +1,11 @@
+//! What filters know of a site or a shop beside their input and arguments, as the data says it.
+#![tactic(auto)]
+
+mod member;
+mod money_format;
+mod shop;
+mod site;
+
+pub use money_format::money_format;
+pub use shop::shop_of;
+pub use site::Site;

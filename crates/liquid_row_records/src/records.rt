@@ -1,0 +1,113 @@
+//! The records of a reader, one after another.
+use crate::lines::Lines;
+use crate::record::RowFault;
+use crate::rows::{HeadStop, Rows};
+use liquid_core::{Error, ErrorKind, Object, Result};
+use liquid_data_forms::{DataForm, data_in_form, in_form};
+use std::alloc::{AllocError, Global};
+use std::io;
+use std::io::Read;
+
+/// The records that a reader gives, with the number of the one that was read last, from 1.
+#[derive(Drop)]
+pub struct Records<R> {
+    source: Source<R>,
+    number: u64,
+}
+
+/// How the records are written.
+#[derive(Drop)]
+enum Source<R> {
+    Lines(Lines<R>),
+    Rows(Rows<R>),
+}
+
+/// The data of a record.
+#[derive(Drop)]
+pub enum Facts<'r> {
+    /// As a text of JSON.
+    Text(&'r str),
+    Data(Object),
+}
+
+/// Why a record has no data.
+#[derive(Drop)]
+pub enum RecordFault {
+    /// Its line isn't UTF-8.
+    NotUtf8,
+    /// Its row is no record.
+    NoRow(RowFault),
+    /// Its data has a fault.
+    NoData(Error),
+}
+
+/// The data of a record, or why it has none.
+pub type RecordFacts<'r> = std::result::Result<Facts<'r>, RecordFault>;
+
+impl<R: Read + Drop> Records<R> {
+    /// The lines that a reader gives.
+    pub fn lines(alloc: Global, reader: R) -> std::result::Result<Records<R>, AllocError> {
+        let source = Source::Lines(Lines::new(alloc, reader)?);
+        Ok(Records { source, number: 0 })
+    }
+
+    /// The rows that a reader gives, after their head.
+    pub fn rows(alloc: Global, reader: R) -> std::result::Result<Records<R>, HeadStop> {
+        let source = Source::Rows(Rows::new(alloc, reader)?);
+        Ok(Records { source, number: 0 })
+    }
+
+    /// Reads the next record. Whether there is one.
+    pub fn advance(&mut self) -> io::Result<bool> {
+        let found = match &mut self.source {
+            Source::Lines(lines) => lines.advance()?,
+            Source::Rows(rows) => rows.advance()?,
+        };
+        if found {
+            self.number = self.number.saturating_add(1);
+        }
+        Ok(found)
+    }
+
+    /// The number of the record that was read last, from 1.
+    pub fn number(&self) -> u64 {
+        self.number
+    }
+
+    /// Its text, where it is a line.
+    pub fn text(&self) -> &str {
+        match &self.source {
+            Source::Lines(lines) => str::from_utf8(lines.line()).unwrap_or(""),
+            Source::Rows(_) => "",
+        }
+    }
+
+    /// Its data, or why it has none. The answer is `Memory` where a growth was refused, and no other
+    /// kind.
+    pub fn facts(&self, alloc: Global, form: DataForm) -> Result<RecordFacts<'_>> {
+        match &self.source {
+            Source::Lines(lines) => facts_of_line(alloc, lines.line(), form),
+            Source::Rows(rows) => match rows.data(alloc)? {
+                Ok(data) => Ok(Ok(Facts::Data(in_form(alloc, data, form)?))),
+                Err(fault) => Ok(Err(RecordFault::NoRow(fault))),
+            },
+        }
+    }
+}
+
+/// The data of a line. It stays a text where it is read as it stands.
+fn facts_of_line<'r>(alloc: Global, line: &'r [u8], form: DataForm) -> Result<RecordFacts<'r>> {
+    let Ok(text) = str::from_utf8(line) else {
+        return Ok(Err(RecordFault::NotUtf8));
+    };
+    if !form.decimals_as_texts && !form.dates {
+        return Ok(Ok(Facts::Text(text)));
+    }
+    match data_in_form(alloc, text, form) {
+        Ok(data) => Ok(Ok(Facts::Data(data))),
+        Err(fault) => match fault.kind {
+            ErrorKind::Memory => Err(fault),
+            _ => Ok(Err(RecordFault::NoData(fault))),
+        },
+    }
+}

@@ -1,0 +1,72 @@
+//! Records in CSV: a head with the names of the columns, and a record in each row after it.
+use crate::head::{HeadFault, column_names};
+use crate::record::{RowFault, record_of};
+use csv::{ByteRecord, ErrorKind, Reader, ReaderBuilder};
+use liquid_core::{Object, Result};
+use std::alloc::{AllocError, Global};
+use std::io;
+use std::io::Read;
+
+/// The records of a file in CSV.
+#[derive(Drop)]
+pub struct Rows<R> {
+    reader: Reader<R>,
+    names: Vec<String>,
+    row: ByteRecord,
+}
+
+/// Why a file has no records.
+#[derive(Drop)]
+pub enum HeadStop {
+    /// The file can't be read.
+    Unread(io::ErrorKind),
+    /// Its first row names no columns.
+    Faulted(HeadFault),
+    /// Memory ran out.
+    Memory,
+}
+
+impl From<AllocError> for HeadStop {
+    fn from(_refused: AllocError) -> HeadStop {
+        HeadStop::Memory
+    }
+}
+
+impl<R: Read + Drop> Rows<R> {
+    /// The head is read, and all rows are still to come.
+    pub fn new(alloc: Global, reader: R) -> std::result::Result<Rows<R>, HeadStop> {
+        let mut rows = Rows {
+            reader: ReaderBuilder::new()
+                .has_headers(false)
+                .flexible(true)
+                .from_reader(alloc, reader),
+            names: Vec::new(alloc),
+            row: ByteRecord::new(alloc),
+        };
+        if let Err(refused) = rows.advance() {
+            return Err(HeadStop::Unread(refused.kind()));
+        }
+        match column_names(alloc, &rows.row)? {
+            Ok(names) => rows.names = names,
+            Err(fault) => return Err(HeadStop::Faulted(fault)),
+        }
+        Ok(rows)
+    }
+
+    /// Reads the next row. Whether there is one.
+    pub fn advance(&mut self) -> io::Result<bool> {
+        match self.reader.read_byte_record(&mut self.row) {
+            Ok(found) => Ok(found),
+            Err(refused) => match refused.into_kind() {
+                ErrorKind::Io(refused) => Err(refused),
+                ErrorKind::OutOfMemory => Err(io::Error::from(io::ErrorKind::OutOfMemory)),
+                _ => Err(io::Error::from(io::ErrorKind::InvalidData)),
+            },
+        }
+    }
+
+    /// The data of the row that was read last, or why it is no record.
+    pub fn data(&self, alloc: Global) -> Result<std::result::Result<Object, RowFault>> {
+        record_of(alloc, self.names.as_slice(), &self.row)
+    }
+}

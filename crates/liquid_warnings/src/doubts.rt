@@ -1,0 +1,133 @@
+//! What the data has other than templates ask for it.
+use crate::loops::no_list_of;
+use crate::messages::{lack_message, name_of, nearest_key};
+use crate::names::add_name;
+use crate::path_texts::{beside, key_before, lack_words, lacking_text, path_text};
+use crate::remark::Remark;
+use crate::warnings::is_full;
+use liquid_check::{Asked, asked_paths};
+use liquid_core::{Object, Quoted, Result};
+use liquid_data_paths::{DataPath, Doubt, Lack, Want, doubt_of};
+use liquid_syntax::Template;
+use std::alloc::{AllocError, Global};
+use std::collections::BTreeSet;
+
+type Said = std::result::Result<String, AllocError>;
+
+/// Adds the warnings about what a template asks of the data, each once, where it is asked first.
+/// The names are those that a tag of any template sets.
+pub(crate) fn add_doubts(
+    alloc: Global,
+    template: &Template,
+    data: &Object,
+    names: &BTreeSet<String>,
+    remarks: &mut Vec<Remark>,
+) -> Result<()> {
+    let mut told = BTreeSet::new(alloc);
+    for asked in asked_paths(alloc, template, names)? {
+        if is_full(remarks) {
+            break;
+        }
+        if let Some(doubt) = doubt_of(alloc, data, &asked.path, asked.want)? {
+            add_once(alloc, remark_of(alloc, &asked, doubt)?, &mut told, remarks)?;
+        }
+    }
+    Ok(())
+}
+
+/// Adds a warning, unless one of this message is there.
+fn add_once(
+    alloc: Global,
+    remark: Option<Remark>,
+    told: &mut BTreeSet<String>,
+    remarks: &mut Vec<Remark>,
+) -> Result<()> {
+    if let Some(remark) = remark {
+        if !told.contains(remark.message.as_str()) {
+            add_name(alloc, told, remark.message.as_str())?;
+            remarks.push(remark)?;
+        }
+    }
+    Ok(())
+}
+
+/// What is said of a doubt. Of a name that isn't there `UnknownName` is said, and of what has to be
+/// there nowhere, nothing, unless a near key is.
+fn remark_of(alloc: Global, asked: &Asked, doubt: Doubt<'_>) -> Result<Option<Remark>> {
+    if let Doubt::Lacks(lack) = doubt {
+        return Ok(unknown_path(alloc, asked, lack)?);
+    }
+    let path = path_text(alloc, &asked.path, asked.path.steps.len())?;
+    let path = path.as_str();
+    let at = asked.position;
+    match doubt {
+        Doubt::Lacks(_) => Ok(None),
+        Doubt::NoList(value) => {
+            let path = in_data(alloc, path)?;
+            Ok(Some(no_list_of(alloc, at, value, path.as_str())?))
+        }
+        Doubt::PastEnd(count) => {
+            Ok(Some(Remark::warning(at, "PastEnd", past_end(alloc, path, count)?)))
+        }
+        Doubt::NoDate(text) => Ok(Some(Remark::warning(at, "NoDate", no_date(alloc, path, text)?))),
+    }
+}
+
+fn in_data(alloc: Global, path: &str) -> Said {
+    let path = Quoted { text: path };
+    format!(in alloc; "`{path}` in the data")
+}
+
+fn past_end(alloc: Global, path: &str, count: usize) -> Said {
+    let path = Quoted { text: path };
+    format!(in alloc;
+        "`{path}` has {count} items in the data; after `offset` the `limit` goes past them, and gives nil"
+    )
+}
+
+fn no_date(alloc: Global, path: &str, text: &str) -> Said {
+    let path = Quoted { text: path };
+    let text = Quoted { text };
+    format!(in alloc; "`{path}` is `{text}` in the data, which isn't read as a date")
+}
+
+/// `UnknownPath`: a map on the way hasn't the key.
+fn unknown_path(
+    alloc: Global,
+    asked: &Asked,
+    lack: Lack<'_>,
+) -> std::result::Result<Option<Remark>, AllocError> {
+    let count = asked.path.steps.len().saturating_sub(lack.left);
+    let Some(key) = key_before(&asked.path, count) else {
+        return Ok(None);
+    };
+    let near = name_of(nearest_key(alloc, lack.among, key, None)?);
+    if near.is_none() && !is_needed(asked.want) {
+        return Ok(None);
+    }
+    let message = path_message(alloc, &asked.path, count, near)?;
+    Ok(Some(Remark::warning(asked.position, "UnknownPath", message)))
+}
+
+/// Whether what is wanted has to be there.
+fn is_needed(want: Want) -> bool {
+    !matches!(want, Want::Perhaps | Want::Date)
+}
+
+/// The message for a path whose last of so many steps leads to nothing, with a key near to it.
+fn path_message(alloc: Global, path: &DataPath, count: usize, near: Option<&str>) -> Said {
+    let words = lack_words(alloc, path, count)?;
+    let lacking = lacking_text(alloc, path, count)?;
+    match near {
+        Some(near) => {
+            let meant = beside(alloc, lacking.as_str(), near)?;
+            lack_message(
+                alloc,
+                words.as_str(),
+                lacking.as_str(),
+                Some(meant.as_str()),
+            )
+        }
+        None => lack_message(alloc, words.as_str(), lacking.as_str(), None),
+    }
+}

@@ -1,0 +1,20 @@
+//! An `else` with a condition.
+use crate::remark::Remark;
+use liquid_check::else_items;
+use liquid_core::Result;
+use liquid_language::Language;
+use std::alloc::Global;
+
+/// `ElseIf`: something stands after `else`, which nothing reads.
+pub(crate) fn add_else_if(
+    alloc: Global,
+    language: &Language,
+    source: &str,
+    remarks: &mut Vec<Remark>,
+) -> Result<()> {
+    let message = "what stands after `else` isn't read; for a condition write `elsif`";
+    for place in else_items(alloc, source, language)? {
+        remarks.push(Remark::at(alloc, &place, "ElseIf", message)?)?;
+    }
+    Ok(())
+}

@@ -1,0 +1,41 @@
+//! Partials that aren't there, that nothing runs, and that run themselves.
+use crate::calls::{Call, PartialFiles};
+use crate::messages::{lack_message, name_of, nearest_partial};
+use crate::remark::Remark;
+use liquid_core::Quoted;
+use liquid_syntax::Position;
+use std::alloc::{AllocError, Global};
+
+/// `MissingPartial`: a tag runs a partial that isn't there.
+pub(crate) fn missing_partial(
+    alloc: Global,
+    partials: &PartialFiles,
+    call: &Call<'_>,
+) -> Result<Option<Remark>, AllocError> {
+    let (Some(name), None) = (call.name, call.file) else {
+        return Ok(None);
+    };
+    let near = name_of(nearest_partial(alloc, partials, name)?);
+    let message = lack_message(alloc, "no partial is named", name, near)?;
+    Ok(Some(Remark::warning(call.position, "MissingPartial", message)))
+}
+
+/// `UnusedPartial`: no template runs the partial.
+pub(crate) fn unused_partial(alloc: Global) -> Result<Remark, AllocError> {
+    let message = String::from_str(alloc, "none of the templates runs this partial")?;
+    let start = Position { line: 1, column: 1 };
+    Ok(Remark::warning(start, "UnusedPartial", message))
+}
+
+/// `RecursivePartial`: a tag runs a partial in which it stands, itself or by way of others.
+pub(crate) fn recursive_partial(alloc: Global, call: &Call<'_>) -> Result<Remark, AllocError> {
+    let message = recursive_message(alloc, call.name.unwrap_or(""))?;
+    Ok(Remark::warning(call.position, "RecursivePartial", message))
+}
+
+fn recursive_message(alloc: Global, name: &str) -> Result<String, AllocError> {
+    let name = Quoted { text: name };
+    format!(in alloc;
+        "the partial `{name}` runs itself from here; a run ends where partials are 32 deep"
+    )
+}
