@@ -109,11 +109,17 @@ pub(crate) fn partial_name(alloc: Global, name: &Expression, state: &State<'_>) 
     if value.as_value().is_scalar() {
         value.as_value().text(alloc)
     } else {
-        Err(Error::new(
-            alloc,
-            ErrorKind::PartialName,
-            "the name of a partial is nil, a list or a map",
-        ))
+        let words = words_of_no_name(value.as_value());
+        Err(Error::new(alloc, ErrorKind::PartialName, words))
+    }
+}
+
+/// What the message says of a value that names no partial.
+fn words_of_no_name(value: &Value) -> &'static str {
+    match value {
+        Value::Array(_) => "the name of a partial is a text, not a list",
+        Value::Object(_) => "the name of a partial is a text, not a map",
+        _ => "the name of a partial is a text, not nil",
     }
 }
 

@@ -173,7 +173,7 @@ fn after_first<'s>(language: &Language, spot: &Spot<'s>) -> Option<Phrasing<'s>>
     let is_name = spot.found.starts_with(is_letter);
     let words = match spot.before {
         "len" => "`len a` is written `a.size`",
-        "index" | "lookup" => "`index a 0` is written `a[0]`, and of a map `a['b']`",
+        "index" | "lookup" => "`… a 0` is written `a[0]`, and of a map `a['b']`",
         "template" | "block" => "a partial is taken in by `{% render 'name' %}`",
         "define" => "`define` isn't known; a partial stands in a file of its own",
         "printf" => "`printf` isn't known; `append` and `prepend` join texts",
