@@ -21,7 +21,9 @@ endunless: it is a tag, `{% endunless %}`
 endcase: it is a tag, `{% endcase %}`
 endcapture: it is a tag, `{% endcapture %}`
 break: it is a tag, `{% break %}`
-continue: it is a tag, `{% continue %}`
+continue: it is a tag, `{% continue %}`, and `offset:` takes a number
+default: the last part of a `case` is `{% else %}`
+include: the values that a partial is handed stand under their own names
 page: it comes with the data; front matter isn't read
 post: it comes with the data; front matter isn't read
 site: it comes with the data, as all names do

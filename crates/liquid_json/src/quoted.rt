@@ -57,6 +57,11 @@ fn escape_length(from: &str) -> Result<usize, Flaw<'_>> {
         Some('"' | '\\' | '/' | 'b' | 'f' | 'n' | 'r' | 't') => Ok(2),
         Some('u') => code_length(from),
         Some('\0'..='\u{1f}') | None => Ok(1),
+        Some('\'') => Err(Flaw::quoting(
+            from,
+            "found `…` in a text, which is no escape; a `'` stands without a backslash",
+            front_chars(from, 2),
+        )),
         Some(_) => Err(Flaw::quoting(
             from,
             "found `…` in a text, which is no escape; a backslash is written `\\\\`",

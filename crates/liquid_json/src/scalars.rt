@@ -50,9 +50,9 @@ fn is_too_large(number: &str) -> bool {
 /// What to write in place of a word that is no value.
 fn words_of(word: &str) -> &'static str {
     match word {
-        "True" | "TRUE" => "found `…`; write `true`",
-        "False" | "FALSE" => "found `…`; write `false`",
-        "None" | "nil" | "undefined" | "Null" | "NULL" => "found `…`; write `null`",
+        "True" | "TRUE" | "tru" | "yes" | "Yes" => "found `…`; write `true`",
+        "False" | "FALSE" | "fasle" | "flase" | "no" | "No" => "found `…`; write `false`",
+        "None" | "nil" | "undefined" | "Null" | "NULL" | "nul" => "found `…`; write `null`",
         "NaN" | "nan" | "Infinity" | "-Infinity" | "inf" | "-inf" => {
             "found `…`, which is no number of JSON; write `null`, or the text `\"…\"`"
         }

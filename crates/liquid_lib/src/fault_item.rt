@@ -21,7 +21,7 @@ pub(crate) fn item_of_node<H: NamedFilters>(
         Node::If(condition, _) | Node::Unless(condition, _) => {
             item_of_condition(alloc, condition, state)
         }
-        Node::Case(target, _, _) => item_of_case(alloc, target, state),
+        Node::Case(target, arms, _) => item_of_case(alloc, target, arms, state),
         Node::For(head, _) => item_of_for(alloc, head, state, kind),
         Node::TableRow(head, _) => item_of_tablerow(alloc, head, state, kind),
         Node::Cycle(group, values) => {

@@ -1,26 +1,31 @@
 //! Which item of a tag a fault is about: of loops, of `case` and `cycle`, and of tags that run a
 //! partial.
-use crate::fault_item::is_missing;
+use crate::fault_item::{first_missing, is_missing};
 use liquid_core::{ErrorKind, Expression, Result, State, Value};
 use liquid_syntax::{
-    Binding, Each, For, Node, PieceItem, RangeExpression, TableRow, WindowExpression,
+    Arm, Binding, Each, For, Node, PieceItem, RangeExpression, TableRow, WindowExpression,
 };
 use std::alloc::Global;
 
 /// The source of a loop after its variable and `in`, and that of a `render` after `for`.
 const SOURCE: usize = 2;
 
-/// The target of a `case`; the faults of the values of its `when` stand at the `case`.
+/// The item of a `case`: its target, or the first value of a `when` that is missing.
 pub(crate) fn item_of_case(
     alloc: Global,
     target: &Expression,
+    arms: &[Arm],
     state: &State<'_>,
 ) -> Result<PieceItem> {
-    Ok(if is_missing(alloc, target, state)? {
-        PieceItem::At(0)
-    } else {
-        PieceItem::Whole
-    })
+    if is_missing(alloc, target, state)? {
+        return Ok(PieceItem::At(0));
+    }
+    for (index, arm) in arms.iter().enumerate() {
+        if let Some(value) = first_missing(alloc, &arm.values, state)? {
+            return Ok(PieceItem::WhenValue(index, value));
+        }
+    }
+    Ok(PieceItem::Whole)
 }
 
 /// The item of a `for`: its source, then its limit, then its offset.

@@ -22,6 +22,7 @@ mod leaves;
 mod lent;
 mod limits;
 mod loop_turns;
+mod near_partial;
 mod nodes;
 mod output;
 mod own_state;

@@ -2,7 +2,6 @@
 //! `include` enters it.
 ghost use Rattle.std.specs.Prelude.{◌≡◌, ◌≤◌, IfOk, OnErr, length, string_bytes};
 ghost use Rattle.liquid_model.specs.Answer.{Answers};
-ghost use Rattle.liquid_model.specs.ErrorKinds.{IsKindOrMemory};
 ghost use Rattle.liquid_model.specs.View.{pairs_view};
 ghost use Rattle.liquid_core.specs.ExpressionView.{expression_view};
 ghost use Rattle.liquid_core.specs.Held.{held};
@@ -16,7 +15,8 @@ ghost use Rattle.liquid_lib.specs.inside.Partials.{jekyll_entry, partial_of, ren
 ghost use Rattle.liquid_meaning.specs.Meaning.{name_of};
 
 use crate::context::RunContext;
-use liquid_core::{Error, ErrorKind, Expression, Object, Quoted, Result, State, Value, store};
+use crate::near_partial::unknown;
+use liquid_core::{Error, ErrorKind, Expression, Object, Result, State, Value, store};
 use liquid_syntax::{Binding, Partials, Template};
 use std::alloc::Global;
 use std::collections::BTreeMap;
@@ -109,11 +109,17 @@ pub(crate) fn partial_name(alloc: Global, name: &Expression, state: &State<'_>) 
     if value.as_value().is_scalar() {
         value.as_value().text(alloc)
     } else {
-        Err(Error::new(
-            alloc,
-            ErrorKind::PartialName,
-            "the name of a partial is nil, a list or a map",
-        ))
+        let words = words_of_no_name(value.as_value());
+        Err(Error::new(alloc, ErrorKind::PartialName, words))
+    }
+}
+
+/// What the message says of a value that names no partial.
+fn words_of_no_name(value: &Value) -> &'static str {
+    match value {
+        Value::Array(_) => "the name of a partial is a text, not a list",
+        Value::Object(_) => "the name of a partial is a text, not a map",
+        _ => "the name of a partial is a text, not nil",
     }
 }
 
@@ -170,7 +176,7 @@ fn partial_called<'p>(alloc: Global, partials: &'p Partials, name: &str) -> Resu
 {
     match partials.get(name) {
         Some(partial) => Ok(partial),
-        None => Err(unknown(alloc, name)),
+        None => Err(unknown(alloc, partials, name)),
     }
 }
 
@@ -193,19 +199,6 @@ pub(crate) fn partial_rendered<'p>(
     longer.push_str(".liquid")?;
     match partials.get(longer.as_str()) {
         Some(partial) => Ok(partial),
-        None => Err(unknown(alloc, name)),
+        None => Err(unknown(alloc, partials, name)),
     }
-}
-
-fn unknown(alloc: Global, name: &str) -> Error
-    ensures { IsKindOrMemory ErrorKind.UnknownPartial result.kind }
-{
-    let quoted = Quoted { text: name };
-    Error::formatted(
-        alloc,
-        ErrorKind::UnknownPartial,
-        format_args!(
-            "no partial is named `{quoted}`; hand it in by this name, as `{quoted}=FILE` on a command line"
-        ),
-    )
 }

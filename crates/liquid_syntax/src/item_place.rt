@@ -1,6 +1,7 @@
 //! Where an item of a piece stands in the source, which is asked for only where a fault of a run is
 //! told: the piece is read once more.
 use crate::positions::{Position, rest_from};
+use crate::when_place::from_when;
 use liquid_lexer::{Item, PlacedItem, Symbol, is_word, placed_piece};
 use std::alloc::{AllocError, Global};
 
@@ -21,6 +22,8 @@ pub enum PieceItem {
     Argument(usize, usize),
     /// The value at this index of a `cycle`.
     CycleValue(usize),
+    /// Of the `when` at this index of a `case` the value at the second one.
+    WhenValue(usize, usize),
     /// The value of the pair at this index, after its `:` or `=`, or after `with`.
     Pair(usize),
     /// The value of the last `limit:`, `offset:` or `cols:`.
@@ -38,22 +41,35 @@ pub fn item_position(
     item: PieceItem,
 ) -> Result<Position, AllocError> {
     let text = rest_from(source, piece);
-    let placed = placed_piece(alloc, text)?;
-    let found = match item {
-        PieceItem::Last(index) => last_of_range(alloc, &placed.items, index)?,
-        _ => from_item(&placed.items, item),
-    };
-    let passed = match found {
+    let passed = match from_found(alloc, text, item)? {
         Some(from) => text.len().saturating_sub(from.len()),
         None => 0,
     };
     Ok(piece.after(text.get(..passed).unwrap_or("")))
 }
 
+/// The source from an item of the piece with which it begins, or of a `when` of that `case`.
+fn from_found(alloc: Global, source: &str, item: PieceItem) -> Result<Option<&str>, AllocError> {
+    match item {
+        PieceItem::WhenValue(index, value) => {
+            let Some(when) = from_when(alloc, source, index)? else {
+                return Ok(None);
+            };
+            let placed = placed_piece(alloc, when)?;
+            Ok(from_index(&placed.items, Some(value.saturating_mul(2))))
+        }
+        PieceItem::Last(index) => {
+            let placed = placed_piece(alloc, source)?;
+            last_of_range(alloc, &placed.items, index)
+        }
+        _ => Ok(from_item(&placed_piece(alloc, source)?.items, item)),
+    }
+}
+
 /// The source from an item on, where the piece has it.
 fn from_item<'s>(items: &Vec<PlacedItem<'s>>, item: PieceItem) -> Option<&'s str> {
     match item {
-        PieceItem::Whole | PieceItem::Last(_) => None,
+        PieceItem::Whole | PieceItem::Last(_) | PieceItem::WhenValue(_, _) => None,
         PieceItem::At(index) => from_index(items, Some(index)),
         PieceItem::First(index) => Some(inside_of(from_index(items, Some(index))?)),
         PieceItem::Filter(index) => from_index(items, after_bar(items, index, 1)),

@@ -23,6 +23,7 @@ mod positions;
 mod template;
 mod value_items;
 mod visit_nodes;
+mod when_place;
 
 pub use condition_items::read_condition;
 pub use item_place::{PieceItem, item_position};

@@ -1,4 +1,5 @@
 //! Faults of tags' names and of blocks.
+use super::items::spelling_at;
 use super::names::meant_tag;
 use super::near::nearest;
 use super::outline::{Opener, Otherwise, Outline};
@@ -140,6 +141,10 @@ fn unknown_name<'s>(
         Some(near) => {
             let words = "no tag is named `…`; did you mean `…`?";
             Phrasing::quoting(at, words, name, near.name)
+        }
+        None if spelling_at(&piece.items, 0) == "=" => {
+            let words = "no tag is named `…`; a name is set by `{% assign … = .. %}`";
+            Phrasing::quoting(at, words, name, name)
         }
         None if piece.items.is_empty() => {
             let words = "no tag is named `…`; a value is shown by `{{ … }}`";

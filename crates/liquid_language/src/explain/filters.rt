@@ -2,6 +2,7 @@
 //! takes.
 use super::names::{kind_of_filter, lacking_filter, meant_filter};
 use super::near::nearest;
+use super::numbers::comma_in_argument;
 use super::phrasing::Phrasing;
 use crate::registered_filter::{FilterRegistry, RegisteredFilter};
 use liquid_lexer::{Item, PlacedItem, PlacedPiece, Symbol};
@@ -104,7 +105,10 @@ pub fn miscounted<'s>(
 ) -> Result<Phrasing<'s>, AllocError> {
     let calls = calls(alloc, &piece.items)?;
     Ok(match refused(filters, &calls) {
-        Some((call, filter)) => miscount(&call, bounds(filter)),
+        Some((call, filter)) => match comma_in_argument(call.from) {
+            Some(phrasing) if call.arguments == 2 => phrasing,
+            _ => miscount(&call, bounds(filter)),
+        },
         None => Phrasing::plain(at, "a filter takes another number of arguments"),
     })
 }
@@ -141,6 +145,11 @@ fn words_of_bounds(least: usize, most: usize, count: usize) -> &'static str {
 fn words_of_given(call: &WrittenFilter<'_>) -> &'static str {
     if !call.has_colon && call.arguments > 0 {
         return ", after a `:`";
+    }
+    match (call.name, call.arguments) {
+        ("first", 1) => return ", and 1 is given; `slice: 0, 3` takes the first three",
+        ("last", 1) => return ", and 1 is given; `slice: -3, 3` takes the last three",
+        _ => {}
     }
     match (call.arguments, call.names_arguments) {
         (0, false) => ", and none is given",

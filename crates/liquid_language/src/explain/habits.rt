@@ -9,7 +9,7 @@ use conditions::CONDITION;
 use liquid_lexer::{Delimiter, Expectation, PlacedPiece};
 use outputs::{OUTPUT, VALUE};
 use pieces::ANYWHERE;
-use tags::{ASSIGN, ELSE, LOOP, NAME, PARTIAL, SETTING, TAG};
+use tags::{ASSIGN, ELSE, LOOP, NAME, OTHER, PARTIAL, SETTING, TAG};
 
 /// What kind of piece a fault is in.
 #[derive(Clone, Copy)]
@@ -77,7 +77,8 @@ fn of_tag(spot: &Spot<'_>) -> Option<&'static str> {
         FaultSite::Assign => of_assign(spot),
         FaultSite::Loop => first_of(LOOP, spot),
         FaultSite::Partial => first_of(PARTIAL, spot),
-        FaultSite::Name | FaultSite::Output | FaultSite::Tag => None,
+        FaultSite::Tag => first_of(OTHER, spot),
+        FaultSite::Name | FaultSite::Output => None,
     }
 }
 
@@ -110,10 +111,11 @@ fn of_map(spot: &Spot<'_>) -> Option<&'static str> {
     None
 }
 
-/// A `+` beside a text.
+/// A `+` beside a text, or a `%` after one.
 fn of_sum(spot: &Spot<'_>) -> Option<&'static str> {
-    let after = spot.rest.strip_prefix("+")?;
-    let is_text = spot.before.starts_with(is_quote) || after.trim_start().starts_with(is_quote);
+    let after = spot.rest.strip_prefix(['+', '%'])?;
+    let is_text = spot.before.starts_with(is_quote)
+        || spot.rest.starts_with("+") && after.trim_start().starts_with(is_quote);
     if is_text && !matches!(spot.site, FaultSite::Condition) {
         return Some("texts are joined by a filter, as `a | append: 'text'`");
     }
@@ -172,7 +174,10 @@ fn of_step(spot: &Spot<'_>) -> Option<&'static str> {
     if after.starts_with(is_digit) {
         return Some("a place in a list stands in brackets, as `a[0]`");
     }
-    if !after.starts_with(follows_dot) {
+    if after.starts_with(is_quote) {
+        return Some("a part is written `a.b` or `a['b']`");
+    }
+    if !after.starts_with(follows_dot) && !after.starts_with("}}") {
         return None;
     }
     if spot.count == 0 && spot.at_item {

@@ -17,7 +17,10 @@ pub fn misplaced<'s>(language: &Language, fault: &Fault, piece: &PlacedPiece<'s>
     }
     match advice(&spot) {
         Some(words) => Phrasing::plain(spot.rest, words),
-        None => not_wanted(&spot, spot.found),
+        None => match after_first(language, &spot) {
+            Some(phrasing) => phrasing,
+            None => not_wanted(&spot, spot.found),
+        },
     }
 }
 
@@ -63,6 +66,7 @@ fn meant<'s>(
     match spot.wanted {
         Expectation::FilterOrCloser => after_value(language, spot, items),
         Expectation::FilterName => in_place_of_filter(language, spot, items),
+        Expectation::FurtherPair => in_place_of_pair(spot),
         Expectation::VariableName if !spot.found.is_empty() => Some(Phrasing::quoting(
             spot.rest,
             words_of_name(spot.found),
@@ -160,16 +164,57 @@ fn tag_in_output<'s>(language: &Language, spot: &Spot<'s>) -> Option<Phrasing<'s
     Some(Phrasing::quoting(spot.rest, words, spot.before, spot.before))
 }
 
+/// What is meant by a second value in an output.
+fn after_first<'s>(language: &Language, spot: &Spot<'s>) -> Option<Phrasing<'s>> {
+    let is_second = matches!(spot.site, FaultSite::Output) && spot.count == 1;
+    if !is_second || !spot.found.starts_with(begins_value) {
+        return None;
+    }
+    let is_name = spot.found.starts_with(is_letter);
+    let words = match spot.before {
+        "len" => "`len a` is written `a.size`",
+        "index" | "lookup" => "`… a 0` is written `a[0]`, and of a map `a['b']`",
+        "template" | "block" => "a partial is taken in by `{% render 'name' %}`",
+        "define" => "`define` isn't known; a partial stands in a file of its own",
+        "printf" => "`printf` isn't known; `append` and `prepend` join texts",
+        before if before.starts_with(is_digit) && spot.found.starts_with(is_digit) => {
+            "a number has no white space in it: write `…¤`"
+        }
+        before if language.filters.get(before).is_some() => {
+            "a filter follows its value and a `|`: write `{{ a | … }}`"
+        }
+        before if before.starts_with(is_letter) && is_name => {
+            "a name is one word, and a part of one is written `….…`"
+        }
+        _ => "an output shows one value; write `{{ a }}{{ b }}`",
+    };
+    Some(Phrasing::quoting(spot.rest, words, spot.before, spot.found))
+}
+
+/// What is meant by what stands where a pair is wanted, after the name of a partial.
+fn in_place_of_pair<'s>(spot: &Spot<'s>) -> Option<Phrasing<'s>> {
+    if spot.found.starts_with(is_quote) && spot.before == "," {
+        let words = "the name of a pair stands without quotes, as `name: value`";
+        return Some(Phrasing::plain(spot.rest, words));
+    }
+    let is_closer = spot.found.ends_with("%}") || spot.found == ",";
+    if !is_closer || !spot.before.starts_with(is_letter) || spot.count < 3 {
+        return None;
+    }
+    let words = "a value is handed in under a name, as `name: …`";
+    Some(Phrasing::quoting(spot.rest, words, spot.before, ""))
+}
+
 /// What is meant by what stands where the arguments of a filter may; the bar stands two items
 /// before it.
 fn in_arguments<'s>(spot: &Spot<'s>, bar: &str) -> Option<Phrasing<'s>> {
     if spot.rest.starts_with("=>") {
         return None;
     }
-    if let Some(words) = sign_in_arguments(bar, spot.found) {
+    if let Some(words) = sign_in_arguments(bar, spot) {
         return Some(Phrasing::plain(spot.rest, words));
     }
-    if !spot.found.starts_with(begins_value) {
+    if !spot.found.starts_with(begins_value) || joins_values(spot.found) {
         return None;
     }
     let words = one_more_argument(bar)?;
@@ -177,14 +222,25 @@ fn in_arguments<'s>(spot: &Spot<'s>, bar: &str) -> Option<Phrasing<'s>> {
 }
 
 /// What the message says of a sign after a filter or an argument of one.
-fn sign_in_arguments(bar: &str, found: &str) -> Option<&'static str> {
-    match (found, bar) {
+fn sign_in_arguments(bar: &str, spot: &Spot<'_>) -> Option<&'static str> {
+    match (spot.found, bar) {
+        ("=" | "==", ":" | ",") if spot.before.starts_with(is_quote) => Some(
+            "arguments of a filter have a `,` between them, as `'a', 'b'`",
+        ),
+        ("with" | "by" | "to", ":" | ",") => Some(
+            "arguments of a filter have a `,` between them, as `'a', 'b'`",
+        ),
         (":", _) | ("=", ":" | ",") => Some(
             "arguments of a filter have no names; write the value alone, as `truncate: 5`",
         ),
         (",", "|") => Some("filters follow one another by `|`, as `a | strip | upcase`"),
         _ => None,
     }
+}
+
+/// Whether a word stands between two values in a condition or a choice.
+fn joins_values(word: &str) -> bool {
+    matches!(word, "if" | "or" | "and" | "in" | "contains" | "then")
 }
 
 /// What the message says of a value after a filter's name (`|` stands before that) or after an
@@ -229,7 +285,7 @@ pub fn is_tag(language: &Language, name: &str) -> bool {
 }
 
 /// The spelling of the item of the index, or none.
-fn spelling_at<'s>(items: &[PlacedItem<'s>], index: usize) -> &'s str {
+pub fn spelling_at<'s>(items: &[PlacedItem<'s>], index: usize) -> &'s str {
     match items.get(index) {
         Some(placed) => placed.spelling,
         None => "",

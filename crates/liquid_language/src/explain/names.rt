@@ -11,6 +11,8 @@ print: `print a` is written `{{ a }}`
 set: `set` is written `assign`
 let: `let` is written `assign`
 var: `var` is written `assign`
+const: `const` is written `assign`
+empty: `empty` is written `else`
 switch: `switch` is written `case`
 default: `default` is written `else`
 foreach: `foreach` is written `for`
@@ -67,6 +69,10 @@ ifdef: `ifdef` isn't known; `{% if a %}` asks whether `a` has a value
 load: `load` isn't known; every filter and tag is there from the start
 static: `static` isn't known; write the address itself
 url: `url` isn't known; write the address itself
+define: `define` isn't known; `{% render 'name' %}` takes in a partial
+dump: `dump` isn't known; `{{ a }}` shows a value
+debug: `debug` isn't known; `{{ a }}` shows a value
+inspect: `inspect` isn't known; `{{ a }}` shows a value
 csrf_token: `csrf_token` isn't known; let the data bring it
 firstof: `firstof` isn't known; write `{{ a | default: b }}`
 regroup: `regroup` isn't known; a `for` with an `if` picks the items of a group
@@ -94,7 +100,6 @@ capfirst: capitalize
 trim: strip
 ltrim: lstrip
 rtrim: rstrip
-add: plus
 sub: minus
 subtract: minus
 mul: times
@@ -104,18 +109,20 @@ div: divided_by
 divide: divided_by
 divide_by: divided_by
 mod: modulo
-max: at_least
-min: at_most
 e: escape
 h: escape
 html_escape: escape
+escape_html: escape
 nl2br: newline_to_br
+newline_to_break: newline_to_br
 striptags: strip_html
 strip_tags: strip_html
 urlencode: url_encode
 urldecode: url_decode
 strftime: date
 date_format: date
+format_date: date
+datetime: date
 unique: uniq
 select: where
 pluck: map
@@ -153,6 +160,8 @@ htmlescape: escape
 forceescape: escape
 force_escape: escape
 cgi_escape: url_encode
+url_escape: url_encode
+encodeURIComponent: url_encode
 titleize: capitalize
 titlecase: capitalize
 ucfirst: capitalize
@@ -218,7 +227,7 @@ raw: nothing is escaped by itself, so leave `| raw` out
 safe: nothing is escaped by itself, so leave `| safe` out
 html_safe: nothing is escaped by itself, so leave `| html_safe` out
 unescape: nothing is escaped by itself; let the data bring the plain text
-format: `append` and `prepend` join texts
+format: `append` and `prepend` join texts, and `date: '%d %b %Y'` shows a date
 printf: `append` and `prepend` join texts
 sprintf: `append` and `prepend` join texts
 number_format: let the data bring the formatted number
@@ -277,6 +286,25 @@ string: an output shows any value as a text
 to_i: a text of digits counts as a number, as in `plus: 0`
 int: a text of digits counts as a number, as in `plus: 0`
 number: a text of digits counts as a number, as in `plus: 0`
+to_number: a text of digits counts as a number, as in `plus: 0`
+to_int: a text of digits counts as a number, as in `plus: 0`
+intval: a text of digits counts as a number, as in `plus: 0`
+parseInt: a text of digits counts as a number, as in `plus: 0`
+add: write `plus` for numbers, `append` for texts
+max: `sort | last` is the greatest of a list, and `at_least: 1` a number that is 1 or more
+min: `sort | first` is the least of a list, and `at_most: 9` a number that is 9 or less
+percent: write `times: 100 | divided_by: total`
+percentage: write `times: 100 | divided_by: total`
+left: write `slice: 0, 2`
+right: write `slice: -2, 2`
+index: a place in a list is written `a[0]`
+get: a place in a list is written `a[0]`, and a part of a map `a.b`
+at: a place in a list is written `a[0]`
+nth: a place in a list is written `a[0]`
+time: write `date: '%H:%M'`
+empty: compare with `''`, or `.size` with 0, in an `{% if %}`
+is_empty: compare with `''`, or `.size` with 0, in an `{% if %}`
+base64: let the data bring the encoded text
 to_f: numbers are whole here; count in a smaller unit, as cents
 float: numbers are whole here; count in a smaller unit, as cents
 floatformat: numbers are whole here; `round: 2` rounds a text, as `'1.234'`

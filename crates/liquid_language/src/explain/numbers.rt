@@ -94,6 +94,21 @@ pub fn number_front(text: &str) -> &str {
     front_before(text, after)
 }
 
+/// Of a number with a `,` and digits directly after it, where that is the first argument of the
+/// filter with whose name the source begins.
+pub fn comma_in_argument(from: &str) -> Option<Phrasing<'_>> {
+    let (_, arguments) = from.split_once(':')?;
+    let number = arguments.trim_start();
+    let after = number.trim_start_matches(is_digit);
+    let fraction = after.strip_prefix(",")?;
+    if after.len() == number.len() || !fraction.starts_with(is_digit) {
+        return None;
+    }
+    let rest = fraction.trim_start_matches(is_digit);
+    let words = "`…` is no whole number, and templates have no others; count in a smaller unit";
+    Some(Phrasing::quoting(number, words, front_before(number, rest), ""))
+}
+
 /// Whether a number begins by a `.`, after no value that this could be a step of.
 pub fn is_fraction(spot: &Spot<'_>) -> bool {
     match spot.rest.strip_prefix(".") {

@@ -1,5 +1,5 @@
 //! Parentheses that hold no range: calls, lists and conditions of other languages.
-use super::characters::is_letter;
+use super::characters::{is_digit, is_letter};
 use super::filters::{meant_elsewhere, meant_here};
 use super::habits::{FaultSite, Spot};
 use super::items::{front_before, spelling_before};
@@ -25,7 +25,11 @@ pub fn in_parentheses<'s>(
     }
     let is_name = matches!(spot.site, FaultSite::Loop) && spot.count == 0;
     if !is_name && is_list(piece.rest) {
-        let words = "a list can't be written in a template; `'a,b' | split: ','` makes one";
+        let words = if let FaultSite::Loop = spot.site {
+            "a range is written `(1..5)`; a list can't be written in a template, `'a,b' | split: ','` makes one"
+        } else {
+            "a list can't be written in a template; `'a,b' | split: ','` makes one"
+        };
         return Some(Phrasing::plain(piece.rest, words));
     }
     Some(Phrasing::plain(piece.rest, no_range(spot)?))
@@ -83,6 +87,11 @@ fn called<'s>(language: &Language, spot: &Spot<'s>, opening: &'s str) -> Phrasin
     }
     match spot.before.rsplit_once('.') {
         Some((front, step)) => called_step(language, front, step, opening),
+        None if opening.trim_start_matches('(').starts_with(is_digit) => {
+            let words =
+                "`…(..)` isn't known: a place in a list is written `…[0]`, and a filter, as `a | size`, stands for a call";
+            Phrasing::quoting(opening, words, spot.before, spot.before)
+        }
         None => {
             let words =
                 "`…(..)` isn't known: a filter, as `a | size`, stands for a call, and parentheses hold a range, as `(1..5)`";

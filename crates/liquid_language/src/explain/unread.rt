@@ -1,7 +1,7 @@
 //! Faults of pieces that can't be read: of what stands where an item can't begin or go on, and of a
 //! source that ends inside one.
 use super::characters::{is_digit, is_letter, is_letter_beyond, is_quote};
-use super::habits::{Spot, advice, site_of};
+use super::habits::{FaultSite, Spot, advice, site_of};
 use super::items::{closer_of, closer_word, front_before, is_tag, not_wanted, spelling_before};
 use super::names::meant_tag;
 use super::numbers::{is_fraction, no_whole, number_front};
@@ -28,7 +28,11 @@ pub fn unread<'s>(
         return Phrasing::plain(outline.at, words);
     }
     if !is_tag(language, piece.name) && !piece.name.is_empty() && piece.rest.starts_with(".") {
-        let words = "no tag is named `…`; a value is shown by `{{ … }}`";
+        let words = if piece.rest.starts_with(".each") {
+            "a loop is written `{% for item in list %}`"
+        } else {
+            "no tag is named `…`; a value is shown by `{{ … }}`"
+        };
         return Phrasing::quoting(outline.at, words, piece.name, piece.name);
     }
     unread_item(language, fault, outline, piece)
@@ -69,7 +73,7 @@ fn unread_item<'s>(
 /// is reported at its quote.
 fn unclosed<'s>(outline: &Outline<'s>, piece: &PlacedPiece<'s>) -> Phrasing<'s> {
     match outline.from.get(..1) {
-        Some(quote) => unclosed_text(outline.from, quote, piece),
+        Some(quote) => unclosed_text(outline, quote, piece),
         None => {
             let words = "this `¤` has no `¤`";
             Phrasing::quoting(
@@ -83,13 +87,20 @@ fn unclosed<'s>(outline: &Outline<'s>, piece: &PlacedPiece<'s>) -> Phrasing<'s> 
 }
 
 /// Of a source that ends inside a text.
-fn unclosed_text<'s>(from: &'s str, quote: &'s str, piece: &PlacedPiece<'_>) -> Phrasing<'s> {
+fn unclosed_text<'s>(
+    outline: &Outline<'s>,
+    quote: &'s str,
+    piece: &PlacedPiece<'_>,
+) -> Phrasing<'s> {
+    let front = front_before(outline.at, outline.from);
     let words = if escapes_quote(piece) {
         "the text that begins here has no closing `¤`; `\\` escapes nothing, and a text stands between two `'` or two `\"`"
+    } else if front.ends_with(is_letter) {
+        "the text that begins here has no closing `¤`; one with a `'` in it stands between two `\"`"
     } else {
         "the text that begins here has no closing `¤`"
     };
-    Phrasing::quoting(from, words, quote, "")
+    Phrasing::quoting(outline.from, words, quote, "")
 }
 
 /// Whether a text of the piece ends by a `\` before its quote.
@@ -248,6 +259,10 @@ fn found_there<'s>(spot: &Spot<'s>) -> Phrasing<'s> {
     let is_value = matches!(spot.wanted, Expectation::Value);
     if is_value && spot.found.is_empty() && spot.count > 0 {
         return Phrasing::quoting(spot.rest, "found `…`, which means nothing here", found, "");
+    }
+    if matches!(spot.site, FaultSite::Assign) && spot.count == 0 && spot.at_item {
+        let words = "found `…`; a name begins with a letter or `_`";
+        return Phrasing::quoting(spot.rest, words, found, "");
     }
     if let Expectation::WholeNumber = spot.wanted {
         let words = "found `…` where a whole number is wanted, which has digits alone";

@@ -22,6 +22,12 @@ not¦¦`not` isn't known; write `{% unless a %}` or `a == false`
 ¦>¦`>` stands between two values; comparisons are joined by `and`
 ¦=¦`=` doesn't compare; write `==`
 ¦in¦`in` is written the other way round, `list contains item`
+¦is none¦`is none` is written `== nil`
+¦is nil¦`is nil` is written `== nil`
+¦is null¦`is null` is written `== nil`
+¦is not¦`is not` is written `!=`
+¦is empty¦`is empty` isn't known; compare with `''`, or `.size` with 0
+¦is defined¦`is defined` is written `{% if a %}`
 ¦is¦`is` is written `==`; `is defined` is written `{% if a %}`
 ¦,¦conditions are joined by `and` or `or`
 ¦greater¦`greater than` is written `>`
@@ -53,6 +59,8 @@ not¦¦`not` isn't known; write `{% unless a %}` or `a == false`
 ¦AND¦`AND` is written in small letters, `and`
 ¦OR¦`OR` is written in small letters, `or`
 ¦then¦a condition ends without `then`
+==¦{¦a map can't be written in a template; compare `.size` with 0
+¦{¦a condition ends without `{`
 ¦:¦a condition ends without `:`
 ¦+¦a condition doesn't compute; `assign` the sum before it, with `| plus: 1`
 ¦-¦a condition doesn't compute; `assign` the number before it, with `| minus: 1`

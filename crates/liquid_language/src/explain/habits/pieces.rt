@@ -14,6 +14,7 @@ pub static ANYWHERE: &str = "\
 ¦&gt;¦`&gt;` is written `>`
 ¦&lt;¦`&lt;` is written `<`
 ¦&amp;¦`&amp;` is an escape of HTML; in a condition write `and`
+¦&.¦`&.` is written `.`
 ¦&¦`&` isn't known; in a condition write `and`
 ¦｜¦a wide sign stands here; write the plain `|`
 ¦，¦a wide sign stands here; write the plain `,`
@@ -51,6 +52,8 @@ pub static ANYWHERE: &str = "\
 ¦{¦a map can't be written in a template; it comes with the data
 ¦\\¦a text has no escapes; one with a `'` in it stands between two `\"`
 ¦$¦a name has no `$`
+¦€¦a text stands between quotes, as `'€5'`
+¦£¦a text stands between quotes, as `'£5'`
 ¦@¦a name has no `@`
 ¦if¦a condition stands in a tag of its own, as `{% if a %}`
 ¦;¦`;` isn't known; arguments have a `,` between them

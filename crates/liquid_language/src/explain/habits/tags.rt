@@ -4,6 +4,9 @@
 pub static NAME: &str = "\
 ¦%¦a tag begins with `{%`, with one `%`
 ¦#¦a comment is written `{% comment %}text{% endcomment %}`
+¦//¦a comment is written `{% comment %}text{% endcomment %}`
+¦/*¦a comment is written `{% comment %}text{% endcomment %}`
+¦!--¦a comment is written `{% comment %}text{% endcomment %}`
 ¦/¦an end is written as `{% endif %}`
 ¦=¦`{%= a %}` is written `{{ a }}`
 ";
@@ -35,6 +38,7 @@ pub static ASSIGN: &str = "\
 ¦-=¦`a -= 1` is written `{% assign a = a | minus: 1 %}`
 ¦++¦`a++` is written `{% assign a = a | plus: 1 %}`
 ¦,¦an `assign` sets one name
+¦;¦`;` isn't known; a tag ends with `%}`, and arguments have a `,` between them
 ";
 
 /// In `for` and `tablerow`.
@@ -47,6 +51,7 @@ pub static LOOP: &str = "\
 ¦,¦a loop has one name, and no `,` before its parts; a pair of a map is `pair[0]` and `pair[1]`
 each¦¦`for each` is written `for`
 reversed¦:¦`reversed` has no value: write it alone
+¦:¦a loop is written `{% for item in list %}`, without `:`
 :¦%}¦a value is wanted after `:`, as `limit: 2`
 :¦-%}¦a value is wanted after `:`, as `limit: 2`
 limit¦¦a part of a loop has a `:`, as `limit: 2`
@@ -66,6 +71,20 @@ pub static PARTIAL: &str = "\
 ¦,¦no `,` stands here; an `include` has none after the partial's name
 ¦=¦a value follows a `:`, as `name: value`
 ignore¦¦a partial that is missing is a fault; leave `ignore missing` out
+with¦context¦leave `with context` out: an `include` sees every name
+if¦¦a condition stands in a tag of its own, as `{% if a %}`
+unless¦¦a condition stands in a tag of its own, as `{% unless a %}`
 with¦¦`with` is written `{% render 'name' with value as name %}`
 for¦¦`for` is written `{% render 'name' for list as name %}`
+";
+
+/// In other tags, after their names.
+pub static OTHER: &str = "\
+¦==¦a comparison stands in a condition, as `{% if a == b %}`
+¦=¦a name is set by an `assign`, as `{% assign a = 1 %}`
+¦by¦a counter moves by 1; `{% assign a = a | plus: 2 %}` adds another number
+¦>¦a comparison stands in a condition, as `{% if a > b %}`
+¦<¦a comparison stands in a condition, as `{% if a < b %}`
+¦>=¦a comparison stands in a condition, as `{% if a >= b %}`
+¦<=¦a comparison stands in a condition, as `{% if a <= b %}`
 ";

@@ -1,0 +1,69 @@
+//! The fault of a partial that there isn't, and which one may be meant. That is looked for only
+//! where a run ends by that fault.
+ghost use Rattle.liquid_model.specs.ErrorKinds.{IsKindOrMemory};
+
+use liquid_core::{Error, ErrorKind, Quoted, nearer};
+use liquid_syntax::Partials;
+use std::alloc::{AllocError, Global};
+
+/// Of a name that no partial has.
+pub(crate) fn unknown(alloc: Global, partials: &Partials, name: &str) -> Error
+    ensures { IsKindOrMemory ErrorKind.UnknownPartial result.kind }
+{
+    let quoted = Quoted { text: name };
+    let Ok(meant) = meant_by(alloc, partials, name) else {
+        return Error::from(AllocError);
+    };
+    match meant {
+        Some(text) => {
+            let near = Quoted { text };
+            Error::formatted(
+                alloc,
+                ErrorKind::UnknownPartial,
+                format_args!("no partial is named `{quoted}`; did you mean `{near}`?"),
+            )
+        }
+        None => Error::formatted(
+            alloc,
+            ErrorKind::UnknownPartial,
+            format_args!(
+                "no partial is named `{quoted}`; hand it in by this name, as `{quoted}=FILE` on a command line"
+            ),
+        ),
+    }
+}
+
+/// The name of the partial that is meant by one that none has: of the same file without its folders
+/// and its suffix, or the nearest.
+fn meant_by<'p>(
+    alloc: Global,
+    partials: &'p Partials,
+    name: &str,
+) -> Result<Option<&'p str>, AllocError> {
+    let stem = stem_of(name);
+    let mut near = None;
+    for (known, slot) in partials.slots() {
+        if slot.is_some() {
+            if stem_of(known.as_str()).eq_ignore_ascii_case(stem) {
+                return Ok(Some(known.as_str()));
+            }
+            near = nearer(alloc, known.as_str(), name, near)?;
+        }
+    }
+    match near {
+        Some(found) if found.edits.saturating_mul(3) <= name.len() => Ok(Some(found.name)),
+        _ => Ok(None),
+    }
+}
+
+/// The name of a file without its folders and its suffix.
+fn stem_of(name: &str) -> &str {
+    let file = match name.rsplit_once('/') {
+        Some((_, file)) => file,
+        None => name,
+    };
+    match file.rsplit_once('.') {
+        Some((stem, _)) => stem,
+        None => file,
+    }
+}

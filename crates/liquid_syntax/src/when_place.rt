@@ -1,0 +1,80 @@
+//! Where a `when` of a `case` stands in the source, which is asked for only where a fault of a run
+//! is told: the pieces from the `case` on are read once more.
+use liquid_lexer::{
+    Body, ParseError, Piece, bare_name, past_byte, read_body, read_markup, text_before,
+};
+use std::alloc::{AllocError, Global};
+
+/// What a piece is for a `case` around it.
+#[derive(Clone, Copy, Drop)]
+enum CasePart {
+    Begins,
+    When,
+    Ends,
+    Other,
+}
+
+/// The source from the `when` at an index on, of the `case` with which the source begins, where it
+/// has so many.
+pub(crate) fn from_when<'s>(
+    alloc: Global,
+    source: &'s str,
+    index: usize,
+) -> Result<Option<&'s str>, AllocError> {
+    let mut rest = source;
+    let mut depth: usize = 0;
+    let mut left = index;
+    // each piece takes a byte at least
+    for _ in 0..source.len() {
+        let (_, from) = text_before(rest);
+        let Some((part, after)) = past_piece(alloc, from)? else {
+            return Ok(None);
+        };
+        match part {
+            CasePart::Begins => depth = depth.saturating_add(1),
+            CasePart::Ends => depth = depth.saturating_sub(1),
+            CasePart::When if depth == 1 && left == 0 => return Ok(Some(from)),
+            CasePart::When if depth == 1 => left = left.saturating_sub(1),
+            CasePart::When | CasePart::Other => {}
+        }
+        rest = after;
+    }
+    Ok(None)
+}
+
+/// What the piece is with which the text begins, and what follows it and its body that isn't read.
+fn past_piece(alloc: Global, text: &str) -> Result<Option<(CasePart, &str)>, AllocError> {
+    let Some(inside) = past_byte(text, b'{') else {
+        return Ok(None);
+    };
+    let (markup, after) = match read_markup(alloc, inside) {
+        Ok(read) => read,
+        Err(ParseError::Fault(_)) => return Ok(None),
+        Err(ParseError::Memory) => return Err(AllocError),
+    };
+    let part = part_of(&markup.piece);
+    let body = body_of(&markup.piece);
+    match read_body(body, markup, after) {
+        Ok((_, after)) => Ok(Some((part, after))),
+        Err(ParseError::Fault(_)) => Ok(None),
+        Err(ParseError::Memory) => Err(AllocError),
+    }
+}
+
+fn part_of(piece: &Piece<'_>) -> CasePart {
+    match piece {
+        Piece::Tag("case", _) => CasePart::Begins,
+        Piece::Tag("when", _) => CasePart::When,
+        Piece::Tag("endcase", _) => CasePart::Ends,
+        _ => CasePart::Other,
+    }
+}
+
+/// The body after the piece that isn't read.
+fn body_of(piece: &Piece<'_>) -> Option<Body> {
+    match bare_name(piece) {
+        Some("raw") => Some(Body::Raw),
+        Some("comment") => Some(Body::Comment),
+        _ => None,
+    }
+}
