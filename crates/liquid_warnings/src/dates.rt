@@ -1,4 +1,7 @@
 //! Dates that are none.
+ghost use Rattle.std.specs.Prelude.{◌≡◌, IfOk, string_bytes};
+ghost use Rattle.liquid_warnings.specs.Messages.{clock_message};
+
 use crate::remark::Remark;
 use liquid_core::{Expression, Value};
 use liquid_evaluation::FilterChain;
@@ -21,7 +24,9 @@ pub(crate) fn no_clock(
     Ok(Some(Remark::warning(position, "NoClock", message)))
 }
 
-fn clock_message(alloc: Global, word: &str) -> Result<String, AllocError> {
+fn clock_message(alloc: Global, word: &str) -> Result<String, AllocError>
+    ensures { IfOk result (λ message. string_bytes message ≡ clock_message word.now) }
+{
     format!(in alloc;
         "`'{word}' | date` gives `{word}`, since there is no clock; give the time as data"
     )

@@ -1,4 +1,7 @@
 //! Paths in the data, as messages show them.
+ghost use Rattle.std.specs.Prelude.{◌≡◌, IfOk, string_bytes};
+ghost use Rattle.liquid_warnings.specs.Messages.{item_words};
+
 use liquid_core::Quoted;
 use liquid_data_paths::{DataPath, Step};
 use std::alloc::{AllocError, Global};
@@ -62,7 +65,9 @@ pub(crate) fn lack_words(alloc: Global, path: &DataPath, count: usize) -> Said {
     }
 }
 
-fn item_words(alloc: Global, list: &str) -> Said {
+fn item_words(alloc: Global, list: &str) -> Said
+    ensures { IfOk result (λ message. string_bytes message ≡ item_words list.now) }
+{
     let list = Quoted { text: list };
     format!(in alloc; "an item of `{list}` has no")
 }
