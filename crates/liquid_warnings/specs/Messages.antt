@@ -1,5 +1,5 @@
 -- What warnings say.
---     lack_message words name near      of a name that nothing has, with the near one if there is one
+--     lack_message words name near      of a name that nothing has, with a near one if there is one
 --     value_message path kind      of a loop over what is no list and no map
 use Rattle.std.specs.Prelude.{ℕ, ◌++◌, Option, Some, None, codes}
 use Rattle.std.specs.Fmt.{decimal}

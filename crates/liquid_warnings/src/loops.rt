@@ -1,7 +1,8 @@
 //! Loops over what is no list.
-ghost use Rattle.std.specs.Prelude.{◌≡◌, IfOk, codes, string_bytes};
+ghost use Rattle.std.specs.Prelude.{◌≡◌, IfOk, codes, option_map, string_bytes};
 ghost use Rattle.liquid_model.specs.View.{view};
 ghost use Rattle.liquid_warnings.specs.Messages.{kind_word, value_message};
+ghost use Rattle.liquid_warnings.specs.Nodes.{looped, no_list, source_literal, unlisted};
 ghost use Rattle.liquid_warnings.specs.Remarks.{remark_view, warning};
 
 use crate::remark::Remark;
@@ -15,15 +16,42 @@ pub(crate) fn no_list(
     alloc: Global,
     node: &Node,
     position: Position,
-) -> Result<Option<Remark>, AllocError> {
-    let source = match node {
-        Node::For(head, _) => &head.source,
-        Node::TableRow(head, _) => &head.source,
-        _ => return Ok(None),
-    };
-    let RangeExpression::Array(Expression::Literal(value)) = source else {
+) -> Result<Option<Remark>, AllocError>
+    ensures { IfOk result (λ r. option_map remark_view r ≡ no_list position node.now) }
+{
+    let Some(source) = looped(node) else {
         return Ok(None);
     };
+    match source_literal(source) {
+        Some(value) => unlisted(alloc, position, value),
+        None => Ok(None),
+    }
+}
+
+/// What a loop goes over.
+fn looped(node: &Node) -> Option<&RangeExpression>
+    ensures { option_map (λ s. s.now) result ≡ looped node.now }
+{
+    match node {
+        Node::For(head, _) => Some(&head.source),
+        Node::TableRow(head, _) => Some(&head.source),
+        _ => None,
+    }
+}
+
+fn source_literal(source: &RangeExpression) -> Option<&Value>
+    ensures { option_map (λ v. view v.now) result ≡ source_literal source.now }
+{
+    match source {
+        RangeExpression::Array(Expression::Literal(value)) => Some(value),
+        _ => None,
+    }
+}
+
+/// The warning about a literal, unless it is nil.
+fn unlisted(alloc: Global, position: Position, value: &Value) -> Result<Option<Remark>, AllocError>
+    ensures { IfOk result (λ r. option_map remark_view r ≡ unlisted position (view value.now)) }
+{
     match value {
         Value::Nil => Ok(None),
         value => Ok(Some(no_list_of(alloc, position, value, "this")?)),
