@@ -1,4 +1,11 @@
 //! Data in the forms that the options ask for.
+ghost use Rattle.std.specs.Prelude.{◌≡◌, IfOk, Some, option_map};
+ghost use Rattle.liquid_model.specs.Answer.{Answers, IsValueOrMemory};
+ghost use Rattle.liquid_model.specs.View.{pairs_view};
+ghost use Rattle.liquid_toml.specs.TomlData.{data_of};
+ghost use Rattle.liquid_data_forms.specs.Forms.{formed};
+ghost use Rattle.liquid_command_files.specs.Inputs.{added, data_of_file, timed};
+
 use crate::stop::Stop;
 use liquid_commands::{Forms, is_toml};
 use liquid_core::{Object, Result};
@@ -11,42 +18,57 @@ const NO_INSTANT: &str =
     "--now wants a day or an instant of ISO 8601, such as 2026-11-27T04:34:00Z";
 
 /// The form of data that the options ask for. It takes no memory.
-pub fn form_of(forms: Forms<'_>) -> DataForm {
+pub fn form_of(forms: Forms<'_>) -> DataForm
+    ensures decimals { result.decimals_as_texts ≡ forms.entry.decimals_as_texts }
+    ensures dates { result.dates ≡ forms.entry.dates }
+{
     DataForm {
         decimals_as_texts: forms.decimals_as_texts,
         dates: forms.dates,
     }
 }
 
-/// The data of the text of a file: TOML where the path ends so, and else JSON.
-pub fn data_of_file(alloc: Global, path: &str, text: &str, form: DataForm) -> Result<Object> {
+/// The data of the text of a file: TOML where the path ends so, and else JSON. The answer is
+/// `Memory` where a growth was refused.
+pub fn data_of_file(alloc: Global, path: &str, text: &str, form: DataForm) -> Result<Object>
+    ensures { Answers (λ m. pairs_view m.entries) result (data_of_file path.now form text.now) }
+{
     if is_toml(path) {
-        let data = data_from_toml(alloc, text)?;
-        return in_form(alloc, data, form);
+        toml_in_form(alloc, text, form)
+    } else {
+        data_in_form(alloc, text, form)
     }
-    data_in_form(alloc, text, form)
+}
+
+fn toml_in_form(alloc: Global, text: &str, form: DataForm) -> Result<Object>
+    ensures { Answers (λ m. pairs_view m.entries) result (formed form.dates (data_of text.now)) }
+{
+    let data = data_from_toml(alloc, text)?;
+    in_form(alloc, data, form)
 }
 
 /// The data with more: under a name where there is one, and else its members, each in place of what
 /// stands there. The answer is `Memory` where a growth was refused, and no other kind.
-pub(crate) fn added(
-    alloc: Global,
-    data: Object,
-    name: Option<&str>,
-    more: Object,
-) -> Result<Object> {
+pub fn added(alloc: Global, data: Object, name: Option<&str>, more: Object) -> Result<Object>
+    ensures { IsValueOrMemory (λ m. pairs_view m.entries) result
+        (added (option_map (λ n. n.now) name.entry) (pairs_view more.entries)
+        (pairs_view «data».entries)) }
+{
     match name {
         Some(name) => with_named(alloc, data, name, more),
         None => with_members(data, more),
     }
 }
 
-/// The data with the name `now`, which counts before a member of that name.
+/// The data with the name `now`, where a time is given, in place of a member of that name.
 pub fn with_time(
     alloc: Global,
     data: Object,
     now: Option<&str>,
-) -> std::result::Result<Object, Stop> {
+) -> std::result::Result<Object, Stop>
+    ensures { IfOk result (λ m. Some (pairs_view m.entries)
+        ≡ timed (option_map (λ n. n.now) now.entry) (pairs_view «data».entries)) }
+{
     let Some(now) = now else {
         return Ok(data);
     };

@@ -1,4 +1,7 @@
 //! The texts of files.
+ghost use Rattle.std.specs.Prelude.{◌≡◌, IfOk, string_bytes};
+ghost use Rattle.liquid_command_files.specs.Inputs.{called};
+
 use crate::stop::Stop;
 use liquid_excerpts::Reason;
 use std::alloc::Global;
@@ -6,8 +9,10 @@ use std::fs::File;
 use std::io;
 use std::io::Read;
 
-/// What a path is called in a message: `-` is standard input.
-pub fn called(path: &str) -> &str {
+/// What a path is called in a message: `-` is standard input. It takes no memory.
+pub fn called(path: &str) -> &str
+    ensures { result.now ≡ called path.now }
+{
     if path == "-" { "standard input" } else { path }
 }
 
@@ -23,7 +28,9 @@ pub fn text_at(rt: &HostRuntime, path: &str) -> Result<String, Stop> {
 }
 
 /// The text that the bytes of a path are.
-pub fn text_of(alloc: Global, path: &str, bytes: Vec<u8>) -> Result<String, Stop> {
+pub fn text_of(alloc: Global, path: &str, bytes: Vec<u8>) -> Result<String, Stop>
+    ensures { IfOk result (λ text. string_bytes text ≡ bytes.items) }
+{
     match String::from_utf8(bytes) {
         Ok(text) => Ok(text),
         Err(refused) => {

@@ -14,7 +14,7 @@ mod stop;
 pub use data::read_data;
 pub use faults::{print_excerpt, print_fault};
 pub use folder::files_below;
-pub use forms::{data_of_file, form_of, with_time};
+pub use forms::{added, data_of_file, form_of, with_time};
 pub use input::{bytes_at, called, text_at, text_of};
 pub use output::{print_text, put_file};
 pub use sources::{Source, Sources};

@@ -1,4 +1,8 @@
 //! The texts of a template and its partials, and what is printed of a fault in one of them.
+ghost use Rattle.std.specs.Prelude.{◌≡◌, option_map};
+ghost use Rattle.liquid_partial_names.specs.Names.{file_places, names_of};
+ghost use Rattle.liquid_command_files.specs.Sources.{place_of, text_at, text_of};
+
 use crate::faults::print_excerpt;
 use crate::folder::files_below;
 use crate::input::{called, text_at};
@@ -89,7 +93,9 @@ impl Sources {
     }
 
     /// The names of the partials, each with the place of its text.
-    pub fn names(&self) -> &[(String, usize)] {
+    pub fn names(&self) -> &[(String, usize)]
+        ensures { file_places result.now ≡ names_of self.now.names }
+    {
         self.names.as_slice()
     }
 
@@ -100,24 +106,30 @@ impl Sources {
 
     /// The text that a location is in, where there is one. A partial that is rendered may be found
     /// by its name with `.liquid`. It takes no memory.
-    pub fn text_of(&self, location: &Location) -> Option<&str> {
+    pub fn text_of(&self, location: &Location) -> Option<&str>
+        ensures { option_map (λ t. t.now) result ≡ text_of self.now location.now.origin }
+    {
         match &location.origin {
             Origin::Template => Some(self.template.text.as_str()),
             Origin::Data => None,
-            Origin::Partial(name) => self.text_at(self.place_of(name.as_str())?),
+            Origin::Partial(name) => self.text_at(self.place_of(name.as_str())),
         }
     }
 
     /// The place of a partial, or else of the one whose name has `.liquid` after this.
-    fn place_of(&self, name: &str) -> Option<usize> {
+    fn place_of(&self, name: &str) -> Option<usize>
+        ensures { result ≡ place_of name.now (names_of self.now.names) }
+    {
         match self.names.place(name) {
             Some(place) => Some(place),
             None => self.names.place_of_liquid(name),
         }
     }
 
-    fn text_at(&self, place: usize) -> Option<&str> {
-        match self.partials.get(place) {
+    fn text_at(&self, place: Option<usize>) -> Option<&str>
+        ensures { option_map (λ t. t.now) result ≡ text_at place self.now.partials.items }
+    {
+        match self.partials.get(place?) {
             Some(source) => Some(source.text.as_str()),
             None => None,
         }

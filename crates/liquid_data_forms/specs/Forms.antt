@@ -2,8 +2,8 @@
 --     data_in_form form source      the data of a text of JSON
 --     put_all members ps      data with each of these members
 --     with_now s ps      data with an instant under the name `now`, where the text is one
-use Rattle.std.specs.Prelude.{Bool, cond, List, ℕ, [], ◌∷◌, codes, Option, option_map, Result, Ok, Err}
-use Rattle.liquid_model.specs.Data.{Pairs, put, text}
+use Rattle.std.specs.Prelude.{Bool, cond, List, ℕ, codes, Option, option_map, Result, Ok, Err}
+use Rattle.liquid_model.specs.Data.{Pairs, no_pairs, pair, put, text}
 use Rattle.liquid_model.specs.Texts.{Text}
 use Rattle.liquid_model.specs.declared.error.ErrorKind.{ErrorKind}
 use Rattle.liquid_json.specs.Json.{data_of}
@@ -29,8 +29,8 @@ data_in_form form source = formed form.dates (read_data form.decimals_as_texts s
 
 -- each of these members in place of what stands under its name
 abbrev pub put_all : Pairs → Pairs → Pairs
-put_all [] ps = ps
-put_all (m ∷ members) ps = put_all members (put m.0 m.1 ps)
+put_all no_pairs ps = ps
+put_all (pair k d members) ps = put_all members (put k d ps)
 
 abbrev pub with_now : Text → Pairs → Option Pairs
 with_now now ps = option_map (λ s. put (codes "now") (text s) ps) (date_spelling now)

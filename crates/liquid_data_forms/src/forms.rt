@@ -3,7 +3,8 @@ ghost use Rattle.std.specs.Prelude.{option_map};
 ghost use Rattle.liquid_model.specs.Answer.{Answers, IsValueOrMemory};
 ghost use Rattle.liquid_model.specs.Data.{object, put};
 ghost use Rattle.liquid_model.specs.View.{pairs_view};
-ghost use Rattle.liquid_data_forms.specs.Forms.{data_in_form, in_form, put_all, read_data, with_now};
+ghost use Rattle.liquid_data_forms.specs.Forms.{data_in_form, in_form, put_all, read_data};
+ghost use Rattle.liquid_data_forms.specs.Forms.{with_now};
 
 use crate::dates::dated;
 use crate::decimals::data_with_decimals;

@@ -2,10 +2,10 @@
 #![tactic(auto)]
 
 mod member;
-mod money_format;
+mod money;
 mod shop;
 mod site;
 
-pub use money_format::money_format;
+pub use money::money_format;
 pub use shop::shop_of;
 pub use site::Site;

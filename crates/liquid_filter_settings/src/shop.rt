@@ -1,15 +1,28 @@
 //! What the filters of Shopify's templates know of a shop.
-use crate::member::member_text;
-use crate::money_format::money_format;
-use liquid_core::{Object, Result, Value, look_up};
+ghost use Rattle.std.specs.Prelude.{◌≡◌, ◌++◌, [], IfErr, IfOk, OnOk, codes, map, string_bytes};
+ghost use Rattle.liquid_model.specs.Answer.{IsValueOrMemory};
+ghost use Rattle.liquid_model.specs.View.{items_view, pairs_view, view};
+ghost use Rattle.liquid_filter_settings.specs.Settings.{member_or_empty, tags_in, texts_in};
+ghost use Rattle.liquid_filter_settings.specs.Settings.{own_text, texts_of, with_text};
+ghost use Rattle.liquid_filter_settings.specs.Views.{texts_view};
+
+use crate::member::{member_text, or_empty, own_text};
+use crate::money::money_format;
+use liquid_core::{ErrorKind, Object, Result, Value, look_up};
 use liquid_shopify_host_filters::Shop;
-use std::alloc::Global;
+use std::alloc::{AllocError, Global};
 
 /// The shop that the data tells: its formats of money, the handle of the page's collection and the
 /// tags of the page's products.
 ///
 /// The answer is `Memory` where a growth was refused, and no other kind.
-pub fn shop_of(alloc: Global, data: &Object) -> Result<Shop> {
+pub fn shop_of(alloc: Global, data: &Object) -> Result<Shop>
+    ensures collection { IfOk result (λ s. string_bytes s.collection
+        ≡ member_or_empty (codes "collection") (codes "handle") (pairs_view «data».now.entries)) }
+    ensures tags { IfOk result (λ s. texts_view s.tags ≡ tags_in (pairs_view «data».now.entries)) }
+    ensures assets { IfOk result (λ s. string_bytes s.assets ≡ codes "/assets/") }
+    ensures memory { IfErr result (λ e. e.kind ≡ ErrorKind.Memory) }
+{
     let money = member_text(data, "shop", "money_format");
     let with_currency = member_text(data, "shop", "money_with_currency_format");
     Ok(Shop {
@@ -25,26 +38,55 @@ pub fn shop_of(alloc: Global, data: &Object) -> Result<Shop> {
 }
 
 /// The handle of the page's collection, or the empty text.
-fn collection_of(alloc: Global, data: &Object) -> Result<String> {
-    let handle = member_text(data, "collection", "handle").unwrap_or("");
+fn collection_of(alloc: Global, data: &Object) -> Result<String>
+    ensures { IsValueOrMemory string_bytes result
+        (member_or_empty (codes "collection") (codes "handle") (pairs_view «data».now.entries)) }
+{
+    let handle = or_empty(member_text(data, "collection", "handle"));
     Ok(String::from_str(alloc, handle)?)
 }
 
 /// The texts of `current_tags`.
-fn tags_of(alloc: Global, data: &Object) -> Result<Vec<String>> {
+fn tags_of(alloc: Global, data: &Object) -> Result<Vec<String>>
+    ensures { IsValueOrMemory texts_view result (tags_in (pairs_view «data».now.entries)) }
+{
     match look_up(data, "current_tags") {
-        Some(Value::Array(items)) => texts_of(alloc, items),
+        Some(value) => texts_in(alloc, value),
+        None => Ok(Vec::new(alloc)),
+    }
+}
+
+/// The items of a list that are texts.
+fn texts_in(alloc: Global, value: &Value) -> Result<Vec<String>>
+    ensures { IsValueOrMemory texts_view result (texts_in (view value.now)) }
+{
+    match value {
+        Value::Array(items) => texts_of(alloc, items),
         _ => Ok(Vec::new(alloc)),
     }
 }
 
-/// The items that are texts.
-fn texts_of(alloc: Global, items: &[Value]) -> Result<Vec<String>> {
+fn texts_of(alloc: Global, items: &[Value]) -> Result<Vec<String>>
+    ensures { IsValueOrMemory texts_view result (texts_of (items_view items.now)) }
+{
     let mut texts = Vec::new(alloc);
     for item in items {
-        if let Value::Text(text) = item {
-            texts.push(String::from_str(alloc, text.as_str())?)?;
-        }
+        add_text(alloc, item, &mut texts)?;
     }
     Ok(texts)
+}
+
+/// Adds the text that a value is, where it is one.
+fn add_text(
+    alloc: Global,
+    value: &Value,
+    texts: &mut Vec<String>,
+) -> std::result::Result<(), AllocError>
+    ensures { OnOk result (texts_view texts.new
+        ≡ texts_view texts.old ++ with_text (own_text (view value.now)) []) }
+{
+    if let Some(text) = own_text(value) {
+        texts.push(String::from_str(alloc, text)?)?;
+    }
+    Ok(())
 }

@@ -1,5 +1,9 @@
 //! Where a site of Jekyll's is.
-use crate::member::member_text;
+ghost use Rattle.std.specs.Prelude.{◌≡◌, codes};
+ghost use Rattle.liquid_model.specs.View.{pairs_view};
+ghost use Rattle.liquid_filter_settings.specs.Settings.{member_or_empty};
+
+use crate::member::{member_text, or_empty};
 use liquid_core::Object;
 
 /// Where a site is.
@@ -13,10 +17,15 @@ pub struct Site<'d> {
 
 impl<'d> Site<'d> {
     /// The site that the data tells. It takes no memory.
-    pub fn of(data: &'d Object) -> Site<'d> {
+    pub fn of(data: &'d Object) -> Site<'d>
+        ensures address { result.address.now ≡ member_or_empty (codes "site") (codes "url")
+            (pairs_view «data».now.entries) }
+        ensures base { result.base.now ≡ member_or_empty (codes "site") (codes "baseurl")
+            (pairs_view «data».now.entries) }
+    {
         Site {
-            address: member_text(data, "site", "url").unwrap_or(""),
-            base: member_text(data, "site", "baseurl").unwrap_or(""),
+            address: or_empty(member_text(data, "site", "url")),
+            base: or_empty(member_text(data, "site", "baseurl")),
         }
     }
 }

@@ -1,5 +1,5 @@
 pub mod Columns
 pub mod Fields
 pub mod Places
-pub mod Records
+pub mod RowRecords
 pub mod Texts

@@ -1,5 +1,5 @@
-//! Records that a reader gives: the lines of a text, and the rows of a table, each cell a text under
-//! the name of its column.
+//! Records that a reader gives: the lines of a text, and the rows of a table, each cell a text
+//! under the name of its column.
 #![tactic(auto)]
 
 mod cells;

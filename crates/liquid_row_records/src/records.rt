@@ -82,8 +82,8 @@ impl<R: Read + Drop> Records<R> {
         }
     }
 
-    /// Its data, or why it has none. The answer is `Memory` where a growth was refused, and no other
-    /// kind.
+    /// Its data, or why it has none. The answer is `Memory` where a growth was refused, and no
+    /// other kind.
     pub fn facts(&self, alloc: Global, form: DataForm) -> Result<RecordFacts<'_>> {
         match &self.source {
             Source::Lines(lines) => facts_of_line(alloc, lines.line(), form),

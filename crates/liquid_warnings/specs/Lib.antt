@@ -1,1 +1,7 @@
+pub mod Calls
+pub mod Findings
+pub mod Messages
+pub mod Nodes
+pub mod Paths
+pub mod Remarks
 pub mod inside

@@ -1,7 +1,9 @@
 //! Outputs in attributes that aren't escaped.
+ghost use Rattle.std.specs.Prelude.{◌≡◌, IfErr};
+
 use crate::remark::Remark;
 use liquid_check::unescaped_attributes;
-use liquid_core::Result;
+use liquid_core::{ErrorKind, Result};
 use liquid_language::Language;
 use std::alloc::Global;
 
@@ -11,7 +13,9 @@ pub(crate) fn add_unescaped(
     language: &Language,
     source: &str,
     remarks: &mut Vec<Remark>,
-) -> Result<()> {
+) -> Result<()>
+    ensures memory { IfErr result (λ e. e.kind ≡ ErrorKind.Memory) }
+{
     let message = "a quote in this value ends the attribute; write `| escape`";
     for place in unescaped_attributes(alloc, source, language)? {
         remarks.push(Remark::at(alloc, &place, "UnescapedAttribute", message)?)?;

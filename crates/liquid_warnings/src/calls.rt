@@ -1,4 +1,8 @@
 //! The partials that templates run.
+ghost use Rattle.std.specs.Prelude.{◌≡◌, ◌++◌, IfOk, codes, option_map};
+ghost use Rattle.std.specs.BTreeMap.{get_by_text};
+ghost use Rattle.liquid_warnings.specs.Calls.{called_by, file_of, literal};
+
 use liquid_core::{Expression, Value};
 use liquid_syntax::{Node, Position, Template};
 use std::alloc::{AllocError, Global};
@@ -37,7 +41,9 @@ pub(crate) fn calls_of<'t>(
 }
 
 /// The name of the partial that a node runs, where it runs one, and whether it is a `render`.
-fn called_by(node: &Node) -> Option<(Option<&str>, bool)> {
+fn called_by(node: &Node) -> Option<(Option<&str>, bool)>
+    ensures { option_map (λ p. (option_map (λ n. n.now) p.0, p.1)) result ≡ called_by node.now }
+{
     match node {
         Node::Include(name, _) => Some((literal(name), false)),
         Node::JekyllInclude(name, _) => Some((Some(name.as_str()), false)),
@@ -47,7 +53,9 @@ fn called_by(node: &Node) -> Option<(Option<&str>, bool)> {
 }
 
 /// The text that stands in the template itself.
-fn literal(name: &Expression) -> Option<&str> {
+fn literal(name: &Expression) -> Option<&str>
+    ensures { option_map (λ n. n.now) result ≡ literal name.now }
+{
     match name {
         Expression::Literal(Value::Text(name)) => Some(name.as_str()),
         _ => None,
@@ -60,17 +68,35 @@ fn file_of(
     partials: &PartialFiles,
     name: Option<&str>,
     is_render: bool,
-) -> Result<Option<usize>, AllocError> {
+) -> Result<Option<usize>, AllocError>
+    ensures { IfOk result (λ file. file ≡ file_of (λ n. get_by_text partials.now n)
+        (option_map (λ n. n.now) name.entry) is_render) }
+{
     let Some(name) = name else {
         return Ok(None);
     };
-    if let Some(file) = partials.get(name) {
-        return Ok(Some(*file));
+    match partials.get(name) {
+        Some(file) => Ok(Some(*file)),
+        None => if is_render {
+            file_with_suffix(alloc, partials, name)
+        } else {
+            Ok(None)
+        },
     }
-    if !is_render {
-        return Ok(None);
+}
+
+/// The file of a partial by its name with `.liquid`.
+fn file_with_suffix(
+    alloc: Global,
+    partials: &PartialFiles,
+    name: &str,
+) -> Result<Option<usize>, AllocError>
+    ensures { IfOk result (λ file. file
+        ≡ get_by_text partials.now (name.now ++ codes ".liquid")) }
+{
+    let whole = format!(in alloc; "{name}.liquid")?;
+    match partials.get(whole.as_str()) {
+        Some(file) => Ok(Some(*file)),
+        None => Ok(None),
     }
-    let mut whole = String::from_str(alloc, name)?;
-    whole.push_str(".liquid")?;
-    Ok(partials.get(whole.as_str()).copied())
 }

@@ -1,7 +1,13 @@
 //! Dates that are none.
+ghost use Rattle.std.specs.Prelude.{◌≡◌, IfOk, option_map, string_bytes};
+ghost use Rattle.liquid_warnings.specs.Messages.{clock_message};
+ghost use Rattle.liquid_warnings.specs.Nodes.{clock_word, dated_word, is_dated, no_clock};
+ghost use Rattle.liquid_warnings.specs.Nodes.{printed_chain};
+ghost use Rattle.liquid_warnings.specs.Remarks.{remark_view};
+
 use crate::remark::Remark;
 use liquid_core::{Expression, Value};
-use liquid_evaluation::FilterChain;
+use liquid_evaluation::{ChainFilter, FilterChain};
 use liquid_syntax::{Node, Position};
 use std::alloc::{AllocError, Global};
 
@@ -10,8 +16,10 @@ pub(crate) fn no_clock(
     alloc: Global,
     node: &Node,
     position: Position,
-) -> Result<Option<Remark>, AllocError> {
-    let (Node::Output(chain) | Node::Assign(_, chain)) = node else {
+) -> Result<Option<Remark>, AllocError>
+    ensures { IfOk result (λ r. option_map remark_view r ≡ no_clock position node.now) }
+{
+    let Some(chain) = printed_chain(node) else {
         return Ok(None);
     };
     let Some(word) = dated_word(chain) else {
@@ -21,21 +29,51 @@ pub(crate) fn no_clock(
     Ok(Some(Remark::warning(position, "NoClock", message)))
 }
 
-fn clock_message(alloc: Global, word: &str) -> Result<String, AllocError> {
+fn clock_message(alloc: Global, word: &str) -> Result<String, AllocError>
+    ensures { IfOk result (λ message. string_bytes message ≡ clock_message word.now) }
+{
     format!(in alloc;
         "`'{word}' | date` gives `{word}`, since there is no clock; give the time as data"
     )
 }
 
+/// The chain of an output or an `assign`.
+fn printed_chain(node: &Node) -> Option<&FilterChain>
+    ensures { option_map (λ c. c.now) result ≡ printed_chain node.now }
+{
+    match node {
+        Node::Output(chain) | Node::Assign(_, chain) => Some(chain),
+        _ => None,
+    }
+}
+
 /// The word for the present time that the first filter of a chain is to read as a date.
-fn dated_word(chain: &FilterChain) -> Option<&'static str> {
-    let Expression::Literal(Value::Text(word)) = &chain.entry else {
-        return None;
-    };
-    if chain.filters.first()?.filter.name() != "date" {
+fn dated_word(chain: &FilterChain) -> Option<&'static str>
+    ensures { option_map (λ w. w.now) result ≡ dated_word chain.now }
+{
+    if !is_dated(&chain.filters) {
         return None;
     }
-    match word.as_str() {
+    match &chain.entry {
+        Expression::Literal(Value::Text(word)) => clock_word(word.as_str()),
+        _ => None,
+    }
+}
+
+/// Whether the first of these filters is `date`.
+fn is_dated(filters: &[ChainFilter]) -> bool
+    ensures { result ≡ is_dated filters.now }
+{
+    match filters {
+        [first, ..] => first.filter.name() == "date",
+        [] => false,
+    }
+}
+
+fn clock_word(word: &str) -> Option<&'static str>
+    ensures { option_map (λ w. w.now) result ≡ clock_word word.now }
+{
+    match word {
         "now" => Some("now"),
         "today" => Some("today"),
         _ => None,

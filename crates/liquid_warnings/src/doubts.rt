@@ -1,4 +1,7 @@
 //! What the data has other than templates ask for it.
+ghost use Rattle.std.specs.Prelude.{◌≡◌, IfErr, IfOk, string_bytes};
+ghost use Rattle.liquid_warnings.specs.Messages.{in_data, no_date, past_end};
+
 use crate::loops::no_list_of;
 use crate::messages::{lack_message, name_of, nearest_key};
 use crate::names::add_name;
@@ -6,7 +9,7 @@ use crate::path_texts::{beside, key_before, lack_words, lacking_text, path_text}
 use crate::remark::Remark;
 use crate::warnings::is_full;
 use liquid_check::{Asked, asked_paths};
-use liquid_core::{Object, Quoted, Result};
+use liquid_core::{ErrorKind, Object, Quoted, Result};
 use liquid_data_paths::{DataPath, Doubt, Lack, Want, doubt_of};
 use liquid_syntax::Template;
 use std::alloc::{AllocError, Global};
@@ -22,7 +25,9 @@ pub(crate) fn add_doubts(
     data: &Object,
     names: &BTreeSet<String>,
     remarks: &mut Vec<Remark>,
-) -> Result<()> {
+) -> Result<()>
+    ensures memory { IfErr result (λ e. e.kind ≡ ErrorKind.Memory) }
+{
     let mut told = BTreeSet::new(alloc);
     for asked in asked_paths(alloc, template, names)? {
         if is_full(remarks) {
@@ -41,7 +46,9 @@ fn add_once(
     remark: Option<Remark>,
     told: &mut BTreeSet<String>,
     remarks: &mut Vec<Remark>,
-) -> Result<()> {
+) -> Result<()>
+    ensures memory { IfErr result (λ e. e.kind ≡ ErrorKind.Memory) }
+{
     if let Some(remark) = remark {
         if !told.contains(remark.message.as_str()) {
             add_name(alloc, told, remark.message.as_str())?;
@@ -53,7 +60,9 @@ fn add_once(
 
 /// What is said of a doubt. Of a name that isn't there `UnknownName` is said, and of what has to be
 /// there nowhere, nothing, unless a near key is.
-fn remark_of(alloc: Global, asked: &Asked, doubt: Doubt<'_>) -> Result<Option<Remark>> {
+fn remark_of(alloc: Global, asked: &Asked, doubt: Doubt<'_>) -> Result<Option<Remark>>
+    ensures memory { IfErr result (λ e. e.kind ≡ ErrorKind.Memory) }
+{
     if let Doubt::Lacks(lack) = doubt {
         return Ok(unknown_path(alloc, asked, lack)?);
     }
@@ -73,19 +82,25 @@ fn remark_of(alloc: Global, asked: &Asked, doubt: Doubt<'_>) -> Result<Option<Re
     }
 }
 
-fn in_data(alloc: Global, path: &str) -> Said {
+fn in_data(alloc: Global, path: &str) -> Said
+    ensures { IfOk result (λ message. string_bytes message ≡ in_data path.now) }
+{
     let path = Quoted { text: path };
     format!(in alloc; "`{path}` in the data")
 }
 
-fn past_end(alloc: Global, path: &str, count: usize) -> Said {
+fn past_end(alloc: Global, path: &str, count: usize) -> Said
+    ensures { IfOk result (λ message. string_bytes message ≡ past_end path.now count) }
+{
     let path = Quoted { text: path };
     format!(in alloc;
         "`{path}` has {count} items in the data; after `offset` the `limit` goes past them, and gives nil"
     )
 }
 
-fn no_date(alloc: Global, path: &str, text: &str) -> Said {
+fn no_date(alloc: Global, path: &str, text: &str) -> Said
+    ensures { IfOk result (λ message. string_bytes message ≡ no_date path.now text.now) }
+{
     let path = Quoted { text: path };
     let text = Quoted { text };
     format!(in alloc; "`{path}` is `{text}` in the data, which isn't read as a date")

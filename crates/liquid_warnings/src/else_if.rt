@@ -1,7 +1,9 @@
 //! An `else` with a condition.
+ghost use Rattle.std.specs.Prelude.{◌≡◌, IfErr};
+
 use crate::remark::Remark;
 use liquid_check::else_items;
-use liquid_core::Result;
+use liquid_core::{ErrorKind, Result};
 use liquid_language::Language;
 use std::alloc::Global;
 
@@ -11,7 +13,9 @@ pub(crate) fn add_else_if(
     language: &Language,
     source: &str,
     remarks: &mut Vec<Remark>,
-) -> Result<()> {
+) -> Result<()>
+    ensures memory { IfErr result (λ e. e.kind ≡ ErrorKind.Memory) }
+{
     let message = "what stands after `else` isn't read; for a condition write `elsif`";
     for place in else_items(alloc, source, language)? {
         remarks.push(Remark::at(alloc, &place, "ElseIf", message)?)?;

@@ -1,4 +1,7 @@
 //! The messages of warnings, and the near names in them.
+ghost use Rattle.std.specs.Prelude.{◌≡◌, IfOk, option_map, string_bytes};
+ghost use Rattle.liquid_warnings.specs.Messages.{lack_message};
+
 use liquid_core::{NearName, Object, Quoted, nearer};
 use std::alloc::{AllocError, Global};
 use std::collections::{BTreeMap, BTreeSet};
@@ -6,13 +9,17 @@ use std::collections::{BTreeMap, BTreeSet};
 /// Among how many names a near one is looked for, which takes a while for each.
 const MOST_NAMES: usize = 1000;
 
-/// What is said of a name that nothing has: these words, the name, and the near one if there is one.
+/// What is said of a name that nothing has: these words, the name, and the near one if there is
+/// one.
 pub(crate) fn lack_message(
     alloc: Global,
     words: &str,
     name: &str,
     near: Option<&str>,
-) -> Result<String, AllocError> {
+) -> Result<String, AllocError>
+    ensures { IfOk result (λ message. string_bytes message
+        ≡ lack_message words.now name.now (option_map (λ n. n.now) near.entry)) }
+{
     let name = Quoted { text: name };
     match near {
         Some(near) => {

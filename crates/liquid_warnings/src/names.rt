@@ -1,4 +1,7 @@
 //! The names that templates read and set.
+ghost use Rattle.std.specs.Prelude.{◌≡◌, IfOk, codes, string_bytes};
+ghost use Rattle.liquid_warnings.specs.Messages.{unused_message};
+ghost use Rattle.liquid_warnings.specs.Remarks.{remark_view, warning};
 ghost use Rattle.liquid_warnings.specs.inside.Told.{nothing_told};
 
 use crate::messages::{lack_message, name_of, nearest_key, nearest_of_set};
@@ -80,12 +83,17 @@ pub(crate) fn unused_variable(
     alloc: Global,
     name: &str,
     position: Position,
-) -> Result<Remark, AllocError> {
+) -> Result<Remark, AllocError>
+    ensures { IfOk result (λ r. remark_view r
+        ≡ warning position (codes "UnusedVariable") (unused_message name.now)) }
+{
     let message = unused_message(alloc, name)?;
     Ok(Remark::warning(position, "UnusedVariable", message))
 }
 
-fn unused_message(alloc: Global, name: &str) -> Result<String, AllocError> {
+fn unused_message(alloc: Global, name: &str) -> Result<String, AllocError>
+    ensures { IfOk result (λ message. string_bytes message ≡ unused_message name.now) }
+{
     let name = Quoted { text: name };
     format!(in alloc; "`{name}` is set here, and nothing reads it")
 }

@@ -1,4 +1,8 @@
 //! Partials that aren't there, that nothing runs, and that run themselves.
+ghost use Rattle.std.specs.Prelude.{◌≡◌, IfOk, codes, string_bytes};
+ghost use Rattle.liquid_warnings.specs.Messages.{recursive_message};
+ghost use Rattle.liquid_warnings.specs.Remarks.{remark_view, warning_at};
+
 use crate::calls::{Call, PartialFiles};
 use crate::messages::{lack_message, name_of, nearest_partial};
 use crate::remark::Remark;
@@ -21,7 +25,10 @@ pub(crate) fn missing_partial(
 }
 
 /// `UnusedPartial`: no template runs the partial.
-pub(crate) fn unused_partial(alloc: Global) -> Result<Remark, AllocError> {
+pub(crate) fn unused_partial(alloc: Global) -> Result<Remark, AllocError>
+    ensures { IfOk result (λ r. remark_view r ≡ warning_at 1 1 (codes "UnusedPartial")
+        (codes "none of the templates runs this partial")) }
+{
     let message = String::from_str(alloc, "none of the templates runs this partial")?;
     let start = Position { line: 1, column: 1 };
     Ok(Remark::warning(start, "UnusedPartial", message))
@@ -33,7 +40,9 @@ pub(crate) fn recursive_partial(alloc: Global, call: &Call<'_>) -> Result<Remark
     Ok(Remark::warning(call.position, "RecursivePartial", message))
 }
 
-fn recursive_message(alloc: Global, name: &str) -> Result<String, AllocError> {
+fn recursive_message(alloc: Global, name: &str) -> Result<String, AllocError>
+    ensures { IfOk result (λ message. string_bytes message ≡ recursive_message name.now) }
+{
     let name = Quoted { text: name };
     format!(in alloc;
         "the partial `{name}` runs itself from here; a run ends where partials are 32 deep"

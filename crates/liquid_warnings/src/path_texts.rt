@@ -1,4 +1,8 @@
 //! Paths in the data, as messages show them.
+ghost use Rattle.std.specs.Prelude.{◌≡◌, ◌++◌, IfOk, OnOk, string_bytes, take};
+ghost use Rattle.liquid_warnings.specs.Messages.{item_words};
+ghost use Rattle.liquid_warnings.specs.Paths.{path_text, step_text, steps_text};
+
 use liquid_core::Quoted;
 use liquid_data_paths::{DataPath, Step};
 use std::alloc::{AllocError, Global};
@@ -6,25 +10,38 @@ use std::alloc::{AllocError, Global};
 type Said = Result<String, AllocError>;
 
 /// A path with so many of its steps, as in `shop.products[].title`.
-pub(crate) fn path_text(alloc: Global, path: &DataPath, count: usize) -> Said {
+pub(crate) fn path_text(alloc: Global, path: &DataPath, count: usize) -> Said
+    ensures { IfOk result (λ text. string_bytes text ≡ path_text path.now count) }
+{
     let mut text = String::from_str(alloc, path.name.as_str())?;
     push_steps(&mut text, first_steps(path, count))?;
     Ok(text)
 }
 
 /// The first of a path's steps, so many.
-fn first_steps(path: &DataPath, count: usize) -> &[Step] {
-    path.steps.get(..count).unwrap_or(path.steps.as_slice())
+fn first_steps(path: &DataPath, count: usize) -> &[Step]
+    ensures { result.now ≡ take count path.now.steps.items }
+{
+    if count < path.steps.len() {
+        &path.steps[..count]
+    } else {
+        path.steps.as_slice()
+    }
 }
 
-fn push_steps(text: &mut String, steps: &[Step]) -> Result<(), AllocError> {
+fn push_steps(text: &mut String, steps: &[Step]) -> Result<(), AllocError>
+    ensures { OnOk result (string_bytes text.new
+        ≡ string_bytes text.old ++ steps_text steps.now) }
+{
     for step in steps {
         push_step(text, step)?;
     }
     Ok(())
 }
 
-fn push_step(text: &mut String, step: &Step) -> Result<(), AllocError> {
+fn push_step(text: &mut String, step: &Step) -> Result<(), AllocError>
+    ensures { OnOk result (string_bytes text.new ≡ string_bytes text.old ++ step_text step.now) }
+{
     match step {
         Step::Key(key) => {
             text.push('.')?;
@@ -62,7 +79,9 @@ pub(crate) fn lack_words(alloc: Global, path: &DataPath, count: usize) -> Said {
     }
 }
 
-fn item_words(alloc: Global, list: &str) -> Said {
+fn item_words(alloc: Global, list: &str) -> Said
+    ensures { IfOk result (λ message. string_bytes message ≡ item_words list.now) }
+{
     let list = Quoted { text: list };
     format!(in alloc; "an item of `{list}` has no")
 }

@@ -1,4 +1,8 @@
 //! What is said of a template.
+ghost use Rattle.std.specs.Prelude.{◌≡◌, IfOk, option_map, string_bytes};
+ghost use Rattle.liquid_warnings.specs.Findings.{fault_said, message_said, place_of};
+ghost use Rattle.liquid_warnings.specs.Remarks.{remark_view, warning, warning_at};
+
 use liquid_check::Finding;
 use liquid_core::{Error, Location};
 use liquid_syntax::Position;
@@ -17,7 +21,9 @@ pub struct Remark {
 
 impl Remark {
     /// A warning. It takes no memory.
-    pub fn warning(position: Position, kind: &'static str, message: String) -> Remark {
+    pub fn warning(position: Position, kind: &'static str, message: String) -> Remark
+        ensures { remark_view result ≡ warning position kind.now (string_bytes message) }
+    {
         Remark {
             line: position.line as usize,
             column: position.column as usize,
@@ -33,7 +39,10 @@ impl Remark {
         place: &Location,
         kind: &'static str,
         message: &str,
-    ) -> Result<Remark, AllocError> {
+    ) -> Result<Remark, AllocError>
+        ensures { IfOk result (λ r. remark_view r
+            ≡ warning_at place.now.line place.now.column kind.now message.now) }
+    {
         Ok(Remark {
             line: place.line,
             column: place.column,
@@ -44,7 +53,9 @@ impl Remark {
     }
 
     /// The fault of a finding.
-    pub fn of_finding(alloc: Global, finding: &Finding) -> Result<Remark, AllocError> {
+    pub fn of_finding(alloc: Global, finding: &Finding) -> Result<Remark, AllocError>
+        ensures { IfOk result (λ r. remark_view r ≡ fault_said finding.now) }
+    {
         let fault = &finding.fault;
         let (line, column) = place_of(fault);
         Ok(Remark {
@@ -58,14 +69,18 @@ impl Remark {
 }
 
 /// The line and the column of a fault; the first of the source where it has no location.
-fn place_of(fault: &Error) -> (usize, usize) {
+fn place_of(fault: &Error) -> (usize, usize)
+    ensures { result ≡ place_of fault.now }
+{
     match &fault.location {
         Some(location) => (location.line, location.column),
         None => (1, 1),
     }
 }
 
-fn message_of(fault: &Error) -> &str {
+fn message_of(fault: &Error) -> &str
+    ensures { result.now ≡ message_said (option_map string_bytes fault.now.message) }
+{
     match &fault.message {
         Some(message) => message.as_str(),
         None => "",

@@ -1,4 +1,6 @@
 //! What no parser refuses, and people fall over all the same.
+ghost use Rattle.std.specs.Prelude.{◌≡◌, IfErr, length, nat_le};
+
 use crate::attributes::add_unescaped;
 use crate::calls::PartialFiles;
 use crate::dates::no_clock;
@@ -7,7 +9,7 @@ use crate::else_if::add_else_if;
 use crate::loops::no_list;
 use crate::remark::Remark;
 use crate::whole::Whole;
-use liquid_core::{Object, Result};
+use liquid_core::{ErrorKind, Object, Result};
 use liquid_language::Language;
 use liquid_syntax::{Node, Position, Template};
 use std::alloc::{AllocError, Global};
@@ -46,7 +48,9 @@ pub struct Given<'c> {
 /// about what the data lacks, or has otherwise, only where data is.
 ///
 /// The answer is `Memory` where a growth was refused, and no other kind.
-pub fn warnings_of(alloc: Global, files: &[CheckedFile<'_>], given: Given<'_>) -> Result<Warnings> {
+pub fn warnings_of(alloc: Global, files: &[CheckedFile<'_>], given: Given<'_>) -> Result<Warnings>
+    ensures memory { IfErr result (λ e. e.kind ≡ ErrorKind.Memory) }
+{
     let partials = files_by_name(alloc, given.partials)?;
     let whole = Whole::of(alloc, &partials, files)?;
     let mut warnings = own_warnings(alloc, files, given, &whole)?;
@@ -76,7 +80,9 @@ fn own_warnings(
     files: &[CheckedFile<'_>],
     given: Given<'_>,
     whole: &Whole<'_>,
-) -> Result<Warnings> {
+) -> Result<Warnings>
+    ensures memory { IfErr result (λ e. e.kind ≡ ErrorKind.Memory) }
+{
     let mut warnings = Vec::new(alloc);
     for (place, file) in files.iter().enumerate() {
         let mut remarks = Vec::new(alloc);
@@ -93,7 +99,9 @@ fn add_source_warnings(
     file: &CheckedFile<'_>,
     given: Given<'_>,
     remarks: &mut Vec<Remark>,
-) -> Result<()> {
+) -> Result<()>
+    ensures memory { IfErr result (λ e. e.kind ≡ ErrorKind.Memory) }
+{
     let Some(source) = file.text else {
         return Ok(());
     };
@@ -111,7 +119,9 @@ fn add_template_warnings(
     file: &CheckedFile<'_>,
     (given, whole): (Given<'_>, &Whole<'_>),
     remarks: &mut Vec<Remark>,
-) -> Result<()> {
+) -> Result<()>
+    ensures memory { IfErr result (λ e. e.kind ≡ ErrorKind.Memory) }
+{
     let Some(template) = file.template else {
         return Ok(());
     };
@@ -155,6 +165,8 @@ fn add_node_warning(
 }
 
 /// Whether no more warnings of a file are looked for.
-pub(crate) fn is_full(remarks: &[Remark]) -> bool {
+pub(crate) fn is_full(remarks: &[Remark]) -> bool
+    ensures { result ≡ nat_le 100 (length remarks.now) }
+{
     remarks.len() >= MOST_WARNINGS
 }

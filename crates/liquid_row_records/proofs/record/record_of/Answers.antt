@@ -3,7 +3,7 @@ use Rattle.std.proofs.lemmas.List.{drop_more, length-map}
 use Rattle.csv.specs.Records.{field_at, fields_of}
 use Rattle.liquid_model.specs.Data.{put, text}
 use Rattle.liquid_model.specs.View.{pairs_view}
-use Rattle.liquid_row_records.proofs.Records.{record_end, record_refused, record_turn}
+use Rattle.liquid_row_records.proofs.RowRecords.{record_end, record_refused, record_turn}
 use Rattle.liquid_row_records.proofs.record.record_of.Goals as goal
 
 pub returns-in_default : goal.returns-in_default

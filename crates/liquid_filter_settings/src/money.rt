@@ -1,5 +1,7 @@
 //! How a shop writes amounts of money.
-use liquid_core::Result;
+ghost use Rattle.std.specs.Prelude.{◌≡◌, IfErr};
+
+use liquid_core::{ErrorKind, Result};
 use liquid_shopify_host_filters::{MoneyFormat, MoneyStyle};
 use std::alloc::Global;
 
@@ -7,7 +9,9 @@ use std::alloc::Global;
 /// and before the other text.
 ///
 /// The answer is `Memory` where a growth was refused, and no other kind.
-pub fn money_format(alloc: Global, text: Option<&str>, after: &str) -> Result<MoneyFormat> {
+pub fn money_format(alloc: Global, text: Option<&str>, after: &str) -> Result<MoneyFormat>
+    ensures memory { IfErr result (λ e. e.kind ≡ ErrorKind.Memory) }
+{
     let (before, style, after) = match text {
         Some(text) => format_parts(text).unwrap_or(("$ ", MoneyStyle::Amount, after)),
         None => ("$ ", MoneyStyle::Amount, after),

@@ -1,0 +1,48 @@
+-- What warnings say.
+--     lack_message words name near      of a name that nothing has, with a near one if there is one
+--     value_message path kind      of a loop over what is no list and no map
+use Rattle.std.specs.Prelude.{ℕ, ◌++◌, Option, Some, None, codes}
+use Rattle.std.specs.Fmt.{decimal}
+use Rattle.liquid_model.specs.Data.{Datum, number, text}
+use Rattle.liquid_model.specs.Quotes.{quotation}
+use Rattle.liquid_model.specs.Texts.{Text}
+
+abbrev pub lack_message : Text → Text → Option Text → Text
+lack_message words name None = words ++ (codes " `" ++ (quotation name ++ codes "`"))
+lack_message words name (Some near) = words ++ (codes " `" ++ (quotation name
+    ++ (codes "`; did you mean `" ++ (quotation near ++ codes "`?"))))
+
+abbrev pub unused_message : Text → Text
+unused_message name = codes "`" ++ (quotation name ++ codes "` is set here, and nothing reads it")
+
+abbrev pub recursive_message : Text → Text
+recursive_message name = codes "the partial `" ++ (quotation name
+    ++ codes "` runs itself from here; a run ends where partials are 32 deep")
+
+abbrev pub clock_message : Text → Text
+clock_message word = codes "`'" ++ (word ++ (codes "' | date` gives `" ++ (word
+    ++ codes "`, since there is no clock; give the time as data")))
+
+-- what a literal or a value of the data is that is no list and no map
+abbrev pub kind_word : Datum → Text
+kind_word (text s) = codes "a text"
+kind_word (number z) = codes "a number"
+kind_word _ = codes "a truth value"
+
+abbrev pub value_message : Text → Text → Text
+value_message path kind = path ++ (codes " is " ++ (kind
+    ++ codes ", and a loop goes over a list or a map"))
+
+abbrev pub in_data : Text → Text
+in_data path = codes "`" ++ (quotation path ++ codes "` in the data")
+
+abbrev pub past_end : Text → ℕ → Text
+past_end path count = codes "`" ++ (quotation path ++ (codes "` has " ++ (decimal count ++ codes
+    " items in the data; after `offset` the `limit` goes past them, and gives nil")))
+
+abbrev pub no_date : Text → Text → Text
+no_date path found = codes "`" ++ (quotation path ++ (codes "` is `" ++ (quotation found
+    ++ codes "` in the data, which isn't read as a date")))
+
+abbrev pub item_words : Text → Text
+item_words list = codes "an item of `" ++ (quotation list ++ codes "` has no")
