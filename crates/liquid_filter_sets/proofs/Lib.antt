@@ -1,1 +1,4 @@
 pub mod ClosedTexts
+pub mod JsonTexts
+pub mod ReadBack
+pub mod ValueParts

@@ -1,13 +1,15 @@
 //! Jekyll's and Shopify's sets of filters as a whole: the languages that have their names, and the
-//! filter of Jekyll that reads a condition.
+//! filter of Jekyll that reads a condition; and whether the JSON that they write is read back.
 #![tactic(auto)]
 
 mod condition_text;
+mod json_texts;
 mod languages;
 pub mod laws;
 mod truth;
 mod where_exp;
 
+pub use json_texts::is_read_back;
 pub use languages::{
     jekyll_language, register_jekyll_filters, register_shopify_filters, shopify_language,
 };

@@ -7,22 +7,21 @@ use Rattle.liquid_model.specs.View.{view}
 use Rattle.liquid_model.specs.declared.value.Value.{Value}
 use Rattle.liquid_model.specs.Texts.{Text, same_text}
 use Rattle.liquid_jekyll_host_filters.specs.Groups.{group_name, has_text, items_named, names_after, noted}
-use Rattle.liquid_jekyll_host_filters.specs.Laws.{EachItemIsGrouped}
 use Rattle.liquid_jekyll_host_filters.specs.inside.Members.{item_at, member_at}
 
 -- ---- among the texts
-true_not_false : (t : Bool) → t ≡ true → t ≡ false → ⊥
+pub true_not_false : (t : Bool) → t ≡ true → t ≡ false → ⊥
 true_not_false true h k = cc
 true_not_false false h k = cc
 
-own : (t : Text) → same_text t t ≡ true
+pub own : (t : Text) → same_text t t ≡ true
 own t = (bytes_eq-Decides t t).1 refl
 
-or_true : (b : Bool) → (b || true) ≡ true
+pub or_true : (b : Bool) → (b || true) ≡ true
 or_true true = refl
 or_true false = refl
 
-or_false : (b : Bool) → (b || false) ≡ b
+pub or_false : (b : Bool) → (b || false) ≡ b
 or_false true = refl
 or_false false = refl
 
@@ -30,7 +29,7 @@ or_or : (a b c : Bool) → (a || (b || c)) ≡ ((a || b) || c)
 or_or true b c = refl
 or_or false b c = refl
 
-has_behind : (q : Text) (us : List Text) (t : Text) → has_text q (us ++ t ∷ []) ≡ (has_text q us || same_text q t)
+pub has_behind : (q : Text) (us : List Text) (t : Text) → has_text q (us ++ t ∷ []) ≡ (has_text q us || same_text q t)
 has_behind q [] t = or_false (same_text q t)
 has_behind q (u ∷ us) t = ap (λ b. same_text q u || b) (has_behind q us t) ∙ or_or (same_text q u) (has_text q us) (same_text q t)
 
@@ -38,20 +37,13 @@ noted_by : (q t : Text) (us : List Text) (b : Bool) → has_text t us ≡ b → 
 noted_by q t us true e h = h
 noted_by q t us false e h = has_behind q us t ∙ ap (λ c. c || same_text q t) h
 
-itself_by : (t : Text) (us : List Text) (b : Bool) → has_text t us ≡ b → has_text t (if b then us else us ++ t ∷ []) ≡ true
+pub itself_by : (t : Text) (us : List Text) (b : Bool) → has_text t us ≡ b → has_text t (if b then us else us ++ t ∷ []) ≡ true
 itself_by t us true e = e
 itself_by t us false e = has_behind t us t ∙ ap (λ c. has_text t us || c) (own t) ∙ or_true (has_text t us)
 
-kept : (name q : Text) (us : List Text) (ds : List Datum) → has_text q us ≡ true → has_text q (names_after name us ds) ≡ true
+pub kept : (name q : Text) (us : List Text) (ds : List Datum) → has_text q us ≡ true → has_text q (names_after name us ds) ≡ true
 kept name q us [] h = h
 kept name q us (d ∷ ds) h = kept name q (noted (group_name name d) us) ds (noted_by q (group_name name d) us (has_text (group_name name d) us) refl h)
-
-among : (name : Text) (us : List Text) (before after : List Datum) (d : Datum) → has_text (group_name name d) (names_after name us (before ++ d ∷ after)) ≡ true
-among name us [] after d = kept name (group_name name d) (noted (group_name name d) us) after (itself_by (group_name name d) us (has_text (group_name name d) us) refl)
-among name us (e ∷ before) after d = among name (noted (group_name name e) us) before after d
-
-pub grouped_law : EachItemIsGrouped
-grouped_law name before after d = among name [] before after d
 
 -- ---- the items of a text
 pub one_more_item : (name : Text) (d : Datum) (ds : List Datum) (q : Text) (all old new : List Datum) → all ≡ old ++ items_named name (d ∷ ds) q → new ≡ old ++ member_at (group_name name d) d q → all ≡ new ++ items_named name ds q
@@ -84,7 +76,7 @@ noted_there t us h = sym (ap (λ b. if b then us else us ++ t ∷ []) h)
 pub noted_new : (t : Text) (us : List Text) → has_text t us ≡ false → us ++ t ∷ [] ≡ noted t us
 noted_new t us h = sym (ap (λ b. if b then us else us ++ t ∷ []) h)
 
-same_by : (q t : Text) (b : Bool) → same_text q t ≡ b → same_text t q ≡ b
+pub same_by : (q t : Text) (b : Bool) → same_text q t ≡ b → same_text t q ≡ b
 same_by q t true e = (bytes_eq-Decides t q).1 (sym ((bytes_eq-Decides q t).0 e))
 same_by q t false e = other (same_text t q) refl
   where

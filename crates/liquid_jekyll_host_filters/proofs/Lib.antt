@@ -1,5 +1,7 @@
 pub mod Fronts
+pub mod GroupLaws
 pub mod GroupedItems
+pub mod JsonBytes
 pub mod MarkedTexts
 pub mod NamePaths
 pub mod Sentences

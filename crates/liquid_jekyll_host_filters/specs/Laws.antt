@@ -1,9 +1,11 @@
 -- What is proved of Jekyll's filters beyond their answers.
-use Rattle.std.specs.Prelude.{◌≡◌, true, List, [], ◌∷◌, ◌++◌, length}
+use Rattle.std.specs.Prelude.{◌≡◌, true, List, [], ◌∷◌, ◌++◌, flat_map, if◌then◌else◌}
+use Rattle.std.specs.List.{IsDistinct}
+use Rattle.std.specs.List.Sorted.{IsPermutation}
 use Rattle.liquid_model.specs.Data.{Datum}
 use Rattle.liquid_model.specs.Fallible.{◌>>=◌}
-use Rattle.liquid_model.specs.Texts.{Text}
-use Rattle.liquid_jekyll_host_filters.specs.Groups.{group_name, has_text, names_after}
+use Rattle.liquid_model.specs.Texts.{Text, same_text}
+use Rattle.liquid_jekyll_host_filters.specs.Groups.{group_name, items_named, names_after, noted}
 use Rattle.liquid_jekyll_host_filters.specs.Urls.{absolute_url_answer, is_absolute}
 use Rattle.liquid_jekyll_host_filters.specs.Urls.{relative_url_answer}
 use Rattle.liquid_jekyll_host_filters.specs.Words.{normalized, words}
@@ -26,8 +28,21 @@ AbsoluteUrlTwiceIsOnce =
 abbrev pub NormalizeKeepsWords : Type 0
 NormalizeKeepsWords = (s : Text) → words (normalized s) ≡ words s
 
--- each item of a list is in one of the groups: its text is among their names
-abbrev pub EachItemIsGrouped : Type 0
-EachItemIsGrouped =
-    (name : Text) (before after : List Datum) (d : Datum) →
-    has_text (group_name name d) (names_after name [] (before ++ d ∷ after)) ≡ true
+-- the groups have the items of the list, each as often as the list has it
+abbrev pub GroupsLoseNothing : Type 0
+GroupsLoseNothing =
+    (name : Text) (ds : List Datum) →
+    IsPermutation (flat_map (items_named name ds) (names_after name [] ds)) ds
+
+-- no two groups have one name
+abbrev pub GroupsDiffer : Type 0
+GroupsDiffer = (name : Text) (ds : List Datum) → IsDistinct same_text (names_after name [] ds)
+
+-- an item more at the end of a list: its group stands where it stood, or after all others where
+-- there was none, and the item is the last one in it; the other groups stay
+abbrev pub GroupsKeepOrder : Type 0
+GroupsKeepOrder =
+    (name : Text) (ds : List Datum) (d : Datum) →
+    (names_after name [] (ds ++ d ∷ []) ≡ noted (group_name name d) (names_after name [] ds))
+    × ((t : Text) → items_named name (ds ++ d ∷ []) t ≡ items_named name ds t ++
+    (if same_text t (group_name name d) then d ∷ [] else []))

@@ -1,5 +1,6 @@
 //! What is proved of Jekyll's filters beyond their answers.
-ghost use Rattle.liquid_jekyll_host_filters.specs.Laws.{AbsoluteUrlTwiceIsOnce, EachItemIsGrouped};
+ghost use Rattle.liquid_jekyll_host_filters.specs.Laws.{AbsoluteUrlTwiceIsOnce, GroupsDiffer};
+ghost use Rattle.liquid_jekyll_host_filters.specs.Laws.{GroupsKeepOrder, GroupsLoseNothing};
 ghost use Rattle.liquid_jekyll_host_filters.specs.Laws.{NormalizeKeepsWords};
 ghost use Rattle.liquid_jekyll_host_filters.specs.Laws.{RelativeUrlTwiceIsOnce};
 
@@ -18,7 +19,14 @@ pub fn normalize_keeps_words()
     ensures { NormalizeKeepsWords }
 {}
 
-/// `group_by` leaves out no item.
-pub fn each_item_is_grouped()
-    ensures { EachItemIsGrouped }
+/// The groups of `group_by` have each item of the list, and each once; no two have one name.
+pub fn groups_lose_nothing()
+    ensures items { GroupsLoseNothing }
+    ensures names { GroupsDiffer }
+{}
+
+/// The groups of `group_by` stand in the order in which their texts come, and in each the items in
+/// the order of the list.
+pub fn groups_keep_order()
+    ensures { GroupsKeepOrder }
 {}
