@@ -1,10 +1,10 @@
 -- Worked uses are computed.
 use mathlib.Core.Path.{refl}
 use Rattle.liquid_meaning.specs.WorkedReading.{WorkedReading}
-use Rattle.liquid_meaning.specs.Reading.{grants, grants_all, grants_optional, grants_filters, grants_chain, grants_atom, grants_atoms, grants_condition, grants_source, grants_window, grants_bindings, grants_node, grants_partials}
+use Rattle.liquid_meaning.specs.Reading.{grants, grants_all, grants_optional, grants_filters, grants_chain, grants_compared, grants_values, grants_atom, grants_atoms, grants_condition, grants_source, grants_window, grants_bindings, grants_node, grants_partials}
 
 pub worked_uses : WorkedReading
-unfolding grants grants_all grants_optional grants_filters grants_chain grants_atom grants_atoms grants_condition grants_source grants_window grants_bindings grants_node grants_partials
+unfolding grants grants_all grants_optional grants_filters grants_chain grants_compared grants_values grants_atom grants_atoms grants_condition grants_source grants_window grants_bindings grants_node grants_partials
 worked_uses = record {
   a_loop = refl;
   a_loop_asks_its_variable = refl;
@@ -14,7 +14,12 @@ worked_uses = record {
   a_step_that_is_computed = refl;
   no_member_for_a_computed_step = refl;
   a_truth_is_a_kind = refl;
+  a_comparison_with_a_number = refl;
+  a_comparison_of_nil = refl;
   a_comparison_asks_all = refl;
+  a_search_asks_all = refl;
+  a_case_of_numbers = refl;
+  a_case_asks_all = refl;
   an_assigned_value = refl;
   an_unread_value = refl;
   a_partial = refl;

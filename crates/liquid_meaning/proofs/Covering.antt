@@ -7,10 +7,12 @@ use Rattle.liquid_model.specs.Data.{nil}
 use Rattle.liquid_core.specs.Expression.{Expression, literal, variable, Steps, no_steps, step}
 use Rattle.liquid_core.specs.Environment.{Names}
 use Rattle.liquid_evaluation.specs.Tree.{FilterCall, Chain, Atom, bare, compared, Condition, Source, each_of, counted, Window, Bindings, Node, plain, raw, comment, output, assign, increment, decrement, break_loop, continue_loop, cycle, if_true, unless, case_of, for_each, tablerow, capture, ifchanged, include, jekyll_include, render, Nodes, no_nodes, node, Whens, no_whens, when}
+use Rattle.liquid_evaluation.specs.declared.comparison.ComparisonOperator.{ComparisonOperator}
+use Rattle.liquid_evaluation.specs.declared.comparison.ComparisonOperator.TheVariants.{Equals}
 use Rattle.liquid_evaluation.specs.Names.{expression_names, steps_names, all_names, optional_names, filters_names, chain_names, atom_names, atoms_names, condition_names, source_names, window_names, bound_names, target_names, include_name, node_names, nodes_names, whens_names, partials_names, run_names, mentioned}
 use Rattle.liquid_meaning.specs.Within.{Within}
-use Rattle.liquid_model.specs.Uses.{Use, Alike, nothing, everything, parts, Fields, no_fields, field, ItemUse, uncounted, every, asks_whether, includes, includes_fields, includes_items}
-use Rattle.liquid_meaning.specs.Reading.{Uses, Needs, key, by_key, grants, grants_along, grants_all, grants_optional, grants_filters, grants_chain, grants_atom, grants_atoms, grants_condition, grants_source, grants_window, grants_bindings, is_flat, grants_node, grants_nodes, grants_whens, grants_partials}
+use Rattle.liquid_model.specs.Uses.{Use, Alike, nothing, everything, parts, Fields, no_fields, field, ItemUse, uncounted, every, there, asks_whether, includes, includes_fields, includes_items}
+use Rattle.liquid_meaning.specs.Reading.{Uses, Needs, key, by_key, grants, grants_along, grants_all, grants_optional, grants_filters, grants_chain, use_beside, grants_compared, grants_values, grants_atom, grants_atoms, grants_condition, grants_source, grants_window, grants_bindings, is_flat, grants_node, grants_nodes, grants_whens, grants_partials}
 use Rattle.liquid_meaning.specs.Reads.{AllRespect, NamesCover, whole_names}
 use Rattle.liquid_meaning.proofs.Within.{left, right, within_mentioned}
 use Rattle.liquid_model.proofs.Alike.{alike_same}
@@ -75,6 +77,15 @@ module _ (N : Names) where
   covers_all [] h = tt
   covers_all (x ∷ xs) h = both (grants W x everything) _ (covers_expression x everything (left N (expression_names x) _ h)) (covers_all xs (right N (expression_names x) _ h))
 
+  covers_compared : (x : Expression) (comparison : ComparisonOperator) (y : Expression) → Within N (expression_names x) → Within N (expression_names y) → T (grants_compared W x comparison y)
+  unfolding grants_compared
+  covers_compared x comparison y h k = both (grants W x (use_beside comparison y)) _ (covers_expression x _ h) (covers_expression y _ k)
+
+  covers_values : (target : Expression) (xs : List Expression) → Within N (expression_names target) → Within N (all_names xs) → T (grants_values W target xs)
+  unfolding grants_values all_names
+  covers_values target [] h k = tt
+  covers_values target (x ∷ xs) h k = both (grants_compared W target Equals x) _ (covers_compared target Equals x h (left N (expression_names x) _ k)) (covers_values target xs h (right N (expression_names x) _ k))
+
   covers_optional : (x : Option Expression) → Within N (optional_names x) → T (grants_optional W x)
   unfolding grants_optional optional_names
   covers_optional None h = tt
@@ -92,7 +103,7 @@ module _ (N : Names) where
   covers_atom : (atom : Atom) → Within N (atom_names atom) → T (grants_atom W atom)
   unfolding grants_atom atom_names
   covers_atom (bare x) h = covers_expression x _ h
-  covers_atom (compared x comparison y) h = both (grants W x everything) _ (covers_expression x everything (left N (expression_names x) _ h)) (covers_expression y everything (right N (expression_names x) _ h))
+  covers_atom (compared x comparison y) h = covers_compared x comparison y (left N (expression_names x) _ h) (right N (expression_names x) _ h)
 
   covers_atoms : (atoms : List Atom) → Within N (atoms_names atoms) → T (grants_atoms W atoms)
   unfolding grants_atoms atoms_names
@@ -152,9 +163,10 @@ module _ (N : Names) where
           both (grants_condition W condition) _ (covers_condition condition (left N (condition_names condition) _ h))
           (both (grants_nodes needs W body) _ (covers_nodes body (left N (nodes_names body) _ rest)) (covers_nodes otherwise (right N (nodes_names body) _ rest)))
       covers_node (case_of target whens otherwise) h =
+          let own = left N (expression_names target) _ h in
           let rest = right N (expression_names target) _ h in
-          both (grants W target everything) _ (covers_expression target everything (left N (expression_names target) _ h))
-          (both (grants_whens needs W whens) _ (covers_whens whens (left N (whens_names whens) _ rest)) (covers_nodes otherwise (right N (whens_names whens) _ rest)))
+          both (grants W target there) _ (covers_expression target there own)
+          (both (grants_whens needs W target whens) _ (covers_whens target own whens (left N (whens_names whens) _ rest)) (covers_nodes otherwise (right N (whens_names whens) _ rest)))
       covers_node (for_each name source window body otherwise) h =
           let r = right N (source_names source) _ h.1.1 in
           let s = right N (window_names window) _ r in
@@ -185,12 +197,12 @@ module _ (N : Names) where
       covers_nodes no_nodes h = tt
       covers_nodes (node n more) h = both (grants_node needs W n) _ (covers_node n (left N (node_names n) _ h)) (covers_nodes more (right N (node_names n) _ h))
 
-      covers_whens : (whens : Whens) → Within N (whens_names whens) → T (grants_whens needs W whens)
-      covers_whens no_whens h = tt
-      covers_whens (when values body more) h =
+      covers_whens : (target : Expression) → Within N (expression_names target) → (whens : Whens) → Within N (whens_names whens) → T (grants_whens needs W target whens)
+      covers_whens target own no_whens h = tt
+      covers_whens target own (when values body more) h =
           let rest = right N (all_names values) _ h in
-          both (grants_all W values) _ (covers_all values (left N (all_names values) _ h))
-          (both (grants_nodes needs W body) _ (covers_nodes body (left N (nodes_names body) _ rest)) (covers_whens more (right N (nodes_names body) _ rest)))
+          both (grants_values W target values) _ (covers_values target values own (left N (all_names values) _ h))
+          (both (grants_nodes needs W body) _ (covers_nodes body (left N (nodes_names body) _ rest)) (covers_whens target own more (right N (nodes_names body) _ rest)))
 
     pub covers_partials : (ps : List (Text × Nodes)) → Within N (partials_names ps) → T (grants_partials needs W ps)
     unfolding grants_partials partials_names

@@ -3,6 +3,7 @@ pub mod Apart
 pub mod Assigning
 pub mod Cells
 pub mod Changes
+pub mod Comparisons
 pub mod Computed
 pub mod ComputedUses
 pub mod Covering

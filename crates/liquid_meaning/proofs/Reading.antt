@@ -7,6 +7,7 @@ use Rattle.std.specs.Option.{unwrap_or, option_and_then}
 use Rattle.liquid_model.specs.Maps.{Map, empty, insert, listed}
 use Rattle.liquid_model.specs.Texts.{Text, ◌else◌, same_text}
 use Rattle.liquid_model.specs.Data.{Datum, nil, truth, number, text, array, object}
+use Rattle.liquid_model.specs.Order.{same}
 use Rattle.liquid_model.specs.Whole.{whole}
 use Rattle.liquid_model.specs.declared.error.ErrorKind.{ErrorKind}
 use Rattle.liquid_core.specs.Expression.{Expression}
@@ -16,16 +17,18 @@ use Rattle.liquid_core.specs.Environment.{Environment, Registers, bind_each, loo
 use Rattle.liquid_core.specs.declared.interrupt.Interrupt.{Interrupt}
 use Rattle.liquid_core.specs.Expressions.{required}
 use Rattle.liquid_evaluation.specs.Evaluation.{chain_value, bound_values}
-use Rattle.liquid_meaning.specs.Runs.{Nothing, Run, read, evaluate, change, write, ◌>>=◌}
+use Rattle.liquid_evaluation.specs.declared.comparison.ComparisonOperator.TheVariants.{Equals}
+use Rattle.liquid_meaning.specs.Runs.{Nothing, Run, done, read, evaluate, change, write, ◌>>=◌}
 use Rattle.liquid_meaning.specs.Effects.{assigned_to, counted_to, interrupted_by, counter_number, value_or_nil, take_interrupt, if_none, unless_interrupted, is_last_text}
 use Rattle.liquid_meaning.specs.Loops.{if_empty, columns_of, needs_columns, cell_start, cell_end, loop, rows}
 use Rattle.liquid_meaning.specs.Meaning.{Setting, write_item, cycle_meaning, has_equal, within_i64, named, name_of, found, pairs_scope, include_scope, render_apart, node_meaning, nodes_meaning, whens_meaning, deeper_meaning, meaning}
-use Rattle.liquid_model.specs.Uses.{Use, nothing, everything, parts, shape_of, Pairwise, Alike, asks_whether, present}
-use Rattle.liquid_meaning.specs.Reading.{Uses, Needs, grants, grants_all, grants_optional, grants_condition, grants_source, grants_window, grants_bindings, grants_chain, bound_use, all_of, is_flat, grants_node, grants_nodes, grants_whens, grants_partials}
+use Rattle.liquid_model.specs.Uses.{Use, nothing, everything, parts, there, shape_of, Pairwise, Alike, asks_whether, present}
+use Rattle.liquid_meaning.specs.Reading.{Uses, Needs, grants, grants_all, grants_optional, use_beside, grants_compared, grants_values, grants_condition, grants_source, grants_window, grants_bindings, grants_chain, bound_use, all_of, is_flat, grants_node, grants_nodes, grants_whens, grants_partials}
 use Rattle.liquid_meaning.specs.Reads.{AlikeMaps, AlikeIn, Both, Respects, ReadsAlone}
 use Rattle.liquid_model.proofs.Alike.{both_left, both_right, alike_same, alike_shape, alike_present, present_asks, AlikeLists, pairwise_length}
 use Rattle.liquid_meaning.proofs.AlikeMaps.{alike_empty, alike_insert, alike_merged}
-use Rattle.liquid_meaning.proofs.Seen.{Same, equal_both, lookup_alike, required_equal, chain_alike, truth_equal, source_alike, amount_equal, asked_alike, bound_alike}
+use Rattle.liquid_meaning.proofs.Comparisons.{beside_asks, Sides, sides_equal}
+use Rattle.liquid_meaning.proofs.Seen.{Same, equal_both, lookup_alike, required_equal, sides_alike, chain_alike, truth_equal, source_alike, amount_equal, asked_alike, bound_alike}
 use Rattle.liquid_meaning.proofs.Tied.{TiedOutcomes, Tied, tied_done, tied_fault, tied_write, tied_read, tied_evaluate, tied_value, tied_change, tied_bind, tied_then, tied_cond, tied_with_scope, tied_buffered, tied_apart, tied_for_all, tied_until_break}
 
 module _ (U : Uses) where
@@ -85,10 +88,18 @@ module _ (U : Uses) where
   tied_cycle group (x ∷ xs) h = tied_then (tied_read Same _ _ (λ e f a i. unwrap_or ((a.registers i).cycles group) 0))
       (λ i. tied_then (tied_registers _ (λ r. record r { cycles = insert r.cycles group ((i + 1) % length (x ∷ xs)) }) (λ e. refl)) (λ a. tied_item (x ∷ xs) h i))
 
-  tied_has_equal : (target : Datum) (xs : List Expression) → T (grants_all U xs) → Tied U Same (has_equal target xs) (has_equal target xs)
-  unfolding has_equal grants_all
-  tied_has_equal target [] h = tied_done Same false false refl
-  tied_has_equal target (x ∷ xs) h = tied_then (tied_required x (both_left (grants U x everything) _ h)) (λ d. tied_cond _ (tied_done Same true true refl) (tied_has_equal target xs (both_right (grants U x everything) _ h)))
+  -- the target has been evaluated, in environments that were alike
+  tied_has_equal : (target : Expression) (c d : Datum) → Sides U target c d → (xs : List Expression) → T (grants_values U target xs) → Tied U Same (has_equal c xs) (has_equal d xs)
+  unfolding has_equal grants_values grants_compared
+  tied_has_equal target c d sides [] h = tied_done Same false false refl
+  tied_has_equal target c d sides (x ∷ xs) h =
+      let of_one = both_left (grants_compared U target Equals x) _ h in
+      let of_target = both_left (grants U target (use_beside Equals x)) _ of_one in
+      let of_value = both_right (grants U target (use_beside Equals x)) _ of_one in
+      tied_bind (tied_evaluate (Sides U x) _ _ (λ e f a. sides_alike U e f a x (use_beside Equals target) (beside_asks Equals target) of_value)) (λ r s b.
+      subst (λ z. Tied U Same (cond (same c r) (done true) (has_equal c xs)) (cond z (done true) (has_equal d xs)))
+      (sides_equal U target x c d r s sides b of_target of_value)
+      (tied_cond (same c r) (tied_done Same true true refl) (tied_has_equal target c d sides xs (both_right (grants_compared U target Equals x) _ h))))
 
   tied_unless : {m : Run Nothing} → Tied U Same m m → Tied U Same (unless_interrupted m) (unless_interrupted m)
   unfolding unless_interrupted
@@ -238,9 +249,9 @@ module _ (needs : Needs) (U : Uses) (setting : Setting) (respects : Respects set
         tied_then (tied_value _ _ (λ e f a. truth_equal U e f a condition (both_left (grants_condition U condition) _ h)))
         (λ holds. tied_cond holds (nodes_tied otherwise (both_right (grants_nodes needs U body) _ rest)) (nodes_tied body (both_left (grants_nodes needs U body) _ rest)))
     node_tied (case_of target whens otherwise) h =
-        let rest = both_right (grants U target everything) _ h in
-        tied_then (tied_required U target (both_left (grants U target everything) _ h))
-        (λ d. whens_tied whens (both_left (grants_whens needs U whens) _ rest) d _ (nodes_tied otherwise (both_right (grants_whens needs U whens) _ rest)))
+        let rest = both_right (grants U target there) _ h in
+        tied_bind (tied_evaluate (Sides U target) _ _ (λ e f a. sides_alike U e f a target there tt (both_left (grants U target there) _ h)))
+        (λ c d a. whens_tied target c d a whens (both_left (grants_whens needs U target whens) _ rest) _ (nodes_tied otherwise (both_right (grants_whens needs U target whens) _ rest)))
     node_tied (for_each name source window body otherwise) h =
         let flat = both_left (is_flat (U (codes "forloop"))) _ h in
         let r = both_right (is_flat (U (codes "forloop"))) _ h in
@@ -279,12 +290,13 @@ module _ (needs : Needs) (U : Uses) (setting : Setting) (respects : Respects set
     nodes_tied no_nodes h = tied_done Same tt tt refl
     nodes_tied (node n more) h = tied_then (node_tied n (both_left (grants_node needs U n) _ h)) (λ a. tied_unless U (nodes_tied more (both_right (grants_node needs U n) _ h)))
 
-    pub whens_tied : (whens : Whens) → T (grants_whens needs U whens) → (target : Datum) (otherwise : Run Nothing) → Tied U Same otherwise otherwise → Tied U Same (whens_meaning setting deeper whens target otherwise) (whens_meaning setting deeper whens target otherwise)
-    whens_tied no_whens h target otherwise i = i
-    whens_tied (when values body more) h target otherwise i =
-        let rest = both_right (grants_all U values) _ h in
-        tied_then (tied_has_equal U target values (both_left (grants_all U values) _ h))
-        (λ hit. tied_cond hit (nodes_tied body (both_left (grants_nodes needs U body) _ rest)) (whens_tied more (both_right (grants_nodes needs U body) _ rest) target otherwise i))
+    pub whens_tied : (target : Expression) (c d : Datum) → Sides U target c d → (whens : Whens) → T (grants_whens needs U target whens) → (otherwise : Run Nothing) → Tied U Same otherwise otherwise
+        → Tied U Same (whens_meaning setting deeper whens c otherwise) (whens_meaning setting deeper whens d otherwise)
+    whens_tied target c d sides no_whens h otherwise i = i
+    whens_tied target c d sides (when values body more) h otherwise i =
+        let rest = both_right (grants_values U target values) _ h in
+        tied_then (tied_has_equal U target c d sides values (both_left (grants_values U target values) _ h))
+        (λ hit. tied_cond hit (nodes_tied body (both_left (grants_nodes needs U body) _ rest)) (whens_tied target c d sides more (both_right (grants_nodes needs U body) _ rest) otherwise i))
 
 -- ---- the law
 

@@ -20,8 +20,9 @@ use Rattle.liquid_evaluation.specs.Calls.{applied}
 use Rattle.liquid_evaluation.specs.Tree.{FilterCall, Chain, Atom, bare, compared, Condition, Source, each_of, counted, Window, Bindings}
 use Rattle.liquid_evaluation.specs.Evaluation.{FilterAnswers, entry_value, calls_by, chain_value, bare_truth, atom_truth, all_true, truth_of, value_items, most_items, not_too_long, source_items, amount, skipped, wanted, items_at, window_items, asked_for, bound_values}
 use Rattle.liquid_model.specs.Uses.{Use, everything, parts, no_fields, every, there, shape_of, member, loop_items, Pairwise, Alike, use_at, is_everything, asks_whether}
-use Rattle.liquid_meaning.specs.Reading.{Uses, key_of, key, by_key, grants, grants_along, grants_all, grants_optional, grants_filters, Needs, use_before, grants_chain, grants_atom, grants_atoms, grants_condition, grants_source, grants_window, grants_bindings}
+use Rattle.liquid_meaning.specs.Reading.{Uses, key_of, key, by_key, grants, grants_along, grants_all, grants_optional, grants_filters, Needs, use_before, grants_chain, use_beside, grants_compared, grants_atom, grants_atoms, grants_condition, grants_source, grants_window, grants_bindings}
 use Rattle.liquid_meaning.specs.Reads.{AlikeIn, Both, Respects}
+use Rattle.liquid_meaning.proofs.Comparisons.{beside_asks, Sides, sides_compare}
 use Rattle.liquid_model.proofs.Alike.{AlikeLists, pairwise_length, both_left, both_right, pairwise_same, alike_same, alike_shape, alike_at, alike_included, alike_everything, present_asks, alike_present, alike_else}
 
 -- ---- results
@@ -170,6 +171,18 @@ module _ (U : Uses) (e f : Environment) (agree : AlikeIn U e f) where
       at (Some c) None a = let e = alike_shape v (Some c) None asks a in absurd cc
       at (Some c) (Some d) a = a
 
+  -- an expression that is compared
+  pub sides_alike : (x : Expression) (v : Use) → T (asks_whether v) → T (grants U x v) → Both (Sides U x) (required x e) (required x f)
+  unfolding value_of
+  sides_alike (literal d) v asks h = record { seen = λ u g. alike_same u (Some d); left = refl; right = refl }
+  sides_alike (variable name steps) v asks h = at (value_of (variable name steps) e) (value_of (variable name steps) f) (value_alike (variable name steps))
+    where
+      at : (o p : Option Datum) → ((u : Use) → T (grants U (variable name steps) u) → Alike u o p) → Both (Sides U (variable name steps)) (ok_or o UnknownVariable) (ok_or p UnknownVariable)
+      at None None k = refl
+      at None (Some d) k = let e = alike_shape v None (Some d) asks (k v h) in absurd cc
+      at (Some c) None k = let e = alike_shape v (Some c) None asks (k v h) in absurd cc
+      at (Some c) (Some d) k = record { seen = k; left = tt; right = tt }
+
   pub required_equal : (x : Expression) → T (grants U x everything) → required x e ≡ required x f
   required_equal x h = ap (λ o. ok_or o UnknownVariable) (value_alike x everything h)
 
@@ -222,7 +235,7 @@ module _ (U : Uses) (e f : Environment) (agree : AlikeIn U e f) where
         (λ c d a. calls_alike chain.filters v (both_right (grants U chain.entry u) _ h) c d a)
 
   atom_equal : (atom : Atom) → T (grants_atom U atom) → atom_truth atom e ≡ atom_truth atom f
-  unfolding atom_truth grants_atom
+  unfolding atom_truth grants_atom grants_compared
   atom_equal (bare x) h = ap Ok (at (value_of x e) (value_of x f) (value_alike x there h).0)
     where
       of_shape : (o : Option Datum) → bare_truth (shape_of o) ≡ bare_truth o
@@ -236,7 +249,13 @@ module _ (U : Uses) (e f : Environment) (agree : AlikeIn U e f) where
 
       at : (o p : Option Datum) → shape_of o ≡ shape_of p → bare_truth o ≡ bare_truth p
       at o p e = sym (of_shape o) ∙ (ap bare_truth e ∙ of_shape p)
-  atom_equal (compared x comparison y) h = same_then (required_equal x (both_left (grants U x everything) _ h)) (λ l. same_then (required_equal y (both_right (grants U x everything) _ h)) (λ r. refl))
+  atom_equal (compared x comparison y) h =
+      let of_left = both_left (grants U x (use_beside comparison y)) _ h in
+      let of_right = both_right (grants U x (use_beside comparison y)) _ h in
+      equal_both _ _
+      (both_then (Sides U x) Same _ _ _ _ (sides_alike x (use_beside comparison y) (beside_asks comparison y) of_left) (λ l m a.
+      both_then (Sides U y) Same _ _ _ _ (sides_alike y (use_beside comparison x) (beside_asks comparison x) of_right) (λ r s b.
+      both_equal Same (λ z. refl) _ _ (sides_compare U comparison x y l m r s a b of_left of_right))))
 
   all_true_equal : (atoms : List Atom) → T (grants_atoms U atoms) → all_true atoms e ≡ all_true atoms f
   unfolding all_true grants_atoms

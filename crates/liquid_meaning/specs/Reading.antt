@@ -1,6 +1,7 @@
 -- What a template asks of its environment, name by name.
 --     Uses      what is asked of the value of each name
 --     grants U x v      where environments are alike in U, the expression's values are alike in v
+--     use_beside comparison x      what a comparison with x sees of a value
 --     Needs      what each call of a filter asks of its input
 --     covers needs U setting nodes      U grants all that the template or a partial asks for: a
 --                                       test
@@ -8,9 +9,12 @@ use Rattle.std.specs.Prelude.{Bool, true, false, cond, ◌&&◌, List, [], ◌�
 use Rattle.std.specs.Prelude.{codes}
 use Rattle.std.specs.Fmt.{signed_decimal}
 use Rattle.liquid_model.specs.Texts.{Text}
-use Rattle.liquid_model.specs.Data.{Datum, truth, number, text, text_of}
+use Rattle.liquid_model.specs.Data.{Datum, truth, number, text, array, object, text_of}
 use Rattle.liquid_model.specs.Whole.{fits}
 use Rattle.liquid_core.specs.Expression.{Expression, literal, variable, Steps, no_steps, step}
+use Rattle.liquid_evaluation.specs.declared.comparison.ComparisonOperator.{ComparisonOperator}
+use Rattle.liquid_evaluation.specs.declared.comparison.ComparisonOperator.TheVariants.{Equals}
+use Rattle.liquid_evaluation.specs.declared.comparison.ComparisonOperator.TheVariants.{Contains}
 use Rattle.liquid_evaluation.specs.Tree.{FilterCall, Chain, Atom, bare, compared, Condition, Source}
 use Rattle.liquid_evaluation.specs.Tree.{each_of, counted, Window, Bindings, Node, plain, raw}
 use Rattle.liquid_evaluation.specs.Tree.{comment, output, assign, increment, decrement, break_loop}
@@ -61,6 +65,33 @@ unfoldable pub grants_optional : Uses → Option Expression → Bool
 grants_optional U None = true
 grants_optional U (Some x) = grants U x everything
 
+-- ---- comparisons
+
+-- a literal that is nil or a scalar
+abbrev pub is_nil_or_scalar : Expression → Bool
+is_nil_or_scalar (literal (array ds)) = false
+is_nil_or_scalar (literal (object ps)) = false
+is_nil_or_scalar (literal d) = true
+is_nil_or_scalar (variable name steps) = false
+
+-- how a list or a map compares with nil or a scalar is seen by its kind alone; but `contains` looks
+-- into it
+abbrev pub sees_kind_alone : ComparisonOperator → Expression → Bool
+sees_kind_alone Contains other = false
+sees_kind_alone comparison other = is_nil_or_scalar other
+
+abbrev pub use_beside : ComparisonOperator → Expression → Use
+use_beside comparison other = cond (sees_kind_alone comparison other) there everything
+
+unfoldable pub grants_compared : Uses → Expression → ComparisonOperator → Expression → Bool
+grants_compared U left comparison right =
+    grants U left (use_beside comparison right) && grants U right (use_beside comparison left)
+
+-- the values of a `when`, each of which may be compared with the target
+unfoldable pub grants_values : Uses → Expression → List Expression → Bool
+grants_values U target [] = true
+grants_values U target (x ∷ xs) = grants_compared U target Equals x && grants_values U target xs
+
 -- ---- chains, conditions and sources
 
 unfoldable pub grants_filters : Uses → List FilterCall → Bool
@@ -83,8 +114,7 @@ grants_chain needs U v chain = grants U chain.entry (use_before needs chain.filt
 -- the truth of a value is seen by its kind
 unfoldable pub grants_atom : Uses → Atom → Bool
 grants_atom U (bare x) = grants U x there
-grants_atom U (compared left comparison right) =
-    grants U left everything && grants U right everything
+grants_atom U (compared left comparison right) = grants_compared U left comparison right
 
 unfoldable pub grants_atoms : Uses → List Atom → Bool
 grants_atoms U [] = true
@@ -138,8 +168,9 @@ module _ (needs : Needs) where
         (grants_nodes U body && grants_nodes U otherwise)
     grants_node U (unless condition body otherwise) = grants_condition U condition &&
         (grants_nodes U body && grants_nodes U otherwise)
-    grants_node U (case_of target whens otherwise) = grants U target everything &&
-        (grants_whens U whens && grants_nodes U otherwise)
+    -- that there is a target is seen whatever follows
+    grants_node U (case_of target whens otherwise) = grants U target there &&
+        (grants_whens U target whens && grants_nodes U otherwise)
     grants_node U (for_each name source window body otherwise) = is_flat (U (codes "forloop")) &&
         (grants_source U name source &&
         (grants_window U window && (grants_nodes U body && grants_nodes U otherwise)))
@@ -159,10 +190,10 @@ module _ (needs : Needs) where
     grants_nodes U no_nodes = true
     grants_nodes U (node n more) = grants_node U n && grants_nodes U more
 
-    pub grants_whens : Uses → Whens → Bool
-    grants_whens U no_whens = true
-    grants_whens U (when values body more) = grants_all U values &&
-        (grants_nodes U body && grants_whens U more)
+    pub grants_whens : Uses → Expression → Whens → Bool
+    grants_whens U target no_whens = true
+    grants_whens U target (when values body more) = grants_values U target values &&
+        (grants_nodes U body && grants_whens U target more)
 
   unfoldable pub grants_partials : Uses → List (Text × Nodes) → Bool
   grants_partials U [] = true

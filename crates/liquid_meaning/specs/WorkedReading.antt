@@ -4,10 +4,12 @@ use Rattle.std.specs.Prelude.{◌≡◌, Bool, true, false, pos, List, [], ◌�
 use Rattle.liquid_model.specs.Texts.{Text}
 use Rattle.liquid_model.specs.Data.{Datum, nil, number, text, array, object, no_items, item}
 use Rattle.liquid_model.specs.Data.{no_pairs, pair}
-use Rattle.liquid_core.specs.Expression.{variable, no_steps, step}
+use Rattle.liquid_core.specs.Expression.{literal, variable, no_steps, step}
+use Rattle.liquid_evaluation.specs.declared.comparison.ComparisonOperator.TheVariants.{Contains}
 use Rattle.liquid_evaluation.specs.declared.comparison.ComparisonOperator.TheVariants.{Equals}
 use Rattle.liquid_evaluation.specs.Tree.{each_of, existing, Chain, Node, assign, bare, if_true}
-use Rattle.liquid_evaluation.specs.Tree.{increment, Nodes, no_nodes, output, render}
+use Rattle.liquid_evaluation.specs.Tree.{case_of, increment, Nodes, no_nodes, output, render, Whens}
+use Rattle.liquid_evaluation.specs.Tree.{no_whens, when}
 use Rattle.liquid_core.specs.Expression.{Expression}
 use Rattle.liquid_filters.specs.declared.kind.FilterKind.{FilterKind}
 use Rattle.liquid_filters.specs.declared.kind.FilterKind.TheVariants.{Compact, Default, Map, Size}
@@ -57,6 +59,14 @@ through s kind arguments = record {
   filters = record { filter = existing kind; arguments = arguments } ∷ [];
 }
 
+-- {% case x %}, with a `when` of each of these values
+abbrev pub whens_of : List (List Expression) → Whens
+whens_of [] = no_whens
+whens_of (values ∷ more) = when values no_nodes (whens_of more)
+
+abbrev pub case_over : Expression → List (List Expression) → Node
+case_over x values = case_of x (whens_of values) no_nodes
+
 -- {% for p in products %}{{ p.title }}{% endfor %}
 abbrev pub titles : List Node
 titles = for_in "p" (each_of (name "products")) (show (property "p" "title") ∷ []) ∷ []
@@ -96,8 +106,24 @@ pub record WorkedReading : Type 0 where
   -- {% if a.b %}y{% endif %} and {% if a.b == 1 %}y{% endif %}
   pub a_truth_is_a_kind : covered (("a", with_members (("b", there) ∷ [])) ∷ []) []
       (if_true ((bare (property "a" "b") ∷ []) ∷ []) no_nodes no_nodes ∷ []) ≡ true
-  pub a_comparison_asks_all : covered (("a", with_members (("b", there) ∷ [])) ∷ []) []
-      (if_compared (property "a" "b") Equals (integer 1) [] ∷ []) ≡ false
+  pub a_comparison_with_a_number : covered (("a", with_members (("b", there) ∷ [])) ∷ []) []
+      (if_compared (property "a" "b") Equals (integer 1) [] ∷ []) ≡ true
+  -- {% if nil == a.b %}
+  pub a_comparison_of_nil : covered (("a", with_members (("b", there) ∷ [])) ∷ []) []
+      (if_compared (literal nil) Equals (property "a" "b") [] ∷ []) ≡ true
+  -- {% if a.b == c %}
+  pub a_comparison_asks_all : covered
+      (("a", with_members (("b", there) ∷ [])) ∷ ("c", everything) ∷ []) []
+      (if_compared (property "a" "b") Equals (name "c") [] ∷ []) ≡ false
+  -- {% if a.b contains 'x' %}
+  pub a_search_asks_all : covered (("a", with_members (("b", there) ∷ [])) ∷ []) []
+      (if_compared (property "a" "b") Contains (quoted "x") [] ∷ []) ≡ false
+  -- {% case a.b %}{% when 1, 2 %}{% when c %}{% endcase %}, with the last `when` and without it
+  pub a_case_of_numbers : covered (("a", with_members (("b", there) ∷ [])) ∷ []) []
+      (case_over (property "a" "b") ((integer 1 ∷ integer 2 ∷ []) ∷ []) ∷ []) ≡ true
+  pub a_case_asks_all : covered
+      (("a", with_members (("b", there) ∷ [])) ∷ ("c", everything) ∷ []) []
+      (case_over (property "a" "b") ((integer 1 ∷ []) ∷ (name "c" ∷ []) ∷ []) ∷ []) ≡ false
   -- {% assign x = a.b %}{{ x.c }}
   pub an_assigned_value : covered
       (("a", with_members (("b", with_members (("c", everything) ∷ [])) ∷ [])) ∷

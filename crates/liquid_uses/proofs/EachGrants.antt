@@ -1,11 +1,14 @@
 -- Tests of a list, item after item.
 use Rattle.std.proofs.Common.{◌≡◌, ℕ, suc, ◌+◌, ◌<◌, ◌≤◌, Bool, true, false, ◌&&◌, List, [], ◌∷◌, length, drop, get_or, map, refl, sym, ap, ◌∙◌, add-one, drop-cons}
 use Rattle.std.proofs.lemmas.List.{drop_all}
+use Rattle.liquid_core.specs.Expression as tree
 use Rattle.liquid_core.specs.ExpressionView.{expression_view}
 use Rattle.liquid_core.specs.declared.expression.Expression.{Expression}
 use Rattle.liquid_evaluation.specs.ChainView.{chain_filter_view}
 use Rattle.liquid_evaluation.specs.ConditionView.{atom_view, atoms_view}
 use Rattle.liquid_evaluation.specs.declared.chain.ChainFilter.{ChainFilter}
+use Rattle.liquid_evaluation.specs.declared.comparison.ComparisonOperator.{ComparisonOperator}
+use Rattle.liquid_evaluation.specs.declared.comparison.ComparisonOperator.TheVariants.{Equals}
 use Rattle.liquid_evaluation.specs.declared.condition.Atom.{Atom}
 use Rattle.liquid_syntax.specs.Flats.{arm_values, bindings_view}
 use Rattle.liquid_syntax.specs.declared.node.Arm.{Arm}
@@ -14,7 +17,7 @@ use Rattle.liquid_syntax.specs.declared.node.Node.{Node}
 use Rattle.std.specs.Prelude.{Vec, string_bytes}
 use Rattle.std.specs.declared.alloc.Global.{Global}
 use Rattle.liquid_model.specs.Uses.{everything}
-use Rattle.liquid_meaning.specs.Reading.{Uses, all_of, bound_use, grants, grants_all, grants_atom, grants_atoms, grants_bindings, grants_condition, grants_filters}
+use Rattle.liquid_meaning.specs.Reading.{Uses, all_of, bound_use, grants, grants_all, grants_atom, grants_atoms, grants_bindings, grants_compared, grants_condition, grants_filters, grants_values, use_beside}
 use Rattle.liquid_uses.specs.inside.OwnGrants.{arms_granted, held_grants, list_grants, own_grants, slots_grant}
 
 pub record IsEach {X : Type 0} (one : X → Bool) (all : List X → Bool) : Type 0 where
@@ -62,9 +65,17 @@ module _ (U : Uses) where
   unfolding grants_bindings
   each_whole_pair = record { none = refl; more = λ pair pairs. refl }
 
-  pub each_arm : IsEach (λ (arm : Arm). grants_all U (map expression_view arm.values.items)) (λ arms. arms_granted U (arm_values arms))
+  pub both_sides : (x : tree.Expression) (comparison : ComparisonOperator) (y : tree.Expression) → grants U x (use_beside comparison y) ≡ true → grants U y (use_beside comparison x) ≡ true → grants_compared U x comparison y ≡ true
+  unfolding grants_compared
+  both_sides x comparison y h k = λ i. h i && k i
+
+  pub each_value : (target : tree.Expression) → IsEach (λ (x : Expression). grants_compared U target Equals (expression_view x)) (λ xs. grants_values U target (map expression_view xs))
+  unfolding grants_values
+  each_value target = record { none = refl; more = λ x xs. refl }
+
+  pub each_arm : (target : tree.Expression) → IsEach (λ (arm : Arm). grants_values U target (map expression_view arm.values.items)) (λ arms. arms_granted U target (arm_values arms))
   unfolding arms_granted
-  each_arm = record { none = refl; more = λ arm arms. refl }
+  each_arm target = record { none = refl; more = λ arm arms. refl }
 
   pub each_node : IsEach (own_grants U) (list_grants U)
   unfolding list_grants

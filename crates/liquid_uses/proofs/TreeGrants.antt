@@ -19,9 +19,9 @@ use Rattle.liquid_syntax.specs.declared.node.Node.{Node}
 use Rattle.liquid_syntax.specs.declared.node.Node.TheVariants.{Text as Plain, Output, Assign, Raw, Comment, If, Unless, Capture, Case, For, TableRow, Break, Continue, Increment, Decrement, Cycle, IfChanged, Include, JekyllInclude, Render, RenderEach}
 use Rattle.liquid_syntax.specs.declared.template.Template.{Template}
 use Rattle.liquid_syntax.proofs.Totals.{IsTotal, Makes, leaf_makes, one_makes, two_makes, of_arms, case_makes, list_total, tree_total}
-use Rattle.liquid_model.specs.Uses.{everything, asks_whether, present}
+use Rattle.liquid_model.specs.Uses.{everything, asks_whether, present, there}
 use Rattle.liquid_meaning.specs.FilterNeeds.{known_needs}
-use Rattle.liquid_meaning.specs.Reading.{Uses, is_flat, grants, grants_all, grants_condition, grants_node, grants_nodes, grants_optional, grants_partials, grants_source, grants_whens, grants_window}
+use Rattle.liquid_meaning.specs.Reading.{Uses, is_flat, grants, grants_all, grants_condition, grants_node, grants_nodes, grants_optional, grants_partials, grants_source, grants_values, grants_whens, grants_window}
 use Rattle.liquid_uses.specs.inside.OwnGrants.{arms_granted, each_grants, for_grants, held_grants, list_grants, own_grants, pairs_grants, row_grants, slots_grant}
 
 and_assoc : (a b c : Bool) → ((a && b) && c) ≡ (a && (b && c))
@@ -48,11 +48,11 @@ module _ (U : Uses) where
   abbrev of_nodes : tree.Nodes → Bool
   of_nodes ns = grants_nodes known_needs U ns
 
-  abbrev of_whens : tree.Whens → Bool
-  of_whens ws = grants_whens known_needs U ws
+  abbrev of_whens : Expression → tree.Whens → Bool
+  of_whens target ws = grants_whens known_needs U target ws
 
-  abbrev of_values : List Expression → Bool
-  of_values vs = grants_all U vs
+  abbrev of_values : Expression → List Expression → Bool
+  of_values target vs = grants_values U target vs
 
   sum : IsTotal true both of_node of_nodes
   unfolding grants_node
@@ -65,20 +65,20 @@ module _ (U : Uses) where
     more = λ n ns. refl;
   }
 
-  one_when : (vs : List Expression) (b : tree.Nodes) (ws : tree.Whens) → of_whens (tree.when vs b ws) ≡ (of_values vs && (of_nodes b && of_whens ws))
+  one_when : (target : Expression) (vs : List Expression) (b : tree.Nodes) (ws : tree.Whens) → of_whens target (tree.when vs b ws) ≡ (of_values target vs && (of_nodes b && of_whens target ws))
   unfolding grants_node
-  one_when vs b ws = refl
+  one_when target vs b ws = refl
 
-  no_when : of_whens tree.no_whens ≡ true
+  no_when : (target : Expression) → of_whens target tree.no_whens ≡ true
   unfolding grants_node
-  no_when = refl
+  no_when target = refl
 
-  arms_are : (vss : List (List Expression)) → of_arms true both of_node of_nodes sum of_whens of_values no_when one_when vss ≡ arms_granted U vss
+  arms_are : (target : Expression) (vss : List (List Expression)) → of_arms true both of_node of_nodes sum (of_whens target) (of_values target) (no_when target) (one_when target) vss ≡ arms_granted U target vss
   unfolding of_arms arms_granted
-  arms_are [] = refl
-  arms_are (vs ∷ vss) = ap (λ r. of_values vs && r) (arms_are vss)
+  arms_are target [] = refl
+  arms_are target (vs ∷ vss) = ap (λ r. of_values target vs && r) (arms_are target vss)
 
-  case_is : (target : Expression) (ws : tree.Whens) (o : tree.Nodes) → of_node (tree.case_of target ws o) ≡ (grants U target everything && (of_whens ws && of_nodes o))
+  case_is : (target : Expression) (ws : tree.Whens) (o : tree.Nodes) → of_node (tree.case_of target ws o) ≡ (grants U target there && (of_whens target ws && of_nodes o))
   unfolding grants_node
   case_is target ws o = refl
 
@@ -112,8 +112,9 @@ module _ (U : Uses) where
   makes (Unless condition ends) = two_makes true both of_node of_nodes sum (own_grants U (Unless condition ends)) (tree.unless (condition_view condition)) ends (λ b c. refl)
   makes (Capture target end) = one_makes true both of_node of_nodes sum true (tree.capture (string_bytes target)) end (λ b. refl)
   makes (Case target arms end) =
-      subst (λ r. Makes true both of_node of_nodes r (flat_of (Case target arms end))) (ap (λ r. grants U (expression_view target) everything && r) (arms_are (arm_values arms.items)))
-      (case_makes true both of_node of_nodes sum of_whens of_values no_when one_when (grants U (expression_view target) everything) (expression_view target) arms.items end (case_is (expression_view target)))
+      let t = expression_view target in
+      subst (λ r. Makes true both of_node of_nodes r (flat_of (Case target arms end))) (ap (λ r. grants U t there && r) (arms_are t (arm_values arms.items)))
+      (case_makes true both of_node of_nodes sum (of_whens t) (of_values t) (no_when t) (one_when t) (grants U t there) t arms.items end (case_is t))
   makes (For f ends) = two_makes true both of_node of_nodes sum (own_grants U (For f ends)) (tree.for_each (string_bytes f.value.variable) (source_view f.value.source) (window_view f.value.window)) ends (for_is f.value)
   makes (TableRow r end) = one_makes true both of_node of_nodes sum (own_grants U (TableRow r end)) (tree.tablerow (string_bytes r.value.variable) (source_view r.value.source) (window_view r.value.window) (option_map expression_view r.value.cols)) end (rows_are r.value)
   makes Break = without_bodies tree.break_loop _ refl

@@ -1,12 +1,13 @@
 //! What each node of a template asks for, told to `Demands`. Nothing here has a contract: what
 //! comes of it is tested by `covers`.
 
+use crate::comparisons::sees_kind_alone;
 use crate::demands::{Demands, Wanted};
 use crate::needs::use_before;
 use liquid_core::{Expression, Use};
 use liquid_syntax::{
-    Arm, Atom, Binding, Condition, Each, FilterChain, For, Node, RangeExpression, TableRow,
-    WindowExpression,
+    Arm, Atom, Binding, ComparisonOperator, Condition, Each, FilterChain, For, Node,
+    RangeExpression, TableRow, WindowExpression,
 };
 use std::alloc::AllocError;
 use std::collections::BTreeMap;
@@ -80,21 +81,47 @@ fn ask_atoms(demands: &mut Demands<'_>, atoms: &[Atom]) -> Asked {
     for atom in atoms {
         match atom {
             Atom::Bare(value) => demands.ask(value, Wanted::Present)?,
-            Atom::Compared(left, _, right) => {
-                demands.ask(left, Wanted::Whole)?;
-                demands.ask(right, Wanted::Whole)?;
+            Atom::Compared(left, comparison, right) => {
+                demands.ask(left, wanted_beside(*comparison, right))?;
+                demands.ask(right, wanted_beside(*comparison, left))?;
             }
         }
     }
     Ok(())
 }
 
-fn ask_case(demands: &mut Demands<'_>, target: &Expression, arms: &[Arm]) -> Asked {
-    demands.ask(target, Wanted::Whole)?;
-    for arm in arms {
-        ask_all(demands, &arm.values)?;
+/// What a comparison with the other value sees.
+fn wanted_beside<'n>(comparison: ComparisonOperator, other: &Expression) -> Wanted<'n> {
+    if sees_kind_alone(comparison, other) {
+        Wanted::Present
+    } else {
+        Wanted::Whole
     }
-    Ok(())
+}
+
+/// The target is asked for once, however many values it is compared with.
+fn ask_case(demands: &mut Demands<'_>, target: &Expression, arms: &[Arm]) -> Asked {
+    let mut wanted = Wanted::Present;
+    for arm in arms {
+        if !ask_values(demands, target, &arm.values)? {
+            wanted = Wanted::Whole;
+        }
+    }
+    demands.ask(target, wanted)
+}
+
+/// The values of a `when`; whether beside each of them the target's kind is enough.
+fn ask_values(
+    demands: &mut Demands<'_>,
+    target: &Expression,
+    values: &[Expression],
+) -> Result<bool, AllocError> {
+    let mut is_enough = true;
+    for value in values {
+        demands.ask(value, wanted_beside(ComparisonOperator::Equals, target))?;
+        is_enough = is_enough && sees_kind_alone(ComparisonOperator::Equals, value);
+    }
+    Ok(is_enough)
 }
 
 fn ask_source(demands: &mut Demands<'_>, name: &str, source: &RangeExpression) -> Asked {

@@ -17,6 +17,7 @@ ghost use Rattle.liquid_meaning.specs.Reading.{grants_source, grants_window, use
 ghost use Rattle.liquid_uses.specs.inside.Chains.{sees};
 
 use crate::chain_places::ChainPlace;
+use crate::comparisons::compared_granted;
 use crate::places::reached;
 use liquid_core::{Expression, Use, Uses, member_of};
 use liquid_evaluation::ChainFilter;
@@ -130,7 +131,9 @@ fn atom_granted(uses: &Uses, atom: &Atom) -> bool
 {
     match atom {
         Atom::Bare(value) => present(uses, value),
-        Atom::Compared(left, _, right) => whole(uses, left) && whole(uses, right),
+        Atom::Compared(left, comparison, right) => {
+            compared_granted(uses, left, *comparison, right)
+        }
     }
 }
 

@@ -3,6 +3,7 @@
 
 mod asking;
 mod chain_places;
+mod comparisons;
 mod covering;
 mod demands;
 mod grants;

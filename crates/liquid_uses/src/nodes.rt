@@ -1,20 +1,20 @@
 //! Whether the uses of names grant what the nodes of a list ask for.
 ghost use Rattle.std.specs.Prelude.{◌≡◌, true, map, string_bytes};
 ghost use Rattle.liquid_core.specs.ExpressionView.{expression_view};
-ghost use Rattle.liquid_syntax.specs.Flats.{arm_values, bindings_view, each_view};
+ghost use Rattle.liquid_syntax.specs.Flats.{bindings_view, each_view};
 ghost use Rattle.liquid_model.specs.Uses.{asks_whether};
 ghost use Rattle.liquid_model.specs.UseViews.{uses_view};
-ghost use Rattle.liquid_meaning.specs.Reading.{grants_all, is_flat};
-ghost use Rattle.liquid_uses.specs.inside.OwnGrants.{arms_granted, each_grants, for_grants};
-ghost use Rattle.liquid_uses.specs.inside.OwnGrants.{list_grants, own_grants, pairs_grants};
-ghost use Rattle.liquid_uses.specs.inside.OwnGrants.{row_grants};
+ghost use Rattle.liquid_meaning.specs.Reading.{is_flat};
+ghost use Rattle.liquid_uses.specs.inside.OwnGrants.{each_grants, for_grants, list_grants};
+ghost use Rattle.liquid_uses.specs.inside.OwnGrants.{own_grants, pairs_grants, row_grants};
 
+use crate::comparisons::arms_granted;
 use crate::grants::{
     all_whole, assigned, bindings_granted, bindings_whole, condition_granted, optional_whole,
-    source_granted, whole, window_granted, written,
+    present, source_granted, whole, window_granted, written,
 };
 use liquid_core::{Expression, Use, Uses, member_of};
-use liquid_syntax::{Arm, Binding, Each, For, Node, TableRow};
+use liquid_syntax::{Binding, Each, For, Node, TableRow};
 
 /// The nodes of a list, in all depths.
 pub(crate) fn nodes_granted(uses: &Uses, nodes: &[Node]) -> bool
@@ -39,7 +39,7 @@ fn node_granted(uses: &Uses, node: &Node) -> bool
         Node::Assign(name, chain) => assigned(uses, name.as_str(), chain),
         Node::If(condition, _) => condition_granted(uses, condition),
         Node::Unless(condition, _) => condition_granted(uses, condition),
-        Node::Case(target, arms, _) => whole(uses, target) && arms_whole(uses, arms),
+        Node::Case(target, arms, _) => present(uses, target) && arms_granted(uses, target, arms),
         Node::For(head, _) => for_granted(uses, head),
         Node::TableRow(head, _) => row_granted(uses, head),
         Node::Increment(name) => is_asked(uses, name.as_str()),
@@ -76,18 +76,6 @@ fn is_whole_or_unasked(uses: &Uses, name: &str) -> bool
         ),
         None => true,
     }
-}
-
-/// The values of the `when` parts of a `case`.
-fn arms_whole(uses: &Uses, arms: &[Arm]) -> bool
-    ensures { result ≡ true → arms_granted (uses_view uses.now) (arm_values arms.now) ≡ true }
-{
-    for arm in arms {
-        if !all_whole(uses, &arm.values) {
-            return false;
-        }
-    }
-    true
 }
 
 #[tactic(auto, unfolding(crate::specs::inside::OwnGrants::for_grants))]

@@ -71,11 +71,16 @@ class Finder:
         else:
             self.expression(source, Use(items=self.of_name(variable)))
 
+    def comparison(self, left, operator, right):
+        self.expression(left, seen_beside(operator, right))
+        self.expression(right, seen_beside(operator, left))
+
     def condition(self, condition):
         for atom in (atom for atoms in condition for atom in atoms):
-            self.expression(atom.left, THERE if atom.operator is None else WHOLE)
-            if atom.operator is not None:
-                self.expression(atom.right)
+            if atom.operator is None:
+                self.expression(atom.left, THERE)
+            else:
+                self.comparison(atom.left, atom.operator, atom.right)
 
     def nodes(self, nodes):
         for node in nodes:
@@ -103,9 +108,10 @@ class Finder:
         self.nodes(node.otherwise)
 
     def case(self, node):
-        self.expression(node.target)
+        self.expression(node.target, THERE)
         for values, body in node.parts:
-            self.expressions(values)
+            for value in values:
+                self.comparison(node.target, "==", value)
             self.nodes(body)
         self.nodes(node.otherwise)
 
@@ -130,6 +136,11 @@ class Finder:
         self.pairs(node.pairs)
         if node.each:
             self.source(node.each[1], node.each[0])
+
+
+def seen_beside(operator, other):
+    """What a comparison with the other value sees: a list or a map differs from a literal by its kind, but is looked into by `contains`."""
+    return THERE if operator != "contains" and isinstance(other, tree.Literal) else WHOLE
 
 
 RULES = {

@@ -24,16 +24,17 @@ use Rattle.liquid_syntax.specs.declared.node.Node.TheVariants.{For, TableRow, Br
 use Rattle.liquid_syntax.specs.declared.node.Node.TheVariants.{Increment, Decrement, Cycle}
 use Rattle.liquid_syntax.specs.declared.node.Node.TheVariants.{IfChanged, Include, JekyllInclude}
 use Rattle.liquid_syntax.specs.declared.node.Node.TheVariants.{Render, RenderEach}
-use Rattle.liquid_model.specs.Uses.{everything, asks_whether, present}
+use Rattle.liquid_model.specs.Uses.{everything, asks_whether, present, there}
 use Rattle.liquid_meaning.specs.FilterNeeds.{known_needs}
 use Rattle.liquid_meaning.specs.Reading.{Uses, all_of, bound_use, is_flat, grants, grants_all}
 use Rattle.liquid_meaning.specs.Reading.{grants_bindings, grants_chain, grants_condition}
-use Rattle.liquid_meaning.specs.Reading.{grants_optional, grants_source, grants_window}
+use Rattle.liquid_meaning.specs.Reading.{grants_optional, grants_source, grants_values}
+use Rattle.liquid_meaning.specs.Reading.{grants_window}
 
--- the values of the `when` parts of a `case`
-unfoldable pub arms_granted : Uses → List (List Expression) → Bool
-arms_granted U [] = true
-arms_granted U (values ∷ arms) = grants_all U values && arms_granted U arms
+-- the values of the `when` parts of a `case`, beside its target
+unfoldable pub arms_granted : Uses → Expression → List (List Expression) → Bool
+arms_granted U target [] = true
+arms_granted U target (values ∷ arms) = grants_values U target values && arms_granted U target arms
 
 unfoldable pub for_grants : Uses → loops.For → Bool
 for_grants U f = is_flat (U (codes "forloop"))
@@ -66,8 +67,8 @@ own_grants U Comment = true
 own_grants U (If condition bodies) = grants_condition U (condition_view condition)
 own_grants U (Unless condition bodies) = grants_condition U (condition_view condition)
 own_grants U (Capture name end) = true
-own_grants U (Case target arms end) = grants U (expression_view target) everything
-    && arms_granted U (arm_values arms.items)
+own_grants U (Case target arms end) = grants U (expression_view target) there
+    && arms_granted U (expression_view target) (arm_values arms.items)
 own_grants U (For f bodies) = for_grants U f.value
 own_grants U (TableRow r end) = row_grants U r.value
 own_grants U Break = true
