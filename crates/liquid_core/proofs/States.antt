@@ -12,7 +12,7 @@ use Rattle.liquid_model.specs.declared.value.Value.{Value}
 use Rattle.liquid_core.specs.declared.state.State.{State}
 use Rattle.liquid_core.specs.declared.state.Parts.{Parts}
 use Rattle.liquid_model.specs.Texts.{◌else◌}
-use Rattle.liquid_model.specs.View.{pairs_view}
+use Rattle.liquid_model.specs.View.{view, pairs_view}
 use Rattle.liquid_model.specs.Maps.{merged, empty}
 use Rattle.liquid_core.specs.Environment.{local_of, lookup}
 use Rattle.std.specs.Map.{lookup as entry_of}
@@ -26,7 +26,7 @@ use Rattle.liquid_core.specs.LoopFrames.{loop_name, loop_object, item_of, standi
 use Rattle.liquid_core.specs.declared.frame.Scope.TheVariants as variants
 use Rattle.liquid_core.specs.declared.frame.LoopFrame.{LoopFrame}
 use Rattle.liquid_core.specs.declared.frame.Scope.{Scope}
-use Rattle.liquid_core.specs.States.{data_held, held_beside, IsPlain, layers_of, environment_of, new_layers, with_scope_popped, with_scope_pushed, with_frame_at, scopes_behind, layers_with, with_interrupt, with_changed, with_cycle}
+use Rattle.liquid_core.specs.States.{data_held, held_beside, IsPlain, layers_of, environment_of, new_layers, with_scope_popped, with_scope_pushed, with_frame_at, scopes_behind, layers_with, with_interrupt, with_changed, with_assigned, with_cycle}
 use Rattle.std.proofs.lemmas.List.{reverse-append, length-append}
 use Rattle.std.proofs.Math.Seq.{take-append_seam}
 use Rattle.std.proofs.lemmas.Slice.Eq.{bytes_eq-Decides}
@@ -35,6 +35,7 @@ use Rattle.liquid_model.specs.Data.{Datum, Pairs, put}
 use Rattle.liquid_model.specs.Find.{value_at}
 use Rattle.liquid_model.specs.Maps.{Map, insert}
 use Rattle.liquid_model.proofs.Maps.{value_at_put, value_at_put_other}
+use Rattle.liquid_model.proofs.Views.{view-lookup}
 
 at_name : (b : Bool) (k q : Text) (d : Datum) (ps : Pairs) → bytes_eq k q ≡ b → value_at q (put k d ps) ≡ cond b (Some d) (value_at q ps)
 at_name true k q d ps e = let same : k ≡ q = (bytes_eq-Decides k q).0 e in ap (λ x. value_at x (put k d ps)) (sym same) ∙ value_at_put k d ps
@@ -307,6 +308,27 @@ changed_set s shown = refl
 pub cycle_of : (s : State) (group : Text) → (layers_of s).registers.cycles group ≡ get_by_text s.cycles group
 unfolding layers_of
 cycle_of s group = refl
+
+-- m is s's assigned variables after `insert` or `get_mut`, of which the premise is the clause `updates`
+viewed : (b : Bool) (v : Value) (o : Option Value) → option_map view (cond b (Some v) o) ≡ cond b (Some (view v)) (option_map view o)
+viewed true v o = refl
+viewed false v o = refl
+
+pub assigned_set : (s : State) (m : Outer) (name : Text) (v : Value) → UpdatesBy string_cmp (λ k. slice_cmp nat_cmp name (string_bytes k)) s.assigned m (Some v)
+    → layers_of (record s { assigned = m }) ≡ with_assigned name (view v) (layers_of s)
+unfolding layers_of map_of insert
+assigned_set s m name v h = λ i. record {
+  scopes = standing s.frames.items (reverse (map held s.scopes.items));
+  assigned = fun_ext (λ q. sym (view-lookup q m.entries) ∙ ap (option_map view) (btree_map_updates_text name s.assigned m (Some v) h q) ∙ viewed (bytes_eq name q) v (get_by_text s.assigned q) ∙ ap (cond (bytes_eq name q) (Some (view v))) (view-lookup q s.assigned.entries)) i;
+  counters = held s.counters;
+  globals = data_held s.«data»;
+  registers = record { interrupt = s.interrupt; cycles = (λ group. get_by_text s.cycles group); changed = option_map string_bytes s.changed };
+}
+
+-- no variable of that name was assigned
+pub none_assigned : (s : State) (name : Text) → get_by_text s.assigned name ≡ None → (layers_of s).assigned name ≡ None
+unfolding layers_of map_of
+none_assigned s name h = sym (view-lookup name s.assigned.entries) ∙ ap (option_map view) h
 
 -- m is s's map of cycles after `insert`, of which the premise is the clause `updates`
 pub cycle_set : (s : State) (m : BTreeMap (String Global) ℕ) (group : Text) (index : ℕ) → UpdatesBy string_cmp (λ k. slice_cmp nat_cmp group (string_bytes k)) s.cycles m (Some index)

@@ -176,6 +176,11 @@ leaf_is ns at to r m x req read same form n next there =
     let (bs, inner, made, ends) = known ns at r m n next there (node_within ns at to req) read same in
     made ∙ ap (λ y. y.head (bodies_of bs)) form
 
+pub leaf_next : (ns : List Node) (at to : ℕ) (r m : Node) (x : tree.Node) → IsNode ns at to → r ≡ get_or ns at r → r ≡ m → flat_of m ≡ leaf x → (n : tree.Node) (next : ℕ) → NodeAt ns at n next → at + 1 ≡ next
+leaf_next ns at to r m x req read same form n next there =
+    let (bs, inner, made, ends) = known ns at r m n next there (node_within ns at to req) read same in
+    sym (ends ∙ ap (λ y. last_end (at + 1) y.ends) form)
+
 pub leaf_performs : (setting : Setting) (depth : ℕ) (ns : List Node) (at to : ℕ) (r m : Node) (x : tree.Node) (res : Result (Unit {0}) Error) (a b : Configuration) → IsNode ns at to → r ≡ get_or ns at r → r ≡ m → flat_of m ≡ leaf x
     → Performs res (node_meant setting depth x) a b → NodePerforms setting depth ns at res a b
 leaf_performs setting depth ns at to r m x res a b req read same form h n next there =

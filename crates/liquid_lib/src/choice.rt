@@ -28,7 +28,7 @@ pub(crate) fn chosen_range(
     at: usize,
     condition: &Condition,
     bodies: TwoBodies,
-    places: Places<'_>,
+    places: &Places<'_>,
     state: &State<'_>,
 ) -> Result<(usize, usize)>
     requires body { IsRange nodes.now (at + 1) bodies.first_end }
@@ -155,7 +155,7 @@ fn else_range(
     nodes: &[Node],
     from: usize,
     to: usize,
-    places: Places<'_>,
+    places: &Places<'_>,
     state: &State<'_>,
 ) -> Result<(usize, usize)>
     requires { IsRange nodes.now from to }
@@ -183,7 +183,7 @@ fn else_range(
 fn elsif_holds(
     alloc: Global,
     condition: &Condition,
-    places: Places<'_>,
+    places: &Places<'_>,
     at: usize,
     state: &State<'_>,
 ) -> Result<bool>
@@ -192,6 +192,6 @@ fn elsif_holds(
 {
     match condition.holds(alloc, state) {
         Ok(holds) => Ok(holds),
-        Err(fault) => Err(located_elsif(alloc, places, at, condition, state, fault)),
+        Err(fault) => Err(located_elsif(alloc, *places, at, condition, state, fault)),
     }
 }

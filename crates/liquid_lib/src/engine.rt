@@ -69,6 +69,14 @@ pub(crate) fn run_range<'d, W: CountedWrite, H: NamedFilters>(
     let turn = out.turn(alloc)?;
     let mut at = from;
     while at < to {
+        if let Node::Text(text) = &nodes[at] {
+            run_text(alloc, context, text.as_str(), out, state)?;
+            if state.interrupt.is_some() {
+                return Ok(());
+            }
+            at += 1;
+            continue;
+        }
         if let Err(fault) = run_node(alloc, context, nodes, at, to, turn, out, state) {
             return Err(located(alloc, context, nodes, at, state, fault));
         }
@@ -114,7 +122,7 @@ fn run_node<'d, W: CountedWrite, H: NamedFilters>(
         Node::Raw(text) => run_raw(alloc, context, text.as_str(), out, state),
         Node::Comment => Ok(()),
         Node::If(condition, bodies) => {
-            let chosen = chosen_range(alloc, nodes, at, condition, *bodies, context.places, state);
+            let chosen = chosen_range(alloc, nodes, at, condition, *bodies, &context.places, state);
             run_chosen(alloc, context, nodes, at, to, chosen, out, state)
         }
         Node::Unless(condition, bodies) => {

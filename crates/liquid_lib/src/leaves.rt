@@ -124,5 +124,5 @@ pub(crate) fn run_assign<W: CountedWrite, H: NamedFilters>(
     ensures loops { loops_of state.new ≡ loops_of state.old }
 {
     let value = chain.evaluate_by(alloc, state, context.host)?;
-    state.set_global(String::from_str(alloc, name)?, value)
+    state.assign(alloc, name, value)
 }

@@ -41,7 +41,7 @@ use Rattle.liquid_lib.specs.Performs.{Meets, Performs, configuration_of, unit, W
 use Rattle.liquid_lib.specs.Sinks.{sink_of}
 use Rattle.liquid_lib.proofs.Cases.{the_case, case_performs, case_keeps, case_other, case_loud}
 use Rattle.liquid_lib.proofs.Choices.{chosen_inside, chosen_performs, refused_performs}
-use Rattle.liquid_lib.proofs.Going.{leaf_performs, leaf_keeps, leaf_other, one, one_performs, one_keeps, one_other, two, two_performs, two_keeps, two_other, going_fault, going_halt, going_node, going_on, going_end, going_past, kept_step, alone_step, node_before}
+use Rattle.liquid_lib.proofs.Going.{leaf_performs, leaf_keeps, leaf_other, one, one_performs, one_keeps, one_other, two, two_performs, two_keeps, two_other, going_fault, going_halt, going_node, going_on, going_end, going_past, kept_step, alone_step, leaf_next, node_before, node_within}
 use Rattle.liquid_lib.proofs.Interrupts.{interrupt_of, some_of, none_of}
 use Rattle.liquid_lib.proofs.Joined.{by_rule, bind_met, bind_faulted, buffered_met, buffered_faulted, buffered_memory, change_met, done_met, gives_merged, memory_at}
 use Rattle.liquid_lib.proofs.Kept.{kept_same, kept_after, kept_assigned, kept_interrupt}
@@ -74,6 +74,99 @@ run_range-returns-in_err-turn-clause-performs g t c f stood =
 pub run_range-returns-in_err-turn-clause-kept : goal.run_range-returns-in_err-turn-clause-kept
 run_range-returns-in_err-turn-clause-kept g t c f stood N names inside = kept_same N (layers_of c.args.state.now) (layers_of c.args.state.now) refl
 
+-- ---- a text of a range
+
+pub run_range-bounds-nodes-at : goal.run_range-bounds-nodes-at
+run_range-bounds-nodes-at g t c =
+    let place = configuration_of g.W.CountedWrite.contents g.W.CountedWrite.failure_count in
+    let is_node = going_node (setting_of g.H.NamedFilters.named c.args.context.now) c.args.context.now.depth c.args.nodes.now c.args.from c.loop-at.at c.args.to (place c.turn.new.self c.args.state.now) (place c.loop-at.out c.loop-at.state) c.requires c.loop-at.invariant.going c.loop-at-test.true in
+    node_within c.args.nodes.now c.loop-at.at c.args.to is_node
+
+pub run_range-offset_bounds-nodes-at : goal.run_range-offset_bounds-nodes-at
+run_range-offset_bounds-nodes-at g t c =
+    let place = configuration_of g.W.CountedWrite.contents g.W.CountedWrite.failure_count in
+    let is_node = going_node (setting_of g.H.NamedFilters.named c.args.context.now) c.args.context.now.depth c.args.nodes.now c.args.from c.loop-at.at c.args.to (place c.turn.new.self c.args.state.now) (place c.loop-at.out c.loop-at.state) c.requires c.loop-at.invariant.going c.loop-at-test.true in
+    let lt : c.loop-at.at < length c.args.nodes.now = node_within c.args.nodes.now c.loop-at.at c.args.to is_node in
+    search rules
+
+pub run_range-returns-in_err-run_text-clause-performs : goal.run_range-returns-in_err-run_text-clause-performs
+run_range-returns-in_err-run_text-clause-performs g t c f stood =
+    let place = configuration_of g.W.CountedWrite.contents g.W.CountedWrite.failure_count in
+    let is_node = going_node (setting_of g.H.NamedFilters.named c.args.context.now) c.args.context.now.depth c.args.nodes.now c.args.from c.loop-at.at c.args.to (place c.turn.new.self c.args.state.now) (place c.loop-at.out c.loop-at.state) c.requires c.loop-at.invariant.going c.loop-at-test.true in
+    let p = err_from_is_err_and c.from_residual-in_err-run_text.result c.from_residual-in_err-run_text.ensures.1 in
+    rw (p.1, p.2) (performs_from _ (nodes_meant (setting_of g.H.NamedFilters.named c.args.context.now) c.args.context.now.depth (nodes_of f)) _ _ (environment_of c.args.state.now) _ c.in_ok-turn.ensures.goes_on (going_fault (setting_of g.H.NamedFilters.named c.args.context.now) c.args.context.now.depth c.args.nodes.now c.args.from c.loop-at.at c.args.to c.in_err-run_text.field-0.0 (place c.turn.new.self c.args.state.now) (place c.loop-at.out c.loop-at.state) (place c.run_text.new.out c.run_text.new.state) c.loop-at.invariant.going c.loop-at-test.true
+    (leaf_performs (setting_of g.H.NamedFilters.named c.args.context.now) c.args.context.now.depth c.args.nodes.now c.loop-at.at c.args.to c.index-nodes-at.result _ (tree.plain (string_bytes c.in-Text.text)) (Err c.in_err-run_text.field-0.0) (place c.loop-at.out c.loop-at.state) (place c.run_text.new.out c.run_text.new.state) is_node c.index-nodes-at.is c.in-Text.is refl
+    (subst (λ x. Performs (Err c.in_err-run_text.field-0.0) (node_meant (setting_of g.H.NamedFilters.named c.args.context.now) c.args.context.now.depth (tree.plain x)) (place c.loop-at.out c.loop-at.state) (place c.run_text.new.out c.run_text.new.state)) c.as_str.ensures.value c.in_err-run_text.ensures.performs)) f stood))
+
+pub run_range-returns-in_err-run_text-clause-alone : goal.run_range-returns-in_err-run_text-clause-alone
+run_range-returns-in_err-run_text-clause-alone g t c f stood =
+    let place = configuration_of g.W.CountedWrite.contents g.W.CountedWrite.failure_count in
+    let is_node = going_node (setting_of g.H.NamedFilters.named c.args.context.now) c.args.context.now.depth c.args.nodes.now c.args.from c.loop-at.at c.args.to (place c.turn.new.self c.args.state.now) (place c.loop-at.out c.loop-at.state) c.requires c.loop-at.invariant.going c.loop-at-test.true in
+    alone_step (setting_of g.H.NamedFilters.named c.args.context.now) c.args.context.now.depth c.args.nodes.now c.args.from c.loop-at.at c.args.to (place c.turn.new.self c.args.state.now) (place c.loop-at.out c.loop-at.state) c.args.state.now c.loop-at.state c.run_text.new.state f stood c.loop-at.invariant.going c.loop-at-test.true
+    (leaf_other c.args.nodes.now c.loop-at.at c.args.to c.index-nodes-at.result _ (tree.plain (string_bytes c.in-Text.text)) c.loop-at.state c.run_text.new.state is_node c.index-nodes-at.is c.in-Text.is refl (λ no. absurd no)) (c.loop-at.invariant.alone f stood)
+
+pub run_range-returns-in_err-run_text-clause-kept : goal.run_range-returns-in_err-run_text-clause-kept
+run_range-returns-in_err-run_text-clause-kept g t c f stood =
+    let place = configuration_of g.W.CountedWrite.contents g.W.CountedWrite.failure_count in
+    let is_node = going_node (setting_of g.H.NamedFilters.named c.args.context.now) c.args.context.now.depth c.args.nodes.now c.args.from c.loop-at.at c.args.to (place c.turn.new.self c.args.state.now) (place c.loop-at.out c.loop-at.state) c.requires c.loop-at.invariant.going c.loop-at-test.true in
+    kept_step (setting_of g.H.NamedFilters.named c.args.context.now) c.args.context.now.depth c.args.nodes.now c.args.from c.loop-at.at c.args.to (place c.turn.new.self c.args.state.now) (place c.loop-at.out c.loop-at.state) c.args.state.now c.loop-at.state c.run_text.new.state f stood c.loop-at.invariant.going c.loop-at-test.true
+    (leaf_keeps (setting_of g.H.NamedFilters.named c.args.context.now) c.args.nodes.now c.loop-at.at c.args.to c.index-nodes-at.result _ (tree.plain (string_bytes c.in-Text.text)) c.loop-at.state c.run_text.new.state is_node c.index-nodes-at.is c.in-Text.is refl
+    (subst (λ x. Keeps (node_names (tree.plain x)) (setting_of g.H.NamedFilters.named c.args.context.now) c.loop-at.state c.run_text.new.state) c.as_str.ensures.value c.run_text.ensures.kept)) (c.loop-at.invariant.kept f stood)
+
+pub run_range-returns-in_err-run_text-clause-silent : goal.run_range-returns-in_err-run_text-clause-silent
+run_range-returns-in_err-run_text-clause-silent g t c f stood are =
+    let place = configuration_of g.W.CountedWrite.contents g.W.CountedWrite.failure_count in
+    let is_node = going_node (setting_of g.H.NamedFilters.named c.args.context.now) c.args.context.now.depth c.args.nodes.now c.args.from c.loop-at.at c.args.to (place c.turn.new.self c.args.state.now) (place c.loop-at.out c.loop-at.state) c.requires c.loop-at.invariant.going c.loop-at-test.true in
+    absurd (false≢true (silent_done c.args.nodes.now c.args.from c.loop-at.at c.args.to (Err c.in_err-run_text.field-0.0) f stood are c.loop-at.invariant.silent c.loop-at-test.true
+    (λ n next there silent. absurd (leaf_loud c.args.nodes.now c.loop-at.at c.args.to c.index-nodes-at.result _ (tree.plain (string_bytes c.in-Text.text)) is_node c.index-nodes-at.is c.in-Text.is refl (λ no. absurd no) n next there silent))))
+
+pub run_range-returns-then-is_some-clause-performs : goal.run_range-returns-then-is_some-clause-performs
+run_range-returns-then-is_some-clause-performs g t c f stood =
+    let place = configuration_of g.W.CountedWrite.contents g.W.CountedWrite.failure_count in
+    let is_node = going_node (setting_of g.H.NamedFilters.named c.args.context.now) c.args.context.now.depth c.args.nodes.now c.args.from c.loop-at.at c.args.to (place c.turn.new.self c.args.state.now) (place c.loop-at.out c.loop-at.state) c.requires c.loop-at.invariant.going c.loop-at-test.true in
+    let some = some_of c.run_text.new.state.interrupt (search rules) in
+    performs_from _ (nodes_meant (setting_of g.H.NamedFilters.named c.args.context.now) c.args.context.now.depth (nodes_of f)) _ _ (environment_of c.args.state.now) _ c.in_ok-turn.ensures.goes_on (going_halt (setting_of g.H.NamedFilters.named c.args.context.now) c.args.context.now.depth c.args.nodes.now c.args.from c.loop-at.at c.args.to _ _ some.0 (place c.turn.new.self c.args.state.now) (place c.loop-at.out c.loop-at.state) (place c.run_text.new.out c.run_text.new.state) c.loop-at.invariant.going c.loop-at-test.true
+    (leaf_performs (setting_of g.H.NamedFilters.named c.args.context.now) c.args.context.now.depth c.args.nodes.now c.loop-at.at c.args.to c.index-nodes-at.result _ (tree.plain (string_bytes c.in-Text.text)) (Ok c.in_ok-run_text.field-0) (place c.loop-at.out c.loop-at.state) (place c.run_text.new.out c.run_text.new.state) is_node c.index-nodes-at.is c.in-Text.is refl
+    (subst (λ x. Performs (Ok c.in_ok-run_text.field-0) (node_meant (setting_of g.H.NamedFilters.named c.args.context.now) c.args.context.now.depth (tree.plain x)) (place c.loop-at.out c.loop-at.state) (place c.run_text.new.out c.run_text.new.state)) c.as_str.ensures.value c.in_ok-run_text.ensures.performs)) (interrupt_of c.run_text.new.state _ some.1) f stood)
+
+pub run_range-returns-then-is_some-clause-alone : goal.run_range-returns-then-is_some-clause-alone
+run_range-returns-then-is_some-clause-alone g t c f stood =
+    let place = configuration_of g.W.CountedWrite.contents g.W.CountedWrite.failure_count in
+    let is_node = going_node (setting_of g.H.NamedFilters.named c.args.context.now) c.args.context.now.depth c.args.nodes.now c.args.from c.loop-at.at c.args.to (place c.turn.new.self c.args.state.now) (place c.loop-at.out c.loop-at.state) c.requires c.loop-at.invariant.going c.loop-at-test.true in
+    alone_step (setting_of g.H.NamedFilters.named c.args.context.now) c.args.context.now.depth c.args.nodes.now c.args.from c.loop-at.at c.args.to (place c.turn.new.self c.args.state.now) (place c.loop-at.out c.loop-at.state) c.args.state.now c.loop-at.state c.run_text.new.state f stood c.loop-at.invariant.going c.loop-at-test.true
+    (leaf_other c.args.nodes.now c.loop-at.at c.args.to c.index-nodes-at.result _ (tree.plain (string_bytes c.in-Text.text)) c.loop-at.state c.run_text.new.state is_node c.index-nodes-at.is c.in-Text.is refl (λ no. absurd no)) (c.loop-at.invariant.alone f stood)
+
+pub run_range-returns-then-is_some-clause-kept : goal.run_range-returns-then-is_some-clause-kept
+run_range-returns-then-is_some-clause-kept g t c f stood =
+    let place = configuration_of g.W.CountedWrite.contents g.W.CountedWrite.failure_count in
+    let is_node = going_node (setting_of g.H.NamedFilters.named c.args.context.now) c.args.context.now.depth c.args.nodes.now c.args.from c.loop-at.at c.args.to (place c.turn.new.self c.args.state.now) (place c.loop-at.out c.loop-at.state) c.requires c.loop-at.invariant.going c.loop-at-test.true in
+    kept_step (setting_of g.H.NamedFilters.named c.args.context.now) c.args.context.now.depth c.args.nodes.now c.args.from c.loop-at.at c.args.to (place c.turn.new.self c.args.state.now) (place c.loop-at.out c.loop-at.state) c.args.state.now c.loop-at.state c.run_text.new.state f stood c.loop-at.invariant.going c.loop-at-test.true
+    (leaf_keeps (setting_of g.H.NamedFilters.named c.args.context.now) c.args.nodes.now c.loop-at.at c.args.to c.index-nodes-at.result _ (tree.plain (string_bytes c.in-Text.text)) c.loop-at.state c.run_text.new.state is_node c.index-nodes-at.is c.in-Text.is refl
+    (subst (λ x. Keeps (node_names (tree.plain x)) (setting_of g.H.NamedFilters.named c.args.context.now) c.loop-at.state c.run_text.new.state) c.as_str.ensures.value c.run_text.ensures.kept)) (c.loop-at.invariant.kept f stood)
+
+pub run_range-loop-at-preserved-in-Text : goal.run_range-loop-at-preserved-in-Text
+run_range-loop-at-preserved-in-Text g t c =
+    let place = configuration_of g.W.CountedWrite.contents g.W.CountedWrite.failure_count in
+    let is_node = going_node (setting_of g.H.NamedFilters.named c.args.context.now) c.args.context.now.depth c.args.nodes.now c.args.from c.loop-at.at c.args.to (place c.turn.new.self c.args.state.now) (place c.loop-at.out c.loop-at.state) c.requires c.loop-at.invariant.going c.loop-at-test.true in
+    let ends = leaf_next c.args.nodes.now c.loop-at.at c.args.to c.index-nodes-at.result _ (tree.plain (string_bytes c.in-Text.text)) is_node c.index-nodes-at.is c.in-Text.is refl in
+    let none = none_of c.run_text.new.state.interrupt (search rules) in
+    record {
+      ordered = omega (arith, c.loop-at.invariant.ordered);
+      going = going_on (setting_of g.H.NamedFilters.named c.args.context.now) c.args.context.now.depth c.args.nodes.now c.args.from c.loop-at.at c.args.to (c.loop-at.at + 1) _ (place c.turn.new.self c.args.state.now) (place c.loop-at.out c.loop-at.state) (place c.run_text.new.out c.run_text.new.state) c.loop-at.invariant.going c.loop-at-test.true
+          (leaf_performs (setting_of g.H.NamedFilters.named c.args.context.now) c.args.context.now.depth c.args.nodes.now c.loop-at.at c.args.to c.index-nodes-at.result _ (tree.plain (string_bytes c.in-Text.text)) (Ok c.in_ok-run_text.field-0) (place c.loop-at.out c.loop-at.state) (place c.run_text.new.out c.run_text.new.state) is_node c.index-nodes-at.is c.in-Text.is refl
+          (subst (λ x. Performs (Ok c.in_ok-run_text.field-0) (node_meant (setting_of g.H.NamedFilters.named c.args.context.now) c.args.context.now.depth (tree.plain x)) (place c.loop-at.out c.loop-at.state) (place c.run_text.new.out c.run_text.new.state)) c.as_str.ensures.value c.in_ok-run_text.ensures.performs)) (interrupt_of c.run_text.new.state _ none) ends;
+      kept = λ f stood. kept_step (setting_of g.H.NamedFilters.named c.args.context.now) c.args.context.now.depth c.args.nodes.now c.args.from c.loop-at.at c.args.to (place c.turn.new.self c.args.state.now) (place c.loop-at.out c.loop-at.state) c.args.state.now c.loop-at.state c.run_text.new.state f stood c.loop-at.invariant.going c.loop-at-test.true
+          (leaf_keeps (setting_of g.H.NamedFilters.named c.args.context.now) c.args.nodes.now c.loop-at.at c.args.to c.index-nodes-at.result _ (tree.plain (string_bytes c.in-Text.text)) c.loop-at.state c.run_text.new.state is_node c.index-nodes-at.is c.in-Text.is refl
+          (subst (λ x. Keeps (node_names (tree.plain x)) (setting_of g.H.NamedFilters.named c.args.context.now) c.loop-at.state c.run_text.new.state) c.as_str.ensures.value c.run_text.ensures.kept)) (c.loop-at.invariant.kept f stood);
+      alone = λ f stood. alone_step (setting_of g.H.NamedFilters.named c.args.context.now) c.args.context.now.depth c.args.nodes.now c.args.from c.loop-at.at c.args.to (place c.turn.new.self c.args.state.now) (place c.loop-at.out c.loop-at.state) c.args.state.now c.loop-at.state c.run_text.new.state f stood c.loop-at.invariant.going c.loop-at-test.true
+          (leaf_other c.args.nodes.now c.loop-at.at c.args.to c.index-nodes-at.result _ (tree.plain (string_bytes c.in-Text.text)) c.loop-at.state c.run_text.new.state is_node c.index-nodes-at.is c.in-Text.is refl (λ no. absurd no)) (c.loop-at.invariant.alone f stood);
+      silent = silent_next c.args.nodes.now c.args.from c.loop-at.at c.args.to (c.loop-at.at + 1) c.loop-at.invariant.silent c.loop-at-test.true ends;
+      loops = c.run_text.ensures.loops ∙ c.loop-at.invariant.loops;
+      same_writer = c.run_text.ensures.same_writer ∙ c.loop-at.invariant.same_writer;
+    }
+
+-- ---- another node of a range
+
 pub run_range-run_node-requires : goal.run_range-run_node-requires
 run_range-run_node-requires g t c κs within =
     let place = configuration_of g.W.CountedWrite.contents g.W.CountedWrite.failure_count in
@@ -94,19 +187,19 @@ run_range-returns-in-Err-clause-kept g t c f stood =
     let place = configuration_of g.W.CountedWrite.contents g.W.CountedWrite.failure_count in
     kept_step (setting_of g.H.NamedFilters.named c.args.context.now) c.args.context.now.depth c.args.nodes.now c.args.from c.loop-at.at c.args.to (place c.turn.new.self c.args.state.now) (place c.loop-at.out c.loop-at.state) c.args.state.now c.loop-at.state c.run_node.new.state f stood c.loop-at.invariant.going c.loop-at-test.true c.run_node.ensures.kept (c.loop-at.invariant.kept f stood)
 
-pub run_range-returns-then-is_some-clause-performs : goal.run_range-returns-then-is_some-clause-performs
-run_range-returns-then-is_some-clause-performs g t c f stood =
+pub run_range-returns-then-is_some-2-clause-performs : goal.run_range-returns-then-is_some-2-clause-performs
+run_range-returns-then-is_some-2-clause-performs g t c f stood =
     let place = configuration_of g.W.CountedWrite.contents g.W.CountedWrite.failure_count in
     let some = some_of c.run_node.new.state.interrupt (search rules) in
-    performs_from _ (nodes_meant (setting_of g.H.NamedFilters.named c.args.context.now) c.args.context.now.depth (nodes_of f)) _ _ (environment_of c.args.state.now) _ c.in_ok-turn.ensures.goes_on ((going_halt (setting_of g.H.NamedFilters.named c.args.context.now) c.args.context.now.depth c.args.nodes.now c.args.from c.loop-at.at c.args.to _ _ some.0 (place c.turn.new.self c.args.state.now) (place c.loop-at.out c.loop-at.state) (place c.run_node.new.out c.run_node.new.state) c.loop-at.invariant.going c.loop-at-test.true c.in_default.ensures.performs (interrupt_of c.run_node.new.state _ some.1)) f stood)
+    performs_from _ (nodes_meant (setting_of g.H.NamedFilters.named c.args.context.now) c.args.context.now.depth (nodes_of f)) _ _ (environment_of c.args.state.now) _ c.in_ok-turn.ensures.goes_on ((going_halt (setting_of g.H.NamedFilters.named c.args.context.now) c.args.context.now.depth c.args.nodes.now c.args.from c.loop-at.at c.args.to _ _ some.0 (place c.turn.new.self c.args.state.now) (place c.loop-at.out c.loop-at.state) (place c.run_node.new.out c.run_node.new.state) c.loop-at.invariant.going c.loop-at-test.true c.in_default-run_node.ensures.performs (interrupt_of c.run_node.new.state _ some.1)) f stood)
 
-pub run_range-returns-then-is_some-clause-alone : goal.run_range-returns-then-is_some-clause-alone
-run_range-returns-then-is_some-clause-alone g t c f stood =
+pub run_range-returns-then-is_some-2-clause-alone : goal.run_range-returns-then-is_some-2-clause-alone
+run_range-returns-then-is_some-2-clause-alone g t c f stood =
     let place = configuration_of g.W.CountedWrite.contents g.W.CountedWrite.failure_count in
     alone_step (setting_of g.H.NamedFilters.named c.args.context.now) c.args.context.now.depth c.args.nodes.now c.args.from c.loop-at.at c.args.to (place c.turn.new.self c.args.state.now) (place c.loop-at.out c.loop-at.state) c.args.state.now c.loop-at.state c.run_node.new.state f stood c.loop-at.invariant.going c.loop-at-test.true c.run_node.ensures.alone (c.loop-at.invariant.alone f stood)
 
-pub run_range-returns-then-is_some-clause-kept : goal.run_range-returns-then-is_some-clause-kept
-run_range-returns-then-is_some-clause-kept g t c f stood =
+pub run_range-returns-then-is_some-2-clause-kept : goal.run_range-returns-then-is_some-2-clause-kept
+run_range-returns-then-is_some-2-clause-kept g t c f stood =
     let place = configuration_of g.W.CountedWrite.contents g.W.CountedWrite.failure_count in
     kept_step (setting_of g.H.NamedFilters.named c.args.context.now) c.args.context.now.depth c.args.nodes.now c.args.from c.loop-at.at c.args.to (place c.turn.new.self c.args.state.now) (place c.loop-at.out c.loop-at.state) c.args.state.now c.loop-at.state c.run_node.new.state f stood c.loop-at.invariant.going c.loop-at-test.true c.run_node.ensures.kept (c.loop-at.invariant.kept f stood)
 
@@ -129,7 +222,7 @@ run_range-loop-at-preserved g t c =
     let none = none_of c.run_node.new.state.interrupt (search rules) in
     record {
       ordered = omega arith;
-      going = going_on (setting_of g.H.NamedFilters.named c.args.context.now) c.args.context.now.depth c.args.nodes.now c.args.from c.loop-at.at c.args.to c.next_after-at.result _ (place c.turn.new.self c.args.state.now) (place c.loop-at.out c.loop-at.state) (place c.run_node.new.out c.run_node.new.state) c.loop-at.invariant.going c.loop-at-test.true c.in_default.ensures.performs (interrupt_of c.run_node.new.state _ none) c.next_after-at.ensures;
+      going = going_on (setting_of g.H.NamedFilters.named c.args.context.now) c.args.context.now.depth c.args.nodes.now c.args.from c.loop-at.at c.args.to c.next_after-at.result _ (place c.turn.new.self c.args.state.now) (place c.loop-at.out c.loop-at.state) (place c.run_node.new.out c.run_node.new.state) c.loop-at.invariant.going c.loop-at-test.true c.in_default-run_node.ensures.performs (interrupt_of c.run_node.new.state _ none) c.next_after-at.ensures;
       kept = λ f stood. kept_step (setting_of g.H.NamedFilters.named c.args.context.now) c.args.context.now.depth c.args.nodes.now c.args.from c.loop-at.at c.args.to (place c.turn.new.self c.args.state.now) (place c.loop-at.out c.loop-at.state) c.args.state.now c.loop-at.state c.run_node.new.state f stood c.loop-at.invariant.going c.loop-at-test.true c.run_node.ensures.kept (c.loop-at.invariant.kept f stood);
       alone = λ f stood. alone_step (setting_of g.H.NamedFilters.named c.args.context.now) c.args.context.now.depth c.args.nodes.now c.args.from c.loop-at.at c.args.to (place c.turn.new.self c.args.state.now) (place c.loop-at.out c.loop-at.state) c.args.state.now c.loop-at.state c.run_node.new.state f stood c.loop-at.invariant.going c.loop-at-test.true c.run_node.ensures.alone (c.loop-at.invariant.alone f stood);
       silent = silent_next c.args.nodes.now c.args.from c.loop-at.at c.args.to c.next_after-at.result c.loop-at.invariant.silent c.loop-at-test.true c.next_after-at.ensures;
@@ -1396,6 +1489,9 @@ run_range-returns-in-Err-clause-silent g t c f stood are =
 
 pub run_range-returns-then-is_some-clause-silent : goal.run_range-returns-then-is_some-clause-silent
 run_range-returns-then-is_some-clause-silent g t c f stood are = inl refl
+
+pub run_range-returns-then-is_some-2-clause-silent : goal.run_range-returns-then-is_some-2-clause-silent
+run_range-returns-then-is_some-2-clause-silent g t c f stood are = inl refl
 
 pub run_range-returns-clause-silent : goal.run_range-returns-clause-silent
 run_range-returns-clause-silent g t c f stood are = inl refl

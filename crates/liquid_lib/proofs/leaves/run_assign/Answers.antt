@@ -1,4 +1,3 @@
-use Rattle.std.proofs.Common.{subst}
 use Rattle.std.proofs.lemmas.Result.{err_from_is_err_and}
 use Rattle.liquid_model.specs.Answer.{IsValueOrMemory}
 use Rattle.liquid_model.specs.View.{view}
@@ -10,7 +9,7 @@ use Rattle.liquid_evaluation.specs.Names.{node_names}
 use Rattle.liquid_meaning.specs.Runs.{change}
 use Rattle.liquid_meaning.specs.Effects.{assigned_to}
 use Rattle.liquid_lib.specs.Performs.{unit, configuration_of}
-use Rattle.liquid_lib.proofs.Joined.{by_rule, given_met, refused_met, memory_at, change_met, gives_merged}
+use Rattle.liquid_lib.proofs.Joined.{by_rule, given_met, refused_met, change_met, gives_merged}
 use Rattle.liquid_lib.proofs.Kept.{kept_assigned}
 use Rattle.liquid_meaning.proofs.Rules.{assign_rule}
 use Rattle.liquid_lib.proofs.leaves.run_assign.Goals as goal
@@ -20,24 +19,17 @@ returns-in_err-value-clause-performs g c =
     let p = err_from_is_err_and c.from_residual.result c.from_residual.ensures.1 in
     rw (p.1, p.2) (by_rule (assign_rule _ _ _ _) (refused_met {V = Value} view unit _ _ _ _ c.in_err-value.ensures))
 
-pub returns-in_err-from_str-clause-performs : goal.returns-in_err-from_str-clause-performs
-returns-in_err-from_str-clause-performs g c =
-    let p = err_from_is_err_and c.from_residual-in_err-from_str.result c.from_residual-in_err-from_str.ensures.1 in
-    rw p.1 (memory_at _ p.2)
-
 pub returns-clause-performs : goal.returns-clause-performs
 returns-clause-performs g c =
     let place = configuration_of g.W.CountedWrite.contents g.W.CountedWrite.failure_count in
     let d = view c.in_ok-value.value in
-    let stored : IsValueOrMemory (λ _. layers_of c.set_global.new.self) c.set_global.result (with_assigned c.args.name.now d (layers_of c.args.state.now)) =
-    subst (λ n. IsValueOrMemory (λ _. layers_of c.set_global.new.self) c.set_global.result (with_assigned n d (layers_of c.args.state.now))) c.in_ok-from_str.ensures.ok c.set_global.ensures.set in
-    by_rule (assign_rule _ _ _ _) (given_met {V = Value} view unit c.in_ok-value.value c.set_global.result (chain_value (answers_with (g.H.NamedFilters.named c.args.context.now.host.now)) (chain_view c.args.chain.now)) (λ x. change (assigned_to c.args.name.now x)) (place c.args.out.now c.args.state.now) (place c.args.out.now c.set_global.new.self)
-    c.in_ok-value.ensures (change_met c.set_global.result (assigned_to c.args.name.now d) _ (environment_of c.args.state.now) _ (gives_merged c.set_global.result _ _ stored)))
+    let stored : IsValueOrMemory (λ _. layers_of c.assign.new.self) c.assign.result (with_assigned c.args.name.now d (layers_of c.args.state.now)) = c.assign.ensures.set in
+    by_rule (assign_rule _ _ _ _) (given_met {V = Value} view unit c.in_ok-value.value c.assign.result (chain_value (answers_with (g.H.NamedFilters.named c.args.context.now.host.now)) (chain_view c.args.chain.now)) (λ x. change (assigned_to c.args.name.now x)) (place c.args.out.now c.args.state.now) (place c.args.out.now c.assign.new.self)
+    c.in_ok-value.ensures (change_met c.assign.result (assigned_to c.args.name.now d) _ (environment_of c.args.state.now) _ (gives_merged c.assign.result _ _ stored)))
 
 pub returns-clause-kept : goal.returns-clause-kept
 unfolding node_names
 returns-clause-kept g c N within inside =
     let d = view c.in_ok-value.value in
-    let stored : IsValueOrMemory (λ _. layers_of c.set_global.new.self) c.set_global.result (with_assigned c.args.name.now d (layers_of c.args.state.now)) =
-    subst (λ n. IsValueOrMemory (λ _. layers_of c.set_global.new.self) c.set_global.result (with_assigned n d (layers_of c.args.state.now))) c.in_ok-from_str.ensures.ok c.set_global.ensures.set in
-    kept_assigned N c.args.name.now d (layers_of c.args.state.now) (layers_of c.set_global.new.self) c.set_global.result within.0 stored c.set_global.ensures.unchanged
+    let stored : IsValueOrMemory (λ _. layers_of c.assign.new.self) c.assign.result (with_assigned c.args.name.now d (layers_of c.args.state.now)) = c.assign.ensures.set in
+    kept_assigned N c.args.name.now d (layers_of c.args.state.now) (layers_of c.assign.new.self) c.assign.result within.0 stored c.assign.ensures.unchanged
