@@ -11,7 +11,7 @@ from ._owner import Owner, Shared, utf8
 from ._values import Conversions, encoded
 
 # what stands for data in a call
-Facts = Union["Data", AnyMapping[str, Any], str, None]
+DataLike = Union["Data", AnyMapping[str, Any], str, None]
 
 
 class Data(Shared):
@@ -55,7 +55,7 @@ def _read(made: Owner, data: Mapping[str, Any] | str, how: Conversions) -> Owner
     return made
 
 
-def data_of(data: Facts, names: Mapping[str, Any], how: Conversions) -> Owner:
+def data_of(data: DataLike, names: Mapping[str, Any], how: Conversions) -> Owner:
     """The data of a call, with names on top, which are the call's own unless they were read before. A handle that holds nothing stands
     for none."""
     if not names:

@@ -10,7 +10,7 @@ from ._filters import Run, Table
 from ._library import Handle, Limits, library
 from ._owner import TEXT, Owner, Shared, checked, lent, part, whole
 from ._settings import Missing, Settings, missing_of
-from .data import Facts, data_of
+from .data import DataLike, data_of
 from .errors import MESSAGES, LiquidError
 from .language import Language, parse
 from .partials import Others, Partials, partials_of
@@ -63,7 +63,7 @@ class Template(Shared):
 
     def page(
         self,
-        data: Facts = None,
+        data: DataLike = None,
         partials: Others = None,
         depth: int | None = None,
         *,
@@ -95,12 +95,12 @@ class Template(Shared):
         others = partials_of(usual.partials if partials is None else partials)
         asked = usual.missing if missing is None else missing_of(missing)
         data = self._with_missing(data, names, others, asked) if callable(asked) else data
-        facts = data_of(data, names, usual.how)
+        read = data_of(data, names, usual.how)
         if asked == "nil":
-            facts = self._completed(facts, others)
+            read = self._completed(read, others)
 
         def render(page: Owner, table: Table | None = None) -> int:
-            with lent(self, facts, others) as given:
+            with lent(self, read, others) as given:
                 if table is None:
                     answer: int = library.bikleinu_render_within(*given, depth, limits, page._handle)
                 else:
@@ -154,7 +154,7 @@ class Template(Shared):
             self._known[what] = known = partials, version, made
         return known[2]
 
-    def _with_missing(self, data: Facts, names: Mapping[str, Any], others: Owner, missing: Callable[[str], Any]) -> Facts:
+    def _with_missing(self, data: DataLike, names: Mapping[str, Any], others: Owner, missing: Callable[[str], Any]) -> DataLike:
         """A mapping with what the function answers to names that it lacks."""
         if not (data is None or isinstance(data, Mapping)):
             return data
@@ -162,17 +162,17 @@ class Template(Shared):
             lacking = [name for name in _texts(found) if name not in names and name not in (data or ())]
         return {**(data or {}), **{name: missing(name) for name in lacking}}
 
-    def _completed(self, facts: Owner, others: Owner) -> Owner:
+    def _completed(self, data: Owner, others: Owner) -> Owner:
         """The data with nil where the template asks for what they lack."""
         made = Owner()
-        with lent(facts, self._found("paths", others)) as given:
+        with lent(data, self._found("paths", others)) as given:
             answer = library.bikleinu_complete(*given, made._handle)
         made._need(answer)
         return made
 
     def render(
         self,
-        data: Facts = None,
+        data: DataLike = None,
         partials: Others = None,
         depth: int | None = None,
         *,
@@ -212,7 +212,7 @@ def _limits(levels: int | None, max_bytes: int | None, max_turns: int | None) ->
 
 def render(
     source: str,
-    data: Facts = None,
+    data: DataLike = None,
     partials: Others = None,
     depth: int | None = None,
     *,

@@ -152,8 +152,8 @@ impl Template {
 
     fn render_by(&self, data: &Data, partials: *mut Handle, depth: u32, limits: Limits) -> Result<Page, LiquidError> {
         let limits = std::ptr::addr_of!(limits.0);
-        let (lent, facts) = (self.owner.lend()?, data.0.lend()?);
-        let given = (lent.at(), facts.at(), partials);
+        let (lent, data) = (self.owner.lend()?, data.0.lend()?);
+        let given = (lent.at(), data.at(), partials);
         if self.filters.is_empty() {
             let page = Owner::new();
             // SAFETY: the handles are owners', four of them, and the limits are there for as long as the call.

@@ -27,7 +27,7 @@ enum Source<R> {
 
 /// The data of a record.
 #[derive(Drop)]
-pub enum Facts<'r> {
+pub enum RecordData<'r> {
     /// As a text of JSON.
     Text(&'r str),
     Data(Object),
@@ -72,14 +72,18 @@ impl<R: Read + Drop> Records<R> {
     }
 
     /// Its data, or why it has none.
-    pub fn facts(&self, alloc: Global, form: DataForm) -> Result<Result<Facts<'_>, Report>, Stop> {
+    pub fn data(
+        &self,
+        alloc: Global,
+        form: DataForm,
+    ) -> Result<Result<RecordData<'_>, Report>, Stop> {
         let data = match &self.source {
             Source::Lines(lines) => {
                 let Ok(text) = str::from_utf8(lines.line()) else {
                     return Ok(Err(Report::NotUtf8));
                 };
                 if !form.decimals_as_texts && !form.dates {
-                    return Ok(Ok(Facts::Text(text)));
+                    return Ok(Ok(RecordData::Text(text)));
                 }
                 data_in_form(alloc, text, form)
             }
@@ -89,7 +93,7 @@ impl<R: Read + Drop> Records<R> {
             },
         };
         match data {
-            Ok(data) => Ok(Ok(Facts::Data(data))),
+            Ok(data) => Ok(Ok(RecordData::Data(data))),
             Err(fault) => match fault.kind {
                 ErrorKind::Memory => Err(Stop::from(fault)),
                 _ => Ok(Err(Report::NoPage(Why::NoData(fault)))),

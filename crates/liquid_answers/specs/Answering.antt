@@ -15,7 +15,7 @@ use Rattle.liquid_answers.specs.declared.page.Answered.TheVariants as answered
 -- The page over the table's answers. It doesn't end by `Memory`, as it would at a call that the
 -- table lacks, so the run met none. Or calls that the table lacks.
 abbrev pub IsAnswered : Answers → ℕ → List (Text × Nodes) → Map Datum → Nodes → Answered → Type 0
-IsAnswered table depth partials facts nodes (answered.Page p) =
-    PageWithin (hosted_page (answers_by false table) depth partials facts nodes) p
+IsAnswered table depth partials «data» nodes (answered.Page p) =
+    PageWithin (hosted_page (answers_by false table) depth partials «data» nodes) p
     × EndsOtherwise p.page
-IsAnswered table depth partials facts nodes (answered.Lacking calls) = IsLacking table calls
+IsAnswered table depth partials «data» nodes (answered.Lacking calls) = IsLacking table calls

@@ -33,16 +33,16 @@ pub fn render_page_answered(
     template: &Template,
     table: &Answers,
     around: Surroundings<'_>,
-    facts: &Object,
+    data: &Object,
 ) -> Result<Answered>
     ensures answered { IfOk result (IsAnswered table.now around.entry.depth
-        (partials_of around.entry.partials.now) (held facts.now) (tree_of template.now)) }
+        (partials_of around.entry.partials.now) (held «data».now) (tree_of template.now)) }
     ensures memory { IfErr result (λ e. e.kind ≡ ErrorKind.Memory) }
 {
     let filters = TableFilters { table, asked: None };
-    match render_hosted_page(alloc, template, &filters, around, facts) {
+    match render_hosted_page(alloc, template, &filters, around, data) {
         Ok(page) => Ok(Answered::Page(page)),
-        Err(refused) => match lacking_in(alloc, template, table, around, facts)? {
+        Err(refused) => match lacking_in(alloc, template, table, around, data)? {
             Some(lacking) => Ok(Answered::Lacking(lacking)),
             None => Err(refused),
         },
@@ -55,7 +55,7 @@ fn lacking_in(
     template: &Template,
     table: &Answers,
     around: Surroundings<'_>,
-    facts: &Object,
+    data: &Object,
 ) -> Result<Option<Lacking>>
     ensures lacking { IfOk result (λ it. IfSome it (IsLacking table.now)) }
     ensures memory { IfErr result (λ e. e.kind ≡ ErrorKind.Memory) }
@@ -63,7 +63,7 @@ fn lacking_in(
     let asked = RefCell::new(Asked::new(alloc));
     let lent = Some(&asked);
     let filters = TableFilters { table, asked: lent };
-    drop(render_hosted_page(alloc, template, &filters, around, facts));
+    drop(render_hosted_page(alloc, template, &filters, around, data));
     let calls = told(alloc, asked.into_inner(), table);
     if calls.is_empty() {
         return Ok(None);
