@@ -172,8 +172,9 @@ uint32_t bikleinu_complete(bikleinu_handle *data, bikleinu_handle *paths, biklei
 
 /* Reads data as bikleinu_data does, but builds no more of them than such paths ask for. Of a long text of which a template sees little that
  * takes less time and memory. The text is refused as by bikleinu_data, also for what no path asks for. The page of a template and its
- * partials whose paths these are is the same as over all of the data, whatever filters answer and however deep partials may nest. Any
- * other page is one over what was read, and may end at a name that the text has and the paths don't ask for. */
+ * partials whose paths these are is the same as over all of the data, whatever filters answer and however deep partials may nest: its
+ * text, and the kind of the fault that it ends by. The message of that fault is about what was read, so it may not know of a similar
+ * name. Any other page is one over what was read, and may end at a name that the text has and the paths don't ask for. */
 uint32_t bikleinu_data_for(const uint8_t *json, size_t length, bikleinu_handle *paths, bikleinu_handle *made);
 
 /* Filters of the caller's.

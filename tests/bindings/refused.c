@@ -95,6 +95,14 @@ static bool is_same(int made, uint32_t answer, uint32_t first, text left) {
     return same;
 }
 
+/* The same text and the same end as the page had at first. Its message may say something else. */
+static bool is_same_page(uint32_t answer, uint32_t first, text left, size_t length) {
+    text now = shown(PAGE);
+    bool same = answer == first && bikleinu_length(&held[PAGE], BIKLEINU_TEXT) == length && !memcmp(now.at, left.at, length);
+    free(now.at);
+    return same;
+}
+
 /* Makes a call, with each of its requests refused in turn. A call that takes something of its handles can't be made again as long as
  * it isn't refused, so it is made once. */
 static uint32_t each(const char *name, uint32_t (*call)(const row *), const row *it, int made, bool takes) {
@@ -169,11 +177,12 @@ int main(void) {
         if (put_partials(count) && well) {
             uint32_t ended = each("render", render, &it, PAGE, false);
             text page = shown(PAGE);
+            size_t length = bikleinu_length(&held[PAGE], BIKLEINU_TEXT);
             each("share", share, &it, SHARED, true);
             if (!is_same(PAGE, render_shared(&it), ended, page)) told("render of what is shared", 0, ended, "and another page");
             each("paths", find_paths, &it, PATHS, false);
             each("data for the template", read_for, &it, READ, false);
-            if (!is_same(PAGE, render_read(&it), ended, page)) told("render of what is read for it", 0, ended, "and another page");
+            if (!is_same_page(render_read(&it), ended, page, length)) told("render of what is read for it", 0, ended, "and another page");
             free(page.at);
             each("complete", complete, &it, COMPLETED, false);
         }

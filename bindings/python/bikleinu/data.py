@@ -3,11 +3,12 @@ from __future__ import annotations
 
 from collections.abc import Callable, Mapping
 from datetime import tzinfo
+from functools import partial
 from typing import Any, Union
 from typing import Mapping as AnyMapping
 
 from ._library import library
-from ._owner import Owner, Shared, lent, utf8
+from ._owner import Owner, Shared, made_by, utf8
 from ._values import Conversions, encoded
 
 # what stands for data in a call
@@ -50,12 +51,8 @@ def _read(made: Owner, data: Mapping[str, Any] | str, how: Conversions, paths: O
     """Reads data, where there are paths no further than these ask."""
     text = utf8(data) if isinstance(data, str) else encoded(data, how)
     if paths is None:
-        made._need(library.bikleinu_data(text, len(text), made._handle))
-        return made
-    with lent(paths) as (asked,):
-        answer = library.bikleinu_data_for(text, len(text), asked, made._handle)
-    made._need(answer)
-    return made
+        return made_by(partial(library.bikleinu_data, text, len(text)), made)
+    return made_by(partial(library.bikleinu_data_for, text, len(text)), made, paths)
 
 
 def data_of(data: DataLike, names: Mapping[str, Any], how: Conversions) -> Owner:

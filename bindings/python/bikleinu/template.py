@@ -8,7 +8,7 @@ from typing import Any, Optional
 
 from ._filters import Run, Table
 from ._library import Handle, Limits, library
-from ._owner import TEXT, Owner, Shared, checked, lent, part, whole
+from ._owner import TEXT, Owner, Shared, checked, lent, made_by, part, whole
 from ._settings import Missing, Settings, missing_of
 from .data import Data, DataLike, data_of
 from .errors import MESSAGES, LiquidError
@@ -139,7 +139,7 @@ class Template(Shared):
 
     def data(self, data: Mapping[str, Any] | str, partials: Others = None) -> Data:
         """Data of which no more is built than this template and its partials, as they are now, can see (see paths). A page over them is
-        the same as over all of the data; another template may lack what it asks for.
+        the same as over all of the data, up to the words of a fault; another template may lack what it asks for.
 
             >>> import bikleinu
             >>> template = bikleinu.Template("{% for p in products %}{{ p.title }};{% endfor %}")
@@ -162,10 +162,7 @@ class Template(Shared):
         partials = others if isinstance(others, Partials) else None
         known, version = self._known.get(what), partials._version if partials else 0
         if known is None or known[0] is not partials or known[1] != version:
-            find, made = getattr(library, f"bikleinu_{what}"), Shared()
-            with lent(self, others) as given:
-                answer = find(*given, made._handle)
-            made._need(answer)
+            made = made_by(getattr(library, f"bikleinu_{what}"), Shared(), self, others)
             self._known[what] = known = partials, version, made
         return known[2]
 
@@ -179,11 +176,7 @@ class Template(Shared):
 
     def _completed(self, data: Owner, others: Owner) -> Owner:
         """The data with nil where the template asks for what they lack."""
-        made = Owner()
-        with lent(data, self._found("paths", others)) as given:
-            answer = library.bikleinu_complete(*given, made._handle)
-        made._need(answer)
-        return made
+        return made_by(library.bikleinu_complete, Owner(), data, self._found("paths", others))
 
     def render(
         self,

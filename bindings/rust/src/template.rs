@@ -210,8 +210,8 @@ impl Data {
     }
 
     /// As [`from_json`](Data::from_json), but no more is built than the paths ask for. Of a long text of which a template sees little that
-    /// takes less time and memory. The page of a template and partials whose paths these are is the same as over all of the data; another
-    /// template may lack what it asks for.
+    /// takes less time and memory. The page of a template and partials whose paths these are is the same as over all of the data, up to
+    /// the words of a fault; another template may lack what it asks for.
     ///
     /// ```
     /// use bikleinu::{Data, Language, Partials};

@@ -102,20 +102,20 @@ fn separator(calls: &[Value]) -> &str
 }
 
 /// Those of the calls that a table lacks, as far as they may be listed.
-pub(crate) fn listed(alloc: Global, asked: Asked, table: &Answers) -> Result<Listed>
+pub(crate) fn list_lacking(alloc: Global, asked: Asked, table: &Answers) -> Result<Listed>
     ensures listed { IfOk result (AreListed table.now) }
     ensures memory { IfErr result (λ e. e.kind ≡ ErrorKind.Memory) }
 {
     let mut listed = Listed::new(alloc)?;
     for (call, _) in asked.into_calls() {
-        list(alloc, &mut listed, table, call)?;
+        list_call(alloc, &mut listed, table, call)?;
     }
     Ok(listed)
 }
 
 /// Lists a call, where the table lacks it and it comes after the last one.
 #[tactic(auto, using(crate::proofs::Listed::listed_more))]
-fn list(alloc: Global, listed: &mut Listed, table: &Answers, call: Value) -> Result<()>
+fn list_call(alloc: Global, listed: &mut Listed, table: &Answers, call: Value) -> Result<()>
     ensures listed { AreListed table.now listed.old →
         IfOk result (λ _. AreListed table.now listed.new) }
     ensures memory { IfErr result (λ e. e.kind ≡ ErrorKind.Memory) }

@@ -8,7 +8,7 @@ ghost use Rattle.liquid_answers.specs.Lacking.{IsLacking};
 use crate::answers::Answers;
 use crate::asked::Asked;
 use crate::filter::TableFilters;
-use crate::lacking::{Lacking, lacking_of, listed};
+use crate::lacking::{Lacking, lacking_of, list_lacking};
 use liquid_core::{ErrorKind, Object, Result};
 use liquid_lib::{LimitedPage, Surroundings, Template, render_hosted_page};
 use std::alloc::Global;
@@ -67,7 +67,7 @@ fn lacking_in(
     let lent = Some(&asked);
     let filters = TableFilters { table, asked: lent };
     drop(render_hosted_page(alloc, template, &filters, around, data));
-    let listed = listed(alloc, asked.into_inner(), table)?;
+    let listed = list_lacking(alloc, asked.into_inner(), table)?;
     if listed.is_empty() {
         return Ok(None);
     }
