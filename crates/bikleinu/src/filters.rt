@@ -2,8 +2,8 @@
 use crate::parts::Parts;
 use liquid_commands::FilterSet;
 use liquid_core::{Filter, HostFilters, Result};
-use liquid_filter_settings::{Site, shop_of};
 use liquid_filter_sets::{WhereExp, jekyll_language, shopify_language};
+use liquid_filter_settings::{Site, shop_of};
 use liquid_jekyll_host_filters::{JEKYLL_FILTERS, SiteFilter};
 use liquid_lib::{
     DEFAULT_DEPTH, Language, LimitedPage, Limits, Surroundings, language, render_hosted_page,

@@ -111,8 +111,8 @@ impl Run<'_> {
     ) -> Result<Target<'r>, Stop> {
         let number = records.number();
         let form = form_of(self.call.inputs.forms);
-        let (target, outcome) = match records.facts(self.rt.alloc(), form)? {
-            Ok(facts) => target.take(self.rt, self.call.separator, number as usize, facts)?,
+        let (target, outcome) = match records.data(self.rt.alloc(), form)? {
+            Ok(data) => target.take(self.rt, self.call.separator, number as usize, data)?,
             Err(fault) => (target, Err(Report::from(fault))),
         };
         match outcome {

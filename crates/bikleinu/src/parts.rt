@@ -49,11 +49,7 @@ fn parsed(rt: &HostRuntime, source: &Source, language: &Language) -> Result<Temp
 }
 
 /// The templates of the partials by their names. The fault of one is printed.
-fn partials_of(
-    rt: &HostRuntime,
-    sources: &Sources,
-    language: &Language,
-) -> Result<Partials, Stop> {
+fn partials_of(rt: &HostRuntime, sources: &Sources, language: &Language) -> Result<Partials, Stop> {
     let mut partials = Partials::new(rt.alloc());
     for (name, place) in sources.names() {
         if let Some(source) = sources.partial_at(*place) {

@@ -3,7 +3,7 @@ use crate::files::{Files, Nowhere};
 use crate::report::Report;
 use liquid_command_files::{Stop, print_text};
 use liquid_records::{Disk, Fate, Job, Made, Merge, RecordResult};
-use liquid_row_records::Facts;
+use liquid_row_records::RecordData;
 use std::alloc::Global;
 
 /// Whether a record's page is there, or why not.
@@ -36,23 +36,23 @@ impl<'r> Target<'r> {
         rt: &HostRuntime,
         separator: &str,
         number: usize,
-        facts: Facts<'_>,
+        data: RecordData<'_>,
     ) -> Result<(Target<'r>, Taken), Stop> {
         match self {
             Target::Files(merge, files) => {
                 let mut files = files;
-                let (merge, fate) = merged(rt.alloc(), merge, number, facts, &mut files)?;
+                let (merge, fate) = merged(rt.alloc(), merge, number, data, &mut files)?;
                 let taken = written(fate, &files);
                 Ok((Target::Files(merge, files), taken))
             }
             Target::Names(merge) => {
-                let (merge, fate) = merged(rt.alloc(), merge, number, facts, &mut Nowhere)?;
+                let (merge, fate) = merged(rt.alloc(), merge, number, data, &mut Nowhere)?;
                 Ok((Target::Names(merge), named(rt, fate)?))
             }
             Target::Output(job) => {
-                let (job, outcome) = match facts {
-                    Facts::Text(text) => job.made_of_json(rt.alloc(), text, None)?,
-                    Facts::Data(data) => job.made(rt.alloc(), data, None)?,
+                let (job, outcome) = match data {
+                    RecordData::Text(text) => job.made_of_json(rt.alloc(), text, None)?,
+                    RecordData::Data(data) => job.made(rt.alloc(), data, None)?,
                 };
                 Ok((Target::Output(job), printed(rt, separator, outcome)?))
             }
@@ -65,12 +65,12 @@ fn merged<D: Disk>(
     alloc: Global,
     merge: Merge,
     number: usize,
-    facts: Facts<'_>,
+    data: RecordData<'_>,
     disk: &mut D,
 ) -> Result<(Merge, Fate), Stop> {
-    match facts {
-        Facts::Text(text) => Ok(merge.take_json(alloc, number, text, disk)?),
-        Facts::Data(data) => Ok(merge.take(alloc, number, data, disk)?),
+    match data {
+        RecordData::Text(text) => Ok(merge.take_json(alloc, number, text, disk)?),
+        RecordData::Data(data) => Ok(merge.take(alloc, number, data, disk)?),
     }
 }
 

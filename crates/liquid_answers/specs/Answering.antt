@@ -1,12 +1,12 @@
 -- Pages whose filters of a host answer by a table.
-use Rattle.std.specs.Prelude.{ℕ, List, false}
+use Rattle.std.specs.Prelude.{ℕ, List, false, ⊤}
 use Rattle.liquid_model.specs.Data.{Datum}
 use Rattle.liquid_model.specs.Maps.{Map}
 use Rattle.liquid_model.specs.Texts.{Text}
 use Rattle.liquid_evaluation.specs.Tree.{Nodes}
 use Rattle.liquid_lib.specs.HostedPages.{EndsOtherwise, hosted_page}
 use Rattle.liquid_lib.specs.LimitedPages.{PageWithin}
-use Rattle.liquid_answers.specs.Lacking.{IsLacking}
+use Rattle.liquid_answers.specs.Lacking.{AreShort, IsLacking, calls_in}
 use Rattle.liquid_answers.specs.Tables.{answers_by}
 use Rattle.liquid_answers.specs.declared.answers.Answers.{Answers}
 use Rattle.liquid_answers.specs.declared.page.Answered.{Answered}
@@ -15,7 +15,12 @@ use Rattle.liquid_answers.specs.declared.page.Answered.TheVariants as answered
 -- The page over the table's answers. It doesn't end by `Memory`, as it would at a call that the
 -- table lacks, so the run met none. Or calls that the table lacks.
 abbrev pub IsAnswered : Answers → ℕ → List (Text × Nodes) → Map Datum → Nodes → Answered → Type 0
-IsAnswered table depth partials facts nodes (answered.Page p) =
-    PageWithin (hosted_page (answers_by false table) depth partials facts nodes) p
+IsAnswered table depth partials «data» nodes (answered.Page p) =
+    PageWithin (hosted_page (answers_by false table) depth partials «data» nodes) p
     × EndsOtherwise p.page
-IsAnswered table depth partials facts nodes (answered.Lacking calls) = IsLacking table calls
+IsAnswered table depth partials «data» nodes (answered.Lacking calls) = IsLacking table calls
+
+-- where calls are listed, all but the last have at most 1 MiB in JSON
+abbrev pub IsShort : Answered → Type 0
+IsShort (answered.Page p) = ⊤
+IsShort (answered.Lacking calls) = AreShort (calls_in calls)

@@ -76,6 +76,6 @@ CompletesAny uses (Some ps) answer = Completes uses ps answer
 CompletesAny uses None answer = answer ≡ Err OtherHandle
 
 abbrev pub IsCompletion : Option Content → Option Content → Result Content Refusal → Type 0
-IsCompletion facts (Some (content.Paths uses it)) answer =
-    CompletesAny uses (pairs_behind facts) answer
-IsCompletion facts _ answer = answer ≡ Err OtherHandle
+IsCompletion «data» (Some (content.Paths uses it)) answer =
+    CompletesAny uses (pairs_behind «data») answer
+IsCompletion «data» _ answer = answer ≡ Err OtherHandle

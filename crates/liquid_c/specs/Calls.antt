@@ -69,10 +69,10 @@ abbrev pub IsData : List ℕ → Result Content Refusal → Type 0
 IsData source answer = OfText source (Reads source) answer
 
 -- the data behind a handle, which is empty where the handle holds nothing
-abbrev pub facts_behind : Option Content → Option (Map Datum)
-facts_behind None = Some empty
-facts_behind (Some (content.Data d)) = Some (map_held d)
-facts_behind (Some _) = None
+abbrev pub data_behind : Option Content → Option (Map Datum)
+data_behind None = Some empty
+data_behind (Some (content.Data d)) = Some (map_held d)
+data_behind (Some _) = None
 
 -- likewise the partials
 abbrev pub partials_behind : Option Content → Option (List (Text × Nodes))
@@ -88,35 +88,35 @@ levels_behind _ = no_levels
 -- the page of these nodes, unless memory ran out
 abbrev pub Shows : Nodes → ℕ → Map Datum → List (Text × Nodes)
     → Result Content Refusal → Type 0
-Shows nodes depth facts partials (Ok (content.Page p)) =
-    page_view p ≡ page_over depth partials facts nodes
-Shows nodes depth facts partials (Ok (content.Fault e)) = e.kind ≡ Memory
-Shows nodes depth facts partials _ = ⊥
+Shows nodes depth «data» partials (Ok (content.Page p)) =
+    page_view p ≡ page_over depth partials «data» nodes
+Shows nodes depth «data» partials (Ok (content.Fault e)) = e.kind ≡ Memory
+Shows nodes depth «data» partials _ = ⊥
 
 -- the same, or a beginning of its text where a limit ended it
 abbrev pub ShowsWithin : Nodes → ℕ → Map Datum → List (Text × Nodes)
     → Result Content Refusal → Type 0
-ShowsWithin nodes depth facts partials (Ok (content.Ended p limit)) =
+ShowsWithin nodes depth «data» partials (Ok (content.Ended p limit)) =
     ((page_view p).fault ≡ Some Write)
-    × Begins (page_view p).text (page_over depth partials facts nodes).text
-ShowsWithin nodes depth facts partials answer = Shows nodes depth facts partials answer
+    × Begins (page_view p).text (page_over depth partials «data» nodes).text
+ShowsWithin nodes depth «data» partials answer = Shows nodes depth «data» partials answer
 
 -- R holds where data and partials are there, and else the call can't be
 abbrev pub OfBoth : Option (Map Datum) → Option (List (Text × Nodes))
     → (Map Datum → List (Text × Nodes) → Result Content Refusal → Type 0) → Result Content Refusal →
     Type 0
-OfBoth (Some facts) (Some partials) R answer = R facts partials answer
+OfBoth (Some «data») (Some partials) R answer = R «data» partials answer
 OfBoth None _ R answer = answer ≡ Err OtherHandle
-OfBoth (Some facts) None R answer = answer ≡ Err OtherHandle
+OfBoth (Some «data») None R answer = answer ≡ Err OtherHandle
 
 -- a run that could reach too many levels isn't begun, and any other shows its page
 abbrev pub ShowsUnless : Bool → Bool → Nodes → ℕ → Map Datum → List (Text × Nodes)
     → Result Content Refusal → Type 0
-ShowsUnless is_deep is_limited nodes depth facts partials answer =
+ShowsUnless is_deep is_limited nodes depth «data» partials answer =
     MatchBool is_deep (answer ≡ Err TooManyLevels)
     (MatchBool is_limited
-    (ShowsWithin nodes depth facts partials answer)
-    (Shows nodes depth facts partials answer))
+    (ShowsWithin nodes depth «data» partials answer)
+    (Shows nodes depth «data» partials answer))
 
 -- a number other than 0 is a limit
 abbrev pub has_limit : ℕ → ℕ → Bool
@@ -124,12 +124,12 @@ has_limit bytes turns = not (nat_eq bytes 0 && nat_eq turns 0)
 
 abbrev pub IsRendering : ℕ → Bool → Option Content → Option Content → Option Content → ℕ
     → Result Content Refusal → Type 0
-IsRendering bound is_limited (Some (content.Template t levels)) facts partials depth answer =
-    OfBoth (facts_behind facts) (partials_behind partials)
+IsRendering bound is_limited (Some (content.Template t levels)) «data» partials depth answer =
+    OfBoth (data_behind «data») (partials_behind partials)
     (ShowsUnless (nat_lt bound (most_levels depth levels (levels_behind partials)))
     is_limited (tree_of t) depth)
     answer
-IsRendering bound is_limited _ facts partials depth answer = answer ≡ Err OtherHandle
+IsRendering bound is_limited _ «data» partials depth answer = answer ≡ Err OtherHandle
 
 -- the bound where a caller sets none
 abbrev pub usual_levels : ℕ

@@ -13,7 +13,7 @@ use Rattle.liquid_lib.specs.Pages.{page_view}
 use Rattle.liquid_answers.specs.Lacking.{IsLacking}
 use Rattle.liquid_answers.specs.Tables.{answers_by}
 use Rattle.liquid_answers.specs.declared.answers.Answers.{Answers}
-use Rattle.liquid_c.specs.Calls.{OfBoth, facts_behind, levels_behind, partials_behind}
+use Rattle.liquid_c.specs.Calls.{OfBoth, data_behind, levels_behind, partials_behind}
 use Rattle.liquid_c.specs.Levels.{most_levels}
 use Rattle.liquid_c.specs.declared.content.Content.{Content}
 use Rattle.liquid_c.specs.declared.content.Content.TheVariants as content
@@ -24,26 +24,26 @@ use Rattle.liquid_c.specs.declared.refusal.Refusal.TheVariants.{OtherHandle, Too
 -- its text where a limit ended it; calls that the table lacks; or memory ran out
 abbrev pub ShowsAnswered : Answers → Nodes → ℕ → Map Datum → List (Text × Nodes)
     → Result Content Refusal → Type 0
-ShowsAnswered table nodes depth facts partials (Ok (content.Page p)) =
-    (page_view p ≡ hosted_page (answers_by false table) depth partials facts nodes)
+ShowsAnswered table nodes depth «data» partials (Ok (content.Page p)) =
+    (page_view p ≡ hosted_page (answers_by false table) depth partials «data» nodes)
     × EndsOtherwise p
-ShowsAnswered table nodes depth facts partials (Ok (content.Ended p limit)) =
+ShowsAnswered table nodes depth «data» partials (Ok (content.Ended p limit)) =
     ((page_view p).fault ≡ Some Write) × Begins (page_view p).text
-    (hosted_page (answers_by false table) depth partials facts nodes).text
-ShowsAnswered table nodes depth facts partials (Ok (content.Lacking calls)) = IsLacking table calls
-ShowsAnswered table nodes depth facts partials (Ok (content.Fault e)) = e.kind ≡ Memory
-ShowsAnswered table nodes depth facts partials _ = ⊥
+    (hosted_page (answers_by false table) depth partials «data» nodes).text
+ShowsAnswered table nodes depth «data» partials (Ok (content.Lacking calls)) = IsLacking table calls
+ShowsAnswered table nodes depth «data» partials (Ok (content.Fault e)) = e.kind ≡ Memory
+ShowsAnswered table nodes depth «data» partials _ = ⊥
 
 abbrev pub ShowsUnlessDeep : Bool → Answers → Nodes → ℕ → Map Datum → List (Text × Nodes)
     → Result Content Refusal → Type 0
-ShowsUnlessDeep is_deep table nodes depth facts partials answer =
+ShowsUnlessDeep is_deep table nodes depth «data» partials answer =
     MatchBool is_deep (answer ≡ Err TooManyLevels)
-    (ShowsAnswered table nodes depth facts partials answer)
+    (ShowsAnswered table nodes depth «data» partials answer)
 
 abbrev pub IsHosted : ℕ → Option Content → Option Content → Option Content → ℕ → Option Content
     → Result Content Refusal → Type 0
-IsHosted bound (Some (content.Template t levels)) facts partials depth
-    (Some (content.Answers table)) answer = OfBoth (facts_behind facts) (partials_behind partials)
+IsHosted bound (Some (content.Template t levels)) «data» partials depth
+    (Some (content.Answers table)) answer = OfBoth (data_behind «data») (partials_behind partials)
     (ShowsUnlessDeep (nat_lt bound (most_levels depth levels (levels_behind partials)))
     table (tree_of t) depth) answer
-IsHosted bound template facts partials depth table answer = answer ≡ Err OtherHandle
+IsHosted bound template «data» partials depth table answer = answer ≡ Err OtherHandle

@@ -84,7 +84,7 @@ or_nil (Some d) = d
 
 -- the member of data that is the answer
 abbrev pub answer_among : Outer → Datum
-answer_among facts = or_nil (value_at (codes "answer") (pairs_view facts.entries))
+answer_among «data» = or_nil (value_at (codes "answer") (pairs_view «data».entries))
 
 -- the answer that data hold
 abbrev pub answer_behind : Option Content → Result (Result Datum ErrorKind) Refusal

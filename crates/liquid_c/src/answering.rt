@@ -71,23 +71,23 @@ pub extern "C" fn bikleinu_answer(
     answers: &mut Handle,
     calls: &mut Handle,
     number: usize,
-    facts: &mut Handle,
+    data: &mut Handle,
 ) -> u32
     ensures answered { Regaining (λ was. IsAnswering was
-        (call_behind number (behind calls.old.held)) (answer_behind (behind facts.old.held))
+        (call_behind number (behind calls.old.held)) (answer_behind (behind «data».old.held))
         result answers.new.held) answers.old.held }
     ensures calls { calls.new.held ≡ calls.old.held }
-    ensures facts { facts.new.held ≡ facts.old.held }
+    ensures data { «data».new.held ≡ «data».old.held }
 {
     let mut held = answers.take_to_change(alloc);
     let held_calls = calls.take(alloc);
-    let held_facts = facts.take(alloc);
+    let held_data = data.take(alloc);
     let call = call_seen(seen(&held_calls), number);
-    let answer = answer_seen(alloc, seen(&held_facts));
+    let answer = answer_seen(alloc, seen(&held_data));
     let status = put(alloc, &mut held, call, answer);
     answers.put(alloc, held);
     calls.put(alloc, held_calls);
-    facts.put(alloc, held_facts);
+    data.put(alloc, held_data);
     status
 }
 
@@ -155,15 +155,15 @@ fn answer_seen(alloc: Global, held: Option<&Content>) -> Result<Option<Answer>, 
     ensures { Given result (answer_behind (option_map (λ h. h.now) held.entry)) }
 {
     match held {
-        Some(Content::Data(facts)) => Ok(answer_in(alloc, facts)),
+        Some(Content::Data(data)) => Ok(answer_in(alloc, data)),
         _ => Err(Refusal::OtherHandle),
     }
 }
 
-fn answer_in(alloc: Global, facts: &Object) -> Option<Answer>
-    ensures { MatchOption result ⊤ (λ a. said_by a ≡ Ok (answer_among facts.now)) }
+fn answer_in(alloc: Global, data: &Object) -> Option<Answer>
+    ensures { MatchOption result ⊤ (λ a. said_by a ≡ Ok (answer_among «data».now)) }
 {
-    let Some(value) = look_up(facts, "answer") else {
+    let Some(value) = look_up(data, "answer") else {
         return Some(Answer::Value(Value::Nil));
     };
     match value.copy(alloc) {

@@ -24,65 +24,65 @@ use std::collections::BTreeMap;
 #[unsafe(no_mangle)]
 pub extern "C" fn bikleinu_complete(
     alloc: Global,
-    facts: &mut Handle,
+    data: &mut Handle,
     paths: &mut Handle,
     made: &mut Handle,
 ) -> u32
-    ensures completed { Settled (IsCompletion (behind facts.old.held) (behind paths.old.held))
+    ensures completed { Settled (IsCompletion (behind «data».old.held) (behind paths.old.held))
         result made.new.held }
-    ensures facts { facts.new.held ≡ facts.old.held }
+    ensures data { «data».new.held ≡ «data».old.held }
     ensures paths { paths.new.held ≡ paths.old.held }
 {
-    let held_facts = facts.take(alloc);
+    let held_data = data.take(alloc);
     let held_paths = paths.take(alloc);
-    let answer = completion(alloc, seen(&held_facts), seen(&held_paths));
-    facts.put(alloc, held_facts);
+    let answer = completion(alloc, seen(&held_data), seen(&held_paths));
+    data.put(alloc, held_data);
     paths.put(alloc, held_paths);
     settle(alloc, answer, made)
 }
 
 fn completion(
     alloc: Global,
-    facts: Option<&Content>,
+    data: Option<&Content>,
     paths: Option<&Content>,
 ) -> Result<Content, Refusal>
-    ensures { IsCompletion (option_map (λ c. c.now) facts.entry)
+    ensures { IsCompletion (option_map (λ c. c.now) «data».entry)
         (option_map (λ c. c.now) paths.entry) result }
 {
     let Some(Content::Paths(uses, _)) = paths else {
         return Err(Refusal::OtherHandle);
     };
-    match facts {
+    match data {
         None => Ok(filled(alloc, &BTreeMap::new(alloc), uses)),
-        Some(Content::Data(facts)) => Ok(filled(alloc, facts, uses)),
+        Some(Content::Data(data)) => Ok(filled(alloc, data, uses)),
         Some(_) => Err(Refusal::OtherHandle),
     }
 }
 
-fn filled(alloc: Global, facts: &Object, uses: &Uses) -> Content
-    ensures { Completes uses.now (pairs_view facts.now.entries) (Ok result) }
+fn filled(alloc: Global, data: &Object, uses: &Uses) -> Content
+    ensures { Completes uses.now (pairs_view «data».now.entries) (Ok result) }
 {
-    match completed_copy(alloc, facts, uses) {
-        Ok(facts) => Content::Data(facts),
+    match completed_copy(alloc, data, uses) {
+        Ok(data) => Content::Data(data),
         Err(fault) => Content::Fault(fault),
     }
 }
 
-fn completed_copy(alloc: Global, facts: &Object, uses: &Uses) -> Answer<Object>
+fn completed_copy(alloc: Global, data: &Object, uses: &Uses) -> Answer<Object>
     ensures { IsValueOrMemory (λ d. pairs_view d.entries) result
-        (completed_pairs (members_view uses.now.entries) (pairs_view facts.now.entries)) }
+        (completed_pairs (members_view uses.now.entries) (pairs_view «data».now.entries)) }
 {
-    let mut copy = copy_of(alloc, facts)?;
+    let mut copy = copy_of(alloc, data)?;
     complete(alloc, &mut copy, uses)?;
     Ok(copy)
 }
 
 /// Equal data that own their parts.
-fn copy_of(alloc: Global, facts: &Object) -> Answer<Object>
-    ensures { IsValueOrMemory (λ d. pairs_view d.entries) result (pairs_view facts.now.entries) }
+fn copy_of(alloc: Global, data: &Object) -> Answer<Object>
+    ensures { IsValueOrMemory (λ d. pairs_view d.entries) result (pairs_view «data».now.entries) }
 {
     let mut copies: Object = BTreeMap::new(alloc);
-    for (key, value) in facts.iter() {
+    for (key, value) in data.iter() {
         let name = String::from_str(alloc, key.as_str())?;
         drop(copies.insert(name, value.copy(alloc)?)?);
     }

@@ -12,7 +12,7 @@ use crate::handle::Handle;
 use crate::held::seen;
 use crate::refusal::{Refusal, settle};
 use crate::render::{
-    Allowed, RenderLimits, allowed_by, empty_facts, facts_held, levels_held, limits_of,
+    Allowed, RenderLimits, allowed_by, data_held, empty_data, levels_held, limits_of,
     partials_held,
 };
 use liquid_answers::{Answered, Answers, render_page_answered};
@@ -27,7 +27,7 @@ use std::alloc::Global;
 pub extern "C" fn bikleinu_render_with(
     alloc: Global,
     template: &mut Handle,
-    facts: &mut Handle,
+    data: &mut Handle,
     partials: &mut Handle,
     depth: u32,
     limits: &RenderLimits,
@@ -35,30 +35,30 @@ pub extern "C" fn bikleinu_render_with(
     made: &mut Handle,
 ) -> u32
     ensures rendered { Settled (IsHosted (bound_of limits.now.levels) (behind template.old.held)
-        (behind facts.old.held) (behind partials.old.held) depth (behind answers.old.held))
+        (behind «data».old.held) (behind partials.old.held) depth (behind answers.old.held))
         result made.new.held }
     ensures template { template.new.held ≡ template.old.held }
-    ensures facts { facts.new.held ≡ facts.old.held }
+    ensures data { «data».new.held ≡ «data».old.held }
     ensures partials { partials.new.held ≡ partials.old.held }
     ensures answers { answers.new.held ≡ answers.old.held }
 {
     let allowed = allowed_by(depth, limits);
     let held_template = template.take(alloc);
-    let held_facts = facts.take(alloc);
+    let held_data = data.take(alloc);
     let held_partials = partials.take(alloc);
     let held_answers = answers.take(alloc);
     let answer = page(
         alloc,
         Lent {
             template: seen(&held_template),
-            facts: seen(&held_facts),
+            data: seen(&held_data),
             partials: seen(&held_partials),
             answers: seen(&held_answers),
         },
         allowed,
     );
     template.put(alloc, held_template);
-    facts.put(alloc, held_facts);
+    data.put(alloc, held_data);
     partials.put(alloc, held_partials);
     answers.put(alloc, held_answers);
     settle(alloc, answer, made)
@@ -68,7 +68,7 @@ pub extern "C" fn bikleinu_render_with(
 #[derive(Clone, Copy, Drop)]
 struct Lent<'h> {
     template: Option<&'h Content>,
-    facts: Option<&'h Content>,
+    data: Option<&'h Content>,
     partials: Option<&'h Content>,
     answers: Option<&'h Content>,
 }
@@ -76,7 +76,7 @@ struct Lent<'h> {
 fn page(alloc: Global, lent: Lent<'_>, allowed: Allowed) -> Result<Content, Refusal>
     ensures { IsHosted allowed.levels
         (option_map (λ h. h.now) lent.entry.template)
-        (option_map (λ h. h.now) lent.entry.facts)
+        (option_map (λ h. h.now) lent.entry.«data»)
         (option_map (λ h. h.now) lent.entry.partials)
         allowed.depth
         (option_map (λ h. h.now) lent.entry.answers) result }
@@ -87,14 +87,14 @@ fn page(alloc: Global, lent: Lent<'_>, allowed: Allowed) -> Result<Content, Refu
     let Some(Content::Answers(table)) = lent.answers else {
         return Err(Refusal::OtherHandle);
     };
-    let no_facts = empty_facts(alloc);
+    let no_data = empty_data(alloc);
     let no_partials = Partials::new(alloc);
     let is_deep = levels.pass(levels_held(lent.partials), allowed.depth, allowed.levels);
     shown(
         alloc,
         Hosted { template, table },
         is_deep,
-        facts_held(lent.facts, &no_facts),
+        data_held(lent.data, &no_data),
         partials_held(lent.partials, &no_partials),
         allowed,
     )
@@ -112,17 +112,17 @@ fn shown(
     alloc: Global,
     hosted: Hosted<'_>,
     is_deep: bool,
-    facts: Option<&Object>,
+    data: Option<&Object>,
     partials: Option<&Partials>,
     allowed: Allowed,
 ) -> Result<Content, Refusal>
     ensures { OfBoth
-        (option_map (λ d. map_held d.now) facts.entry)
+        (option_map (λ d. map_held d.now) «data».entry)
         (option_map (λ p. partials_of p.now) partials.entry)
         (ShowsUnlessDeep is_deep hosted.entry.table.now
         (tree_of hosted.entry.template.now) allowed.depth) result }
 {
-    let Some(facts) = facts else {
+    let Some(data) = data else {
         return Err(Refusal::OtherHandle);
     };
     let Some(partials) = partials else {
@@ -131,26 +131,26 @@ fn shown(
     if is_deep {
         return Err(Refusal::TooManyLevels);
     }
-    Ok(answered(alloc, hosted, facts, partials, allowed))
+    Ok(answered(alloc, hosted, data, partials, allowed))
 }
 
 /// The page, or the calls that the table lacks.
 fn answered(
     alloc: Global,
     hosted: Hosted<'_>,
-    facts: &Object,
+    data: &Object,
     partials: &Partials,
     allowed: Allowed,
 ) -> Content
     ensures { ShowsAnswered hosted.entry.table.now (tree_of hosted.entry.template.now)
-        allowed.depth (map_held facts.now) (partials_of partials.now) (Ok result) }
+        allowed.depth (map_held «data».now) (partials_of partials.now) (Ok result) }
 {
     let around = Surroundings {
         partials,
         depth: allowed.depth,
         limits: limits_of(allowed),
     };
-    match render_page_answered(alloc, hosted.template, hosted.table, around, facts) {
+    match render_page_answered(alloc, hosted.template, hosted.table, around, data) {
         Ok(Answered::Page(LimitedPage { page, limit })) => match limit {
             None => Content::Page(page),
             Some(limit) => Content::Ended(page, limit),

@@ -4,7 +4,7 @@ ghost use Rattle.liquid_model.specs.Maps.{empty};
 ghost use Rattle.liquid_core.specs.Held.{held as map_held};
 ghost use Rattle.liquid_syntax.specs.Templates.{partials_of, tree_of};
 ghost use Rattle.liquid_c.specs.Calls.{IsRendering, OfBoth, Shows, ShowsUnless, ShowsWithin};
-ghost use Rattle.liquid_c.specs.Calls.{bound_of, facts_behind, has_limit, levels_behind};
+ghost use Rattle.liquid_c.specs.Calls.{bound_of, data_behind, has_limit, levels_behind};
 ghost use Rattle.liquid_c.specs.Calls.{partials_behind, usual_levels};
 ghost use Rattle.liquid_c.specs.Settled.{Settled};
 ghost use Rattle.liquid_c.specs.Shared.{behind};
@@ -59,17 +59,17 @@ pub(crate) struct Allowed {
 pub extern "C" fn bikleinu_render(
     alloc: Global,
     template: &mut Handle,
-    facts: &mut Handle,
+    data: &mut Handle,
     partials: &mut Handle,
     depth: u32,
     made: &mut Handle,
 ) -> u32
     ensures rendered { Settled
-        (IsRendering usual_levels false (behind template.old.held) (behind facts.old.held)
+        (IsRendering usual_levels false (behind template.old.held) (behind «data».old.held)
         (behind partials.old.held) depth)
         result made.new.held }
     ensures template { template.new.held ≡ template.old.held }
-    ensures facts { facts.new.held ≡ facts.old.held }
+    ensures data { «data».new.held ≡ «data».old.held }
     ensures partials { partials.new.held ≡ partials.old.held }
 {
     let allowed = Allowed {
@@ -78,7 +78,7 @@ pub extern "C" fn bikleinu_render(
         bytes: 0,
         turns: 0,
     };
-    let answer = rendered(alloc, template, facts, partials, allowed);
+    let answer = rendered(alloc, template, data, partials, allowed);
     settle(alloc, answer, made)
 }
 
@@ -88,7 +88,7 @@ pub extern "C" fn bikleinu_render(
 pub extern "C" fn bikleinu_render_within(
     alloc: Global,
     template: &mut Handle,
-    facts: &mut Handle,
+    data: &mut Handle,
     partials: &mut Handle,
     depth: u32,
     limits: &RenderLimits,
@@ -96,14 +96,14 @@ pub extern "C" fn bikleinu_render_within(
 ) -> u32
     ensures rendered { Settled
         (IsRendering (bound_of limits.now.levels) (has_limit limits.now.bytes limits.now.turns)
-        (behind template.old.held) (behind facts.old.held) (behind partials.old.held) depth)
+        (behind template.old.held) (behind «data».old.held) (behind partials.old.held) depth)
         result made.new.held }
     ensures template { template.new.held ≡ template.old.held }
-    ensures facts { facts.new.held ≡ facts.old.held }
+    ensures data { «data».new.held ≡ «data».old.held }
     ensures partials { partials.new.held ≡ partials.old.held }
 {
     let allowed = allowed_by(depth, limits);
-    let answer = rendered(alloc, template, facts, partials, allowed);
+    let answer = rendered(alloc, template, data, partials, allowed);
     settle(alloc, answer, made)
 }
 
@@ -132,29 +132,29 @@ fn bound_of(asked: u32) -> u32
 fn rendered(
     alloc: Global,
     template: &mut Handle,
-    facts: &mut Handle,
+    data: &mut Handle,
     partials: &mut Handle,
     allowed: Allowed,
 ) -> Result<Content, Refusal>
     ensures rendered { IsRendering allowed.levels (has_limit allowed.bytes allowed.turns)
-        (behind template.old.held) (behind facts.old.held) (behind partials.old.held)
+        (behind template.old.held) (behind «data».old.held) (behind partials.old.held)
         allowed.depth result }
     ensures template { template.new.held ≡ template.old.held }
-    ensures facts { facts.new.held ≡ facts.old.held }
+    ensures data { «data».new.held ≡ «data».old.held }
     ensures partials { partials.new.held ≡ partials.old.held }
 {
     let held_template = template.take(alloc);
-    let held_facts = facts.take(alloc);
+    let held_data = data.take(alloc);
     let held_partials = partials.take(alloc);
     let answer = page(
         alloc,
         seen(&held_template),
-        seen(&held_facts),
+        seen(&held_data),
         seen(&held_partials),
         allowed,
     );
     template.put(alloc, held_template);
-    facts.put(alloc, held_facts);
+    data.put(alloc, held_data);
     partials.put(alloc, held_partials);
     answer
 }
@@ -162,27 +162,27 @@ fn rendered(
 fn page(
     alloc: Global,
     template: Option<&Content>,
-    facts: Option<&Content>,
+    data: Option<&Content>,
     partials: Option<&Content>,
     allowed: Allowed,
 ) -> Result<Content, Refusal>
     ensures { IsRendering allowed.levels (has_limit allowed.bytes allowed.turns)
         (option_map (λ h. h.now) template.entry)
-        (option_map (λ h. h.now) facts.entry)
+        (option_map (λ h. h.now) «data».entry)
         (option_map (λ h. h.now) partials.entry)
         allowed.depth result }
 {
     let Some(Content::Template(template, levels)) = template else {
         return Err(Refusal::OtherHandle);
     };
-    let no_facts = empty_facts(alloc);
+    let no_data = empty_data(alloc);
     let no_partials = Partials::new(alloc);
     let is_deep = levels.pass(levels_held(partials), allowed.depth, allowed.levels);
     shown(
         alloc,
         template,
         is_deep,
-        facts_held(facts, &no_facts),
+        data_held(data, &no_data),
         partials_held(partials, &no_partials),
         allowed,
     )
@@ -193,18 +193,18 @@ fn shown(
     alloc: Global,
     template: &Template,
     is_deep: bool,
-    facts: Option<&Object>,
+    data: Option<&Object>,
     partials: Option<&Partials>,
     allowed: Allowed,
 ) -> Result<Content, Refusal>
     ensures { OfBoth
-        (option_map (λ d. map_held d.now) facts.entry)
+        (option_map (λ d. map_held d.now) «data».entry)
         (option_map (λ p. partials_of p.now) partials.entry)
         (ShowsUnless is_deep (has_limit allowed.bytes allowed.turns)
         (tree_of template.now) allowed.depth)
         result }
 {
-    let Some(facts) = facts else {
+    let Some(data) = data else {
         return Err(Refusal::OtherHandle);
     };
     let Some(partials) = partials else {
@@ -214,9 +214,9 @@ fn shown(
         return Err(Refusal::TooManyLevels);
     }
     if allowed.bytes == 0 && allowed.turns == 0 {
-        return Ok(whole(alloc, template, partials, allowed.depth, facts));
+        return Ok(whole(alloc, template, partials, allowed.depth, data));
     }
-    Ok(limited(alloc, template, partials, allowed, facts))
+    Ok(limited(alloc, template, partials, allowed, data))
 }
 
 /// The whole page.
@@ -225,12 +225,12 @@ fn whole(
     template: &Template,
     partials: &Partials,
     depth: u32,
-    facts: &Object,
+    data: &Object,
 ) -> Content
     ensures { Shows (tree_of template.now) depth
-        (map_held facts.now) (partials_of partials.now) (Ok result) }
+        (map_held «data».now) (partials_of partials.now) (Ok result) }
 {
-    match render_page(alloc, template, partials, depth, facts) {
+    match render_page(alloc, template, partials, depth, data) {
         Ok(page) => Content::Page(page),
         Err(fault) => Content::Fault(fault),
     }
@@ -242,17 +242,17 @@ fn limited(
     template: &Template,
     partials: &Partials,
     allowed: Allowed,
-    facts: &Object,
+    data: &Object,
 ) -> Content
     ensures { ShowsWithin (tree_of template.now) allowed.depth
-        (map_held facts.now) (partials_of partials.now) (Ok result) }
+        (map_held «data».now) (partials_of partials.now) (Ok result) }
 {
     match render_page_within(
         alloc,
         template,
         partials,
         allowed.depth,
-        facts,
+        data,
         limits_of(allowed),
     ) {
         Ok(LimitedPage { page, limit }) => match limit {
@@ -275,21 +275,21 @@ fn limit_of(asked: u64) -> Option<u64> {
     if asked == 0 { None } else { Some(asked) }
 }
 
-pub(crate) fn empty_facts(alloc: Global) -> Object
+pub(crate) fn empty_data(alloc: Global) -> Object
     ensures { map_held result ≡ empty }
 {
     BTreeMap::new(alloc)
 }
 
 /// The data behind a handle, or none where it holds something else.
-pub(crate) fn facts_held<'a>(held: Option<&'a Content>, none: &'a Object) -> Option<&'a Object>
+pub(crate) fn data_held<'a>(held: Option<&'a Content>, none: &'a Object) -> Option<&'a Object>
     requires { map_held none.now ≡ empty }
     ensures { option_map (λ d. map_held d.now) result ≡
-        facts_behind (option_map (λ h. h.now) held.entry) }
+        data_behind (option_map (λ h. h.now) held.entry) }
 {
     match held {
         None => Some(none),
-        Some(Content::Data(facts)) => Some(facts),
+        Some(Content::Data(data)) => Some(data),
         Some(_) => None,
     }
 }

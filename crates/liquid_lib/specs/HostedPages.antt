@@ -1,5 +1,5 @@
 -- The page that a template shows in a run with filters of a host.
---     hosted_page named depth partials facts nodes      the page of these nodes in a new run over
+--     hosted_page named depth partials data nodes      the page of these nodes in a new run over
 --       this data, where each filter of the host answers what is named
 use Rattle.std.specs.Prelude.{◌≡◌, false, ℕ, List, IfSome}
 use Rattle.liquid_model.specs.Texts.{Text}
@@ -19,8 +19,8 @@ setting_with named partials = record { answers = answers_with named; partials = 
 
 unfoldable pub hosted_page : (Text → FilterAnswer) → ℕ → List (Text × Nodes) → Map Datum → Nodes
     → Shown
-hosted_page named depth partials facts nodes =
-    shown (meaning (setting_with named partials) depth nodes (fresh facts))
+hosted_page named depth partials «data» nodes =
+    shown (meaning (setting_with named partials) depth nodes (fresh «data»))
 
 -- it doesn't end by `Memory`
 abbrev pub EndsOtherwise : Page → Type 0

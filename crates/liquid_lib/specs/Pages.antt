@@ -1,6 +1,6 @@
 -- The page that a template shows in a run of its own.
 --     shown o      the text of a run, and the kind of the fault that it ended by
---     page_over depth partials facts nodes      the page of these nodes in a new run over this
+--     page_over depth partials data nodes      the page of these nodes in a new run over this
 --       data, without filters of a host
 use Rattle.std.specs.Prelude.{ℕ, List, Option, Some, None, Result, Ok, Err, option_map}
 use Rattle.std.specs.Prelude.{string_bytes}
@@ -47,8 +47,8 @@ setting_over partials = record { answers = answers_with no_host; partials = part
 
 -- what a new run has: the data alone
 abbrev pub fresh : Map Datum → Environment
-fresh facts = merged_layers (new_layers facts)
+fresh «data» = merged_layers (new_layers «data»)
 
 unfoldable pub page_over : ℕ → List (Text × Nodes) → Map Datum → Nodes → Shown
-page_over depth partials facts nodes =
-    shown (meaning (setting_over partials) depth nodes (fresh facts))
+page_over depth partials «data» nodes =
+    shown (meaning (setting_over partials) depth nodes (fresh «data»))

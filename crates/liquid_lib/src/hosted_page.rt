@@ -40,15 +40,15 @@ pub fn render_hosted_page<H: NamedFilters>(
     template: &Template,
     host: &H,
     around: Surroundings<'_>,
-    facts: &Object,
+    data: &Object,
 ) -> Result<LimitedPage>
     ensures page { IfOk result (λ p. PageWithin (hosted_page (H.named host.now)
-        around.entry.depth (partials_of around.entry.partials.now) (held facts.now)
+        around.entry.depth (partials_of around.entry.partials.now) (held «data».now)
         (tree_of template.now)) p) }
     ensures ended { IfOk result (λ p. EndsOtherwise p.page) }
     ensures memory { IfErr result (λ e. e.kind ≡ ErrorKind.Memory) }
 {
-    let mut state = state_over(alloc, facts);
+    let mut state = state_over(alloc, data);
     let context = RunContext {
         partials: around.partials,
         host,

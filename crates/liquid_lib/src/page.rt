@@ -49,13 +49,13 @@ pub fn render_page(
     template: &Template,
     partials: &Partials,
     depth: u32,
-    facts: &Object,
+    data: &Object,
 ) -> Result<Page>
     ensures { IsValueOrMemory page_view result (page_over depth (partials_of partials.now)
-        (held facts.now) (tree_of template.now)) }
+        (held «data».now) (tree_of template.now)) }
 {
     let mut runtime = Runtime {
-        state: state_over(alloc, facts),
+        state: state_over(alloc, data),
         partials: Some(partials),
         host: None,
         depth,
@@ -83,15 +83,15 @@ pub fn render_page_within(
     template: &Template,
     partials: &Partials,
     depth: u32,
-    facts: &Object,
+    data: &Object,
     limits: Limits,
 ) -> Result<LimitedPage>
     ensures page { IfOk result (λ p. PageWithin
-        (page_over depth (partials_of partials.now) (held facts.now) (tree_of template.now)) p) }
+        (page_over depth (partials_of partials.now) (held «data».now) (tree_of template.now)) p) }
     ensures memory { IfErr result (λ e. e.kind ≡ ErrorKind.Memory) }
 {
     let mut runtime = Runtime {
-        state: state_over(alloc, facts),
+        state: state_over(alloc, data),
         partials: Some(partials),
         host: None,
         depth,
@@ -104,13 +104,13 @@ pub fn render_page_within(
 }
 
 /// A new state over data that is lent. It takes no memory.
-pub(crate) fn state_over<'d>(alloc: Global, facts: &'d Object) -> State<'d>
-    ensures layers { layers_of result ≡ new_layers (held facts.now) }
+pub(crate) fn state_over<'d>(alloc: Global, data: &'d Object) -> State<'d>
+    ensures layers { layers_of result ≡ new_layers (held «data».now) }
     ensures loops { loops_of result ≡ [] }
 {
     let (parts, none) = State::new(alloc, BTreeMap::new(alloc)).into_parts();
     drop(none);
-    State::from_parts(alloc, parts, Data::Lent(facts))
+    State::from_parts(alloc, parts, Data::Lent(data))
 }
 
 /// The page of a run that wrote this text and ended so.

@@ -41,12 +41,12 @@ left_begun (Some files) wanted texts old new read begun = subst (λ w. Leaves w 
 
 -- the same of texts that are lent
 pub lent_begun : (known : Option Files) (wanted : Files → Result Texts Stop) (read : Texts) (t d : Text) (ps : Sources) (old new : Option (List ℕ))
-    → t ≡ read.template → d ≡ read.facts → ps ≡ read.partials
-    → IfSome known (λ files. wanted files ≡ Ok read) → IsBegun (record { template = t; facts = d; partials = ps }) old new → IfSome known (λ files. Leaves (wanted files) old new)
+    → t ≡ read.template → d ≡ read.«data» → ps ≡ read.partials
+    → IfSome known (λ files. wanted files ≡ Ok read) → IsBegun (record { template = t; «data» = d; partials = ps }) old new → IfSome known (λ files. Leaves (wanted files) old new)
 lent_begun known wanted read t d ps old new ts ds pss is begun = left_begun known wanted read old new is
-    (subst (λ x. IsBegun (record { template = x; facts = read.facts; partials = read.partials }) old new) ts
-    (subst (λ x. IsBegun (record { template = t; facts = x; partials = read.partials }) old new) ds
-    (subst (λ x. IsBegun (record { template = t; facts = d; partials = x }) old new) pss begun)))
+    (subst (λ x. IsBegun (record { template = x; «data» = read.«data»; partials = read.partials }) old new) ts
+    (subst (λ x. IsBegun (record { template = t; «data» = x; partials = read.partials }) old new) ds
+    (subst (λ x. IsBegun (record { template = t; «data» = d; partials = x }) old new) pss begun)))
 
 -- ---- how the call ends, by the answer of writing the page
 
@@ -66,10 +66,10 @@ left_ended (Some files) wanted texts r o old new read written told = ended_by te
 
 -- the same of texts that are lent
 pub lent_ended : (known : Option Files) (wanted : Files → Result Texts Stop) (read : Texts) (t d : Text) (ps : Sources) (r : Result (Unit {0}) Error) (o : Outcome) (old new : Option (List ℕ))
-    → t ≡ read.template → d ≡ read.facts → ps ≡ read.partials
-    → IfSome known (λ files. wanted files ≡ Ok read) → (is_refused r ≡ false → IsWritten (record { template = t; facts = d; partials = ps }) r old new)
+    → t ≡ read.template → d ≡ read.«data» → ps ≡ read.partials
+    → IfSome known (λ files. wanted files ≡ Ok read) → (is_refused r ≡ false → IsWritten (record { template = t; «data» = d; partials = ps }) r old new)
     → MatchResult r (λ u. o ≡ Done) (λ e. o ≡ Fault e) → IfSome known (λ files. Ends (wanted files) o old new)
 lent_ended known wanted read t d ps r o old new ts ds pss is written told = left_ended known wanted read r o old new is (λ q.
-    (subst (λ x. IsWritten (record { template = x; facts = read.facts; partials = read.partials }) r old new) ts
-    (subst (λ x. IsWritten (record { template = t; facts = x; partials = read.partials }) r old new) ds
-    (subst (λ x. IsWritten (record { template = t; facts = d; partials = x }) r old new) pss (written q))))) told
+    (subst (λ x. IsWritten (record { template = x; «data» = read.«data»; partials = read.partials }) r old new) ts
+    (subst (λ x. IsWritten (record { template = t; «data» = x; partials = read.partials }) r old new) ds
+    (subst (λ x. IsWritten (record { template = t; «data» = d; partials = x }) r old new) pss (written q))))) told

@@ -36,10 +36,10 @@ sources_from files (p ∷ ps) done = text_at files p.1 >>= λ t. sources_from fi
     (done ++ (p.0, t) ∷ [])
 
 abbrev pub texts_at : Files → NamedFiles → Result Texts Stop
-texts_at files c = text_at files c.template >>= λ t. text_at files c.facts >>= λ d.
+texts_at files c = text_at files c.template >>= λ t. text_at files c.«data» >>= λ d.
     sources_from files c.partials [] >>= λ ps. Ok (record {
       template = t;
-      facts = d;
+      «data» = d;
       partials = ps;
     })
 

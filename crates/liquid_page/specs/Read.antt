@@ -16,6 +16,6 @@ IsTextOf wanted (Err File) = wanted ≡ None
 abbrev pub read_view : ReadFiles → Texts
 read_view r = record {
   template = string_bytes r.template;
-  facts = string_bytes r.«data»;
+  «data» = string_bytes r.«data»;
   partials = sources_of r.partials.items;
 }

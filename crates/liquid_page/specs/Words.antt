@@ -27,20 +27,20 @@ lent p = (p.0.now, p.1.now)
 
 pub record NamedFiles : Type 0 where
   pub template : List ℕ
-  pub facts : List ℕ
+  pub «data» : List ℕ
   pub partials : Named
 
 abbrev pub call_view : CommandLine → NamedFiles
 call_view c = record {
   template = c.template.now;
-  facts = c.«data».now;
+  «data» = c.«data».now;
   partials = map lent c.partials.items;
 }
 
 abbrev pub call_of : List (List ℕ) → Option NamedFiles
-call_of (template ∷ facts ∷ words) = option_map (λ ps. record {
+call_of (template ∷ «data» ∷ words) = option_map (λ ps. record {
   template = template;
-  facts = facts;
+  «data» = «data»;
   partials = ps;
 }) (pairs_from words [])
 call_of _ = None

@@ -189,13 +189,13 @@ pub fn write_page<W: Write + Drop>(
     ensures page { is_refused result.1 ≡ false →
         IsWritten (record {
           template = template.now;
-          facts = «data».now;
+          «data» = «data».now;
           partials = sources_of partials.now;
         }) result.1 (W.contents writer)
         (W.contents result.0) }
     ensures begun { IsBegun (record {
       template = template.now;
-      facts = «data».now;
+      «data» = «data».now;
       partials = sources_of partials.now;
     }) (W.contents writer) (W.contents result.0) }
 {

@@ -13,7 +13,7 @@ use Rattle.serde_json.specs.Data as json
 use Rattle.serde_json.specs.Find.{as_i64}
 use Rattle.serde_json.specs.Read.{read}
 use Rattle.liquid_json.specs.Json.{whole_number, datum_of, items_of, pairs_of, object_of, object_read}
-use Rattle.liquid_page_texts.specs.Page.{Texts, Refused, no_template, no_facts, bad_partial, IsPage, page, no_page}
+use Rattle.liquid_page_texts.specs.Page.{Texts, Refused, no_template, no_data, bad_partial, IsPage, page, no_page}
 use Rattle.liquid_page_texts.specs.PageLaw.{KindsOfPages}
 
 ended_whole : (o : Option ℤ) → Ended (whole_number o)
@@ -47,8 +47,8 @@ ended_read None = ended_err _ tt
 
 refused_kind : (l : Language) (texts : Texts) (kind : ErrorKind) → Refused l texts kind → T (is_run_kind kind) ⊎ IsOfSource kind
 refused_kind l texts kind (no_template none of_source) = inr of_source
-refused_kind l texts kind (no_facts only is) = inl ((ended_read (read texts.facts)).ended kind is)
-refused_kind l texts kind (bad_partial only facts bad of_source) = inr of_source
+refused_kind l texts kind (no_data only is) = inl ((ended_read (read texts.«data»)).ended kind is)
+refused_kind l texts kind (bad_partial only «data» bad of_source) = inr of_source
 
 -- the kind of a fault, or another one in place of a value
 abbrev kind_or : ErrorKind → Result Nothing ErrorKind → ErrorKind

@@ -28,7 +28,7 @@ use Rattle.liquid_model.proofs.Alike.{alike_same}
 use Rattle.liquid_syntax.specs.Templates.{partials_of}
 use Rattle.liquid_syntax.specs.declared.partials.Partials.{Partials}
 use Rattle.liquid_uses.specs.Covered.{SeesAlone}
-use Rattle.liquid_page_texts.specs.Page.{Texts, Sources, ArePartials, HasBadPartial, Read, Refused, no_template, no_facts, bad_partial, page, no_page, page_outcome}
+use Rattle.liquid_page_texts.specs.Page.{Texts, Sources, ArePartials, HasBadPartial, Read, Refused, no_template, no_data, bad_partial, page, no_page, page_outcome}
 use Rattle.liquid_page_texts.specs.Shown.{Reads, ReadsPartials, ReadsSeen, SamePage, Shows, ShowsPageOf, RanOut}
 
 -- memory ran out, or else
@@ -49,18 +49,18 @@ of_source _ h = refl
 pub template_refused : (l : Language) (texts : Texts) (e : Error) → ParsesTo l texts.template (Err e) → MayRefuse e.kind → Reads l texts (Err e)
 template_refused l texts e parses kinds = unless_either (is_memory e.kind) parses kinds (λ none kind. (no_template none kind, of_source e.kind kind))
 
-pub facts_refused : (l : Language) (texts : Texts) (tree : Nodes) (e : Error) → IsOnlyTree l tree texts.template → Faulted e.kind (data_of texts.facts) → Reads l texts (Err e)
-facts_refused l texts tree e only faulted = unless_memory (is_memory e.kind) faulted (λ not h. (no_facts only h.0, h.1))
+pub data_refused : (l : Language) (texts : Texts) (tree : Nodes) (e : Error) → IsOnlyTree l tree texts.template → Faulted e.kind (data_of texts.«data») → Reads l texts (Err e)
+data_refused l texts tree e only faulted = unless_memory (is_memory e.kind) faulted (λ not h. (no_data only h.0, h.1))
 
-pub partials_refused : (l : Language) (texts : Texts) (tree : Nodes) (facts : Pairs) (e : Error) → IsOnlyTree l tree texts.template → data_of texts.facts ≡ Ok facts → ReadsPartials l texts.partials [] (Err e) → Reads l texts (Err e)
-partials_refused l texts tree facts e only read bad = unless_memory (is_memory e.kind) bad (λ not h. (bad_partial only read h.0 h.1, of_source e.kind h.1))
+pub partials_refused : (l : Language) (texts : Texts) (tree : Nodes) («data» : Pairs) (e : Error) → IsOnlyTree l tree texts.template → data_of texts.«data» ≡ Ok «data» → ReadsPartials l texts.partials [] (Err e) → Reads l texts (Err e)
+partials_refused l texts tree «data» e only read bad = unless_memory (is_memory e.kind) bad (λ not h. (bad_partial only read h.0 h.1, of_source e.kind h.1))
 
 -- memory ran out before the texts were read
 pub memory_refused : (l : Language) (texts : Texts) (e : Error) → e.kind ≡ Memory → Reads l texts (Err e)
 memory_refused l texts e is = subst (λ (k : ErrorKind). MatchBool (is_memory k) ⊤ (Refused l texts k × (is_refusal k ≡ false))) (sym is) tt
 
-pub memory_faulted : (facts : List ℕ) (p : Partials) (nodes : Nodes) (e : Error) → e.kind ≡ Memory → ReadsSeen facts p nodes (Err e)
-memory_faulted facts p nodes e is = subst (λ (k : ErrorKind). Faulted k (data_of facts)) (sym is) tt
+pub memory_faulted : («data» : List ℕ) (p : Partials) (nodes : Nodes) (e : Error) → e.kind ≡ Memory → ReadsSeen «data» p nodes (Err e)
+memory_faulted «data» p nodes e is = subst (λ (k : ErrorKind). Faulted k (data_of «data»)) (sym is) tt
 
 -- a run sees no more of its data than is left
 same_page : (U : Uses) (p : Partials) (nodes : Nodes) (ps qs : Pairs) → AlikeKeys U ps qs → SeesAlone U p nodes → SamePage (partials_of p) nodes ps qs
@@ -70,19 +70,19 @@ same_page U p nodes ps qs alike alone =
     (record { local = λ name. alike_same (U name) _; assigned = λ name. alike_same (U name) _; counters = λ name. alike_same (U name) _; globals = alike; registers = refl }) in
     (runs.text, runs.end)
 
-pub seen_by : (facts : List ℕ) (p : Partials) (nodes : Nodes) (U : Uses) (r : Result Outer Error) → SeesAlone U p nodes → AnswersAlike (λ (m : Outer). pairs_view m.entries) U r (data_of facts) → ReadsSeen facts p nodes r
-seen_by facts p nodes U (Ok m) alone h = (h.0, h.1, same_page U p nodes h.0 (pairs_view m.entries) h.2 alone)
-seen_by facts p nodes U (Err e) alone h = h
+pub seen_by : («data» : List ℕ) (p : Partials) (nodes : Nodes) (U : Uses) (r : Result Outer Error) → SeesAlone U p nodes → AnswersAlike (λ (m : Outer). pairs_view m.entries) U r (data_of «data») → ReadsSeen «data» p nodes r
+seen_by «data» p nodes U (Ok m) alone h = (h.0, h.1, same_page U p nodes h.0 (pairs_view m.entries) h.2 alone)
+seen_by «data» p nodes U (Err e) alone h = h
 
-pub whole_by : (facts : List ℕ) (p : Partials) (nodes : Nodes) (r : Result Outer Error) → Answers (λ (m : Outer). pairs_view m.entries) r (data_of facts) → ReadsSeen facts p nodes r
-whole_by facts p nodes (Ok m) h = (pairs_view m.entries, h, (refl, refl))
-whole_by facts p nodes (Err e) h = h
+pub whole_by : («data» : List ℕ) (p : Partials) (nodes : Nodes) (r : Result Outer Error) → Answers (λ (m : Outer). pairs_view m.entries) r (data_of «data») → ReadsSeen «data» p nodes r
+whole_by «data» p nodes (Ok m) h = (pairs_view m.entries, h, (refl, refl))
+whole_by «data» p nodes (Err e) h = h
 
 pub seen_shown : (l : Language) (texts : Texts) (p : Partials) (nodes : Nodes) (ps qs : Pairs) → IsOnlyTree l nodes texts.template → ArePartials l texts.partials [] (partials_of p)
-    → data_of texts.facts ≡ Ok ps → SamePage (partials_of p) nodes ps qs → ShowsPageOf l texts (record { tree = nodes; facts = qs; partials = partials_of p })
-seen_shown l texts p nodes ps qs only partials facts same = record {
-  read = record { tree = nodes; facts = ps; partials = partials_of p };
-  is_read = record { tree = only; facts = facts; partials = partials };
+    → data_of texts.«data» ≡ Ok ps → SamePage (partials_of p) nodes ps qs → ShowsPageOf l texts (record { tree = nodes; «data» = qs; partials = partials_of p })
+seen_shown l texts p nodes ps qs only partials «data» same = record {
+  read = record { tree = nodes; «data» = ps; partials = partials_of p };
+  is_read = record { tree = only; «data» = «data»; partials = partials };
   text = same.0;
   end = same.1;
 }

@@ -28,7 +28,7 @@ sources_of ps = map (λ p. (string_bytes p.0, string_bytes p.1)) ps
 
 pub record Texts : Type 0 where
   pub template : Text
-  pub facts : Text
+  pub «data» : Text
   pub partials : Sources
 
 -- partials by name
@@ -49,22 +49,22 @@ HasBadPartial l (p ∷ ps) = HasNoTree l p.1 ⊎ ((t : Nodes) × IsOnlyTree l t 
 -- what texts are read as
 pub record Read : Type 0 where
   pub tree : Nodes
-  pub facts : Pairs
+  pub «data» : Pairs
   pub partials : Trees
 
 pub record IsRead (l : Language) (texts : Texts) (read : Read) : Type 0 where
   pub tree : IsOnlyTree l read.tree texts.template
-  pub facts : data_of texts.facts ≡ Ok read.facts
+  pub «data» : data_of texts.«data» ≡ Ok read.«data»
   pub partials : ArePartials l texts.partials [] read.partials
 
 -- why texts are not read: the template, the data and the partials are looked at in this order
 pub data Refused (l : Language) (texts : Texts) : ErrorKind → Type 0 where
   no_template : {kind : ErrorKind} → HasNoTree l texts.template → IsOfSource kind →
       Refused l texts kind
-  no_facts : {kind : ErrorKind} {tree : Nodes} → IsOnlyTree l tree texts.template →
-      data_of texts.facts ≡ Err kind → Refused l texts kind
-  bad_partial : {kind : ErrorKind} {tree : Nodes} {facts : Pairs} →
-      IsOnlyTree l tree texts.template → data_of texts.facts ≡ Ok facts →
+  no_data : {kind : ErrorKind} {tree : Nodes} → IsOnlyTree l tree texts.template →
+      data_of texts.«data» ≡ Err kind → Refused l texts kind
+  bad_partial : {kind : ErrorKind} {tree : Nodes} {«data» : Pairs} →
+      IsOnlyTree l tree texts.template → data_of texts.«data» ≡ Ok «data» →
       HasBadPartial l texts.partials → IsOfSource kind → Refused l texts kind
 
 -- how deep partials may be nested in a page
@@ -72,7 +72,7 @@ abbrev pub page_outcome : Read → Outcome Nothing
 page_outcome read = meaning (record {
   answers = answers_with no_host;
   partials = read.partials;
-}) 32 read.tree (merged_layers (new_layers (map_of read.facts)))
+}) 32 read.tree (merged_layers (new_layers (map_of read.«data»)))
 
 pub data IsPage (l : Language) (texts : Texts) : Text → Result Nothing ErrorKind → Type 0 where
   page : (read : Read) → IsRead l texts read →

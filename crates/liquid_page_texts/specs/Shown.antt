@@ -27,7 +27,7 @@ use Rattle.liquid_page_texts.specs.declared.page.ReadTexts.{ReadTexts}
 abbrev pub read_view : ReadTexts → Read
 read_view r = record {
   tree = tree_of r.template;
-  facts = pairs_view r.«data».entries;
+  «data» = pairs_view r.«data».entries;
   partials = partials_of r.partials;
 }
 
@@ -42,15 +42,15 @@ pub record ShowsPageOf (l : Language) (texts : Texts) (r : Read) : Type 0 where
 -- a run over these data writes the same text as one over those, and ends alike
 abbrev pub SamePage : Trees → Nodes → Pairs → Pairs → Type 0
 SamePage partials tree ps qs =
-    let whole = page_outcome (record { tree = tree; facts = ps; partials = partials }) in
-    let seen = page_outcome (record { tree = tree; facts = qs; partials = partials }) in
+    let whole = page_outcome (record { tree = tree; «data» = ps; partials = partials }) in
+    let seen = page_outcome (record { tree = tree; «data» = qs; partials = partials }) in
     (whole.text ≡ seen.text) × (whole.end ≡ seen.end)
 
 -- data that show the page of those of the text; or why there are none, unless memory ran out
 abbrev pub ReadsSeen : Text → Partials → Nodes → Result Outer Error → Type 0
-ReadsSeen facts p nodes (Ok m) = (ps : Pairs) × (data_of facts ≡ Ok ps)
+ReadsSeen «data» p nodes (Ok m) = (ps : Pairs) × (data_of «data» ≡ Ok ps)
     × SamePage (partials_of p) nodes ps (pairs_view m.entries)
-ReadsSeen facts p nodes (Err e) = Faulted e.kind (data_of facts)
+ReadsSeen «data» p nodes (Err e) = Faulted e.kind (data_of «data»)
 
 -- the texts, read; or why they are not, unless memory ran out
 abbrev pub Reads : Language → Texts → Result ReadTexts Error → Type 0

@@ -57,7 +57,7 @@ pub fn run<W: CountedWrite>(
     ensures page { RanOut result (W.contents writer.old) (W.contents writer.new)
         ⊎ ShowsStandard (record {
           template = template.now;
-          facts = «data».now;
+          «data» = «data».now;
           partials = sources_of partials.now;
         }) result (W.contents writer.old)
         (W.contents writer.new) }
@@ -84,7 +84,7 @@ pub fn run_last<W: CountedWrite>(
     ensures page { RanOut result (W.contents writer.old) (W.contents writer.new)
         ⊎ ShowsStandard (record {
           template = template.now;
-          facts = «data».now;
+          «data» = «data».now;
           partials = sources_of partials.now;
         }) result (W.contents writer.old)
         (W.contents writer.new) }
@@ -110,7 +110,7 @@ fn read_texts(
 ) -> Result<ReadTexts>
     ensures { Reads language.now (record {
       template = template.now;
-      facts = «data».now;
+      «data» = «data».now;
       partials = sources_of partials.now;
     }) result }
 {

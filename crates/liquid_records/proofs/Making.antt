@@ -22,9 +22,9 @@ pub unnamed_is : (job : Job) (pattern : Option Nodes) (why : Reason) → Err why
 unnamed_is job pattern why named = ap (λ n. n then λ x. made_page x (page_of job job.template)) named
 
 -- what is made over the data with a record's over it is what the record comes to
-pub made_with : (job : Job) (facts : Pairs) (over : Map Datum) (pattern : Option Nodes) (x : Result Made Reason) → over ≡ merged (map_of facts) job.shared
-    → x ≡ made_by (record job { shared = over }) pattern → x ≡ made_by (with_record facts job) pattern
-made_with job facts over pattern x e made = made ∙ (λ i. made_by (record job { shared = e i }) pattern)
+pub made_with : (job : Job) («data» : Pairs) (over : Map Datum) (pattern : Option Nodes) (x : Result Made Reason) → over ≡ merged (map_of «data») job.shared
+    → x ≡ made_by (record job { shared = over }) pattern → x ≡ made_by (with_record «data» job) pattern
+made_with job «data» over pattern x e made = made ∙ (λ i. made_by (record job { shared = e i }) pattern)
 
 -- the shared data is there again
 pub same_job : (job : Job) (over : Map Datum) → over ≡ job.shared → record job { shared = over } ≡ job

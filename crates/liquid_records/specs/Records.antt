@@ -1,8 +1,8 @@
 -- What a record comes to: a page and the name of its file, or why it has none. It depends on the
 -- job and the record's own data alone.
 --     page_of job nodes      the page of a template over the job's data, rendered from nothing
---     comes_to job pattern facts      what a record with this data comes to, where files are named
---                                     by a pattern
+--     comes_to job pattern data      what a record with this data comes to, where files are named
+--                                    by a pattern
 use Rattle.std.specs.Prelude.{ℕ, cond, List, [], Option, Some, None, Result, Ok, Err}
 use Rattle.liquid_model.specs.Data.{Datum, Pairs}
 use Rattle.liquid_model.specs.Maps.{Map, merged}
@@ -46,7 +46,7 @@ page_of job nodes = page_over job.depth job.partials job.shared nodes
 
 -- the job with a record's data over the shared data
 abbrev pub with_record : Pairs → Job → Job
-with_record facts job = record job { shared = merged (map_of facts) job.shared }
+with_record «data» job = record job { shared = merged (map_of «data») job.shared }
 
 abbrev pub checked_name : Text → Result Text Reason
 checked_name name = cond (is_file_name name) (Ok name) (Err (bad_name name))
@@ -78,5 +78,5 @@ made_by job pattern = name_of job pattern then λ name.
     made_page name (page_of job job.template)
 
 abbrev pub comes_to : Job → Option Nodes → Result Pairs ErrorKind → Result Made Reason
-comes_to job pattern (Ok facts) = made_by (with_record facts job) pattern
+comes_to job pattern (Ok «data») = made_by (with_record «data» job) pattern
 comes_to job pattern (Err kind) = Err (no_data kind)

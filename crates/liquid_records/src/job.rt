@@ -59,12 +59,12 @@ impl Job {
     pub fn made(
         self,
         alloc: Global,
-        facts: Object,
+        data: Object,
         pattern: Option<&Template>,
     ) -> Result<(Job, RecordResult<Made>)>
         ensures made { IsValueOrMemory (λ p. outcome_view made_view p.1) result
             (comes_to (job_view self) (pattern_view pattern.entry)
-            (Ok (pairs_view facts.entries))) }
+            (Ok (pairs_view «data».entries))) }
         ensures same { IfOk result (λ p. job_view p.0 ≡ job_view self) }
     {
         let Job {
@@ -73,7 +73,7 @@ impl Job {
             depth,
             shared,
         } = self;
-        let (over, covered) = lay_over(alloc, shared, facts)?;
+        let (over, covered) = lay_over(alloc, shared, data)?;
         let job = Job {
             template,
             partials,
@@ -109,7 +109,7 @@ impl Job {
         ensures same { IfOk result (λ p. job_view p.0 ≡ job_view self) }
     {
         match data_from_json(alloc, text) {
-            Ok(facts) => self.made(alloc, facts, pattern),
+            Ok(data) => self.made(alloc, data, pattern),
             Err(fault) => match fault.kind {
                 ErrorKind::Memory => Err(fault),
                 _ => Ok((self, Err(Why::NoData(fault)))),

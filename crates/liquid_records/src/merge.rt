@@ -64,16 +64,16 @@ impl Merge {
         self,
         alloc: Global,
         number: usize,
-        facts: Object,
+        data: Object,
         disk: &mut D,
     ) -> Result<(Merge, Fate)>
         ensures step { IfOk result
             (λ p. IsStep number (comes_to (job_of self) (Some (pattern_of self))
-            (Ok (pairs_view facts.entries)))
+            (Ok (pairs_view «data».entries)))
             (names_of self) (fate_view p.1) (names_of p.0)) }
         ensures files { IfSome (D.files disk.old) (λ f. IfOk result (λ p.
-            Leaves (comes_to (job_of self) (Some (pattern_of self)) (Ok (pairs_view facts.entries)))
-            (fate_view p.1) f (D.files disk.new))) }
+            Leaves (comes_to (job_of self) (Some (pattern_of self))
+            (Ok (pairs_view «data».entries))) (fate_view p.1) f (D.files disk.new))) }
         ensures job { IfOk result (λ p. job_of p.0 ≡ job_of self) }
         ensures pattern { IfOk result (λ p. pattern_of p.0 ≡ pattern_of self) }
         ensures untouched { OnErr result (D.files disk.new ≡ D.files disk.old) }
@@ -84,7 +84,7 @@ impl Merge {
             pattern,
             names,
         } = self;
-        let (job, outcome) = job.made(alloc, facts, Some(&pattern))?;
+        let (job, outcome) = job.made(alloc, data, Some(&pattern))?;
         let mut names = names;
         let fate = put_if_made(alloc, number, outcome, &mut names, disk)?;
         let merge = Merge {
@@ -116,7 +116,7 @@ impl Merge {
         ensures memory { IfErr result (λ e. e.kind ≡ ErrorKind.Memory) }
     {
         match data_from_json(alloc, text) {
-            Ok(facts) => self.take(alloc, number, facts, disk),
+            Ok(data) => self.take(alloc, number, data, disk),
             Err(fault) => match fault.kind {
                 ErrorKind::Memory => Err(fault),
                 _ => Ok((self, Err(Failure::NoPage(Why::NoData(fault))))),

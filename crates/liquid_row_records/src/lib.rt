@@ -12,5 +12,5 @@ mod rows;
 pub use head::{HeadFault, column_names};
 pub use lines::Lines;
 pub use record::{RowFault, record_of};
-pub use records::{Facts, RecordFacts, RecordFault, Records};
+pub use records::{RecordData, RecordFault, RecordReading, Records};
 pub use rows::{HeadStop, Rows};

@@ -24,7 +24,7 @@ enum Source<R> {
 
 /// The data of a record.
 #[derive(Drop)]
-pub enum Facts<'r> {
+pub enum RecordData<'r> {
     /// As a text of JSON.
     Text(&'r str),
     Data(Object),
@@ -42,7 +42,7 @@ pub enum RecordFault {
 }
 
 /// The data of a record, or why it has none.
-pub type RecordFacts<'r> = std::result::Result<Facts<'r>, RecordFault>;
+pub type RecordReading<'r> = std::result::Result<RecordData<'r>, RecordFault>;
 
 impl<R: Read + Drop> Records<R> {
     /// The lines that a reader gives.
@@ -84,11 +84,11 @@ impl<R: Read + Drop> Records<R> {
 
     /// Its data, or why it has none. The answer is `Memory` where a growth was refused, and no
     /// other kind.
-    pub fn facts(&self, alloc: Global, form: DataForm) -> Result<RecordFacts<'_>> {
+    pub fn data(&self, alloc: Global, form: DataForm) -> Result<RecordReading<'_>> {
         match &self.source {
-            Source::Lines(lines) => facts_of_line(alloc, lines.line(), form),
+            Source::Lines(lines) => data_of_line(alloc, lines.line(), form),
             Source::Rows(rows) => match rows.data(alloc)? {
-                Ok(data) => Ok(Ok(Facts::Data(in_form(alloc, data, form)?))),
+                Ok(data) => Ok(Ok(RecordData::Data(in_form(alloc, data, form)?))),
                 Err(fault) => Ok(Err(RecordFault::NoRow(fault))),
             },
         }
@@ -96,15 +96,15 @@ impl<R: Read + Drop> Records<R> {
 }
 
 /// The data of a line. It stays a text where it is read as it stands.
-fn facts_of_line<'r>(alloc: Global, line: &'r [u8], form: DataForm) -> Result<RecordFacts<'r>> {
+fn data_of_line<'r>(alloc: Global, line: &'r [u8], form: DataForm) -> Result<RecordReading<'r>> {
     let Ok(text) = str::from_utf8(line) else {
         return Ok(Err(RecordFault::NotUtf8));
     };
     if !form.decimals_as_texts && !form.dates {
-        return Ok(Ok(Facts::Text(text)));
+        return Ok(Ok(RecordData::Text(text)));
     }
     match data_in_form(alloc, text, form) {
-        Ok(data) => Ok(Ok(Facts::Data(data))),
+        Ok(data) => Ok(Ok(RecordData::Data(data))),
         Err(fault) => match fault.kind {
             ErrorKind::Memory => Err(fault),
             _ => Ok(Err(RecordFault::NoData(fault))),

@@ -12,7 +12,7 @@ loop-key-preserved c =
     let done = l.invariant.0 in
     let e : Entry = (c.in-Some.key.now, c.in-Some.value.now) in
     let left = c.next.new.self in
-    let all : c.args.facts.now.entries ≡ done ++ e ∷ left = l.invariant.1 ∙ ap (λ es. done ++ es) c.in-Some.ensures.steps in
+    let all : c.args.«data».now.entries ≡ done ++ e ∷ left = l.invariant.1 ∙ ap (λ es. done ++ es) c.in-Some.ensures.steps in
     let last = put_last done e left (subst (λ es. IsStrictlySortedBy string_cmp (keys_of es)) all c.iter-key-items.ensures.ordered) in
     let named : string_bytes c.in_ok-name.name ≡ string_bytes e.0 = search rules in (
       done ++ e ∷ [],

@@ -5,4 +5,4 @@ use Rattle.liquid_c.proofs.completing.copy_of.Given as goal
 
 abbrev pub invariant-loop-key : goal.invariant-loop-key
 invariant-loop-key l =
-    (done : List Entry) × (l.facts.entries ≡ done ++ l.key-iterator) × (pairs_view l.copies.entries ≡ pairs_view done)
+    (done : List Entry) × (l.«data».entries ≡ done ++ l.key-iterator) × (pairs_view l.copies.entries ≡ pairs_view done)

@@ -5,5 +5,5 @@ use Rattle.liquid_lib.proofs.page.state_over.Goals as goal
 
 pub returns-clause-layers : goal.returns-clause-layers
 returns-clause-layers c =
-    let over : Layers → Layers = λ l. record l { globals = held c.args.facts.now } in
+    let over : Layers → Layers = λ l. record l { globals = held c.args.«data».now } in
     c.from_parts.ensures.layers ∙ ap over (c.into_parts-parts.ensures c.new-2.ensures.loops ∙ c.new-2.ensures.layers)

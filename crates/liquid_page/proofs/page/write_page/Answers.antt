@@ -12,7 +12,7 @@ use Rattle.liquid_page.proofs.page.write_page.Goals.{in-Ok-answer, in-Err-answer
 pub returns-clause-begun : goal.returns-clause-begun
 returns-clause-begun g c =
     let contents = g.W.Write.contents in
-    let texts : Texts = record { template = c.args.template.now; facts = c.args.«data».now; partials = sources_of c.args.partials.now } in
+    let texts : Texts = record { template = c.args.template.now; «data» = c.args.«data».now; partials = sources_of c.args.partials.now } in
     let start = subst (λ b. Keeps (contents c.args.writer) (behind contents b)) (sym c.new-counted.ensures.writer) c.in-Ok.ensures.held in
     let flushed : Keeps (behind contents c.into_inner-buffered.result) (behind contents c.match-answer.buffered) =
     elim c.match-answer.branch [

@@ -1,5 +1,5 @@
 use Rattle.liquid_lib.proofs.Renderings.{held_none}
-use Rattle.liquid_c.proofs.render.empty_facts.Goals as goal
+use Rattle.liquid_c.proofs.render.empty_data.Goals as goal
 
 pub returns : goal.returns
 returns c = held_none c.new.result c.new.ensures.empty
