@@ -1,7 +1,7 @@
 -- A state after a change.
 use Rattle.std.proofs.Common.{◌≡◌, ℕ, List, [], ◌∷◌, ◌++◌, reverse, map, Bool, true, false, cond, Some, bytes_eq, sym, ap, refl, ◌∙◌}
 use mathlib.Core.Path.{fun_ext}
-use Rattle.std.proofs.Common.{Option, None, IsSome, length, take, ◌<◌, ◌+◌, ◌-◌, arith, true≢false, String, Global, string_bytes, option_map}
+use Rattle.std.proofs.Common.{Option, None, IsSome, is_some, length, take, ◌<◌, ◌+◌, ◌-◌, arith, true≢false, String, Global, string_bytes, option_map}
 use Rattle.std.specs.Prelude.{option_to_list}
 use Rattle.std.specs.BTreeMap.{BTreeMap, get_by_text, UpdatesBy}
 use Rattle.std.specs.String.{string_cmp}
@@ -309,11 +309,11 @@ pub cycle_of : (s : State) (group : Text) → (layers_of s).registers.cycles gro
 unfolding layers_of
 cycle_of s group = refl
 
--- m is s's assigned variables after `insert` or `get_mut`, of which the premise is the clause `updates`
 viewed : (b : Bool) (v : Value) (o : Option Value) → option_map view (cond b (Some v) o) ≡ cond b (Some (view v)) (option_map view o)
 viewed true v o = refl
 viewed false v o = refl
 
+-- m is s's assigned variables after a value of v is written at the name
 pub assigned_set : (s : State) (m : Outer) (name : Text) (v : Value) → UpdatesBy string_cmp (λ k. slice_cmp nat_cmp name (string_bytes k)) s.assigned m (Some v)
     → layers_of (record s { assigned = m }) ≡ with_assigned name (view v) (layers_of s)
 unfolding layers_of map_of insert
@@ -325,10 +325,12 @@ assigned_set s m name v h = λ i. record {
   registers = record { interrupt = s.interrupt; cycles = (λ group. get_by_text s.cycles group); changed = option_map string_bytes s.changed };
 }
 
--- no variable of that name was assigned
-pub none_assigned : (s : State) (name : Text) → get_by_text s.assigned name ≡ None → (layers_of s).assigned name ≡ None
+-- where the map of the assigned variables has no entry of a name, none was assigned
+pub none_assigned : (s : State) (name : Text) → None ≡ get_by_text s.assigned name → IsSome ((layers_of s).assigned name) → ⊥
 unfolding layers_of map_of
-none_assigned s name h = sym (view-lookup name s.assigned.entries) ∙ ap (option_map view) h
+none_assigned s name none some =
+    let is : value_at name (pairs_view s.assigned.entries) ≡ None = sym (view-lookup name s.assigned.entries) ∙ ap (option_map view) (sym none) in
+    true≢false (sym some ∙ ap is_some is)
 
 -- m is s's map of cycles after `insert`, of which the premise is the clause `updates`
 pub cycle_set : (s : State) (m : BTreeMap (String Global) ℕ) (group : Text) (index : ℕ) → UpdatesBy string_cmp (λ k. slice_cmp nat_cmp group (string_bytes k)) s.cycles m (Some index)

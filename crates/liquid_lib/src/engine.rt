@@ -70,6 +70,7 @@ pub(crate) fn run_range<'d, W: CountedWrite, H: NamedFilters>(
     let mut at = from;
     while at < to {
         if let Node::Text(text) = &nodes[at] {
+            // a text ends by `Memory` or `Write` alone, and these have no location
             run_text(alloc, context, text.as_str(), out, state)?;
             if state.interrupt.is_some() {
                 return Ok(());
