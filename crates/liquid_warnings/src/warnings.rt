@@ -4,7 +4,6 @@ ghost use Rattle.std.specs.Prelude.{◌≡◌, IfErr, length, nat_le};
 use crate::attributes::add_unescaped;
 use crate::calls::PartialFiles;
 use crate::dates::no_clock;
-use crate::doubts::add_doubts;
 use crate::else_if::add_else_if;
 use crate::loops::no_list;
 use crate::remark::Remark;
@@ -87,7 +86,9 @@ fn own_warnings(
     for (place, file) in files.iter().enumerate() {
         let mut remarks = Vec::new(alloc);
         add_source_warnings(alloc, file, given, &mut remarks)?;
-        add_template_warnings(alloc, place, file, (given, whole), &mut remarks)?;
+        if let Some(template) = file.template {
+            whole.add_template_warnings(alloc, place, template, given.data, &mut remarks)?;
+        }
         warnings.push(remarks)?;
     }
     Ok(warnings)
@@ -112,29 +113,8 @@ fn add_source_warnings(
     Ok(())
 }
 
-/// Adds the warnings about what a template says.
-fn add_template_warnings(
-    alloc: Global,
-    place: usize,
-    file: &CheckedFile<'_>,
-    (given, whole): (Given<'_>, &Whole<'_>),
-    remarks: &mut Vec<Remark>,
-) -> Result<()>
-    ensures memory { IfErr result (λ e. e.kind ≡ ErrorKind.Memory) }
-{
-    let Some(template) = file.template else {
-        return Ok(());
-    };
-    add_node_warnings(alloc, template, remarks)?;
-    whole.add_name_warnings(alloc, place, given.data, remarks)?;
-    match given.data {
-        Some(data) => add_doubts(alloc, template, data, &whole.set, remarks),
-        None => Ok(()),
-    }
-}
-
 /// Adds the warnings of single tags and outputs.
-fn add_node_warnings(
+pub(crate) fn add_node_warnings(
     alloc: Global,
     template: &Template,
     remarks: &mut Vec<Remark>,

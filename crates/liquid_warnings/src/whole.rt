@@ -1,11 +1,14 @@
 //! What is known of all templates together.
+ghost use Rattle.std.specs.Prelude.{◌≡◌, IfErr};
+
 use crate::calls::{Call, PartialFiles, calls_of};
+use crate::doubts::add_doubts;
 use crate::names::{NamesOf, Places, add_name, names_of, unknown_name, unused_variable};
 use crate::partials::{missing_partial, recursive_partial, unused_partial};
 use crate::recursion::calls_back;
 use crate::remark::Remark;
-use crate::warnings::{CheckedFile, Warnings, is_full};
-use liquid_core::Object;
+use crate::warnings::{CheckedFile, Warnings, add_node_warnings, is_full};
+use liquid_core::{ErrorKind, Object};
 use liquid_syntax::Template;
 use std::alloc::{AllocError, Global};
 use std::collections::BTreeSet;
@@ -18,7 +21,7 @@ pub(crate) struct Whole<'t> {
     names: Vec<Option<NamesOf>>,
     /// The names that any of them reads, and those that any of them sets.
     read: BTreeSet<String>,
-    pub(crate) set: BTreeSet<String>,
+    set: BTreeSet<String>,
 }
 
 impl Drop for Whole<'_> {
@@ -95,8 +98,27 @@ impl<'t> Whole<'t> {
         self.calls_at(place).iter().any(|call| call.file.is_none())
     }
 
+    /// Adds the warnings about what the template of a file says.
+    pub(crate) fn add_template_warnings(
+        &self,
+        alloc: Global,
+        place: usize,
+        template: &Template,
+        data: Option<&Object>,
+        remarks: &mut Vec<Remark>,
+    ) -> liquid_core::Result<()>
+        ensures memory { IfErr result (λ e. e.kind ≡ ErrorKind.Memory) }
+    {
+        add_node_warnings(alloc, template, remarks)?;
+        self.add_name_warnings(alloc, place, data, remarks)?;
+        match data {
+            Some(data) => add_doubts(alloc, template, data, &self.set, remarks),
+            None => Ok(()),
+        }
+    }
+
     /// Adds the warnings about the names of a file.
-    pub(crate) fn add_name_warnings(
+    fn add_name_warnings(
         &self,
         alloc: Global,
         place: usize,
