@@ -1,5 +1,5 @@
 -- The groups of a list have its items, each once, and keep their order.
-use Rattle.std.proofs.Common.{◌≡◌, ◌⊎◌, inl, inr, Bool, true, false, ◌||◌, cond, List, [], ◌∷◌, ◌++◌, filter, flat_map, refl, sym, ap, ap₂, ◌∙◌, subst, if◌then◌else◌}
+use Rattle.std.proofs.Common.{◌≡◌, Bool, true, false, ◌||◌, cond, List, [], ◌∷◌, ◌++◌, filter, flat_map, refl, sym, ap, ap₂, ◌∙◌, subst, if◌then◌else◌}
 use Rattle.std.proofs.lemmas.Bool.{or_parts, false≢true}
 use Rattle.std.proofs.lemmas.List.Elements.{filter-append}
 use Rattle.std.proofs.lemmas.List.Sorted.{IsPermutation-refl, IsPermutation-trans, IsPermutation-cons, IsPermutation-append_right, IsPermutation-middle}
@@ -66,23 +66,26 @@ module _ (name : Text) (d : Datum) (ds : List Datum) where
   in_one : (us : List Text) → Differ us → has_text named us ≡ true → IsPermutation (all_with us) (d ∷ all_of us)
   unfolding IsDistinct
   in_one [] differ h = absurd (false≢true h)
-  in_one (u ∷ us) differ h = by (same_text u named) refl
+  in_one (u ∷ us) differ h = by (same_text u named) refl differ.0 (in_one us differ.1)
     where
-      by : (b : Bool) → same_text u named ≡ b → IsPermutation (cond (same_text u named) (d ∷ items_named name ds u) (items_named name ds u) ++ all_with us) (d ∷ (items_named name ds u ++ all_of us))
-      by true e =
-          let same = (bytes_eq-Decides u named).0 e in
-          let others = in_others us (same_all u us same differ.0) in
-          rw (e, others) (IsPermutation-refl (d ∷ (items_named name ds u ++ all_of us)))
-      by false e =
-          let later = ap (λ b. b || has_text named us) (sym (same_by u named false e)) ∙ h in
-          rw e (IsPermutation-trans _ _ _ (IsPermutation-append_right (items_named name ds u) _ _ (in_one us differ.1 later)) (IsPermutation-middle (items_named name ds u) d (all_of us)))
+      by : (b : Bool) → same_text u named ≡ b → AllByRecursion (λ v. same_text u v ≡ false) us → (has_text named us ≡ true → IsPermutation (all_with us) (d ∷ all_of us))
+          → IsPermutation (cond (same_text u named) (d ∷ items_named name ds u) (items_named name ds u) ++ all_with us) (d ∷ (items_named name ds u ++ all_of us))
+      by true e apart next =
+          let others = in_others us (same_all u us ((bytes_eq-Decides u named).0 e) apart) in
+          let all = ap₂ (λ c es. cond c (d ∷ items_named name ds u) (items_named name ds u) ++ es) e others in
+          subst (λ es. IsPermutation es (d ∷ (items_named name ds u ++ all_of us))) (sym all) (IsPermutation-refl (d ∷ (items_named name ds u ++ all_of us)))
+      by false e apart next =
+          let later = ap (λ c. c || has_text named us) (sym (same_by u named false e)) ∙ h in
+          let moved = IsPermutation-trans _ _ _ (IsPermutation-append_right (items_named name ds u) _ _ (next later)) (IsPermutation-middle (items_named name ds u) d (all_of us)) in
+          let all = ap (λ c. cond c (d ∷ items_named name ds u) (items_named name ds u) ++ all_with us) e in
+          subst (λ es. IsPermutation es (d ∷ (items_named name ds u ++ all_of us))) (sym all) moved
 
-no_items : (us : List Text) → flat_map {T = Text} {U = Datum} (λ t. []) us ≡ []
-no_items [] = refl
-no_items (u ∷ us) = no_items us
+no_items : (name : Text) (us : List Text) → flat_map (items_named name []) us ≡ []
+no_items name [] = refl
+no_items name (u ∷ us) = no_items name us
 
 all_items : (name : Text) (us : List Text) (ds : List Datum) → Differ us → IsPermutation (flat_map (items_named name ds) (names_after name us ds)) ds
-all_items name us [] differ = subst (λ es. IsPermutation es []) (sym (no_items us)) (IsPermutation-refl [])
+all_items name us [] differ = subst (λ es. IsPermutation es []) (sym (no_items name us)) (IsPermutation-refl [])
 all_items name us (d ∷ ds) differ =
     let t = group_name name d in
     let next = noted t us in

@@ -10,18 +10,18 @@ use Rattle.liquid_jekyll_host_filters.specs.Groups.{group_name, has_text, items_
 use Rattle.liquid_jekyll_host_filters.specs.inside.Members.{item_at, member_at}
 
 -- ---- among the texts
-pub true_not_false : (t : Bool) → t ≡ true → t ≡ false → ⊥
+true_not_false : (t : Bool) → t ≡ true → t ≡ false → ⊥
 true_not_false true h k = cc
 true_not_false false h k = cc
 
-pub own : (t : Text) → same_text t t ≡ true
+own : (t : Text) → same_text t t ≡ true
 own t = (bytes_eq-Decides t t).1 refl
 
-pub or_true : (b : Bool) → (b || true) ≡ true
+or_true : (b : Bool) → (b || true) ≡ true
 or_true true = refl
 or_true false = refl
 
-pub or_false : (b : Bool) → (b || false) ≡ b
+or_false : (b : Bool) → (b || false) ≡ b
 or_false true = refl
 or_false false = refl
 
@@ -29,7 +29,7 @@ or_or : (a b c : Bool) → (a || (b || c)) ≡ ((a || b) || c)
 or_or true b c = refl
 or_or false b c = refl
 
-pub has_behind : (q : Text) (us : List Text) (t : Text) → has_text q (us ++ t ∷ []) ≡ (has_text q us || same_text q t)
+has_behind : (q : Text) (us : List Text) (t : Text) → has_text q (us ++ t ∷ []) ≡ (has_text q us || same_text q t)
 has_behind q [] t = or_false (same_text q t)
 has_behind q (u ∷ us) t = ap (λ b. same_text q u || b) (has_behind q us t) ∙ or_or (same_text q u) (has_text q us) (same_text q t)
 
