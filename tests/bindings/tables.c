@@ -180,6 +180,9 @@ static void of_bounds(void) {
     is("long", render(), BIKLEINU_LACKING);
     tests++;
     if (bikleinu_calls(&page) < 4 || bikleinu_calls(&page) > 5) wrong++, printf("long ones: %zu\n", bikleinu_calls(&page));
+    tests++;
+    size_t length = bikleinu_length(&page, BIKLEINU_TEXT), last = 262144 + strlen(",[\"shout\",\"10\"]");
+    if (length > BIKLEINU_CALLS_BYTES + last) wrong++, printf("long ones of %zu bytes\n", length);
     end();
 }
 

@@ -1,12 +1,12 @@
 -- Pages whose filters of a host answer by a table.
-use Rattle.std.specs.Prelude.{ℕ, List, false}
+use Rattle.std.specs.Prelude.{ℕ, List, false, ⊤}
 use Rattle.liquid_model.specs.Data.{Datum}
 use Rattle.liquid_model.specs.Maps.{Map}
 use Rattle.liquid_model.specs.Texts.{Text}
 use Rattle.liquid_evaluation.specs.Tree.{Nodes}
 use Rattle.liquid_lib.specs.HostedPages.{EndsOtherwise, hosted_page}
 use Rattle.liquid_lib.specs.LimitedPages.{PageWithin}
-use Rattle.liquid_answers.specs.Lacking.{IsLacking}
+use Rattle.liquid_answers.specs.Lacking.{AreShort, IsLacking, calls_in}
 use Rattle.liquid_answers.specs.Tables.{answers_by}
 use Rattle.liquid_answers.specs.declared.answers.Answers.{Answers}
 use Rattle.liquid_answers.specs.declared.page.Answered.{Answered}
@@ -19,3 +19,8 @@ IsAnswered table depth partials «data» nodes (answered.Page p) =
     PageWithin (hosted_page (answers_by false table) depth partials «data» nodes) p
     × EndsOtherwise p.page
 IsAnswered table depth partials «data» nodes (answered.Lacking calls) = IsLacking table calls
+
+-- where calls are listed, all but the last have at most 1 MiB in JSON
+abbrev pub IsShort : Answered → Type 0
+IsShort (answered.Page p) = ⊤
+IsShort (answered.Lacking calls) = AreShort (calls_in calls)

@@ -1,3 +1,4 @@
 pub mod Answering
 pub mod Lacking
 pub mod Tables
+pub mod inside

@@ -7,8 +7,8 @@ use std::collections::BTreeMap;
 /// The most calls that one run lists.
 pub(crate) const MOST_CALLS: usize = 1000;
 
-/// Once the calls take so many bytes, no further one is kept.
-const MOST_BYTES: u64 = 1048576;
+/// Once the calls take so many bytes, or their text has so many, no further one is kept or listed.
+pub(crate) const MOST_BYTES: usize = 1048576;
 
 /// Calls, each once, as far as there is room.
 #[derive(Drop)]
@@ -34,7 +34,7 @@ impl Asked {
 
     /// Keeps a call, where there is room.
     fn keep(&mut self, call: Value) {
-        if self.calls.len() >= MOST_CALLS || self.bytes >= MOST_BYTES {
+        if self.calls.len() >= MOST_CALLS || self.bytes >= MOST_BYTES as u64 {
             drop(call);
             return;
         }

@@ -1,18 +1,17 @@
 //! The calls that a table lacks, as a list.
-ghost use Rattle.std.specs.Prelude.{◌≡◌, ◌<◌, IfErr, IfOk, IsTrue, length, option_map, slice_get};
-ghost use Rattle.std.specs.Prelude.{string_bytes};
-ghost use Rattle.std.specs.Prelude.{◌-◌, Some};
+ghost use Rattle.std.specs.Prelude.{◌≡◌, ◌<◌, ◌-◌, IfErr, IfOk, IsTrue, Some, length, nat_eq};
+ghost use Rattle.std.specs.Prelude.{option_map, slice_get, string_bytes};
 ghost use Rattle.std.specs.Ordering.{on};
 ghost use Rattle.std.specs.declared.cmp.Ordering.TheVariants.{Less};
-ghost use Rattle.liquid_model.specs.Answer.{IsValueOrMemory};
 ghost use Rattle.liquid_model.specs.Order.{order};
-ghost use Rattle.liquid_model.specs.View.{items_view, view};
-ghost use Rattle.liquid_jekyll_host_filters.specs.Json.{json_list};
+ghost use Rattle.liquid_model.specs.View.{view};
 ghost use Rattle.liquid_model.specs.declared.value.Value.{Value};
-ghost use Rattle.liquid_answers.specs.Lacking.{AreTold, IsLacking, calls_in};
+ghost use Rattle.liquid_answers.specs.Lacking.{IsLacking, calls_in};
+ghost use Rattle.liquid_answers.specs.declared.answers.Answers.{Answers};
+ghost use Rattle.liquid_answers.specs.inside.Listed.{AreListed, IsAdded, IsNone, separator};
 
 use crate::answers::Answers;
-use crate::asked::{Asked, MOST_CALLS};
+use crate::asked::{Asked, MOST_BYTES, MOST_CALLS};
 use crate::json::json_of;
 use liquid_core::{ErrorKind, Result, Value};
 use std::alloc::Global;
@@ -47,28 +46,86 @@ impl Lacking {
     }
 }
 
-/// Those of the calls that a table lacks, as far as there is room for them.
-#[tactic(auto, using(crate::proofs::Told::told_none))]
-pub(crate) fn told(alloc: Global, asked: Asked, table: &Answers) -> Vec<Value>
-    ensures { AreTold table.now result.items }
-{
-    let mut told = Vec::new(alloc);
-    for (call, _) in asked.into_calls() {
-        tell(&mut told, table, call);
-    }
-    told
+/// Calls that are listed, and their text so far.
+#[derive(Drop)]
+pub(crate) struct Listed {
+    calls: Vec<Value>,
+    /// A list in JSON that isn't closed yet.
+    text: String,
 }
 
-/// Tells a call, where the table lacks it and it comes after the last one.
-#[tactic(auto, using(crate::proofs::Told::told_more))]
-fn tell(told: &mut Vec<Value>, table: &Answers, call: Value)
-    ensures { AreTold table.now told.old.items → AreTold table.now told.new.items }
-{
-    let is_told = told.len() < MOST_CALLS && is_after(told.as_slice(), &call);
-    if is_told && table.find(&call).is_none() {
-        // A later run lists one that there is no room for.
-        drop(told.push(call));
+impl Listed {
+    /// None yet.
+    fn new(alloc: Global) -> Result<Listed>
+        ensures listed { IfOk result IsNone }
+        ensures memory { IfErr result (λ e. e.kind ≡ ErrorKind.Memory) }
+    {
+        let mut text = String::new(alloc);
+        text.push_str("[")?;
+        let calls = Vec::new(alloc);
+        Ok(Listed { calls, text })
     }
+
+    /// Whether no call is listed.
+    pub(crate) fn is_empty(&self) -> bool
+        ensures { result ≡ nat_eq (length self.now.calls.items) 0 }
+    {
+        self.calls.is_empty()
+    }
+
+    /// Whether one more call may be listed.
+    fn has_room(&self) -> bool
+        ensures calls { IsTrue result → length self.now.calls.items < 1000 }
+        ensures bytes { IsTrue result → length (string_bytes self.now.text) < 1048576 }
+    {
+        self.calls.len() < MOST_CALLS && self.text.len() < MOST_BYTES
+    }
+
+    /// Lists a call, with its text.
+    fn add(&mut self, alloc: Global, call: Value) -> Result<()>
+        ensures added { IfOk result (λ _. IsAdded self.old call self.new) }
+        ensures memory { IfErr result (λ e. e.kind ≡ ErrorKind.Memory) }
+    {
+        let separator = separator(self.calls.as_slice());
+        self.text.push_str(separator)?;
+        self.text.push_str(json_of(alloc, &call)?.as_str())?;
+        self.calls.push(call)?;
+        Ok(())
+    }
+}
+
+/// What stands in a list between these calls and the next one.
+#[tactic(auto, using(crate::proofs::Listed::separator_none, crate::proofs::Listed::separator_some))]
+fn separator(calls: &[Value]) -> &str
+    ensures { result.now ≡ separator calls.now }
+{
+    if calls.is_empty() { "" } else { "," }
+}
+
+/// Those of the calls that a table lacks, as far as they may be listed.
+pub(crate) fn list_lacking(alloc: Global, asked: Asked, table: &Answers) -> Result<Listed>
+    ensures listed { IfOk result (AreListed table.now) }
+    ensures memory { IfErr result (λ e. e.kind ≡ ErrorKind.Memory) }
+{
+    let mut listed = Listed::new(alloc)?;
+    for (call, _) in asked.into_calls() {
+        list_call(alloc, &mut listed, table, call)?;
+    }
+    Ok(listed)
+}
+
+/// Lists a call, where the table lacks it and it comes after the last one.
+#[tactic(auto, using(crate::proofs::Listed::listed_more))]
+fn list_call(alloc: Global, listed: &mut Listed, table: &Answers, call: Value) -> Result<()>
+    ensures listed { AreListed table.now listed.old →
+        IfOk result (λ _. AreListed table.now listed.new) }
+    ensures memory { IfErr result (λ e. e.kind ≡ ErrorKind.Memory) }
+{
+    let is_next = listed.has_room() && is_after(listed.calls.as_slice(), &call);
+    if is_next && table.find(&call).is_none() {
+        listed.add(alloc, call)?;
+    }
+    Ok(())
 }
 
 /// Whether a call comes after the last of these.
@@ -82,28 +139,15 @@ fn is_after(told: &[Value], call: &Value) -> bool
     }
 }
 
-/// The calls with their text, where there is one that the table lacks.
-pub(crate) fn lacking_of(alloc: Global, table: &Answers, calls: Vec<Value>) -> Result<Lacking>
-    ensures lacking { AreTold table.now calls.items → 0 < length calls.items →
-        IfOk result (IsLacking table.now) }
+/// The calls that are listed, of which there is one, with their text.
+#[tactic(auto, using(crate::proofs::Listed::lacking_listed))]
+pub(crate) fn lacking_of(listed: Listed) -> Result<Lacking>
+    ensures lacking { (table : Answers) → AreListed table listed →
+        0 < length listed.calls.items → IfOk result (IsLacking table) }
     ensures memory { IfErr result (λ e. e.kind ≡ ErrorKind.Memory) }
 {
-    let text = text_of(alloc, calls.as_slice())?;
-    Ok(Lacking { calls, text })
-}
-
-/// Calls as a text of JSON.
-fn text_of(alloc: Global, calls: &[Value]) -> Result<String>
-    ensures { IsValueOrMemory (λ s. string_bytes s) result (json_list (items_view calls.now)) }
-{
-    let mut text = String::new(alloc);
-    text.push_str("[")?;
-    let mut before = "";
-    for call in calls {
-        text.push_str(before)?;
-        text.push_str(json_of(alloc, call)?.as_str())?;
-        before = ",";
-    }
+    let Listed { calls, text } = listed;
+    let mut text = text;
     text.push_str("]")?;
-    Ok(text)
+    Ok(Lacking { calls, text })
 }

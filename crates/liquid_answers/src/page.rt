@@ -2,13 +2,13 @@
 ghost use Rattle.std.specs.Prelude.{◌≡◌, IfErr, IfOk, IfSome};
 ghost use Rattle.liquid_core.specs.Held.{held};
 ghost use Rattle.liquid_syntax.specs.Templates.{partials_of, tree_of};
-ghost use Rattle.liquid_answers.specs.Answering.{IsAnswered};
+ghost use Rattle.liquid_answers.specs.Answering.{IsAnswered, IsShort};
 ghost use Rattle.liquid_answers.specs.Lacking.{IsLacking};
 
 use crate::answers::Answers;
 use crate::asked::Asked;
 use crate::filter::TableFilters;
-use crate::lacking::{Lacking, lacking_of, told};
+use crate::lacking::{Lacking, lacking_of, list_lacking};
 use liquid_core::{ErrorKind, Object, Result};
 use liquid_lib::{LimitedPage, Surroundings, Template, render_hosted_page};
 use std::alloc::Global;
@@ -27,7 +27,9 @@ pub enum Answered {
 ///
 /// Where the run meets a call that the table lacks, the template runs once more to find further
 /// such calls, with nil in their places. So a call is among them also where only that nil led to
-/// it. `Memory` where a growth was refused, and no other kind.
+/// it. They are at most 1,000, and the text of all but the last has at most 1 MiB. `Memory` where a
+/// growth was refused, and no other kind.
+#[tactic(auto, using(crate::proofs::Listed::short_lacking))]
 pub fn render_page_answered(
     alloc: Global,
     template: &Template,
@@ -37,6 +39,7 @@ pub fn render_page_answered(
 ) -> Result<Answered>
     ensures answered { IfOk result (IsAnswered table.now around.entry.depth
         (partials_of around.entry.partials.now) (held «data».now) (tree_of template.now)) }
+    ensures bytes { IfOk result IsShort }
     ensures memory { IfErr result (λ e. e.kind ≡ ErrorKind.Memory) }
 {
     let filters = TableFilters { table, asked: None };
@@ -64,9 +67,9 @@ fn lacking_in(
     let lent = Some(&asked);
     let filters = TableFilters { table, asked: lent };
     drop(render_hosted_page(alloc, template, &filters, around, data));
-    let calls = told(alloc, asked.into_inner(), table);
-    if calls.is_empty() {
+    let listed = list_lacking(alloc, asked.into_inner(), table)?;
+    if listed.is_empty() {
         return Ok(None);
     }
-    Ok(Some(lacking_of(alloc, table, calls)?))
+    Ok(Some(lacking_of(listed)?))
 }

@@ -1,0 +1,95 @@
+-- Calls that are listed one after another, and their text.
+use Rattle.std.proofs.Common.{◌≡◌, ℕ, suc, ◌+◌, ◌-◌, ◌<◌, ◌≤◌, List, [], ◌∷◌, ◌++◌, true, false, Some, None, Less, length, refl, sym, ap, subst, ◌∙◌, arith}
+use Rattle.std.proofs.lemmas.List.{append-assoc, append-nil, length-append}
+use Rattle.std.specs.Prelude.{codes, nat_eq, slice_get, string_bytes}
+use Rattle.std.specs.Ordering.{on}
+use Rattle.liquid_model.specs.Order.{order}
+use Rattle.liquid_model.specs.Texts.{Text}
+use Rattle.liquid_model.specs.View.{items_view, view}
+use Rattle.liquid_model.specs.declared.value.Value.{Value}
+use Rattle.liquid_jekyll_host_filters.specs.Json.{json_items, json_list, json_text}
+use Rattle.liquid_answers.specs.Answering.{IsShort}
+use Rattle.liquid_answers.specs.Lacking.{AreTold, IsLacking}
+use Rattle.liquid_answers.specs.Tables.{answer_at}
+use Rattle.liquid_answers.specs.declared.answers.Answers.{Answers}
+use Rattle.liquid_answers.specs.declared.lacking.Lacking.{Lacking}
+use Rattle.liquid_answers.specs.declared.lacking.Listed.{Listed}
+use Rattle.liquid_answers.specs.declared.page.Answered.TheVariants as answered
+use Rattle.liquid_answers.specs.inside.Listed.{AreListed, IsAdded, IsNone, separator}
+use Rattle.liquid_answers.proofs.Told.{told_more, told_none}
+
+-- what stands before the next item, after these, of which the first has this before it
+between : Text → List Value → Text
+between before [] = before
+between before (c ∷ cs) = codes ","
+
+comma : (cs : List Value) → between (codes ",") cs ≡ codes ","
+comma [] = refl
+comma (c ∷ cs) = refl
+
+first : (cs : List Value) → between [] cs ≡ separator cs
+first [] = refl
+first (c ∷ cs) = refl
+
+pub separator_none : (cs : List Value) → nat_eq (length cs) 0 ≡ true → [] ≡ separator cs
+separator_none [] none = refl
+separator_none (c ∷ cs) none = cc
+
+pub separator_some : (cs : List Value) → nat_eq (length cs) 0 ≡ false → codes "," ≡ separator cs
+separator_some [] some = cc
+separator_some (c ∷ cs) some = refl
+
+items_snoc : (before : Text) (cs : List Value) (c : Value) → json_items before (items_view (cs ++ c ∷ [])) ≡ json_items before (items_view cs) ++ (between before cs ++ json_text (view c))
+items_snoc before [] c = ap (λ t. before ++ t) (append-nil (json_text (view c)))
+items_snoc before (x ∷ xs) c =
+    let j = json_text (view c) in
+    let more : json_items (codes ",") (items_view (xs ++ c ∷ [])) ≡ json_items (codes ",") (items_view xs) ++ (codes "," ++ j) =
+    items_snoc (codes ",") xs c ∙ ap (λ b. json_items (codes ",") (items_view xs) ++ (b ++ j)) (comma xs) in
+    ap (λ t. before ++ (json_text (view x) ++ t)) more
+    ∙ ap (λ t. before ++ t) (sym (append-assoc (json_text (view x)) (json_items (codes ",") (items_view xs)) (codes "," ++ j)))
+    ∙ sym (append-assoc before (json_text (view x) ++ json_items (codes ",") (items_view xs)) (codes "," ++ j))
+
+-- the text of the calls with one more
+text_snoc : (cs : List Value) (c : Value) (old : Text) → old ≡ codes "[" ++ json_items [] (items_view cs) → old ++ (separator cs ++ json_text (view c)) ≡ codes "[" ++ json_items [] (items_view (cs ++ c ∷ []))
+text_snoc cs c old is =
+    let j = json_text (view c) in
+    ap (λ t. t ++ (separator cs ++ j)) is
+    ∙ append-assoc (codes "[") (json_items [] (items_view cs)) (separator cs ++ j)
+    ∙ ap (λ s. codes "[" ++ (json_items [] (items_view cs) ++ (s ++ j))) (sym (first cs))
+    ∙ ap (λ t. codes "[" ++ t) (sym (items_snoc [] cs c))
+
+closed : (cs : List Value) (text : Text) → text ≡ codes "[" ++ json_items [] (items_view cs) → text ++ codes "]" ≡ json_list (items_view cs)
+closed cs text is = ap (λ t. t ++ codes "]") is ∙ append-assoc (codes "[") (json_items [] (items_view cs)) (codes "]")
+
+one_more : (n : ℕ) → n < 1048576 → n + 1 ≤ 1048576
+one_more n h = omega (arith, h)
+
+-- a text that isn't closed and has room has room for its end
+room : (cs : List Value) (text : Text) → text ≡ codes "[" ++ json_items [] (items_view cs) → length text < 1048576 → length (json_list (items_view cs)) ≤ 1048576
+room cs text is h = subst (λ t. length t ≤ 1048576) (closed cs text is) (subst (λ n. n ≤ 1048576) (sym (length-append text (codes "]"))) (one_more (length text) h))
+
+pub listed_none : (table : Answers) (listed : Listed) → IsNone listed → AreListed table listed
+listed_none table listed is = record {
+  told = subst (AreTold table) (sym is.0) (told_none table);
+  text = is.1 ∙ ap (λ cs. codes "[" ++ json_items [] (items_view cs)) (sym is.0);
+}
+
+-- one more is listed
+pub listed_more : (table : Answers) (old new : Listed) (c : Value) → AreListed table old → IsAdded old c new → length old.calls.items < 1000 → length (string_bytes old.text) < 1048576
+    → ((last : Value) → slice_get old.calls.items (length old.calls.items - 1) ≡ Some last → on view order last c ≡ Less) → answer_at table (view c) ≡ None → AreListed table new
+listed_more table old new c listed added few short after lacks = record {
+  told = subst (AreTold table) (sym added.0) (told_more table old.calls.items c listed.told few (room old.calls.items (string_bytes old.text) listed.text short) after lacks);
+  text = added.1 ∙ text_snoc old.calls.items c (string_bytes old.text) listed.text ∙ ap (λ cs. codes "[" ++ json_items [] (items_view cs)) (sym added.0);
+}
+
+-- the list with its end
+pub lacking_listed : (table : Answers) (listed : Listed) (it : Lacking) → AreListed table listed → 0 < length listed.calls.items
+    → it.calls.items ≡ listed.calls.items → string_bytes it.text ≡ string_bytes listed.text ++ codes "]" → IsLacking table it
+lacking_listed table listed it are some calls text = (
+  subst (AreTold table) (sym calls) are.told,
+  subst (λ cs. 0 < length cs) (sym calls) some,
+  text ∙ closed listed.calls.items (string_bytes listed.text) are.text ∙ ap (λ cs. json_list (items_view cs)) (sym calls),
+)
+
+pub short_lacking : (table : Answers) (it : Lacking) → IsLacking table it → IsShort (answered.Lacking it)
+short_lacking table it is = is.0.short
