@@ -1,4 +1,12 @@
-"""What the tests in Python share: a check answers what isn't well, or None."""
+"""What the tests in Python share: the way to the package, which with --installed is pip's, and checks, of which each answers what isn't
+well, or None."""
+import os
+import sys
+
+HERE = os.path.dirname(os.path.abspath(__file__))
+TOP = os.path.dirname(os.path.dirname(HERE))
+if "--installed" not in sys.argv:
+    sys.path.insert(1, f"{TOP}/bindings/python")
 
 
 def fails(call, number):

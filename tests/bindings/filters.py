@@ -1,18 +1,13 @@
 """Filters in Python, Jekyll's language, names, and what stands for names that the data lack."""
-import os
 import pickle
 import sys
 import threading
 
-HERE = os.path.dirname(os.path.abspath(__file__))
-TOP = os.path.dirname(os.path.dirname(HERE))
 sys.dont_write_bytecode = True
-sys.path.insert(0, HERE)
-if "--installed" not in sys.argv:
-    sys.path.insert(1, f"{TOP}/bindings/python")
+
+from checks import first, raises, same, told
 
 from bikleinu import Environment, Language, LimitError, LiquidError, Partials, Template
-from checks import first, raises, same, told
 
 
 def money(cents, currency="EUR"):

@@ -1,19 +1,16 @@
 """Calls the library from Python: the worked rows, calls that can't be, how deep a run may go, and eight threads."""
 import copy
-import os
 import pickle
 import re
 import sys
 import threading
 
-HERE = os.path.dirname(os.path.abspath(__file__))
-TOP = os.path.dirname(os.path.dirname(HERE))
 sys.dont_write_bytecode = True
-sys.path[:0] = [HERE, f"{TOP}/bindings/python"]
+
+from checks import TOP, fails, first, raises, same, told
 
 import bikleinu
 from bikleinu import Data, Kind, Language, LimitError, LiquidError, Partials, Template
-from checks import fails, first, raises, same, told
 from texts import rows, whole
 
 LANGUAGE = Language()

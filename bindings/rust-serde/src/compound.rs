@@ -62,61 +62,50 @@ impl<'w> Compound<'w> {
     }
 }
 
-impl ser::SerializeSeq for Compound<'_> {
-    type Ok = ();
-    type Error = DataError;
+/// serde has a trait for each form of list and of struct, which differ in names alone.
+macro_rules! lists {
+    ($($form:ident $call:ident),*) => {$(
+        impl ser::$form for Compound<'_> {
+            type Ok = ();
+            type Error = DataError;
 
-    fn serialize_element<T: Serialize + ?Sized>(&mut self, value: &T) -> Result<(), DataError> {
-        self.item(value)
-    }
+            fn $call<T: Serialize + ?Sized>(&mut self, value: &T) -> Result<(), DataError> {
+                self.item(value)
+            }
 
-    fn end(self) -> Result<(), DataError> {
-        self.finish();
-        Ok(())
-    }
+            fn end(self) -> Result<(), DataError> {
+                self.finish();
+                Ok(())
+            }
+        }
+    )*};
 }
 
-impl ser::SerializeTuple for Compound<'_> {
-    type Ok = ();
-    type Error = DataError;
+macro_rules! structs {
+    ($($form:ident),*) => {$(
+        impl ser::$form for Compound<'_> {
+            type Ok = ();
+            type Error = DataError;
 
-    fn serialize_element<T: Serialize + ?Sized>(&mut self, value: &T) -> Result<(), DataError> {
-        self.item(value)
-    }
+            fn serialize_field<T: Serialize + ?Sized>(&mut self, name: &'static str, value: &T) -> Result<(), DataError> {
+                self.member(name.to_owned(), value)
+            }
 
-    fn end(self) -> Result<(), DataError> {
-        self.finish();
-        Ok(())
-    }
+            fn end(self) -> Result<(), DataError> {
+                self.finish();
+                Ok(())
+            }
+        }
+    )*};
 }
 
-impl ser::SerializeTupleStruct for Compound<'_> {
-    type Ok = ();
-    type Error = DataError;
-
-    fn serialize_field<T: Serialize + ?Sized>(&mut self, value: &T) -> Result<(), DataError> {
-        self.item(value)
-    }
-
-    fn end(self) -> Result<(), DataError> {
-        self.finish();
-        Ok(())
-    }
-}
-
-impl ser::SerializeTupleVariant for Compound<'_> {
-    type Ok = ();
-    type Error = DataError;
-
-    fn serialize_field<T: Serialize + ?Sized>(&mut self, value: &T) -> Result<(), DataError> {
-        self.item(value)
-    }
-
-    fn end(self) -> Result<(), DataError> {
-        self.finish();
-        Ok(())
-    }
-}
+lists!(
+    SerializeSeq serialize_element,
+    SerializeTuple serialize_element,
+    SerializeTupleStruct serialize_field,
+    SerializeTupleVariant serialize_field
+);
+structs!(SerializeStruct, SerializeStructVariant);
 
 impl ser::SerializeMap for Compound<'_> {
     type Ok = ();
@@ -131,34 +120,6 @@ impl ser::SerializeMap for Compound<'_> {
     fn serialize_value<T: Serialize + ?Sized>(&mut self, value: &T) -> Result<(), DataError> {
         let name = self.key.take().unwrap_or_default();
         self.member(name, value)
-    }
-
-    fn end(self) -> Result<(), DataError> {
-        self.finish();
-        Ok(())
-    }
-}
-
-impl ser::SerializeStruct for Compound<'_> {
-    type Ok = ();
-    type Error = DataError;
-
-    fn serialize_field<T: Serialize + ?Sized>(&mut self, name: &'static str, value: &T) -> Result<(), DataError> {
-        self.member(name.to_owned(), value)
-    }
-
-    fn end(self) -> Result<(), DataError> {
-        self.finish();
-        Ok(())
-    }
-}
-
-impl ser::SerializeStructVariant for Compound<'_> {
-    type Ok = ();
-    type Error = DataError;
-
-    fn serialize_field<T: Serialize + ?Sized>(&mut self, name: &'static str, value: &T) -> Result<(), DataError> {
-        self.member(name.to_owned(), value)
     }
 
     fn end(self) -> Result<(), DataError> {

@@ -121,6 +121,15 @@ fn is_word(name: &str) -> bool {
     first.is_some_and(|it| it == '_' || it.is_alphabetic()) && name.chars().all(|it| it == '_' || it.is_alphanumeric())
 }
 
+/// The calls for numbers that an `i128` holds, which differ in their types alone.
+macro_rules! numbers {
+    ($($call:ident $number:ty),*) => {$(
+        fn $call(self, number: $number) -> Result<(), DataError> {
+            self.number(number.into())
+        }
+    )*};
+}
+
 impl<'w> ser::Serializer for &'w mut Writer {
     type Ok = ();
     type Error = DataError;
@@ -137,40 +146,13 @@ impl<'w> ser::Serializer for &'w mut Writer {
         Ok(())
     }
 
-    fn serialize_i8(self, number: i8) -> Result<(), DataError> {
-        self.number(number.into())
-    }
-
-    fn serialize_i16(self, number: i16) -> Result<(), DataError> {
-        self.number(number.into())
-    }
-
-    fn serialize_i32(self, number: i32) -> Result<(), DataError> {
-        self.number(number.into())
-    }
-
-    fn serialize_i64(self, number: i64) -> Result<(), DataError> {
-        self.number(number.into())
+    numbers! {
+        serialize_i8 i8, serialize_i16 i16, serialize_i32 i32, serialize_i64 i64,
+        serialize_u8 u8, serialize_u16 u16, serialize_u32 u32, serialize_u64 u64
     }
 
     fn serialize_i128(self, number: i128) -> Result<(), DataError> {
         self.number(number)
-    }
-
-    fn serialize_u8(self, number: u8) -> Result<(), DataError> {
-        self.number(number.into())
-    }
-
-    fn serialize_u16(self, number: u16) -> Result<(), DataError> {
-        self.number(number.into())
-    }
-
-    fn serialize_u32(self, number: u32) -> Result<(), DataError> {
-        self.number(number.into())
-    }
-
-    fn serialize_u64(self, number: u64) -> Result<(), DataError> {
-        self.number(number.into())
     }
 
     fn serialize_u128(self, number: u128) -> Result<(), DataError> {
