@@ -170,6 +170,13 @@ uint32_t bikleinu_paths(bikleinu_handle *template_, bikleinu_handle *partials, b
  * lack, where a path leads there. The paths are those of a call of bikleinu_paths, and can be used for any number of data. */
 uint32_t bikleinu_complete(bikleinu_handle *data, bikleinu_handle *paths, bikleinu_handle *made);
 
+/* Reads data as bikleinu_data does, but builds no more of them than such paths ask for. Of a long text of which a template sees little that
+ * takes less time and memory. The text is refused as by bikleinu_data, also for what no path asks for. The page of a template and its
+ * partials whose paths these are is the same as over all of the data, whatever filters answer and however deep partials may nest: its
+ * text, and the kind of the fault that it ends by. The message of that fault is about what was read, so it may not know of a similar
+ * name. Any other page is one over what was read, and may end at a name that the text has and the paths don't ask for. */
+uint32_t bikleinu_data_for(const uint8_t *json, size_t length, bikleinu_handle *paths, bikleinu_handle *made);
+
 /* Filters of the caller's.
  *
  * No code of the caller's runs while a page is rendered. The answers of its filters stand in a table: each is the answer to one call,
@@ -188,8 +195,8 @@ uint32_t bikleinu_answers_filter(bikleinu_handle *answers, const uint8_t *name, 
  * lacks: at least one, at most BIKLEINU_CALLS, and each once. Each is to be answered (below), and then the same call made again.
  *
  * The run that finds them goes on after the first with nil in its place. So a call may be told that only this nil led to: it is
- * answered as any other. A filter over the answer of another is told a round later. Once the calls that a run keeps take about
- * BIKLEINU_CALLS_BYTES bytes, it keeps no further one. A caller bounds the rounds, as a template that takes its time may need many. */
+ * answered as any other. A filter over the answer of another is told a round later. As BIKLEINU_TEXT all the calls but the last have at
+ * most BIKLEINU_CALLS_BYTES bytes. A caller bounds the rounds, as a template that takes its time may need many. */
 uint32_t bikleinu_render_with(bikleinu_handle *template_, bikleinu_handle *data, bikleinu_handle *partials, uint32_t depth,
                               const bikleinu_limits *limits, bikleinu_handle *answers, bikleinu_handle *page);
 

@@ -1,4 +1,4 @@
-/* What templates ask of their data, as paths, and data that are completed with it. A line tells each thing that isn't well, and the last
+/* What templates ask of their data, as paths, and data that are completed with it or read no further. A line tells each thing that isn't well, and the last
  * one "asked: N". */
 #include <stdio.h>
 #include <string.h>
@@ -47,6 +47,40 @@ static void completes(const char *source, const char *json, uint32_t ended, cons
     is("the data as they are", bikleinu_render(&template_, &data, &none, 0, &page), BIKLEINU_UNKNOWN_VARIABLE);
 }
 
+/* The page over data that are read no further than a template sees is that over all of them, and how another template ends over them. */
+static void reads_for(const char *source, const char *json, const char *text, const char *other, uint32_t ended) {
+    parse(source, &template_);
+    is("paths", bikleinu_paths(&template_, &partials, &paths), BIKLEINU_DONE);
+    is("data for it", bikleinu_data_for(bytes(json), strlen(json), &paths, &data), BIKLEINU_DONE);
+    is(source, bikleinu_render(&template_, &data, &partials, 32, &page), BIKLEINU_DONE);
+    reads(json, &page, text);
+    parse(other, &template_);
+    is(other, bikleinu_render(&template_, &data, &partials, 32, &page), ended);
+}
+
+/* A text is refused as where all of it is read, at the same place. */
+static void refuses(const char *json, uint32_t wanted, size_t wanted_line) {
+    size_t line = 0, column = 0;
+    is(json, bikleinu_data_for(bytes(json), strlen(json), &paths, &data), wanted);
+    is("in the data", bikleinu_location(&data, &line, &column), BIKLEINU_IN_DATA);
+    is("line", (uint32_t)line, (uint32_t)wanted_line);
+}
+
+/* Data that are read no further than a template and its partials see. */
+static void of_reading(void) {
+    static const char all[] = "{\"lines\":[{\"count\":2,\"tea\":\"green\",\"of\":\"Assam\"}],\"shop\":{\"name\":\"Bay\"},\"n\":7}";
+    reads_for("{% for line in lines %}{% render 'line', line: line %}{% endfor -%}", all, "- 2 of green\n", "{{ lines[0].of }}{{ n }}",
+              BIKLEINU_UNKNOWN_VARIABLE);
+    reads_for("{{ shop.name }}{% if lines %}!{% endif %}", all, "Bay!", "{{ shop.name }}", BIKLEINU_DONE);
+    reads_for("no data", all, "no data", "{{ n }}", BIKLEINU_UNKNOWN_VARIABLE);
+    reads_for("{{ n }}", all, "7", "{{ n }}", BIKLEINU_DONE);
+    refuses("{\"n\":7,\n\"m\":[1.5]}", BIKLEINU_FLOAT, 2);
+    refuses("{\"n\":7,\n\n\"m\":]}", BIKLEINU_INVALID_INPUT, 3);
+    is("no paths to read for", bikleinu_data_for(bytes(all), strlen(all), &template_, &data), BIKLEINU_OTHER_HANDLE);
+    is("nothing to read for", bikleinu_data_for(bytes(all), strlen(all), &none, &data), BIKLEINU_OTHER_HANDLE);
+    is("no text to read", bikleinu_data_for(bytes("\xff"), 1, &paths, &data), BIKLEINU_NO_TEXT);
+}
+
 int main(void) {
     bikleinu_handle part = BIKLEINU_NONE;
     is("language", bikleinu_language(&language), BIKLEINU_DONE);
@@ -70,6 +104,7 @@ int main(void) {
     is("no partials", bikleinu_paths(&template_, &data, &completed), BIKLEINU_OTHER_HANDLE);
     is("no paths", bikleinu_complete(&data, &template_, &completed), BIKLEINU_OTHER_HANDLE);
     is("no data", bikleinu_complete(&template_, &paths, &completed), BIKLEINU_OTHER_HANDLE);
+    of_reading();
     bikleinu_handle *all[] = {&language, &template_, &data, &partials, &paths, &completed, &page};
     for (size_t at = 0; at < sizeof all / sizeof *all; at++) bikleinu_free(all[at]);
     printf("asked: %zu\n", tests);

@@ -13,16 +13,12 @@ import types
 import uuid
 from datetime import date, datetime, time, timedelta, timezone
 
-HERE = os.path.dirname(os.path.abspath(__file__))
-TOP = os.path.dirname(os.path.dirname(HERE))
 sys.dont_write_bytecode = True
-sys.path.insert(0, HERE)
-if "--installed" not in sys.argv:
-    sys.path.insert(1, f"{TOP}/bindings/python")
+
+from checks import TOP, first, raises, same, told
 
 import bikleinu
-from bikleinu import Data, DataError, Environment, Partials, Template
-from checks import first, raises, same, told
+from bikleinu import Data, DataError, Environment, LiquidError, Partials, Template
 
 Decimal = decimal.Decimal
 PLUS_TWO = timezone(timedelta(hours=2))
@@ -175,6 +171,35 @@ def one_data():
     return None if pages == ["1", "3", "1-2-3", "123"] else f"{pages}"
 
 
+def refusal(call):
+    try:
+        return f"{call()} isn't refused"
+    except LiquidError as error:
+        return str(error)
+
+
+def for_one_template():
+    """Data of which no more is read than a template sees show its page as all of them do, and are refused alike."""
+    made = Environment(partials={"line": "{{ line.count }} {{ line.tea }};"}, decimals="text")
+    template, other = made.from_string("{% for line in lines %}{% render 'line', line: line %}{% endfor %}"), made.from_string("{{ n }}")
+    text = '{"lines": [{"count": 2, "tea": "green", "of": "Assam"}, {"count": 1, "tea": "black", "of": "Ceylon"}], "n": 7}'
+    read, others = template.data(text), Partials({"line": "{{ line.of }}."})
+    return first(
+        [
+            same(lambda: template.render(read), "2 green;1 black;"),
+            same(lambda: template.render(template.data({"lines": [{"count": 0.5, "tea": [1]}]})), "0.5 1;"),
+            same(lambda: template.render(template.data(text, others), others), "Assam.Ceylon."),
+            same(lambda: template.page(read, others).fault.name, "UnknownVariable"),
+            same(lambda: other.page(read).fault.name, "UnknownVariable"),
+            same(lambda: other.render(other.data(text)), "7"),
+            same(lambda: template.render(template.data('{"lines": [{"of": 1}]}'), missing="nil"), " ;"),
+            *(same(lambda: refusal(lambda: other.data(bad)), refusal(lambda: Data(bad))) for bad in ('{"n": 1,\n"m": 1.5}', '{"m": [}', "[]")),
+            raises(lambda: other.data('{"n": 1, "m": 1.5}'), LiquidError),
+            raises(lambda: other.data({"m": {1, 2}}), DataError),
+        ]
+    )
+
+
 def environment():
     made = Environment(partials={"end": "{{ n }}{% render 'deep' %}", "deep": "!"}, decimals="text", depth=1, max_bytes=5)
     template = made.from_string("{{ n }}:{% include 'end' %}")
@@ -290,6 +315,7 @@ CHECKS = {
     "what is made of values": shown,
     "names beside data": names,
     "data that are read once": one_data,
+    "data for one template": for_one_template,
     "an environment": environment,
     "what the data lack": missing,
     "pickles": pickled,

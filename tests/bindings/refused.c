@@ -49,7 +49,7 @@ typedef struct {
     text source, data, name;
 } row;
 
-enum { LANGUAGE, TEMPLATE, PARTIAL, PARTIALS, DATA, PAGE, PATHS, COMPLETED, SHARED, HANDLES };
+enum { LANGUAGE, TEMPLATE, PARTIAL, PARTIALS, DATA, PAGE, PATHS, COMPLETED, READ, SHARED, HANDLES };
 
 static bikleinu_handle held[HANDLES];
 static size_t rows, calls, refused, wrong;
@@ -62,6 +62,8 @@ static uint32_t read_data(const row *it) { return bikleinu_data(it->data.at, it-
 static uint32_t insert(const row *it) { return bikleinu_insert(&held[PARTIALS], it->name.at, it->name.length, &held[PARTIAL]); }
 static uint32_t find_paths(const row *it) { return (void)it, bikleinu_paths(&held[TEMPLATE], &held[PARTIALS], &held[PATHS]); }
 static uint32_t complete(const row *it) { return (void)it, bikleinu_complete(&held[DATA], &held[PATHS], &held[COMPLETED]); }
+static uint32_t read_for(const row *it) { return bikleinu_data_for(it->data.at, it->data.length, &held[PATHS], &held[READ]); }
+static uint32_t render_read(const row *it) { return (void)it, bikleinu_render(&held[TEMPLATE], &held[READ], &held[PARTIALS], 32, &held[PAGE]); }
 static uint32_t share(const row *it) { return (void)it, bikleinu_share(&held[TEMPLATE], &held[SHARED]); }
 static uint32_t render_shared(const row *it) { return (void)it, bikleinu_render(&held[SHARED], &held[DATA], &held[PARTIALS], 32, &held[PAGE]); }
 static uint32_t render(const row *it) { return (void)it, bikleinu_render(&held[TEMPLATE], &held[DATA], &held[PARTIALS], 32, &held[PAGE]); }
@@ -89,6 +91,14 @@ static void told(const char *name, size_t at, uint32_t answer, const char *what)
 static bool is_same(int made, uint32_t answer, uint32_t first, text left) {
     text now = shown(made);
     bool same = answer == first && now.length == left.length && !memcmp(now.at, left.at, left.length);
+    free(now.at);
+    return same;
+}
+
+/* The same text and the same end as the page had at first. Its message may say something else. */
+static bool is_same_page(uint32_t answer, uint32_t first, text left, size_t length) {
+    text now = shown(PAGE);
+    bool same = answer == first && bikleinu_length(&held[PAGE], BIKLEINU_TEXT) == length && !memcmp(now.at, left.at, length);
     free(now.at);
     return same;
 }
@@ -167,10 +177,13 @@ int main(void) {
         if (put_partials(count) && well) {
             uint32_t ended = each("render", render, &it, PAGE, false);
             text page = shown(PAGE);
+            size_t length = bikleinu_length(&held[PAGE], BIKLEINU_TEXT);
             each("share", share, &it, SHARED, true);
             if (!is_same(PAGE, render_shared(&it), ended, page)) told("render of what is shared", 0, ended, "and another page");
-            free(page.at);
             each("paths", find_paths, &it, PATHS, false);
+            each("data for the template", read_for, &it, READ, false);
+            if (!is_same_page(render_read(&it), ended, page, length)) told("render of what is read for it", 0, ended, "and another page");
+            free(page.at);
             each("complete", complete, &it, COMPLETED, false);
         }
         free(it.source.at), free(it.data.at);

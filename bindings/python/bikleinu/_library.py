@@ -53,6 +53,7 @@ def _loaded() -> ctypes.CDLL:
         "names": ([handle, handle, handle], number),
         "paths": ([handle, handle, handle], number),
         "complete": ([handle, handle, handle], number),
+        "data_for": ([text, size, handle, handle], number),
         "share": ([handle, handle], number),
         "answers": ([handle], number),
         "answers_filter": ([handle, text, size], number),

@@ -4,7 +4,8 @@ from __future__ import annotations
 import ctypes
 import operator
 import threading
-from typing import Any, NoReturn
+from collections.abc import Callable
+from typing import Any, NoReturn, TypeVar
 
 from ._library import Handle, library
 from .errors import LIMITS, MESSAGES, NAMES, LimitError, LiquidError, Place
@@ -82,6 +83,9 @@ class Shared(Owner):
             return made
 
 
+Made = TypeVar("Made", bound=Owner)
+
+
 class lent:
     """Handles for a call, on what these hold: of its own on what other threads may use meanwhile."""
 
@@ -107,6 +111,14 @@ class lent:
         for spare, taken in self._taken:
             spare.append(taken)
         self._taken = []
+
+
+def made_by(call: Callable[..., int], made: Made, *owners: Owner) -> Made:
+    """What a call makes of what these hold. An error is raised where it makes nothing."""
+    with lent(*owners) as given:
+        answer = call(*given, made._handle)
+    made._need(answer)
+    return made
 
 
 def checked(value: Any, wanted: str) -> Any:

@@ -3,11 +3,12 @@ from __future__ import annotations
 
 from collections.abc import Callable, Mapping
 from datetime import tzinfo
+from functools import partial
 from typing import Any, Union
 from typing import Mapping as AnyMapping
 
 from ._library import library
-from ._owner import Owner, Shared, utf8
+from ._owner import Owner, Shared, made_by, utf8
 from ._values import Conversions, encoded
 
 # what stands for data in a call
@@ -36,23 +37,22 @@ class Data(Shared):
         default: Callable[[Any], Any] | None = None,
     ) -> None:
         super().__init__()
-        self._read(data, Conversions(decimals, dates, default))
-
-    def _read(self, data: Mapping[str, Any] | str, how: Conversions) -> None:
-        _read(self, data, how)
+        _read(self, data, Conversions(decimals, dates, default))
 
     @classmethod
-    def _of(cls, data: Mapping[str, Any] | str, how: Conversions) -> Data:
+    def _of(cls, data: Mapping[str, Any] | str, how: Conversions, paths: Owner | None = None) -> Data:
         made = cls.__new__(cls)
         Shared.__init__(made)
-        made._read(data, how)
+        _read(made, data, how, paths)
         return made
 
 
-def _read(made: Owner, data: Mapping[str, Any] | str, how: Conversions) -> Owner:
+def _read(made: Owner, data: Mapping[str, Any] | str, how: Conversions, paths: Owner | None = None) -> Owner:
+    """Reads data, where there are paths no further than these ask."""
     text = utf8(data) if isinstance(data, str) else encoded(data, how)
-    made._need(library.bikleinu_data(text, len(text), made._handle))
-    return made
+    if paths is None:
+        return made_by(partial(library.bikleinu_data, text, len(text)), made)
+    return made_by(partial(library.bikleinu_data_for, text, len(text)), made, paths)
 
 
 def data_of(data: DataLike, names: Mapping[str, Any], how: Conversions) -> Owner:

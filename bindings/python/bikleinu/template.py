@@ -8,9 +8,9 @@ from typing import Any, Optional
 
 from ._filters import Run, Table
 from ._library import Handle, Limits, library
-from ._owner import TEXT, Owner, Shared, checked, lent, part, whole
+from ._owner import TEXT, Owner, Shared, checked, lent, made_by, part, whole
 from ._settings import Missing, Settings, missing_of
-from .data import DataLike, data_of
+from .data import Data, DataLike, data_of
 from .errors import MESSAGES, LiquidError
 from .language import Language, parse
 from .partials import Others, Partials, partials_of
@@ -92,7 +92,7 @@ class Template(Shared):
         depth = whole("depth", usual.depth if depth is None else depth)
         limits = _limits(usual.levels if levels is None else levels, usual.max_bytes if max_bytes is None else max_bytes,
                          usual.max_turns if max_turns is None else max_turns)
-        others = partials_of(usual.partials if partials is None else partials)
+        others = self._others(partials)
         asked = usual.missing if missing is None else missing_of(missing)
         data = self._with_missing(data, names, others, asked) if callable(asked) else data
         read = data_of(data, names, usual.how)
@@ -137,9 +137,24 @@ class Template(Shared):
         """
         return self._told("paths", partials)
 
+    def data(self, data: Mapping[str, Any] | str, partials: Others = None) -> Data:
+        """Data of which no more is built than this template and its partials, as they are now, can see (see paths). A page over them is
+        the same as over all of the data, up to the words of a fault; another template may lack what it asks for.
+
+            >>> import bikleinu
+            >>> template = bikleinu.Template("{% for p in products %}{{ p.title }};{% endfor %}")
+            >>> template.render(template.data('{"products": [{"title": "Tea", "text": "Green"}]}'))
+            'Tea;'
+
+        It pays for a long text of JSON of which the template sees little: it takes less time and memory than Data. What isn't seen is
+        checked as ever, and raises the same errors."""
+        return Data._of(data, self._settings.how, self._found("paths", self._others(partials)))
+
+    def _others(self, partials: Others) -> Owner:
+        return partials_of(self._settings.partials if partials is None else partials)
+
     def _told(self, what: str, partials: Others) -> list[str]:
-        others = partials_of(self._settings.partials if partials is None else partials)
-        with lent(self._found(what, others)) as (found,):
+        with lent(self._found(what, self._others(partials))) as (found,):
             return _texts(found)
 
     def _found(self, what: str, others: Owner) -> Shared:
@@ -147,10 +162,7 @@ class Template(Shared):
         partials = others if isinstance(others, Partials) else None
         known, version = self._known.get(what), partials._version if partials else 0
         if known is None or known[0] is not partials or known[1] != version:
-            find, made = getattr(library, f"bikleinu_{what}"), Shared()
-            with lent(self, others) as given:
-                answer = find(*given, made._handle)
-            made._need(answer)
+            made = made_by(getattr(library, f"bikleinu_{what}"), Shared(), self, others)
             self._known[what] = known = partials, version, made
         return known[2]
 
@@ -164,11 +176,7 @@ class Template(Shared):
 
     def _completed(self, data: Owner, others: Owner) -> Owner:
         """The data with nil where the template asks for what they lack."""
-        made = Owner()
-        with lent(data, self._found("paths", others)) as given:
-            answer = library.bikleinu_complete(*given, made._handle)
-        made._need(answer)
-        return made
+        return made_by(library.bikleinu_complete, Owner(), data, self._found("paths", others))
 
     def render(
         self,

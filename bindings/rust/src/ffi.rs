@@ -38,6 +38,7 @@ extern "C" {
     pub(crate) fn bikleinu_names(template: *mut Handle, partials: *mut Handle, made: *mut Handle) -> u32;
     pub(crate) fn bikleinu_paths(template: *mut Handle, partials: *mut Handle, made: *mut Handle) -> u32;
     pub(crate) fn bikleinu_complete(data: *mut Handle, paths: *mut Handle, made: *mut Handle) -> u32;
+    pub(crate) fn bikleinu_data_for(json: *const u8, length: usize, paths: *mut Handle, made: *mut Handle) -> u32;
     pub(crate) fn bikleinu_share(handle: *mut Handle, made: *mut Handle) -> u32;
     pub(crate) fn bikleinu_answers(made: *mut Handle) -> u32;
     pub(crate) fn bikleinu_answers_filter(answers: *mut Handle, name: *const u8, length: usize) -> u32;

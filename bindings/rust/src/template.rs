@@ -1,7 +1,8 @@
 //! Templates and their pages.
 use crate::error::{LiquidError, MEMORY, NO_TEXT, TOO_MANY_LEVELS};
 use crate::ffi::{
-    bikleinu_complete, bikleinu_names, bikleinu_paths, bikleinu_render_with, bikleinu_render_within, Handle, Owner, RawLimits, TEXT,
+    bikleinu_complete, bikleinu_data_for, bikleinu_names, bikleinu_paths, bikleinu_render_with, bikleinu_render_within, Handle, Owner,
+    RawLimits, TEXT,
 };
 use crate::filters::{Filters, Table};
 use crate::shared::{locked, Shared};
@@ -205,6 +206,30 @@ impl Data {
         let (lent, asked, made) = (self.0.lend()?, paths.owner.lend()?, Owner::new());
         // SAFETY: the handles are owners', three of them.
         let number = unsafe { bikleinu_complete(lent.at(), asked.at(), made.at()) };
+        made.settled(number).map(Data::of)
+    }
+
+    /// As [`from_json`](Data::from_json), but no more is built than the paths ask for. Of a long text of which a template sees little that
+    /// takes less time and memory. The page of a template and partials whose paths these are is the same as over all of the data, up to
+    /// the words of a fault; another template may lack what it asks for.
+    ///
+    /// ```
+    /// use bikleinu::{Data, Language, Partials};
+    ///
+    /// let template = Language::new()?.parse("{% for p in products %}{{ p.title }};{% endfor %}")?;
+    /// let paths = template.paths(&Partials::new()?)?;
+    /// let data = Data::from_json_for(r#"{"products": [{"title": "Tea", "text": "Green"}]}"#, &paths)?;
+    /// assert_eq!(template.render_text(&data)?, "Tea;");
+    /// # Ok::<(), bikleinu::LiquidError>(())
+    /// ```
+    ///
+    /// # Errors
+    ///
+    /// What is wrong in the text, also where no path leads, with its place; or refused memory.
+    pub fn from_json_for(json: &str, paths: &Paths) -> Result<Data, LiquidError> {
+        let (asked, made) = (paths.owner.lend()?, Owner::new());
+        // SAFETY: the handles are owners', two of them, and the bytes are a text's.
+        let number = unsafe { bikleinu_data_for(json.as_ptr(), json.len(), asked.at(), made.at()) };
         made.settled(number).map(Data::of)
     }
 }

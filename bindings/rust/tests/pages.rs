@@ -161,3 +161,20 @@ fn partials_of_a_folder() -> Result<(), Box<dyn Error>> {
     assert!(Partials::from_folder(&room, &language).is_err());
     Ok(())
 }
+
+#[test]
+fn data_are_read_for_a_template() -> Result<(), LiquidError> {
+    let (language, mut partials) = (Language::new()?, Partials::new()?);
+    partials.insert("line", language.parse("{{ line.tea }};")?)?;
+    let template = language.parse("{% for line in lines %}{% render 'line', line: line %}{% endfor %}")?;
+    let paths = template.paths(&partials)?;
+    let json = r#"{"lines": [{"tea": "green", "of": "Assam"}, {"tea": "black"}], "n": 7}"#;
+    let data = Data::from_json_for(json, &paths)?;
+    assert_eq!(template.render(&data, &partials, 32)?.into_text()?, "green;black;");
+    let other = language.parse("{{ n }}")?;
+    assert_eq!(other.render_text(&data).unwrap_err().kind(), Kind::UnknownVariable);
+    assert_eq!(other.render_text(&Data::from_json(json)?)?, "7");
+    let bad = "{\"lines\": [],\n\"m\": 1.5}";
+    assert_eq!(Data::from_json_for(bad, &paths).unwrap_err(), Data::from_json(bad).unwrap_err());
+    Ok(())
+}

@@ -1,5 +1,6 @@
 pub mod Asked
 pub mod Calls
+pub mod DataFor
 pub mod Hosted
 pub mod Languages
 pub mod Levels

@@ -10,6 +10,7 @@ mod answering;
 mod asked;
 mod completing;
 mod content;
+mod data_for;
 mod handle;
 mod held;
 mod hosted;

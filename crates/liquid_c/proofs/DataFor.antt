@@ -1,0 +1,53 @@
+-- Data that are read as far as uses ask show the pages of the whole.
+use Rattle.std.proofs.Common.{◌≡◌, ℕ, List, Ok, refl, subst}
+use Rattle.liquid_model.specs.Data.{Pairs}
+use Rattle.liquid_model.specs.Skipping.{AlikeKeys}
+use Rattle.liquid_model.specs.Texts.{Text}
+use Rattle.liquid_model.specs.UseViews.{uses_view}
+use Rattle.liquid_model.specs.View.{pairs_view}
+use Rattle.liquid_model.proofs.Alike.{alike_same}
+use Rattle.liquid_core.specs.FilterAnswers.{FilterAnswer}
+use Rattle.liquid_core.specs.Held.{Outer, map_of}
+use Rattle.liquid_core.specs.Hosts.{no_host}
+use Rattle.liquid_evaluation.specs.Tree.{Nodes}
+use Rattle.liquid_json.specs.Asked.{IsAlikeData}
+use Rattle.liquid_json.specs.Json.{data_of}
+use Rattle.liquid_lib.specs.HostedPages.{hosted_page}
+use Rattle.liquid_lib.specs.Pages.{fault_of, fresh, page_over}
+use Rattle.liquid_syntax.specs.Templates.{partials_of}
+use Rattle.liquid_syntax.specs.declared.partials.Partials.{Partials}
+use Rattle.liquid_uses.specs.Covered.{SeesAlone}
+use Rattle.liquid_c.specs.Asked.{Covers, Uses}
+use Rattle.liquid_c.specs.DataFor.{IsReadFor, ReadsFor, SamePages}
+use Rattle.liquid_c.specs.declared.content.Content.TheVariants as content
+
+-- a run sees no more of its data than was read
+hosted_same : (uses : Uses) (p : Partials) (nodes : Nodes) (ps qs : Pairs) → AlikeKeys (uses_view uses) ps qs → SeesAlone (uses_view uses) p nodes
+    → (named : Text → FilterAnswer) (depth : ℕ) → hosted_page named depth (partials_of p) (map_of ps) nodes ≡ hosted_page named depth (partials_of p) (map_of qs) nodes
+unfolding map_of hosted_page
+hosted_same uses p nodes ps qs alike alone named depth =
+    let U = uses_view uses in
+    let runs = alone named depth (fresh (map_of ps)) (fresh (map_of qs))
+      (record { local = λ name. alike_same (U name) _; assigned = λ name. alike_same (U name) _; counters = λ name. alike_same (U name) _; globals = alike; registers = refl }) in
+    λ i. record { text = runs.text i; fault = fault_of (runs.end i) }
+
+-- without filters of a host it is the page where each name stands for none
+page_same : (uses : Uses) (p : Partials) (nodes : Nodes) (ps qs : Pairs) → AlikeKeys (uses_view uses) ps qs → SeesAlone (uses_view uses) p nodes
+    → (depth : ℕ) → page_over depth (partials_of p) (map_of ps) nodes ≡ page_over depth (partials_of p) (map_of qs) nodes
+unfolding page_over hosted_page
+page_same uses p nodes ps qs alike alone depth = hosted_same uses p nodes ps qs alike alone no_host depth
+
+same_pages : (uses : Uses) (nodes : Nodes) (ps qs : Pairs) → AlikeKeys (uses_view uses) ps qs → (p : Partials) → SeesAlone (uses_view uses) p nodes → SamePages (partials_of p) nodes ps qs
+same_pages uses nodes ps qs alike p alone = record {
+  page = page_same uses p nodes ps qs alike alone;
+  hosted = hosted_same uses p nodes ps qs alike alone;
+}
+
+pub read_for : (uses : Uses) (ps qs : Pairs) → AlikeKeys (uses_view uses) ps qs → IsReadFor uses ps qs
+read_for uses ps qs alike = record {
+  alike = alike;
+  pages = λ partials nodes covers. subst (λ ts. SamePages ts nodes ps qs) covers.same (same_pages uses nodes ps qs alike covers.over covers.alone);
+}
+
+pub data_read : (uses : Uses) (source : List ℕ) (d : Outer) → IsAlikeData (uses_view uses) (data_of source) (pairs_view d.entries) → ReadsFor uses source (Ok (content.Data d))
+data_read uses source d h = (h.0, h.1, read_for uses h.0 (pairs_view d.entries) h.2)

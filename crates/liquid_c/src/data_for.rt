@@ -1,0 +1,55 @@
+//! Data that are read as far as a template asks for them.
+ghost use Rattle.std.specs.Prelude.{◌≡◌, Ok, option_map};
+ghost use Rattle.liquid_c.specs.DataFor.{IsDataFor, ReadsFor};
+ghost use Rattle.liquid_c.specs.Settled.{Settled};
+ghost use Rattle.liquid_c.specs.Shared.{behind};
+
+use crate::content::Content;
+use crate::handle::Handle;
+use crate::held::seen;
+use crate::refusal::{Refusal, settle};
+use liquid_core::Uses;
+use liquid_json::data_for;
+use std::alloc::Global;
+
+/// Reads data from a text of JSON as far as paths ask for it: a page that sees no more than the
+/// paths ask is the same as over the whole data. What nobody asks for is still looked at, so the
+/// text is refused exactly where `bikleinu_data` refuses it. 0, or the number of the fault that
+/// `made` then has.
+#[unsafe(no_mangle)]
+pub extern "C" fn bikleinu_data_for(
+    alloc: Global,
+    source: &[u8],
+    paths: &mut Handle,
+    made: &mut Handle,
+) -> u32
+    ensures read { Settled (IsDataFor source.now (behind paths.old.held)) result made.new.held }
+    ensures paths { paths.new.held ≡ paths.old.held }
+{
+    let held = paths.take(alloc);
+    let answer = data_asked(alloc, source, seen(&held));
+    paths.put(alloc, held);
+    settle(alloc, answer, made)
+}
+
+fn data_asked(alloc: Global, source: &[u8], paths: Option<&Content>) -> Result<Content, Refusal>
+    ensures { IsDataFor source.now (option_map (λ c. c.now) paths.entry) result }
+{
+    match paths {
+        Some(Content::Paths(uses, _)) => match str::from_utf8(source) {
+            Ok(source) => Ok(read_for(alloc, source, uses)),
+            Err(_) => Err(Refusal::NoText),
+        },
+        _ => Err(Refusal::OtherHandle),
+    }
+}
+
+#[tactic(auto, using(crate::proofs::DataFor::data_read))]
+fn read_for(alloc: Global, source: &str, uses: &Uses) -> Content
+    ensures { ReadsFor uses.now source.now (Ok result) }
+{
+    match data_for(alloc, source, uses) {
+        Ok(data) => Content::Data(data),
+        Err(fault) => Content::Fault(fault),
+    }
+}
