@@ -1,5 +1,5 @@
-/* What templates ask of their data, as paths, and data that are completed with it or read no further. A line tells each thing that isn't well, and the last
- * one "asked: N". */
+/* What templates ask of their data, as paths, and data that are completed with it or read no further. A line tells each thing that isn't
+ * well, and the last one "asked: N". */
 #include <stdio.h>
 #include <string.h>
 

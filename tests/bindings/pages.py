@@ -17,26 +17,34 @@ LANGUAGE = Language()
 
 
 def read(row):
-    """What the texts of a row are read as, in the order of the program: the template, the data and the partials."""
+    """What the texts of a row are read as, in the order of the program: the template, the data and the partials; and the data as far as
+    the template sees them."""
     template = Template(whole(row["source"]), LANGUAGE)
-    data = Data(whole(row["data_text"]) if "data_text" in row else row.get("data", {}))
+    given = whole(row["data_text"]) if "data_text" in row else row.get("data", {})
+    data = Data(given)
     partials = Partials(language=LANGUAGE)
     sources = row.get("partials", {})
     for name, source in sources.items() if isinstance(sources, dict) else sources:
         partials.insert(name, whole(source))
-    return template, data, partials
+    return template, data, partials, template.data(given, partials)
 
 
 def shown(row):
-    """The text of a row's page, and the fault that it ends by. A template that renders again shows the same."""
+    """The text of a row's page, and the fault that it ends by. A template that renders again shows the same, and over what it sees of the
+    data the same up to the fault's message."""
     try:
-        template, data, partials = read(row)
+        template, data, partials, seen = read(row)
     except LiquidError as fault:
         return "", fault
     first, second = template.page(data, partials), template.page(data, partials)
     told = [(page.text, page.fault and (page.fault.number, page.fault.message, page.fault.place)) for page in (first, second)]
     if told[0] != told[1]:
         raise AssertionError(f"{told[1]} where it was {told[0]} at first")
+    for limits in ({}, {"max_turns": 3}, {"missing": "nil"}):
+        pages = [template.page(it, partials, **limits) for it in (data, seen)]
+        ends = [(page.text, page.fault and (page.fault.number, page.fault.place)) for page in pages]
+        if ends[0] != ends[1]:
+            raise AssertionError(f"{limits}: {ends[1]} over what is seen of the data, and {ends[0]} over all of it")
     return first.text, first.fault
 
 

@@ -95,6 +95,7 @@ impl Listed {
 }
 
 /// What stands in a list between these calls and the next one.
+#[tactic(auto, using(crate::proofs::Listed::separator_none, crate::proofs::Listed::separator_some))]
 fn separator(calls: &[Value]) -> &str
     ensures { result.now ≡ separator calls.now }
 {
