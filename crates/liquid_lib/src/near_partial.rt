@@ -10,6 +10,10 @@ use std::alloc::{AllocError, Global};
 pub(crate) fn unknown(alloc: Global, partials: &Partials, name: &str) -> Error
     ensures { IsKindOrMemory ErrorKind.UnknownPartial result.kind }
 {
+    if name.is_empty() {
+        let words = "the name of a partial is an empty text";
+        return Error::new(alloc, ErrorKind::UnknownPartial, words);
+    }
     let quoted = Quoted { text: name };
     let Ok(meant) = meant_by(alloc, partials, name) else {
         return Error::from(AllocError);
@@ -56,12 +60,13 @@ fn meant_by<'p>(
     }
 }
 
-/// The name of a file without its folders and its suffix.
+/// The name of a file without its folders, the `_` with which some begin, and its suffix.
 fn stem_of(name: &str) -> &str {
     let file = match name.rsplit_once('/') {
         Some((_, file)) => file,
         None => name,
     };
+    let file = file.trim_start_matches('_');
     match file.rsplit_once('.') {
         Some((stem, _)) => stem,
         None => file,

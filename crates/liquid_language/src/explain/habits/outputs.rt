@@ -31,7 +31,6 @@ pub static OUTPUT: &str = "\
 ¦{%¦the output before this `{%` has no `}}`
 ^¦{¦an output has two braces on each side, as `{{ a }}`
 ¦% }}¦a text stands between quotes, as `'%'`
-¦%}}¦a text stands between quotes, as `'%'`
 ¦%}¦an output ends with `}}`, and not with `%}`
 ¦-%}¦an output ends with `-}}`, and not with `-%}`
 ¦}¦an output ends with `}}`

@@ -49,7 +49,7 @@ fn slice_answer(alloc: Global, input: &Value, args: &[Value]) -> Result<Value>
         return Err(Error::new(
             alloc,
             ErrorKind::InvalidArgument,
-            "argument: a length of at least 1 is wanted, but this is 0 or less",
+            "the length must be at least 1, and this is less",
         ));
     }
     part(alloc, input, offset, length as usize)
