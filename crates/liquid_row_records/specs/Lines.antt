@@ -1,5 +1,5 @@
 -- The lines of a text, as they come out of a reader.
---     lines_left remaining lines      the bytes that are still to come, where the reader's are known
+--     lines_left remaining lines      the bytes that are still to come, where these are known
 use Rattle.std.specs.Prelude.{ℕ, List, Option}
 use Rattle.std.specs.Io.Buffered.{reader_remaining}
 use Rattle.liquid_row_records.specs.declared.lines.Lines.{Lines}
