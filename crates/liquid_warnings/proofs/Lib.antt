@@ -1,1 +1,1 @@
-pub mod Literals
+pub mod SeenLiterals

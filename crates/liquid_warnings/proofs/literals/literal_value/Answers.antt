@@ -1,5 +1,5 @@
 use Rattle.std.proofs.Common.{◌≡◌, sym}
-use Rattle.liquid_warnings.proofs.Literals.{of_literal, of_variable}
+use Rattle.liquid_warnings.proofs.SeenLiterals.{of_literal, of_variable}
 use Rattle.liquid_warnings.proofs.literals.literal_value.Goals as goal
 
 pub returns-in-Literal : goal.returns-in-Literal
