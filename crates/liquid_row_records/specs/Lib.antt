@@ -1,3 +1,4 @@
 pub mod Cells
 pub mod Heads
+pub mod Lines
 pub mod Rows

@@ -1,4 +1,8 @@
 //! Records that are a line of JSON each.
+ghost use Rattle.std.specs.Prelude.{◌≡◌, IfSome, OnOk};
+ghost use Rattle.std.specs.Io.BufRead.{DropsThrough, take_through};
+ghost use Rattle.liquid_row_records.specs.Lines.{lines_left};
+
 use std::alloc::{AllocError, Global};
 use std::io;
 use std::io::{BufRead, BufReader, Read};
@@ -25,8 +29,7 @@ impl<R: Read + Drop> Lines<R> {
     /// Reads the next line that isn't blank. Whether there is one.
     pub fn advance(&mut self) -> io::Result<bool> {
         for _ in 0..u64::MAX {
-            self.line.clear();
-            if self.reader.read_until(b'\n', &mut self.line)? == 0 {
+            if self.read_line()? == 0 {
                 return Ok(false);
             }
             if !self.line.as_slice().trim_ascii().is_empty() {
@@ -36,8 +39,22 @@ impl<R: Read + Drop> Lines<R> {
         Ok(false)
     }
 
+    /// Reads the next line with its end, and answers how many bytes it has: none where the text
+    /// ends. All that stands after it is still to come.
+    fn read_line(&mut self) -> io::Result<usize>
+        ensures line { OnOk result (IfSome (lines_left R.remaining self.old)
+            (λ text. self.new.line.items ≡ take_through 10 text)) }
+        ensures rest { OnOk result (DropsThrough (lines_left R.remaining self.old)
+            (lines_left R.remaining self.new) 10) }
+    {
+        self.line.clear();
+        self.reader.read_until(b'\n', &mut self.line)
+    }
+
     /// The line that was read last.
-    pub fn line(&self) -> &[u8] {
+    pub fn line(&self) -> &[u8]
+        ensures { result.now ≡ self.now.line.items }
+    {
         self.line.as_slice()
     }
 }

@@ -4,29 +4,23 @@
 --     file_of partials name is_render      the file of a partial
 use Rattle.std.specs.Prelude.{ℕ, Bool, true, false, cond, ◌++◌, Option, Some, None, codes}
 use Rattle.std.specs.Prelude.{string_bytes}
-use Rattle.liquid_model.specs.Data.{Datum, text}
 use Rattle.liquid_model.specs.Texts.{Text}
-use Rattle.liquid_model.specs.View.{view}
+use Rattle.liquid_core.specs.ExpressionView.{expression_view}
 use Rattle.liquid_core.specs.declared.expression.Expression.{Expression}
-use Rattle.liquid_core.specs.declared.expression.Expression.TheVariants.{Literal}
 use Rattle.liquid_syntax.specs.declared.node.Node.{Node}
 use Rattle.liquid_syntax.specs.declared.node.Node.TheVariants.{Include, JekyllInclude, Render}
 use Rattle.liquid_syntax.specs.declared.node.Node.TheVariants.{RenderEach}
-
-abbrev pub own_text : Datum → Option Text
-own_text (text s) = Some s
-own_text _ = None
+use Rattle.liquid_warnings.specs.Literals.{literal_of, text_found}
 
 -- the text that stands in the template itself
-abbrev pub literal : Expression → Option Text
-literal (Literal v) = own_text (view v)
-literal _ = None
+abbrev pub name_of : Expression → Option Text
+name_of x = text_found (literal_of (expression_view x))
 
 abbrev pub called_by : Node → Option (Option Text × Bool)
-called_by (Include name pairs) = Some (literal name, false)
+called_by (Include name pairs) = Some (name_of name, false)
 called_by (JekyllInclude name pairs) = Some (Some (string_bytes name), false)
-called_by (Render name pairs) = Some (literal name, true)
-called_by (RenderEach name each pairs) = Some (literal name, true)
+called_by (Render name pairs) = Some (name_of name, true)
+called_by (RenderEach name each pairs) = Some (name_of name, true)
 called_by _ = None
 
 abbrev pub or_else : Option ℕ → Option ℕ → Option ℕ

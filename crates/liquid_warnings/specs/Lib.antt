@@ -1,5 +1,6 @@
 pub mod Calls
 pub mod Findings
+pub mod Literals
 pub mod Messages
 pub mod Nodes
 pub mod Paths

@@ -1,13 +1,11 @@
 -- What warnings say of single tags and outputs.
 --     no_list position node      of a loop over a literal that is no list and no map
 --     no_clock position node      of a literal for the present time that is printed as a date
-use Rattle.std.specs.Prelude.{Bool, true, false, cond, List, [], ◌∷◌, Option, Some, None}
+use Rattle.std.specs.Prelude.{Bool, false, cond, List, [], ◌∷◌, Option, Some, None}
 use Rattle.std.specs.Prelude.{bytes_eq, codes}
-use Rattle.liquid_model.specs.Data.{Datum, nil, text}
+use Rattle.liquid_model.specs.Data.{Datum, nil}
 use Rattle.liquid_model.specs.Texts.{Text}
-use Rattle.liquid_model.specs.View.{view}
-use Rattle.liquid_core.specs.declared.expression.Expression.{Expression}
-use Rattle.liquid_core.specs.declared.expression.Expression.TheVariants.{Literal}
+use Rattle.liquid_core.specs.ExpressionView.{expression_view}
 use Rattle.liquid_evaluation.specs.StoredFilters.{stored_name}
 use Rattle.liquid_evaluation.specs.declared.chain.ChainFilter.{ChainFilter}
 use Rattle.liquid_evaluation.specs.declared.chain.FilterChain.{FilterChain}
@@ -16,12 +14,9 @@ use Rattle.liquid_evaluation.specs.declared.range_expression.RangeExpression.The
 use Rattle.liquid_syntax.specs.declared.node.Node.{Node}
 use Rattle.liquid_syntax.specs.declared.node.Node.TheVariants.{Assign, For, Output, TableRow}
 use Rattle.liquid_syntax.specs.declared.positions.Position.{Position}
+use Rattle.liquid_warnings.specs.Literals.{literal_of, text_found}
 use Rattle.liquid_warnings.specs.Messages.{clock_message, kind_word, value_message}
 use Rattle.liquid_warnings.specs.Remarks.{Said, warning}
-
-abbrev pub expression_literal : Expression → Option Datum
-expression_literal (Literal v) = Some (view v)
-expression_literal _ = None
 
 -- ---- loops
 
@@ -32,7 +27,7 @@ looped (TableRow head end) = Some head.source
 looped _ = None
 
 abbrev pub source_literal : RangeExpression → Option Datum
-source_literal (Array e) = expression_literal e
+source_literal (Array x) = literal_of (expression_view x)
 source_literal _ = None
 
 abbrev pub literal_found : Option RangeExpression → Option Datum
@@ -68,18 +63,15 @@ abbrev pub clock_word : Text → Option Text
 clock_word s = cond (bytes_eq s (codes "now")) (Some (codes "now"))
     (cond (bytes_eq s (codes "today")) (Some (codes "today")) None)
 
-abbrev pub clock_word_in : Datum → Option Text
-clock_word_in (text s) = clock_word s
-clock_word_in _ = None
-
-abbrev pub clock_word_found : Option Datum → Option Text
+abbrev pub clock_word_found : Option Text → Option Text
 clock_word_found None = None
-clock_word_found (Some d) = clock_word_in d
+clock_word_found (Some s) = clock_word s
 
 -- the word for the present time that a chain prints as a date
 abbrev pub dated_word : FilterChain → Option Text
 dated_word chain =
-    cond (is_dated chain.filters.items) (clock_word_found (expression_literal chain.entry)) None
+    cond (is_dated chain.filters.items)
+    (clock_word_found (text_found (literal_of (expression_view chain.entry)))) None
 
 abbrev pub dated_word_found : Option FilterChain → Option Text
 dated_word_found None = None

@@ -1,9 +1,9 @@
 //! The partials that templates run.
 ghost use Rattle.std.specs.Prelude.{◌≡◌, ◌++◌, IfOk, codes, option_map};
 ghost use Rattle.std.specs.BTreeMap.{get_by_text};
-ghost use Rattle.liquid_warnings.specs.Calls.{called_by, file_of, literal};
+ghost use Rattle.liquid_warnings.specs.Calls.{called_by, file_of};
 
-use liquid_core::{Expression, Value};
+use crate::literals::literal_text;
 use liquid_syntax::{Node, Position, Template};
 use std::alloc::{AllocError, Global};
 use std::collections::BTreeMap;
@@ -45,19 +45,9 @@ fn called_by(node: &Node) -> Option<(Option<&str>, bool)>
     ensures { option_map (λ p. (option_map (λ n. n.now) p.0, p.1)) result ≡ called_by node.now }
 {
     match node {
-        Node::Include(name, _) => Some((literal(name), false)),
+        Node::Include(name, _) => Some((literal_text(name), false)),
         Node::JekyllInclude(name, _) => Some((Some(name.as_str()), false)),
-        Node::Render(name, _) | Node::RenderEach(name, _, _) => Some((literal(name), true)),
-        _ => None,
-    }
-}
-
-/// The text that stands in the template itself.
-fn literal(name: &Expression) -> Option<&str>
-    ensures { option_map (λ n. n.now) result ≡ literal name.now }
-{
-    match name {
-        Expression::Literal(Value::Text(name)) => Some(name.as_str()),
+        Node::Render(name, _) | Node::RenderEach(name, _, _) => Some((literal_text(name), true)),
         _ => None,
     }
 }

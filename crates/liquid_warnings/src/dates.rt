@@ -5,8 +5,8 @@ ghost use Rattle.liquid_warnings.specs.Nodes.{clock_word, dated_word, is_dated, 
 ghost use Rattle.liquid_warnings.specs.Nodes.{printed_chain};
 ghost use Rattle.liquid_warnings.specs.Remarks.{remark_view};
 
+use crate::literals::literal_text;
 use crate::remark::Remark;
-use liquid_core::{Expression, Value};
 use liquid_evaluation::{ChainFilter, FilterChain};
 use liquid_syntax::{Node, Position};
 use std::alloc::{AllocError, Global};
@@ -54,9 +54,9 @@ fn dated_word(chain: &FilterChain) -> Option<&'static str>
     if !is_dated(&chain.filters) {
         return None;
     }
-    match &chain.entry {
-        Expression::Literal(Value::Text(word)) => clock_word(word.as_str()),
-        _ => None,
+    match literal_text(&chain.entry) {
+        Some(word) => clock_word(word),
+        None => None,
     }
 }
 

@@ -7,6 +7,7 @@ mod calls;
 mod dates;
 mod doubts;
 mod else_if;
+mod literals;
 mod loops;
 mod messages;
 mod names;

@@ -5,8 +5,9 @@ ghost use Rattle.liquid_warnings.specs.Messages.{kind_word, value_message};
 ghost use Rattle.liquid_warnings.specs.Nodes.{looped, no_list, source_literal, unlisted};
 ghost use Rattle.liquid_warnings.specs.Remarks.{remark_view, warning};
 
+use crate::literals::literal_value;
 use crate::remark::Remark;
-use liquid_core::{Expression, Value};
+use liquid_core::Value;
 use liquid_evaluation::RangeExpression;
 use liquid_syntax::{Node, Position};
 use std::alloc::{AllocError, Global};
@@ -43,8 +44,8 @@ fn source_literal(source: &RangeExpression) -> Option<&Value>
     ensures { option_map (λ v. view v.now) result ≡ source_literal source.now }
 {
     match source {
-        RangeExpression::Array(Expression::Literal(value)) => Some(value),
-        _ => None,
+        RangeExpression::Array(expression) => literal_value(expression),
+        RangeExpression::Counted(_, _) => None,
     }
 }
 
