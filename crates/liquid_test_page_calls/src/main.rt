@@ -10,8 +10,9 @@
 //! rendered in place of `then`, each with all that it may show. A `rendering` is a page whose
 //! template is parsed before its calls. A `limited page` also has the `bytes` and the `turns` of
 //! its limits, and the limit that it is `ended_by`. The `source` of an `example` is its name.
-//! `jekyll filters` are over a site of the `address` and the `base` path that `on` has. Of all
-//! other calls `with` is a list of steps. With a word each call stands between marks, for
+//! `jekyll filters` are over a site of the `address` and the `base` path that `on` has. What `on`
+//! has stands `with` so many lists around it where it is to be `read back`. Of all other calls
+//! `with` is a list of steps. With a word each call stands between marks, for
 //! `tests/refusals/run`, and how it ended after them.
 #![tactic(auto)]
 
@@ -20,6 +21,7 @@ mod filters;
 mod given;
 mod hosts;
 mod jekyll;
+mod json;
 mod limits;
 mod pages;
 mod registers;
@@ -30,6 +32,7 @@ mod writers;
 use crate::examples::example;
 use crate::hosts::hosted;
 use crate::jekyll::jekyll_called;
+use crate::json::read_back;
 use crate::limits::limited_made;
 use crate::pages::{pages_made, rendering_made};
 use crate::registers::{forloop, has_filter, registered};
@@ -100,6 +103,7 @@ fn called(alloc: Global, row: &WorkedRow) -> Result<Value> {
     match row.call.as_str() {
         "example" => text(example(alloc, row.source.as_str())),
         "forloop" => forloop(alloc, row),
+        "read back" => flag(read_back(alloc, row)),
         _ => flag(has_filter(alloc, row)),
     }
 }
