@@ -1,6 +1,6 @@
 -- Calls that are listed one after another, and their text.
 use Rattle.std.proofs.Common.{◌≡◌, ℕ, suc, ◌+◌, ◌-◌, ◌<◌, ◌≤◌, List, [], ◌∷◌, ◌++◌, true, false, Some, None, Less, length, refl, sym, ap, subst, ◌∙◌, arith}
-use Rattle.std.proofs.lemmas.List.{append-assoc, append-nil, length-append}
+use Rattle.std.proofs.lemmas.List.{append_assoc, append-nil, length-append}
 use Rattle.std.specs.Prelude.{codes, nat_eq, slice_get, string_bytes}
 use Rattle.std.specs.Ordering.{on}
 use Rattle.liquid_model.specs.Order.{order}
@@ -46,20 +46,20 @@ items_snoc before (x ∷ xs) c =
     let more : json_items (codes ",") (items_view (xs ++ c ∷ [])) ≡ json_items (codes ",") (items_view xs) ++ (codes "," ++ j) =
     items_snoc (codes ",") xs c ∙ ap (λ b. json_items (codes ",") (items_view xs) ++ (b ++ j)) (comma xs) in
     ap (λ t. before ++ (json_text (view x) ++ t)) more
-    ∙ ap (λ t. before ++ t) (sym (append-assoc (json_text (view x)) (json_items (codes ",") (items_view xs)) (codes "," ++ j)))
-    ∙ sym (append-assoc before (json_text (view x) ++ json_items (codes ",") (items_view xs)) (codes "," ++ j))
+    ∙ ap (λ t. before ++ t) (sym (append_assoc (json_text (view x)) (json_items (codes ",") (items_view xs)) (codes "," ++ j)))
+    ∙ sym (append_assoc before (json_text (view x) ++ json_items (codes ",") (items_view xs)) (codes "," ++ j))
 
 -- the text of the calls with one more
 text_snoc : (cs : List Value) (c : Value) (old : Text) → old ≡ codes "[" ++ json_items [] (items_view cs) → old ++ (separator cs ++ json_text (view c)) ≡ codes "[" ++ json_items [] (items_view (cs ++ c ∷ []))
 text_snoc cs c old is =
     let j = json_text (view c) in
     ap (λ t. t ++ (separator cs ++ j)) is
-    ∙ append-assoc (codes "[") (json_items [] (items_view cs)) (separator cs ++ j)
+    ∙ append_assoc (codes "[") (json_items [] (items_view cs)) (separator cs ++ j)
     ∙ ap (λ s. codes "[" ++ (json_items [] (items_view cs) ++ (s ++ j))) (sym (first cs))
     ∙ ap (λ t. codes "[" ++ t) (sym (items_snoc [] cs c))
 
 closed : (cs : List Value) (text : Text) → text ≡ codes "[" ++ json_items [] (items_view cs) → text ++ codes "]" ≡ json_list (items_view cs)
-closed cs text is = ap (λ t. t ++ codes "]") is ∙ append-assoc (codes "[") (json_items [] (items_view cs)) (codes "]")
+closed cs text is = ap (λ t. t ++ codes "]") is ∙ append_assoc (codes "[") (json_items [] (items_view cs)) (codes "]")
 
 one_more : (n : ℕ) → n < 1048576 → n + 1 ≤ 1048576
 one_more n h = omega (arith, h)
