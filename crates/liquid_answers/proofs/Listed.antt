@@ -1,7 +1,7 @@
 -- Calls that are listed one after another, and their text.
-use Rattle.std.proofs.Common.{◌≡◌, ℕ, suc, ◌+◌, ◌-◌, ◌<◌, ◌≤◌, List, [], ◌∷◌, ◌++◌, true, false, Some, None, Less, length, refl, sym, ap, subst, ◌∙◌, arith}
+use Rattle.std.proofs.Common.{◌≡◌, ◌==◌, ℕ, ◌+◌, ◌-◌, ◌<◌, ◌≤◌, List, [], ◌∷◌, ◌++◌, true, false, Some, None, Less, length, refl, sym, ap, subst, ◌∙◌, arith}
 use Rattle.std.proofs.lemmas.List.{append_assoc, append-nil, length-append}
-use Rattle.std.specs.Prelude.{codes, nat_eq, slice_get, string_bytes}
+use Rattle.std.specs.Prelude.{codes, slice_get, string_bytes}
 use Rattle.std.specs.Ordering.{on}
 use Rattle.liquid_model.specs.Order.{order}
 use Rattle.liquid_model.specs.Texts.{Text}
@@ -31,11 +31,11 @@ first : (cs : List Value) → between [] cs ≡ separator cs
 first [] = refl
 first (c ∷ cs) = refl
 
-pub separator_none : (cs : List Value) → nat_eq (length cs) 0 ≡ true → [] ≡ separator cs
+pub separator_none : (cs : List Value) → (length cs == 0) ≡ true → [] ≡ separator cs
 separator_none [] none = refl
 separator_none (c ∷ cs) none = cc
 
-pub separator_some : (cs : List Value) → nat_eq (length cs) 0 ≡ false → codes "," ≡ separator cs
+pub separator_some : (cs : List Value) → (length cs == 0) ≡ false → codes "," ≡ separator cs
 separator_some [] some = cc
 separator_some (c ∷ cs) some = refl
 

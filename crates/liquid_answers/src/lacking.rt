@@ -1,5 +1,5 @@
 //! The calls that a table lacks, as a list.
-ghost use Rattle.std.specs.Prelude.{◌≡◌, ◌<◌, ◌-◌, IfErr, IfOk, IsTrue, Some, length, nat_eq};
+ghost use Rattle.std.specs.Prelude.{◌≡◌, ◌==◌, ◌<◌, ◌-◌, IfErr, IfOk, IsTrue, Some, length};
 ghost use Rattle.std.specs.Prelude.{option_map, slice_get, string_bytes};
 ghost use Rattle.std.specs.Ordering.{on};
 ghost use Rattle.std.specs.declared.cmp.Ordering.TheVariants.{Less};
@@ -68,7 +68,7 @@ impl Listed {
 
     /// Whether no call is listed.
     pub(crate) fn is_empty(&self) -> bool
-        ensures { result ≡ nat_eq (length self.now.calls.items) 0 }
+        ensures { result ≡ (length self.now.calls.items == 0) }
     {
         self.calls.is_empty()
     }
