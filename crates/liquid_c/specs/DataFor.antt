@@ -1,5 +1,5 @@
 -- Data that are read as far as uses ask.
---     IsReadFor uses whole read      no page that sees no more than the uses ask tells the two apart
+--     IsReadFor uses whole read      no page that sees no more than the uses ask tells them apart
 use Rattle.std.specs.Prelude.{◌≡◌, ℕ, List, Option, Some, Result, Ok, Err}
 use Rattle.liquid_model.specs.Answer.{Faulted}
 use Rattle.liquid_model.specs.Data.{Pairs}
