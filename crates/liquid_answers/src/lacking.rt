@@ -84,8 +84,10 @@ impl Listed {
 
     /// Lists a call, with its text.
     fn add(&mut self, alloc: Global, call: Value) -> Result<()>
-        ensures calls { IfOk result (λ _. self.new.calls.items ≡ self.old.calls.items ++ call ∷ []) }
-        ensures text { IfOk result (λ _. string_bytes self.new.text ≡ string_bytes self.old.text ++
+        ensures calls { IfOk result (λ _. self.new.calls.items ≡
+            self.old.calls.items ++ call ∷ []) }
+        ensures text { IfOk result (λ _. string_bytes self.new.text ≡
+            string_bytes self.old.text ++
             (separator self.old.calls.items ++ json_text (view call))) }
         ensures memory { IfErr result (λ e. e.kind ≡ ErrorKind.Memory) }
     {
