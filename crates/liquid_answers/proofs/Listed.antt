@@ -1,7 +1,7 @@
 -- Calls that are listed one after another, and their text.
-use Rattle.std.proofs.Common.{◌≡◌, ℕ, suc, ◌+◌, ◌-◌, ◌<◌, ◌≤◌, List, [], ◌∷◌, ◌++◌, true, false, Some, None, Less, length, refl, sym, ap, subst, ◌∙◌, arith}
-use Rattle.std.proofs.lemmas.List.{append-assoc, append-nil, length-append}
-use Rattle.std.specs.Prelude.{codes, nat_eq, slice_get, string_bytes}
+use Rattle.std.proofs.Common.{◌≡◌, ◌==◌, ℕ, zero, suc, ◌+◌, ◌-◌, ◌<◌, ◌≤◌, List, [], ◌∷◌, ◌++◌, Bool, true, false, T, Some, None, Less, length, refl, sym, ap, subst, ◌∙◌, arith}
+use Rattle.std.proofs.lemmas.List.{append_assoc, append-nil, length-append}
+use Rattle.std.specs.Prelude.{codes, slice_get, string_bytes}
 use Rattle.std.specs.Ordering.{on}
 use Rattle.liquid_model.specs.Order.{order}
 use Rattle.liquid_model.specs.Texts.{Text}
@@ -15,11 +15,16 @@ use Rattle.liquid_answers.specs.declared.answers.Answers.{Answers}
 use Rattle.liquid_answers.specs.declared.lacking.Lacking.{Lacking}
 use Rattle.liquid_answers.specs.declared.lacking.Listed.{Listed}
 use Rattle.liquid_answers.specs.declared.page.Answered.TheVariants as answered
-use Rattle.liquid_answers.specs.inside.Listed.{AreListed, IsAdded, IsNone, separator}
+use Rattle.liquid_answers.specs.inside.Listed.{AreListed, IsNone, separator}
 use Rattle.liquid_answers.proofs.Told.{told_more, told_none}
 
+-- there is a call
+pub not_none : (n : ℕ) (b : Bool) → b ≡ (n == 0) → b ≡ false → 0 < n
+not_none zero b is no = absurd (subst T (sym is ∙ no) tt)
+not_none (suc n) b is no = omega arith
+
 -- what stands before the next item, after these, of which the first has this before it
-between : Text → List Value → Text
+abbrev between : Text → List Value → Text
 between before [] = before
 between before (c ∷ cs) = codes ","
 
@@ -31,11 +36,11 @@ first : (cs : List Value) → between [] cs ≡ separator cs
 first [] = refl
 first (c ∷ cs) = refl
 
-pub separator_none : (cs : List Value) → nat_eq (length cs) 0 ≡ true → [] ≡ separator cs
+pub separator_none : (cs : List Value) → (length cs == 0) ≡ true → [] ≡ separator cs
 separator_none [] none = refl
-separator_none (c ∷ cs) none = cc
+separator_none (c ∷ cs) none = absurd (subst T (sym none) tt)
 
-pub separator_some : (cs : List Value) → nat_eq (length cs) 0 ≡ false → codes "," ≡ separator cs
+pub separator_some : (cs : List Value) → (length cs == 0) ≡ false → codes "," ≡ separator cs
 separator_some [] some = cc
 separator_some (c ∷ cs) some = refl
 
@@ -46,20 +51,20 @@ items_snoc before (x ∷ xs) c =
     let more : json_items (codes ",") (items_view (xs ++ c ∷ [])) ≡ json_items (codes ",") (items_view xs) ++ (codes "," ++ j) =
     items_snoc (codes ",") xs c ∙ ap (λ b. json_items (codes ",") (items_view xs) ++ (b ++ j)) (comma xs) in
     ap (λ t. before ++ (json_text (view x) ++ t)) more
-    ∙ ap (λ t. before ++ t) (sym (append-assoc (json_text (view x)) (json_items (codes ",") (items_view xs)) (codes "," ++ j)))
-    ∙ sym (append-assoc before (json_text (view x) ++ json_items (codes ",") (items_view xs)) (codes "," ++ j))
+    ∙ ap (λ t. before ++ t) (sym (append_assoc (json_text (view x)) (json_items (codes ",") (items_view xs)) (codes "," ++ j)))
+    ∙ sym (append_assoc before (json_text (view x) ++ json_items (codes ",") (items_view xs)) (codes "," ++ j))
 
 -- the text of the calls with one more
 text_snoc : (cs : List Value) (c : Value) (old : Text) → old ≡ codes "[" ++ json_items [] (items_view cs) → old ++ (separator cs ++ json_text (view c)) ≡ codes "[" ++ json_items [] (items_view (cs ++ c ∷ []))
 text_snoc cs c old is =
     let j = json_text (view c) in
     ap (λ t. t ++ (separator cs ++ j)) is
-    ∙ append-assoc (codes "[") (json_items [] (items_view cs)) (separator cs ++ j)
+    ∙ append_assoc (codes "[") (json_items [] (items_view cs)) (separator cs ++ j)
     ∙ ap (λ s. codes "[" ++ (json_items [] (items_view cs) ++ (s ++ j))) (sym (first cs))
     ∙ ap (λ t. codes "[" ++ t) (sym (items_snoc [] cs c))
 
 closed : (cs : List Value) (text : Text) → text ≡ codes "[" ++ json_items [] (items_view cs) → text ++ codes "]" ≡ json_list (items_view cs)
-closed cs text is = ap (λ t. t ++ codes "]") is ∙ append-assoc (codes "[") (json_items [] (items_view cs)) (codes "]")
+closed cs text is = ap (λ t. t ++ codes "]") is ∙ append_assoc (codes "[") (json_items [] (items_view cs)) (codes "]")
 
 one_more : (n : ℕ) → n < 1048576 → n + 1 ≤ 1048576
 one_more n h = omega (arith, h)
@@ -75,11 +80,12 @@ listed_none table listed is = record {
 }
 
 -- one more is listed
-pub listed_more : (table : Answers) (old new : Listed) (c : Value) → AreListed table old → IsAdded old c new → length old.calls.items < 1000 → length (string_bytes old.text) < 1048576
+pub listed_more : (table : Answers) (old new : Listed) (c : Value) → AreListed table old → new.calls.items ≡ old.calls.items ++ c ∷ []
+    → string_bytes new.text ≡ string_bytes old.text ++ (separator old.calls.items ++ json_text (view c)) → length old.calls.items < 1000 → length (string_bytes old.text) < 1048576
     → ((last : Value) → slice_get old.calls.items (length old.calls.items - 1) ≡ Some last → on view order last c ≡ Less) → answer_at table (view c) ≡ None → AreListed table new
-listed_more table old new c listed added few short after lacks = record {
-  told = subst (AreTold table) (sym added.0) (told_more table old.calls.items c listed.told few (room old.calls.items (string_bytes old.text) listed.text short) after lacks);
-  text = added.1 ∙ text_snoc old.calls.items c (string_bytes old.text) listed.text ∙ ap (λ cs. codes "[" ++ json_items [] (items_view cs)) (sym added.0);
+listed_more table old new c listed calls text few short after lacks = record {
+  told = subst (AreTold table) (sym calls) (told_more table old.calls.items c listed.told few (room old.calls.items (string_bytes old.text) listed.text short) after lacks);
+  text = text ∙ text_snoc old.calls.items c (string_bytes old.text) listed.text ∙ ap (λ cs. codes "[" ++ json_items [] (items_view cs)) (sym calls);
 }
 
 -- the list with its end

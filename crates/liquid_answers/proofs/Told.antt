@@ -61,7 +61,10 @@ told_more table cs c told few short after lacks = record {
   short = subst (λ front. length (json_list (items_view front)) ≤ 1048576) (sym (front_snoc cs c)) short;
 }
 
+brackets : 2 ≤ 1048576
+brackets = omega arith
+
 -- none is told
 pub told_none : (table : Answers) → AreTold table []
 unfolding IsStrictlySortedBy
-told_none table = record { lacking = tt; once = tt; few = omega arith; short = omega arith }
+told_none table = record { lacking = tt; once = tt; few = omega arith; short = brackets }

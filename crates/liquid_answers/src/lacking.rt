@@ -1,14 +1,15 @@
 //! The calls that a table lacks, as a list.
-ghost use Rattle.std.specs.Prelude.{◌≡◌, ◌<◌, ◌-◌, IfErr, IfOk, IsTrue, Some, length, nat_eq};
-ghost use Rattle.std.specs.Prelude.{option_map, slice_get, string_bytes};
+ghost use Rattle.std.specs.Prelude.{◌≡◌, ◌==◌, ◌<◌, ◌-◌, ◌++◌, ◌∷◌, [], IfErr, IfOk, IsTrue, Some};
+ghost use Rattle.std.specs.Prelude.{length, option_map, slice_get, string_bytes};
 ghost use Rattle.std.specs.Ordering.{on};
 ghost use Rattle.std.specs.declared.cmp.Ordering.TheVariants.{Less};
 ghost use Rattle.liquid_model.specs.Order.{order};
 ghost use Rattle.liquid_model.specs.View.{view};
 ghost use Rattle.liquid_model.specs.declared.value.Value.{Value};
+ghost use Rattle.liquid_jekyll_host_filters.specs.Json.{json_text};
 ghost use Rattle.liquid_answers.specs.Lacking.{IsLacking, calls_in};
 ghost use Rattle.liquid_answers.specs.declared.answers.Answers.{Answers};
-ghost use Rattle.liquid_answers.specs.inside.Listed.{AreListed, IsAdded, IsNone, separator};
+ghost use Rattle.liquid_answers.specs.inside.Listed.{AreListed, IsNone, separator};
 
 use crate::answers::Answers;
 use crate::asked::{Asked, MOST_BYTES, MOST_CALLS};
@@ -68,7 +69,7 @@ impl Listed {
 
     /// Whether no call is listed.
     pub(crate) fn is_empty(&self) -> bool
-        ensures { result ≡ nat_eq (length self.now.calls.items) 0 }
+        ensures { result ≡ (length self.now.calls.items == 0) }
     {
         self.calls.is_empty()
     }
@@ -83,7 +84,11 @@ impl Listed {
 
     /// Lists a call, with its text.
     fn add(&mut self, alloc: Global, call: Value) -> Result<()>
-        ensures added { IfOk result (λ _. IsAdded self.old call self.new) }
+        ensures calls { IfOk result (λ _. self.new.calls.items ≡
+            self.old.calls.items ++ call ∷ []) }
+        ensures text { IfOk result (λ _. string_bytes self.new.text ≡
+            string_bytes self.old.text ++
+            (separator self.old.calls.items ++ json_text (view call))) }
         ensures memory { IfErr result (λ e. e.kind ≡ ErrorKind.Memory) }
     {
         let separator = separator(self.calls.as_slice());

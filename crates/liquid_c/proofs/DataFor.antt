@@ -28,7 +28,7 @@ unfolding map_of hosted_page
 hosted_same uses p nodes ps qs alike alone named depth =
     let U = uses_view uses in
     let runs = alone named depth (fresh (map_of ps)) (fresh (map_of qs))
-      (record { local = λ name. alike_same (U name) _; assigned = λ name. alike_same (U name) _; counters = λ name. alike_same (U name) _; globals = alike; registers = refl }) in
+    (record { local = λ name. alike_same (U name) _; assigned = λ name. alike_same (U name) _; counters = λ name. alike_same (U name) _; globals = alike; registers = refl }) in
     λ i. record { text = runs.text i; fault = fault_of (runs.end i) }
 
 -- without filters of a host it is the page where each name stands for none

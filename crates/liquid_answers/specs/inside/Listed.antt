@@ -1,9 +1,9 @@
 -- Calls on their way into a list.
 use Rattle.std.specs.Prelude.{◌≡◌, List, [], ◌∷◌, ◌++◌, codes, string_bytes}
 use Rattle.liquid_model.specs.Texts.{Text}
-use Rattle.liquid_model.specs.View.{items_view, view}
+use Rattle.liquid_model.specs.View.{items_view}
 use Rattle.liquid_model.specs.declared.value.Value.{Value}
-use Rattle.liquid_jekyll_host_filters.specs.Json.{json_items, json_text}
+use Rattle.liquid_jekyll_host_filters.specs.Json.{json_items}
 use Rattle.liquid_answers.specs.Lacking.{AreTold}
 use Rattle.liquid_answers.specs.declared.answers.Answers.{Answers}
 use Rattle.liquid_answers.specs.declared.lacking.Listed.{Listed}
@@ -16,12 +16,6 @@ separator (c ∷ cs) = codes ","
 -- no call is listed yet
 abbrev pub IsNone : Listed → Type 0
 IsNone listed = (listed.calls.items ≡ []) × (string_bytes listed.text ≡ codes "[")
-
--- one more call is listed
-abbrev pub IsAdded : Listed → Value → Listed → Type 0
-IsAdded old call new = (new.calls.items ≡ old.calls.items ++ call ∷ [])
-    × (string_bytes new.text
-    ≡ string_bytes old.text ++ (separator old.calls.items ++ json_text (view call)))
 
 -- the calls may be told, and the text is their list, but for its end
 pub record AreListed (table : Answers) (listed : Listed) : Type 0 where
