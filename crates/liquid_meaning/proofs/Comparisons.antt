@@ -11,7 +11,7 @@ use Rattle.liquid_core.specs.Expression.{Expression, literal, variable}
 use Rattle.liquid_evaluation.specs.declared.comparison.ComparisonOperator.{ComparisonOperator}
 use Rattle.liquid_evaluation.specs.declared.comparison.ComparisonOperator.TheVariants.{Equals, NotEquals, LessThan, GreaterThan, LessThanEquals, GreaterThanEquals, Contains}
 use Rattle.liquid_evaluation.specs.Evaluation.{passes, comparison_truth}
-use Rattle.liquid_model.specs.Uses.{everything, there, shape, Alike, asks_whether}
+use Rattle.liquid_model.specs.Uses.{Use, everything, there, shape, Alike, asks_whether}
 use Rattle.liquid_meaning.specs.Reading.{Uses, is_nil_or_scalar, sees_kind_alone, use_beside, grants}
 
 -- ---- shapes
