@@ -1,5 +1,5 @@
 -- How a value compares with nil or a scalar is seen by its shape, and with any other value by all of it.
-use Rattle.std.specs.Prelude.{◌≡◌, Bool, true, false, cond, not, T, Option, Some, None, Result, Ok, Err}
+use Rattle.std.specs.Prelude.{◌≡◌, Bool, true, false, cond, not, T, Some, Result, Ok, Err}
 use mathlib.Core.Path.{refl, sym, ap, subst, ◌∙◌}
 use Rattle.std.specs.Option.{unwrap_or}
 use Rattle.std.specs.Ordering.{is_lt, is_gt, is_le, is_ge}
