@@ -1,5 +1,5 @@
 -- How a value compares with nil or a scalar is seen by its shape, and with any other value by all of it.
-use Rattle.std.specs.Prelude.{◌≡◌, Bool, true, false, cond, not, T, Option, Some, None, Result, Ok, Err}
+use Rattle.std.specs.Prelude.{◌≡◌, Bool, true, false, cond, not, T, Some, Result, Ok, Err}
 use mathlib.Core.Path.{refl, sym, ap, subst, ◌∙◌}
 use Rattle.std.specs.Option.{unwrap_or}
 use Rattle.std.specs.Ordering.{is_lt, is_gt, is_le, is_ge}
@@ -11,7 +11,7 @@ use Rattle.liquid_core.specs.Expression.{Expression, literal, variable}
 use Rattle.liquid_evaluation.specs.declared.comparison.ComparisonOperator.{ComparisonOperator}
 use Rattle.liquid_evaluation.specs.declared.comparison.ComparisonOperator.TheVariants.{Equals, NotEquals, LessThan, GreaterThan, LessThanEquals, GreaterThanEquals, Contains}
 use Rattle.liquid_evaluation.specs.Evaluation.{passes, comparison_truth}
-use Rattle.liquid_model.specs.Uses.{everything, there, shape, Alike, asks_whether}
+use Rattle.liquid_model.specs.Uses.{Use, everything, there, shape, Alike, asks_whether}
 use Rattle.liquid_meaning.specs.Reading.{Uses, is_nil_or_scalar, sees_kind_alone, use_beside, grants}
 
 -- ---- shapes

@@ -19,9 +19,9 @@ use Rattle.liquid_syntax.specs.declared.node.Node.{Node}
 use Rattle.liquid_syntax.specs.declared.node.Node.TheVariants.{Text as Plain, Output, Assign, Raw, Comment, If, Unless, Capture, Case, For, TableRow, Break, Continue, Increment, Decrement, Cycle, IfChanged, Include, JekyllInclude, Render, RenderEach}
 use Rattle.liquid_syntax.specs.declared.template.Template.{Template}
 use Rattle.liquid_syntax.proofs.Totals.{IsTotal, Makes, leaf_makes, one_makes, two_makes, of_arms, case_makes, list_total, tree_total}
-use Rattle.liquid_model.specs.Uses.{everything, asks_whether, present, there}
+use Rattle.liquid_model.specs.Uses.{there}
 use Rattle.liquid_meaning.specs.FilterNeeds.{known_needs}
-use Rattle.liquid_meaning.specs.Reading.{Uses, is_flat, grants, grants_all, grants_condition, grants_node, grants_nodes, grants_optional, grants_partials, grants_source, grants_values, grants_whens, grants_window}
+use Rattle.liquid_meaning.specs.Reading.{Uses, is_flat, grants, grants_node, grants_nodes, grants_optional, grants_partials, grants_source, grants_values, grants_whens, grants_window}
 use Rattle.liquid_uses.specs.inside.OwnGrants.{arms_granted, each_grants, for_grants, held_grants, list_grants, own_grants, pairs_grants, row_grants, slots_grant}
 
 and_assoc : (a b c : Bool) → ((a && b) && c) ≡ (a && (b && c))

@@ -103,12 +103,7 @@ pub(crate) fn arms_granted(uses: &Uses, target: &Expression, arms: &[Arm]) -> bo
 }
 
 /// The values of a `when`, where the target is at that place.
-fn values_granted(
-    uses: &Uses,
-    target: &Expression,
-    place: Place<'_>,
-    values: &[Expression],
-) -> bool
+fn values_granted(uses: &Uses, target: &Expression, place: Place<'_>, values: &[Expression]) -> bool
     ensures { IsReached place.entry (uses_view uses.now) (expression_view target.now) → result
         ≡ true → grants_values (uses_view uses.now) (expression_view target.now) (map
         expression_view values.now) ≡ true }
