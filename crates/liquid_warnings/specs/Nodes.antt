@@ -22,8 +22,8 @@ use Rattle.liquid_warnings.specs.Remarks.{Said, warning}
 
 -- what a loop goes over
 abbrev pub looped : Node → Option RangeExpression
-looped (For head bodies) = Some head.source
-looped (TableRow head end) = Some head.source
+looped (For head bodies) = Some head.value.source
+looped (TableRow head end) = Some head.value.source
 looped _ = None
 
 abbrev pub source_literal : RangeExpression → Option Datum

@@ -85,17 +85,20 @@ impl<'t> Whole<'t> {
         Ok(())
     }
 
-    /// The tags of a file that run partials.
-    fn calls_at(&self, place: usize) -> &[Call<'t>] {
+    /// A tag of a file that runs a partial.
+    fn call_at(&self, place: usize, number: usize) -> Option<&Call<'t>> {
         match self.calls.get(place) {
-            Some(calls) => calls.as_slice(),
-            None => &[],
+            Some(calls) => calls.get(number),
+            None => None,
         }
     }
 
     /// Whether a file runs a partial that isn't known.
     fn runs_unknown(&self, place: usize) -> bool {
-        self.calls_at(place).iter().any(|call| call.file.is_none())
+        match self.calls.get(place) {
+            Some(calls) => calls.iter().any(|call| call.file.is_none()),
+            None => false,
+        }
     }
 
     /// Adds the warnings about what the template of a file says.
@@ -226,7 +229,7 @@ impl<'t> Whole<'t> {
         warnings: &mut Warnings,
     ) -> Result<(), AllocError> {
         for (place, number) in calls_back(alloc, &self.calls)? {
-            if let Some(call) = self.calls_at(place).get(number) {
+            if let Some(call) = self.call_at(place, number) {
                 add_recursive_at(alloc, call, warnings.get_mut(place))?;
             }
         }
