@@ -14,12 +14,7 @@ pub fn check(rt: &HostRuntime, call: &CheckCall<'_>, language: &Language) -> Res
     let paths = checked_paths(rt, call)?;
     let files = read_files(rt, language, &paths.files)?;
     let data = data_of(rt, call)?;
-    let given = Given {
-        data: data.as_ref(),
-        language,
-        partials: paths.partials.as_slice(),
-        attributes: call.attributes,
-    };
+    let given = given_by(call, data.as_ref(), language, paths.partials.as_slice());
     let warnings = {
         let checked = checked_files(rt.alloc(), &files, &paths.files)?;
         warnings_of(rt.alloc(), &checked, given)?
@@ -27,6 +22,21 @@ pub fn check(rt: &HostRuntime, call: &CheckCall<'_>, language: &Language) -> Res
     let mut counts = Counts::new(paths.unread);
     print_files(rt, call, &files, warnings, &mut counts)?;
     print_counts(rt, counts)
+}
+
+/// What the warnings are made by.
+fn given_by<'c>(
+    call: &CheckCall<'_>,
+    data: Option<&'c Object>,
+    language: &'c Language,
+    partials: &'c [(String, usize)],
+) -> Given<'c> {
+    Given {
+        data,
+        language,
+        partials,
+        attributes: call.attributes,
+    }
 }
 
 /// The data that the templates are for, where a call names some.

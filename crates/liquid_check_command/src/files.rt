@@ -55,7 +55,7 @@ pub(crate) fn read_files(
 fn read_file(rt: &HostRuntime, language: &Language, file: &CheckedPath) -> Result<File, Stop> {
     let path = file.path.as_str();
     match read_text(rt, path, file.is_found) {
-        Ok(Some(text)) => Ok(File::Checked(checked(rt.alloc(), language, path, text)?)),
+        Ok(Some(text)) => Ok(File::Checked(findings_in(rt.alloc(), language, path, text)?)),
         Ok(None) => Ok(File::Binary),
         Err(stop) => {
             stop.passed_over(rt)?;
@@ -80,7 +80,7 @@ fn read_text(rt: &HostRuntime, path: &str, is_found: bool) -> Result<Option<Stri
 }
 
 /// The template of a text, and the faults of it.
-fn checked(alloc: Global, language: &Language, path: &str, text: String) -> Answer<Checked> {
+fn findings_in(alloc: Global, language: &Language, path: &str, text: String) -> Answer<Checked> {
     let path = String::from_str(alloc, called(path))?;
     let Findings { findings, template } = findings_of(alloc, text.as_str(), language)?;
     Ok(Checked {
