@@ -71,8 +71,8 @@ impl Listed {
         self.calls.is_empty()
     }
 
-    /// Whether a call may be listed next: there is room for it, it comes after the last one, and the
-    /// table lacks it.
+    /// Whether a call may be listed next: there is room for it, it comes after the last one, and
+    /// the table lacks it.
     fn may_add(&self, table: &Answers, call: &Value) -> bool
         ensures few { IsTrue result → length self.now.calls.items < 1000 }
         ensures bytes { IsTrue result → length (string_bytes self.now.text) < 1048576 }
