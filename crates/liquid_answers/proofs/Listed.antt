@@ -1,5 +1,6 @@
 -- Calls that are listed one after another, and their text.
 use Rattle.std.proofs.Common.{◌≡◌, ◌==◌, ℕ, zero, suc, ◌+◌, ◌-◌, ◌<◌, ◌≤◌, List, [], ◌∷◌, ◌++◌, Bool, true, false, T, Some, None, Less, length, refl, sym, ap, subst, ◌∙◌, arith}
+use Rattle.std.proofs.Math.Dec.{eqb-suc-zero}
 use Rattle.std.proofs.lemmas.List.{append_assoc, append-nil, length-append}
 use Rattle.std.specs.Prelude.{codes, slice_get, string_bytes}
 use Rattle.std.specs.Ordering.{on}
@@ -15,13 +16,13 @@ use Rattle.liquid_answers.specs.declared.answers.Answers.{Answers}
 use Rattle.liquid_answers.specs.declared.lacking.Lacking.{Lacking}
 use Rattle.liquid_answers.specs.declared.lacking.Listed.{Listed}
 use Rattle.liquid_answers.specs.declared.page.Answered.TheVariants as answered
-use Rattle.liquid_answers.specs.inside.Listed.{AreListed, IsNone, separator}
+use Rattle.liquid_answers.specs.inside.Listed.{AreListed, IsAfter, IsNone, separator}
 use Rattle.liquid_answers.proofs.Told.{told_more, told_none}
 
 -- there is a call
 pub not_none : (n : ℕ) (b : Bool) → b ≡ (n == 0) → b ≡ false → 0 < n
-not_none zero b is no = absurd (subst T (sym is ∙ no) tt)
-not_none (suc n) b is no = omega arith
+not_none zero b is h = absurd (subst T (sym is ∙ h) tt)
+not_none (suc n) b is h = omega arith
 
 -- what stands before the next item, after these, of which the first has this before it
 abbrev between : Text → List Value → Text
@@ -38,7 +39,7 @@ first (c ∷ cs) = refl
 
 pub separator_none : (cs : List Value) → (length cs == 0) ≡ true → [] ≡ separator cs
 separator_none [] none = refl
-separator_none (c ∷ cs) none = absurd (subst T (sym none) tt)
+separator_none (c ∷ cs) none = absurd (subst T (sym none ∙ eqb-suc-zero (length cs)) tt)
 
 pub separator_some : (cs : List Value) → (length cs == 0) ≡ false → codes "," ≡ separator cs
 separator_some [] some = cc
@@ -82,7 +83,7 @@ listed_none table listed is = record {
 -- one more is listed
 pub listed_more : (table : Answers) (old new : Listed) (c : Value) → AreListed table old → new.calls.items ≡ old.calls.items ++ c ∷ []
     → string_bytes new.text ≡ string_bytes old.text ++ (separator old.calls.items ++ json_text (view c)) → length old.calls.items < 1000 → length (string_bytes old.text) < 1048576
-    → ((last : Value) → slice_get old.calls.items (length old.calls.items - 1) ≡ Some last → on view order last c ≡ Less) → answer_at table (view c) ≡ None → AreListed table new
+    → IsAfter old.calls.items c → answer_at table (view c) ≡ None → AreListed table new
 listed_more table old new c listed calls text few short after lacks = record {
   told = subst (AreTold table) (sym calls) (told_more table old.calls.items c listed.told few (room old.calls.items (string_bytes old.text) listed.text short) after lacks);
   text = text ∙ text_snoc old.calls.items c (string_bytes old.text) listed.text ∙ ap (λ cs. codes "[" ++ json_items [] (items_view cs)) (sym calls);

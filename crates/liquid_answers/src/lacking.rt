@@ -1,15 +1,12 @@
 //! The calls that a table lacks, as a list.
-ghost use Rattle.std.specs.Prelude.{◌≡◌, ◌==◌, ◌<◌, ◌-◌, ◌++◌, ◌∷◌, [], IfErr, IfOk, IsTrue, Some};
+ghost use Rattle.std.specs.Prelude.{◌≡◌, ◌==◌, ◌<◌, ◌++◌, ◌∷◌, [], IfErr, IfOk, IsTrue, None};
 ghost use Rattle.std.specs.Prelude.{length, option_map, slice_get, string_bytes};
-ghost use Rattle.std.specs.Ordering.{on};
-ghost use Rattle.std.specs.declared.cmp.Ordering.TheVariants.{Less};
-ghost use Rattle.liquid_model.specs.Order.{order};
 ghost use Rattle.liquid_model.specs.View.{view};
-ghost use Rattle.liquid_model.specs.declared.value.Value.{Value};
 ghost use Rattle.liquid_jekyll_host_filters.specs.Json.{json_text};
 ghost use Rattle.liquid_answers.specs.Lacking.{IsLacking, calls_in};
+ghost use Rattle.liquid_answers.specs.Tables.{answer_at};
 ghost use Rattle.liquid_answers.specs.declared.answers.Answers.{Answers};
-ghost use Rattle.liquid_answers.specs.inside.Listed.{AreListed, IsNone, separator};
+ghost use Rattle.liquid_answers.specs.inside.Listed.{AreListed, IsAfter, IsNone, separator};
 
 use crate::answers::Answers;
 use crate::asked::{Asked, MOST_BYTES, MOST_CALLS};
@@ -74,12 +71,18 @@ impl Listed {
         self.calls.is_empty()
     }
 
-    /// Whether one more call may be listed.
-    fn has_room(&self) -> bool
-        ensures calls { IsTrue result → length self.now.calls.items < 1000 }
+    /// Whether a call may be listed next: there is room for it, it comes after the last one, and
+    /// the table lacks it.
+    fn may_add(&self, table: &Answers, call: &Value) -> bool
+        ensures few { IsTrue result → length self.now.calls.items < 1000 }
         ensures bytes { IsTrue result → length (string_bytes self.now.text) < 1048576 }
+        ensures after { IsTrue result → IsAfter self.now.calls.items call.now }
+        ensures lacking { IsTrue result → answer_at table.now (view call.now) ≡ None }
     {
-        self.calls.len() < MOST_CALLS && self.text.len() < MOST_BYTES
+        self.calls.len() < MOST_CALLS
+            && self.text.len() < MOST_BYTES
+            && is_after(self.calls.as_slice(), call)
+            && table.find(call).is_none()
     }
 
     /// Lists a call, with its text.
@@ -119,15 +122,14 @@ pub(crate) fn list_lacking(alloc: Global, asked: Asked, table: &Answers) -> Resu
     Ok(listed)
 }
 
-/// Lists a call, where the table lacks it and it comes after the last one.
+/// Lists a call, where it may be listed.
 #[tactic(auto, using(crate::proofs::Listed::listed_more))]
 fn list_call(alloc: Global, listed: &mut Listed, table: &Answers, call: Value) -> Result<()>
     ensures listed { AreListed table.now listed.old →
         IfOk result (λ _. AreListed table.now listed.new) }
     ensures memory { IfErr result (λ e. e.kind ≡ ErrorKind.Memory) }
 {
-    let is_next = listed.has_room() && is_after(listed.calls.as_slice(), &call);
-    if is_next && table.find(&call).is_none() {
+    if listed.may_add(table, &call) {
         listed.add(alloc, call)?;
     }
     Ok(())
@@ -135,8 +137,7 @@ fn list_call(alloc: Global, listed: &mut Listed, table: &Answers, call: Value) -
 
 /// Whether a call comes after the last of these.
 fn is_after(told: &[Value], call: &Value) -> bool
-    ensures { IsTrue result → (last : Value) →
-        slice_get told.now (length told.now - 1) ≡ Some last → on view order last call.now ≡ Less }
+    ensures { IsTrue result → IsAfter told.now call.now }
 {
     match told.last() {
         Some(last) => *last < *call,

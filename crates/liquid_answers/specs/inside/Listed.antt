@@ -1,7 +1,11 @@
 -- Calls on their way into a list.
-use Rattle.std.specs.Prelude.{◌≡◌, List, [], ◌∷◌, ◌++◌, codes, string_bytes}
+use Rattle.std.specs.Prelude.{◌≡◌, ◌-◌, List, [], ◌∷◌, ◌++◌, Some, codes, length, slice_get}
+use Rattle.std.specs.Prelude.{string_bytes}
+use Rattle.std.specs.Ordering.{on}
+use Rattle.std.specs.declared.cmp.Ordering.TheVariants.{Less}
+use Rattle.liquid_model.specs.Order.{order}
 use Rattle.liquid_model.specs.Texts.{Text}
-use Rattle.liquid_model.specs.View.{items_view}
+use Rattle.liquid_model.specs.View.{items_view, view}
 use Rattle.liquid_model.specs.declared.value.Value.{Value}
 use Rattle.liquid_jekyll_host_filters.specs.Json.{json_items}
 use Rattle.liquid_answers.specs.Lacking.{AreTold}
@@ -16,6 +20,11 @@ separator (c ∷ cs) = codes ","
 -- no call is listed yet
 abbrev pub IsNone : Listed → Type 0
 IsNone listed = (listed.calls.items ≡ []) × (string_bytes listed.text ≡ codes "[")
+
+-- the call comes after the last of these
+abbrev pub IsAfter : List Value → Value → Type 0
+IsAfter calls call = (last : Value) → slice_get calls (length calls - 1) ≡ Some last →
+    on view order last call ≡ Less
 
 -- the calls may be told, and the text is their list, but for its end
 pub record AreListed (table : Answers) (listed : Listed) : Type 0 where
