@@ -5,6 +5,7 @@ import re
 from dataclasses import dataclass, replace
 
 from generator import samples
+from generator.crowds import crowded_source
 from generator.data import POOLS, WEIGHTED, paths, value_of
 from generator.expressions import STANDARD
 from generator.nodes import Nodes
@@ -15,6 +16,8 @@ ITEM = re.compile(r"\s+|[A-Za-z_][\w-]*|[+-]?\d+|'[^']*'|\"[^\"]*\"|\{\{-?|\{%-?
 # data is read projected where it has so many bytes for each node
 BYTES_OF_A_NODE = 4096
 MOST_NODES = 60
+# one in so many cases of uses is about the bounds of docs/USES.md
+CROWDED = 16
 # members that nobody asks for, with which the data is refused or isn't
 UNSEEN = ('"zz": 1.5', '"zz": [1e999]', '"zz": {"a": -0}', '"zz": [1,]', '"zz": "\\ud800"', '"zz": 9223372036854775808', '"zz": [[[]], {}]', '"zz": 1.5, "zz": 1')
 BAD_DATA = ('{"a": 1.5}', '{"a": [1, {"b": 9223372036854775808}]}', "[]", "5", "", "{", '{"a": -0}', '{"a": 1e2}', '{"a": 1e999}', '{"a": 1,}', "{'a': 1}", '{"a": 01}')
@@ -34,10 +37,12 @@ def case_of(seed, number):
 
 
 def asking_case_of(seed, number):
-    """A case in which a template asks for parts of its data: half of them over records."""
+    """A case in which a template asks for parts of its data: half of them over records, some for about as many parts as are kept apart."""
     rng = random.Random(f"asking/{seed}/{number}")
     if number % 2:
         return case_of(seed, number)
+    if number % CROWDED == 0:
+        return Case(crowded_source(rng), json.dumps({name: record_of(rng, "data") for name in "pxy"}, ensure_ascii=False), [])
     names = [f"part{at}" for at in range(rng.choice((0, 1, 2)))]
     data = record_of(rng, "data")
     partials = [(name, Records(rng, names[at + 1 :] if rng.random() < 0.9 else names, rng.choice((1, 2, 4))).source()) for at, name in enumerate(names)]

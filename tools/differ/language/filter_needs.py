@@ -1,6 +1,7 @@
 """What filters see of their input (docs/USES.md), by what is asked of the answer."""
 from . import tree
-from .parts import THERE, WHOLE, Use
+from .parts import NOTHING, THERE, WHOLE, Use
+from .values import whole
 
 MOST_CALLS = 32
 ENDS = ("first", "last")
@@ -11,8 +12,11 @@ def input_use(calls, use):
     """What a chain of these calls asks of its entry."""
     if len(calls) > MOST_CALLS:
         return WHOLE
+    is_before_picking = False
     for call in reversed(calls):
-        use = needs(call, use)
+        # an end of what is picked from, where a map counts as the list of itself, is asked for whole
+        use = WHOLE if is_before_picking and call.name in ENDS else needs(call, use)
+        is_before_picking = is_before_picking or call.name in PICKING
     return use
 
 
@@ -21,22 +25,21 @@ def needs(call, use):
     name, key = call.name, property_of(call)
     of_item = items_wanted(use)
     if name == "size":
-        return Use(items=THERE)
+        return Use(items=NOTHING)
     if name in ENDS:
-        # before a filter that picks, which asks for items and for members, all is asked
-        return WHOLE if use.items and use.members else Use(members={name: use})
+        return Use(members={name: use})
     if name in ("reverse", "concat"):
         return Use(items=of_item)
-    if name == "map" and key:
-        return Use(items=Use(members={key: of_item}))
-    if name in PICKING and key:
+    if name == "map" and key is not None:
+        return Use(items=Use(members={key: of_item.joined(THERE)}))
+    if name in PICKING and key is not None:
         return picked(of_item.joined(Use(members={key: WHOLE})))
     if name == "compact" and not call.arguments:
-        return Use(items=of_item)
-    if name == "compact" and key:
+        return Use(items=of_item.joined(THERE))
+    if name == "compact" and key is not None:
         return Use(items=of_item.joined(Use(members={key: THERE})))
     if name == "default":
-        return use.joined(Use(items=THERE))
+        return use.joined(Use(items=NOTHING))
     return WHOLE
 
 
@@ -59,11 +62,11 @@ def items_wanted(use):
     """All that is asked of an item of a list, in a loop or by its place."""
     if use.is_whole:
         return WHOLE
-    wanted = use.items or THERE
+    wanted = use.items or NOTHING
     for key, part in use.members.items():
         wanted = wanted.joined(part) if is_place(key) else wanted
     return wanted
 
 
 def is_place(key):
-    return key in ENDS or key.lstrip("+-").isdigit()
+    return key in ENDS or whole(key) is not None

@@ -11,9 +11,13 @@ class Use:
     members: dict = field(default_factory=dict)
     # what is asked of each item, None where no loop goes over the items
     items: Optional["Use"] = None
+    # not even whether it is there, as of an item that a loop only counts
+    is_unasked: bool = False
 
     def joined(self, other):
         """What both ask."""
+        if self.is_unasked or other.is_unasked:
+            return other if self.is_unasked else self
         if self.is_whole or other.is_whole:
             return WHOLE
         members = dict(self.members)
@@ -24,12 +28,15 @@ class Use:
 
     def includes(self, other):
         """Whether this asks for all that the other asks for."""
+        if self.is_unasked or other.is_unasked:
+            return other.is_unasked
         if self.is_whole or other.is_whole:
             return self.is_whole
-        there = all(key in self.members and self.members[key].includes(use) for key, use in other.members.items())
+        there = all(self.members.get(key, NOTHING).includes(use) for key, use in other.members.items())
         return there and (other.items is None or self.items is not None and self.items.includes(other.items))
 
 
 WHOLE = Use(is_whole=True)
 # whether there is a value, and of which kind
 THERE = Use()
+NOTHING = Use(is_unasked=True)

@@ -2,14 +2,13 @@
 import re
 
 from . import tree
-from .faults import TooLong
 from .filter_needs import input_use
-from .parts import THERE, WHOLE, Use
+from .parts import NOTHING, THERE, WHOLE, Use
 
 # so many rounds are made from each side
 MOST_ROUNDS = 8
 MOST_STEPS = 32
-# a name has so many parts at most, of which each counts as one more for so many bytes of its path
+# a name has so many parts at most, of which each counts as one more for so many bytes of the names on its path
 MOST_PARTS, PART_BYTES = 200, 32
 # a key of which a path can be made
 PLAIN_KEY = re.compile(r"(?:[A-Za-z0-9_-]|[^\x00-\x7f])+")
@@ -19,17 +18,27 @@ class Finder:
     """One round: what the nodes ask for, where the names that they set are asked for what they were before."""
 
     def __init__(self, before):
+        # what was asked of a name in the round before
         self.before = before
         self.found = {}
+        # the names that are asked for, set or bound (docs/MEANING.md, Mentioned names)
+        self.mentioned = set()
 
     def ask(self, name, use):
         if name == "forloop":
             # it is asked for whole or not at all
             use = WHOLE
+        self.mentioned.add(name)
         self.found[name] = self.found[name].joined(use) if name in self.found else use
 
     def of_name(self, name):
-        return self.before.get(name, THERE)
+        """What is asked of a value that is handed to the name."""
+        return self.of_item(name).joined(THERE)
+
+    def of_item(self, name):
+        """What is asked of each item that is handed to the name."""
+        self.mentioned.add(name)
+        return self.before(name)
 
     def expression(self, expression, use=WHOLE):
         if isinstance(expression, tree.Range):
@@ -66,10 +75,8 @@ class Finder:
 
     def source(self, source, variable):
         """What a loop goes over: how many items, and of each what is asked of the variable."""
-        if isinstance(source, tree.Range):
-            self.expression(source)
-        else:
-            self.expression(source, Use(items=self.of_name(variable)))
+        of_item = self.of_item(variable)
+        self.expression(source, WHOLE if isinstance(source, tree.Range) else Use(items=of_item))
 
     def comparison(self, left, operator, right):
         self.expression(left, seen_beside(operator, right))
@@ -116,10 +123,15 @@ class Finder:
         self.nodes(node.otherwise)
 
     def loop(self, node):
+        self.mentioned.add("forloop" if node.tag == "for" else "tablerow")
         self.source(node.source, node.variable)
         self.expressions(node.amounts.values())
         self.nodes(node.body)
         self.nodes(node.otherwise)
+
+    def capture(self, node):
+        self.mentioned.add(node.name)
+        self.nodes(node.body)
 
     def body(self, node):
         self.nodes(node.body)
@@ -129,12 +141,15 @@ class Finder:
         self.pairs(node.pairs)
 
     def jekyll_include(self, node):
+        if node.pairs:
+            self.mentioned.add("include")
         self.expressions(value for _, value in node.pairs)
 
     def render(self, node):
         self.expression(node.name)
         self.pairs(node.pairs)
         if node.each:
+            self.mentioned.add("forloop")
             self.source(node.each[1], node.each[0])
 
 
@@ -153,7 +168,7 @@ RULES = {
     tree.Choice: Finder.choice,
     tree.Case: Finder.case,
     tree.Loop: Finder.loop,
-    tree.Capture: Finder.body,
+    tree.Capture: Finder.capture,
     tree.IfChanged: Finder.body,
     tree.Include: Finder.include,
     tree.JekyllInclude: Finder.jekyll_include,
@@ -162,37 +177,68 @@ RULES = {
 
 
 def uses_of(template, partials):
-    """What the template with its partials asks for: the parts grow from nothing, round by round.
-
-    Where they go on after eight rounds, as in a partial that renders itself with a part of its data, nothing is said.
-    """
+    """What the template with its partials asks for."""
     nodes = (template, *partials.values())
+    uses = grown(nodes)
+    if uses is None:
+        uses = narrowed(nodes)
+    if includes(uses, asked(nodes, before_of(uses)).found):
+        return uses
+    return {name: WHOLE for name in asked(nodes, before_of(uses)).mentioned}
+
+
+def grown(nodes):
+    """The parts that grow from nothing, until a round asks for nothing more. None where they don't stop growing."""
     uses = {}
     for _ in range(MOST_ROUNDS):
-        found = demands(nodes, uses)
-        if all(name in uses and uses[name].includes(use) for name, use in found.items()):
+        more = one_round(nodes, before_of(uses))
+        if includes(uses, more):
             return uses
-        uses = {name: bounded(uses[name].joined(use) if name in uses else use) for name, use in found.items()}
-    raise TooLong
+        uses = more
+    return None
 
 
-def demands(nodes, uses):
+def narrowed(nodes):
+    """The parts that get smaller from where each name is asked for whole, until a round asks for nothing less."""
+    uses = one_round(nodes, lambda name: WHOLE)
+    for _ in range(MOST_ROUNDS - 1):
+        less = one_round(nodes, before_of(uses))
+        if includes(less, uses):
+            return less
+        uses = less
+    return uses
+
+
+def before_of(uses):
+    return lambda name: uses.get(name, NOTHING)
+
+
+def one_round(nodes, before):
+    """What the nodes ask for, a name of many parts whole."""
+    return {name: bounded(name, use) for name, use in asked(nodes, before).found.items()}
+
+
+def asked(nodes, before):
     """What the nodes ask for, where that is asked of the names that they set."""
-    finder = Finder(uses)
+    finder = Finder(before)
     for of_one in nodes:
         finder.nodes(of_one)
-    return finder.found
+    return finder
 
 
-def bounded(use):
-    return WHOLE if parts(use) > MOST_PARTS else use
+def includes(uses, others):
+    """Whether these ask for all that the others ask for."""
+    return all(uses.get(name, NOTHING).includes(use) for name, use in others.items())
 
 
-def parts(use, length=0):
-    """How many parts are asked for, longer ones counted as more."""
-    below = [parts(part, length + len(key.encode()) + 1) for key, part in use.members.items()]
-    below += [parts(use.items, length + 2)] if use.items else []
-    return sum(below) or 1 + length // PART_BYTES
+def bounded(name, use):
+    return WHOLE if parts(use, len(name.encode())) > MOST_PARTS else use
+
+
+def parts(use, length):
+    """How many parts are asked for: the value, and each member and item in it, with so many bytes of names before them."""
+    below = sum(parts(part, length + len(key.encode())) for key, part in use.members.items())
+    return below + (parts(use.items, length) if use.items else 0) + 1 + length // PART_BYTES
 
 
 def paths_of(uses):
