@@ -3,7 +3,7 @@ use crate::parts::Parts;
 use liquid_commands::FilterSet;
 use liquid_core::{Filter, HostFilters, Result};
 use liquid_filter_sets::{WhereExp, jekyll_language, shopify_language};
-use liquid_filter_settings::{Site, shop_of};
+use liquid_filter_settings::{SiteSettings, shop_of};
 use liquid_jekyll_host_filters::{JEKYLL_FILTERS, SiteFilter};
 use liquid_lib::{
     DEFAULT_DEPTH, Language, LimitedPage, Limits, Surroundings, language, render_hosted_page,
@@ -44,7 +44,7 @@ pub fn page_with(
 }
 
 fn jekyll_page(alloc: Global, parts: &Parts, limits: Limits) -> Result<LimitedPage> {
-    let site = Site::of(&parts.data);
+    let site = SiteSettings::of(&parts.data);
     let mut filters = Vec::new(alloc);
     for kind in JEKYLL_FILTERS {
         let filter = SiteFilter::new(alloc, kind, site.address, site.base)?;

@@ -5,7 +5,7 @@ ghost use Rattle.liquid_model.specs.View.{pairs_view};
 ghost use Rattle.liquid_model.specs.declared.error.ErrorKind.TheVariants.{InvalidInput};
 ghost use Rattle.liquid_data_forms.specs.Decimals.{spelled_data};
 
-use crate::reader::{MAX_DEPTH, Stop, read};
+use crate::reader::{MAX_DEPTH, NoValue, read};
 use json::{Reader, Scratch};
 use liquid_core::{Object, Result, Value};
 use liquid_json::data_from_json;
@@ -36,8 +36,8 @@ fn object_in(alloc: Global, text: &str) -> std::result::Result<Option<Object>, A
     let mut reader = Reader::new(text, &mut scratch)?;
     let value = match read(alloc, &mut reader, MAX_DEPTH) {
         Ok(value) => value,
-        Err(Stop::Memory) => return Err(AllocError),
-        Err(Stop::NoJson) => return Ok(None),
+        Err(NoValue::Memory) => return Err(AllocError),
+        Err(NoValue::NoJson) => return Ok(None),
     };
     if reader.next().is_some() {
         return Ok(None);

@@ -4,7 +4,7 @@ ghost use Rattle.json.specs.Json.{parse_map, value, items, members};
 ghost use Rattle.liquid_model.specs.Data.{no_pairs};
 ghost use Rattle.liquid_model.specs.View.{view, items_view, pairs_view};
 ghost use Rattle.liquid_data_forms.specs.Decimals.{datum_of, items_of, pairs_of};
-ghost use Rattle.liquid_data_forms.specs.declared.reader.Stop.TheVariants.{Memory, NoJson};
+ghost use Rattle.liquid_data_forms.specs.declared.reader.NoValue.TheVariants.{Memory, NoJson};
 
 use crate::whole::integer_of;
 use json::{Invalid, Reader, Token};
@@ -17,45 +17,45 @@ pub const MAX_DEPTH: usize = 127;
 
 /// Why the tokens gave no value: memory was refused, or they are no JSON.
 #[derive(Clone, Copy, Drop)]
-pub enum Stop {
+pub enum NoValue {
     Memory,
     NoJson,
 }
 
-impl From<AllocError> for Stop {
+impl From<AllocError> for NoValue {
     ghost from_gives = { λ _ e. e ≡ Memory };
 
-    fn from(_refused: AllocError) -> Stop {
-        Stop::Memory
+    fn from(_refused: AllocError) -> NoValue {
+        NoValue::Memory
     }
 }
 
-impl<T: Drop> From<AllocFailed<T>> for Stop {
+impl<T: Drop> From<AllocFailed<T>> for NoValue {
     ghost from_gives = { λ _ e. e ≡ Memory };
 
-    fn from(_refused: AllocFailed<T>) -> Stop {
-        Stop::Memory
+    fn from(_refused: AllocFailed<T>) -> NoValue {
+        NoValue::Memory
     }
 }
 
-impl From<Invalid> for Stop {
+impl From<Invalid> for NoValue {
     ghost from_gives = { λ _ e. e ≡ NoJson };
 
-    fn from(_invalid: Invalid) -> Stop {
-        Stop::NoJson
+    fn from(_invalid: Invalid) -> NoValue {
+        NoValue::NoJson
     }
 }
 
 /// The value at the front of the tokens.
 #[cycle(read)]
 #[inline(always)]
-pub fn read(alloc: Global, reader: &mut Reader<'_>, depth: usize) -> Result<Value, Stop>
+pub fn read(alloc: Global, reader: &mut Reader<'_>, depth: usize) -> Result<Value, NoValue>
     ensures ok { IfOk result
         (λ v. parse_map datum_of (value depth reader.old) ≡ Some (view v, reader.new)) }
     ensures shorter { OnOk result (length reader.new < length reader.old) }
     ensures err { result ≡ Err NoJson → value depth reader.old ≡ None }
 {
-    let token = reader.next().ok_or(Stop::NoJson)?;
+    let token = reader.next().ok_or(NoValue::NoJson)?;
     match token {
         Token::String(text) => Ok(Value::Text(String::from_str(alloc, text)?)),
         Token::Number(text) => match integer_of(text) {
@@ -64,16 +64,16 @@ pub fn read(alloc: Global, reader: &mut Reader<'_>, depth: usize) -> Result<Valu
         },
         Token::Bool(b) => Ok(Value::Bool(b)),
         Token::Null => Ok(Value::Nil),
-        Token::EndObject | Token::EndArray | Token::Key(_) | Token::Bad => Err(Stop::NoJson),
+        Token::EndObject | Token::EndArray | Token::Key(_) | Token::Bad => Err(NoValue::NoJson),
         Token::BeginArray => {
             if depth == 0 {
-                return Err(Stop::NoJson);
+                return Err(NoValue::NoJson);
             }
             Ok(Value::Array(read_items(alloc, reader, depth - 1)?))
         }
         Token::BeginObject => {
             if depth == 0 {
-                return Err(Stop::NoJson);
+                return Err(NoValue::NoJson);
             }
             Ok(Value::Object(read_pairs(alloc, reader, depth - 1)?))
         }
@@ -82,7 +82,7 @@ pub fn read(alloc: Global, reader: &mut Reader<'_>, depth: usize) -> Result<Valu
 
 #[cycle(read)]
 #[inline(never)]
-fn read_items(alloc: Global, reader: &mut Reader<'_>, depth: usize) -> Result<Vec<Value>, Stop>
+fn read_items(alloc: Global, reader: &mut Reader<'_>, depth: usize) -> Result<Vec<Value>, NoValue>
     ensures ok { IfOk result
         (λ v. parse_map items_of (items (value depth) (length reader.old) reader.old) ≡
         Some (items_view v.items, reader.new)) }
@@ -99,7 +99,7 @@ fn read_items(alloc: Global, reader: &mut Reader<'_>, depth: usize) -> Result<Ve
 
 #[cycle(read)]
 #[inline(never)]
-fn read_pairs(alloc: Global, reader: &mut Reader<'_>, depth: usize) -> Result<Object, Stop>
+fn read_pairs(alloc: Global, reader: &mut Reader<'_>, depth: usize) -> Result<Object, NoValue>
     ensures ok { IfOk result
         (λ m. parse_map (pairs_of no_pairs) (members (value depth) (length reader.old) reader.old) ≡
         Some (pairs_view m.entries, reader.new)) }

@@ -8,4 +8,4 @@ mod site;
 
 pub use money::money_format;
 pub use shop::shop_of;
-pub use site::Site;
+pub use site::SiteSettings;

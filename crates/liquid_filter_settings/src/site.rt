@@ -8,22 +8,22 @@ use liquid_core::Object;
 
 /// Where a site is.
 #[derive(Clone, Copy)]
-pub struct Site<'d> {
+pub struct SiteSettings<'d> {
     /// `site.url`, or the empty text.
     pub address: &'d str,
     /// `site.baseurl`, or the empty text.
     pub base: &'d str,
 }
 
-impl<'d> Site<'d> {
+impl<'d> SiteSettings<'d> {
     /// The site that the data tells. It takes no memory.
-    pub fn of(data: &'d Object) -> Site<'d>
+    pub fn of(data: &'d Object) -> SiteSettings<'d>
         ensures address { result.address.now ≡ member_or_empty (codes "site") (codes "url")
             (pairs_view «data».now.entries) }
         ensures base { result.base.now ≡ member_or_empty (codes "site") (codes "baseurl")
             (pairs_view «data».now.entries) }
     {
-        Site {
+        SiteSettings {
             address: or_empty(member_text(data, "site", "url")),
             base: or_empty(member_text(data, "site", "baseurl")),
         }
