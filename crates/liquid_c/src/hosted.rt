@@ -12,8 +12,7 @@ use crate::handle::Handle;
 use crate::held::seen;
 use crate::refusal::{Refusal, settle};
 use crate::render::{
-    Allowed, RenderLimits, allowed_by, data_held, empty_data, levels_held, limits_of,
-    partials_held,
+    Allowed, RenderLimits, allowed_by, data_held, empty_data, levels_held, limits_of, partials_held,
 };
 use liquid_answers::{Answered, Answers, render_page_answered};
 use liquid_core::Object;
