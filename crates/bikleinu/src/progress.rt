@@ -1,4 +1,6 @@
 //! How far a merge is.
+ghost use Rattle.std.specs.Prelude.{◌≡◌, ◌+◌, min, IfOk};
+
 use liquid_command_files::Stop;
 use std::time::Instant;
 
@@ -28,19 +30,28 @@ impl Progress {
     }
 
     /// Counts a page.
-    pub fn done(&mut self, rt: &HostRuntime) {
+    pub fn done(&mut self, rt: &HostRuntime)
+        ensures pages { self.new.pages ≡ min (self.old.pages + 1) 18446744073709551615 }
+        ensures failed { self.new.failed ≡ self.old.failed }
+    {
         self.pages = self.pages.saturating_add(1);
         self.print(rt);
     }
 
     /// Counts a record that failed.
-    pub fn failed(&mut self, rt: &HostRuntime) {
+    pub fn failed(&mut self, rt: &HostRuntime)
+        ensures pages { self.new.pages ≡ self.old.pages }
+        ensures failed { self.new.failed ≡ min (self.old.failed + 1) 18446744073709551615 }
+    {
         self.failed = self.failed.saturating_add(1);
         self.print(rt);
     }
 
     /// Prints the pages so far, once a second. What standard error refuses is lost.
-    fn print(&mut self, rt: &HostRuntime) {
+    fn print(&mut self, rt: &HostRuntime)
+        ensures pages { self.new.pages ≡ self.old.pages }
+        ensures failed { self.new.failed ≡ self.old.failed }
+    {
         let Some(began) = &self.began else {
             return;
         };
@@ -57,7 +68,9 @@ impl Progress {
     }
 
     /// Prints the counts. A merge in which a record failed isn't done.
-    pub fn end(&self, rt: &HostRuntime) -> Result<(), Stop> {
+    pub fn end(&self, rt: &HostRuntime) -> Result<(), Stop>
+        ensures { IfOk result (λ _. self.now.failed ≡ 0) }
+    {
         let (pages, failed) = (self.pages, self.failed);
         let _ = eprintln!(rt; "pages {pages}, failed {failed}");
         if failed == 0 {

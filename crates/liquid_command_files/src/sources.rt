@@ -1,5 +1,5 @@
 //! The texts of a template and its partials, and what is printed of a fault in one of them.
-ghost use Rattle.std.specs.Prelude.{◌≡◌, option_map};
+ghost use Rattle.std.specs.Prelude.{◌≡◌, option_map, slice_get, string_bytes};
 ghost use Rattle.liquid_partial_names.specs.Names.{file_places, names_of};
 ghost use Rattle.liquid_command_files.specs.Sources.{place_of, text_at, text_of};
 
@@ -81,12 +81,16 @@ impl Sources {
     }
 
     /// The template.
-    pub fn template(&self) -> &Source {
+    pub fn template(&self) -> &Source
+        ensures { result.now ≡ self.now.template }
+    {
         &self.template
     }
 
     /// The path of the template, as a message shows it.
-    pub fn template_path(&self) -> ShownPath<'_> {
+    pub fn template_path(&self) -> ShownPath<'_>
+        ensures { result.path.now ≡ string_bytes self.now.template.path }
+    {
         ShownPath {
             path: self.template.path.as_str(),
         }
@@ -100,7 +104,9 @@ impl Sources {
     }
 
     /// The partial at a place.
-    pub fn partial_at(&self, place: usize) -> Option<&Source> {
+    pub fn partial_at(&self, place: usize) -> Option<&Source>
+        ensures { option_map (λ s. s.now) result ≡ slice_get self.now.partials.items place }
+    {
         self.partials.get(place)
     }
 

@@ -1,4 +1,5 @@
 pub mod Cells
+pub mod Counted
 pub mod Heads
 pub mod Lines
 pub mod Rows

@@ -1,4 +1,7 @@
 //! The records of a reader, one after another.
+ghost use Rattle.std.specs.Prelude.{◌≡◌, IfOk};
+ghost use Rattle.liquid_row_records.specs.Counted.{counted};
+
 use crate::lines::Lines;
 use crate::record::RowFault;
 use crate::rows::{HeadStop, Rows};
@@ -46,19 +49,30 @@ pub type RecordReading<'r> = std::result::Result<RecordData<'r>, RecordFault>;
 
 impl<R: Read + Drop> Records<R> {
     /// The lines that a reader gives.
-    pub fn lines(alloc: Global, reader: R) -> std::result::Result<Records<R>, AllocError> {
-        let source = Source::Lines(Lines::new(alloc, reader)?);
-        Ok(Records { source, number: 0 })
+    pub fn lines(alloc: Global, reader: R) -> std::result::Result<Records<R>, AllocError>
+        ensures number { IfOk result (λ records. records.number ≡ 0) }
+    {
+        Ok(Records::before(Source::Lines(Lines::new(alloc, reader)?)))
     }
 
     /// The rows that a reader gives, after their head.
-    pub fn rows(alloc: Global, reader: R) -> std::result::Result<Records<R>, HeadStop> {
-        let source = Source::Rows(Rows::new(alloc, reader)?);
-        Ok(Records { source, number: 0 })
+    pub fn rows(alloc: Global, reader: R) -> std::result::Result<Records<R>, HeadStop>
+        ensures number { IfOk result (λ records. records.number ≡ 0) }
+    {
+        Ok(Records::before(Source::Rows(Rows::new(alloc, reader)?)))
+    }
+
+    /// Before the first record.
+    fn before(source: Source<R>) -> Records<R>
+        ensures { result.number ≡ 0 }
+    {
+        Records { source, number: 0 }
     }
 
     /// Reads the next record. Whether there is one.
-    pub fn advance(&mut self) -> io::Result<bool> {
+    pub fn advance(&mut self) -> io::Result<bool>
+        ensures number { IfOk result (λ found. self.new.number ≡ counted found self.old.number) }
+    {
         let found = match &mut self.source {
             Source::Lines(lines) => lines.advance()?,
             Source::Rows(rows) => rows.advance()?,
@@ -70,7 +84,9 @@ impl<R: Read + Drop> Records<R> {
     }
 
     /// The number of the record that was read last, from 1.
-    pub fn number(&self) -> u64 {
+    pub fn number(&self) -> u64
+        ensures { result ≡ self.now.number }
+    {
         self.number
     }
 

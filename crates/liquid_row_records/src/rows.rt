@@ -1,4 +1,9 @@
 //! Records in CSV: a head with the names of the columns, and a record in each row after it.
+ghost use Rattle.std.specs.Prelude.{map, string_bytes};
+ghost use Rattle.csv.specs.Records.{fields_of};
+ghost use Rattle.liquid_model.specs.Answer.{IsValueOrMemory};
+ghost use Rattle.liquid_row_records.specs.Rows.{record_of, row_view};
+
 use crate::head::{HeadFault, column_names};
 use crate::record::{RowFault, record_of};
 use csv::{ByteRecord, ErrorKind, Reader, ReaderBuilder};
@@ -66,7 +71,10 @@ impl<R: Read + Drop> Rows<R> {
     }
 
     /// The data of the row that was read last, or why it is no record.
-    pub fn data(&self, alloc: Global) -> Result<std::result::Result<Object, RowFault>> {
+    pub fn data(&self, alloc: Global) -> Result<std::result::Result<Object, RowFault>>
+        ensures { IsValueOrMemory row_view result
+            (record_of (map string_bytes self.now.names.items) (fields_of self.now.row)) }
+    {
         record_of(alloc, self.names.as_slice(), &self.row)
     }
 }

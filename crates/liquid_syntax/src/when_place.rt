@@ -1,5 +1,5 @@
 //! Where a `when` of a `case` stands in the source, which is asked for only where a fault of a run
-//! is told: the pieces from the `case` on are read once more.
+//! is reported: the pieces from the `case` on are read once more.
 use liquid_lexer::{
     Body, ParseError, Piece, bare_name, past_byte, read_body, read_markup, text_before,
 };
