@@ -16,7 +16,7 @@ use Rattle.liquid_answers.specs.declared.answers.Answers.{Answers}
 use Rattle.liquid_answers.specs.declared.lacking.Lacking.{Lacking}
 use Rattle.liquid_answers.specs.declared.lacking.Listed.{Listed}
 use Rattle.liquid_answers.specs.declared.page.Answered.TheVariants as answered
-use Rattle.liquid_answers.specs.inside.Listed.{AreListed, IsAfter, IsNone, separator}
+use Rattle.liquid_answers.specs.inside.Listed.{AreListed, IsAfter, IsNone, comma_after}
 use Rattle.liquid_answers.proofs.Told.{told_more, told_none}
 
 -- there is a call
@@ -33,15 +33,15 @@ comma : (cs : List Value) → between (codes ",") cs ≡ codes ","
 comma [] = refl
 comma (c ∷ cs) = refl
 
-first : (cs : List Value) → between [] cs ≡ separator cs
+first : (cs : List Value) → between [] cs ≡ comma_after cs
 first [] = refl
 first (c ∷ cs) = refl
 
-pub separator_none : (cs : List Value) → (length cs == 0) ≡ true → [] ≡ separator cs
+pub separator_none : (cs : List Value) → (length cs == 0) ≡ true → [] ≡ comma_after cs
 separator_none [] none = refl
 separator_none (c ∷ cs) none = absurd (subst T (sym none ∙ eqb-suc-zero (length cs)) tt)
 
-pub separator_some : (cs : List Value) → (length cs == 0) ≡ false → codes "," ≡ separator cs
+pub separator_some : (cs : List Value) → (length cs == 0) ≡ false → codes "," ≡ comma_after cs
 separator_some [] some = cc
 separator_some (c ∷ cs) some = refl
 
@@ -56,11 +56,11 @@ items_snoc before (x ∷ xs) c =
     ∙ sym (append_assoc before (json_text (view x) ++ json_items (codes ",") (items_view xs)) (codes "," ++ j))
 
 -- the text of the calls with one more
-text_snoc : (cs : List Value) (c : Value) (old : Text) → old ≡ codes "[" ++ json_items [] (items_view cs) → old ++ (separator cs ++ json_text (view c)) ≡ codes "[" ++ json_items [] (items_view (cs ++ c ∷ []))
+text_snoc : (cs : List Value) (c : Value) (old : Text) → old ≡ codes "[" ++ json_items [] (items_view cs) → old ++ (comma_after cs ++ json_text (view c)) ≡ codes "[" ++ json_items [] (items_view (cs ++ c ∷ []))
 text_snoc cs c old is =
     let j = json_text (view c) in
-    ap (λ t. t ++ (separator cs ++ j)) is
-    ∙ append_assoc (codes "[") (json_items [] (items_view cs)) (separator cs ++ j)
+    ap (λ t. t ++ (comma_after cs ++ j)) is
+    ∙ append_assoc (codes "[") (json_items [] (items_view cs)) (comma_after cs ++ j)
     ∙ ap (λ s. codes "[" ++ (json_items [] (items_view cs) ++ (s ++ j))) (sym (first cs))
     ∙ ap (λ t. codes "[" ++ t) (sym (items_snoc [] cs c))
 
@@ -82,7 +82,7 @@ listed_none table listed is = record {
 
 -- one more is listed
 pub listed_more : (table : Answers) (old new : Listed) (c : Value) → AreListed table old → new.calls.items ≡ old.calls.items ++ c ∷ []
-    → string_bytes new.text ≡ string_bytes old.text ++ (separator old.calls.items ++ json_text (view c)) → length old.calls.items < 1000 → length (string_bytes old.text) < 1048576
+    → string_bytes new.text ≡ string_bytes old.text ++ (comma_after old.calls.items ++ json_text (view c)) → length old.calls.items < 1000 → length (string_bytes old.text) < 1048576
     → IsAfter old.calls.items c → answer_at table (view c) ≡ None → AreListed table new
 listed_more table old new c listed calls text few short after lacks = record {
   told = subst (AreTold table) (sym calls) (told_more table old.calls.items c listed.told few (room old.calls.items (string_bytes old.text) listed.text short) after lacks);

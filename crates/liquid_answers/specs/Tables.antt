@@ -1,5 +1,5 @@
 -- Tables of answers to calls of filters.
---     call_of name input args      a call as one value
+--     call_datum name input args      a call as one value
 --     answer_at table call      the answer to it, where the table has one
 --     answers_by is_asking table      what the table's filters answer by name
 use Rattle.std.specs.Prelude.{◌≡◌, Bool, true, false, cond, ◌||◌, List, [], ◌∷◌, ◌++◌, map}
@@ -21,8 +21,8 @@ use Rattle.liquid_answers.specs.declared.answers.Answer.TheVariants as kept
 use Rattle.liquid_answers.specs.declared.answers.Answers.{Answers}
 
 -- a call: the filter's name, the input and the arguments
-abbrev pub call_of : Text → Datum → List Datum → Datum
-call_of name input args = array (item (text name) (item input (items_of args)))
+abbrev pub call_datum : Text → Datum → List Datum → Datum
+call_datum name input args = array (item (text name) (item input (items_of args)))
 
 -- a filter refuses by no kind but a fault's own: in place of `Memory` and `Write` by `InvalidInput`
 abbrev pub as_fault : ErrorKind → ErrorKind
@@ -38,20 +38,20 @@ abbrev pub answer_at : Answers → Datum → Option Answer
 answer_at table call = get_by (λ k. order call (view k)) table.answers
 
 -- the names of its filters
-abbrev pub names_of : Answers → List Text
-names_of table = map string_bytes table.names.items
+abbrev pub filter_names : Answers → List Text
+filter_names table = map string_bytes table.names.items
 
-abbrev pub is_named : Text → List Text → Bool
-is_named name [] = false
-is_named name (n ∷ ns) = same_text n name || is_named name ns
+abbrev pub is_listed_filter : Text → List Text → Bool
+is_listed_filter name [] = false
+is_listed_filter name (n ∷ ns) = same_text n name || is_listed_filter name ns
 
 -- a name that is there already stays there once
 abbrev pub with_name : Text → List Text → List Text
-with_name name ns = cond (is_named name ns) ns (ns ++ name ∷ [])
+with_name name ns = cond (is_listed_filter name ns) ns (ns ++ name ∷ [])
 
 -- the new table has this answer to the call, and to any other the old one's
-abbrev pub IsPut : Answers → Datum → Answer → Answers → Type 0
-IsPut old call answer new = (other : Value) → answer_at new (view other) ≡
+abbrev pub IsAnswerStored : Answers → Datum → Answer → Answers → Type 0
+IsAnswerStored old call answer new = (other : Value) → answer_at new (view other) ≡
     cond (is_eq (order call (view other))) (Some answer) (answer_at old (view other))
 
 -- ---- what its filters answer
@@ -65,11 +65,11 @@ abbrev pub said_or : Result Datum ErrorKind → Option Answer → Result Datum E
 said_or other (Some answer) = said_by answer
 said_or other None = other
 
-abbrev pub filter_answer : Bool → Answers → Text → FilterAnswer
-filter_answer is_asking table name input args =
-    said_or (stand_in is_asking) (answer_at table (call_of name input args))
+abbrev pub table_answer : Bool → Answers → Text → FilterAnswer
+table_answer is_asking table name input args =
+    said_or (stand_in is_asking) (answer_at table (call_datum name input args))
 
 -- by name, where the table has the filter
 abbrev pub answers_by : Bool → Answers → Text → FilterAnswer
-answers_by is_asking table name input args = cond (is_named name (names_of table))
-    (filter_answer is_asking table name input args) (Err Unsupported)
+answers_by is_asking table name input args = cond (is_listed_filter name (filter_names table))
+    (table_answer is_asking table name input args) (Err Unsupported)

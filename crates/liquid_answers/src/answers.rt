@@ -4,8 +4,9 @@ ghost use Rattle.std.specs.Prelude.{string_bytes};
 ghost use Rattle.liquid_model.specs.Answer.{Answers as Tells, Faulted, IsValueOrMemory};
 ghost use Rattle.liquid_model.specs.Data.{Datum};
 ghost use Rattle.liquid_model.specs.View.{view};
-ghost use Rattle.liquid_answers.specs.Tables.{IsPut, answer_at, as_fault, call_of, is_named};
-ghost use Rattle.liquid_answers.specs.Tables.{names_of, said_by, with_name};
+ghost use Rattle.liquid_answers.specs.Tables.{IsAnswerStored, answer_at, as_fault, call_datum};
+ghost use Rattle.liquid_answers.specs.Tables.{is_listed_filter};
+ghost use Rattle.liquid_answers.specs.Tables.{filter_names, said_by, with_name};
 
 use liquid_core::{Error, ErrorKind, Result, Value};
 use std::alloc::Global;
@@ -56,7 +57,7 @@ pub struct Answers {
 impl Answers {
     /// No names, and no answers. It takes no memory.
     pub fn new(alloc: Global) -> Answers
-        ensures names { names_of result ≡ [] }
+        ensures names { filter_names result ≡ [] }
         ensures answers { (call : Datum) → answer_at result call ≡ None }
     {
         Answers {
@@ -68,9 +69,9 @@ impl Answers {
     /// Adds the name of a filter, unless it is there. `Memory` where there is no room; then nothing
     /// changed.
     pub fn add_name(&mut self, name: String) -> Result<()>
-        ensures names { IsValueOrMemory (λ _. names_of self.new) result
-            (with_name (string_bytes name) (names_of self.old)) }
-        ensures unchanged { OnErr result (names_of self.new ≡ names_of self.old) }
+        ensures names { IsValueOrMemory (λ _. filter_names self.new) result
+            (with_name (string_bytes name) (filter_names self.old)) }
+        ensures unchanged { OnErr result (filter_names self.new ≡ filter_names self.old) }
         ensures answers { self.new.answers ≡ self.old.answers }
     {
         if has_name(self.names.as_slice(), name.as_str()) {
@@ -90,7 +91,7 @@ impl Answers {
     /// Puts the answer to a call; the one before is dropped. `Memory` where there is no room; then
     /// nothing changed.
     pub fn put(&mut self, call: Value, answer: Answer) -> Result<()>
-        ensures put { OnOk result (IsPut self.old (view call) answer self.new) }
+        ensures put { OnOk result (IsAnswerStored self.old (view call) answer self.new) }
         ensures memory { IfErr result (λ e. e.kind ≡ ErrorKind.Memory) }
         ensures unchanged { OnErr result ((call : Datum) →
             answer_at self.new call ≡ answer_at self.old call) }
@@ -103,7 +104,7 @@ impl Answers {
 
 /// Whether a name is among these.
 pub(crate) fn has_name(names: &[String], name: &str) -> bool
-    ensures { result ≡ is_named name.now (map string_bytes names.now) }
+    ensures { result ≡ is_listed_filter name.now (map string_bytes names.now) }
 {
     for known in names {
         if known.as_str() == name {
@@ -115,7 +116,8 @@ pub(crate) fn has_name(names: &[String], name: &str) -> bool
 
 /// A call as one value.
 pub(crate) fn call_of(alloc: Global, name: &str, input: &Value, args: &[Value]) -> Result<Value>
-    ensures { IsValueOrMemory view result (call_of name.now (view input.now) (map view args.now)) }
+    ensures { IsValueOrMemory view result (call_datum name.now (view input.now) (map view args.now))
+        }
 {
     let mut call = Vec::new(alloc);
     call.push(Value::Text(String::from_str(alloc, name)?))?;

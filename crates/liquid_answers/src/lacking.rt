@@ -6,7 +6,7 @@ ghost use Rattle.liquid_jekyll_host_filters.specs.Json.{json_text};
 ghost use Rattle.liquid_answers.specs.Lacking.{IsLacking, calls_in};
 ghost use Rattle.liquid_answers.specs.Tables.{answer_at};
 ghost use Rattle.liquid_answers.specs.declared.answers.Answers.{Answers};
-ghost use Rattle.liquid_answers.specs.inside.Listed.{AreListed, IsAfter, IsNone, separator};
+ghost use Rattle.liquid_answers.specs.inside.Listed.{AreListed, IsAfter, IsNone, comma_after};
 
 use crate::answers::Answers;
 use crate::asked::{Asked, MOST_BYTES, MOST_CALLS};
@@ -91,7 +91,7 @@ impl Listed {
             self.old.calls.items ++ call ∷ []) }
         ensures text { IfOk result (λ _. string_bytes self.new.text ≡
             string_bytes self.old.text ++
-            (separator self.old.calls.items ++ json_text (view call))) }
+            (comma_after self.old.calls.items ++ json_text (view call))) }
         ensures memory { IfErr result (λ e. e.kind ≡ ErrorKind.Memory) }
     {
         let separator = separator(self.calls.as_slice());
@@ -105,7 +105,7 @@ impl Listed {
 /// What stands in a list between these calls and the next one.
 #[tactic(auto, using(crate::proofs::Listed::separator_none, crate::proofs::Listed::separator_some))]
 fn separator(calls: &[Value]) -> &str
-    ensures { result.now ≡ separator calls.now }
+    ensures { result.now ≡ comma_after calls.now }
 {
     if calls.is_empty() { "" } else { "," }
 }

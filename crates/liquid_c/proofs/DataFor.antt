@@ -17,12 +17,12 @@ use Rattle.liquid_lib.specs.Pages.{fault_of, fresh, page_over}
 use Rattle.liquid_syntax.specs.Templates.{partials_of}
 use Rattle.liquid_syntax.specs.declared.partials.Partials.{Partials}
 use Rattle.liquid_uses.specs.Covered.{SeesAlone}
-use Rattle.liquid_c.specs.Asked.{Covers, Uses}
+use Rattle.liquid_c.specs.Asked.{Covers, UsesByName}
 use Rattle.liquid_c.specs.DataFor.{IsReadFor, ReadsFor, SamePages}
 use Rattle.liquid_c.specs.declared.content.Content.TheVariants as content
 
 -- a run sees no more of its data than was read
-hosted_same : (uses : Uses) (p : Partials) (nodes : Nodes) (ps qs : Pairs) → AlikeKeys (uses_view uses) ps qs → SeesAlone (uses_view uses) p nodes
+hosted_same : (uses : UsesByName) (p : Partials) (nodes : Nodes) (ps qs : Pairs) → AlikeKeys (uses_view uses) ps qs → SeesAlone (uses_view uses) p nodes
     → (named : Text → FilterAnswer) (depth : ℕ) → hosted_page named depth (partials_of p) (map_of ps) nodes ≡ hosted_page named depth (partials_of p) (map_of qs) nodes
 unfolding map_of hosted_page
 hosted_same uses p nodes ps qs alike alone named depth =
@@ -32,22 +32,22 @@ hosted_same uses p nodes ps qs alike alone named depth =
     λ i. record { text = runs.text i; fault = fault_of (runs.end i) }
 
 -- without filters of a host it is the page where each name stands for none
-page_same : (uses : Uses) (p : Partials) (nodes : Nodes) (ps qs : Pairs) → AlikeKeys (uses_view uses) ps qs → SeesAlone (uses_view uses) p nodes
+page_same : (uses : UsesByName) (p : Partials) (nodes : Nodes) (ps qs : Pairs) → AlikeKeys (uses_view uses) ps qs → SeesAlone (uses_view uses) p nodes
     → (depth : ℕ) → page_over depth (partials_of p) (map_of ps) nodes ≡ page_over depth (partials_of p) (map_of qs) nodes
 unfolding page_over hosted_page
 page_same uses p nodes ps qs alike alone depth = hosted_same uses p nodes ps qs alike alone no_host depth
 
-same_pages : (uses : Uses) (nodes : Nodes) (ps qs : Pairs) → AlikeKeys (uses_view uses) ps qs → (p : Partials) → SeesAlone (uses_view uses) p nodes → SamePages (partials_of p) nodes ps qs
+same_pages : (uses : UsesByName) (nodes : Nodes) (ps qs : Pairs) → AlikeKeys (uses_view uses) ps qs → (p : Partials) → SeesAlone (uses_view uses) p nodes → SamePages (partials_of p) nodes ps qs
 same_pages uses nodes ps qs alike p alone = record {
   page = page_same uses p nodes ps qs alike alone;
   hosted = hosted_same uses p nodes ps qs alike alone;
 }
 
-pub read_for : (uses : Uses) (ps qs : Pairs) → AlikeKeys (uses_view uses) ps qs → IsReadFor uses ps qs
+pub read_for : (uses : UsesByName) (ps qs : Pairs) → AlikeKeys (uses_view uses) ps qs → IsReadFor uses ps qs
 read_for uses ps qs alike = record {
   alike = alike;
   pages = λ partials nodes covers. subst (λ ts. SamePages ts nodes ps qs) covers.same (same_pages uses nodes ps qs alike covers.over covers.alone);
 }
 
-pub data_read : (uses : Uses) (source : List ℕ) (d : Outer) → IsAlikeData (uses_view uses) (data_of source) (pairs_view d.entries) → ReadsFor uses source (Ok (content.Data d))
+pub data_read : (uses : UsesByName) (source : List ℕ) (d : Outer) → IsAlikeData (uses_view uses) (data_of source) (pairs_view d.entries) → ReadsFor uses source (Ok (content.Data d))
 data_read uses source d h = (h.0, h.1, read_for uses h.0 (pairs_view d.entries) h.2)

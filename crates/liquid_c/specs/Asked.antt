@@ -25,17 +25,18 @@ use Rattle.liquid_c.specs.declared.content.Content.TheVariants as content
 use Rattle.liquid_c.specs.declared.refusal.Refusal.{Refusal}
 use Rattle.liquid_c.specs.declared.refusal.Refusal.TheVariants.{OtherHandle}
 
-abbrev pub Uses : Type 0
-Uses = BTreeMap (String Global) Use
+abbrev pub UsesByName : Type 0
+UsesByName = BTreeMap (String Global) Use
 
 -- the text is a list of the paths of the uses, in their order, and of no others
-pub record ArePaths (uses : Uses) (it : Text) : Type 0 where
+pub record ArePaths (uses : UsesByName) (it : Text) : Type 0 where
   pub paths : BTreeSet (String Global)
   pub exact : held_names paths ≡ mentioned (paths_in (members_view uses.entries))
   pub text : it ≡ json_text (array (items_of (map (λ p. text (string_bytes p)) (keys paths))))
 
 -- a run over these partials sees no more of its data than the uses ask
-pub record Covers (partials : List (Text × Nodes)) (nodes : Nodes) (uses : Uses) : Type 0 where
+pub record Covers (partials : List (Text × Nodes)) (nodes : Nodes) (uses : UsesByName) : Type 0
+    where
   pub over : Partials
   pub same : partials_of over ≡ partials
   pub alone : SeesAlone (uses_view uses) over nodes
@@ -65,13 +66,13 @@ pairs_behind (Some (content.Data d)) = Some (pairs_view d.entries)
 pairs_behind (Some _) = None
 
 -- a copy of the data, completed;  or memory ran out
-abbrev pub Completes : Uses → Pairs → Result Content Refusal → Type 0
+abbrev pub Completes : UsesByName → Pairs → Result Content Refusal → Type 0
 Completes uses ps (Ok (content.Data d)) =
     pairs_view d.entries ≡ completed_pairs (members_view uses.entries) ps
 Completes uses ps (Ok (content.Fault e)) = e.kind ≡ Memory
 Completes uses ps _ = ⊥
 
-abbrev pub CompletesAny : Uses → Option Pairs → Result Content Refusal → Type 0
+abbrev pub CompletesAny : UsesByName → Option Pairs → Result Content Refusal → Type 0
 CompletesAny uses (Some ps) answer = Completes uses ps answer
 CompletesAny uses None answer = answer ≡ Err OtherHandle
 

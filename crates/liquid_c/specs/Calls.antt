@@ -43,30 +43,33 @@ AreNoPartials (Ok (content.Partials p levels)) = (partials_of p ≡ []) × (leve
 AreNoPartials _ = ⊥
 
 -- R holds where the bytes are a text, and else the call can't be
-abbrev pub OfText : List ℕ → (Result Content Refusal → Type 0) → Result Content Refusal → Type 0
-OfText bytes R answer = (IsUtf8 bytes × R answer) ⊎ ((IsUtf8 bytes → ⊥) × (answer ≡ Err NoText))
+abbrev pub ForUtf8Text : List ℕ → (Result Content Refusal → Type 0) → Result Content Refusal →
+    Type 0
+ForUtf8Text bytes R answer = (IsUtf8 bytes × R answer) ⊎
+    ((IsUtf8 bytes → ⊥) × (answer ≡ Err NoText))
 
 -- the template that the source is, with the levels that it reaches; or why it is none: by a kind of
 -- a source, or since memory ran out
-abbrev pub Parses : Language → Text → Result Content Refusal → Type 0
-Parses l source (Ok (content.Template t levels)) =
+abbrev pub ParsesSource : Language → Text → Result Content Refusal → Type 0
+ParsesSource l source (Ok (content.Template t levels)) =
     IsOnlyTree l (tree_of t) source × (levels ≡ levels_in (list_of t))
-Parses l source (Ok (content.Fault e)) = MayRefuse e.kind ×
+ParsesSource l source (Ok (content.Fault e)) = MayRefuse e.kind ×
     MatchBool (is_memory e.kind) ⊤ (HasNoTree l source)
-Parses l source _ = ⊥
+ParsesSource l source _ = ⊥
 
 abbrev pub IsParse : Option Content → List ℕ → Result Content Refusal → Type 0
-IsParse (Some (content.Language l)) source answer = OfText source (Parses l source) answer
+IsParse (Some (content.Language l)) source answer =
+    ForUtf8Text source (ParsesSource l source) answer
 IsParse _ source answer = answer ≡ Err OtherHandle
 
 -- the data that the text of JSON gives, or why it gives none
-abbrev pub Reads : Text → Result Content Refusal → Type 0
-Reads source (Ok (content.Data d)) = data_of source ≡ Ok (pairs_view d.entries)
-Reads source (Ok (content.Fault e)) = Faulted e.kind (data_of source)
-Reads source _ = ⊥
+abbrev pub ReadsData : Text → Result Content Refusal → Type 0
+ReadsData source (Ok (content.Data d)) = data_of source ≡ Ok (pairs_view d.entries)
+ReadsData source (Ok (content.Fault e)) = Faulted e.kind (data_of source)
+ReadsData source _ = ⊥
 
 abbrev pub IsData : List ℕ → Result Content Refusal → Type 0
-IsData source answer = OfText source (Reads source) answer
+IsData source answer = ForUtf8Text source (ReadsData source) answer
 
 -- the data behind a handle, which is empty where the handle holds nothing
 abbrev pub data_behind : Option Content → Option (Map Datum)
@@ -86,12 +89,12 @@ levels_behind (Some (content.Partials p levels)) = levels
 levels_behind _ = no_levels
 
 -- the page of these nodes, unless memory ran out
-abbrev pub Shows : Nodes → ℕ → Map Datum → List (Text × Nodes)
+abbrev pub ShowsNodes : Nodes → ℕ → Map Datum → List (Text × Nodes)
     → Result Content Refusal → Type 0
-Shows nodes depth «data» partials (Ok (content.Page p)) =
+ShowsNodes nodes depth «data» partials (Ok (content.Page p)) =
     page_view p ≡ page_over depth partials «data» nodes
-Shows nodes depth «data» partials (Ok (content.Fault e)) = e.kind ≡ Memory
-Shows nodes depth «data» partials _ = ⊥
+ShowsNodes nodes depth «data» partials (Ok (content.Fault e)) = e.kind ≡ Memory
+ShowsNodes nodes depth «data» partials _ = ⊥
 
 -- the same, or a beginning of its text where a limit ended it
 abbrev pub ShowsWithin : Nodes → ℕ → Map Datum → List (Text × Nodes)
@@ -99,7 +102,7 @@ abbrev pub ShowsWithin : Nodes → ℕ → Map Datum → List (Text × Nodes)
 ShowsWithin nodes depth «data» partials (Ok (content.Ended p limit)) =
     ((page_view p).fault ≡ Some Write)
     × Begins (page_view p).text (page_over depth partials «data» nodes).text
-ShowsWithin nodes depth «data» partials answer = Shows nodes depth «data» partials answer
+ShowsWithin nodes depth «data» partials answer = ShowsNodes nodes depth «data» partials answer
 
 -- R holds where data and partials are there, and else the call can't be
 abbrev pub OfBoth : Option (Map Datum) → Option (List (Text × Nodes))
@@ -116,7 +119,7 @@ ShowsUnless is_deep is_limited nodes depth «data» partials answer =
     MatchBool is_deep (answer ≡ Err TooManyLevels)
     (MatchBool is_limited
     (ShowsWithin nodes depth «data» partials answer)
-    (Shows nodes depth «data» partials answer))
+    (ShowsNodes nodes depth «data» partials answer))
 
 -- a number other than 0 is a limit
 abbrev pub has_limit : ℕ → ℕ → Bool
@@ -148,26 +151,29 @@ Holds _ trees levels = ⊥
 
 -- the template now stands among the partials, and its handle holds nothing;  memory ran out, and
 -- nothing changed;  the name is no text
-pub data Puts (old : Partials) (most : Levels) (name : List ℕ) (t : Template) (levels : Levels)
+pub data InsertsPartial (old : Partials) (most : Levels) (name : List ℕ) (t : Template)
+    (levels : Levels)
     (number : ℕ) (partials template was : Option Held) : Type 0 where
   done : IsUtf8 name → number ≡ 0 → Holds partials (put name (tree_of t) (partials_of old))
       (greater_of most levels) → template ≡ None →
-      Puts old most name t levels number partials template was
+      InsertsPartial old most name t levels number partials template was
   refused : IsUtf8 name → number ≡ number_of Memory → Holds partials (partials_of old) most →
-      template ≡ was → Puts old most name t levels number partials template was
+      template ≡ was → InsertsPartial old most name t levels number partials template was
   no_text : (IsUtf8 name → ⊥) → number ≡ number_of_refusal NoText →
       Holds partials (partials_of old) most → template ≡ was →
-      Puts old most name t levels number partials template was
+      InsertsPartial old most name t levels number partials template was
 
 -- what is shared isn't changed, and doesn't move
-abbrev pub IsPut : Option Held → List ℕ → Option Held → ℕ → Option Held → Option Held → Type 0
-IsPut (Some (Own (content.Partials p most))) name (Some (Own (content.Template t levels))) number
+abbrev pub IsInsertion : Option Held → List ℕ → Option Held → ℕ → Option Held → Option Held → Type 0
+IsInsertion (Some (Own (content.Partials p most))) name (Some (Own (content.Template t levels)))
+    number
     partials template =
-    Puts p most name t levels number partials template (Some (Own (content.Template t levels)))
-IsPut (Some (Shared c)) name (Some was) number partials template =
+    InsertsPartial p most name t levels number partials template
+        (Some (Own (content.Template t levels)))
+IsInsertion (Some (Shared c)) name (Some was) number partials template =
     (number ≡ number_of_refusal SharedHandle) × (partials ≡ Some (Shared c)) × (template ≡ Some was)
-IsPut (Some (Own (content.Partials p most))) name (Some (Shared c)) number partials template =
+IsInsertion (Some (Own (content.Partials p most))) name (Some (Shared c)) number partials template =
     (number ≡ number_of_refusal SharedHandle)
     × (partials ≡ Some (Own (content.Partials p most))) × (template ≡ Some (Shared c))
-IsPut old name was number partials template = (number ≡ number_of_refusal OtherHandle) ×
+IsInsertion old name was number partials template = (number ≡ number_of_refusal OtherHandle) ×
     (partials ≡ old) × (template ≡ was)

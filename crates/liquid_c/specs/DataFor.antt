@@ -13,8 +13,8 @@ use Rattle.liquid_evaluation.specs.Tree.{Nodes}
 use Rattle.liquid_json.specs.Json.{data_of}
 use Rattle.liquid_lib.specs.HostedPages.{hosted_page}
 use Rattle.liquid_lib.specs.Pages.{page_over}
-use Rattle.liquid_c.specs.Asked.{Covers, Uses}
-use Rattle.liquid_c.specs.Calls.{OfText}
+use Rattle.liquid_c.specs.Asked.{Covers, UsesByName}
+use Rattle.liquid_c.specs.Calls.{ForUtf8Text}
 use Rattle.liquid_c.specs.declared.content.Content.{Content}
 use Rattle.liquid_c.specs.declared.content.Content.TheVariants as content
 use Rattle.liquid_c.specs.declared.refusal.Refusal.{Refusal}
@@ -31,18 +31,19 @@ pub record SamePages (partials : List (Text × Nodes)) (nodes : Nodes) (whole re
 
 -- the data are alike in what the uses ask, and each template with partials whose runs see no more
 -- shows the same pages over both
-pub record IsReadFor (uses : Uses) (whole read : Pairs) : Type 0 where
+pub record IsReadFor (uses : UsesByName) (whole read : Pairs) : Type 0 where
   pub alike : AlikeKeys (uses_view uses) whole read
   pub pages : (partials : List (Text × Nodes)) (nodes : Nodes) → Covers partials nodes uses →
       SamePages partials nodes whole read
 
 -- data that are read so from the text of JSON;  or why it gives none, as where all is read
-abbrev pub ReadsFor : Uses → Text → Result Content Refusal → Type 0
+abbrev pub ReadsFor : UsesByName → Text → Result Content Refusal → Type 0
 ReadsFor uses source (Ok (content.Data d)) = (whole : Pairs) × (data_of source ≡ Ok whole)
     × IsReadFor uses whole (pairs_view d.entries)
 ReadsFor uses source (Ok (content.Fault e)) = Faulted e.kind (data_of source)
 ReadsFor uses source _ = ⊥
 
 abbrev pub IsDataFor : List ℕ → Option Content → Result Content Refusal → Type 0
-IsDataFor source (Some (content.Paths uses it)) answer = OfText source (ReadsFor uses source) answer
+IsDataFor source (Some (content.Paths uses it)) answer =
+    ForUtf8Text source (ReadsFor uses source) answer
 IsDataFor source _ answer = answer ≡ Err OtherHandle

@@ -60,8 +60,8 @@ is_call (RenderEach name each pairs) = true
 is_call _ = false
 
 -- what a node adds that stands at this level
-abbrev pub with_node : Node → ℕ → Levels → Levels
-with_node n level l = record {
+abbrev pub levels_with_node : Node → ℕ → Levels → Levels
+levels_with_node n level l = record {
   lists = max l.lists level;
   calls = cond (is_call n) (max l.calls level) l.calls;
 }
@@ -71,7 +71,7 @@ abbrev pub levels_from : ℕ → List Open → Levels → List Node → Levels
 levels_from at os l [] = l
 levels_from at os l (n ∷ ns) =
     let now = opened at n (still_open at os) in
-    levels_from (at + 1) now (with_node n (length now + 1) l) ns
+    levels_from (at + 1) now (levels_with_node n (length now + 1) l) ns
 
 -- a list is a level of its own
 unfoldable pub levels_in : List Node → Levels
@@ -89,9 +89,9 @@ greater_of a b = record { lists = max a.lists b.lists; calls = max a.calls b.cal
 
 -- what is reached through a tag at this level (0: there is none): all partials but the last run
 -- one in their turn
-abbrev pub through : ℕ → ℕ → Levels → ℕ
-through depth level p =
+abbrev pub levels_through : ℕ → ℕ → Levels → ℕ
+levels_through depth level p =
     cond (nat_eq depth 0 || nat_eq level 0) 0 (level + (p.calls * (depth - 1) + p.lists))
 
 unfoldable pub most_levels : ℕ → Levels → Levels → ℕ
-most_levels depth t p = max t.lists (through depth t.calls p)
+most_levels depth t p = max t.lists (levels_through depth t.calls p)

@@ -12,11 +12,11 @@ use Rattle.liquid_c.specs.declared.refusal.Refusal.TheVariants.{NoText, OtherHan
 use Rattle.liquid_c.specs.declared.refusal.Refusal.TheVariants.{SharedHandle, NoSuchCall}
 
 -- the fault, also that of a page
-abbrev pub fault_behind : Content → Option Error
-fault_behind (content.Page p) = p.fault
-fault_behind (content.Ended p limit) = p.fault
-fault_behind (content.Fault e) = Some e
-fault_behind _ = None
+abbrev pub content_fault : Content → Option Error
+content_fault (content.Page p) = p.fault
+content_fault (content.Ended p limit) = p.fault
+content_fault (content.Fault e) = Some e
+content_fault _ = None
 
 abbrev pub number_of_fault : Option Error → ℕ
 number_of_fault None = 0
@@ -30,7 +30,7 @@ number_of_limit Turns = 105
 abbrev pub number_of_content : Content → ℕ
 number_of_content (content.Ended p limit) = number_of_limit limit
 number_of_content (content.Lacking calls) = 106
-number_of_content c = number_of_fault (fault_behind c)
+number_of_content c = number_of_fault (content_fault c)
 
 -- the text of a page, or of calls, names or paths in JSON
 abbrev pub text_behind : Content → Text

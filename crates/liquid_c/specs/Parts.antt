@@ -9,7 +9,7 @@ use Rattle.liquid_model.specs.declared.error.Error.{Error}
 use Rattle.liquid_model.specs.declared.location.Location.{Location}
 use Rattle.liquid_model.specs.declared.location.Origin.{Origin}
 use Rattle.liquid_model.specs.declared.location.Origin.TheVariants.{Template, Partial, Data}
-use Rattle.liquid_c.specs.Numbers.{fault_behind, text_behind}
+use Rattle.liquid_c.specs.Numbers.{content_fault, text_behind}
 use Rattle.liquid_c.specs.declared.content.Content.{Content}
 
 abbrev pub message_bytes : Option (String Global) → Text
@@ -37,7 +37,7 @@ part_of_faults part None = []
 part_of_faults part (Some e) = part_of_fault part e
 
 abbrev pub part_behind : ℕ → Content → Text
-part_behind part h = if nat_eq part 0 then text_behind h else part_of_faults part (fault_behind h)
+part_behind part h = if nat_eq part 0 then text_behind h else part_of_faults part (content_fault h)
 
 abbrev pub part_in : ℕ → Option Content → Text
 part_in part None = []
@@ -51,7 +51,7 @@ location_of_faults (Some e) = location_of_fault e
 
 abbrev pub location_in : Option Content → Option Location
 location_in None = None
-location_in (Some h) = location_of_faults (fault_behind h)
+location_in (Some h) = location_of_faults (content_fault h)
 
 abbrev pub number_of_origin : Origin → ℕ
 number_of_origin Template = 1

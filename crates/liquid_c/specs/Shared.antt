@@ -1,5 +1,5 @@
 -- What handles share.
---     behind held      what a handle holds, whether other handles share it or not
+--     shared_content held      what a handle holds, whether other handles share it or not
 --     Regaining R old      R holds of what the handle held, which is its own again where no other
 --     handle has it any more;   RegainingBoth R old other      the same of two handles
 use Rattle.std.specs.Prelude.{◌≡◌, ◌⊎◌, ℕ, Option, Some, None, option_map}
@@ -16,8 +16,8 @@ abbrev pub content_of : Held → Content
 content_of (Own c) = c
 content_of (Shared a) = arc_value a
 
-abbrev pub behind : Option Held → Option Content
-behind held = option_map content_of held
+abbrev pub shared_content : Option Held → Option Content
+shared_content held = option_map content_of held
 
 -- what a call finds behind a handle that it is to change: what was shared is the handle's own
 -- again, or is shared still
@@ -52,7 +52,7 @@ HoldsShared c _ = ⊥
 -- both handles share the content;  or memory ran out: the one holds it still, and the other nothing
 pub data Shares (c : Content) (number : ℕ) (held made : Option Held) : Type 0 where
   done : number ≡ 0 → HoldsShared c held → HoldsShared c made → Shares c number held made
-  refused : number ≡ number_of Memory → behind held ≡ Some c → made ≡ None →
+  refused : number ≡ number_of Memory → shared_content held ≡ Some c → made ≡ None →
       Shares c number held made
 
 -- what is made of an owner's content in this way

@@ -14,7 +14,7 @@ use Rattle.liquid_model.specs.declared.error.ErrorKind.TheVariants as kind
 use Rattle.liquid_model.specs.declared.error.ErrorKind.TheVariants.{InvalidInput, Memory}
 use Rattle.liquid_core.specs.Held.{Outer}
 use Rattle.liquid_answers.specs.Lacking.{calls_in}
-use Rattle.liquid_answers.specs.Tables.{IsPut, answer_at, names_of, said_by, with_name}
+use Rattle.liquid_answers.specs.Tables.{IsAnswerStored, answer_at, filter_names, said_by, with_name}
 use Rattle.liquid_answers.specs.declared.answers.Answer.{Answer}
 use Rattle.liquid_answers.specs.declared.answers.Answers.{Answers}
 use Rattle.liquid_c.specs.Numbers.{number_of_refusal}
@@ -28,7 +28,7 @@ use Rattle.liquid_c.specs.declared.refusal.Refusal.TheVariants.{SharedHandle, No
 
 -- a table without names and answers
 abbrev pub IsNewTable : Result Content Refusal → Type 0
-IsNewTable (Ok (content.Answers table)) = (names_of table ≡ []) ×
+IsNewTable (Ok (content.Answers table)) = (filter_names table ≡ []) ×
     ((call : Datum) → answer_at table call ≡ None)
 IsNewTable _ = ⊥
 
@@ -39,7 +39,7 @@ HoldsTable P _ = ⊥
 
 -- the names and the answers are the old ones
 abbrev pub IsSameTable : Answers → Answers → Type 0
-IsSameTable old new = (names_of new ≡ names_of old)
+IsSameTable old new = (filter_names new ≡ filter_names old)
     × ((call : Datum) → answer_at new call ≡ answer_at old call)
 
 -- the table changed as R says;  or memory ran out, and nothing changed
@@ -53,7 +53,7 @@ pub data ChangesTable (R : Answers → Answers → Type 0) (old : Answers) (numb
 
 -- the table has the name too
 abbrev pub HasName : Text → Answers → Answers → Type 0
-HasName name old new = (names_of new ≡ with_name name (names_of old))
+HasName name old new = (filter_names new ≡ with_name name (filter_names old))
     × ((call : Datum) → answer_at new call ≡ answer_at old call)
 
 abbrev pub IsNaming : Option Held → List ℕ → ℕ → Option Held → Type 0
@@ -78,13 +78,13 @@ call_behind number (Some (content.Lacking it)) =
     ok_or (option_map view (slice_get (calls_in it) number)) NoSuchCall
 call_behind number _ = Err OtherHandle
 
-abbrev pub or_nil : Option Datum → Datum
-or_nil None = nil
-or_nil (Some d) = d
+abbrev pub answer_or_nil : Option Datum → Datum
+answer_or_nil None = nil
+answer_or_nil (Some d) = d
 
 -- the member of data that is the answer
 abbrev pub answer_among : Outer → Datum
-answer_among «data» = or_nil (value_at (codes "answer") (pairs_view «data».entries))
+answer_among «data» = answer_or_nil (value_at (codes "answer") (pairs_view «data».entries))
 
 -- the answer that data hold
 abbrev pub answer_behind : Option Content → Result (Result Datum ErrorKind) Refusal
@@ -104,16 +104,17 @@ kinds_of_runs = kind.UnknownVariable ∷ kind.InvalidInput ∷ kind.InvalidArgum
     kind.TooDeep ∷ kind.DateFormat ∷ kind.TimezoneRange ∷ kind.Unsupported ∷ []
 
 -- the table says so of the call, and the same as before of all others
-abbrev pub Says : Datum → Result Datum ErrorKind → Answers → Answers → Type 0
-Says call said old new = (answer : Answer) × (said_by answer ≡ said) × IsPut old call answer new
-    × (names_of new ≡ names_of old)
+abbrev pub StoresAnswer : Datum → Result Datum ErrorKind → Answers → Answers → Type 0
+StoresAnswer call said old new = (answer : Answer) × (said_by answer ≡ said) ×
+    IsAnswerStored old call answer new
+    × (filter_names new ≡ filter_names old)
 
 abbrev pub IsAnswering : Option Held → Result Datum Refusal
     → Result (Result Datum ErrorKind) Refusal → ℕ → Option Held → Type 0
 IsAnswering old (Err r) answer number left = (number ≡ number_of_refusal r) × (left ≡ old)
 IsAnswering old (Ok call) (Err r) number left = (number ≡ number_of_refusal r) × (left ≡ old)
 IsAnswering (Some (Own (content.Answers table))) (Ok call) (Ok said) number left =
-    ChangesTable (Says call said) table number left
+    ChangesTable (StoresAnswer call said) table number left
 IsAnswering (Some (Shared c)) (Ok call) (Ok said) number left =
     (number ≡ number_of_refusal SharedHandle) × (left ≡ Some (Shared c))
 IsAnswering old (Ok call) (Ok said) number left =

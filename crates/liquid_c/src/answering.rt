@@ -6,10 +6,10 @@ ghost use Rattle.liquid_model.specs.Data.{Datum};
 ghost use Rattle.liquid_model.specs.View.{view};
 ghost use Rattle.liquid_model.specs.declared.error.ErrorKind.{ErrorKind};
 ghost use Rattle.liquid_answers.specs.Tables.{said_by};
-ghost use Rattle.liquid_c.specs.Tables.{ChangesTable, Given, IsAnswering, IsRefusing, Says};
+ghost use Rattle.liquid_c.specs.Tables.{ChangesTable, Given, IsAnswering, IsRefusing, StoresAnswer};
 ghost use Rattle.liquid_c.specs.Tables.{answer_among, answer_behind, call_behind, calls_behind};
 ghost use Rattle.liquid_c.specs.Tables.{kind_among, kinds_of_runs};
-ghost use Rattle.liquid_c.specs.Shared.{Regaining, behind};
+ghost use Rattle.liquid_c.specs.Shared.{Regaining, shared_content};
 ghost use Rattle.liquid_c.specs.declared.content.Content.TheVariants as content;
 ghost use Rattle.liquid_c.specs.declared.held.Held.TheVariants.{Own};
 ghost use Rattle.liquid_c.specs.declared.refusal.Refusal.{Refusal};
@@ -45,7 +45,7 @@ const KINDS: [ErrorKind; 16] = [
 /// How many calls a handle holds; 0 where it holds something else.
 #[unsafe(no_mangle)]
 pub extern "C" fn bikleinu_calls(alloc: Global, calls: &mut Handle) -> usize
-    ensures count { result ≡ calls_behind (behind calls.old.held) }
+    ensures count { result ≡ calls_behind (shared_content calls.old.held) }
     ensures same { calls.new.held ≡ calls.old.held }
 {
     let held = calls.take(alloc);
@@ -74,7 +74,8 @@ pub extern "C" fn bikleinu_answer(
     data: &mut Handle,
 ) -> u32
     ensures answered { Regaining (λ was. IsAnswering was
-        (call_behind number (behind calls.old.held)) (answer_behind (behind «data».old.held))
+        (call_behind number (shared_content calls.old.held))
+            (answer_behind (shared_content «data».old.held))
         result answers.new.held) answers.old.held }
     ensures calls { calls.new.held ≡ calls.old.held }
     ensures data { «data».new.held ≡ «data».old.held }
@@ -104,7 +105,7 @@ pub extern "C" fn bikleinu_refuse(
     message: &[u8],
 ) -> u32
     ensures answered { Regaining (λ was. IsRefusing was
-        (call_behind number (behind calls.old.held)) kind message.now
+        (call_behind number (shared_content calls.old.held)) kind message.now
         result answers.new.held) answers.old.held }
     ensures calls { calls.new.held ≡ calls.old.held }
 {
@@ -226,7 +227,7 @@ fn put(
 
 fn put_answer(alloc: Global, table: &mut Answers, call: &Value, answer: Option<Answer>) -> u32
     ensures { (said : Answered Datum ErrorKind) → MatchOption answer ⊤ (λ a. said_by a ≡ said) →
-        ChangesTable (Says (view call.now) said) table.old result
+        ChangesTable (StoresAnswer (view call.now) said) table.old result
         (Some (Own (content.Answers table.new))) }
 {
     let Some(answer) = answer else {

@@ -5,7 +5,7 @@ ghost use Rattle.liquid_evaluation.specs.Tree.{Nodes};
 ghost use Rattle.liquid_syntax.specs.Templates.{partials_of, tree_of};
 ghost use Rattle.liquid_c.specs.Asked.{ArePaths, Covers, IsAsking, PathsOver, TellsPaths};
 ghost use Rattle.liquid_c.specs.Settled.{Settled};
-ghost use Rattle.liquid_c.specs.Shared.{behind};
+ghost use Rattle.liquid_c.specs.Shared.{shared_content};
 
 use crate::content::Content;
 use crate::handle::Handle;
@@ -28,7 +28,8 @@ pub extern "C" fn bikleinu_paths(
     partials: &mut Handle,
     made: &mut Handle,
 ) -> u32
-    ensures asked { Settled (IsAsking (behind template.old.held) (behind partials.old.held)) result
+    ensures asked { Settled (IsAsking (shared_content template.old.held)
+        (shared_content partials.old.held)) result
         made.new.held }
     ensures template { template.new.held ≡ template.old.held }
     ensures partials { partials.new.held ≡ partials.old.held }

@@ -7,7 +7,7 @@ ghost use Rattle.liquid_model.specs.UseViews.{members_view};
 ghost use Rattle.liquid_model.specs.View.{pairs_view};
 ghost use Rattle.liquid_c.specs.Asked.{Completes, CompletesAny, IsCompletion};
 ghost use Rattle.liquid_c.specs.Settled.{Settled};
-ghost use Rattle.liquid_c.specs.Shared.{behind};
+ghost use Rattle.liquid_c.specs.Shared.{shared_content};
 
 use crate::content::Content;
 use crate::handle::Handle;
@@ -28,7 +28,8 @@ pub extern "C" fn bikleinu_complete(
     paths: &mut Handle,
     made: &mut Handle,
 ) -> u32
-    ensures completed { Settled (IsCompletion (behind «data».old.held) (behind paths.old.held))
+    ensures completed { Settled (IsCompletion (shared_content «data».old.held)
+        (shared_content paths.old.held))
         result made.new.held }
     ensures data { «data».new.held ≡ «data».old.held }
     ensures paths { paths.new.held ≡ paths.old.held }

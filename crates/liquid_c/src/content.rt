@@ -1,6 +1,6 @@
 //! What calls make.
 ghost use Rattle.std.specs.Prelude.{◌≡◌, option_map};
-ghost use Rattle.liquid_c.specs.Numbers.{fault_behind, text_behind};
+ghost use Rattle.liquid_c.specs.Numbers.{content_fault, text_behind};
 ghost use Rattle.liquid_c.specs.Numbers.{number_of_fault, number_of_content, number_of_limit};
 
 use crate::levels::Levels;
@@ -60,7 +60,7 @@ impl Content {
 
     /// The fault, also that of a page.
     pub(crate) fn fault(&self) -> Option<&Error>
-        ensures { option_map (λ e. e.now) result ≡ fault_behind self.now }
+        ensures { option_map (λ e. e.now) result ≡ content_fault self.now }
     {
         match self {
             Content::Page(page) => page.fault.as_ref(),

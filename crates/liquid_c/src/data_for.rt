@@ -2,7 +2,7 @@
 ghost use Rattle.std.specs.Prelude.{◌≡◌, Ok, option_map};
 ghost use Rattle.liquid_c.specs.DataFor.{IsDataFor, ReadsFor};
 ghost use Rattle.liquid_c.specs.Settled.{Settled};
-ghost use Rattle.liquid_c.specs.Shared.{behind};
+ghost use Rattle.liquid_c.specs.Shared.{shared_content};
 
 use crate::content::Content;
 use crate::handle::Handle;
@@ -23,7 +23,8 @@ pub extern "C" fn bikleinu_data_for(
     paths: &mut Handle,
     made: &mut Handle,
 ) -> u32
-    ensures read { Settled (IsDataFor source.now (behind paths.old.held)) result made.new.held }
+    ensures read { Settled (IsDataFor source.now (shared_content paths.old.held)) result
+        made.new.held }
     ensures paths { paths.new.held ≡ paths.old.held }
 {
     let held = paths.take(alloc);

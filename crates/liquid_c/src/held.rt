@@ -1,6 +1,6 @@
 //! What lies behind a handle.
 ghost use Rattle.std.specs.Prelude.{◌≡◌, option_map};
-ghost use Rattle.liquid_c.specs.Shared.{IsRegained, Regained, behind, content_of};
+ghost use Rattle.liquid_c.specs.Shared.{IsRegained, Regained, shared_content, content_of};
 
 use crate::content::Content;
 use std::alloc::Global;
@@ -57,7 +57,7 @@ fn regained(held: Held) -> Held
 
 /// What an owner of a box, or of none, holds.
 pub(crate) fn seen(held: &Option<Box<Held>>) -> Option<&Content>
-    ensures { option_map (λ c. c.now) result ≡ behind (option_map (λ b. b.value) held.now) }
+    ensures { option_map (λ c. c.now) result ≡ shared_content (option_map (λ b. b.value) held.now) }
 {
     match held {
         Some(held) => Some(held.content()),

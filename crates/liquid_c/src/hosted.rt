@@ -5,7 +5,7 @@ ghost use Rattle.liquid_syntax.specs.Templates.{partials_of, tree_of};
 ghost use Rattle.liquid_c.specs.Calls.{OfBoth, bound_of};
 ghost use Rattle.liquid_c.specs.Hosted.{IsHosted, ShowsAnswered, ShowsUnlessDeep};
 ghost use Rattle.liquid_c.specs.Settled.{Settled};
-ghost use Rattle.liquid_c.specs.Shared.{behind};
+ghost use Rattle.liquid_c.specs.Shared.{shared_content};
 
 use crate::content::Content;
 use crate::handle::Handle;
@@ -33,8 +33,10 @@ pub extern "C" fn bikleinu_render_with(
     answers: &mut Handle,
     made: &mut Handle,
 ) -> u32
-    ensures rendered { Settled (IsHosted (bound_of limits.now.levels) (behind template.old.held)
-        (behind «data».old.held) (behind partials.old.held) depth (behind answers.old.held))
+    ensures rendered { Settled (IsHosted (bound_of limits.now.levels)
+        (shared_content template.old.held)
+        (shared_content «data».old.held) (shared_content partials.old.held) depth
+            (shared_content answers.old.held))
         result made.new.held }
     ensures template { template.new.held ≡ template.old.held }
     ensures data { «data».new.held ≡ «data».old.held }

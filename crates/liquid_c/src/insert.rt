@@ -4,7 +4,7 @@ ghost use Rattle.liquid_model.specs.Maps.{listed};
 ghost use Rattle.liquid_syntax.specs.Templates.{partials_of, slots_of};
 ghost use Rattle.liquid_c.specs.declared.content.Content.TheVariants as content;
 ghost use Rattle.liquid_c.specs.declared.held.Held.TheVariants.{Own};
-ghost use Rattle.liquid_c.specs.Calls.{IsPut};
+ghost use Rattle.liquid_c.specs.Calls.{IsInsertion};
 ghost use Rattle.liquid_c.specs.Shared.{RegainingBoth};
 
 use crate::content::Content;
@@ -26,7 +26,7 @@ pub extern "C" fn bikleinu_insert(
     name: &[u8],
     template: &mut Handle,
 ) -> u32
-    ensures { RegainingBoth (λ was moving. IsPut was name.now moving result
+    ensures { RegainingBoth (λ was moving. IsInsertion was name.now moving result
         partials.new.held template.new.held) partials.old.held template.old.held }
 {
     let mut held = partials.take_to_change(alloc);
@@ -44,7 +44,7 @@ fn put(
     name: &[u8],
     template: Option<Box<Held>>,
 ) -> (u32, Option<Box<Held>>)
-    ensures { IsPut (option_map (λ b. b.value) partials.old) name.now
+    ensures { IsInsertion (option_map (λ b. b.value) partials.old) name.now
         (option_map (λ b. b.value) template)
         result.0 (option_map (λ b. b.value) partials.new) (option_map (λ b. b.value) result.1) }
 {
@@ -66,7 +66,7 @@ fn put_into(
     name: &[u8],
     template: Box<Held>,
 ) -> (u32, Option<Box<Held>>)
-    ensures { IsPut (Some (Own content.old)) name.now (Some template.value) result.0
+    ensures { IsInsertion (Some (Own content.old)) name.now (Some template.value) result.0
         (Some (Own content.new)) (option_map (λ b. b.value) result.1) }
 {
     match content {
@@ -95,7 +95,7 @@ fn put_template(
     name: &[u8],
     template: Box<Held>,
 ) -> (u32, Option<Box<Held>>)
-    ensures { IsPut (Some (Own (content.Partials partials.old most.old))) name.now
+    ensures { IsInsertion (Some (Own (content.Partials partials.old most.old))) name.now
         (Some template.value) result.0 (Some (Own (content.Partials partials.new most.new)))
         (option_map (λ b. b.value) result.1) }
 {

@@ -7,7 +7,7 @@ ghost use Rattle.std.specs.Prelude.{◌≡◌, ◌^◌, ◌-◌, min, nat_lt};
 ghost use Rattle.liquid_model.specs.Answer.{IsValueOrMemory};
 ghost use Rattle.liquid_c.specs.Levels.{block, greater_of, has_else, is_call, left_by_elsif};
 ghost use Rattle.liquid_c.specs.Levels.{levels_in, most_levels, no_levels, opened, still_open};
-ghost use Rattle.liquid_c.specs.Levels.{through, with_node};
+ghost use Rattle.liquid_c.specs.Levels.{levels_through, levels_with_node};
 
 use liquid_core::Result;
 use liquid_syntax::Node;
@@ -71,7 +71,7 @@ impl Levels {
 
     /// With a node at a level.
     fn with_node(self, node: &Node, level: usize) -> Levels
-        ensures { result ≡ with_node node.now level self }
+        ensures { result ≡ levels_with_node node.now level self }
     {
         let lists = self.lists.max(level);
         if !is_call(node) {
@@ -87,7 +87,7 @@ impl Levels {
 
 /// What is reached through a tag at a level that runs a partial, or the most that a number holds.
 fn reached_through(level: usize, partials: Levels, depth: u32) -> usize
-    ensures { result ≡ min (through depth level partials) (2 ^ 64 - 1) }
+    ensures { result ≡ min (levels_through depth level partials) (2 ^ 64 - 1) }
 {
     if depth == 0 || level == 0 {
         return 0;

@@ -7,7 +7,7 @@ ghost use Rattle.liquid_model.specs.View.{items_of, view};
 ghost use Rattle.liquid_syntax.specs.Templates.{partials_of, tree_of};
 ghost use Rattle.liquid_c.specs.Named.{AreNames, IsNames, OfPartials};
 ghost use Rattle.liquid_c.specs.Settled.{Settled};
-ghost use Rattle.liquid_c.specs.Shared.{behind};
+ghost use Rattle.liquid_c.specs.Shared.{shared_content};
 
 use crate::content::Content;
 use crate::handle::Handle;
@@ -29,7 +29,8 @@ pub extern "C" fn bikleinu_names(
     partials: &mut Handle,
     made: &mut Handle,
 ) -> u32
-    ensures named { Settled (IsNames (behind template.old.held) (behind partials.old.held)) result
+    ensures named { Settled (IsNames (shared_content template.old.held)
+        (shared_content partials.old.held)) result
         made.new.held }
     ensures template { template.new.held ≡ template.old.held }
     ensures partials { partials.new.held ≡ partials.old.held }

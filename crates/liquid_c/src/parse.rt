@@ -1,8 +1,8 @@
 //! Templates from their sources.
 ghost use Rattle.std.specs.Prelude.{◌≡◌, Ok, option_map};
-ghost use Rattle.liquid_c.specs.Calls.{IsParse, Parses};
+ghost use Rattle.liquid_c.specs.Calls.{IsParse, ParsesSource};
 ghost use Rattle.liquid_c.specs.Settled.{Settled};
-ghost use Rattle.liquid_c.specs.Shared.{behind};
+ghost use Rattle.liquid_c.specs.Shared.{shared_content};
 
 use crate::content::Content;
 use crate::handle::Handle;
@@ -22,7 +22,8 @@ pub extern "C" fn bikleinu_parse(
     source: &[u8],
     made: &mut Handle,
 ) -> u32
-    ensures parsed { Settled (IsParse (behind language.old.held) source.now) result made.new.held }
+    ensures parsed { Settled (IsParse (shared_content language.old.held) source.now) result
+        made.new.held }
     ensures same { language.new.held ≡ language.old.held }
 {
     let held = language.take(alloc);
@@ -45,7 +46,7 @@ fn template(alloc: Global, language: Option<&Content>, source: &[u8]) -> Result<
 
 /// The template that a source is, with the levels that it reaches, or the fault.
 fn parsed(alloc: Global, source: &str, language: &Language) -> Content
-    ensures { Parses language.now source.now (Ok result) }
+    ensures { ParsesSource language.now source.now (Ok result) }
 {
     match parse_kept(alloc, source, language) {
         Ok(template) => match levels_in(alloc, template.nodes()) {

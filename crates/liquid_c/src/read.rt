@@ -3,7 +3,7 @@ ghost use Rattle.std.specs.Prelude.{◌≡◌, ◌++◌, drop, length, min, opti
 ghost use Rattle.liquid_c.specs.Parts.{located, location_in, location_of_fault, message_bytes};
 ghost use Rattle.liquid_c.specs.Parts.{number_of_origin, part_in, part_behind, part_of_fault};
 ghost use Rattle.liquid_c.specs.Parts.{partial_of_location};
-ghost use Rattle.liquid_c.specs.Shared.{behind};
+ghost use Rattle.liquid_c.specs.Shared.{shared_content};
 
 use crate::content::Content;
 use crate::handle::Handle;
@@ -16,7 +16,7 @@ use std::alloc::Global;
 /// Without such a part, and of any other number, 0.
 #[unsafe(no_mangle)]
 pub extern "C" fn bikleinu_length(alloc: Global, handle: &mut Handle, part: u32) -> usize
-    ensures length { result ≡ length (part_in part (behind handle.old.held)) }
+    ensures length { result ≡ length (part_in part (shared_content handle.old.held)) }
     ensures same { handle.new.held ≡ handle.old.held }
 {
     let held = handle.take(alloc);
@@ -35,9 +35,9 @@ pub extern "C" fn bikleinu_copy(
     into: &mut [u8],
 ) -> usize
     ensures copied { into.new ≡
-        take result (part_in part (behind handle.old.held)) ++ drop result into.old }
+        take result (part_in part (shared_content handle.old.held)) ++ drop result into.old }
     ensures count { result ≡
-        min (length (part_in part (behind handle.old.held))) (length into.old) }
+        min (length (part_in part (shared_content handle.old.held))) (length into.old) }
     ensures same { handle.new.held ≡ handle.old.held }
 {
     let held = handle.take(alloc);
@@ -57,7 +57,7 @@ pub extern "C" fn bikleinu_location(
     column: &mut usize,
 ) -> u32
     ensures location { (result, (line.new, column.new)) ≡
-        located (location_in (behind handle.old.held)) line.old column.old }
+        located (location_in (shared_content handle.old.held)) line.old column.old }
     ensures same { handle.new.held ≡ handle.old.held }
 {
     let held = handle.take(alloc);

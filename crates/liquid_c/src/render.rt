@@ -3,11 +3,11 @@ ghost use Rattle.std.specs.Prelude.{◌≡◌, [], Ok, Some, false, option_map};
 ghost use Rattle.liquid_model.specs.Maps.{empty};
 ghost use Rattle.liquid_core.specs.Held.{held as map_held};
 ghost use Rattle.liquid_syntax.specs.Templates.{partials_of, tree_of};
-ghost use Rattle.liquid_c.specs.Calls.{IsRendering, OfBoth, Shows, ShowsUnless, ShowsWithin};
+ghost use Rattle.liquid_c.specs.Calls.{IsRendering, OfBoth, ShowsNodes, ShowsUnless, ShowsWithin};
 ghost use Rattle.liquid_c.specs.Calls.{bound_of, data_behind, has_limit, levels_behind};
 ghost use Rattle.liquid_c.specs.Calls.{partials_behind, usual_levels};
 ghost use Rattle.liquid_c.specs.Settled.{Settled};
-ghost use Rattle.liquid_c.specs.Shared.{behind};
+ghost use Rattle.liquid_c.specs.Shared.{shared_content};
 
 use crate::content::Content;
 use crate::handle::Handle;
@@ -65,8 +65,9 @@ pub extern "C" fn bikleinu_render(
     made: &mut Handle,
 ) -> u32
     ensures rendered { Settled
-        (IsRendering usual_levels false (behind template.old.held) (behind «data».old.held)
-        (behind partials.old.held) depth)
+        (IsRendering usual_levels false (shared_content template.old.held)
+            (shared_content «data».old.held)
+        (shared_content partials.old.held) depth)
         result made.new.held }
     ensures template { template.new.held ≡ template.old.held }
     ensures data { «data».new.held ≡ «data».old.held }
@@ -96,7 +97,8 @@ pub extern "C" fn bikleinu_render_within(
 ) -> u32
     ensures rendered { Settled
         (IsRendering (bound_of limits.now.levels) (has_limit limits.now.bytes limits.now.turns)
-        (behind template.old.held) (behind «data».old.held) (behind partials.old.held) depth)
+        (shared_content template.old.held) (shared_content «data».old.held)
+            (shared_content partials.old.held) depth)
         result made.new.held }
     ensures template { template.new.held ≡ template.old.held }
     ensures data { «data».new.held ≡ «data».old.held }
@@ -137,7 +139,8 @@ fn rendered(
     allowed: Allowed,
 ) -> Result<Content, Refusal>
     ensures rendered { IsRendering allowed.levels (has_limit allowed.bytes allowed.turns)
-        (behind template.old.held) (behind «data».old.held) (behind partials.old.held)
+        (shared_content template.old.held) (shared_content «data».old.held)
+            (shared_content partials.old.held)
         allowed.depth result }
     ensures template { template.new.held ≡ template.old.held }
     ensures data { «data».new.held ≡ «data».old.held }
@@ -227,7 +230,7 @@ fn whole(
     depth: u32,
     data: &Object,
 ) -> Content
-    ensures { Shows (tree_of template.now) depth
+    ensures { ShowsNodes (tree_of template.now) depth
         (map_held «data».now) (partials_of partials.now) (Ok result) }
 {
     match render_page(alloc, template, partials, depth, data) {

@@ -1,7 +1,7 @@
 //! Handles that share what they hold.
 ghost use Rattle.std.specs.Prelude.{◌≡◌, None, Some};
 ghost use Rattle.std.specs.Arc.{arc_value};
-ghost use Rattle.liquid_c.specs.Shared.{HandsOut, IsSharing, Shares, behind, content_of};
+ghost use Rattle.liquid_c.specs.Shared.{HandsOut, IsSharing, Shares, shared_content, content_of};
 
 use crate::content::Content;
 use crate::handle::Handle;
@@ -17,7 +17,7 @@ use std::sync::Arc;
 /// `Memory`; then `made` holds nothing, and the handle what it held.
 #[unsafe(no_mangle)]
 pub extern "C" fn bikleinu_share(alloc: Global, handle: &mut Handle, made: &mut Handle) -> u32
-    ensures { IsSharing (behind handle.old.held) result handle.new.held made.new.held }
+    ensures { IsSharing (shared_content handle.old.held) result handle.new.held made.new.held }
 {
     made.put(alloc, None);
     let mut held = handle.take(alloc);

@@ -8,7 +8,7 @@ use Rattle.liquid_evaluation.specs.Tree.{Nodes}
 use Rattle.liquid_language.specs.declared.language.Language.{Language}
 use Rattle.liquid_syntax.specs.Parsing.{HasNoTree, IsOfSource, IsOnlyTree}
 use Rattle.liquid_check.specs.Blanks.{blanked}
-use Rattle.liquid_check.specs.Rounds.{Found, IsRound, AreRounds, IsSilent}
+use Rattle.liquid_check.specs.Rounds.{Found, IsRound, AreRounds, IsSilentAboutTemplates}
 use Rattle.liquid_check.specs.Views.{finding_view, findings_view}
 use Rattle.liquid_check.specs.inside.First.{IsFirstTold}
 use Rattle.liquid_check.specs.declared.findings.Finding.{Finding}
@@ -24,7 +24,7 @@ first_on [] f told first = first refl
 first_on (g ∷ fs) f told first = told
 
 -- the source is a template after the last round
-pub silent_at_end : (l : Language) (s last : Text) (fs : List Found) (tree : Nodes) → AreRounds l s fs last → IsFirstTold fs → IsOnlyTree l tree last → IsSilent l s fs
+pub silent_at_end : (l : Language) (s last : Text) (fs : List Found) (tree : Nodes) → AreRounds l s fs last → IsFirstTold fs → IsOnlyTree l tree last → IsSilentAboutTemplates l s fs
 silent_at_end l s last [] tree e told only = (tree, subst (λ t. IsOnlyTree l tree t) e only)
 silent_at_end l s last (f ∷ fs) tree a told only = (a.1.refused, told)
 

@@ -2,7 +2,7 @@
 -- text.
 --     AreRounds l source found last      what is found, and what the source is after the last round
 --     AreFindings l source found tree      the same, with the template that it is then
---     IsSilent l source found      nothing is found exactly where the source is a template
+--     IsSilentAboutTemplates l source found      nothing is found exactly where the source is a template
 use Rattle.std.specs.Prelude.{◌≡◌, ℕ, Bool, false, List, [], ◌∷◌, Option, Some, None, length}
 use Rattle.liquid_model.specs.Texts.{Text}
 use Rattle.liquid_model.specs.declared.error.ErrorKind.{ErrorKind}
@@ -41,6 +41,6 @@ abbrev pub AreFindings : Language → Text → List Found → Option Nodes → T
 AreFindings l source fs tree = (last : Text) × AreRounds l source fs last × Ends l last fs tree
 
 -- nothing is found of a template, and of any other source a fault that follows from no other
-abbrev pub IsSilent : Language → Text → List Found → Type 0
-IsSilent l source [] = (tree : Nodes) × IsOnlyTree l tree source
-IsSilent l source (f ∷ fs) = HasNoTree l source × (f.follows ≡ false)
+abbrev pub IsSilentAboutTemplates : Language → Text → List Found → Type 0
+IsSilentAboutTemplates l source [] = (tree : Nodes) × IsOnlyTree l tree source
+IsSilentAboutTemplates l source (f ∷ fs) = HasNoTree l source × (f.follows ≡ false)

@@ -1,7 +1,7 @@
 //! The faults of a source, one after another.
 ghost use Rattle.std.specs.Prelude.{◌≡◌, [], ◌++◌, false, IfErr, IfOk};
 ghost use Rattle.liquid_model.specs.ErrorKinds.{is_memory};
-ghost use Rattle.liquid_check.specs.Rounds.{AreFindings, IsSilent};
+ghost use Rattle.liquid_check.specs.Rounds.{AreFindings, IsSilentAboutTemplates};
 ghost use Rattle.liquid_check.specs.Views.{findings_view, template_view};
 
 use crate::left_over::{LeftOver, Wrong};
@@ -50,7 +50,7 @@ pub struct Findings {
 pub fn findings_of(alloc: Global, source: &str, language: &Language) -> Result<Findings>
     ensures rounds { IfOk result (λ r. AreFindings language.now source.now
         (findings_view r.findings.items) (template_view r.template)) }
-    ensures silent { IfOk result (λ r. IsSilent language.now source.now
+    ensures silent { IfOk result (λ r. IsSilentAboutTemplates language.now source.now
         (findings_view r.findings.items)) }
     ensures memory { IfErr result (λ e. e.kind ≡ ErrorKind.Memory) }
 {

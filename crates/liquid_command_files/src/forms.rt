@@ -4,7 +4,7 @@ ghost use Rattle.liquid_model.specs.Answer.{Answers, IsValueOrMemory};
 ghost use Rattle.liquid_model.specs.View.{pairs_view};
 ghost use Rattle.liquid_toml.specs.TomlData.{data_of};
 ghost use Rattle.liquid_data_forms.specs.Forms.{formed};
-ghost use Rattle.liquid_command_files.specs.Inputs.{added, data_of_file, timed};
+ghost use Rattle.liquid_command_files.specs.Inputs.{with_input, data_of_file, timed};
 
 use crate::stop::Stop;
 use liquid_commands::{Forms, is_toml};
@@ -51,7 +51,7 @@ fn toml_in_form(alloc: Global, text: &str, form: DataForm) -> Result<Object>
 /// stands there. The answer is `Memory` where a growth was refused, and no other kind.
 pub fn added(alloc: Global, data: Object, name: Option<&str>, more: Object) -> Result<Object>
     ensures { IsValueOrMemory (λ m. pairs_view m.entries) result
-        (added (option_map (λ n. n.now) name.entry) (pairs_view more.entries)
+        (with_input (option_map (λ n. n.now) name.entry) (pairs_view more.entries)
         (pairs_view «data».entries)) }
 {
     match name {

@@ -1,7 +1,7 @@
 //! The texts of a template and its partials, and what is printed of a fault in one of them.
 ghost use Rattle.std.specs.Prelude.{◌≡◌, option_map, slice_get, string_bytes};
 ghost use Rattle.liquid_partial_names.specs.Names.{file_places, names_of};
-ghost use Rattle.liquid_command_files.specs.Sources.{place_of, text_at, text_of};
+ghost use Rattle.liquid_command_files.specs.Sources.{partial_place, source_text_at, text_of_origin};
 
 use crate::faults::print_excerpt;
 use crate::folder::files_below;
@@ -113,7 +113,7 @@ impl Sources {
     /// The text that a location is in, where there is one. A partial that is rendered may be found
     /// by its name with `.liquid`. It takes no memory.
     pub fn text_of(&self, location: &Location) -> Option<&str>
-        ensures { option_map (λ t. t.now) result ≡ text_of self.now location.now.origin }
+        ensures { option_map (λ t. t.now) result ≡ text_of_origin self.now location.now.origin }
     {
         match &location.origin {
             Origin::Template => Some(self.template.text.as_str()),
@@ -124,7 +124,7 @@ impl Sources {
 
     /// The place of a partial, or else of the one whose name has `.liquid` after this.
     fn place_of(&self, name: &str) -> Option<usize>
-        ensures { result ≡ place_of name.now (names_of self.now.names) }
+        ensures { result ≡ partial_place name.now (names_of self.now.names) }
     {
         match self.names.place(name) {
             Some(place) => Some(place),
@@ -133,7 +133,7 @@ impl Sources {
     }
 
     fn text_at(&self, place: Option<usize>) -> Option<&str>
-        ensures { option_map (λ t. t.now) result ≡ text_at place self.now.partials.items }
+        ensures { option_map (λ t. t.now) result ≡ source_text_at place self.now.partials.items }
     {
         match self.partials.get(place?) {
             Some(source) => Some(source.text.as_str()),

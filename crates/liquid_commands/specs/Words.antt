@@ -15,61 +15,62 @@ use Rattle.liquid_commands.specs.declared.words.FilterSet.TheVariants.{Jekyll, S
 use Rattle.liquid_commands.specs.declared.words.Missing.{Missing}
 use Rattle.liquid_commands.specs.declared.words.Missing.TheVariants.{Fault, Nil}
 
-abbrev pub Word : Type 0
-Word = List ℕ
+abbrev pub CommandWord : Type 0
+CommandWord = List ℕ
 
 -- a file, and the name that it is given in a template
 pub record Named : Type 0 where
-  pub name : Option Word
-  pub path : Word
+  pub name : Option CommandWord
+  pub path : CommandWord
 
 abbrev pub file_view : DataFile → Named
 file_view f = record { name = option_map (λ n. n.now) f.name; path = f.path.now }
 
-abbrev pub parts_view : Option (Bor Word × Bor Word) → Option (Word × Word)
-parts_view parts = option_map (λ p. (p.0.now, p.1.now)) parts
+abbrev pub split_view : Option (Bor CommandWord × Bor CommandWord) →
+    Option (CommandWord × CommandWord)
+split_view parts = option_map (λ p. (p.0.now, p.1.now)) parts
 
 -- the texts before and after the first `=`
-abbrev pub named_file : Word → Option (Word × Word)
-named_file word = cond (nat_lt (position_or_len (λ b. b == 61) word) (length word))
+abbrev pub split_at_equals : CommandWord → Option (CommandWord × CommandWord)
+split_at_equals word = cond (nat_lt (position_or_len (λ b. b == 61) word) (length word))
     (Some (before_first (λ b. b == 61) word, after_first (λ b. b == 61) word)) None
 
-abbrev pub file_of : Word → Option (Word × Word) → Named
+abbrev pub file_of : CommandWord → Option (CommandWord × CommandWord) → Named
 file_of word None = record { name = None; path = word }
 file_of word (Some p) = record { name = Some p.0; path = p.1 }
 
-abbrev pub data_file : Word → Named
-data_file word = file_of word (named_file word)
+abbrev pub data_file : CommandWord → Named
+data_file word = file_of word (split_at_equals word)
 
-abbrev pub set_named : Word → Option FilterSet
+abbrev pub set_named : CommandWord → Option FilterSet
 set_named name = cond (bytes_eq name (codes "jekyll")) (Some Jekyll)
     (cond (bytes_eq name (codes "shopify")) (Some Shopify) None)
 
 -- the set of a name, where one is given
-abbrev pub filter_set : Option Word → Option FilterSet
+abbrev pub filter_set : Option CommandWord → Option FilterSet
 filter_set None = None
 filter_set (Some name) = set_named name
 
-abbrev pub missing_of : Option Word → Missing
+abbrev pub missing_of : Option CommandWord → Missing
 missing_of None = Fault
 missing_of (Some word) = cond (bytes_eq word (codes "nil")) Nil Fault
 
-abbrev pub format_named : Word → DiagnosticFormat
+abbrev pub format_named : CommandWord → DiagnosticFormat
 format_named name = cond (bytes_eq name (codes "json")) Json
     (cond (bytes_eq name (codes "github")) Github Text)
 
 -- the format of a name, and without one that for people
-abbrev pub format_of : Option Word → DiagnosticFormat
+abbrev pub format_of : Option CommandWord → DiagnosticFormat
 format_of None = Text
 format_of (Some name) = format_named name
 
-abbrev pub ends_in : Word → Word → Bool
-ends_in ending path = cond (nat_le (length ending) (length path))
+abbrev pub has_ending : CommandWord → CommandWord → Bool
+has_ending ending path = cond (nat_le (length ending) (length path))
     (bytes_eq (drop (length path - length ending) path) ending) false
 
 -- as the format says, and where none is given, by the end of the path
-abbrev pub are_in_csv : Option Word → Word → Bool
-are_in_csv None path = ends_in (codes ".csv") path
+abbrev pub are_in_csv : Option CommandWord → CommandWord → Bool
+are_in_csv None path = has_ending (codes ".csv") path
 are_in_csv (Some format) path = bytes_eq format (codes "csv")
 
 -- so many at most, from this number on

@@ -1,8 +1,8 @@
 //! What single words mean.
 ghost use Rattle.std.specs.Prelude.{◌≡◌, codes, option_map};
 ghost use Rattle.liquid_commands.specs.Words.{are_in_csv, data_file, file_view, filter_set};
-ghost use Rattle.liquid_commands.specs.Words.{ends_in, is_selected, missing_of, parts_view};
-ghost use Rattle.liquid_commands.specs.Words.{named_file, set_named};
+ghost use Rattle.liquid_commands.specs.Words.{has_ending, is_selected, missing_of, split_view};
+ghost use Rattle.liquid_commands.specs.Words.{split_at_equals, set_named};
 
 /// A file of data, with the name that it is given in a template, where it has one.
 #[derive(Clone, Copy, Drop)]
@@ -45,7 +45,7 @@ pub fn data_file(word: &str) -> DataFile<'_>
 
 /// The texts before and after the first `=`.
 fn named_file(word: &str) -> Option<(&str, &str)>
-    ensures { parts_view result ≡ named_file word.now }
+    ensures { split_view result ≡ split_at_equals word.now }
 {
     word.split_once('=')
 }
@@ -93,13 +93,13 @@ pub fn are_in_csv(format: Option<&str>, path: &str) -> bool
 
 /// Whether a file of data is read as TOML, by the end of its path. It takes no memory.
 pub fn is_toml(path: &str) -> bool
-    ensures { result ≡ ends_in (codes ".toml") path.now }
+    ensures { result ≡ has_ending (codes ".toml") path.now }
 {
     ends_in(path, ".toml")
 }
 
 fn ends_in(path: &str, ending: &str) -> bool
-    ensures { result ≡ ends_in ending.now path.now }
+    ensures { result ≡ has_ending ending.now path.now }
 {
     let bytes = path.as_bytes();
     match bytes.len().checked_sub(ending.len()) {

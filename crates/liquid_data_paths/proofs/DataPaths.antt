@@ -4,26 +4,26 @@ use Rattle.std.specs.Prelude.{bytes_eq, is_some}
 use mathlib.Core.Path.{subst}
 use Rattle.liquid_model.specs.Data.{Datum, nil, truth, number, text, object, array, Items, no_items, item, Pairs}
 use Rattle.liquid_model.specs.Find.{value_at}
-use Rattle.liquid_data_paths.specs.DataPaths.{Lacking, first_lack, in_items, in_member, lack_at, of_each, of_found, or_later, values_along}
-use Rattle.liquid_data_paths.specs.Laws.{IsAmong, IsLack, LackingIsTold, NothingElseLacks}
+use Rattle.liquid_data_paths.specs.DataPaths.{Lacking, first_lack, in_items, in_member, lack_at, of_each_item, of_found, or_later, values_along}
+use Rattle.liquid_data_paths.specs.Laws.{IsElementOf, IsLack, LackingIsTold, NothingElseLacks}
 use Rattle.liquid_data_paths.specs.declared.data_path.Step.{Step}
 use Rattle.liquid_data_paths.specs.declared.data_path.Step.TheVariants.{Key, Each}
 
-among_front : (d : Datum) (xs ys : List Datum) → IsAmong d xs → IsAmong d (xs ++ ys)
+among_front : (d : Datum) (xs ys : List Datum) → IsElementOf d xs → IsElementOf d (xs ++ ys)
 among_front d [] ys a = absurd a
 among_front d (x ∷ xs) ys (inl e) = inl e
 among_front d (x ∷ xs) ys (inr a) = inr (among_front d xs ys a)
 
-among_back : (d : Datum) (xs ys : List Datum) → IsAmong d ys → IsAmong d (xs ++ ys)
+among_back : (d : Datum) (xs ys : List Datum) → IsElementOf d ys → IsElementOf d (xs ++ ys)
 among_back d [] ys a = a
 among_back d (x ∷ xs) ys a = inr (among_back d xs ys a)
 
-among_either : (d : Datum) (xs ys : List Datum) → IsAmong d (xs ++ ys) → IsAmong d xs ⊎ IsAmong d ys
+among_either : (d : Datum) (xs ys : List Datum) → IsElementOf d (xs ++ ys) → IsElementOf d xs ⊎ IsElementOf d ys
 among_either d [] ys a = inr a
 among_either d (x ∷ xs) ys (inl e) = inl (inl e)
 among_either d (x ∷ xs) ys (inr a) = later (among_either d xs ys a)
   where
-    later : IsAmong d xs ⊎ IsAmong d ys → ((d ≡ x) ⊎ IsAmong d xs) ⊎ IsAmong d ys
+    later : IsElementOf d xs ⊎ IsElementOf d ys → ((d ≡ x) ⊎ IsElementOf d xs) ⊎ IsElementOf d ys
     later (inl b) = inl (inr b)
     later (inr b) = inr b
 
@@ -65,20 +65,20 @@ told_member k p ps l (Some v) below found e =
       after = r.after;
       path_is = ap (λ q. Key k ∷ q) r.path_is;
       left_is = r.left_is;
-      on_the_way = subst (λ o. IsAmong (object l.among) (of_found (values_along r.before) o)) (sym found) r.on_the_way;
+      on_the_way = subst (λ o. IsElementOf (object l.among) (of_found (values_along r.before) o)) (sym found) r.on_the_way;
       none_there = r.none_there;
     }
 
 abbrev InItems : List Step → Items → Lacking → Type 0
-InItems p ds l = (v : Datum) × IsLack p v l × ((f : Datum → List Datum) (x : Datum) → IsAmong x (f v) → IsAmong x (of_each f ds))
+InItems p ds l = (v : Datum) × IsLack p v l × ((f : Datum → List Datum) (x : Datum) → IsElementOf x (f v) → IsElementOf x (of_each_item f ds))
 
 told_first : (p : List Step) (d : Datum) (ds : Items) (l : Lacking) (o : Option Lacking) → Told p
     → (in_items (first_lack p) ds ≡ Some l → InItems p ds l) → first_lack p d ≡ o
     → or_later o (in_items (first_lack p) ds) ≡ Some l → InItems p (item d ds) l
-told_first p d ds l (Some x) below later is e = (d, below d l (is ∙ e), (λ f y a. among_front y (f d) (of_each f ds) a))
+told_first p d ds l (Some x) below later is e = (d, below d l (is ∙ e), (λ f y a. among_front y (f d) (of_each_item f ds) a))
 told_first p d ds l None below later is e =
     let r = later e in
-    (r.0, r.1, (λ f y a. among_back y (f d) (of_each f ds) (r.2 f y a)))
+    (r.0, r.1, (λ f y a. among_back y (f d) (of_each_item f ds) (r.2 f y a)))
 
 told_items : (p : List Step) (ds : Items) (l : Lacking) → Told p → in_items (first_lack p) ds ≡ Some l → InItems p ds l
 told_items p no_items l below e = absurd cc
@@ -129,7 +129,7 @@ object_same ps qs e = ap get e
 
 abbrev Complete : List Step → List Step → String Global → Type 0
 Complete before after key =
-    (d : Datum) (ps : Pairs) → first_lack (before ++ Key key ∷ after) d ≡ None → IsAmong (object ps) (values_along before d)
+    (d : Datum) (ps : Pairs) → first_lack (before ++ Key key ∷ after) d ≡ None → IsElementOf (object ps) (values_along before d)
     → bytes_eq (string_bytes key) (codes "size") ≡ false → is_some (value_at (string_bytes key) ps) ≡ true
 
 here : (after : List Step) (key : String Global) → Complete [] after key
@@ -149,7 +149,7 @@ here after key (array ds) ps none (inl e) small = absurd cc
 here after key (array ds) ps none (inr a) small = absurd a
 
 in_found : (before after : List Step) (key k : String Global) (lack : Option Lacking) (o : Option Datum) (ps : Pairs) → Complete before after key
-    → in_member (first_lack (before ++ Key key ∷ after)) lack o ≡ None → IsAmong (object ps) (of_found (values_along before) o)
+    → in_member (first_lack (before ++ Key key ∷ after)) lack o ≡ None → IsElementOf (object ps) (of_found (values_along before) o)
     → bytes_eq (string_bytes key) (codes "size") ≡ false → is_some (value_at (string_bytes key) ps) ≡ true
 in_found before after key k lack None ps below none a small = absurd a
 in_found before after key k lack (Some v) ps below none a small = below v ps none a small
@@ -163,13 +163,13 @@ by_either (inl x) f g = f x
 by_either (inr y) f g = g y
 
 in_each : (before after : List Step) (key : String Global) (ds : Items) (ps : Pairs) → Complete before after key
-    → in_items (first_lack (before ++ Key key ∷ after)) ds ≡ None → IsAmong (object ps) (of_each (values_along before) ds)
+    → in_items (first_lack (before ++ Key key ∷ after)) ds ≡ None → IsElementOf (object ps) (of_each_item (values_along before) ds)
     → bytes_eq (string_bytes key) (codes "size") ≡ false → is_some (value_at (string_bytes key) ps) ≡ true
 in_each before after key no_items ps below none a small = absurd a
 in_each before after key (item d ds) ps below none a small =
     let p = before ++ Key key ∷ after in
     let both = later_none (first_lack p d) (in_items (first_lack p) ds) none in
-    by_either (among_either (object ps) (values_along before d) (of_each (values_along before) ds) a)
+    by_either (among_either (object ps) (values_along before d) (of_each_item (values_along before) ds) a)
     (λ b. below d ps both.0 b small) (λ b. in_each before after key ds ps below both.1 b small)
 
 pub nothing_else_lacks : NothingElseLacks

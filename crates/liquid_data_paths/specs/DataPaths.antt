@@ -1,6 +1,6 @@
 -- Paths in data. A path begins with a name; then a key leads from a map to what it has there, and
 -- `each` from a list to each of its items.
---     values_of path ps      the values that the path leads to in data of these pairs, in order
+--     values_at_path path ps      the values that the path leads to in data of these pairs, in order
 --     lack_of path ps      where the way first comes to a map without the key of its next step
 use Rattle.std.specs.Prelude.{ℕ, cond, codes, bytes_eq, string_bytes}
 use Rattle.std.specs.Prelude.{List, [], ◌∷◌, ◌++◌, length, Option, Some, None}
@@ -14,9 +14,9 @@ use Rattle.liquid_data_paths.specs.declared.data_path.Step.TheVariants.{Key, Eac
 -- ---- what a path leads to
 
 -- what is found of each item, one after another
-abbrev pub of_each : (Datum → List Datum) → Items → List Datum
-of_each f no_items = []
-of_each f (item d ds) = f d ++ of_each f ds
+abbrev pub of_each_item : (Datum → List Datum) → Items → List Datum
+of_each_item f no_items = []
+of_each_item f (item d ds) = f d ++ of_each_item f ds
 
 abbrev pub of_found : (Datum → List Datum) → Option Datum → List Datum
 of_found f (Some d) = f d
@@ -26,11 +26,12 @@ abbrev pub values_along : List Step → Datum → List Datum
 values_along [] d = d ∷ []
 values_along (Key k ∷ p) (object ps) = of_found (values_along p) (value_at (string_bytes k) ps)
 values_along (Key k ∷ p) d = []
-values_along (Each ∷ p) (array ds) = of_each (values_along p) ds
+values_along (Each ∷ p) (array ds) = of_each_item (values_along p) ds
 values_along (Each ∷ p) d = []
 
-abbrev pub values_of : DataPath → Pairs → List Datum
-values_of path ps = of_found (values_along path.steps.items) (value_at (string_bytes path.name) ps)
+abbrev pub values_at_path : DataPath → Pairs → List Datum
+values_at_path path ps = of_found (values_along path.steps.items)
+    (value_at (string_bytes path.name) ps)
 
 -- ---- where it comes to a map without the key
 

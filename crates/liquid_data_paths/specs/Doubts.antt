@@ -7,7 +7,7 @@ use Rattle.liquid_model.specs.Data.{Datum, nil, text, array, object, Pairs}
 use Rattle.liquid_model.specs.Digest.{items_len, pairs_len}
 use Rattle.liquid_model.specs.Texts.{Text}
 use Rattle.liquid_date_filters.specs.Spelling.{read}
-use Rattle.liquid_data_paths.specs.DataPaths.{Lacking, lack_of, values_of}
+use Rattle.liquid_data_paths.specs.DataPaths.{Lacking, lack_of, values_at_path}
 use Rattle.liquid_data_paths.specs.declared.data_path.DataPath.{DataPath}
 use Rattle.liquid_data_paths.specs.declared.doubt.Span.{Span}
 use Rattle.liquid_data_paths.specs.declared.doubt.Want.{Want}
@@ -22,13 +22,13 @@ pub data Doubt : Type 0 where
   no_date : Text → Doubt
 
 -- an amount that is asked for of n items: at most all; a negative one is huge
-abbrev pub at_most : ℤ → ℕ → ℕ
-at_most (pos m) n = min m n
-at_most (negsuc m) n = n
+abbrev pub amount_within : ℤ → ℕ → ℕ
+amount_within (pos m) n = min m n
+amount_within (negsuc m) n = n
 
 -- after the items that are left out more are asked for than there are
 abbrev pub passes_end : Option ℤ → Option ℤ → ℕ → Bool
-passes_end (Some offset) (Some limit) n = nat_lt n (at_most offset n + at_most limit n)
+passes_end (Some offset) (Some limit) n = nat_lt n (amount_within offset n + amount_within limit n)
 passes_end _ _ n = false
 
 abbrev pub span_doubt : Span → ℕ → Option Doubt
@@ -89,4 +89,4 @@ asks_values (Items s) = true
 
 abbrev pub doubt_of : Want → DataPath → Pairs → Option Doubt
 doubt_of w p ps =
-    lack_or (lack_of p ps) (cond (asks_values w) (first_doubt w (values_of p ps)) None)
+    lack_or (lack_of p ps) (cond (asks_values w) (first_doubt w (values_at_path p ps)) None)

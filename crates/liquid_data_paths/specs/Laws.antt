@@ -10,9 +10,9 @@ use Rattle.liquid_data_paths.specs.DataPaths.{Lacking, first_lack, values_along}
 use Rattle.liquid_data_paths.specs.declared.data_path.Step.{Step}
 use Rattle.liquid_data_paths.specs.declared.data_path.Step.TheVariants.{Key}
 
-abbrev pub IsAmong : Datum → List Datum → Type 0
-IsAmong d [] = ⊥
-IsAmong d (x ∷ xs) = (d ≡ x) ⊎ IsAmong d xs
+abbrev pub IsElementOf : Datum → List Datum → Type 0
+IsElementOf d [] = ⊥
+IsElementOf d (x ∷ xs) = (d ≡ x) ⊎ IsElementOf d xs
 
 -- the steps before a key lead to the map, which hasn't it
 pub record IsLack (p : List Step) (d : Datum) (l : Lacking) : Type 0 where
@@ -21,7 +21,7 @@ pub record IsLack (p : List Step) (d : Datum) (l : Lacking) : Type 0 where
   pub after : List Step
   pub path_is : p ≡ before ++ Key key ∷ after
   pub left_is : length after ≡ l.left
-  pub on_the_way : IsAmong (object l.among) (values_along before d)
+  pub on_the_way : IsElementOf (object l.among) (values_along before d)
   pub none_there : value_at (string_bytes key) l.among ≡ None
 
 abbrev pub LackingIsTold : Type 0
@@ -31,6 +31,6 @@ abbrev pub NothingElseLacks : Type 0
 NothingElseLacks =
     (before after : List Step) (key : String Global) (d : Datum) (ps : Pairs)
     → first_lack (before ++ Key key ∷ after) d ≡ None
-    → IsAmong (object ps) (values_along before d)
+    → IsElementOf (object ps) (values_along before d)
     → bytes_eq (string_bytes key) (codes "size") ≡ false
     → is_some (value_at (string_bytes key) ps) ≡ true

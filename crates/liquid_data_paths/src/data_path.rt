@@ -5,7 +5,8 @@ ghost use Rattle.liquid_model.specs.Find.{value_at};
 ghost use Rattle.liquid_model.specs.View.{view, items_view, pairs_view};
 ghost use Rattle.liquid_data_paths.specs.DataPaths.{first_lack, in_items, in_member, lack_at};
 ghost use Rattle.liquid_data_paths.specs.DataPaths.{lack_of};
-ghost use Rattle.liquid_data_paths.specs.DataPaths.{of_each, of_found, values_along, values_of};
+ghost use Rattle.liquid_data_paths.specs.DataPaths.{of_each_item, of_found, values_along};
+ghost use Rattle.liquid_data_paths.specs.DataPaths.{values_at_path};
 ghost use Rattle.liquid_data_paths.specs.Views.{lack_view, values_view};
 
 use liquid_core::{Object, Result, Value, look_up};
@@ -120,7 +121,7 @@ fn lack_at<'d>(pairs: &'d Object, key: &str, left: usize) -> Option<Lack<'d>>
 /// The answer is `Memory` where a growth was refused, and no other kind.
 pub fn values_at<'d>(alloc: Global, data: &'d Object, path: &DataPath) -> Result<Vec<&'d Value>>
     ensures { IsValueOrMemory values_view result
-        (values_of path.now (pairs_view «data».now.entries)) }
+        (values_at_path path.now (pairs_view «data».now.entries)) }
 {
     let mut found = Vec::new(alloc);
     add_member(data, path.name.as_str(), &path.steps, &mut found)?;
@@ -174,7 +175,7 @@ fn add_items<'d>(
     found: &mut Vec<&'d Value>,
 ) -> std::result::Result<(), AllocError>
     ensures { OnOk result (values_view found.new ≡ values_view found.old
-        ++ of_each (values_along rest.now) (items_view items.now)) }
+        ++ of_each_item (values_along rest.now) (items_view items.now)) }
 {
     for item in items {
         add_values(item, rest, found)?;

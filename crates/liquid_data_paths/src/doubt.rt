@@ -4,7 +4,7 @@ ghost use Rattle.liquid_model.specs.Answer.{IsValueOrMemory};
 ghost use Rattle.liquid_model.specs.View.{view, pairs_view};
 ghost use Rattle.liquid_date_filters.specs.Spelling.{read};
 ghost use Rattle.liquid_data_paths.specs.DoubtViews.{doubt_view};
-ghost use Rattle.liquid_data_paths.specs.Doubts.{asks_values, at_most, count_of, date_doubt};
+ghost use Rattle.liquid_data_paths.specs.Doubts.{asks_values, amount_within, count_of, date_doubt};
 ghost use Rattle.liquid_data_paths.specs.Doubts.{doubt_of, first_doubt, is_empty_or_date};
 ghost use Rattle.liquid_data_paths.specs.Doubts.{items_doubt, passes_end, span_doubt};
 ghost use Rattle.liquid_data_paths.specs.Doubts.{unlisted_doubt, value_doubt};
@@ -151,7 +151,7 @@ fn passes_end(span: Span, count: usize) -> bool
 
 /// So much of a count, at most all; a negative number is huge.
 fn at_most(number: i64, count: usize) -> usize
-    ensures { result ≡ at_most number count }
+    ensures { result ≡ amount_within number count }
 {
     match usize::try_from(number) {
         Ok(number) => number.min(count),

@@ -1,9 +1,9 @@
 -- Texts after one another.
 use Rattle.std.proofs.Common.{◌≡◌, ◌++◌, ap, ◌∙◌, append_assoc}
-use Rattle.liquid_diagnostics.specs.Escapes.{Text}
+use Rattle.liquid_diagnostics.specs.Escapes.{DiagnosticText}
 
 -- three texts, of which the last is told otherwise
-pub three : (a b c d x y z w : Text) → b ≡ a ++ x → c ≡ b ++ y → d ≡ c ++ z → z ≡ w → d ≡ a ++ (x ++ (y ++ w))
+pub three : (a b c d x y z w : DiagnosticText) → b ≡ a ++ x → c ≡ b ++ y → d ≡ c ++ z → z ≡ w → d ≡ a ++ (x ++ (y ++ w))
 three a b c d x y z w p q u e =
     u ∙ ap (λ t. t ++ z) (q ∙ ap (λ t. t ++ y) p)
     ∙ append_assoc (a ++ x) y z

@@ -1,6 +1,6 @@
 //! A stranger's text, as a format can hold it.
 ghost use Rattle.std.specs.Prelude.{◌≡◌, ◌++◌, ◌<◌, OnOk, option_map, string_bytes};
-ghost use Rattle.liquid_diagnostics.specs.Escapes.{control_escape, escaped, hex_digit};
+ghost use Rattle.liquid_diagnostics.specs.Escapes.{control_escape, escaped_for, hex_digit};
 ghost use Rattle.liquid_diagnostics.specs.Escapes.{line_escape, message_escape, property_escape};
 ghost use Rattle.liquid_diagnostics.specs.Escapes.{shown_in, shown_in_json, shown_or};
 
@@ -21,7 +21,8 @@ pub(crate) enum Place {
 
 /// Appends a text as it is written in this place.
 pub(crate) fn push_escaped(out: &mut String, text: &str, place: Place) -> Result<(), AllocError>
-    ensures { OnOk result (string_bytes out.new ≡ string_bytes out.old ++ escaped place text.now) }
+    ensures { OnOk result (string_bytes out.new ≡ string_bytes out.old
+        ++ escaped_for place text.now) }
 {
     let mut rest = text.chars();
     while let Some(letter) = rest.next() {

@@ -11,8 +11,8 @@ use Rattle.liquid_model.specs.Quotes.{quotation}
 abbrev pub prints : ℕ → Bool
 prints b = is_in_range 0x20 0x7E b
 
-abbrev pub is_plain : Text → Bool
-is_plain text = list_all prints text
+abbrev pub is_printable : Text → Bool
+is_printable text = list_all prints text
 
 abbrev pub shown_path : Text → Text
-shown_path path = cond (is_plain path) path (quotation path)
+shown_path path = cond (is_printable path) path (quotation path)

@@ -1,7 +1,7 @@
 //! The path of a file as a message shows it.
 ghost use Rattle.std.specs.Prelude.{◌≡◌, Some};
 ghost use Rattle.std.specs.List.{list_all};
-ghost use Rattle.liquid_excerpts.specs.Paths.{is_plain, prints, shown_path};
+ghost use Rattle.liquid_excerpts.specs.Paths.{is_printable, prints, shown_path};
 
 use liquid_core::Quoted;
 use std::fmt;
@@ -29,7 +29,7 @@ impl fmt::Display for ShownPath<'_> {
 
 /// Whether a text is of ASCII, and each of its characters prints.
 fn is_plain(text: &str) -> bool
-    ensures { result ≡ is_plain text.now }
+    ensures { result ≡ is_printable text.now }
 {
     all_print(text.as_bytes())
 }

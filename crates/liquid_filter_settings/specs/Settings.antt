@@ -6,17 +6,17 @@ use Rattle.liquid_model.specs.Data.{Datum, text, array, object, Items, no_items,
 use Rattle.liquid_model.specs.Find.{value_at}
 use Rattle.liquid_model.specs.Texts.{Text}
 
-abbrev pub own_text : Datum → Option Text
-own_text (text s) = Some s
-own_text _ = None
+abbrev pub setting_text : Datum → Option Text
+setting_text (text s) = Some s
+setting_text _ = None
 
 -- of what is found at a key
-abbrev pub text_found : Option Datum → Option Text
-text_found None = None
-text_found (Some d) = own_text d
+abbrev pub found_setting_text : Option Datum → Option Text
+found_setting_text None = None
+found_setting_text (Some d) = setting_text d
 
 abbrev pub text_in : Text → Datum → Option Text
-text_in name (object ps) = text_found (value_at name ps)
+text_in name (object ps) = found_setting_text (value_at name ps)
 text_in name _ = None
 
 abbrev pub text_in_found : Text → Option Datum → Option Text
@@ -43,7 +43,7 @@ with_text (Some s) found = s ∷ found
 
 abbrev pub texts_of : Items → List Text
 texts_of no_items = []
-texts_of (item d ds) = with_text (own_text d) (texts_of ds)
+texts_of (item d ds) = with_text (setting_text d) (texts_of ds)
 
 abbrev pub texts_in : Datum → List Text
 texts_in (array ds) = texts_of ds

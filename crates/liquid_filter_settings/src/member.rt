@@ -2,8 +2,8 @@
 ghost use Rattle.std.specs.Prelude.{◌≡◌, option_map};
 ghost use Rattle.liquid_model.specs.Find.{value_at};
 ghost use Rattle.liquid_model.specs.View.{pairs_view, view};
-ghost use Rattle.liquid_filter_settings.specs.Settings.{member_text, or_empty, own_text};
-ghost use Rattle.liquid_filter_settings.specs.Settings.{text_found, text_in};
+ghost use Rattle.liquid_filter_settings.specs.Settings.{member_text, or_empty, setting_text};
+ghost use Rattle.liquid_filter_settings.specs.Settings.{found_setting_text, text_in};
 
 use liquid_core::{Object, Value, look_up};
 
@@ -30,7 +30,7 @@ fn text_in<'d>(value: &'d Value, name: &str) -> Option<&'d str>
 
 fn text_at<'d>(members: &'d Object, name: &str) -> Option<&'d str>
     ensures { option_map (λ t. t.now) result
-        ≡ text_found (value_at name.now (pairs_view members.now.entries)) }
+        ≡ found_setting_text (value_at name.now (pairs_view members.now.entries)) }
 {
     match look_up(members, name) {
         Some(value) => own_text(value),
@@ -40,7 +40,7 @@ fn text_at<'d>(members: &'d Object, name: &str) -> Option<&'d str>
 
 /// The text that a value is, where it is one.
 pub(crate) fn own_text(value: &Value) -> Option<&str>
-    ensures { option_map (λ t. t.now) result ≡ own_text (view value.now) }
+    ensures { option_map (λ t. t.now) result ≡ setting_text (view value.now) }
 {
     match value {
         Value::Text(text) => Some(text.as_str()),

@@ -3,7 +3,7 @@ ghost use Rattle.std.specs.Prelude.{◌≡◌, ◌++◌, [], IfErr, IfOk, OnOk, 
 ghost use Rattle.liquid_model.specs.Answer.{IsValueOrMemory};
 ghost use Rattle.liquid_model.specs.View.{items_view, pairs_view, view};
 ghost use Rattle.liquid_filter_settings.specs.Settings.{member_or_empty, tags_in, texts_in};
-ghost use Rattle.liquid_filter_settings.specs.Settings.{own_text, texts_of, with_text};
+ghost use Rattle.liquid_filter_settings.specs.Settings.{setting_text, texts_of, with_text};
 ghost use Rattle.liquid_filter_settings.specs.Views.{texts_view};
 
 use crate::member::{member_text, or_empty, own_text};
@@ -83,7 +83,7 @@ fn add_text(
     texts: &mut Vec<String>,
 ) -> std::result::Result<(), AllocError>
     ensures { OnOk result (texts_view texts.new
-        ≡ texts_view texts.old ++ with_text (own_text (view value.now)) []) }
+        ≡ texts_view texts.old ++ with_text (setting_text (view value.now)) []) }
 {
     if let Some(text) = own_text(value) {
         texts.push(String::from_str(alloc, text)?)?;

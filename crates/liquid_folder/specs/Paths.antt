@@ -1,7 +1,7 @@
 -- Paths of a site's files, and the names that the program leaves out.
 --     steps path      the root, where the path begins with one, and the names between its slashes
 --     IsFileIn folder path name      the path leads to the file of this name right in the folder
---     is_left_out name      a file that a system or an editor keeps for itself
+--     is_skipped_file name      a file that a system or an editor keeps for itself
 use Rattle.std.specs.Prelude.{◌≡◌, ◌==◌, ◌-◌, Bool, ◌||◌, ◌&&◌, List, [], ◌∷◌, ◌++◌, length}
 use Rattle.std.specs.Prelude.{slice_index, cond, nat_lt, bytes_eq}
 use Rattle.std.specs.Path.{path_components, cur_dir, dot}
@@ -21,6 +21,6 @@ abbrev pub IsFileIn : Text → Text → Text → Type 0
 IsFileIn folder path name = steps path ≡ steps folder ++ name ∷ []
 
 -- a name that begins with a `.` or ends in `~`
-abbrev pub is_left_out : Text → Bool
-is_left_out name = nat_lt 0 (length name)
+abbrev pub is_skipped_file : Text → Bool
+is_skipped_file name = nat_lt 0 (length name)
     && (slice_index name 0 == dot || slice_index name (length name - 1) == 126)

@@ -4,10 +4,10 @@ use Rattle.liquid_folder.specs.declared.stop.FolderStop.{FolderStop}
 use Rattle.liquid_folder.specs.declared.stop.FolderStop.TheVariants.{Usage, Missing, Unread, Inside}
 use Rattle.liquid_folder.specs.declared.stop.FolderStop.TheVariants.{Fault, Streams}
 
-abbrev pub status_of : FolderStop → ℕ
-status_of Usage = 2
-status_of (Missing path) = 1
-status_of (Unread path reason) = 1
-status_of (Inside path) = 1
-status_of (Fault e) = 1
-status_of (Streams e) = 1
+abbrev pub folder_stop_status : FolderStop → ℕ
+folder_stop_status Usage = 2
+folder_stop_status (Missing path) = 1
+folder_stop_status (Unread path reason) = 1
+folder_stop_status (Inside path) = 1
+folder_stop_status (Fault e) = 1
+folder_stop_status (Streams e) = 1

@@ -9,12 +9,12 @@ pub record NamedFolders : Type 0 where
   pub «data» : Text
   pub out : Text
 
-abbrev pub call_view : FolderCall → NamedFolders
-call_view c = record { folder = c.folder.now; «data» = c.«data».now; out = c.out.now }
+abbrev pub folder_call_view : FolderCall → NamedFolders
+folder_call_view c = record { folder = c.folder.now; «data» = c.«data».now; out = c.out.now }
 
 -- FOLDER DATA OUT, none of which is empty
-abbrev pub call_of : List Text → Option NamedFolders
-call_of (folder ∷ «data» ∷ out ∷ []) =
+abbrev pub folder_call : List Text → Option NamedFolders
+folder_call (folder ∷ «data» ∷ out ∷ []) =
     cond (length folder == 0 || (length «data» == 0 || length out == 0)) None
     (Some (record { folder = folder; «data» = «data»; out = out }))
-call_of _ = None
+folder_call _ = None

@@ -1,7 +1,7 @@
 //! Paths of a site's files.
 ghost use Rattle.std.specs.Prelude.{◌≡◌, ◌↔◌, IsTrue, IfSome};
 ghost use Rattle.std.specs.Path.{PathStartsWith, components_remaining};
-ghost use Rattle.liquid_folder.specs.Paths.{IsFileIn, is_left_out, steps};
+ghost use Rattle.liquid_folder.specs.Paths.{IsFileIn, is_skipped_file, steps};
 
 use std::path::{Component, Components, Path};
 
@@ -47,7 +47,7 @@ pub fn lies_in(path: &str, folder: &str) -> bool
 
 /// Whether a file of this name is left out: it begins with a `.` or ends in `~`.
 pub fn is_left_out(name: &str) -> bool
-    ensures { result ≡ is_left_out name.now }
+    ensures { result ≡ is_skipped_file name.now }
 {
     let bytes = name.as_bytes();
     let length = bytes.len();

@@ -1,6 +1,6 @@
 //! Why the program ends before its input does.
 ghost use Rattle.std.specs.Prelude.{◌≡◌};
-ghost use Rattle.liquid_folder.specs.Stops.{status_of};
+ghost use Rattle.liquid_folder.specs.Stops.{folder_stop_status};
 
 use liquid_core::Error;
 use liquid_excerpts::{Reason, ShownPath};
@@ -51,7 +51,7 @@ impl FolderStop {
 
     /// The status that the program ends with.
     pub fn status(&self) -> u8
-        ensures { result ≡ status_of self.now }
+        ensures { result ≡ folder_stop_status self.now }
     {
         match self {
             FolderStop::Usage => 2,

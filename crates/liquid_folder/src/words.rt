@@ -1,6 +1,6 @@
 //! The words of a call.
 ghost use Rattle.std.specs.Prelude.{◌≡◌, map, option_map, string_bytes};
-ghost use Rattle.liquid_folder.specs.Words.{call_of, call_view};
+ghost use Rattle.liquid_folder.specs.Words.{folder_call, folder_call_view};
 
 /// What a call names.
 #[derive(Clone, Copy)]
@@ -16,7 +16,7 @@ pub struct FolderCall<'w> {
 /// The call that the words after the program's own make: FOLDER DATA OUT, none of them empty. None
 /// where they make none.
 pub fn call_of(words: &[String]) -> Option<FolderCall<'_>>
-    ensures { option_map call_view result ≡ call_of (map string_bytes words.now) }
+    ensures { option_map folder_call_view result ≡ folder_call (map string_bytes words.now) }
 {
     match words {
         [folder, data, out] => {

@@ -6,15 +6,15 @@ use Rattle.std.specs.Option.{ok_or}
 use Rattle.liquid_model.specs.Texts.{Text}
 use Rattle.liquid_model.specs.ErrorKinds.{is_refusal}
 use Rattle.liquid_model.specs.declared.error.ErrorKind.TheVariants.{Memory}
-use Rattle.liquid_page.specs.Words.{Named, NamedFiles, call_of}
-use Rattle.liquid_page.specs.Written.{IsBegun, IsWritten}
+use Rattle.liquid_page.specs.Words.{NamedTexts, NamedFiles, page_call}
+use Rattle.liquid_page.specs.Written.{IsBegun, IsPageWritten}
 use Rattle.liquid_page.specs.declared.outcome.Outcome.{Outcome}
 use Rattle.liquid_page.specs.declared.outcome.Outcome.TheVariants.{Done, Usage, Unread, Fault}
-use Rattle.liquid_page_texts.specs.Page.{Sources, Texts}
+use Rattle.liquid_page_texts.specs.Page.{Sources, PageTexts}
 
 -- the text of the file at each path, where it can be read
-abbrev pub Files : Type 0
-Files = Text → Option Text
+abbrev pub ReadableFiles : Type 0
+ReadableFiles = Text → Option Text
 
 -- why no page is begun
 pub data Stop : Type 0 where
@@ -26,17 +26,17 @@ abbrev pub ◌>>=◌ : {A B : Type 0} → Result A Stop → (A → Result B Stop
 ◌>>=◌ (Ok a) k = k a
 ◌>>=◌ (Err stop) k = Err stop
 
-abbrev pub text_at : Files → Text → Result Text Stop
-text_at files path = ok_or (files path) (unread path)
+abbrev pub file_text : ReadableFiles → Text → Result Text Stop
+file_text files path = ok_or (files path) (unread path)
 
 -- the texts of named files, in order, after those that are read
-abbrev pub sources_from : Files → Named → Sources → Result Sources Stop
+abbrev pub sources_from : ReadableFiles → NamedTexts → Sources → Result Sources Stop
 sources_from files [] done = Ok done
-sources_from files (p ∷ ps) done = text_at files p.1 >>= λ t. sources_from files ps
+sources_from files (p ∷ ps) done = file_text files p.1 >>= λ t. sources_from files ps
     (done ++ (p.0, t) ∷ [])
 
-abbrev pub texts_at : Files → NamedFiles → Result Texts Stop
-texts_at files c = text_at files c.template >>= λ t. text_at files c.«data» >>= λ d.
+abbrev pub texts_at : ReadableFiles → NamedFiles → Result PageTexts Stop
+texts_at files c = file_text files c.template >>= λ t. file_text files c.«data» >>= λ d.
     sources_from files c.partials [] >>= λ ps. Ok (record {
       template = t;
       «data» = d;
@@ -44,8 +44,8 @@ texts_at files c = text_at files c.template >>= λ t. text_at files c.«data» >
     })
 
 -- the words are judged first, then the files are read, in their order
-abbrev pub texts_of : Files → List Text → Result Texts Stop
-texts_of files words = ok_or (call_of words) no_call >>= texts_at files
+abbrev pub called_texts : ReadableFiles → List Text → Result PageTexts Stop
+called_texts files words = ok_or (page_call words) no_call >>= texts_at files
 
 -- what a step of reading answers, unless memory ran out
 abbrev pub Finds : {X A : Type 0} → (X → A) → Result A Stop → Result X Outcome → Type 0
@@ -56,15 +56,16 @@ Finds view wanted (Err (Unread file)) = wanted ≡ Err (unread (string_bytes fil
 Finds view wanted (Err (Fault e)) = e.kind ≡ Memory
 
 -- how a call ends by the texts that it is to read, unless memory ran out or the writer refused
-abbrev pub Ends : Result Texts Stop → Outcome → Option (List ℕ) → Option (List ℕ) → Type 0
-Ends wanted Done old new = (texts : Texts) × (wanted ≡ Ok texts) × IsWritten texts (Ok tt) old new
-Ends wanted Usage old new = (wanted ≡ Err no_call) × Keeps old new
-Ends wanted (Unread file) old new = (wanted ≡ Err (unread (string_bytes file))) × Keeps old new
-Ends wanted (Fault e) old new = MatchBool (is_refusal e.kind) ⊤ ((texts : Texts) ×
-    (wanted ≡ Ok texts) × IsWritten texts (Err e) old new)
+abbrev pub EndsCall : Result PageTexts Stop → Outcome → Option (List ℕ) → Option (List ℕ) → Type 0
+EndsCall wanted Done old new = (texts : PageTexts) × (wanted ≡ Ok texts) ×
+    IsPageWritten texts (Ok tt) old new
+EndsCall wanted Usage old new = (wanted ≡ Err no_call) × Keeps old new
+EndsCall wanted (Unread file) old new = (wanted ≡ Err (unread (string_bytes file))) × Keeps old new
+EndsCall wanted (Fault e) old new = MatchBool (is_refusal e.kind) ⊤ ((texts : PageTexts) ×
+    (wanted ≡ Ok texts) × IsPageWritten texts (Err e) old new)
 
 -- what a call leaves at its writer, however it ends: a beginning of the page of the texts that it
 -- is to read, or, where it is to begin no page, what was there
-abbrev pub Leaves : Result Texts Stop → Option (List ℕ) → Option (List ℕ) → Type 0
-Leaves (Ok texts) old new = IsBegun texts old new
-Leaves (Err stop) old new = Keeps old new
+abbrev pub LeavesAtWriter : Result PageTexts Stop → Option (List ℕ) → Option (List ℕ) → Type 0
+LeavesAtWriter (Ok texts) old new = IsBegun texts old new
+LeavesAtWriter (Err stop) old new = Keeps old new

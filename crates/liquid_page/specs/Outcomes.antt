@@ -6,11 +6,11 @@ use Rattle.liquid_excerpts.specs.Paths.{shown_path}
 use Rattle.liquid_page.specs.declared.outcome.Outcome.{Outcome}
 use Rattle.liquid_page.specs.declared.outcome.Outcome.TheVariants.{Done, Usage, Unread, Fault}
 
-abbrev pub status_of : Outcome → ℕ
-status_of Done = 0
-status_of (Unread file) = 1
-status_of (Fault e) = 1
-status_of Usage = 2
+abbrev pub outcome_status : Outcome → ℕ
+outcome_status Done = 0
+outcome_status (Unread file) = 1
+outcome_status (Fault e) = 1
+outcome_status Usage = 2
 
 abbrev pub told : Outcome → List ℕ
 told Done = []
@@ -19,6 +19,6 @@ told (Fault e) = codes "error: " ++ error_text e
 told Usage = codes "usage: liquid_page TEMPLATE DATA [NAME=FILE ..]"
 
 -- memory ran out
-abbrev pub IsMemory : Outcome → Type 0
-IsMemory (Fault e) = e.kind ≡ Memory
-IsMemory _ = ⊥
+abbrev pub IsOutOfMemory : Outcome → Type 0
+IsOutOfMemory (Fault e) = e.kind ≡ Memory
+IsOutOfMemory _ = ⊥

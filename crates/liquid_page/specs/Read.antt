@@ -2,7 +2,7 @@
 use Rattle.std.specs.Prelude.{◌≡◌, Option, Some, None, Result, Ok, Err, ⊤, String, string_bytes}
 use Rattle.std.specs.declared.alloc.Global.{Global}
 use Rattle.liquid_model.specs.Texts.{Text}
-use Rattle.liquid_page_texts.specs.Page.{Texts, sources_of}
+use Rattle.liquid_page_texts.specs.Page.{PageTexts, sources_of}
 use Rattle.liquid_page.specs.declared.page.ReadFiles.{ReadFiles}
 use Rattle.liquid_page.specs.declared.page.Unreadable.{Unreadable}
 use Rattle.liquid_page.specs.declared.page.Unreadable.TheVariants.{Memory, File}
@@ -13,8 +13,8 @@ IsTextOf wanted (Ok text) = wanted ≡ Some (string_bytes text)
 IsTextOf wanted (Err Memory) = ⊤
 IsTextOf wanted (Err File) = wanted ≡ None
 
-abbrev pub read_view : ReadFiles → Texts
-read_view r = record {
+abbrev pub page_texts_view : ReadFiles → PageTexts
+page_texts_view r = record {
   template = string_bytes r.template;
   «data» = string_bytes r.«data»;
   partials = sources_of r.partials.items;

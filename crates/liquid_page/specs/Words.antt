@@ -5,8 +5,8 @@ use Rattle.std.specs.List.{position_or_len, before_first, after_first}
 use Rattle.std.specs.Borrow.{Bor}
 use Rattle.liquid_page.specs.declared.words.CommandLine.{CommandLine}
 
-abbrev pub Named : Type 0
-Named = List (List ℕ × List ℕ)
+abbrev pub NamedTexts : Type 0
+NamedTexts = List (List ℕ × List ℕ)
 
 -- where the first `=` stands, or the length
 abbrev pub equals_at : List ℕ → ℕ
@@ -17,9 +17,10 @@ abbrev pub pair_of : List ℕ → Option (List ℕ × List ℕ)
 pair_of word = if nat_lt 0 (equals_at word) && nat_lt (equals_at word) (length word) then Some
     (before_first (λ b. b == 61) word, after_first (λ b. b == 61) word) else None
 
-abbrev pub pairs_from : List (List ℕ) → Named → Option Named
-pairs_from [] done = Some done
-pairs_from (word ∷ words) done = option_and_then (λ p. pairs_from words (done ++ p ∷ []))
+abbrev pub named_texts_from : List (List ℕ) → NamedTexts → Option NamedTexts
+named_texts_from [] done = Some done
+named_texts_from (word ∷ words) done = option_and_then (λ p.
+    named_texts_from words (done ++ p ∷ []))
     (pair_of word)
 
 abbrev pub lent : Bor (List ℕ) × Bor (List ℕ) → List ℕ × List ℕ
@@ -28,7 +29,7 @@ lent p = (p.0.now, p.1.now)
 pub record NamedFiles : Type 0 where
   pub template : List ℕ
   pub «data» : List ℕ
-  pub partials : Named
+  pub partials : NamedTexts
 
 abbrev pub call_view : CommandLine → NamedFiles
 call_view c = record {
@@ -37,10 +38,10 @@ call_view c = record {
   partials = map lent c.partials.items;
 }
 
-abbrev pub call_of : List (List ℕ) → Option NamedFiles
-call_of (template ∷ «data» ∷ words) = option_map (λ ps. record {
+abbrev pub page_call : List (List ℕ) → Option NamedFiles
+page_call (template ∷ «data» ∷ words) = option_map (λ ps. record {
   template = template;
   «data» = «data»;
   partials = ps;
-}) (pairs_from words [])
-call_of _ = None
+}) (named_texts_from words [])
+page_call _ = None

@@ -4,10 +4,11 @@ use Rattle.std.specs.Io.KnownBytes.{Appends}
 use Rattle.liquid_model.specs.Texts.{Text}
 use Rattle.liquid_model.specs.declared.error.Error.{Error}
 use Rattle.liquid_lib.specs.Performs.{answer_of, unit}
-use Rattle.liquid_page_texts.specs.Page.{Texts, IsStandardPage, IsStandardText}
+use Rattle.liquid_page_texts.specs.Page.{PageTexts, IsStandardPage, IsStandardText}
 
 -- the page of these texts was written, all of it, and the answer is its end
-pub record IsWritten (texts : Texts) (r : Result (Unit {0}) Error) (old new : Option (List ℕ)) :
+pub record IsPageWritten (texts : PageTexts) (r : Result (Unit {0}) Error)
+    (old new : Option (List ℕ)) :
     Type 0 where
   pub text : Text
   pub page : IsStandardPage texts text (answer_of unit r)
@@ -22,7 +23,7 @@ HoldsBeginning (Some xs) (Some ys) text = (rest : List ℕ) × (ys ++ rest ≡ x
 
 -- what a writer holds now is a beginning of what it held and of the page of these texts after
 -- that; or, of a call that ended before there was a page, a beginning of what it held
-pub data IsBegun (texts : Texts) (old new : Option (List ℕ)) : Type 0 where
+pub data IsBegun (texts : PageTexts) (old new : Option (List ℕ)) : Type 0 where
   a_page : {text : Text} → IsStandardText texts text → HoldsBeginning old new text →
       IsBegun texts old new
   no_page : HoldsBeginning old new [] → IsBegun texts old new

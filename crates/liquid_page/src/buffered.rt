@@ -22,11 +22,12 @@ pub struct Buffered<W> {
 }
 
 impl<W: Write> Buffered<W> {
-    ghost use Rattle.liquid_page.specs.Buffering.{behind};
+    ghost use Rattle.liquid_page.specs.Buffering.{buffered_contents};
 
     /// A buffer in front of the writer, or the writer where there is no memory for a buffer.
     pub fn new(alloc: Global, writer: W) -> Result<Buffered<W>, W>
-        ensures held { IfOk result (λ b. Keeps (W.contents writer) (behind W.contents b)) }
+        ensures held { IfOk result (λ b. Keeps (W.contents writer) (buffered_contents W.contents b))
+            }
         ensures back { IfErr result (λ w. w ≡ writer) }
     {
         match Vec::with_capacity(alloc, ROOM) {
@@ -53,7 +54,8 @@ impl<W: Write> Buffered<W> {
 
     /// Hands on what is held back, once. After a failure it hands on nothing and fails again.
     pub fn flush_buffer(&mut self) -> io::Result<()>
-        ensures bytes { Keeps (behind W.contents self.old) (behind W.contents self.new) }
+        ensures bytes { Keeps (buffered_contents W.contents self.old)
+            (buffered_contents W.contents self.new) }
         ensures empty { OnOk result (self.new.held.items ≡ []) }
         ensures told { self.new.failed ≡ is_err result }
         ensures stopped { self.old.failed ≡ true → self.new ≡ self.old }
@@ -72,7 +74,8 @@ impl<W: Write> Buffered<W> {
     #[inline(never)]
     fn write_cold(&mut self, bytes: &[u8]) -> io::Result<usize>
         ensures bound { WritesAtMost result bytes.now }
-        ensures bytes { WriteAppends (behind W.contents self.old) (behind W.contents self.new)
+        ensures bytes { WriteAppends (buffered_contents W.contents self.old)
+            (buffered_contents W.contents self.new)
             result bytes.now }
         ensures stopped { self.old.failed ≡ true → self.new ≡ self.old }
     {
@@ -93,7 +96,8 @@ impl<W: Write> Buffered<W> {
     fn write_past(&mut self, bytes: &[u8]) -> io::Result<usize>
         requires { self.old.held.items ≡ [] }
         ensures bound { WritesAtMost result bytes.now }
-        ensures bytes { WriteAppends (behind W.contents self.old) (behind W.contents self.new)
+        ensures bytes { WriteAppends (buffered_contents W.contents self.old)
+            (buffered_contents W.contents self.new)
             result bytes.now }
     {
         let answer = self.writer.write(bytes);
@@ -103,13 +107,14 @@ impl<W: Write> Buffered<W> {
 }
 
 impl<W: Write> Write for Buffered<W> {
-    ghost use Rattle.liquid_page.specs.Buffering.{behind};
+    ghost use Rattle.liquid_page.specs.Buffering.{buffered_contents};
 
-    ghost contents = { behind W.contents };
+    ghost contents = { buffered_contents W.contents };
 
     fn write(&mut self, bytes: &[u8]) -> io::Result<usize>
         ensures bound { WritesAtMost result bytes.now }
-        ensures bytes { WriteAppends (behind W.contents self.old) (behind W.contents self.new)
+        ensures bytes { WriteAppends (buffered_contents W.contents self.old)
+            (buffered_contents W.contents self.new)
             result bytes.now }
         ensures stopped { self.old.failed ≡ true → self.new ≡ self.old }
     {
@@ -121,7 +126,8 @@ impl<W: Write> Write for Buffered<W> {
     }
 
     fn flush(&mut self) -> io::Result<()>
-        ensures bytes { Keeps (behind W.contents self.old) (behind W.contents self.new) }
+        ensures bytes { Keeps (buffered_contents W.contents self.old)
+            (buffered_contents W.contents self.new) }
         ensures empty { OnOk result (self.new.held.items ≡ []) }
         ensures stopped { self.old.failed ≡ true → self.new ≡ self.old }
     {

@@ -1,6 +1,6 @@
 //! How a call of the program ends.
 ghost use Rattle.std.specs.Prelude.{◌≡◌, Some, MatchResult};
-ghost use Rattle.liquid_page.specs.Outcomes.{IsMemory, status_of, told};
+ghost use Rattle.liquid_page.specs.Outcomes.{IsOutOfMemory, outcome_status, told};
 ghost use Rattle.liquid_page.specs.declared.outcome.Outcome.TheVariants.{Done, Fault};
 
 use liquid_core::{Error, Result};
@@ -24,7 +24,7 @@ pub enum Outcome {
 impl Outcome {
     /// The status that the program ends with.
     pub fn status(&self) -> u8
-        ensures { result ≡ status_of self.now }
+        ensures { result ≡ outcome_status self.now }
     {
         match self {
             Outcome::Done => 0,
@@ -75,7 +75,7 @@ impl From<Error> for Outcome {
 }
 
 impl From<AllocError> for Outcome {
-    ghost from_gives = { λ _ outcome. IsMemory outcome };
+    ghost from_gives = { λ _ outcome. IsOutOfMemory outcome };
 
     fn from(refused: AllocError) -> Outcome {
         Outcome::Fault(Error::from(refused))
@@ -83,7 +83,7 @@ impl From<AllocError> for Outcome {
 }
 
 impl<T: Drop> From<AllocFailed<T>> for Outcome {
-    ghost from_gives = { λ _ outcome. IsMemory outcome };
+    ghost from_gives = { λ _ outcome. IsOutOfMemory outcome };
 
     fn from(refused: AllocFailed<T>) -> Outcome {
         Outcome::Fault(Error::from(refused))

@@ -1,11 +1,12 @@
 //! From the words of a call to its page.
 ghost use Rattle.std.specs.Prelude.{◌≡◌, [], None, Ok, Option, false, IfSome, map, string_bytes};
 ghost use Rattle.liquid_lib.specs.Performs.{is_refused};
-ghost use Rattle.liquid_page.specs.Files.{Files, Ends, Finds, Leaves, sources_from, text_at};
-ghost use Rattle.liquid_page.specs.Files.{texts_at, texts_of};
-ghost use Rattle.liquid_page.specs.Read.{IsTextOf, read_view};
+ghost use Rattle.liquid_page.specs.Files.{ReadableFiles, EndsCall, Finds, LeavesAtWriter};
+ghost use Rattle.liquid_page.specs.Files.{sources_from, file_text};
+ghost use Rattle.liquid_page.specs.Files.{texts_at, called_texts};
+ghost use Rattle.liquid_page.specs.Read.{IsTextOf, page_texts_view};
 ghost use Rattle.liquid_page.specs.Words.{call_view, lent};
-ghost use Rattle.liquid_page.specs.Written.{IsBegun, IsWritten};
+ghost use Rattle.liquid_page.specs.Written.{IsBegun, IsPageWritten};
 ghost use Rattle.liquid_page_texts.specs.Page.{sources_of};
 
 use crate::buffered::Buffered;
@@ -29,7 +30,7 @@ pub enum Unreadable {
 /// Where the texts of files come from.
 pub trait Texts {
     // The texts of the files, where they are known.
-    ghost known: { Self → Option Files } = { λ _. None };
+    ghost known: { Self → Option ReadableFiles } = { λ _. None };
 
     /// The text of the file at a path.
     fn text_at(&mut self, path: &str) -> std::result::Result<String, Unreadable>
@@ -82,14 +83,14 @@ pub fn page<T: Texts, W: Write + Drop>(
     writer: W,
 ) -> (W, Outcome, Option<ReadFiles>)
     ensures page { IfSome (T.known texts.old)
-        (λ files. Ends (texts_of files (map string_bytes words.now)) result.1
+        (λ files. EndsCall (called_texts files (map string_bytes words.now)) result.1
         (W.contents writer) (W.contents result.0)) }
     ensures begun { IfSome (T.known texts.old)
-        (λ files. Leaves (texts_of files (map string_bytes words.now))
+        (λ files. LeavesAtWriter (called_texts files (map string_bytes words.now))
         (W.contents writer) (W.contents result.0)) }
     ensures read { IfSome (T.known texts.old)
-        (λ files. IfSome result.2 (λ read. texts_of files (map string_bytes words.now) ≡
-        Ok (read_view read))) }
+        (λ files. IfSome result.2 (λ read. called_texts files (map string_bytes words.now) ≡
+        Ok (page_texts_view read))) }
 {
     match read_call(alloc, words, texts) {
         Ok(read) => {
@@ -112,7 +113,7 @@ fn read_call<T: Texts>(
     texts: &mut T,
 ) -> std::result::Result<ReadFiles, Outcome>
     ensures { IfSome (T.known texts.old)
-        (λ files. Finds read_view (texts_of files (map string_bytes words.now)) result) }
+        (λ files. Finds page_texts_view (called_texts files (map string_bytes words.now)) result) }
 {
     match call_of(alloc, words)? {
         Some(call) => read_files(alloc, &call, texts),
@@ -126,7 +127,7 @@ fn read_files<T: Texts>(
     texts: &mut T,
 ) -> std::result::Result<ReadFiles, Outcome>
     ensures { IfSome (T.known texts.old)
-        (λ files. Finds read_view (texts_at files (call_view call.now))
+        (λ files. Finds page_texts_view (texts_at files (call_view call.now))
         result) }
 {
     let template = text_of(alloc, call.template, texts)?;
@@ -165,7 +166,7 @@ fn text_of<T: Texts>(
     texts: &mut T,
 ) -> std::result::Result<String, Outcome>
     ensures text { IfSome (T.known texts.old)
-        (λ files. Finds string_bytes (text_at files path.now) result) }
+        (λ files. Finds string_bytes (file_text files path.now) result) }
     ensures same { T.known texts.new ≡ T.known texts.old }
 {
     match texts.text_at(path) {
@@ -187,7 +188,7 @@ pub fn write_page<W: Write + Drop>(
     writer: W,
 ) -> (W, Result<()>)
     ensures page { is_refused result.1 ≡ false →
-        IsWritten (record {
+        IsPageWritten (record {
           template = template.now;
           «data» = «data».now;
           partials = sources_of partials.now;

@@ -1,7 +1,7 @@
 //! The words of a call.
 ghost use Rattle.std.specs.Prelude.{◌≡◌, map, option_map, string_bytes, Ok};
 ghost use Rattle.liquid_model.specs.Answer.{Answers};
-ghost use Rattle.liquid_page.specs.Words.{pair_of, lent, call_of, call_view};
+ghost use Rattle.liquid_page.specs.Words.{pair_of, lent, page_call, call_view};
 
 use liquid_core::Result;
 use std::alloc::Global;
@@ -31,7 +31,7 @@ pub fn pair_of(word: &str) -> Option<(&str, &str)>
 /// The call that the words after the program's own make, or none where they make none.
 pub fn call_of<'w>(alloc: Global, words: &'w [String]) -> Result<Option<CommandLine<'w>>>
     ensures { Answers (λ o. option_map call_view o) result
-        (Ok (call_of (map string_bytes words.now))) }
+        (Ok (page_call (map string_bytes words.now))) }
 {
     if words.len() < 2 {
         return Ok(None);

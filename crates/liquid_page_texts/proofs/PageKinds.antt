@@ -13,7 +13,7 @@ use Rattle.serde_json.specs.Data as json
 use Rattle.serde_json.specs.Find.{as_i64}
 use Rattle.serde_json.specs.Read.{read}
 use Rattle.liquid_json.specs.Json.{whole_number, datum_of, items_of, pairs_of, object_of, object_read}
-use Rattle.liquid_page_texts.specs.Page.{Texts, Refused, no_template, no_data, bad_partial, IsPage, page, no_page}
+use Rattle.liquid_page_texts.specs.Page.{PageTexts, RefusesTexts, no_template, no_data, bad_partial, IsPage, page, no_page}
 use Rattle.liquid_page_texts.specs.PageLaw.{KindsOfPages}
 
 ended_whole : (o : Option ℤ) → Ended (whole_number o)
@@ -45,7 +45,7 @@ ended_read : (o : Option json.Data) → Ended (object_read o)
 ended_read (Some d) = ended_object d
 ended_read None = ended_err _ tt
 
-refused_kind : (l : Language) (texts : Texts) (kind : ErrorKind) → Refused l texts kind → T (is_run_kind kind) ⊎ IsOfSource kind
+refused_kind : (l : Language) (texts : PageTexts) (kind : ErrorKind) → RefusesTexts l texts kind → T (is_run_kind kind) ⊎ IsOfSource kind
 refused_kind l texts kind (no_template none of_source) = inr of_source
 refused_kind l texts kind (no_data only is) = inl ((ended_read (read texts.«data»)).ended kind is)
 refused_kind l texts kind (bad_partial only «data» bad of_source) = inr of_source
@@ -55,7 +55,7 @@ abbrev kind_or : ErrorKind → Result Nothing ErrorKind → ErrorKind
 kind_or other (Ok x) = other
 kind_or other (Err kind) = kind
 
-page_ends : (l : Language) (texts : Texts) (text : Text) (end : Result Nothing ErrorKind) (kind : ErrorKind) → IsPage l texts text end → end ≡ Err kind → T (is_run_kind kind) ⊎ IsOfSource kind
+page_ends : (l : Language) (texts : PageTexts) (text : Text) (end : Result Nothing ErrorKind) (kind : ErrorKind) → IsPage l texts text end → end ≡ Err kind → T (is_run_kind kind) ⊎ IsOfSource kind
 page_ends l texts text end kind (page read is) h = inl (kinds_of_own_runs read.partials 32 read.tree _ kind h)
 page_ends l texts text end kind (no_page refused) h = subst (λ k. T (is_run_kind k) ⊎ IsOfSource k) (ap (kind_or kind) h) (refused_kind l texts _ refused)
 

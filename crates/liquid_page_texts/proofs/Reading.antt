@@ -28,8 +28,8 @@ use Rattle.liquid_model.proofs.Alike.{alike_same}
 use Rattle.liquid_syntax.specs.Templates.{partials_of}
 use Rattle.liquid_syntax.specs.declared.partials.Partials.{Partials}
 use Rattle.liquid_uses.specs.Covered.{SeesAlone}
-use Rattle.liquid_page_texts.specs.Page.{Texts, Sources, ArePartials, HasBadPartial, Read, Refused, no_template, no_data, bad_partial, page, no_page, page_outcome}
-use Rattle.liquid_page_texts.specs.Shown.{Reads, ReadsPartials, ReadsSeen, SamePage, Shows, ShowsPageOf, RanOut}
+use Rattle.liquid_page_texts.specs.Page.{PageTexts, Sources, ArePartials, HasBadPartial, PageInputs, RefusesTexts, no_template, no_data, bad_partial, page, no_page, page_outcome}
+use Rattle.liquid_page_texts.specs.Shown.{ReadsPageTexts, ReadsPartials, ReadsSeen, SamePage, Shows, ShowsPageOf, RanOut}
 
 -- memory ran out, or else
 unless_memory : {P R : Type 0} (b : Bool) → MatchBool b ⊤ P → (b ≡ false → P → R) → MatchBool b ⊤ R
@@ -46,18 +46,18 @@ of_source Memory h = let low : 21 ≤ 17 = h.0 in absurd (omega arith)
 of_source Write h = let low : 21 ≤ 18 = h.0 in absurd (omega arith)
 of_source _ h = refl
 
-pub template_refused : (l : Language) (texts : Texts) (e : Error) → ParsesTo l texts.template (Err e) → MayRefuse e.kind → Reads l texts (Err e)
+pub template_refused : (l : Language) (texts : PageTexts) (e : Error) → ParsesTo l texts.template (Err e) → MayRefuse e.kind → ReadsPageTexts l texts (Err e)
 template_refused l texts e parses kinds = unless_either (is_memory e.kind) parses kinds (λ none kind. (no_template none kind, of_source e.kind kind))
 
-pub data_refused : (l : Language) (texts : Texts) (tree : Nodes) (e : Error) → IsOnlyTree l tree texts.template → Faulted e.kind (data_of texts.«data») → Reads l texts (Err e)
+pub data_refused : (l : Language) (texts : PageTexts) (tree : Nodes) (e : Error) → IsOnlyTree l tree texts.template → Faulted e.kind (data_of texts.«data») → ReadsPageTexts l texts (Err e)
 data_refused l texts tree e only faulted = unless_memory (is_memory e.kind) faulted (λ not h. (no_data only h.0, h.1))
 
-pub partials_refused : (l : Language) (texts : Texts) (tree : Nodes) («data» : Pairs) (e : Error) → IsOnlyTree l tree texts.template → data_of texts.«data» ≡ Ok «data» → ReadsPartials l texts.partials [] (Err e) → Reads l texts (Err e)
+pub partials_refused : (l : Language) (texts : PageTexts) (tree : Nodes) («data» : Pairs) (e : Error) → IsOnlyTree l tree texts.template → data_of texts.«data» ≡ Ok «data» → ReadsPartials l texts.partials [] (Err e) → ReadsPageTexts l texts (Err e)
 partials_refused l texts tree «data» e only read bad = unless_memory (is_memory e.kind) bad (λ not h. (bad_partial only read h.0 h.1, of_source e.kind h.1))
 
 -- memory ran out before the texts were read
-pub memory_refused : (l : Language) (texts : Texts) (e : Error) → e.kind ≡ Memory → Reads l texts (Err e)
-memory_refused l texts e is = subst (λ (k : ErrorKind). MatchBool (is_memory k) ⊤ (Refused l texts k × (is_refusal k ≡ false))) (sym is) tt
+pub memory_refused : (l : Language) (texts : PageTexts) (e : Error) → e.kind ≡ Memory → ReadsPageTexts l texts (Err e)
+memory_refused l texts e is = subst (λ (k : ErrorKind). MatchBool (is_memory k) ⊤ (RefusesTexts l texts k × (is_refusal k ≡ false))) (sym is) tt
 
 pub memory_faulted : («data» : List ℕ) (p : Partials) (nodes : Nodes) (e : Error) → e.kind ≡ Memory → ReadsSeen «data» p nodes (Err e)
 memory_faulted «data» p nodes e is = subst (λ (k : ErrorKind). Faulted k (data_of «data»)) (sym is) tt
@@ -78,7 +78,7 @@ pub whole_by : («data» : List ℕ) (p : Partials) (nodes : Nodes) (r : Result 
 whole_by «data» p nodes (Ok m) h = (pairs_view m.entries, h, (refl, refl))
 whole_by «data» p nodes (Err e) h = h
 
-pub seen_shown : (l : Language) (texts : Texts) (p : Partials) (nodes : Nodes) (ps qs : Pairs) → IsOnlyTree l nodes texts.template → ArePartials l texts.partials [] (partials_of p)
+pub seen_shown : (l : Language) (texts : PageTexts) (p : Partials) (nodes : Nodes) (ps qs : Pairs) → IsOnlyTree l nodes texts.template → ArePartials l texts.partials [] (partials_of p)
     → data_of texts.«data» ≡ Ok ps → SamePage (partials_of p) nodes ps qs → ShowsPageOf l texts (record { tree = nodes; «data» = qs; partials = partials_of p })
 seen_shown l texts p nodes ps qs only partials «data» same = record {
   read = record { tree = nodes; «data» = ps; partials = partials_of p };
@@ -107,10 +107,10 @@ told_source e f same h = told_source_by e f (is_memory f.kind) refl same h
 
 -- ---- the page
 
-ToldBy : Language → Texts → Result (Unit {0}) Error → Option (List ℕ) → Type 0
+ToldBy : Language → PageTexts → Result (Unit {0}) Error → Option (List ℕ) → Type 0
 ToldBy l texts r o = RanOut r o o ⊎ ((x : Language) × IsStandard x × Shows x texts r o o)
 
-refused_by : (l : Language) (texts : Texts) (e : Error) (o : Option (List ℕ)) (b : Bool) → IsStandard l → is_memory e.kind ≡ b → MatchBool b ⊤ (Refused l texts e.kind × (is_refusal e.kind ≡ false)) → ToldBy l texts (Err e) o
+refused_by : (l : Language) (texts : PageTexts) (e : Error) (o : Option (List ℕ)) (b : Bool) → IsStandard l → is_memory e.kind ≡ b → MatchBool b ⊤ (RefusesTexts l texts e.kind × (is_refusal e.kind ≡ false)) → ToldBy l texts (Err e) o
 unfolding ToldBy
 refused_by l texts e o true standard is h = inl (record { told = memory_of e.kind is; kept = Keeps-refl o })
 refused_by l texts e o false standard is h =
@@ -127,11 +127,11 @@ refused_by l texts e o false standard is h =
       },
     )
 
-pub refused_shown : (l : Language) (texts : Texts) (e : Error) (o : Option (List ℕ)) → IsStandard l → Reads l texts (Err e) → RanOut (Err e) o o ⊎ ((x : Language) × IsStandard x × Shows x texts (Err e) o o)
+pub refused_shown : (l : Language) (texts : PageTexts) (e : Error) (o : Option (List ℕ)) → IsStandard l → ReadsPageTexts l texts (Err e) → RanOut (Err e) o o ⊎ ((x : Language) × IsStandard x × Shows x texts (Err e) o o)
 unfolding ToldBy
 refused_shown l texts e o standard h = refused_by l texts e o (is_memory e.kind) standard refl h
 
-pub page_shown : (l : Language) (texts : Texts) (r : Read) (answer : Result (Unit {0}) Error) (old new : Option (List ℕ)) → IsStandard l → ShowsPageOf l texts r
+pub page_shown : (l : Language) (texts : PageTexts) (r : PageInputs) (answer : Result (Unit {0}) Error) (old new : Option (List ℕ)) → IsStandard l → ShowsPageOf l texts r
     → (is_refused answer ≡ false → Appends old new (page_outcome r).text) → (is_refused answer ≡ false → answer_of unit answer ≡ (page_outcome r).end) → AppendsPart old new (page_outcome r).text
     → RanOut answer old new ⊎ ((x : Language) × IsStandard x × Shows x texts answer old new)
 page_shown l texts r answer old new standard of whole ended begun =

@@ -5,9 +5,9 @@ use Rattle.liquid_model.specs.declared.error.ErrorKind.{ErrorKind}
 use Rattle.liquid_filters.specs.RunKinds.{is_run_kind}
 use Rattle.liquid_syntax.specs.Parsing.{IsOfSource}
 use Rattle.liquid_language.specs.declared.language.Language.{Language}
-use Rattle.liquid_page_texts.specs.Page.{Texts, IsPage}
+use Rattle.liquid_page_texts.specs.Page.{PageTexts, IsPage}
 
 -- the fault that a page ends by is one of a run or of a source: never `Memory` and never `Write`
 abbrev pub KindsOfPages : Type 0
-KindsOfPages = (l : Language) (texts : Texts) (text : Text) (kind : ErrorKind) →
+KindsOfPages = (l : Language) (texts : PageTexts) (text : Text) (kind : ErrorKind) →
     IsPage l texts text (Err kind) → T (is_run_kind kind) ⊎ IsOfSource kind

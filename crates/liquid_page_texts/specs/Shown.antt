@@ -20,12 +20,13 @@ use Rattle.liquid_lib.specs.Added.{AppendsPart}
 use Rattle.liquid_lib.specs.Performs.{answer_of, is_refused, unit}
 use Rattle.liquid_lib.specs.Standard.{IsStandard}
 use Rattle.liquid_meaning.specs.Runs.{Nothing}
-use Rattle.liquid_page_texts.specs.Page.{Sources, Texts, Trees, ArePartials, HasBadPartial, Read}
-use Rattle.liquid_page_texts.specs.Page.{IsRead, Refused, IsPage, page_outcome}
+use Rattle.liquid_page_texts.specs.Page.{Sources, PageTexts, TemplateTrees, ArePartials}
+use Rattle.liquid_page_texts.specs.Page.{HasBadPartial, PageInputs}
+use Rattle.liquid_page_texts.specs.Page.{IsRead, RefusesTexts, IsPage, page_outcome}
 use Rattle.liquid_page_texts.specs.declared.page.ReadTexts.{ReadTexts}
 
-abbrev pub read_view : ReadTexts → Read
-read_view r = record {
+abbrev pub page_inputs_view : ReadTexts → PageInputs
+page_inputs_view r = record {
   tree = tree_of r.template;
   «data» = pairs_view r.«data».entries;
   partials = partials_of r.partials;
@@ -33,14 +34,14 @@ read_view r = record {
 
 -- the page of r is that of the texts: the same text and the same end, though of the data only what
 -- a run can see may be left
-pub record ShowsPageOf (l : Language) (texts : Texts) (r : Read) : Type 0 where
-  pub read : Read
+pub record ShowsPageOf (l : Language) (texts : PageTexts) (r : PageInputs) : Type 0 where
+  pub read : PageInputs
   pub is_read : IsRead l texts read
   pub text : (page_outcome read).text ≡ (page_outcome r).text
   pub end : (page_outcome read).end ≡ (page_outcome r).end
 
 -- a run over these data writes the same text as one over those, and ends alike
-abbrev pub SamePage : Trees → Nodes → Pairs → Pairs → Type 0
+abbrev pub SamePage : TemplateTrees → Nodes → Pairs → Pairs → Type 0
 SamePage partials tree ps qs =
     let whole = page_outcome (record { tree = tree; «data» = ps; partials = partials }) in
     let seen = page_outcome (record { tree = tree; «data» = qs; partials = partials }) in
@@ -53,20 +54,20 @@ ReadsSeen «data» p nodes (Ok m) = (ps : Pairs) × (data_of «data» ≡ Ok ps)
 ReadsSeen «data» p nodes (Err e) = Faulted e.kind (data_of «data»)
 
 -- the texts, read; or why they are not, unless memory ran out
-abbrev pub Reads : Language → Texts → Result ReadTexts Error → Type 0
-Reads l texts (Ok r) = ShowsPageOf l texts (read_view r)
-Reads l texts (Err e) = MatchBool (is_memory e.kind) ⊤ (Refused l texts e.kind ×
+abbrev pub ReadsPageTexts : Language → PageTexts → Result ReadTexts Error → Type 0
+ReadsPageTexts l texts (Ok r) = ShowsPageOf l texts (page_inputs_view r)
+ReadsPageTexts l texts (Err e) = MatchBool (is_memory e.kind) ⊤ (RefusesTexts l texts e.kind ×
     (is_refusal e.kind ≡ false))
 
 -- the partials after those that are there; or that one of them has no tree, unless memory ran out
-abbrev pub ReadsPartials : Language → Sources → Trees → Result Partials Error → Type 0
+abbrev pub ReadsPartials : Language → Sources → TemplateTrees → Result Partials Error → Type 0
 ReadsPartials l sources before (Ok p) = ArePartials l sources before (partials_of p)
 ReadsPartials l sources before (Err e) = MatchBool (is_memory e.kind) ⊤ (HasBadPartial l sources ×
     IsOfSource e.kind)
 
 -- what was written is a beginning of a page's text. Unless memory ran out or a write failed, it is
 -- all of that, and the answer is its end
-pub record Shows (l : Language) (texts : Texts) (r : Result (Unit {0}) Error)
+pub record Shows (l : Language) (texts : PageTexts) (r : Result (Unit {0}) Error)
     (old new : Option (List ℕ)) : Type 0 where
   pub text : Text
   pub end : Result Nothing ErrorKind
@@ -76,7 +77,7 @@ pub record Shows (l : Language) (texts : Texts) (r : Result (Unit {0}) Error)
   pub ended : is_refused r ≡ false → answer_of unit r ≡ end
 
 -- the page in the standard language is shown
-abbrev pub ShowsStandard : Texts → Result (Unit {0}) Error → Option (List ℕ) → Option (List ℕ) →
+abbrev pub ShowsStandard : PageTexts → Result (Unit {0}) Error → Option (List ℕ) → Option (List ℕ) →
     Type 0
 ShowsStandard texts r old new = (l : Language) × IsStandard l × Shows l texts r old new
 

@@ -7,8 +7,8 @@ ghost use Rattle.liquid_lib.specs.Added.{AppendsPart};
 ghost use Rattle.liquid_lib.specs.Failures.{OneFailed, AtMostOneFailed};
 ghost use Rattle.liquid_lib.specs.Performs.{answer_of, is_refused, unit};
 ghost use Rattle.liquid_page_texts.specs.Page.{page_outcome, sources_of};
-ghost use Rattle.liquid_page_texts.specs.Shown.{RanOut, Reads, ReadsPartials, ReadsSeen};
-ghost use Rattle.liquid_page_texts.specs.Shown.{ShowsStandard, read_view};
+ghost use Rattle.liquid_page_texts.specs.Shown.{RanOut, ReadsPageTexts, ReadsPartials, ReadsSeen};
+ghost use Rattle.liquid_page_texts.specs.Shown.{ShowsStandard, page_inputs_view};
 
 use liquid_core::{Error, ErrorKind, Object, Result};
 use liquid_json::{data_for, data_from_json};
@@ -108,7 +108,7 @@ fn read_texts(
     data: &str,
     partials: &[(String, String)],
 ) -> Result<ReadTexts>
-    ensures { Reads language.now (record {
+    ensures { ReadsPageTexts language.now (record {
       template = template.now;
       «data» = «data».now;
       partials = sources_of partials.now;
@@ -194,11 +194,11 @@ fn render_texts<W: CountedWrite>(
 ) -> Result<()>
     ensures whole { is_refused result ≡ false →
         Appends (W.contents writer.old) (W.contents writer.new)
-        (page_outcome (read_view read)).text }
+        (page_outcome (page_inputs_view read)).text }
     ensures end { is_refused result ≡ false → answer_of unit result ≡
-        (page_outcome (read_view read)).end }
+        (page_outcome (page_inputs_view read)).end }
     ensures begun { AppendsPart (W.contents writer.old) (W.contents writer.new)
-        (page_outcome (read_view read)).text }
+        (page_outcome (page_inputs_view read)).text }
     ensures write { IfErr result (λ e. e.kind ≡ ErrorKind.Write →
         OneFailed (W.failure_count writer.old) (W.failure_count writer.new)) }
     ensures failed { W.failure_count writer.old < W.failure_count writer.new →

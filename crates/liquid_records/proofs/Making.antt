@@ -7,19 +7,19 @@ use Rattle.liquid_model.specs.Texts.{Text}
 use Rattle.liquid_core.specs.Held.{map_of}
 use Rattle.liquid_evaluation.specs.Tree.{Nodes}
 use Rattle.liquid_lib.specs.Pages.{Shown}
-use Rattle.liquid_records.specs.Records.{Job, Made, Reason, ◌then◌, page_of, named_by, name_of, made_page, made_by, with_record}
+use Rattle.liquid_records.specs.Records.{Job, Made, Reason, ◌then◌, record_page, page_name, record_file_name, made_page, made_by, with_record}
 
-pub name_is : (job : Job) (pattern : Nodes) (page : Shown) (r : Result Text Reason) → page ≡ page_of job pattern → r ≡ named_by page → r ≡ name_of job (Some pattern)
-name_is job pattern page r is named = named ∙ ap named_by is
+pub name_is : (job : Job) (pattern : Nodes) (page : Shown) (r : Result Text Reason) → page ≡ record_page job pattern → r ≡ page_name page → r ≡ record_file_name job (Some pattern)
+name_is job pattern page r is named = named ∙ ap page_name is
 
 -- a name is there, and so is the page
-pub made_is : (job : Job) (pattern : Option Nodes) (name : Text) (page : Shown) (r : Result Made Reason) → Ok name ≡ name_of job pattern → page ≡ page_of job job.template
+pub made_is : (job : Job) (pattern : Option Nodes) (name : Text) (page : Shown) (r : Result Made Reason) → Ok name ≡ record_file_name job pattern → page ≡ record_page job job.template
     → r ≡ made_page name page → r ≡ made_by job pattern
-made_is job pattern name page r named is made = made ∙ ap (made_page name) is ∙ ap (λ n. n then λ x. made_page x (page_of job job.template)) named
+made_is job pattern name page r named is made = made ∙ ap (made_page name) is ∙ ap (λ n. n then λ x. made_page x (record_page job job.template)) named
 
 -- no name is there
-pub unnamed_is : (job : Job) (pattern : Option Nodes) (why : Reason) → Err why ≡ name_of job pattern → Err why ≡ made_by job pattern
-unnamed_is job pattern why named = ap (λ n. n then λ x. made_page x (page_of job job.template)) named
+pub unnamed_is : (job : Job) (pattern : Option Nodes) (why : Reason) → Err why ≡ record_file_name job pattern → Err why ≡ made_by job pattern
+unnamed_is job pattern why named = ap (λ n. n then λ x. made_page x (record_page job job.template)) named
 
 -- what is made over the data with a record's over it is what the record comes to
 pub made_with : (job : Job) («data» : Pairs) (over : Map Datum) (pattern : Option Nodes) (x : Result Made Reason) → over ≡ merged (map_of «data») job.shared

@@ -11,8 +11,8 @@ use Rattle.liquid_model.specs.Texts.{Text}
 use Rattle.liquid_model.specs.declared.error.ErrorKind.{ErrorKind}
 use Rattle.liquid_disk.specs.Files.{File, Files, ChangesAt, holds, with_file}
 use Rattle.liquid_records.specs.Records.{Made, Reason}
-use Rattle.liquid_records.specs.Steps.{Names, Fate, no_page, again, unwritten, IsNamed, IsTried, Leaves}
-use Rattle.liquid_records.specs.Runs.{Records, Stand, IsTaken, AreTaken, tried, written_names, AreApart, HasPage, HavePages}
+use Rattle.liquid_records.specs.Steps.{EarlierNames, Fate, no_page, again, unwritten, IsNamed, IsTried, Leaves}
+use Rattle.liquid_records.specs.Runs.{Records, Stand, IsTaken, AreRecordsTaken, tried, written_names, AreApart, HasPage, HavePages}
 
 -- ---- files and names
 
@@ -24,11 +24,11 @@ own_file : (files : Files) (name : Text) (file : File) → with_file files name 
 unfolding with_file
 own_file files name file = ap (λ b. cond b file (files name)) ((bytes_eq-Decides name name).1 refl)
 
-own_name : (names : Names) (name : Text) (n : ℕ) → IsSome (insert names name n name)
+own_name : (names : EarlierNames) (name : Text) (n : ℕ) → IsSome (insert names name n name)
 unfolding insert
 own_name names name n = subst (λ b. IsSome (cond b (Some n) (names name))) (sym ((bytes_eq-Decides name name).1 refl)) refl
 
-name_stays : (names : Names) (name : Text) (n : ℕ) (q : Text) → IsSome (names q) → IsSome (insert names name n q)
+name_stays : (names : EarlierNames) (name : Text) (n : ℕ) (q : Text) → IsSome (names q) → IsSome (insert names name n q)
 unfolding insert
 name_stays names name n q s = at (bytes_eq name q)
   where
@@ -37,7 +37,7 @@ name_stays names name n q s = at (bytes_eq name q)
     at false = s
 
 -- a text that has no value isn't one that has
-apart : (names : Names) (q name : Text) → IsSome (names q) → names name ≡ None → bytes_eq q name ≡ false
+apart : (names : EarlierNames) (q name : Text) → IsSome (names q) → names name ≡ None → bytes_eq q name ≡ false
 apart names q name s none = at (bytes_eq q name) refl
   where
     at : (b : Bool) → bytes_eq q name ≡ b → b ≡ false
@@ -157,7 +157,7 @@ has_page (Ok made) n old f new files t stay = by_name (old.names made.name) t.st
 
 module _ (comes : Result Pairs ErrorKind → Result Made Reason) where
   -- a name that came is written no more
-  later : (records : Records) (old : Stand) (fates : List Fate) (new : Stand) → AreTaken comes records old fates new → (q : Text) → IsSome (old.names q)
+  later : (records : Records) (old : Stand) (fates : List Fate) (new : Stand) → AreRecordsTaken comes records old fates new → (q : Text) → IsSome (old.names q)
       → (list_any (bytes_eq q) (written_names fates) ≡ false) × (new.files q ≡ old.files q)
   later [] old [] new t q s = (refl, ap (λ x. x.files q) t)
   later [] old (f ∷ fs) new t q s = absurd t
@@ -168,21 +168,21 @@ module _ (comes : Result Pairs ErrorKind → Result Made Reason) where
       let rest = later rs t.0 fs new t.2 q (names_stay d q s) in
       (joined d q (written_names fs) un rest.0, rest.1 ∙ file_stays d q un)
 
-  pub never_twice : (records : Records) (old : Stand) (fates : List Fate) (new : Stand) → AreTaken comes records old fates new → AreApart (written_names fates)
+  pub never_twice : (records : Records) (old : Stand) (fates : List Fate) (new : Stand) → AreRecordsTaken comes records old fates new → AreApart (written_names fates)
   never_twice [] old [] new t = tt
   never_twice [] old (f ∷ fs) new t = absurd t
   never_twice (r ∷ rs) old [] new t = absurd t
   never_twice (r ∷ rs) old (f ∷ fs) new t =
       set_apart (does (comes r.1) r.0 old f t.0 t.1) (written_names fs) (λ q s. (later rs t.0 fs new t.2 q s).0) (never_twice rs t.0 fs new t.2)
 
-  pub pages_stand : (records : Records) (old : Stand) (fates : List Fate) (new : Stand) → AreTaken comes records old fates new → HavePages comes records fates new.files
+  pub pages_stand : (records : Records) (old : Stand) (fates : List Fate) (new : Stand) → AreRecordsTaken comes records old fates new → HavePages comes records fates new.files
   pages_stand [] old [] new t = tt
   pages_stand [] old (f ∷ fs) new t = tt
   pages_stand (r ∷ rs) old [] new t = tt
   pages_stand (r ∷ rs) old (f ∷ fs) new t =
       (has_page (comes r.1) r.0 old f t.0 new.files t.1 (λ q s. (later rs t.0 fs new t.2 q s).1), pages_stand rs t.0 fs new t.2)
 
-  pub others_stay : (records : Records) (old : Stand) (fates : List Fate) (new : Stand) → AreTaken comes records old fates new → (q : Text) → list_any (bytes_eq q) (written_names fates) ≡ false → new.files q ≡ old.files q
+  pub others_stay : (records : Records) (old : Stand) (fates : List Fate) (new : Stand) → AreRecordsTaken comes records old fates new → (q : Text) → list_any (bytes_eq q) (written_names fates) ≡ false → new.files q ≡ old.files q
   others_stay [] old [] new t q h = ap (λ x. x.files q) t
   others_stay [] old (f ∷ fs) new t q h = absurd t
   others_stay (r ∷ rs) old [] new t q h = absurd t

@@ -1,5 +1,5 @@
 -- Names of files: each names one file below a folder, and no other name is the same file's.
---     parts_of name      its parts between slashes
+--     path_parts name      its parts between slashes
 use Rattle.std.specs.Prelude.{ℕ, ◌==◌, Bool, not, cond, List, [], ◌∷◌, ◌++◌}
 use Rattle.std.specs.List.{list_all}
 use Rattle.liquid_model.specs.Texts.{Text}
@@ -10,17 +10,17 @@ parts_behind part [] = part ∷ []
 parts_behind part (b ∷ bs) =
     cond (b == 47) (part ∷ parts_behind [] bs) (parts_behind (part ++ b ∷ []) bs)
 
-abbrev pub parts_of : Text → List Text
-parts_of name = parts_behind [] name
+abbrev pub path_parts : Text → List Text
+path_parts name = parts_behind [] name
 
 -- nothing but dots: no text, `.`, `..` or more of them
 abbrev pub only_dots : Text → Bool
 only_dots part = list_all (λ b. b == 46) part
 
 -- a part that names a file or a folder
-abbrev pub is_part : Text → Bool
-is_part part = not (only_dots part)
+abbrev pub is_path_part : Text → Bool
+is_path_part part = not (only_dots part)
 
 -- each part names a file or a folder
 abbrev pub is_file_name : Text → Bool
-is_file_name name = list_all is_part (parts_of name)
+is_file_name name = list_all is_path_part (path_parts name)

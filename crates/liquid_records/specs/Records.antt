@@ -1,6 +1,6 @@
 -- What a record comes to: a page and the name of its file, or why it has none. It depends on the
 -- job and the record's own data alone.
---     page_of job nodes      the page of a template over the job's data, rendered from nothing
+--     record_page job nodes      the page of a template over the job's data, rendered from nothing
 --     comes_to job pattern data      what a record with this data comes to, where files are named
 --                                    by a pattern
 use Rattle.std.specs.Prelude.{ℕ, cond, List, [], Option, Some, None, Result, Ok, Err}
@@ -41,8 +41,8 @@ abbrev pub ◌then◌ : {A B : Type 0} → Result A Reason → (A → Result B R
 ◌then◌ (Ok a) k = k a
 ◌then◌ (Err why) k = Err why
 
-abbrev pub page_of : Job → Nodes → Shown
-page_of job nodes = page_over job.depth job.partials job.shared nodes
+abbrev pub record_page : Job → Nodes → Shown
+record_page job nodes = page_over job.depth job.partials job.shared nodes
 
 -- the job with a record's data over the shared data
 abbrev pub with_record : Pairs → Job → Job
@@ -56,13 +56,13 @@ name_unless text None = checked_name text
 name_unless text (Some kind) = Err (unnamed kind)
 
 -- the name that the page of a pattern is
-abbrev pub named_by : Shown → Result Text Reason
-named_by page = name_unless page.text page.fault
+abbrev pub page_name : Shown → Result Text Reason
+page_name page = name_unless page.text page.fault
 
 -- the name of the page's file, which is empty where no files are named
-abbrev pub name_of : Job → Option Nodes → Result Text Reason
-name_of job None = Ok []
-name_of job (Some pattern) = named_by (page_of job pattern)
+abbrev pub record_file_name : Job → Option Nodes → Result Text Reason
+record_file_name job None = Ok []
+record_file_name job (Some pattern) = page_name (record_page job pattern)
 
 abbrev pub made_unless : Text → Text → Option ErrorKind → Result Made Reason
 made_unless name text None = Ok (record { name = name; text = text })
@@ -74,8 +74,8 @@ made_page name page = made_unless name page.text page.fault
 
 -- the name and the page of a job whose data has the record's over it
 abbrev pub made_by : Job → Option Nodes → Result Made Reason
-made_by job pattern = name_of job pattern then λ name.
-    made_page name (page_of job job.template)
+made_by job pattern = record_file_name job pattern then λ name.
+    made_page name (record_page job job.template)
 
 abbrev pub comes_to : Job → Option Nodes → Result Pairs ErrorKind → Result Made Reason
 comes_to job pattern (Ok «data») = made_by (with_record «data» job) pattern

@@ -1,5 +1,5 @@
 -- A merge over a list of records, and what holds of it.
---     AreTaken comes records old fates new      the records were taken one after another; comes
+--     AreRecordsTaken comes records old fates new      the records were taken one after another; comes
 --       says what each comes to
 --     written_names fates      the names of the files that were written, or refused by the disk
 use Rattle.std.specs.Prelude.{◌≡◌, ℕ, false, List, [], ◌∷◌, ◌++◌, bytes_eq, ⊤, Some, Result, Ok}
@@ -12,7 +12,7 @@ use Rattle.liquid_model.specs.declared.error.ErrorKind.{ErrorKind}
 use Rattle.liquid_evaluation.specs.Tree.{Nodes}
 use Rattle.liquid_disk.specs.Files.{Files, holds}
 use Rattle.liquid_records.specs.Records.{Job, Made, Reason, comes_to}
-use Rattle.liquid_records.specs.Steps.{Names, Fate, IsStep, Leaves, unwritten}
+use Rattle.liquid_records.specs.Steps.{EarlierNames, Fate, IsRecordStep, Leaves, unwritten}
 
 -- records by their numbers: the data of each, or the kind of its fault
 abbrev pub Records : Type 0
@@ -20,21 +20,22 @@ Records = List (ℕ × Result Pairs ErrorKind)
 
 -- where a merge is: the names that came, and the files
 pub record Stand : Type 0 where
-  pub names : Names
+  pub names : EarlierNames
   pub files : Files
 
 -- one record was taken
 pub record IsTaken (made : Result Made Reason) (n : ℕ) (old : Stand) (fate : Fate)
     (new : Stand) : Type 0 where
-  pub step : IsStep n made old.names fate new.names
+  pub step : IsRecordStep n made old.names fate new.names
   pub left : Leaves made fate old.files (Some new.files)
 
-abbrev pub AreTaken : (Result Pairs ErrorKind → Result Made Reason) → Records → Stand → List Fate →
+abbrev pub AreRecordsTaken : (Result Pairs ErrorKind → Result Made Reason) → Records → Stand →
+    List Fate →
     Stand → Type 0
-AreTaken comes [] old [] new = new ≡ old
-AreTaken comes (r ∷ rs) old (f ∷ fs) new = (m : Stand) × IsTaken (comes r.1) r.0 old f m ×
-    AreTaken comes rs m fs new
-AreTaken comes _ old _ new = ⊥
+AreRecordsTaken comes [] old [] new = new ≡ old
+AreRecordsTaken comes (r ∷ rs) old (f ∷ fs) new = (m : Stand) × IsTaken (comes r.1) r.0 old f m ×
+    AreRecordsTaken comes rs m fs new
+AreRecordsTaken comes _ old _ new = ⊥
 
 -- the name of a file that a record wrote, or tried to write
 abbrev pub tried : Fate → List Text
@@ -64,7 +65,7 @@ HavePages comes _ _ files = ⊤
 
 -- a merge that begins over these files
 abbrev pub IsMerge : Job → Nodes → Records → Files → List Fate → Stand → Type 0
-IsMerge job pattern records files fates new = AreTaken (comes_to job (Some pattern)) records
+IsMerge job pattern records files fates new = AreRecordsTaken (comes_to job (Some pattern)) records
     (record { names = empty; files = files }) fates new
 
 -- ---- the laws

@@ -1,6 +1,6 @@
 -- A merge, record after record: which names came before, and what becomes of a record and of the
 -- files.
---     IsStep n made names fate after      what became of record n, and the names after it
+--     IsRecordStep n made names fate after      what became of record n, and the names after it
 --     Leaves made fate old new      the files after it
 use Rattle.std.specs.Prelude.{◌≡◌, ◌⊎◌, ℕ, Option, Some, None, Result, Ok, Err}
 use Rattle.liquid_model.specs.Maps.{Map, insert}
@@ -9,8 +9,8 @@ use Rattle.liquid_disk.specs.Files.{Files, ChangesAt, holds, with_file}
 use Rattle.liquid_records.specs.Records.{Made, Reason}
 
 -- the names that came before, each with the number of its record
-abbrev pub Names : Type 0
-Names = Map ℕ
+abbrev pub EarlierNames : Type 0
+EarlierNames = Map ℕ
 
 -- why a record's page is in no file
 pub data Failed : Type 0 where
@@ -30,13 +30,13 @@ abbrev pub IsTried : Text → Fate → Type 0
 IsTried name fate = (fate ≡ Ok name) ⊎ (fate ≡ Err (unwritten name))
 
 -- a page is written only under a name that didn't come before
-abbrev pub IsNamed : ℕ → Text → Option ℕ → Names → Fate → Names → Type 0
+abbrev pub IsNamed : ℕ → Text → Option ℕ → EarlierNames → Fate → EarlierNames → Type 0
 IsNamed n name (Some before) names fate after = (fate ≡ Err (again name before)) × (after ≡ names)
 IsNamed n name None names fate after = IsTried name fate × (after ≡ insert names name n)
 
-abbrev pub IsStep : ℕ → Result Made Reason → Names → Fate → Names → Type 0
-IsStep n (Err why) names fate after = (fate ≡ Err (no_page why)) × (after ≡ names)
-IsStep n (Ok made) names fate after = IsNamed n made.name (names made.name) names fate after
+abbrev pub IsRecordStep : ℕ → Result Made Reason → EarlierNames → Fate → EarlierNames → Type 0
+IsRecordStep n (Err why) names fate after = (fate ≡ Err (no_page why)) × (after ≡ names)
+IsRecordStep n (Ok made) names fate after = IsNamed n made.name (names made.name) names fate after
 
 -- the file of a page holds the page, one that was refused may hold anything, and no other file
 -- changes

@@ -8,7 +8,7 @@ use Rattle.liquid_evaluation.specs.Tree.{Nodes}
 use Rattle.liquid_syntax.specs.Templates.{tree_of, partials_of}
 use Rattle.liquid_syntax.specs.declared.template.Template.{Template}
 use Rattle.liquid_records.specs.Records as seen
-use Rattle.liquid_records.specs.Steps.{Failed, no_page, again, unwritten, Fate, Names}
+use Rattle.liquid_records.specs.Steps.{Failed, no_page, again, unwritten, Fate, EarlierNames}
 use Rattle.liquid_records.specs.declared.job.Job.{Job}
 use Rattle.liquid_records.specs.declared.job.Made.{Made}
 use Rattle.liquid_records.specs.declared.job.Why.{Why}
@@ -59,5 +59,5 @@ job_of m = job_view m.job
 abbrev pub pattern_of : Merge → Nodes
 pattern_of m = tree_of m.pattern
 
-abbrev pub names_of : Merge → Names
-names_of m = λ name. get_by_text m.names name
+abbrev pub merge_names : Merge → EarlierNames
+merge_names m = λ name. get_by_text m.names name

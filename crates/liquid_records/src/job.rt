@@ -5,8 +5,9 @@ ghost use Rattle.liquid_model.specs.View.{pairs_view};
 ghost use Rattle.liquid_syntax.specs.Templates.{tree_of};
 ghost use Rattle.liquid_lib.specs.Pages.{page_view};
 ghost use Rattle.liquid_json.specs.Json.{data_of};
-ghost use Rattle.liquid_records.specs.Records.{checked_name, comes_to, made_by, made_page, name_of};
-ghost use Rattle.liquid_records.specs.Records.{named_by, page_of};
+ghost use Rattle.liquid_records.specs.Records.{checked_name, comes_to, made_by, made_page};
+ghost use Rattle.liquid_records.specs.Records.{record_file_name};
+ghost use Rattle.liquid_records.specs.Records.{page_name, record_page};
 ghost use Rattle.liquid_records.specs.Views.{job_view, made_view, outcome_view, pattern_view};
 
 use crate::data::{lay_over, take_off};
@@ -136,7 +137,7 @@ impl Job {
     #[tactic(auto, using(crate::proofs::Making::name_is))]
     fn name_over(&self, alloc: Global, pattern: Option<&Template>) -> Result<RecordResult<String>>
         ensures { IsValueOrMemory (outcome_view string_bytes) result
-            (name_of (job_view self.now) (pattern_view pattern.entry)) }
+            (record_file_name (job_view self.now) (pattern_view pattern.entry)) }
     {
         match pattern {
             Some(pattern) => {
@@ -149,7 +150,7 @@ impl Job {
 
     fn page(&self, alloc: Global, template: &Template) -> Result<Page>
         ensures { IsValueOrMemory page_view result
-            (page_of (job_view self.now) (tree_of template.now)) }
+            (record_page (job_view self.now) (tree_of template.now)) }
     {
         render_page(alloc, template, &self.partials, self.depth, &self.shared)
     }
@@ -168,7 +169,7 @@ fn page_named(name: String, page: Page) -> RecordResult<Made>
 
 /// The name that a page is, where it has no fault.
 fn name_in(page: Page) -> RecordResult<String>
-    ensures { outcome_view string_bytes result ≡ named_by (page_view page) }
+    ensures { outcome_view string_bytes result ≡ page_name (page_view page) }
 {
     let Page { text, fault } = page;
     match fault {

@@ -5,8 +5,8 @@ ghost use Rattle.liquid_model.specs.View.{pairs_view};
 ghost use Rattle.liquid_json.specs.Json.{data_of};
 ghost use Rattle.liquid_syntax.specs.Templates.{tree_of};
 ghost use Rattle.liquid_records.specs.Records.{comes_to};
-ghost use Rattle.liquid_records.specs.Steps.{IsStep, Leaves};
-ghost use Rattle.liquid_records.specs.Views.{fate_view, job_of, job_view, made_view, names_of};
+ghost use Rattle.liquid_records.specs.Steps.{IsRecordStep, Leaves};
+ghost use Rattle.liquid_records.specs.Views.{fate_view, job_of, job_view, made_view, merge_names};
 ghost use Rattle.liquid_records.specs.Views.{outcome_view, pattern_of};
 ghost use Rattle.liquid_records.specs.inside.Puts.{map_names};
 
@@ -45,7 +45,7 @@ impl Merge {
     pub fn new(alloc: Global, job: Job, pattern: Template) -> Merge
         ensures job { job_of result ≡ job_view job }
         ensures pattern { pattern_of result ≡ tree_of pattern }
-        ensures names { names_of result ≡ empty }
+        ensures names { merge_names result ≡ empty }
     {
         Merge {
             job,
@@ -68,9 +68,9 @@ impl Merge {
         disk: &mut D,
     ) -> Result<(Merge, Fate)>
         ensures step { IfOk result
-            (λ p. IsStep number (comes_to (job_of self) (Some (pattern_of self))
+            (λ p. IsRecordStep number (comes_to (job_of self) (Some (pattern_of self))
             (Ok (pairs_view «data».entries)))
-            (names_of self) (fate_view p.1) (names_of p.0)) }
+            (merge_names self) (fate_view p.1) (merge_names p.0)) }
         ensures files { IfSome (D.files disk.old) (λ f. IfOk result (λ p.
             Leaves (comes_to (job_of self) (Some (pattern_of self))
             (Ok (pairs_view «data».entries))) (fate_view p.1) f (D.files disk.new))) }
@@ -104,9 +104,9 @@ impl Merge {
         disk: &mut D,
     ) -> Result<(Merge, Fate)>
         ensures step { IfOk result
-            (λ p. IsStep number (comes_to (job_of self) (Some (pattern_of self))
+            (λ p. IsRecordStep number (comes_to (job_of self) (Some (pattern_of self))
             (data_of text.now))
-            (names_of self) (fate_view p.1) (names_of p.0)) }
+            (merge_names self) (fate_view p.1) (merge_names p.0)) }
         ensures files { IfSome (D.files disk.old) (λ f. IfOk result (λ p.
             Leaves (comes_to (job_of self) (Some (pattern_of self)) (data_of text.now))
             (fate_view p.1) f (D.files disk.new))) }
@@ -133,7 +133,7 @@ fn put_if_made<D: Disk>(
     names: &mut BTreeMap<String, usize>,
     disk: &mut D,
 ) -> Result<Fate>
-    ensures step { IfOk result (λ fate. IsStep number (outcome_view made_view outcome)
+    ensures step { IfOk result (λ fate. IsRecordStep number (outcome_view made_view outcome)
         (map_names names.old) (fate_view fate) (map_names names.new)) }
     ensures files { IfSome (D.files disk.old) (λ f. IfOk result (λ fate.
         Leaves (outcome_view made_view outcome) (fate_view fate) f (D.files disk.new))) }
@@ -154,7 +154,8 @@ fn put<D: Disk>(
     names: &mut BTreeMap<String, usize>,
     disk: &mut D,
 ) -> Result<Fate>
-    ensures step { IfOk result (λ fate. IsStep number (Ok (made_view made)) (map_names names.old)
+    ensures step { IfOk result (λ fate. IsRecordStep number (Ok (made_view made))
+        (map_names names.old)
         (fate_view fate) (map_names names.new)) }
     ensures files { IfSome (D.files disk.old)
         (λ f. IfOk result (λ fate. Leaves (Ok (made_view made)) (fate_view fate) f

@@ -1,6 +1,6 @@
 //! The records of a reader, one after another.
 ghost use Rattle.std.specs.Prelude.{◌≡◌, IfOk};
-ghost use Rattle.liquid_row_records.specs.Counted.{counted};
+ghost use Rattle.liquid_row_records.specs.Counted.{record_number_after};
 
 use crate::lines::Lines;
 use crate::record::RowFault;
@@ -71,7 +71,8 @@ impl<R: Read + Drop> Records<R> {
 
     /// Reads the next record. Whether there is one.
     pub fn advance(&mut self) -> io::Result<bool>
-        ensures number { IfOk result (λ found. self.new.number ≡ counted found self.old.number) }
+        ensures number { IfOk result (λ found. self.new.number ≡
+            record_number_after found self.old.number) }
     {
         let found = match &mut self.source {
             Source::Lines(lines) => lines.advance()?,

@@ -36,7 +36,7 @@ abbrev mutual
   use_tokens everything = bare_tokens
   use_tokens (parts members turns) = Token.begin_object
       ∷ (unless_none (are_none members) (property_tokens members)
-      ++ (items_tokens turns ++ (Token.end_object ∷ [])))
+      ++ (item_use_tokens turns ++ (Token.end_object ∷ [])))
 
   -- each key with its schema, and the bracket after the last
   pub property_tokens : Fields → List Token
@@ -44,9 +44,9 @@ abbrev mutual
   property_tokens (field key u more) = Token.key key ∷ (use_tokens u ++ property_tokens more)
 
   -- what a loop goes over
-  pub items_tokens : ItemUse → List Token
-  items_tokens uncounted = []
-  items_tokens (every u) = Token.key (codes "items") ∷ use_tokens u
+  pub item_use_tokens : ItemUse → List Token
+  item_use_tokens uncounted = []
+  item_use_tokens (every u) = Token.key (codes "items") ∷ use_tokens u
 
 abbrev pub properties_tokens : Fields → List Token
 properties_tokens members = properties_start ++ property_tokens members

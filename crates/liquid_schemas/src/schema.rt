@@ -2,7 +2,8 @@
 ghost use Rattle.std.specs.Prelude.{◌≡◌, ◌++◌, codes, IfOk, OnOk, string_bytes};
 ghost use Rattle.std.specs.Str.{IsUtf8};
 ghost use Rattle.liquid_model.specs.UseViews.{members_view, turns_view, use_view};
-ghost use Rattle.liquid_schemas.specs.Schemas.{are_none, bare_tokens, entry_tokens, items_tokens};
+ghost use Rattle.liquid_schemas.specs.Schemas.{are_none, bare_tokens, entry_tokens};
+ghost use Rattle.liquid_schemas.specs.Schemas.{item_use_tokens};
 ghost use Rattle.liquid_schemas.specs.Schemas.{properties_start, properties_tokens};
 ghost use Rattle.liquid_schemas.specs.Schemas.{schema_text, use_tokens};
 
@@ -91,7 +92,7 @@ fn are_none(members: &Uses) -> bool
 /// Puts the schema of the items, where a loop goes over them.
 #[cycle(put)]
 fn put_items(items: &Option<Box<Use>>, schema: &mut Pretty) -> Result<(), AllocError>
-    ensures { OnOk result (schema.new ≡ schema.old ++ items_tokens (turns_view items.now)) }
+    ensures { OnOk result (schema.new ≡ schema.old ++ item_use_tokens (turns_view items.now)) }
 {
     match items {
         Some(item) => {

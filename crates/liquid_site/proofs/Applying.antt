@@ -20,13 +20,13 @@ use Rattle.liquid_language.specs.Entries.{placed}
 use Rattle.liquid_syntax.specs.Slots.{with_held, filled}
 use Rattle.liquid_site.specs.Applied.{IsStep, HasBadSource, AppliesTo}
 use Rattle.liquid_site.specs.PartViews.{SiteView}
-use Rattle.liquid_site.specs.Steps.{Step, remove_partial, remove_value, stepped, rendered_by, raised}
+use Rattle.liquid_site.specs.Steps.{Step, remove_partial, remove_value, stepped, rendered_by, saturated_sum}
 use Rattle.liquid_site.specs.Contents.{Contents}
 use Rattle.liquid_site.proofs.Kept.{without_absent, absent_value}
 use Rattle.liquid_site.specs.declared.change.Change.{Change}
 
 pub applied : (change : Change) (r : Result (Unit {0}) Error) (old new : SiteView) (s : Step) → IsStep old.language change s
-    → IsValueOrMemory (λ u. new.contents) r (stepped s old.contents) → OnOk r (new.rendered ≡ raised old.rendered (rendered_by s old.contents))
+    → IsValueOrMemory (λ u. new.contents) r (stepped s old.contents) → OnOk r (new.rendered ≡ saturated_sum old.rendered (rendered_by s old.contents))
     → OnErr r (new.contents ≡ old.contents) → OnErr r (new.rendered ≡ old.rendered) → AppliesTo change r old new
 applied change (Ok u) old new s is context counted same uncounted = record { step = s; is_step = is; contents = context; rendered = counted }
 applied change (Err e) old new s is context counted same uncounted = record { contents = same; rendered = uncounted; why = subst (λ k. MatchBool (is_memory k) ⊤ (HasBadSource old.language change × IsOfSource k)) (sym context) tt }
@@ -61,7 +61,7 @@ no_partial c name h = λ i. record c { partials = sym (without_absent name c.par
 pub no_value : (c : Contents) (name : Text) → is_some (c.«data» name) ≡ false → c ≡ stepped (remove_value name) c
 no_value c name h = λ i. record c { «data» = sym (absent_value c.«data» name h) i }
 
-pub raised_none : (n m : ℕ) → n < 2 ^ 64 → m ≡ 0 → n ≡ raised n m
+pub raised_none : (n m : ℕ) → n < 2 ^ 64 → m ≡ 0 → n ≡ saturated_sum n m
 raised_none n m h e = omega (arith, h, e)
 
 pub value_there : (m : BTreeMap (String Global) Value) (name : Text) (b : Bool) → b ≡ is_some (lookup (named name) m.entries) → is_some (held m name) ≡ b

@@ -21,7 +21,7 @@ use Rattle.liquid_syntax.specs.NameSets.{added, held}
 use Rattle.liquid_syntax.specs.inside.NameVisitors.{added_both, or_false}
 use Rattle.liquid_syntax.proofs.RunNames.{none_held}
 use Rattle.liquid_site.specs.Steps.{differs, is_same}
-use Rattle.liquid_site.specs.inside.Differing.{texts, differing}
+use Rattle.liquid_site.specs.inside.Differing.{name_texts, differing}
 
 -- ---- one name after another
 
@@ -56,12 +56,12 @@ among test (name ∷ names) q = on (bytes_eq q name) (test name) refl refl (amon
     on false true e h rest = ap (λ b. b || mentioned (filter test names) q) e ∙ rest
     on false false e h rest = rest
 
-has_key : (es : List Entry) (q : Text) → mentioned (texts (keys_of es)) q ≡ is_some (map_of (pairs_view es) q)
+has_key : (es : List Entry) (q : Text) → mentioned (name_texts (keys_of es)) q ≡ is_some (map_of (pairs_view es) q)
 unfolding map_of
 has_key [] q = refl
 has_key (e ∷ es) q = on (bytes_eq q (string_bytes e.0)) (has_key es q)
   where
-    on : (b : Bool) → mentioned (texts (keys_of es)) q ≡ is_some (map_of (pairs_view es) q) → (b || mentioned (texts (keys_of es)) q) ≡ is_some (cond b (Some (view e.1)) (map_of (pairs_view es) q))
+    on : (b : Bool) → mentioned (name_texts (keys_of es)) q ≡ is_some (map_of (pairs_view es) q) → (b || mentioned (name_texts (keys_of es)) q) ≡ is_some (cond b (Some (view e.1)) (map_of (pairs_view es) q))
     on true rest = refl
     on false rest = rest
 
@@ -84,7 +84,7 @@ all_differing old new none some all o n is_old is_new empty first then = fun_ext
     ap (λ h. h q) then
     ∙ ap (λ h. h q || mentioned (differing o n (keys_of new)) q) first
     ∙ ap (λ b. (b || mentioned (differing o n (keys_of old)) q) || mentioned (differing o n (keys_of new)) q) (none_held none q empty)
-    ∙ (λ i. among (differs o n) (texts (keys_of old)) q i || among (differs o n) (texts (keys_of new)) q i)
+    ∙ (λ i. among (differs o n) (name_texts (keys_of old)) q i || among (differs o n) (name_texts (keys_of new)) q i)
     ∙ (λ i. (has_key old q i && differs o n q) || (has_key new q i && differs o n q))
     ∙ (λ i. (is_some (sym is_old i q) && differs o n q) || (is_some (sym is_new i q) && differs o n q))
     ∙ either_has (o q) (n q))

@@ -11,7 +11,8 @@ use Rattle.liquid_language.specs.declared.language.Language.{Language}
 use Rattle.liquid_site.specs.PartViews.{SiteView}
 use Rattle.liquid_site.specs.SiteViews.{site_view}
 use Rattle.liquid_site.specs.Steps.{Step, set_page, remove_page, set_partial, remove_partial}
-use Rattle.liquid_site.specs.Steps.{set_value, remove_value, set_data, stepped, rendered_by, raised}
+use Rattle.liquid_site.specs.Steps.{set_value, remove_value, set_data, stepped, rendered_by}
+use Rattle.liquid_site.specs.Steps.{saturated_sum}
 use Rattle.liquid_site.specs.declared.change.Change.{Change}
 use Rattle.liquid_site.specs.declared.change.Change.TheVariants.{SetPage, RemovePage, SetPartial}
 use Rattle.liquid_site.specs.declared.change.Change.TheVariants.{RemovePartial, SetValue}
@@ -41,7 +42,7 @@ pub record AcceptedStep (change : Change) (old new : SiteView) : Type 0 where
   pub step : Step
   pub is_step : IsStep old.language change step
   pub contents : new.contents ≡ stepped step old.contents
-  pub rendered : new.rendered ≡ raised old.rendered (rendered_by step old.contents)
+  pub rendered : new.rendered ≡ saturated_sum old.rendered (rendered_by step old.contents)
 
 -- nothing changed. Memory ran out, or the source is no template
 pub record RefusedChange (change : Change) (kind : ErrorKind) (old new : SiteView) : Type 0 where
@@ -57,8 +58,8 @@ AppliesTo change (Err e) old new = RefusedChange change e.kind old new
 abbrev pub Accepted : Change → Site → Site → Type 0
 Accepted change old new = AcceptedStep change (site_view old) (site_view new)
 
-abbrev pub Refused : Change → ErrorKind → Site → Site → Type 0
-Refused change kind old new = RefusedChange change kind (site_view old) (site_view new)
+abbrev pub IsChangeRefused : Change → ErrorKind → Site → Site → Type 0
+IsChangeRefused change kind old new = RefusedChange change kind (site_view old) (site_view new)
 
 abbrev pub Applies : Change → Result (Unit {0}) Error → Site → Site → Type 0
 Applies change r old new = AppliesTo change r (site_view old) (site_view new)

@@ -11,8 +11,8 @@ pub record SiteView : Type 0 where
   pub contents : Contents
   pub rendered : ℕ
 
-abbrev pub parts_view : {P : Type 0} → SiteParts P → SiteView
-parts_view s = record {
+abbrev pub site_parts_view : {P : Type 0} → SiteParts P → SiteView
+site_parts_view s = record {
   language = s.language;
   contents = contents_in s.depth s.templates s.partials s.«data»;
   rendered = s.rendered;

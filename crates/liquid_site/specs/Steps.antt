@@ -69,8 +69,8 @@ rendered_by (remove_value name) c = cond (is_some (c.«data» name)) (mentioning
 rendered_by (set_data new) c = mentioning_any c (differs c.«data» new)
 
 -- a count that stays at its greatest value
-abbrev pub raised : ℕ → ℕ → ℕ
-raised count n = min (count + n) 18446744073709551615
+abbrev pub saturated_sum : ℕ → ℕ → ℕ
+saturated_sum count n = min (count + n) 18446744073709551615
 
 -- ---- rendering again what was touched alone
 

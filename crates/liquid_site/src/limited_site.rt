@@ -1,7 +1,7 @@
 //! Sites whose pages are each rendered within limits.
 ghost use Rattle.std.specs.Prelude.{◌≡◌};
 ghost use Rattle.liquid_site.specs.Contents.{pages_from_scratch};
-ghost use Rattle.liquid_site.specs.PartViews.{parts_view};
+ghost use Rattle.liquid_site.specs.PartViews.{site_parts_view};
 ghost use Rattle.liquid_site.specs.Parts.{by_name};
 ghost use Rattle.liquid_site.specs.ShownPages.{AreWithin};
 ghost use Rattle.liquid_site.specs.Within.{AreWithin-prop};
@@ -22,9 +22,9 @@ use std::collections::BTreeMap;
 pub struct LimitedSite {
     limits: Limits,
     parts: SiteParts<LimitedPage>,
-    ghost kept: { AreWithin (pages_from_scratch (parts_view parts).contents)
+    ghost kept: { AreWithin (pages_from_scratch (site_parts_view parts).contents)
         (by_name parts.pages) } by { AreWithin-prop
-            (pages_from_scratch (parts_view parts).contents) (by_name parts.pages) },
+            (pages_from_scratch (site_parts_view parts).contents) (by_name parts.pages) },
 }
 
 /// Drops the parts. Written by hand, so that each early return drops the value by one call to

@@ -54,10 +54,10 @@ impl<P: Drop> SiteParts<P> {
     ghost use Rattle.liquid_evaluation.specs.Tree.{Nodes};
     ghost use Rattle.liquid_lib.specs.Pages.{page_over};
     ghost use Rattle.liquid_site.specs.Applied.{AppliesTo};
-    ghost use Rattle.liquid_site.specs.PartViews.{parts_view};
+    ghost use Rattle.liquid_site.specs.PartViews.{site_parts_view};
     ghost use Rattle.liquid_site.specs.Contents.{page_of};
     ghost use Rattle.liquid_site.specs.Parts.{by_name};
-    ghost use Rattle.liquid_site.specs.Steps.{no_contents, remove_page, stepped, raised};
+    ghost use Rattle.liquid_site.specs.Steps.{no_contents, remove_page, stepped, saturated_sum};
     ghost use Rattle.liquid_core.specs.DataChanges.{with_value};
     ghost use Rattle.liquid_site.specs.Steps.{differs, mentioning, mentioning_any};
     ghost use Rattle.liquid_site.specs.inside.Fresh.{selects, selected};
@@ -65,7 +65,7 @@ impl<P: Drop> SiteParts<P> {
 
     /// The parts of a site over this data, without pages and partials. It takes no memory.
     pub(crate) fn over(alloc: Global, language: Language, depth: u32, data: Object) -> Self
-        ensures parts { parts_view result ≡ record {
+        ensures parts { site_parts_view result ≡ record {
           language = language;
           contents = record (no_contents depth) { «data» = held «data» };
           rendered = 0;
@@ -88,8 +88,10 @@ impl<P: Drop> SiteParts<P> {
     pub(crate) fn apply<R: Rendering<P>>(&mut self, rendering: &R, change: Change) -> Result<()>
         requires { KeepsPages R.shows self.old }
         ensures keeps { KeepsPages R.shows self.new }
-        ensures applied { AppliesTo change result (parts_view self.old) (parts_view self.new) }
-        ensures language { (parts_view self.new).language ≡ (parts_view self.old).language }
+        ensures applied { AppliesTo change result (site_parts_view self.old)
+            (site_parts_view self.new) }
+        ensures language { (site_parts_view self.new).language ≡
+            (site_parts_view self.old).language }
     {
         // No effect at run time. The proof reads the range of the count from this use.
         let _rendered = self.rendered;
@@ -136,18 +138,19 @@ impl<P: Drop> SiteParts<P> {
     ) -> Result<()>
         requires { KeepsPages R.shows self.old }
         ensures keeps { KeepsPages R.shows self.new }
-        ensures set { IsValueOrMemory (λ _. (parts_view self.new).contents) result
-            (record (parts_view self.old).contents {
+        ensures set { IsValueOrMemory (λ _. (site_parts_view self.new).contents) result
+            (record (site_parts_view self.old).contents {
               pages = put (string_bytes name) (tree_of template)
-                  (parts_view self.old).contents.pages;
+                  (site_parts_view self.old).contents.pages;
             }) }
-        ensures counted { OnOk result ((parts_view self.new).rendered ≡
-            raised (parts_view self.old).rendered 1) }
+        ensures counted { OnOk result ((site_parts_view self.new).rendered ≡
+            saturated_sum (site_parts_view self.old).rendered 1) }
         ensures unchanged { OnErr result
-            ((parts_view self.new).contents ≡ (parts_view self.old).contents) }
+            ((site_parts_view self.new).contents ≡ (site_parts_view self.old).contents) }
         ensures uncounted { OnErr result
-            ((parts_view self.new).rendered ≡ (parts_view self.old).rendered) }
-        ensures language { (parts_view self.new).language ≡ (parts_view self.old).language }
+            ((site_parts_view self.new).rendered ≡ (site_parts_view self.old).rendered) }
+        ensures language { (site_parts_view self.new).language ≡
+            (site_parts_view self.old).language }
     {
         let page = rendering.page(
             self.alloc,
@@ -170,10 +173,12 @@ impl<P: Drop> SiteParts<P> {
     /// Takes a page and its template out. It takes no memory.
     fn remove_page(&mut self, name: &str)
         ensures pages { by_name self.new.pages ≡ without name.now (by_name self.old.pages) }
-        ensures removed { (parts_view self.new).contents ≡ stepped (remove_page name.now)
-            (parts_view self.old).contents }
-        ensures uncounted { (parts_view self.new).rendered ≡ (parts_view self.old).rendered }
-        ensures language { (parts_view self.new).language ≡ (parts_view self.old).language }
+        ensures removed { (site_parts_view self.new).contents ≡ stepped (remove_page name.now)
+            (site_parts_view self.old).contents }
+        ensures uncounted { (site_parts_view self.new).rendered ≡
+            (site_parts_view self.old).rendered }
+        ensures language { (site_parts_view self.new).language ≡
+            (site_parts_view self.old).language }
     {
         drop(self.templates.remove(name));
         drop(self.pages.remove(name));
@@ -190,18 +195,20 @@ impl<P: Drop> SiteParts<P> {
         requires slot { IsSome (listed (slots_of self.old.partials) name.now) }
         requires shown { KeepsPages R.shows self.old }
         ensures keeps { KeepsPages R.shows self.new }
-        ensures set { IsValueOrMemory (λ _. (parts_view self.new).contents) result
-            (record (parts_view self.old).contents {
+        ensures set { IsValueOrMemory (λ _. (site_parts_view self.new).contents) result
+            (record (site_parts_view self.old).contents {
               partials = exchanged name.now
-                  (option_map tree_of held) (parts_view self.old).contents.partials;
+                  (option_map tree_of held) (site_parts_view self.old).contents.partials;
             }) }
-        ensures counted { OnOk result ((parts_view self.new).rendered ≡ raised
-            (parts_view self.old).rendered (length (parts_view self.old).contents.pages)) }
+        ensures counted { OnOk result ((site_parts_view self.new).rendered ≡ saturated_sum
+            (site_parts_view self.old).rendered (length (site_parts_view self.old).contents.pages))
+                }
         ensures unchanged { OnErr result
-            ((parts_view self.new).contents ≡ (parts_view self.old).contents) }
+            ((site_parts_view self.new).contents ≡ (site_parts_view self.old).contents) }
         ensures uncounted { OnErr result
-            ((parts_view self.new).rendered ≡ (parts_view self.old).rendered) }
-        ensures language { (parts_view self.new).language ≡ (parts_view self.old).language }
+            ((site_parts_view self.new).rendered ≡ (site_parts_view self.old).rendered) }
+        ensures language { (site_parts_view self.new).language ≡
+            (site_parts_view self.old).language }
     {
         let before = self.partials.exchange(name, held);
         let context = RenderContext {
@@ -233,18 +240,20 @@ impl<P: Drop> SiteParts<P> {
     ) -> Result<()>
         requires { KeepsPages R.shows self.old }
         ensures keeps { KeepsPages R.shows self.new }
-        ensures set { IsValueOrMemory (λ _. (parts_view self.new).contents) result
-            (record (parts_view self.old).contents {
-              «data» = with_value (parts_view self.old).contents.«data»
+        ensures set { IsValueOrMemory (λ _. (site_parts_view self.new).contents) result
+            (record (site_parts_view self.old).contents {
+              «data» = with_value (site_parts_view self.old).contents.«data»
                   name.now (option_map view value);
             }) }
-        ensures counted { OnOk result ((parts_view self.new).rendered ≡ raised
-            (parts_view self.old).rendered (mentioning (parts_view self.old).contents name.now)) }
+        ensures counted { OnOk result ((site_parts_view self.new).rendered ≡ saturated_sum
+            (site_parts_view self.old).rendered (mentioning (site_parts_view self.old).contents
+                name.now)) }
         ensures unchanged { OnErr result
-            ((parts_view self.new).contents ≡ (parts_view self.old).contents) }
+            ((site_parts_view self.new).contents ≡ (site_parts_view self.old).contents) }
         ensures uncounted { OnErr result
-            ((parts_view self.new).rendered ≡ (parts_view self.old).rendered) }
-        ensures language { (parts_view self.new).language ≡ (parts_view self.old).language }
+            ((site_parts_view self.new).rendered ≡ (site_parts_view self.old).rendered) }
+        ensures language { (site_parts_view self.new).language ≡
+            (site_parts_view self.old).language }
     {
         let data = changed(self.alloc, &self.data, name, value)?;
         let selection = Selection::by_name(&self.partials, name);
@@ -256,16 +265,17 @@ impl<P: Drop> SiteParts<P> {
     fn change_data<R: Rendering<P>>(&mut self, rendering: &R, data: Object) -> Result<()>
         requires { KeepsPages R.shows self.old }
         ensures keeps { KeepsPages R.shows self.new }
-        ensures set { IsValueOrMemory (λ _. (parts_view self.new).contents) result
-            (record (parts_view self.old).contents { «data» = held «data» }) }
-        ensures counted { OnOk result ((parts_view self.new).rendered ≡ raised
-            (parts_view self.old).rendered (mentioning_any (parts_view self.old).contents
-            (differs (parts_view self.old).contents.«data» (held «data»)))) }
+        ensures set { IsValueOrMemory (λ _. (site_parts_view self.new).contents) result
+            (record (site_parts_view self.old).contents { «data» = held «data» }) }
+        ensures counted { OnOk result ((site_parts_view self.new).rendered ≡ saturated_sum
+            (site_parts_view self.old).rendered (mentioning_any (site_parts_view self.old).contents
+            (differs (site_parts_view self.old).contents.«data» (held «data»)))) }
         ensures unchanged { OnErr result
-            ((parts_view self.new).contents ≡ (parts_view self.old).contents) }
+            ((site_parts_view self.new).contents ≡ (site_parts_view self.old).contents) }
         ensures uncounted { OnErr result
-            ((parts_view self.new).rendered ≡ (parts_view self.old).rendered) }
-        ensures language { (parts_view self.new).language ≡ (parts_view self.old).language }
+            ((site_parts_view self.new).rendered ≡ (site_parts_view self.old).rendered) }
+        ensures language { (site_parts_view self.new).language ≡
+            (site_parts_view self.old).language }
     {
         let both = Replaced {
             old: &self.data,
@@ -285,21 +295,23 @@ impl<P: Drop> SiteParts<P> {
         selection: Selection<'_>,
     ) -> Result<()>
         requires untouched { (nodes : Nodes) → selects selection nodes ≡ false →
-            page_over (parts_view self.old).contents.depth (parts_view self.old).contents.partials
-            (held «data») nodes ≡ page_of (parts_view self.old).contents nodes }
+            page_over (site_parts_view self.old).contents.depth
+                (site_parts_view self.old).contents.partials
+            (held «data») nodes ≡ page_of (site_parts_view self.old).contents nodes }
         requires shown { KeepsPages R.shows self.old }
         ensures keeps { KeepsPages R.shows self.new }
-        ensures set { IsValueOrMemory (λ _. (parts_view self.new).contents) result
-            (record (parts_view self.old).contents { «data» = held «data» }) }
-        ensures counted { OnOk result ((parts_view self.new).rendered ≡ raised
-            (parts_view self.old).rendered
+        ensures set { IsValueOrMemory (λ _. (site_parts_view self.new).contents) result
+            (record (site_parts_view self.old).contents { «data» = held «data» }) }
+        ensures counted { OnOk result ((site_parts_view self.new).rendered ≡ saturated_sum
+            (site_parts_view self.old).rendered
             (length (selected (selects selection.entry)
-            (parts_view self.old).contents.pages))) }
+            (site_parts_view self.old).contents.pages))) }
         ensures unchanged { OnErr result
-            ((parts_view self.new).contents ≡ (parts_view self.old).contents) }
+            ((site_parts_view self.new).contents ≡ (site_parts_view self.old).contents) }
         ensures uncounted { OnErr result
-            ((parts_view self.new).rendered ≡ (parts_view self.old).rendered) }
-        ensures language { (parts_view self.new).language ≡ (parts_view self.old).language }
+            ((site_parts_view self.new).rendered ≡ (site_parts_view self.old).rendered) }
+        ensures language { (site_parts_view self.new).language ≡
+            (site_parts_view self.old).language }
     {
         let context = RenderContext {
             rendering,

@@ -2,7 +2,7 @@
 ghost use Rattle.std.specs.Prelude.{◌≡◌};
 ghost use Rattle.liquid_site.specs.Contents.{pages_from_scratch};
 ghost use Rattle.liquid_site.specs.Faults.{Pages-prop};
-ghost use Rattle.liquid_site.specs.PartViews.{parts_view};
+ghost use Rattle.liquid_site.specs.PartViews.{site_parts_view};
 ghost use Rattle.liquid_site.specs.Parts.{pages_in};
 
 use crate::change::Change;
@@ -21,8 +21,8 @@ use std::collections::BTreeMap;
 pub struct Site {
     parts: SiteParts<Page>,
     ghost kept: { pages_in parts.pages ≡ pages_from_scratch
-        (parts_view parts).contents } by { Pages-prop (pages_in parts.pages)
-            (pages_from_scratch (parts_view parts).contents) },
+        (site_parts_view parts).contents } by { Pages-prop (pages_in parts.pages)
+            (pages_from_scratch (site_parts_view parts).contents) },
 }
 
 /// Drops the parts. Written by hand, so that each early return drops the value by one call to
@@ -36,14 +36,14 @@ impl Drop for Site {
 impl Site {
     ghost use Rattle.liquid_core.specs.Held.{held};
     ghost use Rattle.liquid_site.specs.Applied.{Applies};
-    ghost use Rattle.liquid_site.specs.SiteViews.{contents_of, language_of, count_of};
+    ghost use Rattle.liquid_site.specs.SiteViews.{contents_of, language_of, rendered_count};
     ghost use Rattle.liquid_site.specs.Steps.{no_contents};
 
     /// A site without pages, partials and data, of so many nested partials. It takes no memory.
     pub fn new(alloc: Global, language: Language, depth: u32) -> Site
         ensures contents { contents_of result ≡ no_contents depth }
         ensures language { language_of result ≡ language }
-        ensures rendered { count_of result ≡ 0 }
+        ensures rendered { rendered_count result ≡ 0 }
     {
         Site::over(alloc, language, depth, Object::new(alloc))
     }
@@ -54,7 +54,7 @@ impl Site {
         ensures contents { contents_of result ≡
             record (no_contents depth) { «data» = held «data» } }
         ensures language { language_of result ≡ language }
-        ensures rendered { count_of result ≡ 0 }
+        ensures rendered { rendered_count result ≡ 0 }
     {
         Site {
             parts: SiteParts::over(alloc, language, depth, data),
@@ -77,7 +77,7 @@ impl Site {
 
     /// How many renderings of pages the accepted changes took, up to the greatest value.
     pub fn rendered(&self) -> u64
-        ensures { result ≡ count_of self.now }
+        ensures { result ≡ rendered_count self.now }
     {
         self.parts.rendered
     }

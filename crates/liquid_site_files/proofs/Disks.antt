@@ -10,8 +10,8 @@ use Rattle.liquid_model.specs.Texts.{Text}
 use Rattle.liquid_model.specs.declared.error.Error.{Error}
 use Rattle.liquid_lib.specs.Pages.{Shown}
 use Rattle.liquid_site.specs.Contents.{Pages}
-use Rattle.liquid_site.specs.Steps.{raised}
-use Rattle.liquid_site_files.specs.Written.{all_written, count_from, is_page_path, KeepsOthers, unwritten_message, IsUnwritten, TellsUnwritten}
+use Rattle.liquid_site.specs.Steps.{saturated_sum}
+use Rattle.liquid_site_files.specs.Written.{all_written, count_from, is_page_path, KeepsOtherFiles, unwritten_message, IsUnwritten, TellsUnwritten}
 use Rattle.liquid_disk.specs.Files.{File, Files, gone, holds, unread, with_file, is_held, ChangesAt, IsPut}
 use Rattle.liquid_disk.specs.declared.disk.DiskFault.{DiskFault}
 use Rattle.liquid_site_files.specs.inside.Needed.{NeededUnlessMemory}
@@ -104,7 +104,7 @@ written_last : (out : Text) (ps : Pages) (p : Text × Shown) (old : Files) → a
 written_last out [] p old = refl
 written_last out (q ∷ qs) p old = written_last out qs p (with_file old (out ++ q.0) (holds q.1.text))
 
-step : (out : Text) (all rest : Pages) (p : Text × Shown) (n m : ℕ) (old g : Files) → IsOn out all (p ∷ rest) n old g → m ≡ cond (is_held (g (out ++ p.0)) p.1.text) n (raised n 1)
+step : (out : Text) (all rest : Pages) (p : Text × Shown) (n m : ℕ) (old g : Files) → IsOn out all (p ∷ rest) n old g → m ≡ cond (is_held (g (out ++ p.0)) p.1.text) n (saturated_sum n 1)
     → IsOn out all rest m old (with_file g (out ++ p.0) (holds p.1.text))
 step out all rest p n m old g on count = record {
   written = on.written;
@@ -137,7 +137,7 @@ turned false false x y e = absurd cc
 
 -- a page was written, or its file had its text
 pub moved_on : (o w v : Option Files) (out : Text) (all left rest : Pages) (p : Text × Shown) (name text : Text) (n m : ℕ) (b : Bool) → left ≡ p ∷ rest → name ≡ p.0 → text ≡ p.1.text
-    → IfSome o (λ f. Progress out all left n f w) → IfSome w (λ f. v ≡ Some (with_file f (out ++ name) (holds text))) → IfSome w (λ f. b ≡ not (is_held (f (out ++ name)) text)) → m ≡ cond b (raised n 1) n
+    → IfSome o (λ f. Progress out all left n f w) → IfSome w (λ f. v ≡ Some (with_file f (out ++ name) (holds text))) → IfSome w (λ f. b ≡ not (is_held (f (out ++ name)) text)) → m ≡ cond b (saturated_sum n 1) n
     → IfSome o (λ f. Progress out all rest m f v)
 moved_on None w v out all left rest p name text n m b is named told on put needed count = tt
 moved_on (Some f) None v out all left rest p name text n m b is named told on put needed count = absurd on
@@ -145,17 +145,17 @@ moved_on (Some f) (Some g) v out all left rest p name text n m b is named told o
     let here : b ≡ not (is_held (g (out ++ p.0)) p.1.text) = needed ∙ (λ i. not (is_held (g (out ++ named i)) (told i))) in
     let on_it : IsOn out all (p ∷ rest) n f g = subst (λ l. IsOn out all l n f g) is on in
     let there : v ≡ Some (with_file g (out ++ p.0) (holds p.1.text)) = put ∙ (λ i. Some (with_file g (out ++ named i) (holds (told i)))) in
-    subst (λ x. Progress out all rest m f x) (sym there) (step out all rest p n m f g on_it (count ∙ turned b (is_held (g (out ++ p.0)) p.1.text) (raised n 1) n here))
+    subst (λ x. Progress out all rest m f x) (sym there) (step out all rest p n m f g on_it (count ∙ turned b (is_held (g (out ++ p.0)) p.1.text) (saturated_sum n 1) n here))
 
 -- the writing ended at a page
 pub ended_at : (o w v : Option Files) (out : Text) (all left rest : Pages) (p : Text × Shown) (name : Text) (n : ℕ) → left ≡ p ∷ rest → name ≡ p.0 → IfSome o (λ f. Progress out all left n f w) → IfSome w (λ f. ChangesAt (out ++ name) f v)
-    → IfSome o (λ f. KeepsOthers out all f v)
+    → IfSome o (λ f. KeepsOtherFiles out all f v)
 ended_at None w v out all left rest p name n is named on changed = tt
 ended_at (Some f) None v out all left rest p name n is named on changed = absurd on
 ended_at (Some f) (Some g) v out all left rest p name n is named on changed =
     let on_it : IsOn out all (p ∷ rest) n f g = subst (λ l. IsOn out all l n f g) is on in
     let there : v ≡ Some (with_file g (out ++ p.0) changed.0) = changed.1 ∙ (λ i. Some (with_file g (out ++ named i) changed.0)) in
-    subst (λ x. KeepsOthers out all f x) (sym there) (others_kept out all rest p n f g changed.0 on_it)
+    subst (λ x. KeepsOtherFiles out all f x) (sym there) (others_kept out all rest p n f g changed.0 on_it)
 
 -- the page that it ended at, unless memory ran out
 pub stopped_at : (o w v : Option Files) (out : Text) (all left rest : Pages) (p : Text × Shown) (name text : Text) (n : ℕ) (e : Error) → left ≡ p ∷ rest → name ≡ p.0 → text ≡ p.1.text → IfSome o (λ f. Progress out all left n f w)

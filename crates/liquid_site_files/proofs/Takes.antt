@@ -16,7 +16,7 @@ use Rattle.liquid_lib.proofs.Joined.{memory_of}
 use Rattle.liquid_syntax.specs.Parsing.{IsOfSource}
 use Rattle.liquid_language.specs.declared.language.Language.{Language}
 use Rattle.liquid_json.specs.Json.{data_of}
-use Rattle.liquid_site.specs.Applied.{Applies, Refused, HasBadSource}
+use Rattle.liquid_site.specs.Applied.{Applies, IsChangeRefused, HasBadSource}
 use Rattle.liquid_site.specs.Contents.{Contents}
 use Rattle.liquid_site.specs.SiteViews.{contents_of, language_of}
 use Rattle.liquid_site.specs.Steps.{stepped}
@@ -24,10 +24,10 @@ use Rattle.liquid_site.specs.declared.change.Change.{Change}
 use Rattle.liquid_site.specs.declared.change.Change.TheVariants.{SetData}
 use Rattle.liquid_site.specs.declared.site.Site.{Site}
 use Rattle.liquid_disk.specs.Files.{Files}
-use Rattle.liquid_site_files.specs.inside.Found.{found_view}
-use Rattle.liquid_site_files.specs.Paths.{path_of}
-use Rattle.liquid_site_files.specs.Refusals.{Refuses, IsRefusal, AreRefusals}
-use Rattle.liquid_site_files.specs.Taken.{Takes, TakesData, AreTaken, with_data}
+use Rattle.liquid_site_files.specs.inside.Found.{file_state_view}
+use Rattle.liquid_site_files.specs.Paths.{changed_file_path}
+use Rattle.liquid_site_files.specs.Refusals.{RefusesFile, IsRefusal, AreRefusals}
+use Rattle.liquid_site_files.specs.Taken.{TakesFile, TakesData, AreTaken, contents_with_data}
 use Rattle.liquid_site_files.specs.inside.Changes.{TakesChange}
 use Rattle.liquid_site_files.specs.declared.folder.Changed.{Changed}
 use Rattle.liquid_site_files.specs.declared.folder.Folder.{Folder}
@@ -36,7 +36,7 @@ use Rattle.liquid_site_files.specs.declared.take.FileState.TheVariants as found
 use Rattle.liquid_site_files.specs.declared.take.RefusedFile.{RefusedFile}
 use Rattle.liquid_site_files.specs.declared.take.RefusalReason.{RefusalReason}
 
-pub refused_change : (r : Result (Option RefusalReason) Error) (change : Change) (kind : ErrorKind) (old new : Site) → IfOk r (λ why. is_memory kind ≡ false) → Refused change kind old new → OnOk r (TakesChange change old new)
+pub refused_change : (r : Result (Option RefusalReason) Error) (change : Change) (kind : ErrorKind) (old new : Site) → IfOk r (λ why. is_memory kind ≡ false) → IsChangeRefused change kind old new → OnOk r (TakesChange change old new)
 refused_change (Ok o) change kind old new h refused = inr ((subst (λ b. MatchBool b ⊤ (HasBadSource (language_of old) change × IsOfSource kind)) h refused.why).0, refused.contents)
 refused_change (Err e) change kind old new h refused = tt
 
@@ -49,11 +49,11 @@ data_set (Ok u) new before after done = done.contents ∙ ap (λ s. stepped s (c
 data_set (Err e) new before after done = no_source e.kind _ (is_memory e.kind) refl done.why
 
 pub refused_data : (r : Result (Option RefusalReason) Error) (kind : ErrorKind) (given : Text) (text : String Global) (f : FileState) (c : Contents) → IfOk r (λ why. is_memory kind ≡ false) → Faulted kind (data_of given) → given ≡ string_bytes text → f ≡ found.Text text
-    → OnOk r (TakesData (found_view f) c c)
+    → OnOk r (TakesData (file_state_view f) c c)
 refused_data (Err e) kind given text f c h faulted is there = tt
 refused_data (Ok o) kind given text f c h faulted is there =
     let none : data_of given ≡ Err kind = (subst (λ b. MatchBool b ⊤ ((data_of given ≡ Err kind) × (is_refusal kind ≡ false))) h faulted).0 in
-    subst (λ x. TakesData (found_view x) c c) (sym there) (sym (ap (λ s. with_data (data_of s) c) (sym is) ∙ ap (λ r. with_data r c) none))
+    subst (λ x. TakesData (file_state_view x) c c) (sym there) (sym (ap (λ s. contents_with_data (data_of s) c) (sym is) ∙ ap (λ r. contents_with_data r c) none))
 
 next_item : {X : Type 0} (xs : List X) (i : ℕ) (x : X) → x ≡ get_or xs i x → i < length xs → drop i xs ≡ x ∷ drop (i + 1) xs
 next_item xs i x is lt = rw add-one (drop-cons xs i x lt ∙ ap (λ y. y ∷ drop (suc i) xs) (sym is))
@@ -65,11 +65,11 @@ taken_first (Some f) l folder changes first = λ d h. h
 
 -- one more file is taken
 pub taken_on : (o : Option Files) (l own : Language) (folder : Folder) (changes : List Changed) (i : ℕ) (changed : Changed) (first now new : Contents) → own ≡ l → changed ≡ get_or changes i changed → i < length changes
-    → IfSome o (λ f. (d : Contents) → AreTaken l folder f (drop i changes) now d → AreTaken l folder f changes first d) → IfSome o (λ f. Takes own changed (f (path_of folder changed)) now new)
+    → IfSome o (λ f. (d : Contents) → AreTaken l folder f (drop i changes) now d → AreTaken l folder f changes first d) → IfSome o (λ f. TakesFile own changed (f (changed_file_path folder changed)) now new)
     → IfSome o (λ f. (d : Contents) → AreTaken l folder f (drop (i + 1) changes) new d → AreTaken l folder f changes first d)
 taken_on None l own folder changes i changed first now new same is lt so step = tt
 taken_on (Some f) l own folder changes i changed first now new same is lt so step =
-    let here : Takes l changed (f (path_of folder changed)) now new = subst (λ k. Takes k changed (f (path_of folder changed)) now new) same step in
+    let here : TakesFile l changed (f (changed_file_path folder changed)) now new = subst (λ k. TakesFile k changed (f (changed_file_path folder changed)) now new) same step in
     λ d more. so d (subst (λ cs. AreTaken l folder f cs now d) (sym (next_item changes i changed is lt)) (new, here, more))
 
 -- all files are taken
@@ -80,7 +80,7 @@ all_taken (Some f) l folder changes i first now none so = so now (subst (λ cs. 
 
 -- ---- what is told
 
-is_refusal_of : (l : Language) (folder : Folder) (files : Files) (changed : Changed) (r : Option RefusedFile) → Refuses l changed (files (path_of folder changed)) (option_map (λ refusal. refusal.why) r) → IfSome r (λ refusal. string_bytes refusal.path ≡ path_of folder changed)
+is_refusal_of : (l : Language) (folder : Folder) (files : Files) (changed : Changed) (r : Option RefusedFile) → RefusesFile l changed (files (changed_file_path folder changed)) (option_map (λ refusal. refusal.why) r) → IfSome r (λ refusal. string_bytes refusal.path ≡ changed_file_path folder changed)
     → IsRefusal l folder files changed r
 is_refusal_of l folder files changed None why path = why
 is_refusal_of l folder files changed (Some refusal) why path = (path, why)
@@ -92,8 +92,8 @@ told_first (Some f) l folder changes told none = λ rs h. subst (λ ts. AreRefus
 
 -- one more file is told of, or is not refused
 pub told_on : (o : Option Files) (l own : Language) (folder : Folder) (changes : List Changed) (i : ℕ) (changed : Changed) (r : Option RefusedFile) (before after : List RefusedFile) → own ≡ l → changed ≡ get_or changes i changed → i < length changes
-    → IfSome o (λ f. (rs : List RefusedFile) → AreRefusals l folder f (drop i changes) rs → AreRefusals l folder f changes (before ++ rs)) → IfSome o (λ f. Refuses own changed (f (path_of folder changed)) (option_map (λ refusal. refusal.why) r))
-    → IfSome r (λ refusal. string_bytes refusal.path ≡ path_of folder changed) → after ≡ before ++ option_to_list r
+    → IfSome o (λ f. (rs : List RefusedFile) → AreRefusals l folder f (drop i changes) rs → AreRefusals l folder f changes (before ++ rs)) → IfSome o (λ f. RefusesFile own changed (f (changed_file_path folder changed)) (option_map (λ refusal. refusal.why) r))
+    → IfSome r (λ refusal. string_bytes refusal.path ≡ changed_file_path folder changed) → after ≡ before ++ option_to_list r
     → IfSome o (λ f. (rs : List RefusedFile) → AreRefusals l folder f (drop (i + 1) changes) rs → AreRefusals l folder f changes (after ++ rs))
 told_on None l own folder changes i changed r before after same is lt so why path joined = tt
 told_on (Some f) l own folder changes i changed r before after same is lt so why path joined =

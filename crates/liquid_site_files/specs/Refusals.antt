@@ -9,7 +9,7 @@ use Rattle.liquid_syntax.specs.Parsing.{IsOnlyTree, HasNoTree, IsOfSource}
 use Rattle.liquid_language.specs.declared.language.Language.{Language}
 use Rattle.liquid_json.specs.Json.{data_of}
 use Rattle.liquid_disk.specs.Files.{File, Files, gone, holds, unread}
-use Rattle.liquid_site_files.specs.Paths.{path_of}
+use Rattle.liquid_site_files.specs.Paths.{changed_file_path}
 use Rattle.liquid_site_files.specs.declared.folder.Changed.{Changed}
 use Rattle.liquid_site_files.specs.declared.folder.Changed.TheVariants.{Page, Partial, Data}
 use Rattle.liquid_site_files.specs.declared.folder.Folder.{Folder}
@@ -44,17 +44,18 @@ RefusesData gone why = why ≡ Some Unread
 RefusesData unread why = why ≡ Some Unread
 
 -- a changed file, by what stands at its path: why it is refused, or none where it is not
-abbrev pub Refuses : Language → Changed → File → Option RefusalReason → Type 0
-Refuses l (Page name) file why = RefusesTemplate l file why
-Refuses l (Partial name) file why = RefusesTemplate l file why
-Refuses l Data file why = RefusesData file why
+abbrev pub RefusesFile : Language → Changed → File → Option RefusalReason → Type 0
+RefusesFile l (Page name) file why = RefusesTemplate l file why
+RefusesFile l (Partial name) file why = RefusesTemplate l file why
+RefusesFile l Data file why = RefusesData file why
 
 -- what a round says of a changed file: its path with why it is refused, or nothing
 abbrev pub IsRefusal : Language → Folder → Files → Changed → Option RefusedFile → Type 0
-IsRefusal l folder files changed None = Refuses l changed (files (path_of folder changed)) None
+IsRefusal l folder files changed None = RefusesFile l changed
+    (files (changed_file_path folder changed)) None
 IsRefusal l folder files changed (Some refusal) =
-    (string_bytes refusal.path ≡ path_of folder changed) ×
-    Refuses l changed (files (path_of folder changed)) (Some refusal.why)
+    (string_bytes refusal.path ≡ changed_file_path folder changed) ×
+    RefusesFile l changed (files (changed_file_path folder changed)) (Some refusal.why)
 
 -- what a round says of all changed files, one after another
 abbrev pub AreRefusals : Language → Folder → Files → List Changed → List RefusedFile → Type 0

@@ -11,7 +11,7 @@ use Rattle.liquid_site.specs.Contents.{Contents}
 use Rattle.liquid_site.specs.Steps.{Step, set_page, remove_page, set_partial, remove_partial}
 use Rattle.liquid_site.specs.Steps.{stepped}
 use Rattle.liquid_disk.specs.Files.{File, Files, gone, holds, unread}
-use Rattle.liquid_site_files.specs.Paths.{path_of}
+use Rattle.liquid_site_files.specs.Paths.{changed_file_path}
 use Rattle.liquid_site_files.specs.declared.folder.Changed.{Changed}
 use Rattle.liquid_site_files.specs.declared.folder.Changed.TheVariants.{Page, Partial, Data}
 use Rattle.liquid_site_files.specs.declared.folder.Folder.{Folder}
@@ -25,26 +25,27 @@ TakesTemplate l set remove gone c d = d ≡ stepped remove c
 TakesTemplate l set remove unread c d = d ≡ c
 
 -- the contents with these data; a fault changes nothing
-abbrev pub with_data : Result Pairs ErrorKind → Contents → Contents
-with_data (Ok «data») c = record c { «data» = map_of «data» }
-with_data (Err kind) c = c
+abbrev pub contents_with_data : Result Pairs ErrorKind → Contents → Contents
+contents_with_data (Ok «data») c = record c { «data» = map_of «data» }
+contents_with_data (Err kind) c = c
 
 -- the data's file: all that it gives, and nothing changes where it gives no data, is gone or can't
 -- be read
 abbrev pub TakesData : File → Contents → Contents → Type 0
-TakesData (holds source) c d = d ≡ with_data (data_of source) c
+TakesData (holds source) c d = d ≡ contents_with_data (data_of source) c
 TakesData gone c d = d ≡ c
 TakesData unread c d = d ≡ c
 
-abbrev pub Takes : Language → Changed → File → Contents → Contents → Type 0
-Takes l (Page name) file = TakesTemplate l (set_page (string_bytes name))
+abbrev pub TakesFile : Language → Changed → File → Contents → Contents → Type 0
+TakesFile l (Page name) file = TakesTemplate l (set_page (string_bytes name))
     (remove_page (string_bytes name)) file
-Takes l (Partial name) file = TakesTemplate l (set_partial (string_bytes name))
+TakesFile l (Partial name) file = TakesTemplate l (set_partial (string_bytes name))
     (remove_partial (string_bytes name)) file
-Takes l Data file = TakesData file
+TakesFile l Data file = TakesData file
 
 -- the files are taken one after another
 abbrev pub AreTaken : Language → Folder → Files → List Changed → Contents → Contents → Type 0
 AreTaken l folder files [] c d = d ≡ c
 AreTaken l folder files (changed ∷ rest) c d = (m : Contents) ×
-    Takes l changed (files (path_of folder changed)) c m × AreTaken l folder files rest m d
+    TakesFile l changed (files (changed_file_path folder changed)) c m ×
+        AreTaken l folder files rest m d

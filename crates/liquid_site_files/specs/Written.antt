@@ -10,7 +10,7 @@ use Rattle.liquid_model.specs.declared.error.ErrorKind.{ErrorKind}
 use Rattle.liquid_model.specs.declared.error.ErrorKind.TheVariants.{Memory, Write}
 use Rattle.liquid_lib.specs.Pages.{Shown}
 use Rattle.liquid_site.specs.Contents.{Pages}
-use Rattle.liquid_site.specs.Steps.{raised}
+use Rattle.liquid_site.specs.Steps.{saturated_sum}
 use Rattle.liquid_disk.specs.Files.{Files, ChangesAt, holds, with_file, is_held}
 
 -- why a page's file isn't written: memory ran out, or the disk refused it
@@ -26,7 +26,7 @@ all_written out (p ∷ ps) files = all_written out ps (with_file files (out ++ p
 abbrev pub count_from : ℕ → Text → Pages → Files → ℕ
 count_from n out [] files = n
 count_from n out (p ∷ ps) files =
-    count_from (cond (is_held (files (out ++ p.0)) p.1.text) n (raised n 1)) out ps
+    count_from (cond (is_held (files (out ++ p.0)) p.1.text) n (saturated_sum n 1)) out ps
     (with_file files (out ++ p.0) (holds p.1.text))
 
 -- whether a path is that of a page's file
@@ -34,9 +34,9 @@ abbrev pub is_page_path : Text → Pages → Text → Bool
 is_page_path out ps q = list_any (λ p. bytes_eq (out ++ p.0) q) ps
 
 -- no file changed but those of pages
-abbrev pub KeepsOthers : Text → Pages → Files → Option Files → Type 0
-KeepsOthers out ps old None = ⊥
-KeepsOthers out ps old (Some new) = (q : Text) → is_page_path out ps q ≡ false → new q ≡ old q
+abbrev pub KeepsOtherFiles : Text → Pages → Files → Option Files → Type 0
+KeepsOtherFiles out ps old None = ⊥
+KeepsOtherFiles out ps old (Some new) = (q : Text) → is_page_path out ps q ≡ false → new q ≡ old q
 
 -- what a message says of a file that isn't written
 abbrev pub unwritten_message : Text → Text

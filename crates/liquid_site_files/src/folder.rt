@@ -1,7 +1,7 @@
 //! The files of a site.
 ghost use Rattle.liquid_model.specs.Answer.{IsValueOrMemory};
 ghost use Rattle.std.specs.Prelude.{◌++◌, string_bytes};
-ghost use Rattle.liquid_site_files.specs.Paths.{path_of};
+ghost use Rattle.liquid_site_files.specs.Paths.{changed_file_path};
 
 use liquid_core::Result;
 use std::alloc::Global;
@@ -34,7 +34,7 @@ pub struct Folder {
 
 /// The path of a file of the site.
 pub(crate) fn path_of(alloc: Global, folder: &Folder, changed: &Changed) -> Result<String>
-    ensures { IsValueOrMemory string_bytes result (path_of folder.now changed.now) }
+    ensures { IsValueOrMemory string_bytes result (changed_file_path folder.now changed.now) }
 {
     match changed {
         Changed::Page(name) => joined(alloc, folder.pages.as_str(), name.as_str()),

@@ -4,7 +4,7 @@ ghost use Rattle.liquid_site.specs.Contents.{pages_from_scratch};
 ghost use Rattle.liquid_site.specs.SiteViews.{contents_of, language_of};
 ghost use Rattle.liquid_site_files.specs.Refusals.{AreRefusals};
 ghost use Rattle.liquid_site_files.specs.Taken.{AreTaken};
-ghost use Rattle.liquid_site_files.specs.Written.{IsStop, all_written, count_from, KeepsOthers};
+ghost use Rattle.liquid_site_files.specs.Written.{IsStop, all_written, count_from, KeepsOtherFiles};
 ghost use Rattle.liquid_site_files.specs.Written.{TellsUnwritten};
 
 use crate::folder::{Changed, Folder};
@@ -57,7 +57,7 @@ pub fn round<D: Disk>(
         IfErr outcome.written (TellsUnwritten (string_bytes folder.now.out)
         (pages_from_scratch (contents_of site.new)) f (D.files disk.new)))) }
     ensures stop { IfOk result (λ outcome. IfErr outcome.written (λ e. IsStop e.kind)) }
-    ensures others { IfSome (D.files disk.old) (λ f. KeepsOthers (string_bytes folder.now.out)
+    ensures others { IfSome (D.files disk.old) (λ f. KeepsOtherFiles (string_bytes folder.now.out)
         (pages_from_scratch (contents_of site.new)) f (D.files disk.new)) }
     ensures language { language_of site.new ≡ language_of site.old }
     ensures memory { IfErr result (λ e. e.kind ≡ ErrorKind.Memory) }

@@ -6,10 +6,10 @@ ghost use Rattle.liquid_model.specs.ErrorKinds.{is_memory};
 ghost use Rattle.liquid_core.specs.Held.{held};
 ghost use Rattle.liquid_site.specs.SiteViews.{contents_of, language_of};
 ghost use Rattle.liquid_site.specs.Steps.{set_page, remove_page, set_partial, remove_partial};
-ghost use Rattle.liquid_site_files.specs.inside.Found.{found_view};
-ghost use Rattle.liquid_site_files.specs.Paths.{path_of};
-ghost use Rattle.liquid_site_files.specs.Refusals.{RefusesTemplate, RefusesData, Refuses};
-ghost use Rattle.liquid_site_files.specs.Taken.{TakesTemplate, TakesData, Takes};
+ghost use Rattle.liquid_site_files.specs.inside.Found.{file_state_view};
+ghost use Rattle.liquid_site_files.specs.Paths.{changed_file_path};
+ghost use Rattle.liquid_site_files.specs.Refusals.{RefusesTemplate, RefusesData, RefusesFile};
+ghost use Rattle.liquid_site_files.specs.Taken.{TakesTemplate, TakesData, TakesFile};
 ghost use Rattle.liquid_site_files.specs.inside.Changes.{TakesChange, RefusesChange};
 
 use crate::folder::{Changed, Folder, path_of};
@@ -58,13 +58,14 @@ pub(crate) fn take<D: Disk>(
     disk: &D,
 ) -> Result<Option<RefusedFile>>
     ensures taken { IfSome (D.files disk.now)
-        (λ f. OnOk result (Takes (language_of site.old) changed.now
-        (f (path_of folder.now changed.now)) (contents_of site.old) (contents_of site.new))) }
+        (λ f. OnOk result (TakesFile (language_of site.old) changed.now
+        (f (changed_file_path folder.now changed.now)) (contents_of site.old)
+            (contents_of site.new))) }
     ensures refused { IfSome (D.files disk.now)
-        (λ f. IfOk result (λ r. Refuses (language_of site.old) changed.now
-        (f (path_of folder.now changed.now)) (option_map (λ refusal. refusal.why) r))) }
+        (λ f. IfOk result (λ r. RefusesFile (language_of site.old) changed.now
+        (f (changed_file_path folder.now changed.now)) (option_map (λ refusal. refusal.why) r))) }
     ensures path { IfOk result (λ r. IfSome r (λ refusal. string_bytes refusal.path ≡
-        path_of folder.now changed.now)) }
+        changed_file_path folder.now changed.now)) }
     ensures language { language_of site.new ≡ language_of site.old }
     ensures memory { IfErr result (λ e. e.kind ≡ ErrorKind.Memory) }
 {
@@ -78,7 +79,7 @@ pub(crate) fn take<D: Disk>(
 
 /// What stands at a path, or `Memory`.
 fn found_at<D: Disk>(disk: &D, path: &str) -> Result<FileState>
-    ensures found { IfSome (D.files disk.now) (λ f. IsValueOrMemory found_view result
+    ensures found { IfSome (D.files disk.now) (λ f. IsValueOrMemory file_state_view result
         (f path.now)) }
     ensures memory { IfErr result (λ e. e.kind ≡ ErrorKind.Memory) }
 {
@@ -97,9 +98,11 @@ fn take_found(
     changed: &Changed,
     found: FileState,
 ) -> Result<Option<RefusalReason>>
-    ensures taken { OnOk result (Takes (language_of site.old) changed.now (found_view found)
+    ensures taken { OnOk result (TakesFile (language_of site.old) changed.now
+        (file_state_view found)
         (contents_of site.old) (contents_of site.new)) }
-    ensures refused { IfOk result (Refuses (language_of site.old) changed.now (found_view found)) }
+    ensures refused { IfOk result (RefusesFile (language_of site.old) changed.now
+        (file_state_view found)) }
     ensures language { language_of site.new ≡ language_of site.old }
     ensures memory { IfErr result (λ e. e.kind ≡ ErrorKind.Memory) }
 {
@@ -119,8 +122,8 @@ fn take_page(
 ) -> Result<Option<RefusalReason>>
     ensures taken { OnOk result (TakesTemplate (language_of site.old) (set_page name.now)
         (remove_page name.now)
-        (found_view found) (contents_of site.old) (contents_of site.new)) }
-    ensures refused { IfOk result (RefusesTemplate (language_of site.old) (found_view found)) }
+        (file_state_view found) (contents_of site.old) (contents_of site.new)) }
+    ensures refused { IfOk result (RefusesTemplate (language_of site.old) (file_state_view found)) }
     ensures language { language_of site.new ≡ language_of site.old }
     ensures memory { IfErr result (λ e. e.kind ≡ ErrorKind.Memory) }
 {
@@ -140,9 +143,9 @@ fn take_partial(
     found: FileState,
 ) -> Result<Option<RefusalReason>>
     ensures taken { OnOk result (TakesTemplate (language_of site.old) (set_partial name.now)
-        (remove_partial name.now) (found_view found) (contents_of site.old)
+        (remove_partial name.now) (file_state_view found) (contents_of site.old)
         (contents_of site.new)) }
-    ensures refused { IfOk result (RefusesTemplate (language_of site.old) (found_view found)) }
+    ensures refused { IfOk result (RefusesTemplate (language_of site.old) (file_state_view found)) }
     ensures language { language_of site.new ≡ language_of site.old }
     ensures memory { IfErr result (λ e. e.kind ≡ ErrorKind.Memory) }
 {
@@ -182,9 +185,9 @@ fn refused(error: Error) -> Result<Option<RefusalReason>>
 
 /// Takes the data of a file in the place of the site's.
 fn take_data(alloc: Global, site: &mut Site, found: FileState) -> Result<Option<RefusalReason>>
-    ensures taken { OnOk result (TakesData (found_view found) (contents_of site.old)
+    ensures taken { OnOk result (TakesData (file_state_view found) (contents_of site.old)
         (contents_of site.new)) }
-    ensures refused { IfOk result (RefusesData (found_view found)) }
+    ensures refused { IfOk result (RefusesData (file_state_view found)) }
     ensures language { language_of site.new ≡ language_of site.old }
     ensures memory { IfErr result (λ e. e.kind ≡ ErrorKind.Memory) }
 {

@@ -5,7 +5,7 @@ ghost use Rattle.liquid_model.specs.Answer.{IsValueOrMemory};
 ghost use Rattle.liquid_model.specs.Errors.{HasMessageUnlessMemory};
 ghost use Rattle.liquid_site.specs.Parts.{pages_in};
 ghost use Rattle.liquid_disk.specs.Files.{ChangesAt, is_held, holds, with_file};
-ghost use Rattle.liquid_site_files.specs.Written.{IsStop, all_written, count_from, KeepsOthers};
+ghost use Rattle.liquid_site_files.specs.Written.{IsStop, all_written, count_from, KeepsOtherFiles};
 ghost use Rattle.liquid_site_files.specs.Written.{unwritten_message, TellsUnwritten};
 ghost use Rattle.liquid_site_files.specs.inside.Needed.{NeededUnlessMemory};
 
@@ -30,7 +30,7 @@ pub(crate) fn write_pages<D: Disk>(
         Some (all_written out.now (pages_in pages.now) f))) }
     ensures count { IfSome (D.files disk.old)
         (λ f. IfOk result (λ n. n ≡ count_from 0 out.now (pages_in pages.now) f)) }
-    ensures others { IfSome (D.files disk.old) (λ f. KeepsOthers out.now (pages_in pages.now) f
+    ensures others { IfSome (D.files disk.old) (λ f. KeepsOtherFiles out.now (pages_in pages.now) f
         (D.files disk.new)) }
     ensures unwritten { IfSome (D.files disk.old)
         (λ f. IfErr result (TellsUnwritten out.now (pages_in pages.now) f (D.files disk.new))) }

@@ -20,13 +20,13 @@ abbrev pub place_said : Option (ℕ × ℕ) → ℕ × ℕ
 place_said None = (1, 1)
 place_said (Some p) = p
 
-abbrev pub place_of : Error → ℕ × ℕ
-place_of e = place_said (option_map (λ l. (l.value.line, l.value.column)) e.location)
+abbrev pub fault_place : Error → ℕ × ℕ
+fault_place e = place_said (option_map (λ l. (l.value.line, l.value.column)) e.location)
 
 abbrev pub fault_said : Finding → Said
 fault_said f = record {
-  line = (place_of f.fault).0;
-  column = (place_of f.fault).1;
+  line = (fault_place f.fault).0;
+  column = (fault_place f.fault).1;
   kind = name_of f.fault.kind;
   is_warning = false;
   message = message_said (option_map string_bytes f.fault.message);

@@ -1,5 +1,5 @@
 -- Paths in the data, as messages show them.
---     path_text path count      a path with so many of its steps, as `shop.products[].title`
+--     data_path_text path count      a path with so many of its steps, as `shop.products[].title`
 use Rattle.std.specs.Prelude.{ℕ, List, [], ◌∷◌, ◌++◌, codes, take, string_bytes}
 use Rattle.liquid_model.specs.Texts.{Text}
 use Rattle.liquid_data_paths.specs.declared.data_path.DataPath.{DataPath}
@@ -14,5 +14,5 @@ abbrev pub steps_text : List Step → Text
 steps_text [] = []
 steps_text (step ∷ steps) = step_text step ++ steps_text steps
 
-abbrev pub path_text : DataPath → ℕ → Text
-path_text path count = string_bytes path.name ++ steps_text (take count path.steps.items)
+abbrev pub data_path_text : DataPath → ℕ → Text
+data_path_text path count = string_bytes path.name ++ steps_text (take count path.steps.items)

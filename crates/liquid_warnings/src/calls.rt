@@ -1,7 +1,7 @@
 //! The partials that templates run.
 ghost use Rattle.std.specs.Prelude.{◌≡◌, ◌++◌, IfOk, codes, option_map};
 ghost use Rattle.std.specs.BTreeMap.{get_by_text};
-ghost use Rattle.liquid_warnings.specs.Calls.{called_by, file_of};
+ghost use Rattle.liquid_warnings.specs.Calls.{called_by, partial_file};
 
 use crate::literals::literal_text;
 use liquid_syntax::{Node, Position, Template};
@@ -59,7 +59,7 @@ fn file_of(
     name: Option<&str>,
     is_render: bool,
 ) -> Result<Option<usize>, AllocError>
-    ensures { IfOk result (λ file. file ≡ file_of (λ n. get_by_text partials.now n)
+    ensures { IfOk result (λ file. file ≡ partial_file (λ n. get_by_text partials.now n)
         (option_map (λ n. n.now) name.entry) is_render) }
 {
     let Some(name) = name else {

@@ -1,7 +1,7 @@
 //! Paths in the data, as messages show them.
 ghost use Rattle.std.specs.Prelude.{◌≡◌, ◌++◌, IfOk, OnOk, string_bytes, take};
 ghost use Rattle.liquid_warnings.specs.Messages.{item_words};
-ghost use Rattle.liquid_warnings.specs.Paths.{path_text, step_text, steps_text};
+ghost use Rattle.liquid_warnings.specs.Paths.{data_path_text, step_text, steps_text};
 
 use liquid_core::Quoted;
 use liquid_data_paths::{DataPath, Step};
@@ -11,7 +11,7 @@ type Said = Result<String, AllocError>;
 
 /// A path with so many of its steps, as in `shop.products[].title`.
 pub(crate) fn path_text(alloc: Global, path: &DataPath, count: usize) -> Said
-    ensures { IfOk result (λ text. string_bytes text ≡ path_text path.now count) }
+    ensures { IfOk result (λ text. string_bytes text ≡ data_path_text path.now count) }
 {
     let mut text = String::from_str(alloc, path.name.as_str())?;
     push_steps(&mut text, first_steps(path, count))?;

@@ -1,6 +1,6 @@
 //! What is said of a template.
 ghost use Rattle.std.specs.Prelude.{◌≡◌, IfOk, option_map, string_bytes};
-ghost use Rattle.liquid_warnings.specs.Findings.{fault_said, message_said, place_of};
+ghost use Rattle.liquid_warnings.specs.Findings.{fault_said, message_said, fault_place};
 ghost use Rattle.liquid_warnings.specs.Remarks.{remark_view, warning, warning_at};
 
 use liquid_check::Finding;
@@ -70,7 +70,7 @@ impl Remark {
 
 /// The line and the column of a fault; the first of the source where it has no location.
 fn place_of(fault: &Error) -> (usize, usize)
-    ensures { result ≡ place_of fault.now }
+    ensures { result ≡ fault_place fault.now }
 {
     match &fault.location {
         Some(location) => (location.line, location.column),

@@ -13,9 +13,9 @@ use Rattle.liquid_answers.specs.declared.answers.Answers.{Answers}
 use Rattle.liquid_answers.specs.declared.lacking.Listed.{Listed}
 
 -- what stands between these calls and the next one
-abbrev pub separator : List Value → Text
-separator [] = []
-separator (c ∷ cs) = codes ","
+abbrev pub comma_after : List Value → Text
+comma_after [] = []
+comma_after (c ∷ cs) = codes ","
 
 -- no call is listed yet
 abbrev pub IsNone : Listed → Type 0

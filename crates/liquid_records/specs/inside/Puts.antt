@@ -2,7 +2,7 @@
 use Rattle.std.specs.Prelude.{ℕ, String}
 use Rattle.std.specs.BTreeMap.{BTreeMap, get_by_text}
 use Rattle.std.specs.declared.alloc.Global.{Global}
-use Rattle.liquid_records.specs.Steps.{Names}
+use Rattle.liquid_records.specs.Steps.{EarlierNames}
 
-abbrev pub map_names : BTreeMap (String Global) ℕ → Names
+abbrev pub map_names : BTreeMap (String Global) ℕ → EarlierNames
 map_names m = λ name. get_by_text m name

@@ -6,8 +6,8 @@ use Rattle.liquid_model.specs.Data.{Datum}
 use Rattle.liquid_model.specs.Maps.{Map}
 use Rattle.liquid_site.specs.Steps.{differs}
 
-abbrev pub texts : List (String Global) → List Text
-texts names = map string_bytes names
+abbrev pub name_texts : List (String Global) → List Text
+name_texts names = map string_bytes names
 
 abbrev pub differing : Map Datum → Map Datum → List (String Global) → List Text
-differing old new names = filter (differs old new) (texts names)
+differing old new names = filter (differs old new) (name_texts names)

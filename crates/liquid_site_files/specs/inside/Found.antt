@@ -4,7 +4,7 @@ use Rattle.liquid_disk.specs.Files.{File, gone, holds, unread}
 use Rattle.liquid_site_files.specs.declared.take.FileState.{FileState}
 use Rattle.liquid_site_files.specs.declared.take.FileState.TheVariants as found
 
-abbrev pub found_view : FileState → File
-found_view found.Gone = gone
-found_view (found.Text text) = holds (string_bytes text)
-found_view found.Unread = unread
+abbrev pub file_state_view : FileState → File
+file_state_view found.Gone = gone
+file_state_view (found.Text text) = holds (string_bytes text)
+file_state_view found.Unread = unread

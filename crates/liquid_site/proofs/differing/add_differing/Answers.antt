@@ -3,7 +3,7 @@ use Rattle.std.specs.Map.{keys_of}
 use Rattle.liquid_core.specs.Held.{held}
 use Rattle.liquid_syntax.specs.NameSets.{added, held as held_names}
 use Rattle.liquid_site.specs.Steps.{differs}
-use Rattle.liquid_site.specs.inside.Differing.{texts, differing}
+use Rattle.liquid_site.specs.inside.Differing.{name_texts, differing}
 use Rattle.liquid_site.proofs.Differences.{one_added, one_passed, none_added}
 use Rattle.liquid_site.proofs.differing.add_differing.Goals as goal
 
@@ -13,7 +13,7 @@ loop-name-preserved-in-Continue-1 c =
     let name = string_bytes c.in-Some.name.now in
     let before = held_names c.loop-name.names in
     let hit : test name ≡ true = sym (ap test c.as_str.ensures.value) ∙ sym c.differ.ensures ∙ c.if-differ.true in
-    one_added test name (texts (keys_of c.next.new.self)) before (held_names c.add_name.new.names) _ hit
+    one_added test name (name_texts (keys_of c.next.new.self)) before (held_names c.add_name.new.names) _ hit
     (c.in_ok-add_name.ensures ∙ ap (λ n. added (n ∷ []) before) c.as_str-then-differ.ensures.value)
     (ap (λ es. added (differing (held c.args.«data».old.now) (held c.args.«data».new.now) (keys_of es)) before) (sym c.in-Some.ensures.steps) ∙ c.loop-name.invariant)
 
@@ -23,7 +23,7 @@ loop-name-preserved c =
     let name = string_bytes c.in-Some.name.now in
     let before = held_names c.loop-name.names in
     let miss : test name ≡ false = sym (ap test c.as_str.ensures.value) ∙ sym c.differ.ensures ∙ c.if-differ.false in
-    one_passed test name (texts (keys_of c.next.new.self)) before _ miss
+    one_passed test name (name_texts (keys_of c.next.new.self)) before _ miss
     (ap (λ es. added (differing (held c.args.«data».old.now) (held c.args.«data».new.now) (keys_of es)) before) (sym c.in-Some.ensures.steps) ∙ c.loop-name.invariant)
 
 pub returns : goal.returns

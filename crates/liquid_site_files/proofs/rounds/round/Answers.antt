@@ -1,7 +1,7 @@
 use Rattle.std.proofs.Common.{◌≡◌, Some, IfSome, IfOk, IfErr, OnOk, subst}
 use Rattle.liquid_model.specs.Texts.{Text}
 use Rattle.liquid_site.specs.Contents.{Pages}
-use Rattle.liquid_site_files.specs.Written.{all_written, count_from, KeepsOthers, TellsUnwritten}
+use Rattle.liquid_site_files.specs.Written.{all_written, count_from, KeepsOtherFiles, TellsUnwritten}
 use Rattle.liquid_site_files.proofs.rounds.round.Goals as goal
 
 -- what is said of pages and the place of their files holds of equal ones
@@ -15,7 +15,7 @@ pub returns-clause-count : goal.returns-clause-count
 returns-clause-count g c = of_equal (λ out ps. IfSome (g.D.Disk.files c.args.disk.now) (λ f. IfOk c.write_pages-written.result (λ n. n ≡ count_from 0 out ps f))) _ _ _ _ c.as_str.ensures.value c.pages.ensures c.write_pages-written.ensures.count
 
 pub returns-clause-others : goal.returns-clause-others
-returns-clause-others g c = of_equal (λ out ps. IfSome (g.D.Disk.files c.args.disk.now) (λ f. KeepsOthers out ps f (g.D.Disk.files c.write_pages-written.new.disk))) _ _ _ _ c.as_str.ensures.value c.pages.ensures c.write_pages-written.ensures.others
+returns-clause-others g c = of_equal (λ out ps. IfSome (g.D.Disk.files c.args.disk.now) (λ f. KeepsOtherFiles out ps f (g.D.Disk.files c.write_pages-written.new.disk))) _ _ _ _ c.as_str.ensures.value c.pages.ensures c.write_pages-written.ensures.others
 
 pub returns-clause-unwritten : goal.returns-clause-unwritten
 returns-clause-unwritten g c = of_equal (λ out ps. IfSome (g.D.Disk.files c.args.disk.now) (λ f. IfErr c.write_pages-written.result (TellsUnwritten out ps f (g.D.Disk.files c.write_pages-written.new.disk)))) _ _ _ _ c.as_str.ensures.value c.pages.ensures c.write_pages-written.ensures.unwritten

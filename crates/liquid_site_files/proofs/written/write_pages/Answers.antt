@@ -4,7 +4,7 @@ use Rattle.liquid_model.specs.Texts.{Text}
 use Rattle.liquid_language.specs.Entries.{seen}
 use Rattle.liquid_lib.specs.Pages.{Shown, page_view}
 use Rattle.liquid_site.specs.Parts.{pages_in}
-use Rattle.liquid_site.specs.Steps.{raised}
+use Rattle.liquid_site.specs.Steps.{saturated_sum}
 use Rattle.liquid_site_files.proofs.Disks.{started, moved_on, ended_at, stopped_at}
 use Rattle.liquid_site_files.proofs.written.write_pages.Goals as goal
 
@@ -33,7 +33,7 @@ loop-name-preserved-then-branch g c =
     let rest = seen page_view c.next.new.self in
     moved_on _ _ _ c.args.out.now (pages_in c.args.pages.now) _ rest p c.as_str.result.now c.as_str-in-loop-name.result.now c.loop-name.written c.saturating_add-written.result c.in_ok-write_page.field-0
     (ap (seen page_view) c.in-Some.ensures.steps) c.as_str.ensures.value c.as_str-in-loop-name.ensures.value c.loop-name.invariant c.in_ok-write_page.ensures.written c.in_ok-write_page.ensures.needed
-    (c.saturating_add-written.ensures ∙ ap (λ b. cond b (raised c.loop-name.written 1) c.loop-name.written) (sym c.if-branch.true))
+    (c.saturating_add-written.ensures ∙ ap (λ b. cond b (saturated_sum c.loop-name.written 1) c.loop-name.written) (sym c.if-branch.true))
 
 pub loop-name-preserved : goal.loop-name-preserved
 loop-name-preserved g c =
@@ -41,4 +41,4 @@ loop-name-preserved g c =
     let rest = seen page_view c.next.new.self in
     moved_on _ _ _ c.args.out.now (pages_in c.args.pages.now) _ rest p c.as_str.result.now c.as_str-in-loop-name.result.now c.loop-name.written c.loop-name.written c.in_ok-write_page.field-0
     (ap (seen page_view) c.in-Some.ensures.steps) c.as_str.ensures.value c.as_str-in-loop-name.ensures.value c.loop-name.invariant c.in_ok-write_page.ensures.written c.in_ok-write_page.ensures.needed
-    (ap (λ b. cond b (raised c.loop-name.written 1) c.loop-name.written) (sym c.if-branch.false))
+    (ap (λ b. cond b (saturated_sum c.loop-name.written 1) c.loop-name.written) (sym c.if-branch.false))

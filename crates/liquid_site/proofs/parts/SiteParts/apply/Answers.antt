@@ -13,22 +13,22 @@ use Rattle.liquid_language.proofs.Inserted.{named}
 use Rattle.liquid_site.specs.Applied.{IsStep}
 use Rattle.liquid_language.specs.declared.language.Language.{Language}
 use Rattle.liquid_site.specs.Contents.{Contents, page_of, pages_from_scratch}
-use Rattle.liquid_site.specs.PartViews.{parts_view}
+use Rattle.liquid_site.specs.PartViews.{site_parts_view}
 use Rattle.liquid_site.specs.declared.parts.SiteParts.{SiteParts}
-use Rattle.liquid_site.specs.Steps.{set_page, remove_page, set_partial, remove_partial, set_value, remove_value, set_data, stepped, raised, mentioning}
+use Rattle.liquid_site.specs.Steps.{set_page, remove_page, set_partial, remove_partial, set_value, remove_value, set_data, stepped, saturated_sum, mentioning}
 use Rattle.liquid_site.proofs.Kept.{without_shown}
 use Rattle.liquid_site.proofs.Shown.{shown_as, shown_without}
 use Rattle.liquid_site.proofs.Applying.{applied, held_there, no_partial, no_value, raised_none, value_there}
 use Rattle.liquid_site.proofs.parts.SiteParts.apply.Goals as goal
 
 abbrev contents_of : {P : Type 0} → SiteParts P → Contents
-contents_of s = (parts_view s).contents
+contents_of s = (site_parts_view s).contents
 
 abbrev language_of : {P : Type 0} → SiteParts P → Language
-language_of s = (parts_view s).language
+language_of s = (site_parts_view s).language
 
 abbrev count_of : {P : Type 0} → SiteParts P → ℕ
-count_of s = (parts_view s).rendered
+count_of s = (site_parts_view s).rendered
 
 turned : (a b : Bool) → a ≡ not b → b ≡ true → a ≡ false
 turned true true h k = sym (sym h)
@@ -51,7 +51,7 @@ returns-in_ok-template-in-SetPage-clause-applied g c =
     let t = tree_of c.in_ok-template-in-SetPage.template in
     let s = set_page (string_bytes c.in-SetPage.name) t in
     let only : IsOnlyTree l t (string_bytes c.in-SetPage.source) = subst (IsOnlyTree l t) c.as_str.ensures.value c.in_ok-template-in-SetPage.ensures.parses in
-    applied c.args.change c.set_page.result (parts_view old) (parts_view c.set_page.new.self) s (subst (λ ch. IsStep l ch s) (sym c.in-SetPage.is) (t, only, refl)) c.set_page.ensures.set c.set_page.ensures.counted c.set_page.ensures.unchanged c.set_page.ensures.uncounted
+    applied c.args.change c.set_page.result (site_parts_view old) (site_parts_view c.set_page.new.self) s (subst (λ ch. IsStep l ch s) (sym c.in-SetPage.is) (t, only, refl)) c.set_page.ensures.set c.set_page.ensures.counted c.set_page.ensures.unchanged c.set_page.ensures.uncounted
 
 pub returns-in-RemovePage-clause-applied : goal.returns-in-RemovePage-clause-applied
 returns-in-RemovePage-clause-applied g c =
@@ -80,7 +80,7 @@ returns-in_ok-reserve-in-SetPartial-clause-applied g c =
     λ i. record { depth = old.depth; pages = trees_in old.templates; partials = put (named i) t (same i); «data» = held old.«data» } in
     let before : record { depth = old.depth; pages = trees_in old.templates; partials = partials_of c.reserve.new.self; «data» = held old.«data» } ≡ contents_of old =
     λ i. record { depth = old.depth; pages = trees_in old.templates; partials = same i; «data» = held old.«data» } in
-    applied c.args.change r (parts_view old) (parts_view new) s (subst (λ ch. IsStep l ch s) (sym c.in-SetPartial.is) (t, only, refl)) (subst (λ x. IsValueOrMemory (λ u. contents_of new) r x) meant c.exchange_partial.ensures.set) c.exchange_partial.ensures.counted
+    applied c.args.change r (site_parts_view old) (site_parts_view new) s (subst (λ ch. IsStep l ch s) (sym c.in-SetPartial.is) (t, only, refl)) (subst (λ x. IsValueOrMemory (λ u. contents_of new) r x) meant c.exchange_partial.ensures.set) c.exchange_partial.ensures.counted
     (subst (λ x. OnErr r (contents_of new ≡ x)) before c.exchange_partial.ensures.unchanged) c.exchange_partial.ensures.uncounted
 
 pub returns-then-is_none-clause-applied : goal.returns-then-is_none-clause-applied
@@ -116,8 +116,8 @@ returns-else-is_none-clause-applied g c =
     let some : is_some (listed (partials_of old.partials) n) ≡ true =
     ap (λ q. is_some (listed (partials_of old.partials) q)) (sym c.as_str-in-RemovePartial.ensures.value) ∙ ap is_some (sym c.get.ensures.found) ∙ same_some c.get.result ∙ turned_back (is_some c.get.result) c.is_none.result c.is_none.ensures c.if-is_none.false in
     let meant : stepped (remove_partial c.as_str-in-RemovePartial-2.result.now) (contents_of old) ≡ stepped s (contents_of old) = ap (λ q. stepped (remove_partial q) (contents_of old)) named in
-    applied c.args.change r (parts_view old) (parts_view new) s (subst (λ ch. IsStep l ch s) (sym c.in-RemovePartial.is) refl) (subst (λ x. IsValueOrMemory (λ u. contents_of new) r x) meant c.exchange_partial-in-RemovePartial.ensures.set)
-    (subst (λ x. OnOk r (count_of new ≡ raised (count_of old) x)) (sym (ap (λ b. cond b (length (contents_of old).pages) 0) some)) c.exchange_partial-in-RemovePartial.ensures.counted)
+    applied c.args.change r (site_parts_view old) (site_parts_view new) s (subst (λ ch. IsStep l ch s) (sym c.in-RemovePartial.is) refl) (subst (λ x. IsValueOrMemory (λ u. contents_of new) r x) meant c.exchange_partial-in-RemovePartial.ensures.set)
+    (subst (λ x. OnOk r (count_of new ≡ saturated_sum (count_of old) x)) (sym (ap (λ b. cond b (length (contents_of old).pages) 0) some)) c.exchange_partial-in-RemovePartial.ensures.counted)
     c.exchange_partial-in-RemovePartial.ensures.unchanged c.exchange_partial-in-RemovePartial.ensures.uncounted
 
 pub returns-in-SetValue-clause-applied : goal.returns-in-SetValue-clause-applied
@@ -131,8 +131,8 @@ returns-in-SetValue-clause-applied g c =
     let s = set_value n d in
     let named = c.as_str-in-SetValue.ensures.value in
     let meant : stepped (set_value c.as_str-in-SetValue.result.now d) (contents_of old) ≡ stepped s (contents_of old) = ap (λ q. stepped (set_value q d) (contents_of old)) named in
-    applied c.args.change r (parts_view old) (parts_view new) s (subst (λ ch. IsStep l ch s) (sym c.in-SetValue.is) refl) (subst (λ x. IsValueOrMemory (λ u. contents_of new) r x) meant c.change_value.ensures.set)
-    (subst (λ x. OnOk r (count_of new ≡ raised (count_of old) (mentioning (contents_of old) x))) named c.change_value.ensures.counted) c.change_value.ensures.unchanged c.change_value.ensures.uncounted
+    applied c.args.change r (site_parts_view old) (site_parts_view new) s (subst (λ ch. IsStep l ch s) (sym c.in-SetValue.is) refl) (subst (λ x. IsValueOrMemory (λ u. contents_of new) r x) meant c.change_value.ensures.set)
+    (subst (λ x. OnOk r (count_of new ≡ saturated_sum (count_of old) (mentioning (contents_of old) x))) named c.change_value.ensures.counted) c.change_value.ensures.unchanged c.change_value.ensures.uncounted
 
 pub returns-then-not-contains_key-clause-applied : goal.returns-then-not-contains_key-clause-applied
 returns-then-not-contains_key-clause-applied g c =
@@ -159,8 +159,8 @@ returns-else-not-contains_key-clause-applied g c =
     let is = c.as_str-in-RemoveValue-2.ensures.value in
     let some : is_some ((contents_of old).«data» n) ≡ true = value_there old.«data» n true (sym c.if-not-contains_key.false ∙ c.contains_key.ensures ∙ ap (λ q. is_some (lookup (named q) old.«data».entries)) c.as_str-in-RemoveValue.ensures.value) in
     let meant : stepped (remove_value c.as_str-in-RemoveValue-2.result.now) (contents_of old) ≡ stepped s (contents_of old) = ap (λ q. stepped (remove_value q) (contents_of old)) is in
-    applied c.args.change r (parts_view old) (parts_view new) s (subst (λ ch. IsStep l ch s) (sym c.in-RemoveValue.is) refl) (subst (λ x. IsValueOrMemory (λ u. contents_of new) r x) meant c.change_value-in-RemoveValue.ensures.set)
-    (subst (λ x. OnOk r (count_of new ≡ raised (count_of old) x)) (ap (mentioning (contents_of old)) is ∙ sym (ap (λ b. cond b (mentioning (contents_of old) n) 0) some)) c.change_value-in-RemoveValue.ensures.counted)
+    applied c.args.change r (site_parts_view old) (site_parts_view new) s (subst (λ ch. IsStep l ch s) (sym c.in-RemoveValue.is) refl) (subst (λ x. IsValueOrMemory (λ u. contents_of new) r x) meant c.change_value-in-RemoveValue.ensures.set)
+    (subst (λ x. OnOk r (count_of new ≡ saturated_sum (count_of old) x)) (ap (mentioning (contents_of old)) is ∙ sym (ap (λ b. cond b (mentioning (contents_of old) n) 0) some)) c.change_value-in-RemoveValue.ensures.counted)
     c.change_value-in-RemoveValue.ensures.unchanged c.change_value-in-RemoveValue.ensures.uncounted
 
 pub returns-in-SetData-clause-applied : goal.returns-in-SetData-clause-applied
@@ -169,7 +169,7 @@ returns-in-SetData-clause-applied g c =
     let l = language_of old in
     let new = c.change_data.new.self in
     let s = set_data (held c.in-SetData.«data») in
-    applied c.args.change c.change_data.result (parts_view old) (parts_view new) s (subst (λ ch. IsStep l ch s) (sym c.in-SetData.is) refl) c.change_data.ensures.set c.change_data.ensures.counted c.change_data.ensures.unchanged c.change_data.ensures.uncounted
+    applied c.args.change c.change_data.result (site_parts_view old) (site_parts_view new) s (subst (λ ch. IsStep l ch s) (sym c.in-SetData.is) refl) c.change_data.ensures.set c.change_data.ensures.counted c.change_data.ensures.unchanged c.change_data.ensures.uncounted
 
 pub returns-in-RemovePage-clause-keeps : goal.returns-in-RemovePage-clause-keeps
 returns-in-RemovePage-clause-keeps g c =

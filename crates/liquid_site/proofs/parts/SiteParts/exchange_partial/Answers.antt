@@ -9,10 +9,10 @@ use Rattle.liquid_syntax.specs.Templates.{tree_of, partials_of, slots_of}
 use Rattle.liquid_syntax.proofs.Held.{ascend_seen, placed_back}
 use Rattle.liquid_lib.specs.Pages.{page_over}
 use Rattle.liquid_site.specs.Contents.{all_pages, pages_from_scratch}
-use Rattle.liquid_site.specs.PartViews.{parts_view}
+use Rattle.liquid_site.specs.PartViews.{site_parts_view}
 use Rattle.liquid_site.specs.Parts.{by_name, trees_in}
 use Rattle.liquid_site.specs.ShownPages.{AreShown}
-use Rattle.liquid_site.specs.Steps.{raised}
+use Rattle.liquid_site.specs.Steps.{saturated_sum}
 use Rattle.liquid_site.specs.inside.Fresh.{selects, selected, all_placed, listed_pages}
 use Rattle.liquid_site.specs.declared.selection.Selection.TheVariants.{All}
 use Rattle.liquid_site.proofs.Applying.{placed_there}
@@ -26,11 +26,11 @@ returns-in-Ok-clause-keeps g c =
     let n = c.args.name.now in
     let partials = partials_of c.exchange-before.new.self in
     let show = page_over s.depth partials (held s.«data») in
-    let before = pages_from_scratch (parts_view s).contents in
+    let before = pages_from_scratch (site_parts_view s).contents in
     let fresh = all_pages show (selected (selects All) (trees_in s.templates)) in
     let pages = listed_pages c.in-Ok.fresh.items in
     shown_as g.R.Rendering.shows (all_placed fresh before) (all_pages show (trees_in s.templates)) (all_placed pages (by_name s.pages)) (by_name c.replace_pages.new.pages)
-    (exchanged_pages (parts_view s).contents partials (ascend_seen tree_of s.templates.entries c.rendered_pages-rendered.ensures.ascend))
+    (exchanged_pages (site_parts_view s).contents partials (ascend_seen tree_of s.templates.entries c.rendered_pages-rendered.ensures.ascend))
     (sym c.replace_pages.ensures) (shown_all_placed g.R.Rendering.shows fresh pages before (by_name s.pages) c.in-Ok.ensures.pages c.requires.shown)
 
 pub exchange-requires : goal.exchange-requires
@@ -54,7 +54,7 @@ returns-in-Ok-clause-counted g c =
     let fresh = all_pages (page_over s.depth (partials_of c.exchange-before.new.self) (held s.«data»)) (selected (selects All) ts) in
     let items : vec_len c.in-Ok.fresh ≡ length c.in-Ok.fresh.items = search rules in
     let as_many = sym (length-map c.in-Ok.fresh.items _) ∙ same_length g.R.Rendering.shows fresh (listed_pages c.in-Ok.fresh.items) c.in-Ok.ensures.pages in
-    c.saturating_add-self.ensures ∙ ap (raised s.rendered) (c.len.ensures ∙ items ∙ as_many ∙ length-map _ _ ∙ ap length (all_selected ts))
+    c.saturating_add-self.ensures ∙ ap (saturated_sum s.rendered) (c.len.ensures ∙ items ∙ as_many ∙ length-map _ _ ∙ ap length (all_selected ts))
 
 pub returns-in-Err-clause-unchanged : goal.returns-in-Err-clause-unchanged
 returns-in-Err-clause-unchanged g c =

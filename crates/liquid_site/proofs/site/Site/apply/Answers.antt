@@ -1,6 +1,6 @@
 use Rattle.std.proofs.Common.{subst}
 use Rattle.liquid_site.specs.Contents.{pages_from_scratch}
-use Rattle.liquid_site.specs.PartViews.{parts_view}
+use Rattle.liquid_site.specs.PartViews.{site_parts_view}
 use Rattle.liquid_site.specs.Parts.{by_name}
 use Rattle.liquid_site.specs.ShownPages.{AreShown, IsWhole}
 use Rattle.liquid_site.proofs.Shown.{shown_whole, whole_shown}
@@ -14,4 +14,4 @@ apply-requires c =
 pub invariant_of-self : goal.invariant_of-self
 invariant_of-self c =
     let new = c.apply.new.self in
-    record { kept = shown_whole (pages_from_scratch (parts_view new).contents) new.pages.entries c.apply.ensures.keeps }
+    record { kept = shown_whole (pages_from_scratch (site_parts_view new).contents) new.pages.entries c.apply.ensures.keeps }
