@@ -2,7 +2,7 @@
 ghost use Rattle.std.specs.Prelude.{◌≡◌, IfOk, Some, option_map};
 ghost use Rattle.liquid_model.specs.Answer.{Answers, IsValueOrMemory};
 ghost use Rattle.liquid_model.specs.View.{pairs_view};
-ghost use Rattle.liquid_toml.specs.TomlData.{data_of};
+ghost use Rattle.liquid_toml.specs.TomlData.{toml_document_data};
 ghost use Rattle.liquid_data_forms.specs.Forms.{formed};
 ghost use Rattle.liquid_command_files.specs.Inputs.{with_input, data_of_file, timed};
 
@@ -41,7 +41,8 @@ pub fn data_of_file(alloc: Global, path: &str, text: &str, form: DataForm) -> Re
 }
 
 fn toml_in_form(alloc: Global, text: &str, form: DataForm) -> Result<Object>
-    ensures { Answers (λ m. pairs_view m.entries) result (formed form.dates (data_of text.now)) }
+    ensures { Answers (λ m. pairs_view m.entries) result
+        (formed form.dates (toml_document_data text.now)) }
 {
     let data = data_from_toml(alloc, text)?;
     in_form(alloc, data, form)

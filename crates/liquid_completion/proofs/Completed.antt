@@ -9,7 +9,7 @@ use Rattle.liquid_model.specs.Uses.{Use, nothing, everything, parts, Fields, no_
 use Rattle.liquid_model.proofs.Maps.{value_at_put, value_at_put_other}
 use Rattle.liquid_completion.specs.Completed.{or_blank, each_item, counts_members, completed, completed_items, completed_pairs}
 use Rattle.liquid_completion.specs.Kept.{CompletedKeeps}
-use Rattle.liquid_completion.specs.inside.Keeping.{KeepsFor, Keeps}
+use Rattle.liquid_completion.specs.inside.Keeping.{KeepsFor, KeepsDatum}
 use Rattle.liquid_completion.proofs.Keeping.{keeps_same, keeps_on, Found, ItemsKeep, lists_keep, maps_keep, kept_from}
 
 items_each : (n : ℕ) (f : Datum → Datum) → ((d : Datum) → KeepsFor n d (f d)) → (ds : Items) → ItemsKeep n ds (each_item f ds)
@@ -29,7 +29,7 @@ put_found n k new ps kept key = at (same_text key k) refl
         (new, ap (λ q. value_at q (put k new ps)) e ∙ value_at_put k new ps, kept c (ap (λ q. value_at q ps) (sym e) ∙ is))
     at false same c is = (c, value_at_put_other key k new ps (λ e. clash ((bytes_decides key k).1 e) same) ∙ is, keeps_same n c)
 
-pub put_keeps : (k : Text) (new : Datum) (ps : Pairs) → ((n : ℕ) (c : Datum) → value_at k ps ≡ Some c → KeepsFor n c new) → Keeps (object ps) (object (put k new ps))
+pub put_keeps : (k : Text) (new : Datum) (ps : Pairs) → ((n : ℕ) (c : Datum) → value_at k ps ≡ Some c → KeepsFor n c new) → KeepsDatum (object ps) (object (put k new ps))
 put_keeps k new ps kept n = maps_keep n ps (put k new ps) (λ m. put_found m k new ps (kept m))
 
 -- what is put at the key

@@ -9,7 +9,7 @@ use Rattle.liquid_model.specs.Find.{find, step, value_at, item_at, item_back, it
 use Rattle.liquid_model.specs.Whole.{whole}
 use Rattle.liquid_model.specs.Uses.{shape}
 use Rattle.liquid_completion.specs.Kept.{counts_at, holds_of, reads_count, Kept}
-use Rattle.liquid_completion.specs.inside.Keeping.{own, KeepsFor, Keeps}
+use Rattle.liquid_completion.specs.inside.Keeping.{own_member, KeepsFor, KeepsDatum}
 
 pub keeps_same : (n : ℕ) (d : Datum) → KeepsFor n d d
 keeps_same zero d = tt
@@ -19,10 +19,10 @@ pub keeps_on : (n : ℕ) (d e f : Datum) → KeepsFor n d e → KeepsFor n e f �
 keeps_on zero d e f g h = tt
 keeps_on (suc n) d e f g h = (g.0 ∙ h.0, (λ s c is. let x = g.1 s c is in let y = h.1 s x.0 x.1 in (y.0, y.1, keeps_on n c x.0 y.0 x.2 y.2)))
 
-pub all_same : (d : Datum) → Keeps d d
+pub all_same : (d : Datum) → KeepsDatum d d
 all_same d n = keeps_same n d
 
-pub all_on : (d e f : Datum) → Keeps d e → Keeps e f → Keeps d f
+pub all_on : (d e f : Datum) → KeepsDatum d e → KeepsDatum e f → KeepsDatum d f
 all_on d e f g h n = keeps_on n d e f (g n) (h n)
 
 -- ---- lists
@@ -123,7 +123,7 @@ neither : (b : Bool) (o : Option Datum) → o ≡ None → cond b o None ≡ Non
 neither true o e = e
 neither false o e = refl
 
-is_own : (s d : Datum) → counts_at s d ≡ false → step d s ≡ own s d
+is_own : (s d : Datum) → counts_at s d ≡ false → step d s ≡ own_member s d
 is_own s nil e = neither (scalar s) None refl
 is_own s (truth b) e = refl
 is_own s (number z) e = refl
@@ -132,7 +132,7 @@ is_own s (array ds) e = refl
 is_own s (object ps) e = own_in_map (scalar s) (value_at (text_of s) ps) (or_size (value_at (text_of s) ps) (text_of s) (pairs_len ps)) (sized (value_at (text_of s) ps) (text_of s) (pairs_len ps) e)
 
 -- and what a step finds of its own is what it finds
-owned : (s d c : Datum) → own s d ≡ Some c → step d s ≡ Some c
+owned : (s d c : Datum) → own_member s d ≡ Some c → step d s ≡ Some c
 owned s nil c e = absurd cc
 owned s (truth b) c e = e
 owned s (number z) c e = e
@@ -153,7 +153,7 @@ first_step (Some m) path c e = (m, refl, e)
 goes_on : (o : Option Datum) (m : Datum) (path : List Datum) → o ≡ Some m → option_and_then (λ d. find d path) o ≡ find m path
 goes_on o m path e = ap (option_and_then (λ d. find d path)) e
 
-pub path_kept : (path : List Datum) (d e c : Datum) → Keeps d e → reads_count path d ≡ false → find d path ≡ Some c → (f : Datum) × (find e path ≡ Some f) × (shape c ≡ shape f)
+pub path_kept : (path : List Datum) (d e c : Datum) → KeepsDatum d e → reads_count path d ≡ false → find d path ≡ Some c → (f : Datum) × (find e path ≡ Some f) × (shape c ≡ shape f)
 path_kept path d e c h = along path (length path) d e c refl (h (suc (length path)))
   where
     along : (path : List Datum) (n : ℕ) (d e c : Datum) → n ≡ length path → KeepsFor (suc n) d e → reads_count path d ≡ false → find d path ≡ Some c → (f : Datum) × (find e path ≡ Some f) × (shape c ≡ shape f)
@@ -165,7 +165,7 @@ path_kept path d e c h = along path (length path) d e c refl (h (suc (length pat
     along (s ∷ path) zero d e c long h other is = absurd cc
     along (s ∷ path) (suc n) d e c long h other is =
         let met = first_step (step d s) path c is in
-        let here : own s d ≡ Some met.0 = sym (is_own s d (left _ _ other)) ∙ met.1 in
+        let here : own_member s d ≡ Some met.0 = sym (is_own s d (left _ _ other)) ∙ met.1 in
         let there = h.1 s met.0 here in
         let later : reads_count path met.0 ≡ false = ap (holds_of (reads_count path)) (sym met.1) ∙ right _ _ other in
         let last = along path n met.0 there.0 c (ap pred long) there.2 later met.2 in
@@ -175,5 +175,5 @@ path_kept path d e c h = along path (length path) d e c refl (h (suc (length pat
         pred zero = zero
         pred (suc n) = n
 
-pub kept_from : (d e : Datum) → Keeps d e → Kept d e
+pub kept_from : (d e : Datum) → KeepsDatum d e → Kept d e
 kept_from d e h path c other is = path_kept path d e c h other is

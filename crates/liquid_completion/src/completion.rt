@@ -10,7 +10,7 @@ ghost use Rattle.liquid_completion.specs.Completed as spec;
 ghost use Rattle.liquid_completion.specs.Completed.{completed, completed_items};
 ghost use Rattle.liquid_completion.specs.Completed.{completed_pairs, each_item};
 ghost use Rattle.liquid_completion.specs.Kept.{Kept};
-ghost use Rattle.liquid_completion.specs.inside.Keeping.{Keeps, uncounted_pairs};
+ghost use Rattle.liquid_completion.specs.inside.Keeping.{KeepsDatum, uncounted_pairs};
 
 use liquid_core::{Object, Result, Use, Uses, Value, member_of, store};
 use std::alloc::Global;
@@ -42,7 +42,7 @@ pub fn complete(alloc: Global, data: &mut Object, uses: &Uses) -> Result<()>
 fn complete_members(alloc: Global, uses: &Uses, data: &mut Object) -> Result<()>
     ensures completed { IsValueOrMemory (λ _. pairs_view «data».new.entries) result
         (completed_pairs (members_view uses.now.entries) (pairs_view «data».old.entries)) }
-    ensures kept { Keeps (object (pairs_view «data».old.entries))
+    ensures kept { KeepsDatum (object (pairs_view «data».old.entries))
         (object (pairs_view «data».new.entries)) }
     ensures again { completed_pairs (members_view uses.now.entries) (pairs_view «data».new.entries)
         ≡ completed_pairs (members_view uses.now.entries) (pairs_view «data».old.entries) }
@@ -59,7 +59,7 @@ fn complete_member(alloc: Global, name: &str, asked: &Use, data: &mut Object) ->
     ensures completed { IsValueOrMemory (λ _. pairs_view «data».new.entries) result
         (completed_pairs (field name.now (use_view asked.now) no_fields)
         (pairs_view «data».old.entries)) }
-    ensures kept { Keeps (object (pairs_view «data».old.entries))
+    ensures kept { KeepsDatum (object (pairs_view «data».old.entries))
         (object (pairs_view «data».new.entries)) }
     ensures again { completed_pairs (field name.now (use_view asked.now) no_fields)
         (pairs_view «data».new.entries)
@@ -94,7 +94,7 @@ fn supplied(alloc: Global, asked: &Use) -> Result<Value>
 fn complete_value(alloc: Global, asked: &Use, value: &mut Value) -> Result<()>
     ensures completed { IsValueOrMemory (λ _. view value.new) result
         (completed (use_view asked.now) (view value.old)) }
-    ensures kept { Keeps (view value.old) (view value.new) }
+    ensures kept { KeepsDatum (view value.old) (view value.new) }
     ensures again { completed (use_view asked.now) (view value.new)
         ≡ completed (use_view asked.now) (view value.old) }
 {
@@ -113,7 +113,7 @@ fn complete_value(alloc: Global, asked: &Use, value: &mut Value) -> Result<()>
 fn complete_list(alloc: Global, items: &Option<Box<Use>>, values: &mut Vec<Value>) -> Result<()>
     ensures completed { IsValueOrMemory (λ _. items_view values.new.items) result
         (completed_items (turns_view items.now) (items_view values.old.items)) }
-    ensures kept { Keeps (array (items_view values.old.items))
+    ensures kept { KeepsDatum (array (items_view values.old.items))
         (array (items_view values.new.items)) }
     ensures again { completed_items (turns_view items.now) (items_view values.new.items)
         ≡ completed_items (turns_view items.now) (items_view values.old.items) }
@@ -135,7 +135,7 @@ fn complete_map(
     ensures completed { IsValueOrMemory (λ _. pairs_view pairs.new.entries) result
         (uncounted_pairs (members_view members.now.entries) (turns_view items.now)
         (pairs_view pairs.old.entries)) }
-    ensures kept { Keeps (object (pairs_view pairs.old.entries))
+    ensures kept { KeepsDatum (object (pairs_view pairs.old.entries))
         (object (pairs_view pairs.new.entries)) }
     ensures again { uncounted_pairs (members_view members.now.entries) (turns_view items.now)
         (pairs_view pairs.new.entries)
@@ -153,7 +153,7 @@ fn complete_map(
 fn complete_items(alloc: Global, asked: &Use, values: &mut Vec<Value>) -> Result<()>
     ensures completed { IsValueOrMemory (λ _. items_view values.new.items) result
         (each_item (completed (use_view asked.now)) (items_view values.old.items)) }
-    ensures kept { Keeps (array (items_view values.old.items))
+    ensures kept { KeepsDatum (array (items_view values.old.items))
         (array (items_view values.new.items)) }
     ensures again { each_item (completed (use_view asked.now)) (items_view values.new.items)
         ≡ each_item (completed (use_view asked.now)) (items_view values.old.items) }

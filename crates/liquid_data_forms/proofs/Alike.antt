@@ -13,16 +13,16 @@ use Rattle.serde_json.specs.Read.{of_json, of_items, of_members, number_of, conv
 use Rattle.liquid_json.specs.Json as plain
 use Rattle.liquid_json.specs.inside.Tokens as tokened
 use Rattle.liquid_json.proofs.Plain.{whole_plain}
-use Rattle.liquid_data_forms.specs.Decimals.{integer_of, number_or_text, datum_of, items_of, pairs_of, json_of, object_of, spelled_data}
+use Rattle.liquid_data_forms.specs.Decimals.{integer_of_json_number, number_or_text, decimals_datum, decimals_items, decimals_pairs, json_of, decimals_object, spelled_data}
 use Rattle.liquid_data_forms.specs.Laws.{is_whole, are_whole, have_whole, WholeNumbersStay, RefusedAlike, FloatsAreRead}
 
 -- ---- a text that is no object
 
-no_object : {A : Type 0} (f : A → tree.Data) → ((a : A) → plain.object_of (f a) ≡ Err InvalidInput) → (o : Option A) → plain.object_read (option_map f o) ≡ Err InvalidInput
+no_object : {A : Type 0} (f : A → tree.Data) → ((a : A) → plain.parsed_object (f a) ≡ Err InvalidInput) → (o : Option A) → plain.object_read (option_map f o) ≡ Err InvalidInput
 no_object f h None = refl
 no_object f h (Some a) = h a
 
-refused_at : (o : Option json.Json) (kind : ErrorKind) → object_of o ≡ Err kind → plain.object_read (option_and_then of_json o) ≡ Err kind
+refused_at : (o : Option json.Json) (kind : ErrorKind) → decimals_object o ≡ Err kind → plain.object_read (option_and_then of_json o) ≡ Err kind
 refused_at None kind e = e
 refused_at (Some json.null) kind e = e
 refused_at (Some (json.boolean b)) kind e = e
@@ -37,7 +37,7 @@ refused_alike source kind e = refused_at (json_of source) kind e
 apart : (r : Result Pairs ErrorKind) → r ≡ Err InvalidInput → r ≡ Err Float → ⊥
 apart r is e = absurd cc
 
-read_at : (o : Option json.Json) → plain.object_read (option_and_then of_json o) ≡ Err Float → IsOk (object_of o)
+read_at : (o : Option json.Json) → plain.object_read (option_and_then of_json o) ≡ Err Float → IsOk (decimals_object o)
 read_at None e = absurd (cc)
 read_at (Some json.null) e = absurd (cc)
 read_at (Some (json.boolean b)) e = absurd (cc)
@@ -60,35 +60,35 @@ number_same s None e = absurd (cc)
 number_same s (Some z) e = refl
 
 mutual
-  datum_same : (j : json.Json) → is_whole j ≡ true → tokened.datum_of j ≡ Some (datum_of j)
+  datum_same : (j : json.Json) → is_whole j ≡ true → tokened.datum_of j ≡ Some (decimals_datum j)
   datum_same json.null e = refl
   datum_same (json.boolean b) e = refl
-  datum_same (json.number s) e = number_same s (integer_of s) e
+  datum_same (json.number s) e = number_same s (integer_of_json_number s) e
   datum_same (json.string s) e = refl
   datum_same (json.array js) e = ap (option_map array) (items_same js e)
   datum_same (json.object ms) e = ap (option_map object) (pairs_same ms no_pairs e)
 
-  items_same : (js : json.Items) → are_whole js ≡ true → tokened.items_of js ≡ Some (items_of js)
+  items_same : (js : json.Items) → are_whole js ≡ true → tokened.token_items js ≡ Some (decimals_items js)
   items_same json.no_items e = refl
   items_same (json.item j js) e = let both = first_of (is_whole j) (are_whole js) e in rw (datum_same j both.0, items_same js both.1)
 
-  pairs_same : (ms : json.Members) (found : Pairs) → have_whole ms ≡ true → tokened.pairs_of ms found ≡ Some (pairs_of found ms)
+  pairs_same : (ms : json.Members) (found : Pairs) → have_whole ms ≡ true → tokened.token_pairs ms found ≡ Some (decimals_pairs found ms)
   pairs_same json.no_members found e = refl
   pairs_same (json.member k j ms) found e =
       let both = first_of (is_whole j) (have_whole ms) e in
-      ap (option_and_then (λ d. tokened.pairs_of ms (put k d found))) (datum_same j both.0) ∙ pairs_same ms (put k (datum_of j) found) both.1
+      ap (option_and_then (λ d. tokened.token_pairs ms (put k d found))) (datum_same j both.0) ∙ pairs_same ms (put k (decimals_datum j) found) both.1
 
 last : (o : Option (json.Json × List Token)) (j : json.Json) → option_and_then (λ p. json.if_last p.0 p.1) o ≡ Some j → o ≡ Some (j, [])
 last None j e = absurd (cc)
 last (Some (k, [])) j e = ap (option_map {U = json.Json × List Token} (λ x. (x, []))) e
 last (Some (k, t ∷ ts)) j e = absurd (cc)
 
-object_same : (source : List ℕ) (ms : json.Members) → json_of source ≡ Some (json.object ms) → have_whole ms ≡ true → plain.data_of source ≡ Ok (pairs_of no_pairs ms)
+object_same : (source : List ℕ) (ms : json.Members) → json_of source ≡ Some (json.object ms) → have_whole ms ≡ true → plain.data_of source ≡ Ok (decimals_pairs no_pairs ms)
 object_same source ms is e =
     let all = last (json.value max_depth (tokens source)) (json.object ms) is in
-    whole_plain (json.value max_depth (tokens source)) (pairs_of no_pairs ms) (ap (converted tokened.datum_of) all ∙ ap (option_map {U = Datum × List Token} (λ d. (d, []))) (datum_same (json.object ms) e))
+    whole_plain (json.value max_depth (tokens source)) (decimals_pairs no_pairs ms) (ap (converted tokened.datum_of) all ∙ ap (option_map {U = Datum × List Token} (λ d. (d, []))) (datum_same (json.object ms) e))
 
-same_at : (source : List ℕ) (j : json.Json) → json_of source ≡ Some j → is_whole j ≡ true → object_of (Some j) ≡ plain.data_of source
+same_at : (source : List ℕ) (j : json.Json) → json_of source ≡ Some j → is_whole j ≡ true → decimals_object (Some j) ≡ plain.data_of source
 same_at source json.null is e = sym (ap (λ o. plain.object_read (option_and_then of_json o)) is)
 same_at source (json.boolean b) is e = sym (ap (λ o. plain.object_read (option_and_then of_json o)) is)
 same_at source (json.number s) is e = sym (ap (λ o. plain.object_read (option_and_then of_json o)) is ∙ no_object tree.number (λ n. refl) (number_of s))
@@ -97,4 +97,4 @@ same_at source (json.array js) is e = sym (ap (λ o. plain.object_read (option_a
 same_at source (json.object ms) is e = sym (object_same source ms is e)
 
 pub whole_numbers_stay : WholeNumbersStay
-whole_numbers_stay source j is e = ap object_of is ∙ same_at source j is e
+whole_numbers_stay source j is e = ap decimals_object is ∙ same_at source j is e

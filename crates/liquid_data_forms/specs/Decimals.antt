@@ -12,8 +12,8 @@ use Rattle.serde_json.specs.Find.{as_i64}
 use Rattle.serde_json.specs.Read.{max_depth, number_of}
 
 -- the whole number of 64 bits that a number of JSON writes; `-0` is none
-abbrev pub integer_of : List ℕ → Option ℤ
-integer_of s = option_and_then as_i64 (number_of s)
+abbrev pub integer_of_json_number : List ℕ → Option ℤ
+integer_of_json_number s = option_and_then as_i64 (number_of s)
 
 -- a whole number, or the text of a spelling
 abbrev pub number_or_text : List ℕ → Option ℤ → Datum
@@ -22,21 +22,21 @@ number_or_text s None = text s
 
 -- Each value as it stands. The pairs go in one after another, so the last value of a key stays.
 abbrev mutual
-  pub datum_of : json.Json → Datum
-  datum_of json.null = nil
-  datum_of (json.boolean b) = truth b
-  datum_of (json.number s) = number_or_text s (integer_of s)
-  datum_of (json.string s) = text s
-  datum_of (json.array js) = array (items_of js)
-  datum_of (json.object ms) = object (pairs_of no_pairs ms)
+  pub decimals_datum : json.Json → Datum
+  decimals_datum json.null = nil
+  decimals_datum (json.boolean b) = truth b
+  decimals_datum (json.number s) = number_or_text s (integer_of_json_number s)
+  decimals_datum (json.string s) = text s
+  decimals_datum (json.array js) = array (decimals_items js)
+  decimals_datum (json.object ms) = object (decimals_pairs no_pairs ms)
 
-  pub items_of : json.Items → Items
-  items_of json.no_items = no_items
-  items_of (json.item j js) = item (datum_of j) (items_of js)
+  pub decimals_items : json.Items → Items
+  decimals_items json.no_items = no_items
+  decimals_items (json.item j js) = item (decimals_datum j) (decimals_items js)
 
-  pub pairs_of : Pairs → json.Members → Pairs
-  pairs_of found json.no_members = found
-  pairs_of found (json.member k j ms) = pairs_of (put k (datum_of j) found) ms
+  pub decimals_pairs : Pairs → json.Members → Pairs
+  decimals_pairs found json.no_members = found
+  decimals_pairs found (json.member k j ms) = decimals_pairs (put k (decimals_datum j) found) ms
 
 -- the value of JSON that a text is, nested no deeper than data may be
 abbrev pub json_of : List ℕ → Option json.Json
@@ -44,10 +44,10 @@ json_of source =
     option_and_then (λ p. json.if_last p.0 p.1) (json.value max_depth (tokens source))
 
 -- an object alone
-abbrev pub object_of : Option json.Json → Result Pairs ErrorKind
-object_of (Some (json.object ms)) = Ok (pairs_of no_pairs ms)
-object_of _ = Err InvalidInput
+abbrev pub decimals_object : Option json.Json → Result Pairs ErrorKind
+decimals_object (Some (json.object ms)) = Ok (decimals_pairs no_pairs ms)
+decimals_object _ = Err InvalidInput
 
 -- the data that a text gives
 abbrev pub spelled_data : List ℕ → Result Pairs ErrorKind
-spelled_data source = object_of (json_of source)
+spelled_data source = decimals_object (json_of source)

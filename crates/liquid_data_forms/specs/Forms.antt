@@ -17,11 +17,11 @@ abbrev pub read_data : Bool → List ℕ → Result Pairs ErrorKind
 read_data decimals source = cond decimals (spelled_data source) (data_of source)
 
 -- with its dates in the language's spelling, or as it is
-abbrev pub in_form : Bool → Pairs → Pairs
-in_form dates ps = cond dates (dated_pairs ps) ps
+abbrev pub with_dates_spelled : Bool → Pairs → Pairs
+with_dates_spelled dates ps = cond dates (dated_pairs ps) ps
 
 abbrev pub formed : Bool → Result Pairs ErrorKind → Result Pairs ErrorKind
-formed dates (Ok ps) = Ok (in_form dates ps)
+formed dates (Ok ps) = Ok (with_dates_spelled dates ps)
 formed dates (Err kind) = Err kind
 
 abbrev pub data_in_form : DataForm → List ℕ → Result Pairs ErrorKind

@@ -9,8 +9,8 @@ use Rattle.liquid_date_filters.specs.Spelling.{read}
 use denote.Bor.{Bor}
 
 -- the text before the first of these bytes, and the text after it
-abbrev pub cut : ℕ → Text → Option (Text × Text)
-cut c s =
+abbrev pub split_at_byte : ℕ → Text → Option (Text × Text)
+split_at_byte c s =
     if nat_lt (position_or_len (λ b. b == c) s) (length s)
     then Some (before_first (λ b. b == c) s, after_first (λ b. b == c) s) else None
 
@@ -27,7 +27,7 @@ fraction_off t None = (t, [])
 fraction_off t (Some p) = if (length p.0 == 8) && is_digits p.1 then (p.0, []) else (t, [])
 
 abbrev pub whole_seconds : Text → Text × Text
-whole_seconds t = if length t == 5 then (t, codes ":00") else fraction_off t (cut 46 t)
+whole_seconds t = if length t == 5 then (t, codes ":00") else fraction_off t (split_at_byte 46 t)
 
 -- an offset before its colon, after two digits, and behind it
 abbrev pub colon_off : Text → Option (Text × Text) → Text × Text
@@ -35,14 +35,15 @@ colon_off z None = (z, [])
 colon_off z (Some p) = if length p.0 == 2 then p else (z, [])
 
 abbrev pub without_colon : Text → Text × Text
-without_colon z = colon_off z (cut 58 z)
+without_colon z = colon_off z (split_at_byte 58 z)
 
-abbrev pub joined : Text × Text → Text
-joined p = p.0 ++ p.1
+abbrev pub day_and_time : Text × Text → Text
+day_and_time p = p.0 ++ p.1
 
 -- a time, a sign and an offset
 abbrev pub zoned : Text → Text → Text → Text
-zoned time sign offset = joined (whole_seconds time) ++ sign ++ joined (without_colon offset)
+zoned time sign offset = day_and_time (whole_seconds time) ++ sign
+    ++ day_and_time (without_colon offset)
 
 -- a time alone is that of UTC
 abbrev pub clock_behind : Text → Option (Text × Text) → Text
@@ -51,26 +52,26 @@ clock_behind t None = zoned t (codes " +0000") []
 
 abbrev pub clock_ahead : Text → Option (Text × Text) → Text
 clock_ahead t (Some p) = zoned p.0 (codes " +") p.1
-clock_ahead t None = clock_behind t (cut 45 t)
+clock_ahead t None = clock_behind t (split_at_byte 45 t)
 
-abbrev pub clock_at : Text → Option (Text × Text) → Text
-clock_at t (Some p) = zoned p.0 (codes " +0000") p.1
-clock_at t None = clock_ahead t (cut 43 t)
+abbrev pub utc_clock_text : Text → Option (Text × Text) → Text
+utc_clock_text t (Some p) = zoned p.0 (codes " +0000") p.1
+utc_clock_text t None = clock_ahead t (split_at_byte 43 t)
 
 -- a time with `Z`, with an offset ahead or behind, or with none
-abbrev pub clock : Text → Text
-clock t = clock_at t (cut 90 t)
+abbrev pub zoned_clock_text : Text → Text
+zoned_clock_text t = utc_clock_text t (split_at_byte 90 t)
 
 abbrev pub day_and_clock : Text → Option (Text × Text) → Text × Text
 day_and_clock s None = (s, codes "00:00:00")
 day_and_clock s (Some p) = p
 
 abbrev pub after_day : Text × Text → Option Text
-after_day p = if is_day p.0 then Some ((p.0 ++ codes " ") ++ clock p.1) else None
+after_day p = if is_day p.0 then Some ((p.0 ++ codes " ") ++ zoned_clock_text p.1) else None
 
 -- a day, or a day, `T` and a time, as they would be spelled
-abbrev pub spelled : Text → Option Text
-spelled s = after_day (day_and_clock s (cut 84 s))
+abbrev pub respelled_instant : Text → Option Text
+respelled_instant s = after_day (day_and_clock s (split_at_byte 84 s))
 
 abbrev pub if_read : Option Text → Option Text
 if_read None = None
@@ -78,7 +79,7 @@ if_read (Some t) = if is_some (read t) then Some t else None
 
 -- the spelling of a text that is a day or an instant: one that the language reads
 abbrev pub date_spelling : Text → Option Text
-date_spelling s = if_read (spelled s)
+date_spelling s = if_read (respelled_instant s)
 
 -- what the code cut
 abbrev pub cut_view : Option (Bor Text × Bor Text) → Option (Text × Text)

@@ -7,14 +7,14 @@ use Rattle.json.specs.Json as json
 use Rattle.liquid_model.specs.declared.error.ErrorKind.{ErrorKind}
 use Rattle.liquid_model.specs.declared.error.ErrorKind.TheVariants.{Float}
 use Rattle.liquid_json.specs.Json.{data_of}
-use Rattle.liquid_data_forms.specs.Decimals.{integer_of, json_of, spelled_data}
+use Rattle.liquid_data_forms.specs.Decimals.{integer_of_json_number, json_of, spelled_data}
 
 -- every number of a value is whole and within 64 bits
 abbrev mutual
   pub is_whole : json.Json → Bool
   is_whole json.null = true
   is_whole (json.boolean b) = true
-  is_whole (json.number s) = is_some (integer_of s)
+  is_whole (json.number s) = is_some (integer_of_json_number s)
   is_whole (json.string s) = true
   is_whole (json.array js) = are_whole js
   is_whole (json.object ms) = have_whole ms

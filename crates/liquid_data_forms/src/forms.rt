@@ -3,7 +3,8 @@ ghost use Rattle.std.specs.Prelude.{option_map};
 ghost use Rattle.liquid_model.specs.Answer.{Answers, IsValueOrMemory};
 ghost use Rattle.liquid_model.specs.Data.{object, put};
 ghost use Rattle.liquid_model.specs.View.{pairs_view};
-ghost use Rattle.liquid_data_forms.specs.Forms.{data_in_form, in_form, put_all, read_data};
+ghost use Rattle.liquid_data_forms.specs.Forms.{data_in_form, with_dates_spelled, put_all};
+ghost use Rattle.liquid_data_forms.specs.Forms.{read_data};
 ghost use Rattle.liquid_data_forms.specs.Forms.{with_now};
 
 use crate::dates::dated;
@@ -38,7 +39,7 @@ pub fn data_in_form(alloc: Global, text: &str, form: DataForm) -> Result<Object>
 /// answer is `Memory` where a growth was refused, and no other kind.
 pub fn in_form(alloc: Global, data: Object, form: DataForm) -> Result<Object>
     ensures { IsValueOrMemory (λ m. pairs_view m.entries) result
-        (in_form form.dates (pairs_view «data».entries)) }
+        (with_dates_spelled form.dates (pairs_view «data».entries)) }
 {
     if form.dates {
         dated(alloc, data)

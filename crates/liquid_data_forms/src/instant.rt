@@ -30,7 +30,8 @@ pub fn date_spelling(alloc: Global, text: &str) -> Result<Option<String>>
 
 /// The spelling of a text whose day has the form of one, whatever the calendar and the clock say.
 fn spelled(alloc: Global, text: &str) -> Result<Option<String>>
-    ensures { IsValueOrMemory (λ o. option_map string_bytes o) result (spec.spelled text.now) }
+    ensures { IsValueOrMemory (λ o. option_map string_bytes o) result
+        (spec.respelled_instant text.now) }
 {
     let (day, clock) = match cut(text, 'T') {
         Some(parts) => parts,
@@ -48,7 +49,7 @@ fn spelled(alloc: Global, text: &str) -> Result<Option<String>>
 /// Appends a time and an offset.
 fn push_clock(out: &mut String, clock: &str) -> Result<()>
     ensures { IsValueOrMemory (λ _. string_bytes out.new) result
-        (string_bytes out.old ++ spec.clock clock.now) }
+        (string_bytes out.old ++ spec.zoned_clock_text clock.now) }
 {
     if let Some((time, rest)) = cut(clock, 'Z') {
         push_zoned(out, time, " +0000", rest)
@@ -122,7 +123,7 @@ fn all_digits(text: &str) -> bool
 /// The text before the first of these signs, and the text after it.
 fn cut(text: &str, sign: char) -> Option<(&str, &str)>
     requires { sign < 128 }
-    ensures { cut_view result ≡ spec.cut sign text.now }
+    ensures { cut_view result ≡ spec.split_at_byte sign text.now }
 {
     text.split_once(sign)
 }

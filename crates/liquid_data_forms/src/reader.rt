@@ -3,7 +3,7 @@ ghost use Rattle.std.specs.Prelude.{◌≡◌, ◌<◌, length, Some, None, Err,
 ghost use Rattle.json.specs.Json.{parse_map, value, items, members};
 ghost use Rattle.liquid_model.specs.Data.{no_pairs};
 ghost use Rattle.liquid_model.specs.View.{view, items_view, pairs_view};
-ghost use Rattle.liquid_data_forms.specs.Decimals.{datum_of, items_of, pairs_of};
+ghost use Rattle.liquid_data_forms.specs.Decimals.{decimals_datum, decimals_items, decimals_pairs};
 ghost use Rattle.liquid_data_forms.specs.declared.reader.NoValue.TheVariants.{Memory, NoJson};
 
 use crate::whole::integer_of;
@@ -51,7 +51,7 @@ impl From<Invalid> for NoValue {
 #[inline(always)]
 pub fn read(alloc: Global, reader: &mut Reader<'_>, depth: usize) -> Result<Value, NoValue>
     ensures ok { IfOk result
-        (λ v. parse_map datum_of (value depth reader.old) ≡ Some (view v, reader.new)) }
+        (λ v. parse_map decimals_datum (value depth reader.old) ≡ Some (view v, reader.new)) }
     ensures shorter { OnOk result (length reader.new < length reader.old) }
     ensures err { result ≡ Err NoJson → value depth reader.old ≡ None }
 {
@@ -84,7 +84,7 @@ pub fn read(alloc: Global, reader: &mut Reader<'_>, depth: usize) -> Result<Valu
 #[inline(never)]
 fn read_items(alloc: Global, reader: &mut Reader<'_>, depth: usize) -> Result<Vec<Value>, NoValue>
     ensures ok { IfOk result
-        (λ v. parse_map items_of (items (value depth) (length reader.old) reader.old) ≡
+        (λ v. parse_map decimals_items (items (value depth) (length reader.old) reader.old) ≡
         Some (items_view v.items, reader.new)) }
     ensures shorter { OnOk result (length reader.new < length reader.old) }
     ensures err { result ≡ Err NoJson → items (value depth) (length reader.old) reader.old ≡ None }
@@ -101,7 +101,8 @@ fn read_items(alloc: Global, reader: &mut Reader<'_>, depth: usize) -> Result<Ve
 #[inline(never)]
 fn read_pairs(alloc: Global, reader: &mut Reader<'_>, depth: usize) -> Result<Object, NoValue>
     ensures ok { IfOk result
-        (λ m. parse_map (pairs_of no_pairs) (members (value depth) (length reader.old) reader.old) ≡
+        (λ m. parse_map (decimals_pairs no_pairs) (members (value depth) (length reader.old)
+            reader.old) ≡
         Some (pairs_view m.entries, reader.new)) }
     ensures shorter { OnOk result (length reader.new < length reader.old) }
     ensures err { result ≡ Err NoJson →

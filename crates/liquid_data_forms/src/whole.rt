@@ -10,7 +10,7 @@ use fast_float::Numeral;
 /// The whole number that a number of JSON writes, where it is one of 64 bits. `-0` is none.
 #[inline(always)]
 pub fn integer_of(text: &str) -> Option<i64>
-    ensures { result ≡ spec.integer_of text.now }
+    ensures { result ≡ spec.integer_of_json_number text.now }
 {
     let bytes = text.as_bytes();
     if has_minus(bytes) {

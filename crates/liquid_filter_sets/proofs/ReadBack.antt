@@ -28,7 +28,7 @@ use Rattle.liquid_model.specs.Texts.{Text}
 use Rattle.liquid_model.specs.Whole.{fits}
 use Rattle.liquid_json.specs.Json as reader
 use Rattle.liquid_jekyll_host_filters.specs.Json.{json_text}
-use Rattle.liquid_filter_sets.specs.ReadBack.{IsValue, AreValues, HasValues, depth, items_depth, pairs_depth, names_of, value_read, JsonifyIsReadBack, DataAreReadBack, DeeperIsRefused}
+use Rattle.liquid_filter_sets.specs.ReadBack.{IsWellFormed, AreWellFormedItems, HasWellFormedValues, datum_depth, items_depth, pairs_depth, pair_names, value_read, JsonifyIsReadBack, DataAreReadBack, DeeperIsRefused}
 use Rattle.liquid_filter_sets.proofs.JsonTexts.{data_of, items_of, members_of, value_tokens, same_text}
 
 -- ---- numbers
@@ -52,7 +52,7 @@ number_whole (negsuc n) h = refl
 -- ---- the text's tokens are those of the value
 
 mutual
-  have_numbers : (d : Datum) → IsValue d → tree.HasNumbers (outline (data_of d))
+  have_numbers : (d : Datum) → IsWellFormed d → tree.HasNumbers (outline (data_of d))
   have_numbers nil h = tt
   have_numbers (truth b) h = tt
   have_numbers (number z) h = number_printed z h
@@ -60,21 +60,21 @@ mutual
   have_numbers (array ds) h = items_have_numbers ds h
   have_numbers (object ms) h = pairs_have_numbers ms h.1
 
-  items_have_numbers : (ds : Items) → AreValues ds → tree.ItemsHaveNumbers (items_outline (items_of ds))
+  items_have_numbers : (ds : Items) → AreWellFormedItems ds → tree.ItemsHaveNumbers (items_outline (items_of ds))
   items_have_numbers no_items h = tt
   items_have_numbers (item d ds) h = (have_numbers d h.0, items_have_numbers ds h.1)
 
-  pairs_have_numbers : (ms : Pairs) → HasValues ms → tree.MembersHaveNumbers (members_outline (members_of ms))
+  pairs_have_numbers : (ms : Pairs) → HasWellFormedValues ms → tree.MembersHaveNumbers (members_outline (members_of ms))
   pairs_have_numbers no_pairs h = tt
   pairs_have_numbers (pair k d ms) h = (have_numbers d h.0, pairs_have_numbers ms h.1)
 
-tokens_back : (d : Datum) → IsValue d → tokens (json_text d) ≡ tree.json_tokens (outline (data_of d))
+tokens_back : (d : Datum) → IsWellFormed d → tokens (json_text d) ≡ tree.json_tokens (outline (data_of d))
 tokens_back d h =
     ap tokens (sym (same_text d) ∙ ap print (value_tokens d))
     ∙ tokens-print (tree.json_tokens (outline (data_of d))) (ArePrintable-json_tokens (outline (data_of d)) (have_numbers d h))
 
 mutual
-  same_depth : (d : Datum) → tree.depth (outline (data_of d)) ≡ depth d
+  same_depth : (d : Datum) → tree.depth (outline (data_of d)) ≡ datum_depth d
   same_depth nil = refl
   same_depth (truth b) = refl
   same_depth (number z) = refl
@@ -130,7 +130,7 @@ put_last (json.member l e done) k d more h =
 -- ---- a value's JSON is its data, and the data are the value
 
 mutual
-  read_json : (d : Datum) → IsValue d → of_json (outline (data_of d)) ≡ Some (data_of d)
+  read_json : (d : Datum) → IsWellFormed d → of_json (outline (data_of d)) ≡ Some (data_of d)
   read_json nil h = refl
   read_json (truth b) h = refl
   read_json (number z) h = ap (option_map json.number) (number_read z h)
@@ -138,21 +138,21 @@ mutual
   read_json (array ds) h = ap (option_map json.array) (read_items ds h)
   read_json (object ms) h = ap (option_map json.object) (read_members ms json.no_members h.0 h.1)
 
-  read_items : (ds : Items) → AreValues ds → of_items (items_outline (items_of ds)) ≡ Some (items_of ds)
+  read_items : (ds : Items) → AreWellFormedItems ds → of_items (items_outline (items_of ds)) ≡ Some (items_of ds)
   read_items no_items h = refl
   read_items (item d ds) h = rw (read_json d h.0, read_items ds h.1) refl
 
-  read_members : (ms : Pairs) (done : json.Members) → Sorted (names done ++ names_of ms) → HasValues ms → of_members (members_outline (members_of ms)) done ≡ Some (joined done (members_of ms))
+  read_members : (ms : Pairs) (done : json.Members) → Sorted (names done ++ pair_names ms) → HasWellFormedValues ms → of_members (members_outline (members_of ms)) done ≡ Some (joined done (members_of ms))
   read_members no_pairs done sorted h = ap Some (sym (joined_none done))
   read_members (pair k d ms) done sorted h =
       let next = joined done (json.member k (data_of d) json.no_members) in
       ap (option_and_then (λ e. of_members (members_outline (members_of ms)) (json.put k e done))) (read_json d h.0)
-      ∙ ap (of_members (members_outline (members_of ms))) (put_last done k (data_of d) (names_of ms) sorted)
-      ∙ read_members ms next (subst Sorted (sym (names_joined done k (data_of d) (names_of ms))) sorted) h.1
+      ∙ ap (of_members (members_outline (members_of ms))) (put_last done k (data_of d) (pair_names ms) sorted)
+      ∙ read_members ms next (subst Sorted (sym (names_joined done k (data_of d) (pair_names ms))) sorted) h.1
       ∙ ap Some (joined_one done k (data_of d) (members_of ms))
 
 mutual
-  data_back : (d : Datum) → IsValue d → reader.datum_of (data_of d) ≡ Ok d
+  data_back : (d : Datum) → IsWellFormed d → reader.datum_of (data_of d) ≡ Ok d
   data_back nil h = refl
   data_back (truth b) h = refl
   data_back (number z) h = ap reader.whole_number (number_whole z h)
@@ -160,11 +160,11 @@ mutual
   data_back (array ds) h = ap (λ r. r >>= λ es. Ok (array es)) (items_back ds h)
   data_back (object ms) h = ap (λ r. r >>= λ ps. Ok (object ps)) (pairs_back ms h.1)
 
-  items_back : (ds : Items) → AreValues ds → reader.items_of (items_of ds) ≡ Ok ds
+  items_back : (ds : Items) → AreWellFormedItems ds → reader.parsed_items (items_of ds) ≡ Ok ds
   items_back no_items h = refl
   items_back (item d ds) h = rw (data_back d h.0, items_back ds h.1) refl
 
-  pairs_back : (ms : Pairs) → HasValues ms → reader.pairs_of (members_of ms) ≡ Ok ms
+  pairs_back : (ms : Pairs) → HasWellFormedValues ms → reader.parsed_pairs (members_of ms) ≡ Ok ms
   pairs_back no_pairs h = refl
   pairs_back (pair k d ms) h = rw (data_back d h.0, pairs_back ms h.1) refl
 
@@ -173,7 +173,7 @@ mutual
 abbrev whole : Option (grammar.Json × List Token) → Option json.Data
 whole r = option_and_then of_json (option_and_then (λ p. grammar.if_last p.0 p.1) r)
 
-text_read : (d : Datum) → IsValue d → depth d ≤ max_depth → read (json_text d) ≡ Some (data_of d)
+text_read : (d : Datum) → IsWellFormed d → datum_depth d ≤ max_depth → read (json_text d) ≡ Some (data_of d)
 text_read d h shallow =
     ap whole (ap (grammar.value max_depth) (tokens_back d h ∙ sym (append-nil _)) ∙ value-json_tokens (outline (data_of d)) max_depth [] (omega (arith, same_depth d)))
     ∙ read_json d h

@@ -10,15 +10,15 @@ use Rattle.liquid_model.specs.Data.{Items, Pairs}
 use Rattle.liquid_model.specs.View.{view, items_view, pairs_view}
 use Rattle.liquid_model.specs.declared.value.Value.{Value}
 use Rattle.liquid_model.proofs.Views.{Entry}
-use Rattle.liquid_filter_sets.specs.ReadBack.{IsValue, AreValues, HasValues, HasAscendingKeys, depth, items_depth, pairs_depth, names_of}
+use Rattle.liquid_filter_sets.specs.ReadBack.{IsWellFormed, AreWellFormedItems, HasWellFormedValues, HasAscendingKeys, datum_depth, items_depth, pairs_depth, pair_names}
 
 pub record ItemsSeen (ds : Items) (most : ℕ) (within : Bool) : Type 0 where
   pub nested : within ≡ (nat_lt 0 most && nat_le (items_depth ds) (most - 1))
-  pub held : AreValues ds
+  pub held : AreWellFormedItems ds
 
 pub record PairsSeen (ms : Pairs) (most : ℕ) (within : Bool) : Type 0 where
   pub nested : within ≡ (nat_lt 0 most && nat_le (pairs_depth ms) (most - 1))
-  pub held : HasValues ms
+  pub held : HasWellFormedValues ms
 
 -- ---- depths as tests
 
@@ -44,30 +44,30 @@ seen_deeper first within next d e most h k =
 
 -- ---- one more
 
-items_deeper : (vs : List Value) (v : Value) → items_depth (items_view (vs ++ v ∷ [])) ≡ max (items_depth (items_view vs)) (depth (view v))
+items_deeper : (vs : List Value) (v : Value) → items_depth (items_view (vs ++ v ∷ [])) ≡ max (items_depth (items_view vs)) (datum_depth (view v))
 items_deeper [] v = omega arith
 items_deeper (u ∷ vs) v = omega (arith, items_deeper vs v)
 
-pairs_deeper : (es : List Entry) (e : Entry) → pairs_depth (pairs_view (es ++ e ∷ [])) ≡ max (pairs_depth (pairs_view es)) (depth (view e.1))
+pairs_deeper : (es : List Entry) (e : Entry) → pairs_depth (pairs_view (es ++ e ∷ [])) ≡ max (pairs_depth (pairs_view es)) (datum_depth (view e.1))
 pairs_deeper [] e = omega arith
 pairs_deeper (f ∷ es) e = omega (arith, pairs_deeper es e)
 
-items_held : (vs : List Value) (v : Value) → AreValues (items_view vs) → IsValue (view v) → AreValues (items_view (vs ++ v ∷ []))
+items_held : (vs : List Value) (v : Value) → AreWellFormedItems (items_view vs) → IsWellFormed (view v) → AreWellFormedItems (items_view (vs ++ v ∷ []))
 items_held [] v h k = (k, tt)
 items_held (u ∷ vs) v h k = (h.0, items_held vs v h.1 k)
 
-pairs_held : (es : List Entry) (e : Entry) → HasValues (pairs_view es) → IsValue (view e.1) → HasValues (pairs_view (es ++ e ∷ []))
+pairs_held : (es : List Entry) (e : Entry) → HasWellFormedValues (pairs_view es) → IsWellFormed (view e.1) → HasWellFormedValues (pairs_view (es ++ e ∷ []))
 pairs_held [] e h k = (k, tt)
 pairs_held (f ∷ es) e h k = (h.0, pairs_held es e h.1 k)
 
-pub one_more_item : (vs : List Value) (v : Value) (most : ℕ) (within next : Bool) → ItemsSeen (items_view vs) most within → next ≡ nat_le (depth (view v)) (most - 1) → IsValue (view v)
+pub one_more_item : (vs : List Value) (v : Value) (most : ℕ) (within next : Bool) → ItemsSeen (items_view vs) most within → next ≡ nat_le (datum_depth (view v)) (most - 1) → IsWellFormed (view v)
     → ItemsSeen (items_view (vs ++ v ∷ [])) most (within && next)
 one_more_item vs v most within next seen is held = record {
   nested = seen_deeper (nat_lt 0 most) within next _ _ (most - 1) seen.nested is ∙ ap (λ d. nat_lt 0 most && nat_le d (most - 1)) (sym (items_deeper vs v));
   held = items_held vs v seen.held held;
 }
 
-pub one_more_pair : (es : List Entry) (e : Entry) (most : ℕ) (within next : Bool) → PairsSeen (pairs_view es) most within → next ≡ nat_le (depth (view e.1)) (most - 1) → IsValue (view e.1)
+pub one_more_pair : (es : List Entry) (e : Entry) (most : ℕ) (within next : Bool) → PairsSeen (pairs_view es) most within → next ≡ nat_le (datum_depth (view e.1)) (most - 1) → IsWellFormed (view e.1)
     → PairsSeen (pairs_view (es ++ e ∷ [])) most (within && next)
 one_more_pair es e most within next seen is held = record {
   nested = seen_deeper (nat_lt 0 most) within next _ _ (most - 1) seen.nested is ∙ ap (λ d. nat_lt 0 most && nat_le d (most - 1)) (sym (pairs_deeper es e));
@@ -82,7 +82,7 @@ items_nested ds most within seen = seen.nested ∙ one_deeper (items_depth ds) m
 pub pairs_nested : (ms : Pairs) (most : ℕ) (within : Bool) → PairsSeen ms most within → within ≡ nat_le (suc (pairs_depth ms)) most
 pairs_nested ms most within seen = seen.nested ∙ one_deeper (pairs_depth ms) most
 
-named_above : (k : String Global) (es : List Entry) → AllByRecursion (λ l. string_cmp k l ≡ Less) (keys_of es) → AllByRecursion (λ l. slice_cmp nat_cmp (string_bytes k) l ≡ Less) (names_of (pairs_view es))
+named_above : (k : String Global) (es : List Entry) → AllByRecursion (λ l. string_cmp k l ≡ Less) (keys_of es) → AllByRecursion (λ l. slice_cmp nat_cmp (string_bytes k) l ≡ Less) (pair_names (pairs_view es))
 named_above k [] h = h
 named_above k (e ∷ es) h = (h.0, named_above k es h.1)
 

@@ -32,59 +32,60 @@ read_back d = jsonify_answer d [] >>= read_as_json
 
 -- how deep lists and maps nest
 abbrev mutual
-  pub depth : Datum → ℕ
-  depth nil = 0
-  depth (truth b) = 0
-  depth (number z) = 0
-  depth (text s) = 0
-  depth (array ds) = suc (items_depth ds)
-  depth (object ms) = suc (pairs_depth ms)
+  pub datum_depth : Datum → ℕ
+  datum_depth nil = 0
+  datum_depth (truth b) = 0
+  datum_depth (number z) = 0
+  datum_depth (text s) = 0
+  datum_depth (array ds) = suc (items_depth ds)
+  datum_depth (object ms) = suc (pairs_depth ms)
 
   pub items_depth : Items → ℕ
   items_depth no_items = 0
-  items_depth (item d ds) = max (depth d) (items_depth ds)
+  items_depth (item d ds) = max (datum_depth d) (items_depth ds)
 
   pub pairs_depth : Pairs → ℕ
   pairs_depth no_pairs = 0
-  pairs_depth (pair k d ms) = max (depth d) (pairs_depth ms)
+  pairs_depth (pair k d ms) = max (datum_depth d) (pairs_depth ms)
 
-abbrev pub names_of : Pairs → List Text
-names_of no_pairs = []
-names_of (pair k d ms) = k ∷ names_of ms
+abbrev pub pair_names : Pairs → List Text
+pair_names no_pairs = []
+pair_names (pair k d ms) = k ∷ pair_names ms
 
 abbrev pub HasAscendingKeys : Pairs → Type 0
-HasAscendingKeys ms = IsStrictlySortedBy (slice_cmp nat_cmp) (names_of ms)
+HasAscendingKeys ms = IsStrictlySortedBy (slice_cmp nat_cmp) (pair_names ms)
 
 -- what every value is: its numbers are within 64 bits, and the keys of each map ascend
 abbrev mutual
-  pub IsValue : Datum → Type 0
-  IsValue nil = ⊤
-  IsValue (truth b) = ⊤
-  IsValue (number z) = IsTrue (fits z)
-  IsValue (text s) = ⊤
-  IsValue (array ds) = AreValues ds
-  IsValue (object ms) = HasAscendingKeys ms × HasValues ms
+  pub IsWellFormed : Datum → Type 0
+  IsWellFormed nil = ⊤
+  IsWellFormed (truth b) = ⊤
+  IsWellFormed (number z) = IsTrue (fits z)
+  IsWellFormed (text s) = ⊤
+  IsWellFormed (array ds) = AreWellFormedItems ds
+  IsWellFormed (object ms) = HasAscendingKeys ms × HasWellFormedValues ms
 
-  pub AreValues : Items → Type 0
-  AreValues no_items = ⊤
-  AreValues (item d ds) = IsValue d × AreValues ds
+  pub AreWellFormedItems : Items → Type 0
+  AreWellFormedItems no_items = ⊤
+  AreWellFormedItems (item d ds) = IsWellFormed d × AreWellFormedItems ds
 
-  pub HasValues : Pairs → Type 0
-  HasValues no_pairs = ⊤
-  HasValues (pair k d ms) = IsValue d × HasValues ms
+  pub HasWellFormedValues : Pairs → Type 0
+  HasWellFormedValues no_pairs = ⊤
+  HasWellFormedValues (pair k d ms) = IsWellFormed d × HasWellFormedValues ms
 
 -- what `jsonify` writes is read as the value again, where lists and maps nest at most 127 deep
 abbrev pub JsonifyIsReadBack : Type 0
-JsonifyIsReadBack = (d : Datum) → IsValue d → depth d ≤ max_depth → read_back d ≡ Ok d
+JsonifyIsReadBack = (d : Datum) → IsWellFormed d → datum_depth d ≤ max_depth → read_back d ≡ Ok d
 
 -- of a map it is the text of data that are the map
 abbrev pub DataAreReadBack : Type 0
-DataAreReadBack = (ms : Pairs) → IsValue (object ms) → depth (object ms) ≤ max_depth →
+DataAreReadBack = (ms : Pairs) → IsWellFormed (object ms) → datum_depth (object ms) ≤ max_depth →
     data_of (json_map ms) ≡ Ok ms
 
 -- what nests deeper is refused
 abbrev pub DeeperIsRefused : Type 0
-DeeperIsRefused = (d : Datum) → IsValue d → max_depth < depth d → read_back d ≡ Err InvalidInput
+DeeperIsRefused = (d : Datum) → IsWellFormed d → max_depth < datum_depth d → read_back d ≡
+    Err InvalidInput
 
 -- `json` writes what `jsonify` writes
 abbrev pub JsonWritesTheSame : Type 0

@@ -1,6 +1,6 @@
 -- `where_exp`: the items for which a condition over one name holds.
 --     naming name d      the environment that has d under the name, and nothing else
---     selected test ds      the items of which the test's condition holds, in their order
+--     items_passing_test test ds      the items of which the test's condition holds, in their order
 use Rattle.std.specs.Prelude.{Bool, List, [], ◌∷◌, filter, Result, Ok, Err}
 use Rattle.std.specs.Option.{ok_or, option_map}
 use Rattle.liquid_model.specs.Data.{Datum, array, object, pair, no_pairs, text_of}
@@ -17,7 +17,7 @@ use Rattle.liquid_evaluation.specs.Tree.{Condition}
 use Rattle.liquid_filter_base.specs.Arguments.{Answer}
 use Rattle.liquid_jekyll_host_filters.specs.Searches.{values}
 use Rattle.liquid_filter_sets.specs.ConditionTexts.{condition_in}
-use Rattle.liquid_filter_sets.specs.Truths.{holds}
+use Rattle.liquid_filter_sets.specs.Truths.{condition_holds}
 
 -- a condition over a name
 pub record Test : Type 0 where
@@ -27,11 +27,11 @@ pub record Test : Type 0 where
 abbrev pub naming : Text → Datum → Environment
 naming name d = merged_layers (new_layers (map_of (pair name d no_pairs)))
 
-unfoldable pub is_selected : Test → Datum → Bool
-is_selected test d = holds test.condition (naming test.name d)
+unfoldable pub passes_test : Test → Datum → Bool
+passes_test test d = condition_holds test.condition (naming test.name d)
 
-abbrev pub selected : Test → List Datum → List Datum
-selected test ds = filter (is_selected test) ds
+abbrev pub items_passing_test : Test → List Datum → List Datum
+items_passing_test test ds = filter (passes_test test) ds
 
 -- the condition that the text of an argument is, over the name that the text of the other is
 abbrev pub test_of : Datum → Datum → Result Test ErrorKind
@@ -43,10 +43,10 @@ test_of name condition = do
 abbrev pub where_exp : Datum → Datum → Datum → Answer
 where_exp name condition (array ds) = do
   test ← test_of name condition
-  Ok (array (items_of (selected test (list_of ds))))
+  Ok (array (items_of (items_passing_test test (list_of ds))))
 where_exp name condition (object ms) = do
   test ← test_of name condition
-  Ok (array (items_of (selected test (values ms))))
+  Ok (array (items_of (items_passing_test test (values ms))))
 where_exp name condition d = Ok d
 
 -- `where_exp`

@@ -10,28 +10,29 @@ use Rattle.liquid_evaluation.specs.Evaluation.{comparison_truth}
 use Rattle.liquid_evaluation.specs.Tree.{Atom, bare, compared, Condition}
 use Rattle.liquid_evaluation.specs.declared.comparison.ComparisonOperator.{ComparisonOperator}
 
-abbrev pub value_or_nil : Expression → Environment → Datum
-value_or_nil x e = option_map_or (λ d. d) (value_of x e) nil
+abbrev pub expression_or_nil : Expression → Environment → Datum
+expression_or_nil x e = option_map_or (λ d. d) (value_of x e) nil
 
-abbrev pub or_false : Result Bool ErrorKind → Bool
-or_false (Ok b) = b
-or_false (Err kind) = false
+abbrev pub truth_or_false : Result Bool ErrorKind → Bool
+truth_or_false (Ok b) = b
+truth_or_false (Err kind) = false
 
 -- two values that can't be compared don't compare: nil contains nothing
 abbrev pub compares : ComparisonOperator → Datum → Datum → Bool
-compares operator left right = or_false (comparison_truth operator left right)
+compares operator left right = truth_or_false (comparison_truth operator left right)
 
 -- the truth of a value, or a comparison of two
 abbrev pub atom_holds : Atom → Environment → Bool
-atom_holds (bare x) e = truthy (value_or_nil x e)
+atom_holds (bare x) e = truthy (expression_or_nil x e)
 atom_holds (compared left operator right) e =
-    compares operator (value_or_nil left e) (value_or_nil right e)
+    compares operator (expression_or_nil left e) (expression_or_nil right e)
 
 abbrev pub all_hold : List Atom → Environment → Bool
 all_hold [] e = true
 all_hold (atom ∷ atoms) e = atom_holds atom e && all_hold atoms e
 
 -- one of the conjunctions, all atoms of which hold
-abbrev pub holds : Condition → Environment → Bool
-holds [] e = false
-holds (conjunction ∷ conjunctions) e = all_hold conjunction e || holds conjunctions e
+abbrev pub condition_holds : Condition → Environment → Bool
+condition_holds [] e = false
+condition_holds (conjunction ∷ conjunctions) e = all_hold conjunction e
+    || condition_holds conjunctions e

@@ -2,8 +2,10 @@
 ghost use Rattle.std.specs.Prelude.{◌≡◌, true, false, Ok, Err, suc, nat_le};
 ghost use Rattle.liquid_model.specs.View.{view, items_view, pairs_view};
 ghost use Rattle.liquid_model.specs.declared.error.ErrorKind.TheVariants.{InvalidInput};
-ghost use Rattle.liquid_filter_sets.specs.ReadBack.{AreValues, IsValue, depth, HasAscendingKeys};
-ghost use Rattle.liquid_filter_sets.specs.ReadBack.{HasValues, items_depth, pairs_depth, read_back};
+ghost use Rattle.liquid_filter_sets.specs.ReadBack.{AreWellFormedItems, IsWellFormed, datum_depth};
+ghost use Rattle.liquid_filter_sets.specs.ReadBack.{HasAscendingKeys};
+ghost use Rattle.liquid_filter_sets.specs.ReadBack.{HasWellFormedValues, items_depth, pairs_depth};
+ghost use Rattle.liquid_filter_sets.specs.ReadBack.{read_back};
 
 use liquid_core::{Object, Value};
 
@@ -23,8 +25,8 @@ pub fn is_read_back(value: &Value) -> bool
 /// Whether lists and maps stand at most so deep in one another.
 #[cycle(nests_within)]
 fn nests_within(value: &Value, most: usize) -> bool
-    ensures within { result ≡ nat_le (depth (view value.now)) most }
-    ensures held { IsValue (view value.now) }
+    ensures within { result ≡ nat_le (datum_depth (view value.now)) most }
+    ensures held { IsWellFormed (view value.now) }
 {
     match value {
         Value::Nil | Value::Bool(_) | Value::Text(_) => true,
@@ -40,7 +42,7 @@ fn nests_within(value: &Value, most: usize) -> bool
 #[cycle(nests_within)]
 fn items_nest_within(items: &Vec<Value>, most: usize) -> bool
     ensures within { result ≡ nat_le (suc (items_depth (items_view items.now.items))) most }
-    ensures held { AreValues (items_view items.now.items) }
+    ensures held { AreWellFormedItems (items_view items.now.items) }
 {
     let mut within = most > 0;
     for item in items {
@@ -52,7 +54,7 @@ fn items_nest_within(items: &Vec<Value>, most: usize) -> bool
 #[cycle(nests_within)]
 fn pairs_nest_within(pairs: &Object, most: usize) -> bool
     ensures within { result ≡ nat_le (suc (pairs_depth (pairs_view pairs.now.entries))) most }
-    ensures held { HasValues (pairs_view pairs.now.entries) }
+    ensures held { HasWellFormedValues (pairs_view pairs.now.entries) }
     ensures ordered { HasAscendingKeys (pairs_view pairs.now.entries) }
 {
     let mut within = most > 0;

@@ -6,8 +6,8 @@ ghost use Rattle.liquid_model.specs.View.{view};
 ghost use Rattle.liquid_core.specs.ExpressionView.{expression_view};
 ghost use Rattle.liquid_core.specs.States.{environment_of};
 ghost use Rattle.liquid_evaluation.specs.ConditionView.{atom_view, atoms_view, condition_view};
-ghost use Rattle.liquid_filter_sets.specs.Truths.{all_hold, atom_holds, compares, holds};
-ghost use Rattle.liquid_filter_sets.specs.Truths.{value_or_nil};
+ghost use Rattle.liquid_filter_sets.specs.Truths.{all_hold, atom_holds, compares, condition_holds};
+ghost use Rattle.liquid_filter_sets.specs.Truths.{expression_or_nil};
 
 use liquid_core::{ErrorKind, Expression, Result, State, Value, ValueCow};
 use liquid_syntax::{Atom, ComparisonOperator, Condition};
@@ -16,7 +16,7 @@ use std::alloc::Global;
 /// Whether the condition holds, from left to right up to the conjunction that decides.
 pub(crate) fn holds(alloc: Global, condition: &Condition, state: &State<'_>) -> Result<bool>
     ensures { IsValueOrMemory (λ b. b) result
-        (holds (condition_view condition.now) (environment_of state.now)) }
+        (condition_holds (condition_view condition.now) (environment_of state.now)) }
 {
     for conjunction in &condition.conjunctions {
         if all_hold(alloc, conjunction, state)? {
@@ -61,7 +61,7 @@ fn value_or_nil<'a>(
     state: &'a State<'_>,
 ) -> Result<ValueCow<'a>>
     ensures { IsValueOrMemory cow_view result
-        (value_or_nil (expression_view expression.now) (environment_of state.now)) }
+        (expression_or_nil (expression_view expression.now) (environment_of state.now)) }
 {
     match expression.try_evaluate(alloc, state)? {
         Some(value) => Ok(value),

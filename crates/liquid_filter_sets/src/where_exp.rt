@@ -4,7 +4,7 @@ ghost use Rattle.liquid_model.specs.Answer.{Answers, IsValueOrMemory};
 ghost use Rattle.liquid_model.specs.Lists.{list_of};
 ghost use Rattle.liquid_model.specs.View.{view, items_view, pairs_view};
 ghost use Rattle.liquid_jekyll_host_filters.specs.Searches.{values};
-ghost use Rattle.liquid_filter_sets.specs.Selections.{is_selected, selected, test_of};
+ghost use Rattle.liquid_filter_sets.specs.Selections.{passes_test, items_passing_test, test_of};
 ghost use Rattle.liquid_filter_sets.specs.Selections.{where_exp, where_exp_answer};
 ghost use Rattle.liquid_filter_sets.specs.Views.{test_view};
 
@@ -79,7 +79,7 @@ impl Test {
     /// Whether the condition holds of the item.
     fn selects(&self, alloc: Global, item: &Value) -> Result<bool>
         ensures { IsValueOrMemory (λ b. b) result
-            (is_selected (test_view self.now) (view item.now)) }
+            (passes_test (test_view self.now) (view item.now)) }
     {
         let mut names = Object::new(alloc);
         let name = String::from_str(alloc, self.name.as_str())?;
@@ -90,7 +90,7 @@ impl Test {
 
 fn selected(alloc: Global, items: &[Value], test: &Test) -> Result<Vec<Value>>
     ensures { IsValueOrMemory (λ v. map view v.items) result
-        (selected (test_view test.now) (list_of (items_view items.now))) }
+        (items_passing_test (test_view test.now) (list_of (items_view items.now))) }
 {
     let mut kept = Vec::new(alloc);
     for item in items {
@@ -103,7 +103,7 @@ fn selected(alloc: Global, items: &[Value], test: &Test) -> Result<Vec<Value>>
 
 fn selected_values(alloc: Global, pairs: &Object, test: &Test) -> Result<Vec<Value>>
     ensures { IsValueOrMemory (λ v. map view v.items) result
-        (selected (test_view test.now) (values (pairs_view pairs.now.entries))) }
+        (items_passing_test (test_view test.now) (values (pairs_view pairs.now.entries))) }
 {
     let mut kept = Vec::new(alloc);
     for (_key, value) in pairs.iter() {

@@ -5,7 +5,7 @@ use Rattle.liquid_model.specs.Data.{Items, no_items, item}
 use Rattle.liquid_model.specs.View.{view, items_view}
 use Rattle.liquid_model.specs.declared.error.ErrorKind.{ErrorKind}
 use Rattle.liquid_model.specs.declared.value.Value.{Value}
-use Rattle.liquid_json.specs.Json.{datum_of, items_of}
+use Rattle.liquid_json.specs.Json.{datum_of, parsed_items}
 use Rattle.serde_json.specs.View.{view as json_view, items_view as json_items}
 use Rattle.serde_json.specs.declared.value.Value as json
 
@@ -30,5 +30,5 @@ after_none [] = refl
 after_none (v ∷ vs) = ap (item (view v)) (after_none vs)
 
 -- one more item is done
-pub items_next : (vs : List Value) (v : Value) (x : json.Value) (rest : List json.Value) → datum_of (json_view x) ≡ Ok (view v) → after_all vs (items_of (json_items (x ∷ rest))) ≡ after_all (vs ++ v ∷ []) (items_of (json_items rest))
-items_next vs v x rest e = ap (λ r. after_all vs (r >>= λ d. items_of (json_items rest) >>= λ es. Ok (item d es))) e ∙ after_all_next vs v (items_of (json_items rest))
+pub items_next : (vs : List Value) (v : Value) (x : json.Value) (rest : List json.Value) → datum_of (json_view x) ≡ Ok (view v) → after_all vs (parsed_items (json_items (x ∷ rest))) ≡ after_all (vs ++ v ∷ []) (parsed_items (json_items rest))
+items_next vs v x rest e = ap (λ r. after_all vs (r >>= λ d. parsed_items (json_items rest) >>= λ es. Ok (item d es))) e ∙ after_all_next vs v (parsed_items (json_items rest))

@@ -13,7 +13,7 @@ use Rattle.liquid_model.proofs.Views.{pairs_view-insert_entry}
 use Rattle.liquid_model.specs.View.{view, pairs_view}
 use Rattle.liquid_model.specs.declared.value.Value.{Value as CoreValue}
 use Rattle.std.specs.BTreeMap.{insert_entry}
-use Rattle.liquid_json.specs.Json.{datum_of, pairs_of}
+use Rattle.liquid_json.specs.Json.{datum_of, parsed_pairs}
 use Rattle.serde_json.specs.Data as json
 use Rattle.serde_json.specs.View.{members_view as json_members}
 use Rattle.serde_json.specs.declared.value.Value.{Value}
@@ -69,15 +69,15 @@ put_last (pair l d done) k e more h =
     let above : slice_cmp nat_cmp k l ≡ Greater = nat_list_cmp_total.antisymm k l ∙ ap ordering_reverse (below_middle l (names done) k more h.0) in
     rw above (ap (pair l d) (put_last done k e more h.1))
 
-from_at : (r : Result Datum ErrorKind) (done : Pairs) (k : List ℕ) (ms : json.Members) → ((next : Pairs) → Sorted (names next ++ member_names ms) → pairs_from ms next ≡ joined_all next (pairs_of ms)) → Sorted (names done ++ k ∷ member_names ms)
-    → (r >>= λ e. pairs_from ms (put k e done)) ≡ joined_all done (r >>= λ e. pairs_of ms >>= λ ps. Ok (pair k e ps))
+from_at : (r : Result Datum ErrorKind) (done : Pairs) (k : List ℕ) (ms : json.Members) → ((next : Pairs) → Sorted (names next ++ member_names ms) → pairs_from ms next ≡ joined_all next (parsed_pairs ms)) → Sorted (names done ++ k ∷ member_names ms)
+    → (r >>= λ e. pairs_from ms (put k e done)) ≡ joined_all done (r >>= λ e. parsed_pairs ms >>= λ ps. Ok (pair k e ps))
 from_at (Err x) done k ms next h = refl
 from_at (Ok e) done k ms next h =
     ap (pairs_from ms) (put_last done k e (member_names ms) h)
     ∙ next (joined done (pair k e no_pairs)) (subst Sorted (sym (names_joined done k e (member_names ms))) h)
-    ∙ joined_all_one done k e (pairs_of ms)
+    ∙ joined_all_one done k e (parsed_pairs ms)
 
-from_of : (done : Pairs) (ms : json.Members) → Sorted (names done ++ member_names ms) → pairs_from ms done ≡ joined_all done (pairs_of ms)
+from_of : (done : Pairs) (ms : json.Members) → Sorted (names done ++ member_names ms) → pairs_from ms done ≡ joined_all done (parsed_pairs ms)
 from_of done json.no_members h = ap Ok (sym (joined_none done))
 from_of done (json.member k d ms) h = from_at (datum_of d) done k ms (λ next i. from_of next ms i) h
 
@@ -98,8 +98,8 @@ sorted_names [] h = h
 sorted_names (e ∷ es) h = (named_above e.0 es h.0, sorted_names es h.1)
 
 -- the entries of a map, put in one after another, are its pairs
-pub pairs_from_sorted : (es : List Entry) → IsStrictlySortedBy string_cmp (keys_of es) → pairs_from (json_members es) no_pairs ≡ pairs_of (json_members es)
-pairs_from_sorted es h = from_of no_pairs (json_members es) (sorted_names es h) ∙ joined_all_first (pairs_of (json_members es))
+pub pairs_from_sorted : (es : List Entry) → IsStrictlySortedBy string_cmp (keys_of es) → pairs_from (json_members es) no_pairs ≡ parsed_pairs (json_members es)
+pairs_from_sorted es h = from_of no_pairs (json_members es) (sorted_names es h) ∙ joined_all_first (parsed_pairs (json_members es))
 
 -- an entry that goes into a map is put among its pairs
 pub pairs_after_insert : (es : List (String Global × CoreValue)) (k : String Global) (v : CoreValue) → pairs_view (insert_entry string_cmp es k v) ≡ put (string_bytes k) (view v) (pairs_view es)

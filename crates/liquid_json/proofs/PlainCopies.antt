@@ -23,7 +23,7 @@ use Rattle.liquid_model.specs.declared.error.ErrorKind.{ErrorKind}
 use Rattle.liquid_model.specs.declared.uses.Use as code
 use Rattle.liquid_model.proofs.Alike.{pairwise_more, alike_at, alike_equal, alike_same}
 use Rattle.liquid_json.specs.Asked.{IsAlikeData, AnswersAlike}
-use Rattle.liquid_json.specs.PlainUses.{plain, plain_fields}
+use Rattle.liquid_json.specs.PlainUses.{is_plain_use, plain_fields}
 use Rattle.liquid_json.specs.inside.Copies.{finds_by_place, any_by_place, each_plain, AsksMore, AskMore, ItemsAskMore}
 use Rattle.liquid_json.proofs.PlainUses.{first_true, second_true}
 
@@ -44,17 +44,17 @@ second_false false b e = e
 
 -- ---- one more name
 
-pub plain_insert : (es : List Entry) (k : String Global) (u : code.Use) → plain (use_view u) ≡ true → each_plain (members_view es) ≡ true → each_plain (members_view (insert_entry string_cmp es k u)) ≡ true
-plain_insert [] k u p h = both (plain (use_view u)) true p refl
-plain_insert (e ∷ es) k u p h = at (string_cmp k e.0) (plain_insert es k u p (second_true (plain (use_view e.1)) _ h))
+pub plain_insert : (es : List Entry) (k : String Global) (u : code.Use) → is_plain_use (use_view u) ≡ true → each_plain (members_view es) ≡ true → each_plain (members_view (insert_entry string_cmp es k u)) ≡ true
+plain_insert [] k u p h = both (is_plain_use (use_view u)) true p refl
+plain_insert (e ∷ es) k u p h = at (string_cmp k e.0) (plain_insert es k u p (second_true (is_plain_use (use_view e.1)) _ h))
   where
     rest : each_plain (members_view es) ≡ true
-    rest = second_true (plain (use_view e.1)) _ h
+    rest = second_true (is_plain_use (use_view e.1)) _ h
 
     at : (o : Ordering) → each_plain (members_view (insert_entry string_cmp es k u)) ≡ true → each_plain (members_view (match_ordering o ((k, u) ∷ e ∷ es) ((e.0, u) ∷ es) (e ∷ insert_entry string_cmp es k u))) ≡ true
-    at Less inside = both (plain (use_view u)) _ p h
-    at Equal inside = both (plain (use_view u)) _ p rest
-    at Greater inside = both (plain (use_view e.1)) _ (first_true (plain (use_view e.1)) _ h) inside
+    at Less inside = both (is_plain_use (use_view u)) _ p h
+    at Equal inside = both (is_plain_use (use_view u)) _ p rest
+    at Greater inside = both (is_plain_use (use_view e.1)) _ (first_true (is_plain_use (use_view e.1)) _ h) inside
 
 below_middle : (first : Entry) (es : List Entry) (e : Entry) (more : List Entry) → AllByRecursion (λ y. string_cmp first.0 y ≡ Less) (keys_of (es ++ e ∷ more)) → string_cmp first.0 e.0 ≡ Less
 below_middle first [] e more h = h.0
@@ -130,7 +130,7 @@ plain_from : (ms : Fields) → Ascend (names ms) → any_by_place ms ≡ false �
 plain_from no_fields h none each = refl
 plain_from (field k u more) h none each =
     both _ _ (negated _ (first_false (finds_by_place k) _ none))
-    (both _ _ (negated _ (none_above k more h.0)) (both (plain u) _ (first_true (plain u) _ each) (plain_from more h.1 (second_false (finds_by_place k) _ none) (second_true (plain u) _ each))))
+    (both _ _ (negated _ (none_above k more h.0)) (both (is_plain_use u) _ (first_true (is_plain_use u) _ each) (plain_from more h.1 (second_false (finds_by_place k) _ none) (second_true (is_plain_use u) _ each))))
 
 pub plain_copies : (more : Fields) (done left : List Entry) → IsStrictlySortedBy string_cmp (keys_of (done ++ left)) → any_by_place (members_view (done ++ left)) ≡ false → AskMore more (members_view done) → each_plain more ≡ true → plain_fields more ≡ true
 plain_copies more done left sorted none asks each =
@@ -197,7 +197,7 @@ no_length None key n e = ap (λ b. cond b (Some (counted n)) None) e
 no_size_asked : (ms : Fields) (key : Text) → plain_fields ms ≡ true → same_text key (codes "size") ≡ true → use_in key ms ≡ nothing
 no_size_asked no_fields key h e = refl
 no_size_asked (field k u more) key h e =
-    at (same_text k key) refl (no_size_asked more key (second_true (plain u) _ (second_true (not (asks_whether (use_of_key k more))) _ (second_true (not (same_text k (codes "size") || is_place k)) _ h))) e)
+    at (same_text k key) refl (no_size_asked more key (second_true (is_plain_use u) _ (second_true (not (asks_whether (use_of_key k more))) _ (second_true (not (same_text k (codes "size") || is_place k)) _ h))) e)
   where
     unsized : same_text k (codes "size") ≡ true → ⊥
     unsized is = clash (same_text k (codes "size")) (is_place k) is (first_true (not (same_text k (codes "size") || is_place k)) _ h)

@@ -11,7 +11,7 @@ use Rattle.liquid_model.specs.Skipping.{AlikeKeys}
 use Rattle.liquid_model.proofs.Alike.{AlikeLists}
 use Rattle.liquid_model.proofs.Projected.{fields_unseen}
 use Rattle.liquid_model.proofs.Skipping.{map_with_some_keys, list_without_items}
-use Rattle.liquid_json.specs.PlainUses.{plain, plain_fields}
+use Rattle.liquid_json.specs.PlainUses.{is_plain_use, plain_fields}
 
 pub first_true : (a b : Bool) → a && b ≡ true → a ≡ true
 first_true true b e = refl
@@ -38,14 +38,14 @@ unlisted no_fields h = refl
 unlisted (field k u more) h =
     let kept = untrue _ (first_true _ _ h) in
     let rest = second_true (not (same_text k (codes "size") || is_place k)) _ h in
-    neither (asks_whether u) _ _ kept (unlisted more (second_true (plain u) _ (second_true (not (asks_whether (use_of_key k more))) _ rest)))
+    neither (asks_whether u) _ _ kept (unlisted more (second_true (is_plain_use u) _ (second_true (not (asks_whether (use_of_key k more))) _ rest)))
 
 pub unsized : (ms : Fields) → plain_fields ms ≡ true → asks_length ms ≡ false
 unsized no_fields h = refl
 unsized (field k u more) h =
     let kept = no_size (same_text k (codes "size")) (is_place k) (untrue _ (first_true _ _ h)) in
     let rest = second_true (not (same_text k (codes "size") || is_place k)) _ h in
-    neither (asks_whether u) _ _ kept (unsized more (second_true (plain u) _ (second_true (not (asks_whether (use_of_key k more))) _ rest)))
+    neither (asks_whether u) _ _ kept (unsized more (second_true (is_plain_use u) _ (second_true (not (asks_whether (use_of_key k more))) _ rest)))
 
 -- with a use that asks nothing
 with_none : (u v : Use) (o p : Option Datum) → asks_whether v ≡ false → Alike u o p → Alike (join u v) o p
@@ -68,7 +68,7 @@ of_key no_fields key h o p a = a
 of_key (field k u more) key h o p a =
     let rest = second_true (not (same_text k (codes "size") || is_place k)) _ h in
     let once = untrue _ (first_true (not (asks_whether (use_of_key k more))) _ rest) in
-    let after = second_true (plain u) _ (second_true (not (asks_whether (use_of_key k more))) _ rest) in
+    let after = second_true (is_plain_use u) _ (second_true (not (asks_whether (use_of_key k more))) _ rest) in
     at (same_text k key) refl a once (λ b. of_key more key after o p b)
   where
     at : (b : Bool) → same_text k key ≡ b → Alike (cond b u (use_in key more)) o p → asks_whether (use_of_key k more) ≡ false → (Alike (use_in key more) o p → Alike (use_of_key key more) o p)
@@ -81,7 +81,7 @@ of_no_key no_fields key h e = refl
 of_no_key (field k u more) key h e =
     let rest = second_true (not (same_text k (codes "size") || is_place k)) _ h in
     let once = untrue _ (first_true (not (asks_whether (use_of_key k more))) _ rest) in
-    let after = second_true (plain u) _ (second_true (not (asks_whether (use_of_key k more))) _ rest) in
+    let after = second_true (is_plain_use u) _ (second_true (not (asks_whether (use_of_key k more))) _ rest) in
     at (same_text k key) refl e once (λ b. of_no_key more key after b)
   where
     at : (b : Bool) → same_text k key ≡ b → cond b u (use_in key more) ≡ nothing → asks_whether (use_of_key k more) ≡ false → (use_in key more ≡ nothing → asks_whether (use_of_key key more) ≡ false)
@@ -95,13 +95,13 @@ seen ms key h o p a = with_none (use_of_key key ms) nothing o p refl (of_key ms 
 pub unseen : (ms : Fields) (key : Text) → plain_fields ms ≡ true → use_in key ms ≡ nothing → asks_whether (pairs_wanted ms uncounted key) ≡ false
 unseen ms key h e = none_with (use_of_key key ms) nothing (of_no_key ms key h e) refl
 
-pub plain_in : (ms : Fields) (key : Text) → plain_fields ms ≡ true → plain (use_in key ms) ≡ true
+pub plain_in : (ms : Fields) (key : Text) → plain_fields ms ≡ true → is_plain_use (use_in key ms) ≡ true
 plain_in no_fields key h = refl
 plain_in (field k u more) key h =
     let rest = second_true (not (asks_whether (use_of_key k more))) _ (second_true (not (same_text k (codes "size") || is_place k)) _ h) in
-    at (same_text k key) (first_true (plain u) _ rest) (plain_in more key (second_true (plain u) _ rest))
+    at (same_text k key) (first_true (is_plain_use u) _ rest) (plain_in more key (second_true (is_plain_use u) _ rest))
   where
-    at : (b : Bool) → plain u ≡ true → plain (use_in key more) ≡ true → plain (cond b u (use_in key more)) ≡ true
+    at : (b : Bool) → is_plain_use u ≡ true → is_plain_use (use_in key more) ≡ true → is_plain_use (cond b u (use_in key more)) ≡ true
     at true e f = e
     at false e f = f
 

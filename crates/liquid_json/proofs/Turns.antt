@@ -8,7 +8,7 @@ use Rattle.serde_json.specs.Read.{converted}
 use Rattle.liquid_model.specs.Data.{Datum, array, object, Items, no_items, item, Pairs, no_pairs, put}
 use Rattle.liquid_model.specs.View.{view}
 use Rattle.liquid_model.specs.declared.value.Value.{Value}
-use Rattle.liquid_json.specs.inside.Tokens.{datum_of, items_of, pairs_of}
+use Rattle.liquid_json.specs.inside.Tokens.{datum_of, token_items, token_pairs}
 use Rattle.liquid_json.proofs.After.{after, after_next}
 
 abbrev pick : {A : Type 0} → A → Option A → A
@@ -28,40 +28,40 @@ twice : {A B : Type 0} (g : A → B) (r : List Token) (x : Option A) → option_
 twice g r None = refl
 twice g r (Some a) = refl
 
-pub converted-array : (o : Option (json.Items × List Token)) → converted datum_of (parse_map json.array o) ≡ parse_map array (converted items_of o)
+pub converted-array : (o : Option (json.Items × List Token)) → converted datum_of (parse_map json.array o) ≡ parse_map array (converted token_items o)
 converted-array None = refl
-converted-array (Some p) = twice array p.1 (items_of p.0)
+converted-array (Some p) = twice array p.1 (token_items p.0)
 
-pub converted-object : (o : Option (json.Members × List Token)) → converted datum_of (parse_map json.object o) ≡ parse_map object (converted (λ ms. pairs_of ms no_pairs) o)
+pub converted-object : (o : Option (json.Members × List Token)) → converted datum_of (parse_map json.object o) ≡ parse_map object (converted (λ ms. token_pairs ms no_pairs) o)
 converted-object None = refl
-converted-object (Some p) = twice object p.1 (pairs_of p.0 no_pairs)
+converted-object (Some p) = twice object p.1 (token_pairs p.0 no_pairs)
 
-with_item : (j : json.Json) (d : Datum) → datum_of j ≡ Some d → (o : Option (json.Items × List Token)) → converted items_of (parse_map (json.item j) o) ≡ parse_map (item d) (converted items_of o)
+with_item : (j : json.Json) (d : Datum) → datum_of j ≡ Some d → (o : Option (json.Items × List Token)) → converted token_items (parse_map (json.item j) o) ≡ parse_map (item d) (converted token_items o)
 with_item j d e None = refl
-with_item j d e (Some p) = rw e (twice (item d) p.1 (items_of p.0))
+with_item j d e (Some p) = rw e (twice (item d) p.1 (token_items p.0))
 
 with_pair : (k : List ℕ) (j : json.Json) (d : Datum) (old : Pairs) → datum_of j ≡ Some d → (o : Option (json.Members × List Token))
-    → converted (λ ms. pairs_of ms old) (parse_map (json.member k j) o) ≡ converted (λ ms. pairs_of ms (put k d old)) o
+    → converted (λ ms. token_pairs ms old) (parse_map (json.member k j) o) ≡ converted (λ ms. token_pairs ms (put k d old)) o
 with_pair k j d old e None = refl
 with_pair k j d old e (Some p) = rw e
 
 module _ (p : Parse json.Json) where
   pub item_read : (n : ℕ) (ts r : List Token) (d : Datum) → 0 < n → after_end_array ts ≡ None → converted datum_of (p ts) ≡ Some (d, r)
-      → converted items_of (items p n ts) ≡ parse_map (item d) (converted items_of (items p (n - 1) r))
-  item_read n ts r d some going e = let j = converted_some datum_of (p ts) d r e in ap (converted items_of) (items_more p n ts r j.0 some going j.1) ∙ with_item j.0 d j.2 _
+      → converted token_items (items p n ts) ≡ parse_map (item d) (converted token_items (items p (n - 1) r))
+  item_read n ts r d some going e = let j = converted_some datum_of (p ts) d r e in ap (converted token_items) (items_more p n ts r j.0 some going j.1) ∙ with_item j.0 d j.2 _
 
-  pub items_over : (n : ℕ) (ts r : List Token) → length ts ≤ n → after_end_array ts ≡ Some r → converted items_of (items p n ts) ≡ Some (no_items, r)
-  items_over n ts r enough e = ap (converted items_of) (items_end p n ts r enough e)
+  pub items_over : (n : ℕ) (ts r : List Token) → length ts ≤ n → after_end_array ts ≡ Some r → converted token_items (items p n ts) ≡ Some (no_items, r)
+  items_over n ts r enough e = ap (converted token_items) (items_end p n ts r enough e)
 
   module _ (old : Pairs) where
     pub pair_read : (n : ℕ) (k : List ℕ) (ts s r : List Token) (d : Datum) → 0 < n → read_key ts ≡ Some (Some k, s) → converted datum_of (p s) ≡ Some (d, r)
-        → converted (λ ms. pairs_of ms old) (members p n ts) ≡ converted (λ ms. pairs_of ms (put k d old)) (members p (n - 1) r)
+        → converted (λ ms. token_pairs ms old) (members p n ts) ≡ converted (λ ms. token_pairs ms (put k d old)) (members p (n - 1) r)
     pair_read n k ts s r d some key e =
         let j = converted_some datum_of (p s) d r e in
-        ap (converted (λ ms. pairs_of ms old)) (members_more p n k ts s r j.0 some key j.1) ∙ with_pair k j.0 d old j.2 _
+        ap (converted (λ ms. token_pairs ms old)) (members_more p n k ts s r j.0 some key j.1) ∙ with_pair k j.0 d old j.2 _
 
-    pub pairs_over : (n : ℕ) (ts r : List Token) → length ts ≤ n → read_key ts ≡ Some (None, r) → converted (λ ms. pairs_of ms old) (members p n ts) ≡ Some (old, r)
-    pairs_over n ts r enough e = ap (converted (λ ms. pairs_of ms old)) (members_end p n ts r enough e)
+    pub pairs_over : (n : ℕ) (ts r : List Token) → length ts ≤ n → read_key ts ≡ Some (None, r) → converted (λ ms. token_pairs ms old) (members p n ts) ≡ Some (old, r)
+    pairs_over n ts r enough e = ap (converted (λ ms. token_pairs ms old)) (members_end p n ts r enough e)
 
 pub one_more_item : (vs : List Value) (v : Value) (r : Option (Items × List Token)) → parse_map (after vs) (parse_map (item (view v)) r) ≡ parse_map (after (vs ++ v ∷ [])) r
 one_more_item vs v None = refl

@@ -20,24 +20,24 @@ abbrev mutual
   datum_of (json.boolean b) = Ok (truth b)
   datum_of (json.number n) = whole_number (as_i64 n)
   datum_of (json.string s) = Ok (text s)
-  datum_of (json.array ds) = items_of ds >>= λ es. Ok (array es)
-  datum_of (json.object ms) = pairs_of ms >>= λ ps. Ok (object ps)
+  datum_of (json.array ds) = parsed_items ds >>= λ es. Ok (array es)
+  datum_of (json.object ms) = parsed_pairs ms >>= λ ps. Ok (object ps)
 
-  pub items_of : json.Items → Result Items ErrorKind
-  items_of json.no_items = Ok no_items
-  items_of (json.item d ds) = datum_of d >>= λ e. items_of ds >>= λ es. Ok (item e es)
+  pub parsed_items : json.Items → Result Items ErrorKind
+  parsed_items json.no_items = Ok no_items
+  parsed_items (json.item d ds) = datum_of d >>= λ e. parsed_items ds >>= λ es. Ok (item e es)
 
-  pub pairs_of : json.Members → Result Pairs ErrorKind
-  pairs_of json.no_members = Ok no_pairs
-  pairs_of (json.member k d ms) = datum_of d >>= λ e. pairs_of ms >>= λ ps. Ok (pair k e ps)
+  pub parsed_pairs : json.Members → Result Pairs ErrorKind
+  parsed_pairs json.no_members = Ok no_pairs
+  parsed_pairs (json.member k d ms) = datum_of d >>= λ e. parsed_pairs ms >>= λ ps. Ok (pair k e ps)
 
 -- an object alone
-abbrev pub object_of : json.Data → Result Pairs ErrorKind
-object_of (json.object ms) = pairs_of ms
-object_of _ = Err InvalidInput
+abbrev pub parsed_object : json.Data → Result Pairs ErrorKind
+parsed_object (json.object ms) = parsed_pairs ms
+parsed_object _ = Err InvalidInput
 
 abbrev pub object_read : Option json.Data → Result Pairs ErrorKind
-object_read (Some d) = object_of d
+object_read (Some d) = parsed_object d
 object_read None = Err InvalidInput
 
 -- the data that a text gives

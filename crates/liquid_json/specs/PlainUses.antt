@@ -7,16 +7,16 @@ use Rattle.liquid_model.specs.Projected.{use_of_key}
 
 -- each member once, and none that finds an item or a length of a list or a map
 abbrev mutual
-  pub plain : Use → Bool
-  plain nothing = true
-  plain everything = true
-  plain (parts members turns) = plain_fields members && plain_turns turns
+  pub is_plain_use : Use → Bool
+  is_plain_use nothing = true
+  is_plain_use everything = true
+  is_plain_use (parts members turns) = plain_fields members && plain_turns turns
 
   pub plain_fields : Fields → Bool
   plain_fields no_fields = true
   plain_fields (field k u more) = not (same_text k (codes "size") || is_place k) &&
-      (not (asks_whether (use_of_key k more)) && (plain u && plain_fields more))
+      (not (asks_whether (use_of_key k more)) && (is_plain_use u && plain_fields more))
 
   pub plain_turns : ItemUse → Bool
   plain_turns uncounted = true
-  plain_turns (every u) = plain u
+  plain_turns (every u) = is_plain_use u

@@ -2,7 +2,7 @@
 //! everything.
 ghost use Rattle.std.specs.Prelude.{◌≡◌, false, IfOk, IfErr, IsTrue};
 ghost use Rattle.liquid_model.specs.UseViews.{use_view, members_view, turns_view};
-ghost use Rattle.liquid_json.specs.PlainUses.{plain, plain_fields, plain_turns};
+ghost use Rattle.liquid_json.specs.PlainUses.{is_plain_use, plain_fields, plain_turns};
 ghost use Rattle.liquid_json.specs.inside.Copies as spec;
 ghost use Rattle.liquid_json.specs.inside.Copies.{AsksMore, AskMore, ItemsAskMore};
 
@@ -32,7 +32,7 @@ pub fn plain_uses(alloc: Global, uses: &Uses, depth: usize) -> Result<Uses>
 #[cycle(plain_use)]
 #[tactic(auto, using(crate::proofs::PlainCopies::all_more, crate::proofs::PlainCopies::same_more))]
 fn plain_use(alloc: Global, asked: &Use, depth: usize) -> Result<Use>
-    ensures plain { IfOk result (λ u. IsTrue (plain (use_view u))) }
+    ensures plain { IfOk result (λ u. IsTrue (is_plain_use (use_view u))) }
     ensures more { IfOk result (λ u. AsksMore (use_view u) (use_view asked.now)) }
     ensures memory { IfErr result (λ e. e.kind ≡ ErrorKind.Memory) }
 {

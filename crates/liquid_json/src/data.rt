@@ -4,7 +4,8 @@ ghost use Rattle.liquid_model.specs.Answer.{Answers};
 ghost use Rattle.liquid_model.specs.View.{view, items_view, pairs_view};
 ghost use Rattle.liquid_model.specs.UseViews.{uses_view};
 ghost use Rattle.liquid_json.specs.Asked.{AnswersAlike, IsAlikeData};
-ghost use Rattle.liquid_json.specs.Json.{datum_of, items_of, pairs_of, object_of, data_of};
+ghost use Rattle.liquid_json.specs.Json.{datum_of, parsed_items, parsed_pairs, parsed_object};
+ghost use Rattle.liquid_json.specs.Json.{data_of};
 ghost use Rattle.serde_json.specs.View.{view as json_view, items_view as json_items};
 ghost use Rattle.serde_json.specs.View.{members_view as json_members};
 
@@ -78,7 +79,7 @@ fn data_from_tree(alloc: Global, text: &str) -> Result<Object>
 }
 
 fn object_of(alloc: Global, value: serde_json::Value) -> Result<Object>
-    ensures { Answers (λ m. pairs_view m.entries) result (object_of (json_view value)) }
+    ensures { Answers (λ m. pairs_view m.entries) result (parsed_object (json_view value)) }
 {
     match value {
         serde_json::Value::Object(members) => pairs_of(alloc, members),
@@ -109,7 +110,7 @@ fn value_of(alloc: Global, value: serde_json::Value) -> Result<Value>
 
 #[cycle(value_of)]
 fn items_of(alloc: Global, items: Vec<serde_json::Value>) -> Result<Vec<Value>>
-    ensures { Answers (λ v. items_view v.items) result (items_of (json_items items.items)) }
+    ensures { Answers (λ v. items_view v.items) result (parsed_items (json_items items.items)) }
 {
     let mut values = Vec::with_capacity(alloc, items.len())?;
     for item in items {
@@ -121,7 +122,8 @@ fn items_of(alloc: Global, items: Vec<serde_json::Value>) -> Result<Vec<Value>>
 #[cycle(value_of)]
 #[tactic(auto, using(crate::proofs::Members::pairs_after_insert, crate::proofs::Members::pairs_from_sorted))]
 fn pairs_of(alloc: Global, members: Map<String, serde_json::Value>) -> Result<Object>
-    ensures { Answers (λ m. pairs_view m.entries) result (pairs_of (json_members members.entries)) }
+    ensures { Answers (λ m. pairs_view m.entries) result
+        (parsed_pairs (json_members members.entries)) }
 {
     let mut pairs: Object = BTreeMap::new(alloc);
     for (key, member) in members {

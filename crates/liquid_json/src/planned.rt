@@ -5,7 +5,7 @@ ghost use Rattle.liquid_model.specs.Uses.{parts, uncounted};
 ghost use Rattle.liquid_model.specs.UseViews.{use_view, members_view, turns_view, uses_view};
 ghost use Rattle.liquid_json.specs.Asked.{IsAlikeData};
 ghost use Rattle.liquid_json.specs.Json.{data_of};
-ghost use Rattle.liquid_json.specs.PlainUses.{plain, plain_fields, plain_turns};
+ghost use Rattle.liquid_json.specs.PlainUses.{is_plain_use, plain_fields, plain_turns};
 ghost use Rattle.liquid_json.specs.inside.Planned.{IsPlanned, ArePlanned, PairsPlanned};
 
 use crate::skip::{skip_items, skipped};
@@ -109,7 +109,7 @@ fn read_planned(
     depth: usize,
     asked: &Use,
 ) -> Result<Value, NoData>
-    requires plain { IsTrue (plain (use_view asked.now)) }
+    requires plain { IsTrue (is_plain_use (use_view asked.now)) }
     ensures ok { IfOk result (λ v. IsPlanned (use_view asked.now) depth reader.old
         (view v) reader.new) }
     ensures shorter { OnOk result (length reader.new < length reader.old) }
@@ -187,7 +187,7 @@ fn planned_items(
     depth: usize,
     asked: &Use,
 ) -> Result<Vec<Value>, NoData>
-    requires plain { IsTrue (plain (use_view asked.now)) }
+    requires plain { IsTrue (is_plain_use (use_view asked.now)) }
     ensures ok { IfOk result (λ v. ArePlanned (use_view asked.now) depth reader.old
         (items_view v.items) reader.new) }
     ensures shorter { OnOk result (length reader.new < length reader.old) }
@@ -212,7 +212,7 @@ fn read_item(
     asked: &Use,
     extent: Extent,
 ) -> Result<Value, NoData>
-    requires plain { IsTrue (plain (use_view asked.now)) }
+    requires plain { IsTrue (is_plain_use (use_view asked.now)) }
     ensures ok { IfOk result (λ v. IsPlanned (use_view asked.now) depth reader.old
         (view v) reader.new) }
     ensures shorter { OnOk result (length reader.new < length reader.old) }

@@ -1,7 +1,7 @@
 //! Past what nobody asks for: its tokens are looked at, and no value is made.
 ghost use Rattle.std.specs.Prelude.{◌<◌, length, IfOk, OnOk};
 ghost use Rattle.json.specs.Reads.{token_of};
-ghost use Rattle.liquid_json.specs.inside.Skipped.{IsValue, IsItems, IsPairs};
+ghost use Rattle.liquid_json.specs.inside.Skipped.{IsSkippedValue, IsItems, IsPairs};
 
 use crate::whole::integer_of;
 use json::{Invalid, Reader, Token};
@@ -19,7 +19,7 @@ impl From<Invalid> for Refused {
 /// Past the value at the front of the tokens.
 #[cycle(skipped)]
 pub fn skipped(reader: &mut Reader<'_>, depth: usize) -> Result<(), Refused>
-    ensures ok { IfOk result (λ u. IsValue depth reader.old reader.new) }
+    ensures ok { IfOk result (λ u. IsSkippedValue depth reader.old reader.new) }
     ensures shorter { OnOk result (length reader.new < length reader.old) }
 {
     let token = reader.next().ok_or(Refused)?;

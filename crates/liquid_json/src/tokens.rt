@@ -4,7 +4,7 @@ ghost use Rattle.json.specs.Json.{value, items};
 ghost use Rattle.liquid_model.specs.Data.{no_pairs};
 ghost use Rattle.liquid_model.specs.View.{view, items_view, pairs_view};
 ghost use Rattle.liquid_json.specs.Json.{data_of};
-ghost use Rattle.liquid_json.specs.inside.Tokens.{datum_at, items_at, pairs_at, integer_of};
+ghost use Rattle.liquid_json.specs.inside.Tokens.{datum_at, list_items_at, pairs_at, integer_of};
 
 use crate::whole::integer_of;
 use json::{Invalid, Reader, Scratch, Token};
@@ -101,7 +101,7 @@ pub fn read(alloc: Global, reader: &mut Reader<'_>, depth: usize) -> Result<Valu
 #[cycle(read)]
 #[inline(never)]
 fn read_items(alloc: Global, reader: &mut Reader<'_>, depth: usize) -> Result<Vec<Value>, NoData>
-    ensures ok { IfOk result (λ v. items_at depth (length reader.old) reader.old ≡
+    ensures ok { IfOk result (λ v. list_items_at depth (length reader.old) reader.old ≡
         Some (items_view v.items, reader.new)) }
     ensures shorter { OnOk result (length reader.new < length reader.old) }
 {

@@ -12,7 +12,7 @@ use Rattle.liquid_meaning.proofs.RunKinds.{kinds_of_own_runs}
 use Rattle.serde_json.specs.Data as json
 use Rattle.serde_json.specs.Find.{as_i64}
 use Rattle.serde_json.specs.Read.{read}
-use Rattle.liquid_json.specs.Json.{whole_number, datum_of, items_of, pairs_of, object_of, object_read}
+use Rattle.liquid_json.specs.Json.{whole_number, datum_of, parsed_items, parsed_pairs, parsed_object, object_read}
 use Rattle.liquid_page_texts.specs.Page.{PageTexts, RefusesTexts, no_template, no_data, bad_partial, IsPage, page, no_page}
 use Rattle.liquid_page_texts.specs.PageLaw.{KindsOfPages}
 
@@ -29,15 +29,15 @@ mutual
   ended_datum (json.array ds) = ended_then (ended_items ds) (λ es. ended_ok _)
   ended_datum (json.object ms) = ended_then (ended_pairs ms) (λ ps. ended_ok _)
 
-  ended_items : (ds : json.Items) → Ended (items_of ds)
+  ended_items : (ds : json.Items) → Ended (parsed_items ds)
   ended_items json.no_items = ended_ok _
   ended_items (json.item d ds) = ended_then (ended_datum d) (λ e. ended_then (ended_items ds) (λ es. ended_ok _))
 
-  ended_pairs : (ms : json.Members) → Ended (pairs_of ms)
+  ended_pairs : (ms : json.Members) → Ended (parsed_pairs ms)
   ended_pairs json.no_members = ended_ok _
   ended_pairs (json.member k d ms) = ended_then (ended_datum d) (λ e. ended_then (ended_pairs ms) (λ ps. ended_ok _))
 
-ended_object : (d : json.Data) → Ended (object_of d)
+ended_object : (d : json.Data) → Ended (parsed_object d)
 ended_object (json.object ms) = ended_pairs ms
 ended_object _ = ended_err _ tt
 

@@ -1,5 +1,5 @@
 -- The data that a document of TOML gives.
---     data_of source      the data of a text
+--     toml_document_data source      the data of a text
 use Rattle.std.specs.Prelude.{cond, List, ℕ, Option, Some, None, Result, Ok, Err}
 use Rattle.toml.specs.Data as toml
 use Rattle.toml.specs.Parse.{parse_document}
@@ -13,34 +13,34 @@ use Rattle.liquid_toml.specs.Floats.{have_floats}
 -- Each value as it stands, a date or a time as the text of its spelling. Where this is asked no
 -- float is left, so what stands for one is never seen.
 abbrev mutual
-  pub datum_of : toml.Data → Datum
-  datum_of (toml.string s) = text s
-  datum_of (toml.integer z) = number z
-  datum_of (toml.float x) = nil
-  datum_of (toml.boolean b) = truth b
-  datum_of (toml.datetime dt) = text (datetime_text dt)
-  datum_of (toml.array ds) = array (items_of ds)
-  datum_of (toml.table ms) = object (pairs_from no_pairs ms)
+  pub toml_datum : toml.Data → Datum
+  toml_datum (toml.string s) = text s
+  toml_datum (toml.integer z) = number z
+  toml_datum (toml.float x) = nil
+  toml_datum (toml.boolean b) = truth b
+  toml_datum (toml.datetime dt) = text (datetime_text dt)
+  toml_datum (toml.array ds) = array (toml_list_items ds)
+  toml_datum (toml.table ms) = object (pairs_from no_pairs ms)
 
-  pub items_of : toml.Items → Items
-  items_of toml.no_items = no_items
-  items_of (toml.item d ds) = item (datum_of d) (items_of ds)
+  pub toml_list_items : toml.Items → Items
+  toml_list_items toml.no_items = no_items
+  toml_list_items (toml.item d ds) = item (toml_datum d) (toml_list_items ds)
 
   -- after what was found
   pub pairs_from : Pairs → toml.Members → Pairs
   pairs_from found toml.no_members = found
-  pairs_from found (toml.member k d ms) = pairs_from (put k (datum_of d) found) ms
+  pairs_from found (toml.member k d ms) = pairs_from (put k (toml_datum d) found) ms
 
-abbrev pub pairs_of : toml.Members → Pairs
-pairs_of ms = pairs_from no_pairs ms
+abbrev pub toml_pairs : toml.Members → Pairs
+toml_pairs ms = pairs_from no_pairs ms
 
 -- a document with a float is refused
-abbrev pub read : toml.Members → Result Pairs ErrorKind
-read ms = cond (have_floats ms) (Err Float) (Ok (pairs_of ms))
+abbrev pub unless_float : toml.Members → Result Pairs ErrorKind
+unless_float ms = cond (have_floats ms) (Err Float) (Ok (toml_pairs ms))
 
 abbrev pub read_if : Option toml.Members → Result Pairs ErrorKind
 read_if None = Err InvalidInput
-read_if (Some ms) = read ms
+read_if (Some ms) = unless_float ms
 
-abbrev pub data_of : List ℕ → Result Pairs ErrorKind
-data_of source = read_if (parse_document source)
+abbrev pub toml_document_data : List ℕ → Result Pairs ErrorKind
+toml_document_data source = read_if (parse_document source)

@@ -2,7 +2,8 @@
 ghost use Rattle.std.specs.Prelude.{◌≡◌, IfOk, string_bytes};
 ghost use Rattle.liquid_model.specs.Answer.{Answers, IsValueOrMemory};
 ghost use Rattle.liquid_model.specs.View.{items_view, pairs_view, view};
-ghost use Rattle.liquid_toml.specs.TomlData.{data_of, datum_of, items_of, pairs_of, read};
+ghost use Rattle.liquid_toml.specs.TomlData.{toml_document_data, toml_datum, toml_list_items};
+ghost use Rattle.liquid_toml.specs.TomlData.{toml_pairs, unless_float};
 ghost use Rattle.toml.specs.View.{items_view as toml_items, table_view, view as toml_view};
 ghost use Rattle.toml_datetime.specs.Text.{datetime_text};
 
@@ -20,7 +21,7 @@ use toml::value::Datetime;
 /// The text is refused where it is no TOML, by `InvalidInput`, and where a number in it is a
 /// float, by `Float`: its reader keeps no spelling of one. `Memory` where a growth was refused.
 pub fn data_from_toml(alloc: Global, text: &str) -> Result<Object>
-    ensures { Answers (λ m. pairs_view m.entries) result (data_of text.now) }
+    ensures { Answers (λ m. pairs_view m.entries) result (toml_document_data text.now) }
 {
     match toml::table_from_str(alloc, text) {
         Ok(table) => data_in(alloc, table),
@@ -33,7 +34,7 @@ pub fn data_from_toml(alloc: Global, text: &str) -> Result<Object>
 }
 
 fn data_in(alloc: Global, table: Table) -> Result<Object>
-    ensures { Answers (λ m. pairs_view m.entries) result (read (table_view table)) }
+    ensures { Answers (λ m. pairs_view m.entries) result (unless_float (table_view table)) }
 {
     if has_floats(&table) {
         return Err(float_fault(alloc));
@@ -43,7 +44,7 @@ fn data_in(alloc: Global, table: Table) -> Result<Object>
 
 #[cycle(value_of)]
 fn value_of(alloc: Global, value: toml::Value) -> Result<Value>
-    ensures { IsValueOrMemory view result (datum_of (toml_view value)) }
+    ensures { IsValueOrMemory view result (toml_datum (toml_view value)) }
 {
     match value {
         toml::Value::String(text) => Ok(Value::Text(text)),
@@ -65,7 +66,7 @@ fn date_text(alloc: Global, date: Datetime) -> std::result::Result<String, Alloc
 #[cycle(value_of)]
 fn items_of(alloc: Global, items: Vec<toml::Value>) -> Result<Vec<Value>>
     ensures { IsValueOrMemory (λ v. items_view v.items) result
-        (items_of (toml_items items.items)) }
+        (toml_list_items (toml_items items.items)) }
 {
     let mut values = Vec::with_capacity(alloc, items.len())?;
     for item in items {
@@ -77,7 +78,7 @@ fn items_of(alloc: Global, items: Vec<toml::Value>) -> Result<Vec<Value>>
 #[cycle(value_of)]
 fn pairs_of(alloc: Global, members: Table) -> Result<Object>
     ensures { IsValueOrMemory (λ m. pairs_view m.entries) result
-        (pairs_of (table_view members)) }
+        (toml_pairs (table_view members)) }
 {
     let mut pairs: Object = BTreeMap::new(alloc);
     for (key, member) in members {

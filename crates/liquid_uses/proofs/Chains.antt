@@ -23,7 +23,7 @@ use Rattle.liquid_uses.specs.declared.place_pairs.Pair.{Pair}
 use Rattle.liquid_uses.specs.declared.chain_places.ChainPlace.{ChainPlace}
 use Rattle.liquid_uses.specs.declared.chain_places.ChainPlace.TheVariants.{Items, Value}
 use Rattle.liquid_uses.specs.inside.Placing.{gives, gives_along, option_use}
-use Rattle.liquid_uses.specs.inside.Chains.{plain_fields, is_plain, takes, sees, NamesProperty, Passes}
+use Rattle.liquid_uses.specs.inside.Chains.{are_unplaced_fields, is_plain, takes, sees, NamesProperty, CoversCall}
 use Rattle.liquid_uses.proofs.Steps.{true_both}
 
 -- ---- truth
@@ -118,7 +118,7 @@ plain_present nothing h = refl
 plain_present everything h = h
 plain_present (parts ms ts) h = h
 
-plain_fields_join : (ms ns : Fields) → plain_fields ms ≡ true → plain_fields ns ≡ true → plain_fields (joined_fields ms ns) ≡ true
+plain_fields_join : (ms ns : Fields) → are_unplaced_fields ms ≡ true → are_unplaced_fields ns ≡ true → are_unplaced_fields (joined_fields ms ns) ≡ true
 plain_fields_join no_fields ns h k = k
 plain_fields_join (field key v ms) ns h k = true_both (not (is_place key)) _ (true_left (not (is_place key)) _ h) (plain_fields_join ms ns (true_right (not (is_place key)) _ h) k)
 
@@ -135,11 +135,11 @@ plain_join (parts ms ts) (parts ns us) h k =
     true_both (not (has_every (join_turns ts us))) _ (plain_turns_join ts us (true_left (not (has_every ts)) _ h) (true_left (not (has_every us)) _ k))
     (plain_fields_join ms ns (true_right (not (has_every ts)) _ h) (true_right (not (has_every us)) _ k))
 
-no_places : (ms : Fields) → plain_fields ms ≡ true → of_places ms ≡ nothing
+no_places : (ms : Fields) → are_unplaced_fields ms ≡ true → of_places ms ≡ nothing
 no_places no_fields h = refl
 no_places (field key v ms) h = at (is_place key) (no_places ms) h
   where
-    at : (b : Bool) → (plain_fields ms ≡ true → of_places ms ≡ nothing) → not b && plain_fields ms ≡ true → cond b (join v (of_places ms)) (of_places ms) ≡ nothing
+    at : (b : Bool) → (are_unplaced_fields ms ≡ true → of_places ms ≡ nothing) → not b && are_unplaced_fields ms ≡ true → cond b (join v (of_places ms)) (of_places ms) ≡ nothing
     at true k h = absurd cc
     at false k h = k h
 
@@ -349,7 +349,7 @@ compact_named (x ∷ xs) name w named = named (λ t. items_each (with_field t th
 abbrev pub SeenSoFar : ChainPlace → ChainPlace → List ChainFilter → ℕ → Type 0
 SeenSoFar place first filters i = (v : Use) → sees place (use_before known_needs (map chain_filter_view (drop i filters)) v) ≡ true → sees first (use_before known_needs (map chain_filter_view filters) v) ≡ true
 
-pub seen_further : (place next first : ChainPlace) (filters : List ChainFilter) (i : ℕ) (f : ChainFilter) → f ≡ get_or filters i f → i < length filters → SeenSoFar place first filters i → Passes place (chain_filter_view f) next → SeenSoFar next first filters (i + 1)
+pub seen_further : (place next first : ChainPlace) (filters : List ChainFilter) (i : ℕ) (f : ChainFilter) → f ≡ get_or filters i f → i < length filters → SeenSoFar place first filters i → CoversCall place (chain_filter_view f) next → SeenSoFar next first filters (i + 1)
 seen_further place next first filters i f is lt sofar passes v h =
     let e : drop i filters ≡ f ∷ drop (i + 1) filters = rw add-one (drop-cons filters i f lt ∙ ap (λ y. y ∷ drop (suc i) filters) (sym is)) in
     sofar v (subst (λ fs. sees place (use_before known_needs (map chain_filter_view fs) v) ≡ true) (sym e) (passes (use_before known_needs (map chain_filter_view (drop (i + 1) filters)) v) h))

@@ -14,17 +14,17 @@ use Rattle.liquid_model.specs.Uses.{everything, nothing}
 use Rattle.liquid_syntax.specs.Templates.{partials_of, tree_of}
 use Rattle.liquid_syntax.specs.declared.partials.Partials.{Partials}
 use Rattle.liquid_syntax.specs.declared.template.Template.{Template}
-use Rattle.liquid_uses.specs.Covered.{setting_of, SeesAlone}
+use Rattle.liquid_uses.specs.Covered.{covered_setting, SeesAlone}
 
 holds : (b : Bool) → b ≡ true → T b
 holds b e = subst T (sym e) tt
 
-pub sees_alone : (U : Uses) (p : Partials) (t : Template) → ((answers : FilterAnswers) → covers known_needs U (setting_of answers p) (tree_of t) ≡ true) → SeesAlone U p (tree_of t)
+pub sees_alone : (U : Uses) (p : Partials) (t : Template) → ((answers : FilterAnswers) → covers known_needs U (covered_setting answers p) (tree_of t) ≡ true) → SeesAlone U p (tree_of t)
 sees_alone U p t covered named depth e f alike =
-    reads_alone known_needs U (setting_of (answers_with named) p) depth (tree_of t) (known_respected named) (holds _ (covered (answers_with named))) e f alike
+    reads_alone known_needs U (covered_setting (answers_with named) p) depth (tree_of t) (known_respected named) (holds _ (covered (answers_with named))) e f alike
 
 pub whole_covers : (U : Uses) (N : Names) (p : Partials) (t : Template) → ((name : Text) → U name ≡ cond (N name) everything nothing) → N ≡ mentioned (run_names (partials_of p) (tree_of t))
-    → (answers : FilterAnswers) → covers known_needs U (setting_of answers p) (tree_of t) ≡ true
+    → (answers : FilterAnswers) → covers known_needs U (covered_setting answers p) (tree_of t) ≡ true
 whole_covers U N p t whole named answers =
     let all : U ≡ (λ name. cond (mentioned (run_names (partials_of p) (tree_of t)) name) everything nothing) = fun_ext (λ name. whole name ∙ ap (λ M. cond (M name) everything nothing) named) in
-    subst (λ V. covers known_needs V (setting_of answers p) (tree_of t) ≡ true) (sym all) (names_cover known_needs (setting_of answers p) (tree_of t))
+    subst (λ V. covers known_needs V (covered_setting answers p) (tree_of t) ≡ true) (sym all) (names_cover known_needs (covered_setting answers p) (tree_of t))

@@ -20,7 +20,7 @@ use Rattle.liquid_model.specs.UseViews.{use_view}
 use Rattle.liquid_model.specs.declared.uses.Use.{Use as RustUse}
 use Rattle.liquid_uses.specs.declared.places.Place.{Place}
 use Rattle.liquid_uses.specs.declared.places.Place.TheVariants.{Whole, Asked, Unnamed, Refused}
-use Rattle.liquid_uses.specs.inside.Placing.{gives, gives_along, place_of, whole_if, Leads}
+use Rattle.liquid_uses.specs.inside.Placing.{gives, gives_along, use_place, whole_if, Leads}
 use Rattle.liquid_meaning.specs.Reading.{Uses, Needs, by_key, key, grants, grants_along, grants_chain, grants_filters, use_before}
 
 pub true_both : (a b : Bool) → a ≡ true → b ≡ true → a && b ≡ true
@@ -122,7 +122,7 @@ unfolding grants
 step_of_everything r key e U more v h = subst (λ u. grants_along U (use_at key u) more v ≡ true) (sym e) h
 
 pub step_of_parts : (r : Bor RustUse) (key : Text) (ms : Fields) (ts : ItemUse) → use_view r.now ≡ parts ms ts → (found : Option (Bor RustUse))
-    → MatchOption found (use_in key ms ≡ nothing) (λ u. use_in key ms ≡ use_view u.now) → (U : Uses) → Leads U (Asked r) (literal (text key)) (place_of found)
+    → MatchOption found (use_in key ms ≡ nothing) (λ u. use_in key ms ≡ use_view u.now) → (U : Uses) → Leads U (Asked r) (literal (text key)) (use_place found)
 unfolding grants
 step_of_parts r key ms ts e None m U more v h = subst (λ u. grants_along U (use_at key u) more v ≡ true) (sym e) (subst (λ u. grants_along U u more v ≡ true) (sym m) h)
 step_of_parts r key ms ts e (Some w) m U more v h = subst (λ u. grants_along U (use_at key u) more v ≡ true) (sym e) (subst (λ u. grants_along U u more v ≡ true) (sym m) h)
@@ -165,7 +165,7 @@ led_all U place first steps i le sofar v h =
     sofar v (subst (λ xs. gives_along U place (steps_view xs) v ≡ true) (sym (drop_all i steps le)) (along_none U place v h))
 
 -- where the first name leads
-pub first_gives : (U : Uses) (name : Text) (steps : Steps) (found : Option (Bor RustUse)) → MatchOption found (U name ≡ nothing) (λ u. U name ≡ use_view u.now) → (v : Use) → gives_along U (place_of found) steps v ≡ true → grants U (variable name steps) v ≡ true
+pub first_gives : (U : Uses) (name : Text) (steps : Steps) (found : Option (Bor RustUse)) → MatchOption found (U name ≡ nothing) (λ u. U name ≡ use_view u.now) → (v : Use) → gives_along U (use_place found) steps v ≡ true → grants U (variable name steps) v ≡ true
 unfolding grants
 first_gives U name steps None m v h = subst (λ u. grants_along U u steps v ≡ true) (sym m) h
 first_gives U name steps (Some w) m v h = subst (λ u. grants_along U u steps v ≡ true) (sym m) h

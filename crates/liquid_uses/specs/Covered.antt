@@ -1,5 +1,5 @@
 -- What a template asks of its data.
---     setting_of answers p      the setting of a run over these partials
+--     covered_setting answers p      the setting of a run over these partials
 --     SeesAlone U p nodes      a run sees no more of its environment than U asks
 use Rattle.std.specs.Prelude.{ℕ}
 use Rattle.liquid_model.specs.Texts.{Text}
@@ -13,12 +13,12 @@ use Rattle.liquid_meaning.specs.Reads.{AlikeIn, SameRuns}
 use Rattle.liquid_syntax.specs.Templates.{partials_of}
 use Rattle.liquid_syntax.specs.declared.partials.Partials.{Partials}
 
-abbrev pub setting_of : FilterAnswers → Partials → Setting
-setting_of answers p = record { answers = answers; partials = partials_of p }
+abbrev pub covered_setting : FilterAnswers → Partials → Setting
+covered_setting answers p = record { answers = answers; partials = partials_of p }
 
 -- whatever the filters of a host answer and however deep partials may nest: over environments that
 -- are alike in U a run writes the same text and ends alike, and leaves such environments again
 abbrev pub SeesAlone : Uses → Partials → Nodes → Type 0
 SeesAlone U p nodes = (named : Text → FilterAnswer) (depth : ℕ) (e f : Environment) → AlikeIn U e f
-    → (let setting = setting_of (answers_with named) p in
+    → (let setting = covered_setting (answers_with named) p in
     SameRuns U (meaning setting depth nodes e) (meaning setting depth nodes f))

@@ -17,13 +17,13 @@ use Rattle.liquid_model.specs.Uses.{ItemUse, uncounted, every, asks_whether, has
 abbrev pub is_word_byte : ℕ → Bool
 is_word_byte b = is_ascii_alphanumeric b || (b == 95) || (b == 45) || nat_le 128 b
 
-abbrev pub is_word : Text → Bool
-is_word key = not (length key == 0) && list_all is_word_byte key
+abbrev pub is_dotted_key : Text → Bool
+is_dotted_key key = not (length key == 0) && list_all is_word_byte key
 
 -- whether each key can stand in a path
 abbrev pub are_words : Fields → Bool
 are_words no_fields = true
-are_words (field key u more) = is_word key && are_words more
+are_words (field key u more) = is_dotted_key key && are_words more
 
 -- whether something is asked of a member
 abbrev pub asks_members : Fields → Bool

@@ -7,7 +7,7 @@ ghost use Rattle.liquid_meaning.specs.FilterNeeds.{by_property, compact_needs, n
 ghost use Rattle.liquid_meaning.specs.FilterNeeds.{with_field};
 ghost use Rattle.liquid_model.specs.Uses.{asks_whether, everything, is_place, items_wanted, join};
 ghost use Rattle.liquid_model.specs.Uses.{nothing, present, there};
-ghost use Rattle.liquid_uses.specs.inside.Chains.{takes, sees, Passes, KindPasses};
+ghost use Rattle.liquid_uses.specs.inside.Chains.{takes, sees, CoversCall, KindPasses};
 ghost use Rattle.liquid_uses.specs.inside.Placing.{gives, option_use};
 
 use crate::place_pairs::Pair;
@@ -76,7 +76,7 @@ impl<'u> ChainPlace<'u> {
 
     /// Where the answer of a filter stands.
     pub(crate) fn after(self, filter: &ChainFilter) -> ChainPlace<'u>
-        ensures { Passes self.entry (chain_filter_view filter.now) result }
+        ensures { CoversCall self.entry (chain_filter_view filter.now) result }
     {
         if self.is_whole() {
             return self;

@@ -5,7 +5,7 @@ ghost use Rattle.liquid_evaluation.specs.Evaluation.{FilterAnswers};
 ghost use Rattle.liquid_meaning.specs.FilterNeeds.{known_needs};
 ghost use Rattle.liquid_meaning.specs.Reading.{covers};
 ghost use Rattle.liquid_syntax.specs.Templates.{tree_of};
-ghost use Rattle.liquid_uses.specs.Covered.{setting_of};
+ghost use Rattle.liquid_uses.specs.Covered.{covered_setting};
 ghost use Rattle.liquid_uses.specs.inside.OwnGrants.{held_grants, slots_grant, slot_values};
 
 use crate::nodes::nodes_granted;
@@ -19,7 +19,7 @@ use liquid_syntax::{Partials, Template};
 /// their input, and a step that isn't a literal text all of the value that it is taken from.
 pub fn covers(uses: &Uses, template: &Template, partials: &Partials) -> bool
     ensures { (answers : FilterAnswers) → result ≡ true
-        → covers known_needs (uses_view uses.now) (setting_of answers partials.now) (tree_of
+        → covers known_needs (uses_view uses.now) (covered_setting answers partials.now) (tree_of
         template.now) ≡ true }
 {
     nodes_granted(uses, template.nodes()) && partials_granted(uses, partials)

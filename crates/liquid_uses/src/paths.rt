@@ -169,7 +169,7 @@ fn are_words(members: &Uses) -> bool
 }
 
 fn is_word(key: &str) -> bool
-    ensures { result ≡ spec.is_word key.now }
+    ensures { result ≡ spec.is_dotted_key key.now }
 {
     !key.is_empty() && are_word_bytes(key)
 }

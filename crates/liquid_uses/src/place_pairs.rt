@@ -7,7 +7,7 @@ ghost use Rattle.liquid_model.specs.Uses as seen;
 ghost use Rattle.liquid_model.specs.Uses.{asks_whether, parts, present, use_of_each};
 ghost use Rattle.liquid_model.specs.UseViews.{members_view, turns_view, use_view};
 ghost use Rattle.liquid_uses.specs.inside.Chains as spec;
-ghost use Rattle.liquid_uses.specs.inside.Chains.{plain_fields, takes};
+ghost use Rattle.liquid_uses.specs.inside.Chains.{are_unplaced_fields, takes};
 ghost use Rattle.liquid_uses.specs.inside.Placing.{option_use};
 
 use crate::places::Place;
@@ -297,7 +297,7 @@ fn are_plain(members: &Uses, items: &Option<Box<Use>>) -> bool
 }
 
 fn has_no_place(members: &Uses) -> bool
-    ensures { result ≡ plain_fields (members_view members.now.entries) }
+    ensures { result ≡ are_unplaced_fields (members_view members.now.entries) }
 {
     for (key, _) in members.iter() {
         if is_place(key.as_str()) {

@@ -9,7 +9,7 @@ ghost use Rattle.liquid_core.specs.ExpressionView.{expression_view, steps_view, 
 ghost use Rattle.liquid_model.specs.Uses.{everything, includes, no_fields, nothing, there, parts};
 ghost use Rattle.liquid_model.specs.Uses.{every, present};
 ghost use Rattle.liquid_model.specs.UseViews.{uses_view, use_view};
-ghost use Rattle.liquid_uses.specs.inside.Placing.{gives, option_use, place_of, whole_if};
+ghost use Rattle.liquid_uses.specs.inside.Placing.{gives, option_use, use_place, whole_if};
 ghost use Rattle.liquid_uses.specs.inside.Placing.{IsReached, IsReachedAlong, Leads};
 
 use liquid_core::{Expression, Use, Uses, Value, Variable, member_of};
@@ -30,7 +30,7 @@ pub(crate) enum Place<'u> {
 impl<'u> Place<'u> {
     /// The place that a use stands for; without one nothing is asked.
     pub(crate) fn of(found: Option<&'u Use>) -> Place<'u>
-        ensures { result ≡ place_of found.entry }
+        ensures { result ≡ use_place found.entry }
     {
         match found {
             Some(asked) => Place::Asked(asked),
@@ -142,7 +142,7 @@ impl<'u> Place<'u> {
 
 /// Where the step of this text leads from what a use asks.
 fn member_at<'u>(asked: &'u Use, key: &str) -> Place<'u>
-    ensures { (U : Uses) → Leads U (place_of (Some asked.entry)) (literal (text key.now)) result }
+    ensures { (U : Uses) → Leads U (use_place (Some asked.entry)) (literal (text key.now)) result }
 {
     match asked {
         Use::Nothing => Place::Unnamed,

@@ -5,7 +5,7 @@ ghost use Rattle.liquid_evaluation.specs.Evaluation.{FilterAnswers};
 ghost use Rattle.liquid_meaning.specs.FilterNeeds.{known_needs};
 ghost use Rattle.liquid_meaning.specs.Reading.{covers};
 ghost use Rattle.liquid_syntax.specs.Templates.{tree_of};
-ghost use Rattle.liquid_uses.specs.Covered.{setting_of, SeesAlone};
+ghost use Rattle.liquid_uses.specs.Covered.{covered_setting, SeesAlone};
 
 use crate::covering::covers;
 use crate::rounds::settled_uses;
@@ -27,7 +27,8 @@ use std::alloc::Global;
 /// `Memory` where there is no room for them.
 pub fn uses_of(alloc: Global, template: &Template, partials: &Partials) -> Result<Uses>
     ensures covers { (answers : FilterAnswers) → IfOk result (λ uses.
-        covers known_needs (uses_view uses) (setting_of answers partials.now) (tree_of template.now)
+        covers known_needs (uses_view uses) (covered_setting answers partials.now)
+            (tree_of template.now)
         ≡ true) }
     ensures alone { IfOk result (λ uses.
         SeesAlone (uses_view uses) partials.now (tree_of template.now)) }

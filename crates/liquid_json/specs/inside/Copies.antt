@@ -8,7 +8,7 @@ use Rattle.liquid_model.specs.Data.{Datum}
 use Rattle.liquid_model.specs.Texts.{Text, same_text}
 use Rattle.liquid_model.specs.Uses.{Use, Fields, no_fields, field}
 use Rattle.liquid_model.specs.Uses.{ItemUse, uncounted, every, Alike, is_place}
-use Rattle.liquid_json.specs.PlainUses.{plain}
+use Rattle.liquid_json.specs.PlainUses.{is_plain_use}
 
 abbrev pub finds_by_place : Text → Bool
 finds_by_place key = same_text key (codes "size") || is_place key
@@ -19,7 +19,7 @@ any_by_place (field k u more) = finds_by_place k || any_by_place more
 
 abbrev pub each_plain : Fields → Bool
 each_plain no_fields = true
-each_plain (field k u more) = plain u && each_plain more
+each_plain (field k u more) = is_plain_use u && each_plain more
 
 abbrev pub AsksMore : Use → Use → Type 0
 AsksMore u v = (o p : Option Datum) → Alike u o p → Alike v o p

@@ -6,7 +6,7 @@ use Rattle.liquid_model.specs.Lists.{list_of}
 use Rattle.liquid_model.specs.Uses.{Use, Fields, uncounted, Alike, Pairwise}
 use Rattle.liquid_model.specs.Projected.{pairs_wanted}
 use Rattle.liquid_model.specs.Skipping.{AlikeKeys}
-use Rattle.liquid_json.specs.inside.Tokens.{datum_at, items_at, pairs_at}
+use Rattle.liquid_json.specs.inside.Tokens.{datum_at, list_items_at, pairs_at}
 
 -- d is alike with the value that stands in front of the rest
 abbrev pub IsPlanned : Use → ℕ → List Token → Datum → List Token → Type 0
@@ -14,7 +14,8 @@ IsPlanned u depth ts d rest = (c : Datum) × (datum_at depth ts ≡ Some (c, res
     Alike u (Some c) (Some d)
 
 abbrev pub ArePlanned : Use → ℕ → List Token → Items → List Token → Type 0
-ArePlanned u depth ts ds rest = (cs : Items) × (items_at depth (length ts) ts ≡ Some (cs, rest)) ×
+ArePlanned u depth ts ds rest = (cs : Items) × (list_items_at depth (length ts) ts ≡
+    Some (cs, rest)) ×
     Pairwise (λ c d. Alike u (Some c) (Some d)) (list_of cs) (list_of ds)
 
 abbrev pub PairsPlanned : Fields → ℕ → List Token → Pairs → List Token → Type 0

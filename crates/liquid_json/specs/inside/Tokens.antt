@@ -17,25 +17,26 @@ abbrev mutual
   datum_of (json.boolean b) = Some (truth b)
   datum_of (json.number s) = option_map number (integer_of s)
   datum_of (json.string s) = Some (text s)
-  datum_of (json.array js) = option_map array (items_of js)
-  datum_of (json.object ms) = option_map object (pairs_of ms no_pairs)
+  datum_of (json.array js) = option_map array (token_items js)
+  datum_of (json.object ms) = option_map object (token_pairs ms no_pairs)
 
-  pub items_of : json.Items → Option Items
-  items_of json.no_items = Some no_items
-  items_of (json.item j js) = option_and_then (λ d. option_map (item d) (items_of js)) (datum_of j)
+  pub token_items : json.Items → Option Items
+  token_items json.no_items = Some no_items
+  token_items (json.item j js) = option_and_then (λ d.
+      option_map (item d) (token_items js)) (datum_of j)
 
-  pub pairs_of : json.Members → Pairs → Option Pairs
-  pairs_of json.no_members found = Some found
-  pairs_of (json.member k j ms) found = option_and_then (λ d. pairs_of ms (put k d found))
+  pub token_pairs : json.Members → Pairs → Option Pairs
+  token_pairs json.no_members found = Some found
+  token_pairs (json.member k j ms) found = option_and_then (λ d. token_pairs ms (put k d found))
       (datum_of j)
 
 -- what stands at the front of the tokens, and the tokens after it
 abbrev pub datum_at : ℕ → List Token → Option (Datum × List Token)
 datum_at depth ts = converted datum_of (json.value depth ts)
 
-abbrev pub items_at : ℕ → ℕ → List Token → Option (Items × List Token)
-items_at depth n ts = converted items_of (json.items (json.value depth) n ts)
+abbrev pub list_items_at : ℕ → ℕ → List Token → Option (Items × List Token)
+list_items_at depth n ts = converted token_items (json.items (json.value depth) n ts)
 
 abbrev pub pairs_at : ℕ → Pairs → ℕ → List Token → Option (Pairs × List Token)
 pairs_at depth found n ts =
-    converted (λ ms. pairs_of ms found) (json.members (json.value depth) n ts)
+    converted (λ ms. token_pairs ms found) (json.members (json.value depth) n ts)

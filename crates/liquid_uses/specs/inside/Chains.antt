@@ -1,7 +1,7 @@
 -- What may be asked of the value that reaches a filter of a chain.
 --     takes r u      both places ask all that u asks, and u is plain where that is wanted
 --     sees s v      v may be asked of the value
---     Passes s call next      what may be asked of the call's answer asks no more of its input than
+--     CoversCall s call next      what may be asked of the call's answer asks no more of its input than
 --                             may be asked of that
 use Rattle.std.specs.Prelude.{◌≡◌, Bool, true, false, ◌&&◌, ◌||◌, not, List, codes}
 use Rattle.liquid_core.specs.Expression.{Expression, literal}
@@ -18,15 +18,15 @@ use Rattle.liquid_uses.specs.declared.place_pairs.Pair.{Pair}
 use Rattle.liquid_uses.specs.inside.Placing.{gives}
 
 -- no member is found by its place
-abbrev pub plain_fields : Fields → Bool
-plain_fields no_fields = true
-plain_fields (field key u more) = not (is_place key) && plain_fields more
+abbrev pub are_unplaced_fields : Fields → Bool
+are_unplaced_fields no_fields = true
+are_unplaced_fields (field key u more) = not (is_place key) && are_unplaced_fields more
 
 -- nothing is asked of items, neither of all nor of one
 abbrev pub is_plain : Use → Bool
 is_plain nothing = true
 is_plain everything = true
-is_plain (parts members turns) = not (has_every turns) && plain_fields members
+is_plain (parts members turns) = not (has_every turns) && are_unplaced_fields members
 
 abbrev pub takes : Pair → Use → Bool
 takes r u = gives r.first u && (gives r.second u && (not r.plain || is_plain u))
@@ -35,8 +35,9 @@ abbrev pub sees : ChainPlace → Use → Bool
 sees (Value r) v = takes r v
 sees (Items r) v = takes r (items_wanted v)
 
-abbrev pub Passes : ChainPlace → FilterCall → ChainPlace → Type 0
-Passes s call next = (w : Use) → sees next w ≡ true → sees s (present (known_needs call w)) ≡ true
+abbrev pub CoversCall : ChainPlace → FilterCall → ChainPlace → Type 0
+CoversCall s call next = (w : Use) → sees next w ≡ true → sees s (present (known_needs call w)) ≡
+    true
 
 -- the same of one of the filters that exist, with these arguments
 abbrev pub KindPasses : ChainPlace → FilterKind → List Expression → ChainPlace → Type 0

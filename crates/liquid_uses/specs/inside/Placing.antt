@@ -47,6 +47,6 @@ abbrev pub whole_if : Place → Bool → Place
 whole_if r holds = cond (holds && gives r everything) Whole Refused
 
 -- the place of what is found, if it is
-abbrev pub place_of : Option (Bor RustUse) → Place
-place_of None = Unnamed
-place_of (Some u) = Asked u
+abbrev pub use_place : Option (Bor RustUse) → Place
+use_place None = Unnamed
+use_place (Some u) = Asked u

@@ -9,7 +9,7 @@ use Rattle.liquid_model.specs.declared.value.Value.{the_lemmas}
 use Rattle.liquid_model.proofs.UseViews.{view-Parts}
 use Rattle.liquid_model.proofs.Views.{view-Object}
 use Rattle.liquid_completion.specs.Completed.{completed, completed_pairs, each_item}
-use Rattle.liquid_completion.specs.inside.Keeping.{KeepsFor, Keeps, uncounted_pairs}
+use Rattle.liquid_completion.specs.inside.Keeping.{KeepsFor, KeepsDatum, uncounted_pairs}
 use Rattle.liquid_completion.proofs.Again.{member_again, member_put_in, member_is, member_none, all_done}
 use Rattle.liquid_completion.proofs.Completed.{with_member, put_keeps}
 use Rattle.liquid_completion.proofs.Entries.{found_at, found_none, entry_set, first_items, none_first, next_item, all_first, item_kept, item_again, set_length, whole_list}
@@ -57,10 +57,10 @@ pub complete_member-returns-then-not-asks_whether-clause-kept : goal.complete_me
 complete_member-returns-then-not-asks_whether-clause-kept t c = all_same _
 
 pub complete_member-returns-in_err-key-clause-kept : goal.complete_member-returns-in_err-key-clause-kept
-complete_member-returns-in_err-key-clause-kept t c = subst (λ m. Keeps (object (pairs_view c.args.data.now.entries)) (object (pairs_view m.entries))) (sym c.get_mut.follows.holds-at-none) (all_same _)
+complete_member-returns-in_err-key-clause-kept t c = subst (λ m. KeepsDatum (object (pairs_view c.args.data.now.entries)) (object (pairs_view m.entries))) (sym c.get_mut.follows.holds-at-none) (all_same _)
 
 pub complete_member-returns-in_err-value-clause-kept : goal.complete_member-returns-in_err-value-clause-kept
-complete_member-returns-in_err-value-clause-kept t c = subst (λ m. Keeps (object (pairs_view c.args.data.now.entries)) (object (pairs_view m.entries))) (sym c.get_mut.follows.holds-at-none) (all_same _)
+complete_member-returns-in_err-value-clause-kept t c = subst (λ m. KeepsDatum (object (pairs_view c.args.data.now.entries)) (object (pairs_view m.entries))) (sym c.get_mut.follows.holds-at-none) (all_same _)
 
 pub complete_member-returns-in-Some-clause-completed : goal.complete_member-returns-in-Some-clause-completed
 complete_member-returns-in-Some-clause-completed t c =
@@ -80,7 +80,7 @@ complete_member-returns-in-Some-clause-kept t c =
     let v = c.in-Some.value.now in
     let w = c.complete_value.new.value in
     let found = sym c.get_mut.ensures.value ∙ ap option_copied_mut c.in-Some.is in
-    subst (λ qs. Keeps (object (pairs_view es)) (object qs)) (sym (ap pairs_view (c.get_mut.follows.holds w).0 ∙ entry_set c.args.name.now es v w c.get_mut.ensures.ordered found))
+    subst (λ qs. KeepsDatum (object (pairs_view es)) (object qs)) (sym (ap pairs_view (c.get_mut.follows.holds w).0 ∙ entry_set c.args.name.now es v w c.get_mut.ensures.ordered found))
     (put_keeps c.args.name.now (view w) (pairs_view es) (λ n d is. subst (λ x. KeepsFor n x (view w)) (same_some (view v) d (sym (found_at c.args.name.now es v found) ∙ is)) (c.complete_value.ensures.kept n)))
 
 pub complete_member-returns-in-Some-clause-again : goal.complete_member-returns-in-Some-clause-again
@@ -108,9 +108,9 @@ pub complete_member-returns-clause-kept : goal.complete_member-returns-clause-ke
 complete_member-returns-clause-kept t c =
     let es = c.args.data.now.entries in
     let none = found_none c.args.name.now es (sym c.get_mut.ensures.value ∙ ap option_copied_mut c.in_default.is) in
-    either (λ qs. Keeps (object (pairs_view es)) (object qs)) c.store.result c.get_mut.follows.lender-at-none.entries c.store.new.object.entries _ c.store.ensures.stored c.store.ensures.unchanged
-    (subst (λ m. Keeps (object (pairs_view es)) (object (pairs_view m.entries))) (sym c.get_mut.follows.holds-at-none) (all_same _))
-    (subst (λ qs. Keeps (object (pairs_view es)) (object qs)) (λ i. put (sym c.in_ok-key.ensures.ok i) (view c.in_ok-value.value) (pairs_view (BTreeMap.entries (sym c.get_mut.follows.holds-at-none i))))
+    either (λ qs. KeepsDatum (object (pairs_view es)) (object qs)) c.store.result c.get_mut.follows.lender-at-none.entries c.store.new.object.entries _ c.store.ensures.stored c.store.ensures.unchanged
+    (subst (λ m. KeepsDatum (object (pairs_view es)) (object (pairs_view m.entries))) (sym c.get_mut.follows.holds-at-none) (all_same _))
+    (subst (λ qs. KeepsDatum (object (pairs_view es)) (object qs)) (λ i. put (sym c.in_ok-key.ensures.ok i) (view c.in_ok-value.value) (pairs_view (BTreeMap.entries (sym c.get_mut.follows.holds-at-none i))))
     (put_keeps c.args.name.now (view c.in_ok-value.value) (pairs_view es) (λ n d is. absurd (none_there d (sym is ∙ none)))))
 
 pub complete_member-returns-clause-again : goal.complete_member-returns-clause-again

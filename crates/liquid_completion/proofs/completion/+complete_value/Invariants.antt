@@ -3,7 +3,7 @@ use Rattle.liquid_model.specs.Data.{object}
 use Rattle.liquid_model.specs.UseViews.{use_view, members_view}
 use Rattle.liquid_model.specs.View.{items_view, pairs_view}
 use Rattle.liquid_completion.specs.Completed.{completed, completed_pairs, each_item}
-use Rattle.liquid_completion.specs.inside.Keeping.{Keeps}
+use Rattle.liquid_completion.specs.inside.Keeping.{KeepsDatum}
 use Rattle.liquid_completion.proofs.Again.{Asked}
 use Rattle.liquid_completion.proofs.Entries.{first_items}
 use Rattle.liquid_completion.proofs.Keeping.{ItemsKeep}
@@ -13,7 +13,7 @@ use Rattle.liquid_completion.proofs.completion.+complete_value.Given as goal
 abbrev pub invariant-complete_members-loop-name : goal.invariant-complete_members-loop-name
 invariant-complete_members-loop-name l =
     (completed_pairs (members_view l.name-iterator) (pairs_view l.data.entries) ≡ completed_pairs (members_view l.uses.entries) (pairs_view l.initial.data.entries))
-    × Keeps (object (pairs_view l.initial.data.entries)) (object (pairs_view l.data.entries))
+    × KeepsDatum (object (pairs_view l.initial.data.entries)) (object (pairs_view l.data.entries))
     × (completed_pairs (members_view l.uses.entries) (pairs_view l.data.entries) ≡ completed_pairs (members_view l.uses.entries) (pairs_view l.initial.data.entries))
     × ((done : List Asked) × (l.uses.entries ≡ done ++ l.name-iterator))
 

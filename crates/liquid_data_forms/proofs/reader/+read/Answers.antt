@@ -10,7 +10,7 @@ use Rattle.liquid_model.specs.View.{view, pairs_view}
 use Rattle.liquid_model.specs.declared.value.Value.{Text, Integer, Bool, Nil, the_lemmas}
 use Rattle.liquid_model.proofs.Views.{view-Array, view-Object, pairs_view-insert_entry}
 use Rattle.liquid_json.proofs.After.{after, after_none}
-use Rattle.liquid_data_forms.specs.Decimals.{datum_of, items_of, pairs_of, number_or_text}
+use Rattle.liquid_data_forms.specs.Decimals.{decimals_datum, decimals_items, decimals_pairs, number_or_text}
 use Rattle.liquid_data_forms.proofs.Turns.{of_array, of_object, item_read, item_refused, items_over, pair_read, pair_refused, key_refused, pairs_over, read_none}
 use Rattle.liquid_json.proofs.Turns.{none_before, one_more_item}
 use Rattle.liquid_data_forms.proofs.reader.+read.Goals as goal
@@ -51,21 +51,21 @@ read-returns-in_ok-from_str-in-String-clause-ok t c =
     let first : c.args.reader.now ≡ token_of c.in_ok-token.token ∷ c.next.new.self = grind arith in
     let is : c.args.reader.now ≡ Token.string c.in-String.text.now ∷ c.next.new.self = grind (arith, first) in
     let seen : view (Text c.in_ok-from_str-in-String.field-0) ≡ text c.in-String.text.now = search (rules, the_lemmas) in
-    ap (parse_map datum_of) (ap (value c.args.depth) is ∙ value_is c.args.depth _) ∙ ap (λ d. Some (d, c.next.new.self)) (sym seen)
+    ap (parse_map decimals_datum) (ap (value c.args.depth) is ∙ value_is c.args.depth _) ∙ ap (λ d. Some (d, c.next.new.self)) (sym seen)
 
 pub read-returns-in-Bool-clause-ok : goal.read-returns-in-Bool-clause-ok
 read-returns-in-Bool-clause-ok t c =
     let first : c.args.reader.now ≡ token_of c.in_ok-token.token ∷ c.next.new.self = grind arith in
     let is : c.args.reader.now ≡ Token.boolean c.in-Bool.b ∷ c.next.new.self = grind (arith, first) in
     let seen : view (Bool c.in-Bool.b) ≡ truth c.in-Bool.b = search (rules, the_lemmas) in
-    ap (parse_map datum_of) (ap (value c.args.depth) is ∙ value_is c.args.depth _) ∙ ap (λ d. Some (d, c.next.new.self)) (sym seen)
+    ap (parse_map decimals_datum) (ap (value c.args.depth) is ∙ value_is c.args.depth _) ∙ ap (λ d. Some (d, c.next.new.self)) (sym seen)
 
 pub read-returns-in-Null-clause-ok : goal.read-returns-in-Null-clause-ok
 read-returns-in-Null-clause-ok t c =
     let first : c.args.reader.now ≡ token_of c.in_ok-token.token ∷ c.next.new.self = grind arith in
     let is : c.args.reader.now ≡ Token.null ∷ c.next.new.self = grind (arith, first) in
     let seen : view Nil ≡ nil = search (rules, the_lemmas) in
-    ap (parse_map datum_of) (ap (value c.args.depth) is ∙ value_is c.args.depth _) ∙ ap (λ d. Some (d, c.next.new.self)) (sym seen)
+    ap (parse_map decimals_datum) (ap (value c.args.depth) is ∙ value_is c.args.depth _) ∙ ap (λ d. Some (d, c.next.new.self)) (sym seen)
 
 pub read-returns-in-Some-clause-ok : goal.read-returns-in-Some-clause-ok
 read-returns-in-Some-clause-ok t c =
@@ -74,7 +74,7 @@ read-returns-in-Some-clause-ok t c =
     let n = to_z w64 (of_z w64 c.in-Some.n) in
     let same : n ≡ c.in-Some.n = search rules in
     let seen : view (Integer n) ≡ number n = search (rules, the_lemmas) in
-    ap (parse_map datum_of) (ap (value c.args.depth) is ∙ value_is c.args.depth _)
+    ap (parse_map decimals_datum) (ap (value c.args.depth) is ∙ value_is c.args.depth _)
     ∙ ap (λ o. Some (number_or_text c.in-Number.text.now o, c.next.new.self)) (sym c.in-Some.ensures) ∙ ap (λ d. Some (d, c.next.new.self)) (sym (seen ∙ ap number same))
 
 pub read-returns-in_ok-from_str-in-None-clause-ok : goal.read-returns-in_ok-from_str-in-None-clause-ok
@@ -82,7 +82,7 @@ read-returns-in_ok-from_str-in-None-clause-ok t c =
     let first : c.args.reader.now ≡ token_of c.in_ok-token.token ∷ c.next.new.self = grind arith in
     let is : c.args.reader.now ≡ Token.number c.in-Number.text.now ∷ c.next.new.self = grind (arith, first) in
     let seen : view (Text c.in_ok-from_str-in-None.field-0) ≡ text c.in-Number.text.now = search (rules, the_lemmas) in
-    ap (parse_map datum_of) (ap (value c.args.depth) is ∙ value_is c.args.depth _)
+    ap (parse_map decimals_datum) (ap (value c.args.depth) is ∙ value_is c.args.depth _)
     ∙ ap (λ o. Some (number_or_text c.in-Number.text.now o, c.next.new.self)) (sym c.in-None.ensures) ∙ ap (λ d. Some (d, c.next.new.self)) (sym seen)
 
 pub read-returns-in-EndObject-clause-err : goal.read-returns-in-EndObject-clause-err
@@ -93,20 +93,20 @@ read-returns-in-EndObject-clause-err t c refused =
 pub read-returns-in_ok-read_items-in-BeginArray-clause-ok : goal.read-returns-in_ok-read_items-in-BeginArray-clause-ok
 read-returns-in_ok-read_items-in-BeginArray-clause-ok t c =
     let first : c.args.reader.now ≡ token_of c.in_ok-token.token ∷ c.next.new.self = grind arith in
-    let opened = ap (parse_map datum_of) (ap (value c.args.depth) (first ∙ ap (λ k. token_of k ∷ c.next.new.self) c.in-BeginArray.is) ∙ value-begin_array c.args.depth c.next.new.self (omega arith)) ∙ of_array (items (value (c.args.depth - 1)) (length c.next.new.self) c.next.new.self) in
+    let opened = ap (parse_map decimals_datum) (ap (value c.args.depth) (first ∙ ap (λ k. token_of k ∷ c.next.new.self) c.in-BeginArray.is) ∙ value-begin_array c.args.depth c.next.new.self (omega arith)) ∙ of_array (items (value (c.args.depth - 1)) (length c.next.new.self) c.next.new.self) in
     let found = c.in_ok-read_items-in-BeginArray in
     opened ∙ ap (parse_map array) found.ensures.ok ∙ ap (λ d. Some (d, c.read_items.new.reader)) (sym (view-Array found.field-0))
 
 pub read-returns-in_ok-read_pairs-in-BeginObject-clause-ok : goal.read-returns-in_ok-read_pairs-in-BeginObject-clause-ok
 read-returns-in_ok-read_pairs-in-BeginObject-clause-ok t c =
     let first : c.args.reader.now ≡ token_of c.in_ok-token.token ∷ c.next.new.self = grind arith in
-    let opened = ap (parse_map datum_of) (ap (value c.args.depth) (first ∙ ap (λ k. token_of k ∷ c.next.new.self) c.in-BeginObject.is) ∙ value-begin_object c.args.depth c.next.new.self (omega arith)) ∙ of_object (members (value (c.args.depth - 1)) (length c.next.new.self) c.next.new.self) in
+    let opened = ap (parse_map decimals_datum) (ap (value c.args.depth) (first ∙ ap (λ k. token_of k ∷ c.next.new.self) c.in-BeginObject.is) ∙ value-begin_object c.args.depth c.next.new.self (omega arith)) ∙ of_object (members (value (c.args.depth - 1)) (length c.next.new.self) c.next.new.self) in
     let found = c.in_ok-read_pairs-in-BeginObject in
     opened ∙ ap (parse_map object) found.ensures.ok ∙ ap (λ d. Some (d, c.read_pairs.new.reader)) (sym (view-Object found.field-0))
 
 pub read_items-items-init : goal.read_items-items-init
 read_items-items-init t c =
-    let all = parse_map items_of (items (value c.args.depth) (length c.args.reader.now) c.args.reader.now) in
+    let all = parse_map decimals_items (items (value c.args.depth) (length c.args.reader.now) c.args.reader.now) in
     (length c.args.reader.now, omega arith, none_before all ∙ ap (λ vs. parse_map (after vs) all) (sym c.new-found.ensures.items), omega arith)
 
 pub read_items-returns-in_err-item-clause-err : goal.read_items-returns-in_err-item-clause-err
@@ -116,7 +116,7 @@ read_items-returns-in_err-item-clause-err t c refused =
     let n = l.invariant.0 in
     let going : (after_end_array l.reader ≡ None) × (c.take_end_array.new.self ≡ l.reader) = grind arith in
     let none = item_refused p n l.reader going.0 (rw (← going.1) (c.read.ensures.err (grind arith))) in
-    read_none items_of _ (l.invariant.2 ∙ ap (λ o. parse_map (after l.found.items) (parse_map items_of o)) none)
+    read_none decimals_items _ (l.invariant.2 ∙ ap (λ o. parse_map (after l.found.items) (parse_map decimals_items o)) none)
 
 pub read_items-items-preserved : goal.read_items-items-preserved
 read_items-items-preserved t c =
@@ -132,7 +132,7 @@ read_items-items-preserved t c =
       n - 1,
       omega (arith, l.invariant.1),
       l.invariant.2 ∙ ap (parse_map (after l.found.items)) turn ∙ one_more_item l.found.items v _
-          ∙ ap (λ vs. parse_map (after vs) (parse_map items_of (items p (n - 1) r))) (sym c.in_ok-push.ensures.items),
+          ∙ ap (λ vs. parse_map (after vs) (parse_map decimals_items (items p (n - 1) r))) (sym c.in_ok-push.ensures.items),
       omega (arith, l.invariant.3),
     )
 
@@ -147,13 +147,13 @@ read_items-returns-clause-ok t c =
 pub read_pairs-pairs-init : goal.read_pairs-pairs-init
 read_pairs-pairs-init t c =
     let all = members (value c.args.depth) (length c.args.reader.now) c.args.reader.now in
-    (length c.args.reader.now, omega arith, ap (λ es. parse_map (pairs_of (pairs_view es)) all) (sym c.new-found.ensures.empty), omega arith)
+    (length c.args.reader.now, omega arith, ap (λ es. parse_map (decimals_pairs (pairs_view es)) all) (sym c.new-found.ensures.empty), omega arith)
 
 pub read_pairs-returns-in_err-name-clause-err : goal.read_pairs-returns-in_err-name-clause-err
 read_pairs-returns-in_err-name-clause-err t c refused =
     let l = c.pairs in
     let none = key_refused (value c.args.depth) l.invariant.0 l.reader c.in_err-name.ensures.value in
-    read_none (pairs_of no_pairs) _ (l.invariant.2 ∙ ap (parse_map (pairs_of (pairs_view l.found.entries))) none)
+    read_none (decimals_pairs no_pairs) _ (l.invariant.2 ∙ ap (parse_map (decimals_pairs (pairs_view l.found.entries))) none)
 
 pub read_pairs-returns-in_err-member-clause-err : goal.read_pairs-returns-in_err-member-clause-err
 read_pairs-returns-in_err-member-clause-err t c refused =
@@ -162,7 +162,7 @@ read_pairs-returns-in_err-member-clause-err t c refused =
     let s = c.next_key.new.self in
     let named : read_key l.reader ≡ Some (Some k, s) = grind arith in
     let none = pair_refused (value c.args.depth) l.invariant.0 k l.reader s named (c.read.ensures.err (grind arith)) in
-    read_none (pairs_of no_pairs) _ (l.invariant.2 ∙ ap (parse_map (pairs_of (pairs_view l.found.entries))) none)
+    read_none (decimals_pairs no_pairs) _ (l.invariant.2 ∙ ap (parse_map (decimals_pairs (pairs_view l.found.entries))) none)
 
 pub read_pairs-pairs-preserved : goal.read_pairs-pairs-preserved
 read_pairs-pairs-preserved t c =
@@ -184,7 +184,7 @@ read_pairs-pairs-preserved t c =
       n - 1,
       omega (arith, l.invariant.1),
       l.invariant.2 ∙ pair_read p old n k l.reader s r (view v) (omega (arith, l.invariant.1)) named done.ok
-          ∙ ap (λ found. parse_map (pairs_of found) (members p (n - 1) r)) (sym inserted),
+          ∙ ap (λ found. parse_map (decimals_pairs found) (members p (n - 1) r)) (sym inserted),
       omega (arith, l.invariant.3),
     )
 

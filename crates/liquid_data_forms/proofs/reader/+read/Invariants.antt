@@ -3,7 +3,7 @@ use Rattle.json.specs.Json.{parse_map, items, members, value}
 use Rattle.liquid_model.specs.Data.{no_pairs}
 use Rattle.liquid_model.specs.View.{pairs_view}
 use Rattle.liquid_json.proofs.After.{after}
-use Rattle.liquid_data_forms.specs.Decimals.{items_of, pairs_of}
+use Rattle.liquid_data_forms.specs.Decimals.{decimals_items, decimals_pairs}
 use Rattle.liquid_data_forms.proofs.reader.+read.Given as goal
 
 abbrev pub decreases-read : goal.decreases-read
@@ -19,7 +19,7 @@ decreases-read_pairs l = 2 * l.depth + 1
 abbrev pub invariant-read_items-items : goal.invariant-read_items-items
 invariant-read_items-items l =
     (n : ℕ) × (length l.reader ≤ n)
-    × (parse_map items_of (items (value l.depth) (length l.initial.reader) l.initial.reader) ≡ parse_map (after l.found.items) (parse_map items_of (items (value l.depth) n l.reader)))
+    × (parse_map decimals_items (items (value l.depth) (length l.initial.reader) l.initial.reader) ≡ parse_map (after l.found.items) (parse_map decimals_items (items (value l.depth) n l.reader)))
     × (length l.reader ≤ length l.initial.reader)
 
 abbrev pub decreases-read_items-items : goal.decreases-read_items-items
@@ -28,7 +28,7 @@ decreases-read_items-items l = length l.reader
 abbrev pub invariant-read_pairs-pairs : goal.invariant-read_pairs-pairs
 invariant-read_pairs-pairs l =
     (n : ℕ) × (length l.reader ≤ n)
-    × (parse_map (pairs_of no_pairs) (members (value l.depth) (length l.initial.reader) l.initial.reader) ≡ parse_map (pairs_of (pairs_view l.found.entries)) (members (value l.depth) n l.reader))
+    × (parse_map (decimals_pairs no_pairs) (members (value l.depth) (length l.initial.reader) l.initial.reader) ≡ parse_map (decimals_pairs (pairs_view l.found.entries)) (members (value l.depth) n l.reader))
     × (length l.reader ≤ length l.initial.reader)
 
 abbrev pub decreases-read_pairs-pairs : goal.decreases-read_pairs-pairs

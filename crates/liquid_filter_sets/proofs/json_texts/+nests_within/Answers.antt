@@ -2,7 +2,7 @@ use Rattle.std.proofs.Common.{◌&&◌, nat_le, [], ◌∷◌, ◌++◌, take, s
 use Rattle.std.proofs.lemmas.List.{take_more}
 use Rattle.liquid_model.specs.View.{view, items_view}
 use Rattle.liquid_model.proofs.Views.{Entry}
-use Rattle.liquid_filter_sets.specs.ReadBack.{depth}
+use Rattle.liquid_filter_sets.specs.ReadBack.{datum_depth}
 use Rattle.liquid_filter_sets.proofs.ValueParts.{ItemsSeen, one_more_item, one_more_pair, ascending}
 use Rattle.liquid_filter_sets.proofs.json_texts.+nests_within.Goals as goal
 
@@ -14,7 +14,7 @@ items_nest_within-loop-item-preserved t c =
     let next = c.nests_within-within.result in
     let more = take_more vs i v c.loop-item-test.true ∙ ap (λ u. take i vs ++ u ∷ []) (sym c.item-item.is) in
     let seen = one_more_item (take i vs) v c.args.most c.loop-item.within next c.loop-item.invariant
-    (c.nests_within-within.ensures.within ∙ ap (nat_le (depth (view v))) c.saturating_sub.ensures) c.nests_within-within.ensures.held in
+    (c.nests_within-within.ensures.within ∙ ap (nat_le (datum_depth (view v))) c.saturating_sub.ensures) c.nests_within-within.ensures.held in
     subst (λ us. ItemsSeen (items_view us) c.args.most (c.loop-item.within && next)) (sym more) seen
 
 pub pairs_nest_within-loop-key-preserved : goal.pairs_nest_within-loop-key-preserved
@@ -27,7 +27,7 @@ pairs_nest_within-loop-key-preserved t c =
       done ++ e ∷ [],
       all ∙ sym (append_assoc done (e ∷ []) left),
       one_more_pair done e c.args.most l.within c.nests_within-within.result l.invariant.2
-          (c.nests_within-within.ensures.within ∙ ap (nat_le (depth (view c.in-Some.value.now))) c.saturating_sub.ensures) c.nests_within-within.ensures.held,
+          (c.nests_within-within.ensures.within ∙ ap (nat_le (datum_depth (view c.in-Some.value.now))) c.saturating_sub.ensures) c.nests_within-within.ensures.held,
     )
 
 pub pairs_nest_within-returns-clause-ordered : goal.pairs_nest_within-returns-clause-ordered

@@ -19,7 +19,7 @@ use Rattle.liquid_model.specs.Projected.{pairs_wanted}
 use Rattle.liquid_model.proofs.Alike.{alike_equal, AlikeLists}
 use Rattle.liquid_model.proofs.Skipping.{put_in_both, put_in_one}
 use Rattle.liquid_model.specs.UseViews.{use_view, members_view, turns_view}
-use Rattle.liquid_json.specs.PlainUses.{plain}
+use Rattle.liquid_json.specs.PlainUses.{is_plain_use}
 use Rattle.liquid_json.specs.inside.Tokens.{datum_of}
 use Rattle.liquid_model.specs.Lists.{list_of}
 use Rattle.liquid_json.proofs.After.{after, after_none, after_next}
@@ -150,7 +150,7 @@ planned_pairs-pairs-init t c = (length c.args.reader.now, omega arith, (no_pairs
 
 pub planned_pairs-read_planned-requires : goal.planned_pairs-read_planned-requires
 planned_pairs-read_planned-requires t c =
-    (omega arith, subst (λ u. plain u ≡ true) c.in-Some-member_of.ensures (plain_in (members_view c.args.members.now.entries) c.in-Some.name.now c.requires.plain))
+    (omega arith, subst (λ u. is_plain_use u ≡ true) c.in-Some-member_of.ensures (plain_in (members_view c.args.members.now.entries) c.in-Some.name.now c.requires.plain))
 
 pub planned_pairs-pairs-preserved-in-Some-member_of : goal.planned_pairs-pairs-preserved-in-Some-member_of
 planned_pairs-pairs-preserved-in-Some-member_of t c =

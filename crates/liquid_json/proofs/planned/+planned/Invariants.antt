@@ -8,7 +8,7 @@ use Rattle.liquid_model.specs.Projected.{pairs_wanted}
 use Rattle.liquid_model.specs.Skipping.{AlikeKeys}
 use Rattle.liquid_model.proofs.Alike.{AlikeLists}
 use Rattle.liquid_model.specs.UseViews.{use_view, members_view}
-use Rattle.liquid_json.specs.inside.Tokens.{items_at, pairs_at}
+use Rattle.liquid_json.specs.inside.Tokens.{list_items_at, pairs_at}
 use Rattle.liquid_json.proofs.After.{after}
 use Rattle.liquid_json.proofs.planned.+planned.Given as goal
 
@@ -31,8 +31,8 @@ decreases-planned_pairs l = 4 * l.depth + 3
 abbrev pub invariant-planned_items-items : goal.invariant-planned_items-items
 invariant-planned_items-items l =
     (n : ℕ) × (length l.reader ≤ n)
-    × ((cs ds : Items) (r : List Token) → items_at l.depth n l.reader ≡ Some (cs, r) → AlikeLists (use_view l.asked) (list_of cs) (list_of ds)
-    → (all : Items) × (items_at l.depth (length l.initial.reader) l.initial.reader ≡ Some (all, r)) × AlikeLists (use_view l.asked) (list_of all) (list_of (after l.found.items ds)))
+    × ((cs ds : Items) (r : List Token) → list_items_at l.depth n l.reader ≡ Some (cs, r) → AlikeLists (use_view l.asked) (list_of cs) (list_of ds)
+    → (all : Items) × (list_items_at l.depth (length l.initial.reader) l.initial.reader ≡ Some (all, r)) × AlikeLists (use_view l.asked) (list_of all) (list_of (after l.found.items ds)))
     × (length l.reader ≤ length l.initial.reader)
 
 abbrev pub decreases-planned_items-items : goal.decreases-planned_items-items

@@ -9,7 +9,7 @@ use Rattle.liquid_model.specs.Data.{truth, nil, number, text, array, object, put
 use Rattle.liquid_model.specs.View.{view, pairs_view}
 use Rattle.liquid_model.specs.declared.value.Value.{Text, Integer, Bool, Nil, the_lemmas}
 use Rattle.liquid_model.proofs.Views.{view-Array, view-Object, pairs_view-insert_entry}
-use Rattle.liquid_json.specs.inside.Tokens.{datum_of, pairs_of, items_at}
+use Rattle.liquid_json.specs.inside.Tokens.{datum_of, token_pairs, list_items_at}
 use Rattle.liquid_json.proofs.After.{after, after_none}
 use Rattle.liquid_json.proofs.Turns.{converted-array, converted-object, item_read, items_over, pair_read, pairs_over, none_before, one_more_item}
 use Rattle.liquid_json.proofs.tokens.+read.Goals as goal
@@ -61,7 +61,7 @@ read-returns-in_ok-read_pairs-in-BeginObject-clause-ok t c =
 
 pub read_items-items-init : goal.read_items-items-init
 read_items-items-init t c =
-    let all = items_at c.args.depth (length c.args.reader.now) c.args.reader.now in
+    let all = list_items_at c.args.depth (length c.args.reader.now) c.args.reader.now in
     (length c.args.reader.now, omega arith, none_before all ∙ ap (λ vs. parse_map (after vs) all) (sym c.new-found.ensures.items), omega arith)
 
 pub read_items-items-preserved : goal.read_items-items-preserved
@@ -78,7 +78,7 @@ read_items-items-preserved t c =
       n - 1,
       omega (arith, l.invariant.1),
       l.invariant.2 ∙ ap (parse_map (after l.found.items)) turn ∙ one_more_item l.found.items v _
-          ∙ ap (λ vs. parse_map (after vs) (items_at c.args.depth (n - 1) r)) (sym c.in_ok-push.ensures.items),
+          ∙ ap (λ vs. parse_map (after vs) (list_items_at c.args.depth (n - 1) r)) (sym c.in_ok-push.ensures.items),
       omega (arith, l.invariant.3),
     )
 
@@ -93,7 +93,7 @@ read_items-returns-clause-ok t c =
 pub read_pairs-pairs-init : goal.read_pairs-pairs-init
 read_pairs-pairs-init t c =
     let all = members (value c.args.depth) (length c.args.reader.now) c.args.reader.now in
-    (length c.args.reader.now, omega arith, ap (λ es. converted (λ ms. pairs_of ms (pairs_view es)) all) (sym c.new-found.ensures.empty), omega arith)
+    (length c.args.reader.now, omega arith, ap (λ es. converted (λ ms. token_pairs ms (pairs_view es)) all) (sym c.new-found.ensures.empty), omega arith)
 
 pub read_pairs-pairs-preserved : goal.read_pairs-pairs-preserved
 read_pairs-pairs-preserved t c =
@@ -115,7 +115,7 @@ read_pairs-pairs-preserved t c =
       n - 1,
       omega (arith, l.invariant.1),
       l.invariant.2 ∙ pair_read p old n k l.reader s r (view v) (omega (arith, l.invariant.1)) named done.ok
-          ∙ ap (λ found. converted (λ ms. pairs_of ms found) (members p (n - 1) r)) (sym inserted),
+          ∙ ap (λ found. converted (λ ms. token_pairs ms found) (members p (n - 1) r)) (sym inserted),
       omega (arith, l.invariant.3),
     )
 

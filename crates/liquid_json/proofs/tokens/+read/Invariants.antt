@@ -2,7 +2,7 @@ use Rattle.std.proofs.Common.{◌≡◌, ℕ, ◌+◌, ◌*◌, ◌≤◌, lengt
 use Rattle.json.specs.Json.{parse_map}
 use Rattle.liquid_model.specs.Data.{no_pairs}
 use Rattle.liquid_model.specs.View.{pairs_view}
-use Rattle.liquid_json.specs.inside.Tokens.{items_at, pairs_at}
+use Rattle.liquid_json.specs.inside.Tokens.{list_items_at, pairs_at}
 use Rattle.liquid_json.proofs.After.{after}
 use Rattle.liquid_json.proofs.tokens.+read.Given as goal
 
@@ -19,7 +19,7 @@ decreases-read_pairs l = 2 * l.depth + 1
 abbrev pub invariant-read_items-items : goal.invariant-read_items-items
 invariant-read_items-items l =
     (n : ℕ) × (length l.reader ≤ n)
-    × (items_at l.depth (length l.initial.reader) l.initial.reader ≡ parse_map (after l.found.items) (items_at l.depth n l.reader))
+    × (list_items_at l.depth (length l.initial.reader) l.initial.reader ≡ parse_map (after l.found.items) (list_items_at l.depth n l.reader))
     × (length l.reader ≤ length l.initial.reader)
 
 abbrev pub decreases-read_items-items : goal.decreases-read_items-items

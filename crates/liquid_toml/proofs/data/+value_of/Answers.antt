@@ -4,7 +4,7 @@ use Rattle.std.specs.Vec.Iter.{into_iter_items}
 use Rattle.liquid_model.specs.Data.{item, put}
 use Rattle.liquid_model.specs.View.{pairs_view}
 use Rattle.liquid_model.proofs.Views.{pairs_view-insert_entry}
-use Rattle.liquid_toml.specs.TomlData.{items_of, pairs_from}
+use Rattle.liquid_toml.specs.TomlData.{toml_list_items, pairs_from}
 use Rattle.liquid_toml.proofs.After.{after, after_next, after_none}
 use Rattle.toml.specs.View.{items_view as toml_items, members_view as toml_members}
 use Rattle.liquid_toml.proofs.data.+value_of.Goals as goal
@@ -16,16 +16,16 @@ items_of-loop-item-preserved t c =
     record {
       counted = omega (arith, c.in-Some.ensures.steps.1, c.loop-item.invariant.counted, ap length c.in-Some.ensures.steps.0);
       whole = rw c.in_ok-push.ensures.items (
-          sym (after_next done c.in_ok-value_of.field-0 (items_of (toml_items left)))
-          ∙ ap (λ d. after done (item d (items_of (toml_items left)))) c.in_ok-value_of.ensures
-          ∙ ap (λ vs. after done (items_of (toml_items vs))) (sym c.in-Some.ensures.steps.0)
+          sym (after_next done c.in_ok-value_of.field-0 (toml_list_items (toml_items left)))
+          ∙ ap (λ d. after done (item d (toml_list_items (toml_items left)))) c.in_ok-value_of.ensures
+          ∙ ap (λ vs. after done (toml_list_items (toml_items vs))) (sym c.in-Some.ensures.steps.0)
           ∙ c.loop-item.invariant.whole);
     }
 
 pub items_of-returns : goal.items_of-returns
 items_of-returns t c =
     let none : into_iter_items c.loop-item.item-iterator ≡ [] = nil_from_length _ (sym c.loop-item.invariant.counted ∙ (c.in-None.ensures {u = tt}).steps.0) in
-    sym (after_none c.loop-item.values.items) ∙ ap (λ vs. after c.loop-item.values.items (items_of (toml_items vs))) (sym none) ∙ c.loop-item.invariant.whole
+    sym (after_none c.loop-item.values.items) ∙ ap (λ vs. after c.loop-item.values.items (toml_list_items (toml_items vs))) (sym none) ∙ c.loop-item.invariant.whole
 
 pub pairs_of-loop-key-preserved : goal.pairs_of-loop-key-preserved
 pairs_of-loop-key-preserved t c =

@@ -1,7 +1,7 @@
 use Rattle.std.proofs.Common.{◌≡◌, length}
 use Rattle.std.specs.Vec.Iter.{into_iter_items, into_iter_len}
 use Rattle.liquid_model.specs.View.{pairs_view}
-use Rattle.liquid_toml.specs.TomlData.{items_of, pairs_from, pairs_of}
+use Rattle.liquid_toml.specs.TomlData.{toml_list_items, pairs_from, toml_pairs}
 use Rattle.liquid_toml.proofs.After.{after}
 use Rattle.toml.specs.View.{items_view as toml_items, members_view as toml_members}
 use Rattle.liquid_toml.proofs.data.+value_of.Given as goal
@@ -10,9 +10,9 @@ use Rattle.liquid_toml.proofs.data.+value_of.Given as goal
 abbrev pub invariant-items_of-loop-item : goal.invariant-items_of-loop-item
 invariant-items_of-loop-item l = record {
   counted : into_iter_len l.item-iterator ≡ length (into_iter_items l.item-iterator);
-  whole : after l.values.items (items_of (toml_items (into_iter_items l.item-iterator))) ≡ items_of (toml_items l.fn.items.items);
+  whole : after l.values.items (toml_list_items (toml_items (into_iter_items l.item-iterator))) ≡ toml_list_items (toml_items l.fn.items.items);
 }
 
 abbrev pub invariant-pairs_of-loop-key : goal.invariant-pairs_of-loop-key
 invariant-pairs_of-loop-key l =
-    pairs_from (pairs_view l.pairs.entries) (toml_members l.key-iterator) ≡ pairs_of (toml_members l.fn.members.entries)
+    pairs_from (pairs_view l.pairs.entries) (toml_members l.key-iterator) ≡ toml_pairs (toml_members l.fn.members.entries)
