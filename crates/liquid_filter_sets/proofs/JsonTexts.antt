@@ -12,7 +12,7 @@ use Rattle.serde_json.specs.Written.{compact_text, items_text, members_text, com
 use Rattle.serde_json.proofs.Texts.{print-outline}
 use Rattle.liquid_model.specs.Data.{Datum, nil, truth, number, text, array, object, Items, no_items, item, Pairs, no_pairs, pair}
 use Rattle.liquid_jekyll_host_filters.proofs.JsonBytes.{json_byte}
-use Rattle.liquid_jekyll_host_filters.specs.Json.{json_text, json_items, json_pairs, quoted}
+use Rattle.liquid_jekyll_host_filters.specs.Json.{json_text, json_items, json_pairs, json_quoted}
 use Rattle.liquid_shopify_host_filters.specs.JsonTexts.{json_tokens, items_tokens, pairs_tokens}
 
 -- ---- escapes
@@ -41,7 +41,7 @@ text_escaped : (s : List ℕ) → flat_map json_byte s ≡ escape s
 text_escaped [] = refl
 text_escaped (b ∷ s) = ap₂ (λ x y. x ++ y) (byte_escaped b) (text_escaped s)
 
-text_quoted : (s : List ℕ) → quoted s ≡ printed s
+text_quoted : (s : List ℕ) → json_quoted s ≡ printed s
 text_quoted s = ap (λ e. 34 ∷ (e ++ 34 ∷ [])) (text_escaped s)
 
 -- ---- a value as data of JSON
@@ -114,7 +114,7 @@ mutual
   member_text : (later : Bool) (ms : Pairs) → json_pairs (comma_if later) ms ++ 125 ∷ [] ≡ members_text later (members_of ms)
   member_text later no_pairs = refl
   member_text later (pair k d ms) =
-      closed_pair (comma_if later) (quoted k) (json_text d) (json_pairs (codes ",") ms) (125 ∷ [])
+      closed_pair (comma_if later) (json_quoted k) (json_text d) (json_pairs (codes ",") ms) (125 ∷ [])
       ∙ ap (λ q. comma_if later ++ (q ++ 58 ∷ (json_text d ++ (json_pairs (codes ",") ms ++ 125 ∷ [])))) (text_quoted k)
       ∙ ap₂ (λ s t. comma_if later ++ (printed k ++ 58 ∷ (s ++ t))) (value_text d) (member_text true ms)
 

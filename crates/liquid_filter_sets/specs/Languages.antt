@@ -15,7 +15,7 @@ use Rattle.liquid_lib.specs.Standard.{with_filters}
 use Rattle.liquid_jekyll_host_filters.specs.SiteFilters.{filter_least, filter_most, filter_name}
 use Rattle.liquid_jekyll_host_filters.specs.declared.site_filter.JekyllFilter.{JekyllFilter}
 use Rattle.liquid_jekyll_host_filters.specs.declared.site_filter.JekyllFilter.TheVariants as j
-use Rattle.liquid_shopify_host_filters.specs.Kinds.{least_of, most_of, name_of}
+use Rattle.liquid_shopify_host_filters.specs.Kinds.{least_of, most_arguments, shopify_filter_name}
 use Rattle.liquid_shopify_host_filters.specs.declared.kind.ShopifyKind.{ShopifyKind}
 use Rattle.liquid_shopify_host_filters.specs.declared.kind.ShopifyKind.TheVariants as s
 
@@ -50,7 +50,8 @@ pub record IsJekyll (l : Language) : Type 0 where
 
 abbrev pub with_kinds : Map RegisteredFilter → List ShopifyKind → Map RegisteredFilter
 with_kinds m [] = m
-with_kinds m (k ∷ ks) = with_kinds (insert m (name_of k) (Host (least_of k) (most_of k))) ks
+with_kinds m (k ∷ ks) = with_kinds (insert m (shopify_filter_name k)
+    (Host (least_of k) (most_arguments k))) ks
 
 abbrev pub shopify_filters : List ShopifyKind
 shopify_filters =

@@ -8,7 +8,7 @@ use Rattle.std.specs.Char.{is_ascii_digit, is_ascii_whitespace}
 use Rattle.std.specs.List.{prefix_len}
 use Rattle.std.specs.Prelude.{nat_lt}
 use Rattle.std.specs.Str.{IsCharBoundary, IsUtf8}
-use Rattle.liquid_jekyll_host_filters.specs.Numbers.{sign_len}
+use Rattle.liquid_jekyll_host_filters.specs.Numbers.{sign_bytes}
 
 true_not_false : (t : Bool) → t ≡ true → t ≡ false → ⊥
 true_not_false true h k = cc
@@ -48,12 +48,12 @@ sign_by b s true e h = either (b == 45) (b == 43) refl refl e
     either false false f g h = absurd (true_not_false false h refl)
 sign_by b s false e h = absurd (omega (arith, h))
 
-sign_low : (bs : List ℕ) (k : ℕ) → k < sign_len bs → sign_len bs ≤ 1 → get_or bs k 0 < 128
+sign_low : (bs : List ℕ) (k : ℕ) → k < sign_bytes bs → sign_bytes bs ≤ 1 → get_or bs k 0 < 128
 sign_low [] k h l = absurd (omega (arith, h))
 sign_low (b ∷ s) zero h l = sign_by b s (b == 45 || b == 43) refl h
 sign_low (b ∷ s) (suc k) h l = absurd (omega (arith, h, l))
 
-front_low : (bs : List ℕ) (n d k : ℕ) (t : Bool) → nat_lt k n ≡ t → n ≡ sign_len bs → n ≤ 1 → d ≡ prefix_len is_ascii_digit (drop n bs) → k < n + d → get_or bs k 0 < 128
+front_low : (bs : List ℕ) (n d k : ℕ) (t : Bool) → nat_lt k n ≡ t → n ≡ sign_bytes bs → n ≤ 1 → d ≡ prefix_len is_ascii_digit (drop n bs) → k < n + d → get_or bs k 0 < 128
 front_low bs n d k true e s l g h =
     let below : k < n = grind (arith, nat_tests) in sign_low bs k (subst (λ m. k < m) s below) (subst (λ m. m ≤ 1) s l)
 front_low bs n d k false e s l g h =
@@ -62,5 +62,5 @@ front_low bs n d k false e s l g h =
     let less : k - n < d = omega (arith, above, h) in
     subst (λ j. get_or bs j 0 < 128) back (subst (λ b. b < 128) (get_or-drop n bs (k - n) 0) (run_low is_ascii_digit high_digit (drop n bs) (k - n) (subst (λ m. k - n < m) g less)))
 
-pub front_boundary : (bs : List ℕ) (n d : ℕ) → IsUtf8 bs → n + d ≤ length bs → n ≡ sign_len bs → n ≤ 1 → d ≡ prefix_len is_ascii_digit (drop n bs) → IsCharBoundary bs (n + d)
+pub front_boundary : (bs : List ℕ) (n d : ℕ) → IsUtf8 bs → n + d ≤ length bs → n ≡ sign_bytes bs → n ≤ 1 → d ≡ prefix_len is_ascii_digit (drop n bs) → IsCharBoundary bs (n + d)
 front_boundary bs n d u l s o g = boundary bs (n + d) u l (λ k i. front_low bs n d k (nat_lt k n) refl s o g i)

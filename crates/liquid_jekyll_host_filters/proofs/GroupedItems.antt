@@ -7,7 +7,7 @@ use Rattle.liquid_model.specs.View.{view}
 use Rattle.liquid_model.specs.declared.value.Value.{Value}
 use Rattle.liquid_model.specs.Texts.{Text, same_text}
 use Rattle.liquid_jekyll_host_filters.specs.Groups.{group_name, has_text, items_named, names_after, noted}
-use Rattle.liquid_jekyll_host_filters.specs.inside.Members.{item_at, member_at}
+use Rattle.liquid_jekyll_host_filters.specs.inside.Members.{item_if_named, member_if_named}
 
 -- ---- among the texts
 true_not_false : (t : Bool) → t ≡ true → t ≡ false → ⊥
@@ -46,7 +46,7 @@ kept name q us [] h = h
 kept name q us (d ∷ ds) h = kept name q (noted (group_name name d) us) ds (noted_by q (group_name name d) us (has_text (group_name name d) us) refl h)
 
 -- ---- the items of a text
-pub one_more_item : (name : Text) (d : Datum) (ds : List Datum) (q : Text) (all old new : List Datum) → all ≡ old ++ items_named name (d ∷ ds) q → new ≡ old ++ member_at (group_name name d) d q → all ≡ new ++ items_named name ds q
+pub one_more_item : (name : Text) (d : Datum) (ds : List Datum) (q : Text) (all old new : List Datum) → all ≡ old ++ items_named name (d ∷ ds) q → new ≡ old ++ member_if_named (group_name name d) d q → all ≡ new ++ items_named name ds q
 one_more_item name d ds q all old new inv n = by (same_text q (group_name name d)) refl
   where
     by : (b : Bool) → same_text q (group_name name d) ≡ b → all ≡ new ++ items_named name ds q
@@ -65,9 +65,9 @@ joins_by old item d true e = map-append datum_of old (item ∷ []) ∙ ap (λ x.
 joins_by old item d false e = map-append datum_of old []
 
 -- the same of items that are lent
-pub one_more_member : (old new : List (Bor Value)) (item : Value) (lent : Bor Value) (t u q : Text) → new ≡ old ++ item_at t lent q → lent.now ≡ item → t ≡ u → map datum_of new ≡ map datum_of old ++ member_at u (view item) q
+pub one_more_member : (old new : List (Bor Value)) (item : Value) (lent : Bor Value) (t u q : Text) → new ≡ old ++ item_if_named t lent q → lent.now ≡ item → t ≡ u → map datum_of new ≡ map datum_of old ++ member_if_named u (view item) q
 one_more_member old new item lent t u q n l e =
-    ap (map datum_of) n ∙ joins_by old lent (view item) (same_text q t) (ap view l) ∙ ap (λ s. map datum_of old ++ member_at s (view item) q) e
+    ap (map datum_of) n ∙ joins_by old lent (view item) (same_text q t) (ap view l) ∙ ap (λ s. map datum_of old ++ member_if_named s (view item) q) e
 
 -- ---- texts that are noted
 pub noted_there : (t : Text) (us : List Text) → has_text t us ≡ true → us ≡ noted t us

@@ -3,7 +3,7 @@ use Rattle.std.proofs.Common.{◌≡◌, ℕ, ◌<◌, ◌≤◌, Bool, true, fa
 use Rattle.std.proofs.lemmas.Bool.Decides.{nat_tests}
 use Rattle.std.proofs.lemmas.List.Elements.{All-head, All-tail}
 use Rattle.std.specs.Prelude.{All}
-use Rattle.liquid_jekyll_host_filters.specs.Escapes.{escape_of, escaped, escaped_byte, is_marked}
+use Rattle.liquid_jekyll_host_filters.specs.Escapes.{mark_escape, escaped, byte_unless_marked, is_marked}
 use Rattle.liquid_jekyll_host_filters.specs.declared.escapes.Marks.{Marks}
 use Rattle.liquid_jekyll_host_filters.specs.declared.escapes.Marks.TheVariants.{Xml, Json}
 
@@ -33,11 +33,11 @@ low_by_test marks b false e h =
 pub mark_ascii : (marks : Marks) (b : ℕ) → is_marked marks b ≡ true → b < 128
 mark_ascii marks b h = low_by_test marks b (nat_lt b 128) refl h
 
-plain_byte : (marks : Marks) (b : ℕ) → IsPlain marks b → escaped_byte marks b ≡ b ∷ []
-plain_byte marks b h = ap (λ t. if t then escape_of marks b else b ∷ []) h
+plain_byte : (marks : Marks) (b : ℕ) → IsPlain marks b → byte_unless_marked marks b ≡ b ∷ []
+plain_byte marks b h = ap (λ t. if t then mark_escape marks b else b ∷ []) h
 
-marked_byte : (marks : Marks) (b : ℕ) → is_marked marks b ≡ true → escaped_byte marks b ≡ escape_of marks b
-marked_byte marks b h = ap (λ t. if t then escape_of marks b else b ∷ []) h
+marked_byte : (marks : Marks) (b : ℕ) → is_marked marks b ≡ true → byte_unless_marked marks b ≡ mark_escape marks b
+marked_byte marks b h = ap (λ t. if t then mark_escape marks b else b ∷ []) h
 
 plain_first : (marks : Marks) (p s : List ℕ) → All (IsPlain marks) p → escaped marks (p ++ s) ≡ p ++ escaped marks s
 plain_first marks [] s h = refl
@@ -46,12 +46,12 @@ plain_first marks (b ∷ p) s h =
     ∙ ap (λ t. b ∷ t) (plain_first marks p s (All-tail (IsPlain marks) b p h))
 
 pub escaped_turn : (marks : Marks) (s plain after out mid next all : List ℕ) (b : ℕ) → s ≡ plain ++ (b ∷ after) → All (IsPlain marks) plain → is_marked marks b ≡ true
-    → mid ≡ out ++ plain → next ≡ mid ++ escape_of marks b → all ≡ out ++ escaped marks s → all ≡ next ++ escaped marks after
+    → mid ≡ out ++ plain → next ≡ mid ++ mark_escape marks b → all ≡ out ++ escaped marks s → all ≡ next ++ escaped marks after
 escaped_turn marks s plain after out mid next all b cut kept is m n inv =
     inv ∙ ap (λ t. out ++ escaped marks t) cut ∙ ap (λ t. out ++ t) (plain_first marks plain (b ∷ after) kept)
-    ∙ sym (append_assoc out plain (escaped_byte marks b ++ escaped marks after))
+    ∙ sym (append_assoc out plain (byte_unless_marked marks b ++ escaped marks after))
     ∙ ap₂ (λ x y. x ++ (y ++ escaped marks after)) (sym m) (marked_byte marks b is)
-    ∙ sym (append_assoc mid (escape_of marks b) (escaped marks after)) ∙ ap (λ t. t ++ escaped marks after) (sym n)
+    ∙ sym (append_assoc mid (mark_escape marks b) (escaped marks after)) ∙ ap (λ t. t ++ escaped marks after) (sym n)
 
 pub escaped_end : (marks : Marks) (s out next all : List ℕ) → All (IsPlain marks) s → next ≡ out ++ s → all ≡ out ++ escaped marks s → next ≡ all
 escaped_end marks s out next all kept n inv =

@@ -12,7 +12,7 @@ use Rattle.std.specs.Iterator.{Yields}
 use Rattle.std.specs.Str.Iter.{CutsAsciiWord, IsAsciiSeparator}
 use Rattle.std.specs.List.{AllPass}
 use Rattle.liquid_filter_base.specs.Joined.{joined, joined_rest}
-use Rattle.liquid_jekyll_host_filters.specs.Words.{ended, words, words_after}
+use Rattle.liquid_jekyll_host_filters.specs.Words.{with_finished_word, words, words_after}
 
 abbrev pub IsWhite : ℕ → Type 0
 IsWhite b = is_ascii_whitespace b ≡ true
@@ -21,8 +21,8 @@ abbrev pub AreNoWhite : List ℕ → Type 0
 AreNoWhite [] = Unit {0}
 AreNoWhite (b ∷ s) = (is_ascii_whitespace b ≡ false) × AreNoWhite s
 
-pub white_ends : (w s : List ℕ) (b : ℕ) → IsWhite b → words_after w (b ∷ s) ≡ ended w (words s)
-white_ends w s b h = ap (λ t. if t then ended w (words_after [] s) else words_after (w ++ b ∷ []) s) h
+pub white_ends : (w s : List ℕ) (b : ℕ) → IsWhite b → words_after w (b ∷ s) ≡ with_finished_word w (words s)
+white_ends w s b h = ap (λ t. if t then with_finished_word w (words_after [] s) else words_after (w ++ b ∷ []) s) h
 
 gap_first : (gap s : List ℕ) → AllPass is_ascii_whitespace gap → words (gap ++ s) ≡ words s
 gap_first [] s h = refl
@@ -31,10 +31,10 @@ gap_first (b ∷ gap) s h = white_ends [] (gap ++ s) b (All-head IsWhite b gap h
 pub word_first : (w x s : List ℕ) → AreNoWhite x → words_after w (x ++ s) ≡ words_after (w ++ x) s
 word_first w [] s h = ap (λ v. words_after v s) (sym (append-nil w))
 word_first w (b ∷ x) s h =
-    ap (λ t. if t then ended w (words_after [] (x ++ s)) else words_after (w ++ b ∷ []) (x ++ s)) h.0
+    ap (λ t. if t then with_finished_word w (words_after [] (x ++ s)) else words_after (w ++ b ∷ []) (x ++ s)) h.0
     ∙ word_first (w ++ b ∷ []) x s h.1 ∙ ap (λ v. words_after v s) (append_assoc w (b ∷ []) x)
 
-pub ended_is : (x : List ℕ) (ws : List (List ℕ)) → 0 < length x → ended x ws ≡ x ∷ ws
+pub ended_is : (x : List ℕ) (ws : List (List ℕ)) → 0 < length x → with_finished_word x ws ≡ x ∷ ws
 ended_is [] ws h = absurd (omega arith)
 ended_is (b ∷ x) ws h = refl
 

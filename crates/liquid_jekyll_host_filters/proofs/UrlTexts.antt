@@ -7,7 +7,7 @@ use Rattle.std.specs.List.{flat_map, position_or_len, before_first, after_first}
 use Rattle.std.specs.Prelude.{nat_lt}
 use Rattle.percent_encoding.specs.AsciiSet.{should_percent_encode}
 use Rattle.percent_encoding.specs.Percent.{encode_byte, percent_encode, percent_encode_byte}
-use Rattle.liquid_jekyll_host_filters.specs.Urls.{in_place, mark, stays, url_byte, url_escaped, without_slash}
+use Rattle.liquid_jekyll_host_filters.specs.Urls.{in_place, escape_mark, stays, url_byte, url_escaped_as, without_slash}
 use Rattle.liquid_jekyll_host_filters.specs.inside.Sets.{set_of}
 use Rattle.liquid_jekyll_host_filters.specs.declared.percent.Escaping.{Escaping}
 use Rattle.liquid_jekyll_host_filters.specs.declared.percent.Escaping.TheVariants.{Form, Path, Url}
@@ -95,55 +95,55 @@ others_are how (b ∷ bs) =
     ∙ ap (λ t. other how b ++ t) (others_are how bs)
 
 -- ---- cut at the first mark
-module _ (how : Escaping) (c : ℕ) (is : c ≡ mark how) where
+module _ (how : Escaping) (c : ℕ) (is : c ≡ escape_mark how) where
   abbrev marked : ℕ → Bool
   marked b = b == c
 
-  no_mark : (b : ℕ) → marked b ≡ false → (b == mark how) ≡ false
+  no_mark : (b : ℕ) → marked b ≡ false → (b == escape_mark how) ≡ false
   no_mark b h = ap (λ k. b == k) (sym is) ∙ h
 
-  a_mark : (b : ℕ) → marked b ≡ true → (b == mark how) ≡ true
+  a_mark : (b : ℕ) → marked b ≡ true → (b == escape_mark how) ≡ true
   a_mark b h = ap (λ k. b == k) (sym is) ∙ h
 
-  others_first : (s rest : List ℕ) (n : ℕ) → ((k : ℕ) → k < n → marked (get_or s k 0) ≡ false) → url_escaped how (take n s ++ rest) ≡ flat_map (other how) (take n s) ++ url_escaped how rest
+  others_first : (s rest : List ℕ) (n : ℕ) → ((k : ℕ) → k < n → marked (get_or s k 0) ≡ false) → url_escaped_as how (take n s ++ rest) ≡ flat_map (other how) (take n s) ++ url_escaped_as how rest
   others_first s rest zero h = refl
   others_first [] rest (suc n) h = refl
   others_first (b ∷ s) rest (suc n) h =
       let r = take n s ++ rest in
-      ap (λ t. (if t then in_place how r else other how b) ++ url_escaped how r) (no_mark b (h 0 (omega arith)))
+      ap (λ t. (if t then in_place how r else other how b) ++ url_escaped_as how r) (no_mark b (h 0 (omega arith)))
       ∙ ap (λ t. other how b ++ t) (others_first s rest n (λ k l. h (suc k) (omega arith)))
-      ∙ sym (append_assoc (other how b) (flat_map (other how) (take n s)) (url_escaped how rest))
+      ∙ sym (append_assoc (other how b) (flat_map (other how) (take n s)) (url_escaped_as how rest))
 
   pub url_turn : (s before after out mid next all : List ℕ) → before ≡ before_first marked s → after ≡ after_first marked s → position_or_len marked s < length s
-      → mid ≡ out ++ percent_encode (set_of how) before → next ≡ mid ++ in_place how after → all ≡ out ++ url_escaped how s → all ≡ next ++ url_escaped how after
+      → mid ≡ out ++ percent_encode (set_of how) before → next ≡ mid ++ in_place how after → all ≡ out ++ url_escaped_as how s → all ≡ next ++ url_escaped_as how after
   url_turn s before after out mid next all b a l m n inv =
       let n0 = position_or_len marked s in
       let first = get_or s n0 0 in
       let left = after_first marked s in
       let front = flat_map (other how) (before_first marked s) in
-      let cut : url_escaped how s ≡ front ++ (in_place how left ++ url_escaped how left) =
-      ap (url_escaped how) (split_at_first marked s 0 l) ∙ others_first s (first ∷ left) n0 (λ k i. fails_before_first marked s k 0 i)
-      ∙ ap (λ t. front ++ ((if t then in_place how left else other how first) ++ url_escaped how left)) (a_mark first (passes_at_first marked s 0 l)) in
-      inv ∙ ap (λ t. out ++ t) cut ∙ ap₂ (λ x y. out ++ (flat_map (other how) x ++ (in_place how y ++ url_escaped how y))) (sym b) (sym a)
-      ∙ sym (append_assoc out (flat_map (other how) before) (in_place how after ++ url_escaped how after))
-      ∙ ap (λ t. (out ++ t) ++ (in_place how after ++ url_escaped how after)) (sym (others_are how before))
-      ∙ ap (λ t. t ++ (in_place how after ++ url_escaped how after)) (sym m)
-      ∙ sym (append_assoc mid (in_place how after) (url_escaped how after)) ∙ ap (λ t. t ++ url_escaped how after) (sym n)
+      let cut : url_escaped_as how s ≡ front ++ (in_place how left ++ url_escaped_as how left) =
+      ap (url_escaped_as how) (split_at_first marked s 0 l) ∙ others_first s (first ∷ left) n0 (λ k i. fails_before_first marked s k 0 i)
+      ∙ ap (λ t. front ++ ((if t then in_place how left else other how first) ++ url_escaped_as how left)) (a_mark first (passes_at_first marked s 0 l)) in
+      inv ∙ ap (λ t. out ++ t) cut ∙ ap₂ (λ x y. out ++ (flat_map (other how) x ++ (in_place how y ++ url_escaped_as how y))) (sym b) (sym a)
+      ∙ sym (append_assoc out (flat_map (other how) before) (in_place how after ++ url_escaped_as how after))
+      ∙ ap (λ t. (out ++ t) ++ (in_place how after ++ url_escaped_as how after)) (sym (others_are how before))
+      ∙ ap (λ t. t ++ (in_place how after ++ url_escaped_as how after)) (sym m)
+      ∙ sym (append_assoc mid (in_place how after) (url_escaped_as how after)) ∙ ap (λ t. t ++ url_escaped_as how after) (sym n)
 
-  pub url_end : (s out next all : List ℕ) → position_or_len marked s ≡ length s → next ≡ out ++ percent_encode (set_of how) s → all ≡ out ++ url_escaped how s → next ≡ all
+  pub url_end : (s out next all : List ℕ) → position_or_len marked s ≡ length s → next ≡ out ++ percent_encode (set_of how) s → all ≡ out ++ url_escaped_as how s → next ≡ all
   url_end s out next all h n inv =
       let whole : take (length s) s ≡ s = take_all (length s) s (omega arith) in
-      let cut : url_escaped how s ≡ flat_map (other how) s =
-      ap (url_escaped how) (sym (ap (λ t. t ++ []) whole ∙ append-nil s)) ∙ others_first s [] (length s) (λ k l. fails_before_first marked s k 0 (omega arith))
+      let cut : url_escaped_as how s ≡ flat_map (other how) s =
+      ap (url_escaped_as how) (sym (ap (λ t. t ++ []) whole ∙ append-nil s)) ∙ others_first s [] (length s) (λ k l. fails_before_first marked s k 0 (omega arith))
       ∙ ap (λ t. flat_map (other how) t ++ []) whole ∙ append-nil (flat_map (other how) s) in
       n ∙ ap (λ t. out ++ t) (others_are how s ∙ sym cut) ∙ sym inv
 
-mark_low : (how : Escaping) → mark how < 128
+mark_low : (how : Escaping) → escape_mark how < 128
 mark_low Form = omega arith
 mark_low Path = omega arith
 mark_low Url = omega arith
 
-pub mark_ascii : (how : Escaping) (c : ℕ) → c ≡ mark how → c < 128
+pub mark_ascii : (how : Escaping) (c : ℕ) → c ≡ escape_mark how → c < 128
 mark_ascii how c is = subst (λ k. k < 128) (sym is) (mark_low how)
 
 -- ---- a slash at the end

@@ -12,7 +12,7 @@ use Rattle.liquid_model.specs.Fallible.{◌>>=◌}
 use Rattle.liquid_model.specs.Texts.{Text}
 use Rattle.liquid_filter_base.specs.Arguments.{Answer}
 use Rattle.liquid_jekyll_host_filters.specs.Laws.{AbsoluteUrlTwiceIsOnce, RelativeUrlTwiceIsOnce}
-use Rattle.liquid_jekyll_host_filters.specs.Urls.{addressed, begins_digits, in_place, is_absolute, is_scheme_byte, or_slash, path_text, reaches_colon, relative, site_url, stays, url_byte, url_escaped}
+use Rattle.liquid_jekyll_host_filters.specs.Urls.{addressed, begins_digits, in_place, is_absolute, is_scheme_byte, or_slash, path_text, reaches_colon, relative, site_url, stays, url_byte, url_escaped_as}
 use Rattle.liquid_jekyll_host_filters.specs.declared.percent.Escaping.TheVariants.{Path}
 
 -- ---- an absolute URL stays one, whatever follows it
@@ -98,7 +98,7 @@ glyph : (d : ℕ) → d < 16 → IsGlyph (digit_glyph true d)
 glyph d l = glyph_below 16 d refl l
 
 abbrev again : Text → Text
-again = url_escaped Path
+again = url_escaped_as Path
 
 -- a byte that stays and is no mark
 kept_byte : (b : ℕ) (s : Text) → (b == 37) ≡ false → stays Path b ≡ true → url_byte Path b s ≡ b ∷ []

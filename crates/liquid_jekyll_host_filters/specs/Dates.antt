@@ -29,11 +29,11 @@ abbrev pub of_date : (Datum → Answer) → Datum → Answer
 of_date f d = has_date d >>= λ is_date. if is_date then f d else Ok d
 
 -- what `date` answers by a pattern
-abbrev pub dated : Text → Datum → Answer
-dated pattern d = date_answer d (text pattern ∷ [])
+abbrev pub date_by_pattern : Text → Datum → Answer
+date_by_pattern pattern d = date_answer d (text pattern ∷ [])
 
 abbrev pub printed_by : Text → Datum → Answer
-printed_by pattern = of_date (dated pattern)
+printed_by pattern = of_date (date_by_pattern pattern)
 
 abbrev pub date_to_xmlschema_answer : Datum → List Datum → Answer
 date_to_xmlschema_answer d args = printed_by (codes "%Y-%m-%dT%H:%M:%S%:z") d
@@ -72,11 +72,11 @@ form_pattern American month ending = month ++ (codes " %-d" ++ (ending ++ codes 
 
 -- a date in a form: for an ordinal the day is printed first, to know its ending
 abbrev pub ordinal : Text → Form → Datum → Answer
-ordinal month form d = dated (codes "%-d") d >>= λ day.
-    dated (form_pattern form month (day_ending day)) d
+ordinal month form d = date_by_pattern (codes "%-d") d >>= λ day.
+    date_by_pattern (form_pattern form month (day_ending day)) d
 
 abbrev pub in_form : Text → Form → Datum → Answer
-in_form month Plain d = dated (form_pattern Plain month []) d
+in_form month Plain d = date_by_pattern (form_pattern Plain month []) d
 in_form month British d = ordinal month British d
 in_form month American d = ordinal month American d
 

@@ -21,23 +21,23 @@ abbrev pub number_escape : ℕ → Text
 number_escape b = codes "\\u00" ++ (digit_glyph false (b / 16) ∷ digit_glyph false (b % 16) ∷ [])
 
 -- the escape of a marked byte
-abbrev pub escape_of : Marks → ℕ → Text
-escape_of Xml b =
+abbrev pub mark_escape : Marks → ℕ → Text
+mark_escape Xml b =
     if b == 34 then codes "&quot;" else (if b == 38 then codes "&amp;"
     else (if b == 39 then codes "&apos;"
     else (if b == 60 then codes "&lt;" else codes "&gt;")))
-escape_of Json b =
+mark_escape Json b =
     if b == 34 then codes "\\\"" else (if b == 92 then codes "\\\\" else (if b == 8 then codes "\\b"
     else (if b == 9 then codes "\\t"
     else (if b == 10 then codes "\\n" else (if b == 12 then codes "\\f"
     else (if b == 13 then codes "\\r" else number_escape b))))))
 
 -- a marked byte's escape, or the byte
-abbrev pub escaped_byte : Marks → ℕ → Text
-escaped_byte marks b = if is_marked marks b then escape_of marks b else b ∷ []
+abbrev pub byte_unless_marked : Marks → ℕ → Text
+byte_unless_marked marks b = if is_marked marks b then mark_escape marks b else b ∷ []
 
 abbrev pub escaped : Marks → Text → Text
-escaped marks = flat_map (escaped_byte marks)
+escaped marks = flat_map (byte_unless_marked marks)
 
 -- `xml_escape`
 abbrev pub xml_escape_answer : Datum → List Datum → Answer

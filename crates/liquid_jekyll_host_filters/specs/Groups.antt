@@ -8,11 +8,11 @@ use Rattle.liquid_model.specs.Texts.{Text, same_text}
 use Rattle.liquid_model.specs.View.{items_of}
 use Rattle.liquid_model.specs.declared.error.ErrorKind.TheVariants.{InvalidArgument, InvalidInput}
 use Rattle.liquid_filter_base.specs.Arguments.{Answer}
-use Rattle.liquid_jekyll_host_filters.specs.Properties.{property}
+use Rattle.liquid_jekyll_host_filters.specs.Properties.{dotted_property}
 
 -- the text that an item is grouped by
 abbrev pub group_name : Text → Datum → Text
-group_name name d = text_of (property name d)
+group_name name d = text_of (dotted_property name d)
 
 abbrev pub has_text : Text → List Text → Bool
 has_text t [] = false
@@ -32,13 +32,13 @@ abbrev pub items_named : Text → List Datum → Text → List Datum
 items_named name ds t = filter (λ d. same_text t (group_name name d)) ds
 
 -- a group as a map
-abbrev pub group_of : Text → List Datum → Datum
-group_of t ds =
+abbrev pub group_map : Text → List Datum → Datum
+group_map t ds =
     object (pair (codes "items") (array (items_of ds))
     (pair (codes "name") (text t) (pair (codes "size") (counted (length ds)) no_pairs)))
 
 abbrev pub groups : Text → List Datum → List Datum
-groups name ds = map (λ t. group_of t (items_named name ds t)) (names_after name [] ds)
+groups name ds = map (λ t. group_map t (items_named name ds t)) (names_after name [] ds)
 
 -- a map is refused, and any other input that is no list stays
 abbrev pub grouped : Datum → Datum → Answer

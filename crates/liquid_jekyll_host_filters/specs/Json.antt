@@ -8,8 +8,8 @@ use Rattle.liquid_jekyll_host_filters.specs.Escapes.{escaped}
 use Rattle.liquid_jekyll_host_filters.specs.declared.escapes.Marks.TheVariants.{Json}
 
 -- a text between quotes, with its escapes
-abbrev pub quoted : Text → Text
-quoted s = codes "\"" ++ (escaped Json s ++ codes "\"")
+abbrev pub json_quoted : Text → Text
+json_quoted s = codes "\"" ++ (escaped Json s ++ codes "\"")
 
 -- truth values and numbers are as Liquid writes them; before the first item or pair stands nothing,
 -- and before each other a comma
@@ -18,7 +18,7 @@ abbrev mutual
   json_text nil = codes "null"
   json_text (truth b) = text_of (truth b)
   json_text (number z) = text_of (number z)
-  json_text (text s) = quoted s
+  json_text (text s) = json_quoted s
   json_text (array ds) = codes "[" ++ (json_items [] ds ++ codes "]")
   json_text (object ms) = codes "{" ++ (json_pairs [] ms ++ codes "}")
 
@@ -29,7 +29,7 @@ abbrev mutual
   pub json_pairs : Text → Pairs → Text
   json_pairs before no_pairs = []
   json_pairs before (pair k d ms) =
-      before ++ (quoted k ++ (codes ":" ++ (json_text d ++ json_pairs (codes ",") ms)))
+      before ++ (json_quoted k ++ (codes ":" ++ (json_text d ++ json_pairs (codes ",") ms)))
 
 abbrev pub json_list : Items → Text
 json_list ds = json_text (array ds)

@@ -12,13 +12,13 @@ use Rattle.liquid_model.specs.declared.error.ErrorKind.TheVariants.{InvalidInput
 use Rattle.liquid_filter_base.specs.Arguments.{Answer}
 
 -- a sign at the front takes one byte
-abbrev pub sign_len : Text → ℕ
-sign_len [] = 0
-sign_len (b ∷ s) = if b == 45 || b == 43 then 1 else 0
+abbrev pub sign_bytes : Text → ℕ
+sign_bytes [] = 0
+sign_bytes (b ∷ s) = if b == 45 || b == 43 then 1 else 0
 
 -- the digits behind it
 abbrev pub digits_len : Text → ℕ
-digits_len s = prefix_len is_ascii_digit (drop (sign_len s) s)
+digits_len s = prefix_len is_ascii_digit (drop (sign_bytes s) s)
 
 abbrev pub number_or_range : Option ℤ → Result ℤ ErrorKind
 number_or_range (Some z) = Ok z
@@ -27,19 +27,19 @@ number_or_range None = Err NumberRange
 -- 0 where there are no digits, and refused beyond 64 bits
 abbrev pub front_number : Text → Result ℤ ErrorKind
 front_number s = if digits_len s == 0 then Ok (pos 0) else number_or_range
-    (whole_text (take (sign_len s + digits_len s) s))
+    (whole_text (take (sign_bytes s + digits_len s) s))
 
 -- behind white space
 abbrev pub leading_number : Text → Result ℤ ErrorKind
 leading_number s = front_number (drop (prefix_len is_ascii_whitespace s) s)
 
-abbrev pub integer_of : Datum → Result ℤ ErrorKind
-integer_of nil = Ok (pos 0)
-integer_of (truth b) = Ok (if b then pos 1 else pos 0)
-integer_of (number z) = Ok z
-integer_of (text s) = leading_number s
-integer_of d = Err InvalidInput
+abbrev pub jekyll_integer : Datum → Result ℤ ErrorKind
+jekyll_integer nil = Ok (pos 0)
+jekyll_integer (truth b) = Ok (if b then pos 1 else pos 0)
+jekyll_integer (number z) = Ok z
+jekyll_integer (text s) = leading_number s
+jekyll_integer d = Err InvalidInput
 
 -- `to_integer`
 abbrev pub to_integer_answer : Datum → List Datum → Answer
-to_integer_answer d args = integer_of d >>= λ z. Ok (number z)
+to_integer_answer d args = jekyll_integer d >>= λ z. Ok (number z)

@@ -8,49 +8,49 @@ use Rattle.liquid_model.specs.Texts.{Text, same_text}
 use Rattle.liquid_model.specs.View.{items_of}
 use Rattle.liquid_model.specs.declared.error.ErrorKind.TheVariants.{InvalidArgument}
 use Rattle.liquid_filter_base.specs.Arguments.{Answer}
-use Rattle.liquid_jekyll_host_filters.specs.Properties.{property}
+use Rattle.liquid_jekyll_host_filters.specs.Properties.{dotted_property}
 use Rattle.liquid_jekyll_host_filters.specs.declared.searches.Which.{Which}
 use Rattle.liquid_jekyll_host_filters.specs.declared.searches.Which.TheVariants.{All, First}
 
 -- a truth value, a number or a text, of this text
 abbrev pub item_says : Text → Datum → Bool
-item_says wanted (truth b) = same_text (text_of (truth b)) wanted
-item_says wanted (number z) = same_text (text_of (number z)) wanted
-item_says wanted (text s) = same_text s wanted
-item_says wanted d = false
+item_says search_matches (truth b) = same_text (text_of (truth b)) search_matches
+item_says search_matches (number z) = same_text (text_of (number z)) search_matches
+item_says search_matches (text s) = same_text s search_matches
+item_says search_matches d = false
 
 abbrev pub any_says : Text → List Datum → Bool
-any_says wanted [] = false
-any_says wanted (d ∷ ds) = item_says wanted d || any_says wanted ds
+any_says search_matches [] = false
+any_says search_matches (d ∷ ds) = item_says search_matches d || any_says search_matches ds
 
 -- the same, or a list with such an item
 abbrev pub value_says : Text → Datum → Bool
-value_says wanted (array ds) = any_says wanted (list_of ds)
-value_says wanted d = item_says wanted d
+value_says search_matches (array ds) = any_says search_matches (list_of ds)
+value_says search_matches d = item_says search_matches d
 
-abbrev pub is_nil : Datum → Bool
-is_nil nil = true
-is_nil d = false
+abbrev pub is_nil_datum : Datum → Bool
+is_nil_datum nil = true
+is_nil_datum d = false
 
 -- without a text nil is wanted
 abbrev pub meets : Option Text → Datum → Bool
-meets None d = is_nil d
-meets (Some wanted) d = value_says wanted d
+meets None d = is_nil_datum d
+meets (Some search_matches) d = value_says search_matches d
 
-abbrev pub is_wanted : Text → Option Text → Datum → Bool
-is_wanted name target d = meets target (property name d)
+abbrev pub is_search_match : Text → Option Text → Datum → Bool
+is_search_match name target d = meets target (dotted_property name d)
 
-abbrev pub wanted : Text → Option Text → List Datum → List Datum
-wanted name target ds = filter (is_wanted name target) ds
+abbrev pub search_matches : Text → Option Text → List Datum → List Datum
+search_matches name target ds = filter (is_search_match name target) ds
 
 abbrev pub first_wanted : Text → Option Text → List Datum → Datum
 first_wanted name target [] = nil
 first_wanted name target (d ∷ ds) =
-    if is_wanted name target d then d else first_wanted name target ds
+    if is_search_match name target d then d else first_wanted name target ds
 
 -- all wanted items, or the first of them
 abbrev pub taken : Which → Text → Option Text → List Datum → Datum
-taken All name target ds = array (items_of (wanted name target ds))
+taken All name target ds = array (items_of (search_matches name target ds))
 taken First name target ds = first_wanted name target ds
 
 -- the values of a map
@@ -77,16 +77,16 @@ target_text d = Some (text_of d)
 abbrev pub is_search : Datum → Datum → Bool
 is_search name target = truthy name && is_target target
 
-abbrev pub where_by : Which → Datum → Datum → Datum → Answer
-where_by which name target d = if is_search name target then searched which (text_of name)
+abbrev pub jekyll_where_by : Which → Datum → Datum → Datum → Answer
+jekyll_where_by which name target d = if is_search name target then searched which (text_of name)
     (target_text target) d else Ok d
 
 -- `where`
-abbrev pub where_answer : Datum → List Datum → Answer
-where_answer d (name ∷ target ∷ args) = where_by All name target d
-where_answer d args = Err InvalidArgument
+abbrev pub jekyll_where_answer : Datum → List Datum → Answer
+jekyll_where_answer d (name ∷ target ∷ args) = jekyll_where_by All name target d
+jekyll_where_answer d args = Err InvalidArgument
 
 -- `find`
 abbrev pub find_answer : Datum → List Datum → Answer
-find_answer d (name ∷ target ∷ args) = where_by First name target d
+find_answer d (name ∷ target ∷ args) = jekyll_where_by First name target d
 find_answer d args = Err InvalidArgument

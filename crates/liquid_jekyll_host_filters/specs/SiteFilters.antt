@@ -11,8 +11,8 @@ use Rattle.liquid_jekyll_host_filters.specs.Escapes.{xml_escape_answer}
 use Rattle.liquid_jekyll_host_filters.specs.Groups.{group_by_answer}
 use Rattle.liquid_jekyll_host_filters.specs.Json.{jsonify_answer}
 use Rattle.liquid_jekyll_host_filters.specs.Numbers.{to_integer_answer}
-use Rattle.liquid_jekyll_host_filters.specs.Searches.{find_answer, where_answer}
-use Rattle.liquid_jekyll_host_filters.specs.Sentence.{array_to_sentence_string_answer}
+use Rattle.liquid_jekyll_host_filters.specs.Searches.{find_answer, jekyll_where_answer}
+use Rattle.liquid_jekyll_host_filters.specs.Sentence.{jekyll_sentence_answer}
 use Rattle.liquid_jekyll_host_filters.specs.Urls.{absolute_url_answer, cgi_escape_answer}
 use Rattle.liquid_jekyll_host_filters.specs.Urls.{relative_url_answer, uri_escape_answer}
 use Rattle.liquid_jekyll_host_filters.specs.Words.{normalize_whitespace_answer}
@@ -94,7 +94,7 @@ filter_answer Jsonify address base = jsonify_answer
 filter_answer NormalizeWhitespace address base = normalize_whitespace_answer
 filter_answer NumberOfWords address base = number_of_words_answer
 filter_answer ToInteger address base = to_integer_answer
-filter_answer ArrayToSentenceString address base = array_to_sentence_string_answer
+filter_answer ArrayToSentenceString address base = jekyll_sentence_answer
 filter_answer GroupBy address base = group_by_answer
-filter_answer Where address base = where_answer
+filter_answer Where address base = jekyll_where_answer
 filter_answer Find address base = find_answer

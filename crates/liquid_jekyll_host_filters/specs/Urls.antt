@@ -39,10 +39,10 @@ begins_digits (high ∷ []) = false
 begins_digits (high ∷ low ∷ s) = is_ascii_hexdigit high && is_ascii_hexdigit low
 
 -- the byte that is read by itself: a space of a form, and the `%` of a URL
-abbrev pub mark : Escaping → ℕ
-mark Form = 32
-mark Path = 37
-mark Url = 37
+abbrev pub escape_mark : Escaping → ℕ
+escape_mark Form = 32
+escape_mark Path = 37
+escape_mark Url = 37
 
 -- what stands in its place, before the text after it: a `%` that begins an escape stays
 abbrev pub in_place : Escaping → Text → Text
@@ -52,21 +52,21 @@ in_place Url s = if begins_digits s then codes "%" else codes "%25"
 
 -- what a byte becomes, before the text after it
 abbrev pub url_byte : Escaping → ℕ → Text → Text
-url_byte how b s = if b == mark how then in_place how s else (if stays how b then b ∷
+url_byte how b s = if b == escape_mark how then in_place how s else (if stays how b then b ∷
     [] else percent_encode_byte b)
 
-abbrev pub url_escaped : Escaping → Text → Text
-url_escaped how [] = []
-url_escaped how (b ∷ s) = url_byte how b s ++ url_escaped how s
+abbrev pub url_escaped_as : Escaping → Text → Text
+url_escaped_as how [] = []
+url_escaped_as how (b ∷ s) = url_byte how b s ++ url_escaped_as how s
 
 -- `cgi_escape` and `uri_escape`
 abbrev pub cgi_escape_answer : Datum → List Datum → Answer
-cgi_escape_answer = of_text (url_escaped Form)
+cgi_escape_answer = of_text (url_escaped_as Form)
 
 -- nil stays
 abbrev pub uri_escape_answer : Datum → List Datum → Answer
 uri_escape_answer nil args = Ok nil
-uri_escape_answer d args = Ok (text (url_escaped Url (text_of d)))
+uri_escape_answer d args = Ok (text (url_escaped_as Url (text_of d)))
 
 -- ---- relative and absolute URLs
 
@@ -91,7 +91,7 @@ has_no_slash (b ∷ s) = not (b == 47)
 
 -- a path with its escapes, and with a slash before it unless it has one or is empty
 abbrev pub path_text : Text → Text
-path_text s = (if has_no_slash s then codes "/" else []) ++ url_escaped Path s
+path_text s = (if has_no_slash s then codes "/" else []) ++ url_escaped_as Path s
 
 abbrev pub without_slash : Text → Text
 without_slash [] = []

@@ -9,14 +9,15 @@ use Rattle.liquid_filter_base.specs.Joined.{joined}
 use Rattle.liquid_filter_base.specs.Text.{of_text}
 
 -- the words, with that which ends here before them, if there is one
-abbrev pub ended : Text → List Text → List Text
-ended [] ws = ws
-ended (b ∷ w) ws = (b ∷ w) ∷ ws
+abbrev pub with_finished_word : Text → List Text → List Text
+with_finished_word [] ws = ws
+with_finished_word (b ∷ w) ws = (b ∷ w) ∷ ws
 
 -- the words of a text, of which the first has begun with these bytes
 abbrev pub words_after : Text → Text → List Text
-words_after w [] = ended w []
-words_after w (b ∷ s) = if is_ascii_whitespace b then ended w (words_after [] s) else words_after
+words_after w [] = with_finished_word w []
+words_after w (b ∷ s) = if is_ascii_whitespace b then with_finished_word w (words_after [] s) else
+    words_after
     (w ++ b ∷ []) s
 
 abbrev pub words : Text → List Text

@@ -3,7 +3,7 @@ ghost use Rattle.std.specs.Prelude.{◌≡◌, ◌<◌, ◌≤◌, ◌∷◌, �
 ghost use Rattle.std.specs.Prelude.{slice_index, string_bytes, take, true};
 ghost use Rattle.std.specs.Fmt.{digit_glyph};
 ghost use Rattle.liquid_model.specs.Answer.{IsValueOrMemory};
-ghost use Rattle.liquid_jekyll_host_filters.specs.Escapes.{escape_of, escaped, is_marked};
+ghost use Rattle.liquid_jekyll_host_filters.specs.Escapes.{mark_escape, escaped, is_marked};
 ghost use Rattle.liquid_jekyll_host_filters.specs.Escapes.{number_escape};
 
 use liquid_core::Result;
@@ -80,7 +80,7 @@ fn is_marked(byte: u8, marks: Marks) -> bool
 /// Appends the escape of a marked byte.
 fn push_mark(out: &mut String, mark: u8, marks: Marks) -> Result<()>
     ensures { IsValueOrMemory (λ _. string_bytes out.new) result (string_bytes out.old ++
-        escape_of marks mark) }
+        mark_escape marks mark) }
 {
     match marks {
         Marks::Xml => Ok(out.push_str(xml_escape(mark))?),
@@ -89,7 +89,7 @@ fn push_mark(out: &mut String, mark: u8, marks: Marks) -> Result<()>
 }
 
 fn xml_escape(mark: u8) -> &'static str
-    ensures { result.now ≡ escape_of Marks.Xml mark }
+    ensures { result.now ≡ mark_escape Marks.Xml mark }
 {
     match mark {
         b'"' => "&quot;",
@@ -103,7 +103,7 @@ fn xml_escape(mark: u8) -> &'static str
 /// Appends the letter after a `\` that JSON has for the byte, or the number of the byte.
 fn push_json_mark(out: &mut String, mark: u8) -> Result<()>
     ensures { IsValueOrMemory (λ _. string_bytes out.new) result (string_bytes out.old ++
-        escape_of Marks.Json mark) }
+        mark_escape Marks.Json mark) }
 {
     match mark {
         b'"' => Ok(out.push_str("\\\"")?),

@@ -6,10 +6,11 @@ ghost use Rattle.liquid_model.specs.Answer.{Answers, IsValueOrMemory};
 ghost use Rattle.liquid_model.specs.Lists.{list_of};
 ghost use Rattle.liquid_model.specs.View.{view, items_view, pairs_view};
 ghost use Rattle.liquid_model.specs.declared.error.ErrorKind.TheVariants.{Memory};
-ghost use Rattle.liquid_jekyll_host_filters.specs.Groups.{group_by_answer, group_name, group_of};
+ghost use Rattle.liquid_jekyll_host_filters.specs.Groups.{group_by_answer, group_name, group_map};
 ghost use Rattle.liquid_jekyll_host_filters.specs.Groups.{grouped, groups, items_named};
 ghost use Rattle.liquid_jekyll_host_filters.specs.Groups.{names_after, noted};
-ghost use Rattle.liquid_jekyll_host_filters.specs.inside.Members.{AreSeen, member_at, members_of};
+ghost use Rattle.liquid_jekyll_host_filters.specs.inside.Members.{AreSeen, member_if_named};
+ghost use Rattle.liquid_jekyll_host_filters.specs.inside.Members.{members_of};
 ghost use Rattle.liquid_model.specs.Data.{put};
 
 use crate::properties::property;
@@ -87,7 +88,7 @@ fn members<'a>(alloc: Global, items: &'a [Value], name: &str) -> Result<Members<
 fn add_member<'a>(members: &mut Members<'a>, text: String, item: &'a Value) -> Result<()>
     ensures members { IfOk result (λ _. (q : List ℕ) → members_of members.new q ≡
         members_of members.old q ++
-        member_at (string_bytes text) (view item.now) q) }
+        member_if_named (string_bytes text) (view item.now) q) }
     ensures memory { IfErr result (λ e. e.kind ≡ Memory) }
 {
     members.entry(text)?.or_default().push(item)?;
@@ -140,7 +141,7 @@ fn group_name<'a>(alloc: Global, item: &'a Value, name: &str) -> Result<CowStr<'
 
 /// The group of a text as a map.
 fn group(alloc: Global, name: &str, members: &Members<'_>) -> Result<Value>
-    ensures { IsValueOrMemory view result (group_of name.now (members_of members.now name.now)) }
+    ensures { IsValueOrMemory view result (group_map name.now (members_of members.now name.now)) }
 {
     match members.get(name) {
         Some(found) => group_of(alloc, name, copied(alloc, found)?),
@@ -159,7 +160,7 @@ fn copied(alloc: Global, items: &[&Value]) -> Result<Vec<Value>>
 }
 
 fn group_of(alloc: Global, name: &str, items: Vec<Value>) -> Result<Value>
-    ensures { IsValueOrMemory view result (group_of name.now (map view items.items)) }
+    ensures { IsValueOrMemory view result (group_map name.now (map view items.items)) }
 {
     let size = i64::try_from(items.len()).unwrap_or(i64::MAX);
     let mut group = Object::new(alloc);

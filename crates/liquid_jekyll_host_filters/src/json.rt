@@ -3,7 +3,7 @@ ghost use Rattle.std.specs.Prelude.{◌++◌, nat_eq, string_bytes};
 ghost use Rattle.liquid_model.specs.Answer.{IsValueOrMemory};
 ghost use Rattle.liquid_model.specs.View.{view, items_view, pairs_view};
 ghost use Rattle.liquid_jekyll_host_filters.specs.Json.{json_list, json_map, json_text};
-ghost use Rattle.liquid_jekyll_host_filters.specs.Json.{jsonify_answer, quoted};
+ghost use Rattle.liquid_jekyll_host_filters.specs.Json.{jsonify_answer, json_quoted};
 
 use crate::escapes::{Marks, push_escaped};
 use liquid_core::{Filter, Object, Result, Value};
@@ -82,7 +82,7 @@ fn push_pairs(pairs: &Object, out: &mut String) -> Result<()>
 /// Appends the text as a string of JSON.
 fn push_quoted(out: &mut String, text: &str) -> Result<()>
     ensures { IsValueOrMemory (λ _. string_bytes out.new) result (string_bytes out.old ++
-        quoted text.now) }
+        json_quoted text.now) }
 {
     out.push_str("\"")?;
     push_escaped(out, text, Marks::Json)?;

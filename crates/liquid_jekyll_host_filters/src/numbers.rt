@@ -4,8 +4,8 @@ ghost use Rattle.std.specs.List.{prefix_len};
 ghost use Rattle.std.specs.Prelude.{◌≡◌, ◌≤◌, length, nat_eq};
 ghost use Rattle.liquid_model.specs.Answer.{Answers};
 ghost use Rattle.liquid_model.specs.View.{view};
-ghost use Rattle.liquid_jekyll_host_filters.specs.Numbers.{front_number, integer_of};
-ghost use Rattle.liquid_jekyll_host_filters.specs.Numbers.{leading_number, sign_len};
+ghost use Rattle.liquid_jekyll_host_filters.specs.Numbers.{front_number, jekyll_integer};
+ghost use Rattle.liquid_jekyll_host_filters.specs.Numbers.{leading_number, sign_bytes};
 ghost use Rattle.liquid_jekyll_host_filters.specs.Numbers.{to_integer_answer};
 
 use liquid_core::{Error, ErrorKind, Filter, Result, Value, whole_of};
@@ -33,7 +33,7 @@ impl Filter for ToInteger {
 }
 
 fn integer_of(alloc: Global, input: &Value) -> Result<i64>
-    ensures { Answers (λ n. n) result (integer_of (view input.now)) }
+    ensures { Answers (λ n. n) result (jekyll_integer (view input.now)) }
 {
     match input {
         Value::Nil => Ok(0),
@@ -75,7 +75,7 @@ fn front_number(alloc: Global, text: &str) -> Result<i64>
 
 /// How many bytes a sign takes at the front: one or none.
 fn sign_len(text: &[u8]) -> usize
-    ensures value { result ≡ sign_len text.now }
+    ensures value { result ≡ sign_bytes text.now }
     ensures within { result ≤ length text.now }
     ensures small { result ≤ 1 }
 {

@@ -1,7 +1,8 @@
 //! Escapes of bytes that can't stand in a URL.
 ghost use Rattle.std.specs.Prelude.{◌≡◌, ◌++◌, string_bytes};
 ghost use Rattle.liquid_model.specs.Answer.{IsValueOrMemory};
-ghost use Rattle.liquid_jekyll_host_filters.specs.Urls.{begins_digits, in_place, mark, url_escaped};
+ghost use Rattle.liquid_jekyll_host_filters.specs.Urls.{begins_digits, in_place, escape_mark};
+ghost use Rattle.liquid_jekyll_host_filters.specs.Urls.{url_escaped_as};
 ghost use Rattle.liquid_jekyll_host_filters.specs.inside.Sets.{set_of};
 
 use liquid_core::Result;
@@ -53,7 +54,7 @@ pub(crate) enum Escaping {
 /// Appends the text with its escapes. Where there is no memory, a beginning of it may stand there.
 pub(crate) fn push_url(out: &mut String, text: &str, how: Escaping) -> Result<()>
     ensures { IsValueOrMemory (λ _. string_bytes out.new) result (string_bytes out.old ++
-        url_escaped how text.now) }
+        url_escaped_as how text.now) }
 {
     let mut rest = text;
     while let Some((before, after)) = rest.split_once(mark(how)) {
@@ -78,7 +79,7 @@ fn set(how: Escaping) -> AsciiSet
 
 /// The character that is read by itself.
 fn mark(how: Escaping) -> char
-    ensures { result ≡ mark how }
+    ensures { result ≡ escape_mark how }
 {
     match how {
         Escaping::Form => ' ',

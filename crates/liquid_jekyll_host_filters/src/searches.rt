@@ -3,11 +3,13 @@ ghost use Rattle.std.specs.Prelude.{◌≡◌, map, nat_eq, option_map};
 ghost use Rattle.liquid_model.specs.Answer.{Answers, IsValueOrMemory};
 ghost use Rattle.liquid_model.specs.Lists.{list_of};
 ghost use Rattle.liquid_model.specs.View.{view, items_view, pairs_view};
-ghost use Rattle.liquid_jekyll_host_filters.specs.Properties.{or_nil};
+ghost use Rattle.liquid_jekyll_host_filters.specs.Properties.{found_or_nil};
 ghost use Rattle.liquid_jekyll_host_filters.specs.Searches.{any_says, find_answer, first_wanted};
-ghost use Rattle.liquid_jekyll_host_filters.specs.Searches.{is_search, is_wanted, item_says, meets};
+ghost use Rattle.liquid_jekyll_host_filters.specs.Searches.{is_search, is_search_match, item_says};
+ghost use Rattle.liquid_jekyll_host_filters.specs.Searches.{meets};
 ghost use Rattle.liquid_jekyll_host_filters.specs.Searches.{searched, taken, value_says, values};
-ghost use Rattle.liquid_jekyll_host_filters.specs.Searches.{wanted, where_answer, where_by};
+ghost use Rattle.liquid_jekyll_host_filters.specs.Searches.{search_matches, jekyll_where_answer};
+ghost use Rattle.liquid_jekyll_host_filters.specs.Searches.{jekyll_where_by};
 
 use crate::properties::property;
 use itoa::Buffer;
@@ -26,7 +28,7 @@ pub struct Where;
 impl Filter for Where {
     ghost counts = { λ _ n. nat_eq n 2 };
 
-    ghost answer = { λ _. where_answer };
+    ghost answer = { λ _. jekyll_where_answer };
 
     fn accepts(&self, count: usize) -> bool {
         count == 2
@@ -69,7 +71,7 @@ fn where_by(
     target: &Value,
     which: Which,
 ) -> Result<Value>
-    ensures { Answers view result (where_by which (view name.now) (view target.now)
+    ensures { Answers view result (jekyll_where_by which (view name.now) (view target.now)
         (view input.now)) }
 {
     if !is_search(name, target) {
@@ -156,7 +158,7 @@ fn taken(
 
 fn wanted(alloc: Global, items: &[Value], name: &str, target: Option<&str>) -> Result<Vec<Value>>
     ensures { IsValueOrMemory (λ v. map view v.items) result
-        (wanted name.now (option_map (λ t. t.now) target.entry)
+        (search_matches name.now (option_map (λ t. t.now) target.entry)
         (list_of (items_view items.now))) }
 {
     let mut kept = Vec::new(alloc);
@@ -182,7 +184,8 @@ fn first_wanted(alloc: Global, items: &[Value], name: &str, target: Option<&str>
 }
 
 fn is_wanted(item: &Value, name: &str, target: Option<&str>) -> bool
-    ensures { result ≡ is_wanted name.now (option_map (λ t. t.now) target.entry) (view item.now) }
+    ensures { result ≡ is_search_match name.now (option_map (λ t. t.now) target.entry)
+        (view item.now) }
 {
     meets(property(item, name), target)
 }
@@ -190,7 +193,7 @@ fn is_wanted(item: &Value, name: &str, target: Option<&str>) -> bool
 /// Whether what was found meets the target.
 fn meets(found: Option<&Value>, target: Option<&str>) -> bool
     ensures { result ≡ meets (option_map (λ t. t.now) target.entry)
-        (or_nil (option_map (λ v. view v.now) found.entry)) }
+        (found_or_nil (option_map (λ v. view v.now) found.entry)) }
 {
     match (found, target) {
         (Some(value), Some(text)) => value_says(value, text),

@@ -4,9 +4,10 @@ ghost use Rattle.liquid_model.specs.Answer.{Answers, IsValueOrMemory};
 ghost use Rattle.liquid_model.specs.Data.{text_of};
 ghost use Rattle.liquid_model.specs.Lists.{list_of};
 ghost use Rattle.liquid_model.specs.View.{view, items_view};
-ghost use Rattle.liquid_jekyll_host_filters.specs.Sentence.{array_to_sentence_string_answer};
-ghost use Rattle.liquid_jekyll_host_filters.specs.Sentence.{listed, next_text, sentence};
-ghost use Rattle.liquid_jekyll_host_filters.specs.Sentence.{sentence_by, two};
+ghost use Rattle.liquid_jekyll_host_filters.specs.Sentence.{jekyll_sentence_answer};
+ghost use Rattle.liquid_jekyll_host_filters.specs.Sentence.{with_commas, sentence_part};
+ghost use Rattle.liquid_jekyll_host_filters.specs.Sentence.{jekyll_sentence};
+ghost use Rattle.liquid_jekyll_host_filters.specs.Sentence.{jekyll_sentence_with, two_texts_joined};
 
 use liquid_core::{Filter, Result, Value};
 use liquid_filter_base::{invalid_input, text_of};
@@ -20,7 +21,7 @@ pub struct ArrayToSentenceString;
 impl Filter for ArrayToSentenceString {
     ghost counts = { λ _ n. nat_le n 1 };
 
-    ghost answer = { λ _. array_to_sentence_string_answer };
+    ghost answer = { λ _. jekyll_sentence_answer };
 
     fn accepts(&self, count: usize) -> bool {
         count <= 1
@@ -36,7 +37,7 @@ impl Filter for ArrayToSentenceString {
 }
 
 fn sentence_of(alloc: Global, input: &Value, connector: &str) -> Result<Value>
-    ensures { Answers view result (sentence_by connector.now (view input.now)) }
+    ensures { Answers view result (jekyll_sentence_with connector.now (view input.now)) }
 {
     match input {
         Value::Array(items) => Ok(Value::Text(sentence(alloc, items, connector)?)),
@@ -46,7 +47,7 @@ fn sentence_of(alloc: Global, input: &Value, connector: &str) -> Result<Value>
 
 fn sentence(alloc: Global, items: &[Value], connector: &str) -> Result<String>
     ensures { IsValueOrMemory (λ s. string_bytes s) result
-        (sentence connector.now (map text_of (list_of (items_view items.now)))) }
+        (jekyll_sentence connector.now (map text_of (list_of (items_view items.now)))) }
 {
     if items.len() == 2 {
         two(alloc, &items[0], &items[1], connector)
@@ -58,7 +59,7 @@ fn sentence(alloc: Global, items: &[Value], connector: &str) -> Result<String>
 /// Two items with the connector between them.
 fn two(alloc: Global, first: &Value, second: &Value, connector: &str) -> Result<String>
     ensures { IsValueOrMemory (λ s. string_bytes s) result
-        (two connector.now (text_of (view first.now))
+        (two_texts_joined connector.now (text_of (view first.now))
         (text_of (view second.now))) }
 {
     let mut out = String::new(alloc);
@@ -73,7 +74,7 @@ fn two(alloc: Global, first: &Value, second: &Value, connector: &str) -> Result<
 /// The items with commas, and the connector before the last.
 fn listed(alloc: Global, items: &[Value], connector: &str) -> Result<String>
     ensures { IsValueOrMemory (λ s. string_bytes s) result
-        (listed connector.now (map text_of (list_of (items_view items.now)))) }
+        (with_commas connector.now (map text_of (list_of (items_view items.now)))) }
 {
     let mut out = String::new(alloc);
     let Some((first, rest)) = items.split_first() else {
@@ -91,7 +92,7 @@ fn listed(alloc: Global, items: &[Value], connector: &str) -> Result<String>
 /// Appends an item that isn't the first.
 fn push_next(out: &mut String, item: &Value, connector: &str, is_last: bool) -> Result<()>
     ensures { IsValueOrMemory (λ _. string_bytes out.new) result (string_bytes out.old ++
-        next_text connector.now is_last (text_of (view item.now))) }
+        sentence_part connector.now is_last (text_of (view item.now))) }
 {
     out.push_str(", ")?;
     if is_last {

@@ -5,7 +5,7 @@ use Rattle.liquid_model.specs.Fallible.{◌>>=◌}
 use Rattle.liquid_model.specs.Texts.{Text}
 use Rattle.liquid_model.specs.declared.error.ErrorKind.{ErrorKind}
 use Rattle.liquid_shopify_host_filters.specs.Laws.{SumGoesOn}
-use Rattle.liquid_shopify_host_filters.specs.Sums.{added, term, total}
+use Rattle.liquid_shopify_host_filters.specs.Sums.{sum_with_term, term, total}
 
 abbrev Sum : Type 0
 Sum = Result ℤ ErrorKind
@@ -19,4 +19,4 @@ step name ds es (Err k) h = refl
 
 pub goes_on : SumGoesOn
 goes_on name z [] es = refl
-goes_on name z (d ∷ ds) es = step name ds es (added z (term name d)) (λ t. goes_on name t ds es)
+goes_on name z (d ∷ ds) es = step name ds es (sum_with_term z (term name d)) (λ t. goes_on name t ds es)

@@ -10,7 +10,7 @@ use Rattle.liquid_model.specs.Data.{text}
 use Rattle.liquid_model.specs.Texts.{Text}
 use Rattle.liquid_filter_base.specs.Arguments.{Answer}
 use Rattle.liquid_shopify_host_filters.specs.Laws.{HandleTwiceIsOnce, SquishTwiceIsOnce}
-use Rattle.liquid_shopify_host_filters.specs.Words.{after_at, is_left_out, is_space, is_word, place_of, separator, shaped, shown_at, worded, worded_text}
+use Rattle.liquid_shopify_host_filters.specs.Words.{after_at, is_left_out, is_space, is_word_character, character_role, separator, shaped, shown_at, worded, worded_text}
 use Rattle.liquid_shopify_host_filters.specs.declared.words.Place.{Place}
 use Rattle.liquid_shopify_host_filters.specs.declared.words.Place.TheVariants.{Word, Between, Nowhere}
 use Rattle.liquid_shopify_host_filters.specs.declared.words.State.{State}
@@ -27,18 +27,18 @@ again Past = Inside
 -- a wording with a separator of one character, whose words stay as they are
 record Stays (w : Wording) (mark : ℕ) : Type 0 where
   parts : separator w ≡ mark ∷ []
-  mark_between : place_of w mark ≡ Between
+  mark_between : character_role w mark ≡ Between
   mark_scalar : scalar mark ≡ true
-  word_stays : (state : State) (c : ℕ) → place_of w c ≡ Word → place_of w (shaped w state c) ≡ Word
+  word_stays : (state : State) (c : ℕ) → character_role w c ≡ Word → character_role w (shaped w state c) ≡ Word
   shape_stays : (s t : State) (c : ℕ) → shaped w s (shaped w t c) ≡ shaped w t c
-  shape_scalar : (state : State) (c : ℕ) → place_of w c ≡ Word → scalar c ≡ true → scalar (shaped w state c) ≡ true
+  shape_scalar : (state : State) (c : ℕ) → character_role w c ≡ Word → scalar c ≡ true → scalar (shaped w state c) ≡ true
 
 module _ (w : Wording) (mark : ℕ) (h : Stays w mark) where
   abbrev Reads : State → List ℕ → Type 0
   Reads state cs = worded w (again state) (worded w state cs) ≡ worded w state cs
 
   -- a word's character behind a separator is read as both
-  past : (c : ℕ) (cs : List ℕ) → place_of w c ≡ Word → Reads Inside cs
+  past : (c : ℕ) (cs : List ℕ) → character_role w c ≡ Word → Reads Inside cs
       → worded w Inside (shown_at Word w Past c ++ worded w Inside cs) ≡ shown_at Word w Past c ++ worded w Inside cs
   past c cs e r =
       let d = shaped w Past c in
@@ -49,7 +49,7 @@ module _ (w : Wording) (mark : ℕ) (h : Stays w mark) where
       ∙ ap (λ n. (separator w ++ (n ∷ [])) ++ worded w Inside rest) (h.shape_stays Past Past c)
       ∙ ap (λ t. (separator w ++ (d ∷ [])) ++ t) r
 
-  stays_by : (p : Place) (state : State) (c : ℕ) (cs : List ℕ) → place_of w c ≡ p → ((st : State) → Reads st cs)
+  stays_by : (p : Place) (state : State) (c : ℕ) (cs : List ℕ) → character_role w c ≡ p → ((st : State) → Reads st cs)
       → worded w (again state) (shown_at p w state c ++ worded w (after_at p state) cs)
       ≡ shown_at p w state c ++ worded w (after_at p state) cs
   stays_by Nowhere state c cs e r = r state
@@ -70,9 +70,9 @@ module _ (w : Wording) (mark : ℕ) (h : Stays w mark) where
 
   stays : (cs : List ℕ) (state : State) → Reads state cs
   stays [] state = refl
-  stays (c ∷ cs) state = stays_by (place_of w c) state c cs refl (λ st. stays cs st)
+  stays (c ∷ cs) state = stays_by (character_role w c) state c cs refl (λ st. stays cs st)
 
-  scalars_by : (p : Place) (state : State) (c : ℕ) (rest : List ℕ) → place_of w c ≡ p → scalar c ≡ true
+  scalars_by : (p : Place) (state : State) (c : ℕ) (rest : List ℕ) → character_role w c ≡ p → scalar c ≡ true
       → all_scalars rest ≡ true → all_scalars (shown_at p w state c ++ rest) ≡ true
   scalars_by Nowhere state c rest e k r = r
   scalars_by Between state c rest e k r = r
@@ -88,8 +88,8 @@ module _ (w : Wording) (mark : ℕ) (h : Stays w mark) where
   scalars [] state k = refl
   scalars (c ∷ cs) state k =
       let p = and_parts (scalar c) (all_scalars cs) k in
-      scalars_by (place_of w c) state c (worded w (after_at (place_of w c) state) cs) refl p.0
-      (scalars cs (after_at (place_of w c) state) p.1)
+      scalars_by (character_role w c) state c (worded w (after_at (character_role w c) state) cs) refl p.0
+      (scalars cs (after_at (character_role w c) state) p.1)
 
   twice : (s : List ℕ) → IsUtf8 s → worded_text w (worded_text w s) ≡ worded_text w s
   twice s u =
@@ -103,19 +103,19 @@ found_word true l e = refl
 found_word false true e = cc
 found_word false false e = cc
 
-is_place : (c : ℕ) → place_of Handle c ≡ Word → is_word c ≡ true
-is_place c e = found_word (is_word c) (is_left_out c) e
+is_place : (c : ℕ) → character_role Handle c ≡ Word → is_word_character c ≡ true
+is_place c e = found_word (is_word_character c) (is_left_out c) e
 
-lower_word : (c : ℕ) → is_word c ≡ true → is_word (to_ascii_lowercase c) ≡ true
+lower_word : (c : ℕ) → is_word_character c ≡ true → is_word_character (to_ascii_lowercase c) ≡ true
 lower_word c e = grind (arith, nat_tests)
 
 lower_twice : (c : ℕ) → to_ascii_lowercase (to_ascii_lowercase c) ≡ to_ascii_lowercase c
 lower_twice c = grind (arith, nat_tests)
 
-lower_low : (c : ℕ) → is_word c ≡ true → to_ascii_lowercase c < 128
+lower_low : (c : ℕ) → is_word_character c ≡ true → to_ascii_lowercase c < 128
 lower_low c e = grind (arith, nat_tests)
 
-of_word : (c : ℕ) → is_word c ≡ true → place_of Handle c ≡ Word
+of_word : (c : ℕ) → is_word_character c ≡ true → character_role Handle c ≡ Word
 of_word c e = ap (λ b. let p : Place = if b then Word else (if is_left_out c then Nowhere else Between) in p) e
 
 handle_stays : Stays Handle 45

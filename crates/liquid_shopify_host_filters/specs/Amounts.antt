@@ -12,18 +12,19 @@ abbrev pub separator_at : Text → ℕ → Text
 separator_at separator n = if nat_lt 0 n && (n % 3 == 0) then separator else []
 
 -- digits with a separator between groups of three, counted from the last
-abbrev pub grouped : Text → Text → Text
-grouped separator [] = []
-grouped separator (d ∷ ds) = d ∷ (separator_at separator (length ds) ++ grouped separator ds)
+abbrev pub digit_groups : Text → Text → Text
+digit_groups separator [] = []
+digit_groups separator (d ∷ ds) = d ∷ (separator_at separator (length ds)
+    ++ digit_groups separator ds)
 
-abbrev pub two_digits : ℕ → Text
-two_digits n = decimal (n / 10) ++ decimal (n % 10)
+abbrev pub two_decimal_digits : ℕ → Text
+two_decimal_digits n = decimal (n / 10) ++ decimal (n % 10)
 
 -- the sign of what is written: none where that is rounded to 0
-abbrev pub sign : Option Text → ℤ → Text
-sign p (pos n) = []
-sign (Some p) (negsuc n) = codes "-"
-sign None (negsuc n) = if nat_lt n 49 then [] else codes "-"
+abbrev pub amount_sign : Option Text → ℤ → Text
+amount_sign p (pos n) = []
+amount_sign (Some p) (negsuc n) = codes "-"
+amount_sign None (negsuc n) = if nat_lt n 49 then [] else codes "-"
 
 -- the units of n cents: rounded, half of one up, where no cents are written
 abbrev pub units_of : Option Text → ℕ → ℕ
@@ -32,23 +33,24 @@ units_of None n = (n + 50) / 100
 
 -- the cents with the point before them, where they are written
 abbrev pub cents_text : Option Text → ℕ → Text
-cents_text (Some p) n = p ++ two_digits n
+cents_text (Some p) n = p ++ two_decimal_digits n
 cents_text None n = []
 
 -- the units of n cents in a style
 abbrev pub units_text : MoneyStyle → ℕ → Text
-units_text style n = grouped (thousands style) (decimal (units_of (point style) n))
+units_text style n = digit_groups (thousands style) (decimal (units_of (point style) n))
 
 -- an amount of cents: sign, units and cents
 abbrev pub amount_of : MoneyStyle → ℤ → Text
 amount_of style z =
-    (sign (point style) z ++ units_text style (unsigned_abs z))
+    (amount_sign (point style) z ++ units_text style (unsigned_abs z))
     ++ cents_text (point style) (unsigned_abs z % 100)
 
-abbrev pub minus : ℤ → Text
-minus (pos n) = []
-minus (negsuc n) = codes "-"
+abbrev pub minus_sign : ℤ → Text
+minus_sign (pos n) = []
+minus_sign (negsuc n) = codes "-"
 
 -- the whole units of an amount of cents
 abbrev pub whole_amount : MoneyStyle → ℤ → Text
-whole_amount style z = minus z ++ grouped (thousands style) (decimal (unsigned_abs z / 100))
+whole_amount style z = minus_sign z ++ digit_groups (thousands style)
+    (decimal (unsigned_abs z / 100))

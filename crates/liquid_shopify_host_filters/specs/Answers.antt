@@ -14,7 +14,8 @@ use Rattle.liquid_shopify_host_filters.specs.Html.{stylesheet_tag_answer}
 use Rattle.liquid_shopify_host_filters.specs.Images.{product_img_url_answer}
 use Rattle.liquid_shopify_host_filters.specs.JsonTexts.{json_answer}
 use Rattle.liquid_shopify_host_filters.specs.Last.{remove_last_answer, replace_last_answer}
-use Rattle.liquid_shopify_host_filters.specs.Lookups.{find_answer, find_index_answer, has_answer}
+use Rattle.liquid_shopify_host_filters.specs.Lookups.{shopify_find_answer, find_index_answer}
+use Rattle.liquid_shopify_host_filters.specs.Lookups.{has_answer}
 use Rattle.liquid_shopify_host_filters.specs.Lookups.{reject_answer}
 use Rattle.liquid_shopify_host_filters.specs.Money.{amount_answer, money_answer, trimmed_answer}
 use Rattle.liquid_shopify_host_filters.specs.Sums.{sum_answer}
@@ -75,51 +76,51 @@ abbrev pub collection_of : Shop → Text
 collection_of shop = string_bytes shop.collection
 
 -- a filter's answer in a shop, to an input and arguments
-abbrev pub answer_of : ShopifyKind → Shop → Datum → List Datum → Answer
-answer_of AssetUrl shop d args = prefixed_answer (string_bytes shop.assets) d
-answer_of Base64Decode shop d args = decode_answer d
-answer_of Base64Encode shop d args = encode_answer d
-answer_of Camelize shop d args = camelize_answer d
-answer_of Count shop d args = count_answer d
-answer_of Find shop d args = find_answer d args
-answer_of FindIndex shop d args = find_index_answer d args
-answer_of FormatAsMoney shop d args = money_answer shop.money d
-answer_of GlobalAssetUrl shop d args = prefixed_answer (string_bytes shop.global_assets) d
-answer_of Handle shop d args = handle_answer d
-answer_of Handleize shop d args = handle_answer d
-answer_of Has shop d args = has_answer d args
-answer_of HighlightActiveTag shop d args = highlight_answer (tags_of shop) d args
-answer_of HmacSha256 shop d args = hmac_sha256_answer d args
-answer_of ImgTag shop d args = img_tag_answer d args
-answer_of Json shop d args = json_answer d
-answer_of LinkTo shop d args = link_to_answer d args
-answer_of LinkToAddTag shop d args =
+abbrev pub shopify_answer : ShopifyKind → Shop → Datum → List Datum → Answer
+shopify_answer AssetUrl shop d args = prefixed_answer (string_bytes shop.assets) d
+shopify_answer Base64Decode shop d args = decode_answer d
+shopify_answer Base64Encode shop d args = encode_answer d
+shopify_answer Camelize shop d args = camelize_answer d
+shopify_answer Count shop d args = count_answer d
+shopify_answer Find shop d args = shopify_find_answer d args
+shopify_answer FindIndex shop d args = find_index_answer d args
+shopify_answer FormatAsMoney shop d args = money_answer shop.money d
+shopify_answer GlobalAssetUrl shop d args = prefixed_answer (string_bytes shop.global_assets) d
+shopify_answer Handle shop d args = handle_answer d
+shopify_answer Handleize shop d args = handle_answer d
+shopify_answer Has shop d args = has_answer d args
+shopify_answer HighlightActiveTag shop d args = highlight_answer (tags_of shop) d args
+shopify_answer HmacSha256 shop d args = hmac_sha256_answer d args
+shopify_answer ImgTag shop d args = img_tag_answer d args
+shopify_answer Json shop d args = json_answer d
+shopify_answer LinkTo shop d args = link_to_answer d args
+shopify_answer LinkToAddTag shop d args =
     link_to_add_tag_answer (collection_of shop) (tags_of shop) d args
-answer_of LinkToRemoveTag shop d args = link_to_remove_tag_answer (collection_of shop)
+shopify_answer LinkToRemoveTag shop d args = link_to_remove_tag_answer (collection_of shop)
     (tags_of shop) d args
-answer_of LinkToTag shop d args = link_to_tag_answer (collection_of shop) d args
-answer_of LinkToType shop d args = link_to_collection_answer d
-answer_of LinkToVendor shop d args = link_to_collection_answer d
-answer_of Md5 shop d args = md5_answer d
-answer_of Money shop d args = money_answer shop.money d
-answer_of MoneyWithCurrency shop d args = money_answer shop.money_with_currency d
-answer_of MoneyWithoutCurrency shop d args = amount_answer shop.money d
-answer_of MoneyWithoutTrailingZeros shop d args = trimmed_answer shop.money d
-answer_of Paragraph shop d args = paragraph_answer d
-answer_of Prettyprint shop d args = prettyprint_answer d
-answer_of Price shop d args = price_answer d
-answer_of ProductImgUrl shop d args = product_img_url_answer (string_bytes shop.images) d args
-answer_of Reject shop d args = reject_answer d args
-answer_of RemoveLast shop d args = remove_last_answer d args
-answer_of ReplaceLast shop d args = replace_last_answer d args
-answer_of ScriptTag shop d args = script_tag_answer d
-answer_of Sha1 shop d args = sha1_answer d
-answer_of Sha256 shop d args = sha256_answer d
-answer_of ShopifyAssetUrl shop d args = prefixed_answer (string_bytes shop.shopify_assets) d
-answer_of Squish shop d args = squish_answer d
-answer_of StylesheetTag shop d args = stylesheet_tag_answer d args
-answer_of Sum shop d args = sum_answer d args
-answer_of UrlForType shop d args = url_for_answer d
-answer_of UrlForVendor shop d args = url_for_answer d
-answer_of WeightWithUnit shop d args = weight_answer d
-answer_of Within shop d args = within_answer d args
+shopify_answer LinkToTag shop d args = link_to_tag_answer (collection_of shop) d args
+shopify_answer LinkToType shop d args = link_to_collection_answer d
+shopify_answer LinkToVendor shop d args = link_to_collection_answer d
+shopify_answer Md5 shop d args = md5_answer d
+shopify_answer Money shop d args = money_answer shop.money d
+shopify_answer MoneyWithCurrency shop d args = money_answer shop.money_with_currency d
+shopify_answer MoneyWithoutCurrency shop d args = amount_answer shop.money d
+shopify_answer MoneyWithoutTrailingZeros shop d args = trimmed_answer shop.money d
+shopify_answer Paragraph shop d args = paragraph_answer d
+shopify_answer Prettyprint shop d args = prettyprint_answer d
+shopify_answer Price shop d args = price_answer d
+shopify_answer ProductImgUrl shop d args = product_img_url_answer (string_bytes shop.images) d args
+shopify_answer Reject shop d args = reject_answer d args
+shopify_answer RemoveLast shop d args = remove_last_answer d args
+shopify_answer ReplaceLast shop d args = replace_last_answer d args
+shopify_answer ScriptTag shop d args = script_tag_answer d
+shopify_answer Sha1 shop d args = sha1_answer d
+shopify_answer Sha256 shop d args = sha256_answer d
+shopify_answer ShopifyAssetUrl shop d args = prefixed_answer (string_bytes shop.shopify_assets) d
+shopify_answer Squish shop d args = squish_answer d
+shopify_answer StylesheetTag shop d args = stylesheet_tag_answer d args
+shopify_answer Sum shop d args = sum_answer d args
+shopify_answer UrlForType shop d args = url_for_answer d
+shopify_answer UrlForVendor shop d args = url_for_answer d
+shopify_answer WeightWithUnit shop d args = weight_answer d
+shopify_answer Within shop d args = within_answer d args

@@ -12,21 +12,21 @@ use Rattle.liquid_model.specs.Texts.{Text}
 use Rattle.liquid_model.specs.Whole.{whole}
 use Rattle.liquid_model.specs.declared.error.ErrorKind.TheVariants.{InvalidInput}
 use Rattle.liquid_filter_base.specs.Arguments.{Answer}
-use Rattle.liquid_shopify_host_filters.specs.Amounts.{minus}
+use Rattle.liquid_shopify_host_filters.specs.Amounts.{minus_sign}
 
 -- ---- `count`: the items of a list, the pairs of a map
 
-abbrev pub count_of : Datum → Option ℕ
-count_of (array ds) = Some (items_len ds)
-count_of (object ps) = Some (pairs_len ps)
-count_of _ = None
+abbrev pub countable_members : Datum → Option ℕ
+countable_members (array ds) = Some (items_len ds)
+countable_members (object ps) = Some (pairs_len ps)
+countable_members _ = None
 
 abbrev pub counted_or_refused : Option ℕ → Answer
 counted_or_refused (Some n) = Ok (counted n)
 counted_or_refused None = Err InvalidInput
 
 abbrev pub count_answer : Datum → Answer
-count_answer d = counted_or_refused (count_of d)
+count_answer d = counted_or_refused (countable_members d)
 
 -- ---- `paragraph`
 
@@ -40,7 +40,7 @@ paragraph_answer d = Ok (text (paragraph (text_of d)))
 
 -- a sign stands where there is a whole dollar
 abbrev pub price_sign : ℤ → Text
-price_sign z = if nat_lt (unsigned_abs z) 100 then [] else minus z
+price_sign z = if nat_lt (unsigned_abs z) 100 then [] else minus_sign z
 
 -- a number with a zero before a digit alone
 abbrev pub padded : ℕ → Text
@@ -68,15 +68,15 @@ abbrev pub has_more : ℕ → List ℕ → Bool
 has_more c cs = c == 42 && has_star cs
 
 -- what is written for a star, by whether one was before it in its line and one follows
-abbrev pub mark : Bool → Bool → Text
-mark false true = codes "<b>"
-mark true false = codes "</b>"
-mark false false = codes "*"
-mark true true = codes "*"
+abbrev pub bold_tag : Bool → Bool → Text
+bold_tag false true = codes "<b>"
+bold_tag true false = codes "</b>"
+bold_tag false false = codes "*"
+bold_tag true true = codes "*"
 
 -- what is written for a character
-abbrev pub shown : Bool → Bool → ℕ → List ℕ
-shown is_open more c = if c == 42 then mark is_open more else c ∷ []
+abbrev pub emphasized : Bool → Bool → ℕ → List ℕ
+emphasized is_open more c = if c == 42 then bold_tag is_open more else c ∷ []
 
 -- whether a bold text is begun after a character
 abbrev pub is_open_after : Bool → Bool → ℕ → Bool
@@ -85,7 +85,7 @@ is_open_after is_open more c = if c == 42 then more else is_open
 abbrev pub bold : Bool → List ℕ → List ℕ
 bold is_open [] = []
 bold is_open (c ∷ cs) =
-    shown is_open (has_more c cs) c ++ bold (is_open_after is_open (has_more c cs) c) cs
+    emphasized is_open (has_more c cs) c ++ bold (is_open_after is_open (has_more c cs) c) cs
 
 abbrev pub bold_text : Text → Text
 bold_text s = encode_utf8_all (bold false (chars s))

@@ -19,18 +19,18 @@ leading hyphens [] = []
 leading hyphens (b ∷ s) = if is_part hyphens b then b ∷ leading hyphens s else []
 
 -- a name and an extension
-abbrev pub Parts : Type 0
-Parts = Text × Text
+abbrev pub ImageNameParts : Type 0
+ImageNameParts = Text × Text
 
 -- an extension has at least two characters
-abbrev pub long_enough : Text → Text → Option Parts
+abbrev pub long_enough : Text → Text → Option ImageNameParts
 long_enough name extension = if nat_lt (length extension) 2 then None else Some (name, extension)
 
 -- and at most four: what follows these isn't looked at
-abbrev pub with_extension : Text → Text → Option Parts
+abbrev pub with_extension : Text → Text → Option ImageNameParts
 with_extension name rest = long_enough name (leading false (take 4 rest))
 
-abbrev pub found_extension : Text → Option Text → Option Parts
+abbrev pub found_extension : Text → Option Text → Option ImageNameParts
 found_extension name (Some rest) = with_extension name rest
 found_extension name None = None
 
@@ -40,15 +40,15 @@ after_dot s n = if nat_lt n (length s) && (slice_index s n == 46) then Some
     (drop (n + 1) s) else None
 
 -- a name that isn't empty, a dot and an extension
-abbrev pub named_parts : Text → Text → Option Parts
+abbrev pub named_parts : Text → Text → Option ImageNameParts
 named_parts name s = if length name == 0 then None else found_extension name
     (after_dot s (length name))
 
-abbrev pub file_parts : Text → Option Parts
+abbrev pub file_parts : Text → Option ImageNameParts
 file_parts s = named_parts (leading true s) s
 
 -- the parts of the path of a product's image
-abbrev pub image_parts : Text → Option Parts
+abbrev pub image_parts : Text → Option ImageNameParts
 image_parts s = if begins (codes "products/") s then file_parts (drop 9 s) else None
 
 -- the sizes, but for the original one
@@ -59,16 +59,16 @@ is_size s =
     || bytes_eq s (codes "icon")
 
 -- the path with the size after the name
-abbrev pub resized : Text → Parts → Text → Text
+abbrev pub resized : Text → ImageNameParts → Text → Text
 resized prefix parts size =
     prefix ++ (codes "products/" ++ (parts.0 ++ (codes "_" ++ (size ++ (codes "." ++ parts.1)))))
 
-abbrev pub sized : Text → Text → Parts → Text → Answer
+abbrev pub sized : Text → Text → ImageNameParts → Text → Answer
 sized prefix url parts size =
     if bytes_eq size (codes "original") then Ok (text (prefix ++ url))
     else (if is_size size then Ok (text (resized prefix parts size)) else Err InvalidArgument)
 
-abbrev pub found_image : Text → Text → Text → Option Parts → Answer
+abbrev pub found_image : Text → Text → Text → Option ImageNameParts → Answer
 found_image prefix url size (Some parts) = sized prefix url parts size
 found_image prefix url size None = Err InvalidInput
 

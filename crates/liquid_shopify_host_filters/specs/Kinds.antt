@@ -43,52 +43,52 @@ use Rattle.liquid_shopify_host_filters.specs.declared.kind.ShopifyKind.TheVarian
 use Rattle.liquid_shopify_host_filters.specs.declared.kind.ShopifyKind.TheVariants.{Within}
 
 -- the name by which templates call a filter
-abbrev pub name_of : ShopifyKind → Text
-name_of AssetUrl = codes "asset_url"
-name_of Base64Decode = codes "base64_decode"
-name_of Base64Encode = codes "base64_encode"
-name_of Camelize = codes "camelize"
-name_of Count = codes "count"
-name_of Find = codes "find"
-name_of FindIndex = codes "find_index"
-name_of FormatAsMoney = codes "format_as_money"
-name_of GlobalAssetUrl = codes "global_asset_url"
-name_of Handle = codes "handle"
-name_of Handleize = codes "handleize"
-name_of Has = codes "has"
-name_of HighlightActiveTag = codes "highlight_active_tag"
-name_of HmacSha256 = codes "hmac_sha256"
-name_of ImgTag = codes "img_tag"
-name_of Json = codes "json"
-name_of LinkTo = codes "link_to"
-name_of LinkToAddTag = codes "link_to_add_tag"
-name_of LinkToRemoveTag = codes "link_to_remove_tag"
-name_of LinkToTag = codes "link_to_tag"
-name_of LinkToType = codes "link_to_type"
-name_of LinkToVendor = codes "link_to_vendor"
-name_of Md5 = codes "md5"
-name_of Money = codes "money"
-name_of MoneyWithCurrency = codes "money_with_currency"
-name_of MoneyWithoutCurrency = codes "money_without_currency"
-name_of MoneyWithoutTrailingZeros = codes "money_without_trailing_zeros"
-name_of Paragraph = codes "paragraph"
-name_of Prettyprint = codes "prettyprint"
-name_of Price = codes "price"
-name_of ProductImgUrl = codes "product_img_url"
-name_of Reject = codes "reject"
-name_of RemoveLast = codes "remove_last"
-name_of ReplaceLast = codes "replace_last"
-name_of ScriptTag = codes "script_tag"
-name_of Sha1 = codes "sha1"
-name_of Sha256 = codes "sha256"
-name_of ShopifyAssetUrl = codes "shopify_asset_url"
-name_of Squish = codes "squish"
-name_of StylesheetTag = codes "stylesheet_tag"
-name_of Sum = codes "sum"
-name_of UrlForType = codes "url_for_type"
-name_of UrlForVendor = codes "url_for_vendor"
-name_of WeightWithUnit = codes "weight_with_unit"
-name_of Within = codes "within"
+abbrev pub shopify_filter_name : ShopifyKind → Text
+shopify_filter_name AssetUrl = codes "asset_url"
+shopify_filter_name Base64Decode = codes "base64_decode"
+shopify_filter_name Base64Encode = codes "base64_encode"
+shopify_filter_name Camelize = codes "camelize"
+shopify_filter_name Count = codes "count"
+shopify_filter_name Find = codes "find"
+shopify_filter_name FindIndex = codes "find_index"
+shopify_filter_name FormatAsMoney = codes "format_as_money"
+shopify_filter_name GlobalAssetUrl = codes "global_asset_url"
+shopify_filter_name Handle = codes "handle"
+shopify_filter_name Handleize = codes "handleize"
+shopify_filter_name Has = codes "has"
+shopify_filter_name HighlightActiveTag = codes "highlight_active_tag"
+shopify_filter_name HmacSha256 = codes "hmac_sha256"
+shopify_filter_name ImgTag = codes "img_tag"
+shopify_filter_name Json = codes "json"
+shopify_filter_name LinkTo = codes "link_to"
+shopify_filter_name LinkToAddTag = codes "link_to_add_tag"
+shopify_filter_name LinkToRemoveTag = codes "link_to_remove_tag"
+shopify_filter_name LinkToTag = codes "link_to_tag"
+shopify_filter_name LinkToType = codes "link_to_type"
+shopify_filter_name LinkToVendor = codes "link_to_vendor"
+shopify_filter_name Md5 = codes "md5"
+shopify_filter_name Money = codes "money"
+shopify_filter_name MoneyWithCurrency = codes "money_with_currency"
+shopify_filter_name MoneyWithoutCurrency = codes "money_without_currency"
+shopify_filter_name MoneyWithoutTrailingZeros = codes "money_without_trailing_zeros"
+shopify_filter_name Paragraph = codes "paragraph"
+shopify_filter_name Prettyprint = codes "prettyprint"
+shopify_filter_name Price = codes "price"
+shopify_filter_name ProductImgUrl = codes "product_img_url"
+shopify_filter_name Reject = codes "reject"
+shopify_filter_name RemoveLast = codes "remove_last"
+shopify_filter_name ReplaceLast = codes "replace_last"
+shopify_filter_name ScriptTag = codes "script_tag"
+shopify_filter_name Sha1 = codes "sha1"
+shopify_filter_name Sha256 = codes "sha256"
+shopify_filter_name ShopifyAssetUrl = codes "shopify_asset_url"
+shopify_filter_name Squish = codes "squish"
+shopify_filter_name StylesheetTag = codes "stylesheet_tag"
+shopify_filter_name Sum = codes "sum"
+shopify_filter_name UrlForType = codes "url_for_type"
+shopify_filter_name UrlForVendor = codes "url_for_vendor"
+shopify_filter_name WeightWithUnit = codes "weight_with_unit"
+shopify_filter_name Within = codes "within"
 
 -- how many arguments it takes at least
 abbrev pub least_of : ShopifyKind → ℕ
@@ -107,25 +107,25 @@ least_of Within = 1
 least_of _ = 0
 
 -- how many arguments it takes at most
-abbrev pub most_of : ShopifyKind → ℕ
-most_of Find = 2
-most_of FindIndex = 2
-most_of Has = 2
-most_of HighlightActiveTag = 1
-most_of HmacSha256 = 1
-most_of ImgTag = 1
-most_of LinkTo = 2
-most_of LinkToAddTag = 1
-most_of LinkToRemoveTag = 1
-most_of LinkToTag = 1
-most_of ProductImgUrl = 1
-most_of Reject = 2
-most_of RemoveLast = 1
-most_of ReplaceLast = 2
-most_of StylesheetTag = 1
-most_of Sum = 1
-most_of Within = 1
-most_of _ = 0
+abbrev pub most_arguments : ShopifyKind → ℕ
+most_arguments Find = 2
+most_arguments FindIndex = 2
+most_arguments Has = 2
+most_arguments HighlightActiveTag = 1
+most_arguments HmacSha256 = 1
+most_arguments ImgTag = 1
+most_arguments LinkTo = 2
+most_arguments LinkToAddTag = 1
+most_arguments LinkToRemoveTag = 1
+most_arguments LinkToTag = 1
+most_arguments ProductImgUrl = 1
+most_arguments Reject = 2
+most_arguments RemoveLast = 1
+most_arguments ReplaceLast = 2
+most_arguments StylesheetTag = 1
+most_arguments Sum = 1
+most_arguments Within = 1
+most_arguments _ = 0
 
-abbrev pub takes : ShopifyKind → ℕ → Bool
-takes kind n = nat_le (least_of kind) n && nat_le n (most_of kind)
+abbrev pub takes_arguments : ShopifyKind → ℕ → Bool
+takes_arguments kind n = nat_le (least_of kind) n && nat_le n (most_arguments kind)

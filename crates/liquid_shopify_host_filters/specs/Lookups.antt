@@ -12,8 +12,8 @@ use Rattle.liquid_list_filters.specs.Sequences as sequences
 use Rattle.liquid_list_filters.specs.Sequences.{all_maps, list, sequence}
 
 -- the value of a map's property
-abbrev pub property : Text → Datum → Option Datum
-property name d = sequences.property name d
+abbrev pub map_property : Text → Datum → Option Datum
+map_property name d = sequences.property name d
 
 -- nil is no target
 abbrev pub target_of : Option Datum → Option Datum
@@ -21,18 +21,18 @@ target_of (Some nil) = None
 target_of t = t
 
 -- the property is there and truthy, or equals the target where there is one
-abbrev pub is_wanted : Option Datum → Option Datum → Bool
-is_wanted target found = keeping.is_wanted target found
+abbrev pub is_lookup_match : Option Datum → Option Datum → Bool
+is_lookup_match target found = keeping.is_wanted target found
 
 abbrev pub wants : Text → Option Datum → Datum → Bool
-wants name target d = is_wanted target (property name d)
+wants name target d = is_lookup_match target (map_property name d)
 
 abbrev pub rejected : Text → Option Datum → List Datum → List Datum
 rejected name target ds = filter (λ d. not (wants name target d)) ds
 
-abbrev pub first_wanted : Text → Option Datum → List Datum → Datum
-first_wanted name target [] = nil
-first_wanted name target (d ∷ ds) = if wants name target d then d else first_wanted name target ds
+abbrev pub first_match : Text → Option Datum → List Datum → Datum
+first_match name target [] = nil
+first_match name target (d ∷ ds) = if wants name target d then d else first_match name target ds
 
 -- the place of the first one, where k items stand before
 abbrev pub place_of_wanted : Text → Option Datum → ℕ → List Datum → Datum
@@ -57,8 +57,8 @@ abbrev pub reject_answer : Datum → List Datum → Answer
 reject_answer d args = among (λ name target ds. list (rejected name target ds)) d args
 
 -- `find`
-abbrev pub find_answer : Datum → List Datum → Answer
-find_answer d args = among first_wanted d args
+abbrev pub shopify_find_answer : Datum → List Datum → Answer
+shopify_find_answer d args = among first_match d args
 
 -- `find_index`
 abbrev pub find_index_answer : Datum → List Datum → Answer

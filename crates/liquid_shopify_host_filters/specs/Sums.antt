@@ -32,24 +32,24 @@ summand (Some d) = summand_of d
 summand None = Ok (pos 0)
 
 -- a sum with one more term, within 64 bits
-abbrev pub in_range : ℤ → Result ℤ ErrorKind
-in_range z = if fits z then Ok z else Err NumberRange
+abbrev pub checked_sum : ℤ → Result ℤ ErrorKind
+checked_sum z = if fits z then Ok z else Err NumberRange
 
-abbrev pub added : ℤ → Option Datum → Result ℤ ErrorKind
-added z t = summand t >>= (λ n. in_range (z +ℤ n))
+abbrev pub sum_with_term : ℤ → Option Datum → Result ℤ ErrorKind
+sum_with_term z t = summand t >>= (λ n. checked_sum (z +ℤ n))
 
 -- a sum that goes on with the terms of these items, from the first to the last
 abbrev pub total : Option Text → ℤ → List Datum → Result ℤ ErrorKind
 total name z [] = Ok z
-total name z (d ∷ ds) = added z (term name d) >>= (λ t. total name t ds)
+total name z (d ∷ ds) = sum_with_term z (term name d) >>= (λ t. total name t ds)
 
 abbrev pub as_number : Result ℤ ErrorKind → Answer
 as_number r = r >>= (λ z. Ok (number z))
 
 -- `sum`: of a list's items, or of what its maps have under the argument
-abbrev pub name_of : List Datum → Option Text
-name_of [] = None
-name_of (name ∷ args) = Some (text_of name)
+abbrev pub summed_name : List Datum → Option Text
+summed_name [] = None
+summed_name (name ∷ args) = Some (text_of name)
 
 abbrev pub sum_answer : Datum → List Datum → Answer
-sum_answer d args = as_number (total (name_of args) (pos 0) (sequence d))
+sum_answer d args = as_number (total (summed_name args) (pos 0) (sequence d))

@@ -5,7 +5,7 @@ use Rattle.std.specs.Prelude.{codes, bytes_eq, if◌then◌else◌}
 use Rattle.liquid_model.specs.Data.{Datum, text, text_of}
 use Rattle.liquid_model.specs.Texts.{Text}
 use Rattle.liquid_filter_base.specs.Arguments.{Answer, text_or}
-use Rattle.liquid_shopify_host_filters.specs.Lookups.{property}
+use Rattle.liquid_shopify_host_filters.specs.Lookups.{map_property}
 
 -- the other tags, each with a + after it, and then this one
 abbrev pub with_tag : List Text → Text → Text
@@ -53,14 +53,15 @@ link_to_remove_tag_answer collection tags d args =
     (other_tags true tags (text_or [] args))))
 
 -- one of the page's tags, marked with a class
-abbrev pub marked : Text → Text → Text
-marked class tag = codes "<span class=\"" ++ (class ++ (codes "\">" ++ (tag ++ codes "</span>")))
+abbrev pub in_class_span : Text → Text → Text
+in_class_span class tag = codes "<span class=\"" ++ (class ++ (codes "\">" ++ (tag ++ codes "</span>")))
 
 -- `highlight_active_tag`: the class is `active` where none is given
 -- What is none of the page's tags stays.
 abbrev pub highlight_answer : List Text → Datum → List Datum → Answer
 highlight_answer tags (text s) args =
-    if has_tag tags s then Ok (text (marked (text_or (codes "active") args) s)) else Ok (text s)
+    if has_tag tags s then Ok (text (in_class_span (text_or (codes "active") args) s)) else Ok
+        (text s)
 highlight_answer tags d args = Ok d
 
 -- an address within the collection of a handle
@@ -73,7 +74,7 @@ within_found url None = url
 
 -- by the `handle` of the collection, where that is a map which has one
 abbrev pub within : Text → Datum → Text
-within url collection = within_found url (property (codes "handle") collection)
+within url collection = within_found url (map_property (codes "handle") collection)
 
 -- `within`
 abbrev pub within_answer : Datum → List Datum → Answer

@@ -7,7 +7,7 @@ use Rattle.liquid_model.specs.Texts.{Text}
 use Rattle.liquid_model.specs.Whole.{whole}
 use Rattle.liquid_model.specs.declared.error.ErrorKind.TheVariants.{InvalidInput}
 use Rattle.liquid_filter_base.specs.Arguments.{Answer}
-use Rattle.liquid_shopify_host_filters.specs.Amounts.{minus}
+use Rattle.liquid_shopify_host_filters.specs.Amounts.{minus_sign}
 
 -- thousandths as decimals, without the zeros at their end but for the first decimal
 abbrev pub thousandths : ℕ → Text
@@ -17,7 +17,7 @@ thousandths n =
 
 -- the whole kilograms of a weight of grams
 abbrev pub kilograms : ℤ → Text
-kilograms z = minus z ++ decimal (unsigned_abs z / 1000)
+kilograms z = minus_sign z ++ decimal (unsigned_abs z / 1000)
 
 -- a weight of grams in kilograms
 abbrev pub weight : ℤ → Text

@@ -13,8 +13,8 @@ use Rattle.liquid_shopify_host_filters.specs.declared.words.Wording.TheVariants.
 use Rattle.liquid_shopify_host_filters.specs.declared.words.Wording.TheVariants.{Squish}
 
 -- an ASCII letter or digit, or _
-abbrev pub is_word : ℕ → Bool
-is_word c = is_ascii_alphanumeric c || c == 95
+abbrev pub is_word_character : ℕ → Bool
+is_word_character c = is_ascii_alphanumeric c || c == 95
 
 -- ' " ( ) [ ]
 abbrev pub is_left_out : ℕ → Bool
@@ -29,10 +29,11 @@ abbrev pub is_space : ℕ → Bool
 is_space c = c == 32 || c == 9 || c == 10 || c == 11 || c == 12 || c == 13
 
 -- what a character is to a wording
-abbrev pub place_of : Wording → ℕ → Place
-place_of Handle c = if is_word c then Word else (if is_left_out c then Nowhere else Between)
-place_of Camel c = if is_joint c then Between else Word
-place_of Squish c = if is_space c then Between else Word
+abbrev pub character_role : Wording → ℕ → Place
+character_role Handle c = if is_word_character c then Word else
+    (if is_left_out c then Nowhere else Between)
+character_role Camel c = if is_joint c then Between else Word
+character_role Squish c = if is_space c then Between else Word
 
 -- what is written between two words
 abbrev pub separator : Wording → Text
@@ -59,8 +60,8 @@ shown_at Word w state c = lead w state ++ (shaped w state c ∷ [])
 shown_at Between w state c = []
 shown_at Nowhere w state c = []
 
-abbrev pub shown : Wording → State → ℕ → List ℕ
-shown w state c = shown_at (place_of w c) w state c
+abbrev pub worded_character : Wording → State → ℕ → List ℕ
+worded_character w state c = shown_at (character_role w c) w state c
 
 -- where a wording is after a character: one between words ends a word
 abbrev pub after_at : Place → State → State
@@ -71,12 +72,12 @@ after_at Between Past = Past
 after_at Nowhere state = state
 
 abbrev pub after : Wording → State → ℕ → State
-after w state c = after_at (place_of w c) state
+after w state c = after_at (character_role w c) state
 
 -- the characters of the words, each word after what is written between two
 abbrev pub worded : Wording → State → List ℕ → List ℕ
 worded w state [] = []
-worded w state (c ∷ cs) = shown w state c ++ worded w (after w state c) cs
+worded w state (c ∷ cs) = worded_character w state c ++ worded w (after w state c) cs
 
 -- the text of the words of s
 abbrev pub worded_text : Wording → Text → Text

@@ -2,8 +2,9 @@
 ghost use Rattle.std.specs.Prelude.{◌≡◌, ◌++◌, ◌≤◌, ◌^◌, option_map, string_bytes};
 ghost use Rattle.std.specs.Str.{IsAscii};
 ghost use Rattle.liquid_model.specs.Answer.{IsValueOrMemory};
-ghost use Rattle.liquid_shopify_host_filters.specs.Amounts.{amount_of, cents_text, grouped};
-ghost use Rattle.liquid_shopify_host_filters.specs.Amounts.{separator_at, sign, two_digits};
+ghost use Rattle.liquid_shopify_host_filters.specs.Amounts.{amount_of, cents_text, digit_groups};
+ghost use Rattle.liquid_shopify_host_filters.specs.Amounts.{separator_at, amount_sign};
+ghost use Rattle.liquid_shopify_host_filters.specs.Amounts.{two_decimal_digits};
 ghost use Rattle.liquid_shopify_host_filters.specs.Amounts.{units_of, whole_amount};
 
 use crate::money::MoneyStyle;
@@ -45,7 +46,7 @@ pub(crate) fn whole_amount(alloc: Global, style: MoneyStyle, cents: i64) -> Resu
 
 /// The sign of what is written: none where that is rounded to 0.
 fn sign(point: Option<&'static str>, cents: i64) -> &'static str
-    ensures { result.now ≡ sign (option_map (λ p. p.now) point.entry) cents }
+    ensures { result.now ≡ amount_sign (option_map (λ p. p.now) point.entry) cents }
 {
     match point {
         Some(_) if cents < 0 => "-",
@@ -81,7 +82,7 @@ fn push_cents(out: &mut String, point: Option<&'static str>, cents: u64) -> Resu
 
 fn push_two_digits(out: &mut String, number: u64) -> Result<()>
     ensures { IsValueOrMemory (λ _. string_bytes out.new) result
-        (string_bytes out.old ++ two_digits number) }
+        (string_bytes out.old ++ two_decimal_digits number) }
 {
     out.push_str(Buffer::new().format(number / 10))?;
     Ok(out.push_str(Buffer::new().format(number % 10))?)
@@ -91,7 +92,7 @@ fn push_two_digits(out: &mut String, number: u64) -> Result<()>
 fn push_grouped(out: &mut String, digits: &str, separator: &str) -> Result<()>
     requires { IsAscii digits.now }
     ensures { IsValueOrMemory (λ _. string_bytes out.new) result
-        (string_bytes out.old ++ grouped separator.now digits.now) }
+        (string_bytes out.old ++ digit_groups separator.now digits.now) }
 {
     let bytes = digits.as_bytes();
     for (place, digit) in bytes.iter().enumerate() {

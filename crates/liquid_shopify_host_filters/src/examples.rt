@@ -4,12 +4,14 @@ ghost use Rattle.std.specs.Str.{chars, encode_utf8_all};
 ghost use Rattle.liquid_model.specs.Answer.{Answers, IsValueOrMemory};
 ghost use Rattle.liquid_model.specs.Find.{counted};
 ghost use Rattle.liquid_model.specs.View.{view};
-ghost use Rattle.liquid_shopify_host_filters.specs.Examples.{bold_text, count_answer, count_of};
+ghost use Rattle.liquid_shopify_host_filters.specs.Examples.{bold_text, count_answer};
+ghost use Rattle.liquid_shopify_host_filters.specs.Examples.{countable_members};
 ghost use Rattle.liquid_shopify_host_filters.specs.Examples.{has_more, has_star, is_open_after};
-ghost use Rattle.liquid_shopify_host_filters.specs.Examples.{mark, padded, paragraph_answer, price};
+ghost use Rattle.liquid_shopify_host_filters.specs.Examples.{bold_tag, padded, paragraph_answer};
+ghost use Rattle.liquid_shopify_host_filters.specs.Examples.{price};
 ghost use Rattle.liquid_shopify_host_filters.specs.Examples.{price_sign};
 ghost use Rattle.liquid_shopify_host_filters.specs.Examples.{prettyprint_answer, price_answer};
-ghost use Rattle.liquid_shopify_host_filters.specs.Examples.{shown};
+ghost use Rattle.liquid_shopify_host_filters.specs.Examples.{emphasized};
 
 use itoa::Buffer;
 use liquid_core::{Result, Value};
@@ -27,7 +29,7 @@ pub(crate) fn count_answer(alloc: Global, input: &Value) -> Result<Value>
 }
 
 fn count_of(input: &Value) -> Option<usize>
-    ensures { result ≡ count_of (view input.now) }
+    ensures { result ≡ countable_members (view input.now) }
 {
     match input {
         Value::Array(items) => Some(items.len()),
@@ -116,7 +118,7 @@ fn bold(alloc: Global, text: &str) -> Result<String>
 /// Appends what is written for a character: for the first star of a line and the last a tag.
 fn push_shown(out: &mut String, is_open: bool, more: bool, letter: char) -> Result<()>
     ensures { IsValueOrMemory (λ _. string_bytes out.new) result
-        (string_bytes out.old ++ encode_utf8_all (shown is_open more letter)) }
+        (string_bytes out.old ++ encode_utf8_all (emphasized is_open more letter)) }
 {
     if letter == '*' {
         return Ok(out.push_str(mark(is_open, more))?);
@@ -125,7 +127,7 @@ fn push_shown(out: &mut String, is_open: bool, more: bool, letter: char) -> Resu
 }
 
 fn mark(is_open: bool, more: bool) -> &'static str
-    ensures { result.now ≡ mark is_open more }
+    ensures { result.now ≡ bold_tag is_open more }
 {
     match (is_open, more) {
         (false, true) => "<b>",

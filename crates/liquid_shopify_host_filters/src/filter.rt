@@ -2,8 +2,8 @@
 ghost use Rattle.std.specs.Prelude.{◌≡◌, IsTrue, length, map};
 ghost use Rattle.liquid_model.specs.Answer.{Answers};
 ghost use Rattle.liquid_model.specs.View.{view};
-ghost use Rattle.liquid_shopify_host_filters.specs.Answers.{answer_of};
-ghost use Rattle.liquid_shopify_host_filters.specs.Kinds.{takes};
+ghost use Rattle.liquid_shopify_host_filters.specs.Answers.{shopify_answer};
+ghost use Rattle.liquid_shopify_host_filters.specs.Kinds.{takes_arguments};
 
 use crate::kind::ShopifyKind;
 use crate::shop::Shop;
@@ -28,9 +28,9 @@ pub struct ShopifyFilter {
 }
 
 impl Filter for ShopifyFilter {
-    ghost counts = { λ f n. takes f.kind n };
+    ghost counts = { λ f n. takes_arguments f.kind n };
 
-    ghost answer = { λ f. answer_of f.kind f.shop.value };
+    ghost answer = { λ f. shopify_answer f.kind f.shop.value };
 
     fn accepts(&self, count: usize) -> bool {
         self.kind.least() <= count && count <= self.kind.most()
@@ -49,8 +49,9 @@ fn answered(
     input: &Value,
     args: &[Value],
 ) -> Result<Value>
-    requires { IsTrue (takes kind (length args.now)) }
-    ensures { Answers view result (answer_of kind shop.now (view input.now) (map view args.now)) }
+    requires { IsTrue (takes_arguments kind (length args.now)) }
+    ensures { Answers view result (shopify_answer kind shop.now (view input.now)
+        (map view args.now)) }
 {
     match kind {
         ShopifyKind::AssetUrl => urls::prefixed_answer(alloc, &shop.assets, input),

@@ -1,6 +1,7 @@
 //! Which filters there are: their names, and how many arguments each takes.
 ghost use Rattle.std.specs.Prelude.{◌≡◌};
-ghost use Rattle.liquid_shopify_host_filters.specs.Kinds.{least_of, most_of, name_of};
+ghost use Rattle.liquid_shopify_host_filters.specs.Kinds.{least_of, most_arguments};
+ghost use Rattle.liquid_shopify_host_filters.specs.Kinds.{shopify_filter_name};
 
 /// One of the filters of this set.
 #[derive(Clone, Copy, Drop)]
@@ -149,7 +150,7 @@ pub const SHOPIFY_FILTERS: [ShopifyKind; 45] = [
 impl ShopifyKind {
     /// The name by which templates call the filter.
     pub fn name(self) -> &'static str
-        ensures { result.now ≡ name_of self }
+        ensures { result.now ≡ shopify_filter_name self }
     {
         match self {
             ShopifyKind::AssetUrl => "asset_url",
@@ -223,7 +224,7 @@ impl ShopifyKind {
 
     /// How many arguments it takes at most.
     pub fn most(self) -> usize
-        ensures { result ≡ most_of self }
+        ensures { result ≡ most_arguments self }
     {
         match self {
             ShopifyKind::HighlightActiveTag

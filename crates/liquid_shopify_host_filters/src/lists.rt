@@ -3,9 +3,10 @@ ghost use Rattle.std.specs.Prelude.{◌≡◌, ◌≤◌, length, map, option_ma
 ghost use Rattle.liquid_model.specs.Answer.{Answers, IsValueOrMemory};
 ghost use Rattle.liquid_model.specs.Lists.{list_of};
 ghost use Rattle.liquid_model.specs.View.{view, items_view};
-ghost use Rattle.liquid_shopify_host_filters.specs.Lookups.{find_answer, find_index_answer};
-ghost use Rattle.liquid_shopify_host_filters.specs.Lookups.{first_wanted, has_answer, has_wanted};
-ghost use Rattle.liquid_shopify_host_filters.specs.Lookups.{is_wanted, property, reject_answer};
+ghost use Rattle.liquid_shopify_host_filters.specs.Lookups.{shopify_find_answer, find_index_answer};
+ghost use Rattle.liquid_shopify_host_filters.specs.Lookups.{first_match, has_answer, has_wanted};
+ghost use Rattle.liquid_shopify_host_filters.specs.Lookups.{is_lookup_match, map_property};
+ghost use Rattle.liquid_shopify_host_filters.specs.Lookups.{reject_answer};
 ghost use Rattle.liquid_shopify_host_filters.specs.Lookups.{rejected, target_of, place_of_wanted};
 
 use liquid_core::{Result, Value, look_up};
@@ -33,7 +34,7 @@ pub(crate) fn reject_answer(alloc: Global, input: &Value, args: &[Value]) -> Res
 /// `find`: the first of the maps that `reject` leaves out, or nil.
 pub(crate) fn find_answer(alloc: Global, input: &Value, args: &[Value]) -> Result<Value>
     requires { 1 ≤ length args.now }
-    ensures { Answers view result (find_answer (view input.now) (map view args.now)) }
+    ensures { Answers view result (shopify_find_answer (view input.now) (map view args.now)) }
 {
     let items = sequence(input);
     let name = text_of(alloc, &args[0])?;
@@ -102,7 +103,7 @@ fn rejected(
 
 fn first_wanted(alloc: Global, items: &[Value], name: &str, target: Option<&Value>) -> Result<Value>
     ensures { IsValueOrMemory view result
-        (first_wanted name.now (option_map (λ v. view v.now) target.entry)
+        (first_match name.now (option_map (λ v. view v.now) target.entry)
         (list_of (items_view items.now))) }
 {
     for item in items {
@@ -141,7 +142,7 @@ fn has_wanted(items: &[Value], name: &str, target: Option<&Value>) -> bool
 
 /// The value of a map's property.
 pub(crate) fn property<'a>(item: &'a Value, name: &str) -> Option<&'a Value>
-    ensures { option_map (λ v. view v.now) result ≡ property name.now (view item.now) }
+    ensures { option_map (λ v. view v.now) result ≡ map_property name.now (view item.now) }
 {
     match item {
         Value::Object(pairs) => look_up(pairs, name),
@@ -150,7 +151,7 @@ pub(crate) fn property<'a>(item: &'a Value, name: &str) -> Option<&'a Value>
 }
 
 fn is_wanted(found: Option<&Value>, target: Option<&Value>) -> bool
-    ensures { result ≡ is_wanted (option_map (λ v. view v.now) target.entry)
+    ensures { result ≡ is_lookup_match (option_map (λ v. view v.now) target.entry)
         (option_map (λ v. view v.now) found.entry) }
 {
     match (target, found) {

@@ -3,7 +3,8 @@ ghost use Rattle.std.specs.Prelude.{◌≡◌, map, option_map, pos};
 ghost use Rattle.liquid_model.specs.Answer.{Answers};
 ghost use Rattle.liquid_model.specs.Lists.{list_of};
 ghost use Rattle.liquid_model.specs.View.{view, items_view};
-ghost use Rattle.liquid_shopify_host_filters.specs.Sums.{added, sum_answer, summand, summand_of};
+ghost use Rattle.liquid_shopify_host_filters.specs.Sums.{sum_with_term, sum_answer, summand};
+ghost use Rattle.liquid_shopify_host_filters.specs.Sums.{summand_of};
 ghost use Rattle.liquid_shopify_host_filters.specs.Sums.{term, total};
 
 use crate::lists::property;
@@ -50,7 +51,8 @@ fn term<'a>(item: &'a Value, name: Option<&str>) -> Option<&'a Value>
 
 /// A sum with one more term.
 fn added(alloc: Global, sum: i64, term: Option<&Value>) -> Result<i64>
-    ensures { Answers (λ n. n) result (added sum (option_map (λ v. view v.now) term.entry)) }
+    ensures { Answers (λ n. n) result (sum_with_term sum (option_map (λ v. view v.now) term.entry))
+        }
 {
     let number = summand(alloc, term)?;
     match sum.checked_add(number) {

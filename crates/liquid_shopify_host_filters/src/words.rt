@@ -2,8 +2,10 @@
 ghost use Rattle.std.specs.Prelude.{◌≡◌, ◌++◌, string_bytes};
 ghost use Rattle.std.specs.Str.{encode_utf8_all};
 ghost use Rattle.liquid_model.specs.Answer.{IsValueOrMemory};
-ghost use Rattle.liquid_shopify_host_filters.specs.Words.{after, is_left_out, is_space, is_word};
-ghost use Rattle.liquid_shopify_host_filters.specs.Words.{lead, place_of, separator, shaped, shown};
+ghost use Rattle.liquid_shopify_host_filters.specs.Words.{after, is_left_out, is_space};
+ghost use Rattle.liquid_shopify_host_filters.specs.Words.{is_word_character};
+ghost use Rattle.liquid_shopify_host_filters.specs.Words.{lead, character_role, separator, shaped};
+ghost use Rattle.liquid_shopify_host_filters.specs.Words.{worded_character};
 ghost use Rattle.liquid_shopify_host_filters.specs.Words.{worded_text};
 
 use liquid_core::Result;
@@ -62,7 +64,7 @@ pub(crate) fn worded(alloc: Global, wording: Wording, text: &str) -> Result<Stri
 /// word what stands between words.
 fn push_shown(out: &mut String, wording: Wording, state: State, letter: char) -> Result<()>
     ensures { IsValueOrMemory (λ _. string_bytes out.new) result
-        (string_bytes out.old ++ encode_utf8_all (shown wording state letter)) }
+        (string_bytes out.old ++ encode_utf8_all (worded_character wording state letter)) }
 {
     match place_of(wording, letter) {
         Place::Word => {
@@ -116,7 +118,7 @@ fn shaped(wording: Wording, state: State, letter: char) -> char
 }
 
 fn place_of(wording: Wording, letter: char) -> Place
-    ensures { result ≡ place_of wording letter }
+    ensures { result ≡ character_role wording letter }
 {
     match wording {
         Wording::Handle if is_word(letter) => Place::Word,
@@ -128,7 +130,7 @@ fn place_of(wording: Wording, letter: char) -> Place
 }
 
 fn is_word(letter: char) -> bool
-    ensures { result ≡ is_word letter }
+    ensures { result ≡ is_word_character letter }
 {
     letter.is_ascii_alphanumeric() || letter == '_'
 }

@@ -19,11 +19,11 @@ abbrev pub members_of : BTreeMap (String Global) (Vec (Bor Value) Global) → Te
 members_of m t = map (λ v. view v.now) (items_under m t)
 
 -- what an item of the text t adds to those of the text q
-abbrev pub item_at : Text → Bor Value → Text → List (Bor Value)
-item_at t item q = if same_text q t then item ∷ [] else []
+abbrev pub item_if_named : Text → Bor Value → Text → List (Bor Value)
+item_if_named t item q = if same_text q t then item ∷ [] else []
 
-abbrev pub member_at : Text → Datum → Text → List Datum
-member_at t d q = if same_text q t then d ∷ [] else []
+abbrev pub member_if_named : Text → Datum → Text → List Datum
+member_if_named t d q = if same_text q t then d ∷ [] else []
 
 -- the set has these texts
 abbrev pub AreSeen : BTreeSet (String Global) → List Text → Type 0

@@ -1,7 +1,7 @@
 use Rattle.std.proofs.Common.{◌≡◌, ◌+◌, ◌-◌, ◌≤◌, ◌∙◌, ap, arith, drop, length, length-drop, subst, take, take_all}
 use Rattle.std.specs.Char.{is_ascii_digit}
 use Rattle.std.specs.List.{prefix_len}
-use Rattle.liquid_jekyll_host_filters.specs.Numbers.{sign_len}
+use Rattle.liquid_jekyll_host_filters.specs.Numbers.{sign_bytes}
 use Rattle.liquid_jekyll_host_filters.proofs.Fronts.{front_boundary}
 use Rattle.liquid_jekyll_host_filters.proofs.numbers.front_number.Goals as goal
 
@@ -15,4 +15,4 @@ split_at-requires c =
     let slice : take (length bytes - sign) (drop sign bytes) ≡ drop sign bytes = take_all (length bytes - sign) (drop sign bytes) (omega (arith, length-drop sign bytes)) in
     let within : digits ≤ length (drop sign bytes) = subst (λ s. digits ≤ length s) slice c.digits_len-digits.ensures.within in
     let fits : sign + digits ≤ length text = omega (arith, within, length-drop sign bytes, c.sign_len-sign.ensures.within, ap length same) in
-    front_boundary text sign digits c.utf8.text fits (c.sign_len-sign.ensures.value ∙ ap sign_len same) c.sign_len-sign.ensures.small (c.digits_len-digits.ensures.value ∙ ap (prefix_len is_ascii_digit) slice ∙ ap (λ t. prefix_len is_ascii_digit (drop sign t)) same)
+    front_boundary text sign digits c.utf8.text fits (c.sign_len-sign.ensures.value ∙ ap sign_bytes same) c.sign_len-sign.ensures.small (c.digits_len-digits.ensures.value ∙ ap (prefix_len is_ascii_digit) slice ∙ ap (λ t. prefix_len is_ascii_digit (drop sign t)) same)
