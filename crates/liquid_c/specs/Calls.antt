@@ -17,7 +17,7 @@ use Rattle.liquid_syntax.specs.Templates.{list_of, tree_of, partials_of}
 use Rattle.liquid_language.specs.declared.language.Language.{Language}
 use Rattle.liquid_syntax.specs.declared.partials.Partials.{Partials}
 use Rattle.liquid_syntax.specs.declared.template.Template.{Template}
-use Rattle.liquid_lib.specs.LimitedPages.{Begins}
+use Rattle.liquid_lib.specs.LimitedPages.{IsPrefixOf}
 use Rattle.liquid_lib.specs.Pages.{page_over, page_view}
 use Rattle.liquid_lib.specs.Standard.{IsStandard}
 use Rattle.liquid_json.specs.Json.{data_of}
@@ -101,7 +101,7 @@ abbrev pub ShowsWithin : Nodes → ℕ → Map Datum → List (Text × Nodes)
     → Result Content Refusal → Type 0
 ShowsWithin nodes depth «data» partials (Ok (content.Ended p limit)) =
     ((page_view p).fault ≡ Some Write)
-    × Begins (page_view p).text (page_over depth partials «data» nodes).text
+    × IsPrefixOf (page_view p).text (page_over depth partials «data» nodes).text
 ShowsWithin nodes depth «data» partials answer = ShowsNodes nodes depth «data» partials answer
 
 -- R holds where data and partials are there, and else the call can't be

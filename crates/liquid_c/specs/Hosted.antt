@@ -8,7 +8,7 @@ use Rattle.liquid_model.specs.declared.error.ErrorKind.TheVariants.{Memory, Writ
 use Rattle.liquid_evaluation.specs.Tree.{Nodes}
 use Rattle.liquid_syntax.specs.Templates.{tree_of}
 use Rattle.liquid_lib.specs.HostedPages.{EndsOtherwise, hosted_page}
-use Rattle.liquid_lib.specs.LimitedPages.{Begins}
+use Rattle.liquid_lib.specs.LimitedPages.{IsPrefixOf}
 use Rattle.liquid_lib.specs.Pages.{page_view}
 use Rattle.liquid_answers.specs.Lacking.{IsLacking}
 use Rattle.liquid_answers.specs.Tables.{answers_by}
@@ -28,7 +28,7 @@ ShowsAnswered table nodes depth «data» partials (Ok (content.Page p)) =
     (page_view p ≡ hosted_page (answers_by false table) depth partials «data» nodes)
     × EndsOtherwise p
 ShowsAnswered table nodes depth «data» partials (Ok (content.Ended p limit)) =
-    ((page_view p).fault ≡ Some Write) × Begins (page_view p).text
+    ((page_view p).fault ≡ Some Write) × IsPrefixOf (page_view p).text
     (hosted_page (answers_by false table) depth partials «data» nodes).text
 ShowsAnswered table nodes depth «data» partials (Ok (content.Lacking calls)) = IsLacking table calls
 ShowsAnswered table nodes depth «data» partials (Ok (content.Fault e)) = e.kind ≡ Memory

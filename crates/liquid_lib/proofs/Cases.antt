@@ -12,10 +12,10 @@ use Rattle.liquid_syntax.specs.Laid.{Stands, StandBodies, last_end}
 use Rattle.liquid_syntax.specs.declared.node.Arm.{Arm}
 use Rattle.liquid_syntax.specs.declared.node.Node.{Node}
 use Rattle.liquid_syntax.proofs.Places.{one_body}
-use Rattle.liquid_lib.specs.inside.Choices.{CaseStands, IsCase}
+use Rattle.liquid_lib.specs.inside.Choices.{CaseStands, HasCaseAt}
 use Rattle.liquid_lib.specs.inside.Engine.{node_meant}
 use Rattle.liquid_lib.specs.Silent.{IsSilent}
-use Rattle.liquid_lib.specs.Kept.{Keeps, IsRender}
+use Rattle.liquid_lib.specs.Kept.{Keeps, IsRenderNode}
 use Rattle.liquid_lib.specs.Performs.{Configuration, Performs}
 use Rattle.liquid_meaning.specs.Meaning.{Setting}
 use Rattle.liquid_lib.proofs.CaseChoices.{case_le}
@@ -43,7 +43,7 @@ module _ (ns : List Node) (at : ℕ) (target : Expression) (arms : List Arm) (la
       (ws, o, stands, made ∙ is (λ ws o. case_of target ws o), ends ∙ over)
 
   -- its parts stand behind it, and inside of the range
-  pub the_case : IsCase ns (at + 1) arms last × (at < last) × (last ≤ to)
+  pub the_case : HasCaseAt ns (at + 1) arms last × (at < last) × (last ≤ to)
   the_case =
       let (n, next, there, le) = req in
       let (ws, o, stands, is, ends) = known_case n next there in
@@ -67,7 +67,7 @@ module _ (ns : List Node) (at : ℕ) (target : Expression) (arms : List Arm) (la
   pub case_other : (s u : State) → NodeAlone ns at s u
   case_other s u n next there h =
       let (ws, o, stands, is, ends) = known_case n next there in
-      absurd (subst (λ y. IsRender y) is h)
+      absurd (subst (λ y. IsRenderNode y) is h)
 
   pub case_loud : (n : tree.Node) (next : ℕ) → NodeAt ns at n next → IsSilent n → ⊥
   case_loud n next there silent =

@@ -18,7 +18,7 @@ use Rattle.liquid_syntax.specs.declared.node.Node.{Node}
 use Rattle.liquid_syntax.proofs.Places.{Stands-le, StandBodies-le, one_body, two_bodies, nothing_left}
 use Rattle.liquid_meaning.specs.Within.{Within}
 use Rattle.liquid_core.specs.States.{layers_of}
-use Rattle.liquid_lib.specs.Kept.{Keeps, IsRender, AreRenders}
+use Rattle.liquid_lib.specs.Kept.{Keeps, IsRenderNode, AreRenderNodes}
 use Rattle.liquid_lib.specs.Performs.{Configuration, Performs}
 use Rattle.liquid_lib.specs.inside.Engine.{node_meant, nodes_meant}
 use Rattle.liquid_meaning.specs.Meaning.{Setting, deeper_meaning}
@@ -62,7 +62,7 @@ node_within ns at to (n, next, (x, bs, is, inner, made, ends), le) = subst (λ k
 abbrev pub Going : Setting → ℕ → List Node → ℕ → ℕ → ℕ → Configuration → Configuration → Type 0
 Going setting depth ns from at to start here = (f : Forest Maker) → StandsAt ns from f to → (rest : Forest Maker) × StandsAt ns at rest to
     × ((N : Names) → Within N (nodes_names (nodes_of f)) → Within N (nodes_names (nodes_of rest)))
-    × (AreRenders (nodes_of f) → AreRenders (nodes_of rest))
+    × (AreRenderNodes (nodes_of f) → AreRenderNodes (nodes_of rest))
     × ((r : Result (Unit {0}) Error) (after : Configuration) → Performs r (nodes_meant setting depth (nodes_of rest)) here after → Performs r (nodes_meant setting depth (nodes_of f)) start after)
 
 -- what a range begins with
@@ -95,8 +95,8 @@ names_rest : (N : Names) (n : tree.Node) (more all : tree.Nodes) → all ≡ tre
 unfolding nodes_names
 names_rest N n more all is h = right N (node_names n) (nodes_names more) (subst (λ x. Within N (nodes_names x)) is h)
 
-renders_first : (n : tree.Node) (more all : tree.Nodes) → all ≡ tree.node n more → AreRenders all → IsRender n × AreRenders more
-renders_first n more all is h = subst (λ x. AreRenders x) is h
+renders_first : (n : tree.Node) (more all : tree.Nodes) → all ≡ tree.node n more → AreRenderNodes all → IsRenderNode n × AreRenderNodes more
+renders_first n more all is h = subst (λ x. AreRenderNodes x) is h
 
 -- one node on
 pub going_on : (setting : Setting) (depth : ℕ) (ns : List Node) (from at to at2 : ℕ) (value : Unit {0}) (start here there : Configuration) → Going setting depth ns from at to start here → at < to
@@ -160,10 +160,10 @@ kept_step setting depth ns from at to start here s t u f stood going lt keeps be
 -- ---- what renders leave
 
 abbrev pub NodeAlone : List Node → ℕ → State → State → Type 0
-NodeAlone ns at old new = (n : tree.Node) (next : ℕ) → NodeAt ns at n next → IsRender n → layers_of new ≡ layers_of old
+NodeAlone ns at old new = (n : tree.Node) (next : ℕ) → NodeAt ns at n next → IsRenderNode n → layers_of new ≡ layers_of old
 
 pub alone_step : (setting : Setting) (depth : ℕ) (ns : List Node) (from at to : ℕ) (start here : Configuration) (s t u : State) (f : Forest Maker) → StandsAt ns from f to → Going setting depth ns from at to start here → at < to
-    → NodeAlone ns at t u → (AreRenders (nodes_of f) → layers_of t ≡ layers_of s) → AreRenders (nodes_of f) → layers_of u ≡ layers_of s
+    → NodeAlone ns at t u → (AreRenderNodes (nodes_of f) → layers_of t ≡ layers_of s) → AreRenderNodes (nodes_of f) → layers_of u ≡ layers_of s
 alone_step setting depth ns from at to start here s t u f stood going lt leaves before all =
     let (rest, stands, names, renders, gives) = going f stood in
     let (n, next, more, is_there, is, after, le, past) = first ns at rest to stands lt in
@@ -191,9 +191,9 @@ pub leaf_keeps : (setting : Setting) (ns : List Node) (at to : ℕ) (r m : Node)
 leaf_keeps setting ns at to r m x s t req read same form h n next there =
     subst (λ y. Keeps (node_names y) setting s t) (sym (leaf_is ns at to r m x req read same form n next there)) h
 
-pub leaf_other : (ns : List Node) (at to : ℕ) (r m : Node) (x : tree.Node) (s t : State) → IsNode ns at to → r ≡ get_or ns at r → r ≡ m → flat_of m ≡ leaf x → (IsRender x → ⊥) → NodeAlone ns at s t
+pub leaf_other : (ns : List Node) (at to : ℕ) (r m : Node) (x : tree.Node) (s t : State) → IsNode ns at to → r ≡ get_or ns at r → r ≡ m → flat_of m ≡ leaf x → (IsRenderNode x → ⊥) → NodeAlone ns at s t
 leaf_other ns at to r m x s t req read same form other n next there h =
-    absurd (other (subst (λ y. IsRender y) (leaf_is ns at to r m x req read same form n next there) h))
+    absurd (other (subst (λ y. IsRenderNode y) (leaf_is ns at to r m x req read same form n next there) h))
 
 -- the two ranges of a node with two bodies
 abbrev pub Two : List Node → ℕ → ℕ → ℕ → ℕ → Type 0
@@ -220,10 +220,10 @@ two_keeps setting ns at t e to r m make s u req read same form h n next there =
     subst (λ y. Keeps (node_names y) setting s u) (sym is) (h b d here after)
 
 pub two_other : (ns : List Node) (at t e to : ℕ) (r m : Node) (make : tree.Nodes → tree.Nodes → tree.Node) (s u : State) → IsNode ns at to → r ≡ get_or ns at r → r ≡ m → flat_of m ≡ record { head = with_two make; ends = t ∷ e ∷ [] }
-    → ((b d : tree.Nodes) → IsRender (make b d) → ⊥) → NodeAlone ns at s u
+    → ((b d : tree.Nodes) → IsRenderNode (make b d) → ⊥) → NodeAlone ns at s u
 two_other ns at t e to r m make s u req read same form other n next there h =
     let (b, d, is, here, after, ends) = known_two ns at t e n next make (subst (Known ns at n next) form (known ns at r m n next there (node_within ns at to req) read same)) in
-    absurd (other (nodes_of b) (nodes_of d) (subst (λ y. IsRender y) is h))
+    absurd (other (nodes_of b) (nodes_of d) (subst (λ y. IsRenderNode y) is h))
 
 pub going_past : (setting : Setting) (depth : ℕ) (ns : List Node) (from at to at2 : ℕ) (start here : Configuration) → IsRange ns from to → Going setting depth ns from at to start here → at < to → ((n : tree.Node) (next : ℕ) → NodeAt ns at n next → at2 ≡ next) → at < at2
 going_past setting depth ns from at to at2 start here (f, s) going lt ends =
@@ -255,10 +255,10 @@ one_keeps setting ns at e to r m make s u req read same form h n next there =
     subst (λ y. Keeps (node_names y) setting s u) (sym is) (h b here)
 
 pub one_other : (ns : List Node) (at e to : ℕ) (r m : Node) (make : tree.Nodes → tree.Node) (s u : State) → IsNode ns at to → r ≡ get_or ns at r → r ≡ m → flat_of m ≡ record { head = with_one make; ends = e ∷ [] }
-    → ((b : tree.Nodes) → IsRender (make b) → ⊥) → NodeAlone ns at s u
+    → ((b : tree.Nodes) → IsRenderNode (make b) → ⊥) → NodeAlone ns at s u
 one_other ns at e to r m make s u req read same form other n next there h =
     let (b, is, here, ends) = known_one ns at e n next make (subst (Known ns at n next) form (known ns at r m n next there (node_within ns at to req) read same)) in
-    absurd (other (nodes_of b) (subst (λ y. IsRender y) is h))
+    absurd (other (nodes_of b) (subst (λ y. IsRenderNode y) is h))
 
 pub node_before : (ns : List Node) (at to : ℕ) → IsNode ns at to → at < to
 node_before ns at to (n, next, (x, bs, is, inner, made, ends), le) = let within = StandBodies-le (flats ns) (at + 1) x.ends bs inner in omega arith

@@ -17,7 +17,7 @@ use Rattle.liquid_lib.specs.Sinks.{Sink, AddsPart}
 use Rattle.liquid_meaning.specs.Runs.{Nothing, Outcome, Run, done, read, evaluate, fault, change, write, after_text, go_on, ◌>>=◌, with_scope, buffered, ended_with}
 use Rattle.liquid_meaning.specs.Effects.{if_none, unless_interrupted}
 use Rattle.liquid_meaning.specs.Meaning.{Setting, node_meaning, nodes_meaning}
-use Rattle.liquid_lib.specs.Performs.{Configuration, Exact, MeetsAt, Meets, Performs, Writes, IsCut, unit}
+use Rattle.liquid_lib.specs.Performs.{Configuration, Exact, MeetsAt, Meets, Performs, WritesText, IsCut, unit}
 use Rattle.liquid_meaning.proofs.Steps.{bind_ok, bind_fault, nodes_meaning-node, nodes_meaning-none}
 use Rattle.liquid_lib.proofs.Sinks.{Adds-nil, Adds-trans, AddsPart-after, AddsPart-longer, AddsPart-none, Around, around-adds, around-text, part-of_none}
 
@@ -121,7 +121,7 @@ read_met vb r f k p u next = bind_met (λ a. a) vb (f p.environment) r (read f) 
 
 -- ---- texts and changes
 
-pub write_met : (r : Result (Unit {0}) Error) (t : Text) (s u : Sink) (e : Environment) → Writes r t s u → Performs r (write t) (record { sink = s; environment = e }) (record { sink = u; environment = e })
+pub write_met : (r : Result (Unit {0}) Error) (t : Text) (s u : Sink) (e : Environment) → WritesText r t s u → Performs r (write t) (record { sink = s; environment = e }) (record { sink = u; environment = e })
 unfolding write
 write_met r t s u e h = h e
 

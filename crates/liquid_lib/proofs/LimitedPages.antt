@@ -9,7 +9,7 @@ use Rattle.liquid_model.specs.declared.error.ErrorKind.TheVariants.{Memory, Writ
 use Rattle.liquid_core.specs.Environment.{Environment}
 use Rattle.liquid_meaning.specs.Runs.{Nothing, Run}
 use Rattle.liquid_lib.specs.Failures.{OneFailed, AtMostOneFailed}
-use Rattle.liquid_lib.specs.LimitedPages.{Begins, PageWithin}
+use Rattle.liquid_lib.specs.LimitedPages.{IsPrefixOf, PageWithin}
 use Rattle.liquid_lib.specs.LimitedParts.{both}
 use Rattle.liquid_lib.specs.Pages.{ended_page, fault_of, page_view, shown, Shown}
 use Rattle.liquid_lib.specs.Performs.{Configuration, Performs}
@@ -26,7 +26,7 @@ module _ (text : Text) (refused : ℕ) (last : LimitReached) (m : Run Nothing) (
   limit = cond (eqb refused 0) None (Some last)
 
   abbrev Is : Shown → Type 0
-  Is seen = ((limit ≡ None) × (seen ≡ shown (m e))) ⊎ (IsSome limit × (seen.fault ≡ Some Write) × Begins seen.text (m e).text)
+  Is seen = ((limit ≡ None) × (seen ≡ shown (m e))) ⊎ (IsSome limit × (seen.fault ≡ Some Write) × IsPrefixOf seen.text (m e).text)
 
   seen : (answer : Result (Unit {0}) Error) → Performs answer m (within_limits [] 0 e) (within_limits text refused g) → IfErr answer (λ x. is_memory x.kind ≡ false) → Is (ended_page text answer)
   seen answer (inl x) ran =

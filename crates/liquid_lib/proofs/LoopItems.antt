@@ -24,7 +24,7 @@ use Rattle.liquid_evaluation.specs.Tree.{Source, Window}
 use Rattle.liquid_evaluation.proofs.Calls.{faulted_as, faulted_then}
 use Rattle.liquid_evaluation.proofs.ItemPlaces.{item_by_place}
 use Rattle.liquid_evaluation.proofs.Windows.{window_by_place}
-use Rattle.liquid_lib.specs.inside.LoopTurns.{IsFor, cells_asked, each_from, in_columns, items_asked, placed, some_columns}
+use Rattle.liquid_lib.specs.inside.LoopTurns.{IsFor, cells_asked, each_from, in_columns, items_asked, window_values, some_columns}
 use Rattle.liquid_meaning.specs.Effects.{value_or_nil}
 use Rattle.liquid_meaning.specs.Loops.{columns_of}
 
@@ -38,7 +38,7 @@ listed_from (x ∷ xs) item k h =
     λ i. head i ∷ tail i
 
 pub window_placed : (ds : List Datum) (limit offset : Option ℤ) (reversed : Bool)
-    → window_items ds limit offset reversed ≡ placed ds (skipped (length ds) offset) (wanted (length ds) (skipped (length ds) offset) limit) reversed
+    → window_items ds limit offset reversed ≡ window_values ds (skipped (length ds) offset) (wanted (length ds) (skipped (length ds) offset) limit) reversed
 window_placed ds limit offset reversed =
     let a = window_by_place ds limit offset reversed in
     let item : ℕ → Datum = λ k. get_or ds (place_of reversed (skipped (length ds) offset) (wanted (length ds) (skipped (length ds) offset) limit) k) nil in
@@ -62,13 +62,13 @@ each_none item k m is = ap (each_from item k) (let e : m - k ≡ 0 = omega (arit
 
 -- what an evaluated window asks for
 pub asked_placed : (window : Window) (ds : List Datum) (e : Environment) (limit offset : Option ℤ) (n o m : ℕ) → length ds ≡ n → amount window.limit e ≡ Ok limit → amount window.offset e ≡ Ok offset
-    → o ≡ skipped n offset → m ≡ wanted n (skipped n offset) limit → asked_for window ds e ≡ Ok (placed ds o m window.reversed)
+    → o ≡ skipped n offset → m ≡ wanted n (skipped n offset) limit → asked_for window ds e ≡ Ok (window_values ds o m window.reversed)
 unfolding asked_for
 asked_placed window ds e limit offset n o m long l f is many =
     ap (λ r. r >>= (λ limit. amount window.offset e >>= (λ offset. Ok (window_items ds limit offset window.reversed)))) l
     ∙ ap (λ r. r >>= (λ offset. Ok (window_items ds limit offset window.reversed))) f
     ∙ ap (λ x. Ok x) (window_placed ds limit offset window.reversed)
-    ∙ (λ i. Ok (placed ds (first i) (many_at i) window.reversed))
+    ∙ (λ i. Ok (window_values ds (first i) (many_at i) window.reversed))
   where
     first : skipped (length ds) offset ≡ o
     first = ap (λ k. skipped k offset) long ∙ sym is
@@ -89,7 +89,7 @@ offset_faulted window ds e limit kind l h =
 -- ---- the turns of a loop
 
 -- the items of the turns are those of the source at their places
-pub turn_list : (items : Items) (o m : ℕ) (reversed : Bool) → placed (all_items items) o m reversed ≡ each_from (λ k. item_of items (place_of reversed o m k)) 0 m
+pub turn_list : (items : Items) (o m : ℕ) (reversed : Bool) → window_values (all_items items) o m reversed ≡ each_from (λ k. item_of items (place_of reversed o m k)) 0 m
 turn_list items o m reversed = ap (λ f. each_from f 0 m) (fun_ext (λ k. sym (item_by_place items (place_of reversed o m k))))
 
 module _ (source : Source) (window : Window) (e : Environment) where
@@ -145,14 +145,14 @@ in_faulted : (item : ℕ → Datum) (m columns : ℕ) (kind : ErrorKind) → 0 <
 in_faulted item zero columns kind lt h = absurd (omega arith)
 in_faulted item (suc m) columns kind lt h = faulted_then kind (some_columns columns) (λ some. Ok (Some (each_from item 0 (suc m), some))) h
 
-module _ (source : Source) (window : Window) (columns : Option Expression) (e : Environment) (all : List Datum) (asked : Option ℤ) (o m : ℕ) (is : source_items source e ≡ Ok all) (many : amount columns e ≡ Ok asked) (h : asked_for window all e ≡ Ok (placed all o m window.reversed)) where
-  in_these : cells_asked source window columns e ≡ in_columns (placed all o m window.reversed) (columns_of m asked)
+module _ (source : Source) (window : Window) (columns : Option Expression) (e : Environment) (all : List Datum) (asked : Option ℤ) (o m : ℕ) (is : source_items source e ≡ Ok all) (many : amount columns e ≡ Ok asked) (h : asked_for window all e ≡ Ok (window_values all o m window.reversed)) where
+  in_these : cells_asked source window columns e ≡ in_columns (window_values all o m window.reversed) (columns_of m asked)
   in_these =
-      cells_asked_of source window columns e all (placed all o m window.reversed) asked is many h
-      ∙ ap (λ n. in_columns (placed all o m window.reversed) (columns_of n asked)) (each_count (λ k. get_or all (place_of window.reversed o m k) nil) 0 m)
+      cells_asked_of source window columns e all (window_values all o m window.reversed) asked is many h
+      ∙ ap (λ n. in_columns (window_values all o m window.reversed) (columns_of n asked)) (each_count (λ k. get_or all (place_of window.reversed o m k) nil) 0 m)
 
   pub row_faulted : (kind : ErrorKind) → 0 < m → Faulted kind (some_columns (columns_of m asked)) → Faulted kind (cells_asked source window columns e)
   row_faulted kind some f = faulted_as kind _ _ in_these (in_faulted (λ k. get_or all (place_of window.reversed o m k) nil) m (columns_of m asked) kind some f)
 
-  pub row_cells : (count : ℕ) → 0 < m → some_columns (columns_of m asked) ≡ Ok count → cells_asked source window columns e ≡ Ok (Some (placed all o m window.reversed, count))
+  pub row_cells : (count : ℕ) → 0 < m → some_columns (columns_of m asked) ≡ Ok count → cells_asked source window columns e ≡ Ok (Some (window_values all o m window.reversed, count))
   row_cells count some f = in_these ∙ in_some (λ k. get_or all (place_of window.reversed o m k) nil) m (columns_of m asked) count some f

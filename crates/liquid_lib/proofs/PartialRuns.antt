@@ -32,7 +32,7 @@ use Rattle.liquid_evaluation.specs.Evaluation.{answers_with}
 use Rattle.liquid_lib.specs.declared.context.RunContext.{RunContext}
 use Rattle.liquid_lib.specs.inside.Engine.{nodes_meant, setting_of}
 use Rattle.liquid_lib.specs.Kept.{LayersKept}
-use Rattle.liquid_lib.specs.inside.Partials.{bound_as, depth_left, entry_at, entry_of, include_entry, item_entry, jekyll_entry, left_with, named_entry, own_names, partial_of, render_entry, rendered_of}
+use Rattle.liquid_lib.specs.inside.Partials.{bound_as, depth_left, entry_at, entry_of, include_entry, item_entry, jekyll_entry, left_with, named_entry, render_environment, partial_of, render_entry, render_partial}
 use Rattle.liquid_lib.specs.Performs.{Configuration, Meets, MeetsAt, Performs, unit}
 use Rattle.liquid_lib.specs.Sinks.{Sink}
 use Rattle.liquid_lib.proofs.Apart.{apart_in, left_met}
@@ -270,8 +270,8 @@ module _ (setting : Setting) (depth : ℕ) (x : Expression) (bindings : tree.Bin
   unfolding evaluate runs.◌>>=◌ apart go_on
   render_is e =
       (λ i. render_rule setting (deeper_meaning setting depth) x bindings i e)
-      ∙ named_at after_it (λ name. entry_of own_names (rendered_of setting.partials name) depth bindings e) (λ name. looked own_names apart_in setting depth bindings (rendered_of setting.partials name)) (inside own_names apart_in setting) e (λ kind. refl)
-      (λ name. looked_is own_names apart_in setting apart_ends bindings (rendered_of setting.partials name) depth e) (name_of x e)
+      ∙ named_at after_it (λ name. entry_of render_environment (render_partial setting.partials name) depth bindings e) (λ name. looked render_environment apart_in setting depth bindings (render_partial setting.partials name)) (inside render_environment apart_in setting) e (λ kind. refl)
+      (λ name. looked_is render_environment apart_in setting apart_ends bindings (render_partial setting.partials name) depth e) (name_of x e)
 
   pub render_refused : (e : Error) (p : Configuration) → Faulted e.kind (render_entry setting.partials depth x bindings p.environment) → Performs (Err e) (node_meaning setting (deeper_meaning setting depth) (tree.render x None bindings)) p p
   render_refused e p h = refused_by unit (node_meaning setting (deeper_meaning setting depth) (tree.render x None bindings)) (render_entry setting.partials depth x bindings) rendered p (render_is p.environment) e h
@@ -318,7 +318,7 @@ module _ (setting : Setting) (depth : ℕ) (name : Text) (bindings : tree.Bindin
 
     item_is : (e : Environment) → render_apart setting (deeper_meaning setting depth) name bindings names e ≡ runs.◌>>=◌ (evaluate (item_entry setting.partials depth name bindings names)) item_rendered e
     unfolding apart
-    item_is e = looked_is item_names apart_in setting apart_ends bindings (rendered_of setting.partials name) depth e
+    item_is e = looked_is item_names apart_in setting apart_ends bindings (render_partial setting.partials name) depth e
 
     pub item_refused : (e : Error) (p : Configuration) → Faulted e.kind (item_entry setting.partials depth name bindings names p.environment) → Meets (λ (i : Option Interrupt). i) (Err e) (render_apart setting (deeper_meaning setting depth) name bindings names) p p
     item_refused e p h = refused_by (λ (i : Option Interrupt). i) (render_apart setting (deeper_meaning setting depth) name bindings names) (item_entry setting.partials depth name bindings names) item_rendered p (item_is p.environment) e h
@@ -366,5 +366,5 @@ pub small_list : (t : Template) (n : ℕ) → node_count_of t ≤ n → length (
 small_list t n h = subst (λ k. k ≤ n) (template_count t) h
 
 -- a partial of the very name comes first
-pub rendered_name : (partials : List (Text × tree.Nodes)) (name : Text) (partial : tree.Nodes) → listed partials name ≡ Some partial → rendered_of partials name ≡ Ok partial
+pub rendered_name : (partials : List (Text × tree.Nodes)) (name : Text) (partial : tree.Nodes) → listed partials name ≡ Some partial → render_partial partials name ≡ Ok partial
 rendered_name partials name partial is = ap (λ o. found (o else listed partials (name ++ codes ".liquid"))) is

@@ -2,17 +2,17 @@
 use Rattle.std.proofs.Common.{◌≡◌, ℕ, List, [], ◌++◌, Option, Some, IsSome, is_some, refl, sym, ap, subst, ◌∙◌, append_assoc}
 use Rattle.std.specs.Io.KnownBytes.{Appends}
 use Rattle.std.proofs.KnownBytes.{Appends-trans, Appends-nil}
-use Rattle.liquid_lib.specs.Sinks.{Sink, held, held_in, Adds, AddsPart}
+use Rattle.liquid_lib.specs.Sinks.{Sink, growing_contents, held_in, Adds, AddsPart}
 
 pub Adds-nil : (s : Sink) → Adds s s []
-Adds-nil s = record { added = Appends-nil (held s); same_place = refl; behind = λ _. refl }
+Adds-nil s = record { added = Appends-nil (growing_contents s); same_place = refl; behind = λ _. refl }
 
 IsSome-same : {A : Type 0} (a b : Option A) → is_some b ≡ is_some a → IsSome a → IsSome b
 IsSome-same a b e h = cc
 
 pub Adds-trans : (s t u : Sink) (xs ys : List ℕ) → Adds s t xs → Adds t u ys → Adds s u (xs ++ ys)
 Adds-trans s t u xs ys p q = record {
-  added = Appends-trans (held s) (held t) (held u) xs ys p.added q.added;
+  added = Appends-trans (growing_contents s) (growing_contents t) (growing_contents u) xs ys p.added q.added;
   same_place = q.same_place ∙ p.same_place;
   behind = λ inside. q.behind (IsSome-same s.buffer t.buffer p.same_place inside) ∙ p.behind inside;
 }
@@ -40,7 +40,7 @@ AddsPart-none s xs = record { front = []; rest = xs; whole = refl; adds = Adds-n
 -- an output as it was
 pub Adds-same : (s u : Sink) → u.buffer ≡ s.buffer → u.contents ≡ s.contents → Adds s u []
 Adds-same s u b k = record {
-  added = subst (λ v. Appends (held s) v []) (ap (λ x. held_in x s.contents) (sym b) ∙ ap (held_in u.buffer) (sym k)) (Appends-nil (held s));
+  added = subst (λ v. Appends (growing_contents s) v []) (ap (λ x. held_in x s.contents) (sym b) ∙ ap (held_in u.buffer) (sym k)) (Appends-nil (growing_contents s));
   same_place = ap is_some b;
   behind = λ inside. k;
 }
@@ -65,7 +65,7 @@ around-adds s p q u text front around a =
 
 pub around-text : (s p q u : Sink) (text front : List ℕ) → Around s p q u text → Adds p q front → text ≡ front
 around-text s p q u text front around a =
-    let there = subst (λ b. Appends (held_in b p.contents) (held q) front) around.opened a.added in
+    let there = subst (λ b. Appends (held_in b p.contents) (growing_contents q) front) around.opened a.added in
     subst (λ b. Appends (Some []) (held_in b q.contents) front) around.closed there
 
 pub part-of_none : (s u : Sink) (text : List ℕ) → Adds s u [] → AddsPart s u text

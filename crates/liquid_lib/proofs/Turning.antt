@@ -24,7 +24,7 @@ use Rattle.liquid_meaning.proofs.Within.{left, right}
 use Rattle.liquid_lib.specs.Kept.{LayersKept}
 use Rattle.liquid_lib.specs.inside.LoopRuns.{StartsAt, cells_meant, one_cell, one_turn, turns_meant}
 use Rattle.liquid_lib.specs.inside.LoopTurns.{each_from}
-use Rattle.liquid_lib.specs.Performs.{Configuration, Meets, Performs, Writes, unit}
+use Rattle.liquid_lib.specs.Performs.{Configuration, Meets, Performs, WritesText, unit}
 use Rattle.liquid_lib.specs.Sinks.{Sink}
 use Rattle.liquid_lib.proofs.Joined.{by_rule, bind_met, bind_faulted, change_met, done_met, read_met, write_met}
 use Rattle.liquid_lib.proofs.Kept.{kept_after, kept_interrupt}
@@ -157,21 +157,21 @@ module _ (t : LoopFrame) (k : ℕ) (local : Map Datum) (body : Run Nothing) (s u
   abbrev inside : ℕ → Nothing → Run Nothing
   inside columns a = with_scope (frame_map_at t k local) body >>= (λ b. write (cell_end k t.count columns))
 
-  pub cell_ran : (columns : ℕ) (x y : Unit {0}) (r : Result (Unit {0}) Error) (first last : Sink) → Writes (Ok x) (cell_start k columns) first s → Performs (Ok y) body (record { sink = s; environment = merged_layers p }) (record { sink = u; environment = merged_layers q })
-      → Writes r (cell_end k t.count columns) u last → Performs r (one_cell t columns local body k (frame_item_at t k)) (before first) (record { sink = last; environment = merged_layers (with_scope_popped q) })
+  pub cell_ran : (columns : ℕ) (x y : Unit {0}) (r : Result (Unit {0}) Error) (first last : Sink) → WritesText (Ok x) (cell_start k columns) first s → Performs (Ok y) body (record { sink = s; environment = merged_layers p }) (record { sink = u; environment = merged_layers q })
+      → WritesText r (cell_end k t.count columns) u last → Performs r (one_cell t columns local body k (frame_item_at t k)) (before first) (record { sink = last; environment = merged_layers (with_scope_popped q) })
   cell_ran columns x y r first last opens h closes =
       let end : Configuration = record { sink = last; environment = merged_layers (with_scope_popped q) } in
       bind_met unit unit x r (write (cell_start k columns)) (inside columns) (before first) (before s) end (write_met (Ok x) (cell_start k columns) first s (merged_layers (with_scope_popped p)) opens)
       (bind_met unit unit y r (with_scope (frame_map_at t k local) body) (λ b. write (cell_end k t.count columns)) (before s) after end (ran_in (Ok y) h) (write_met r (cell_end k t.count columns) u last (merged_layers (with_scope_popped q)) closes))
 
-  pub cell_faulted : (columns : ℕ) (x : Unit {0}) (e : Error) (first : Sink) → Writes (Ok x) (cell_start k columns) first s → Performs (Err e) body (record { sink = s; environment = merged_layers p }) (record { sink = u; environment = merged_layers q })
+  pub cell_faulted : (columns : ℕ) (x : Unit {0}) (e : Error) (first : Sink) → WritesText (Ok x) (cell_start k columns) first s → Performs (Err e) body (record { sink = s; environment = merged_layers p }) (record { sink = u; environment = merged_layers q })
       → Performs (Err e) (one_cell t columns local body k (frame_item_at t k)) (before first) after
   cell_faulted columns x e first opens h =
       bind_met unit unit x (Err e) (write (cell_start k columns)) (inside columns) (before first) (before s) after (write_met (Ok x) (cell_start k columns) first s (merged_layers (with_scope_popped p)) opens)
       (bind_faulted unit unit e (with_scope (frame_map_at t k local) body) (λ b. write (cell_end k t.count columns)) (before s) after (ran_in (Err e) h))
 
 -- a cell that can't begin
-pub cell_unopened : (t : LoopFrame) (k columns : ℕ) (local : Map Datum) (body : Run Nothing) (e : Error) (s u : Sink) (g : Environment) → Writes (Err e) (cell_start k columns) s u
+pub cell_unopened : (t : LoopFrame) (k columns : ℕ) (local : Map Datum) (body : Run Nothing) (e : Error) (s u : Sink) (g : Environment) → WritesText (Err e) (cell_start k columns) s u
     → Performs (Err e) (one_cell t columns local body k (frame_item_at t k)) (record { sink = s; environment = g }) (record { sink = u; environment = g })
 cell_unopened t k columns local body e s u g h =
     bind_faulted unit unit e (write (cell_start k columns)) (λ a. with_scope (frame_map_at t k local) body >>= (λ b. write (cell_end k t.count columns))) _ _ (write_met (Err e) (cell_start k columns) s u g h)

@@ -5,5 +5,5 @@ use Rattle.liquid_lib.specs.declared.counted.Counted.{Counted}
 abbrev pub inner : {W : Type 0} → Counted W → W
 inner c = c.writer
 
-abbrev pub count : {W : Type 0} → Counted W → ℕ
-count c = c.failures
+abbrev pub failures_so_far : {W : Type 0} → Counted W → ℕ
+failures_so_far c = c.failures

@@ -24,10 +24,10 @@ Keeps names setting old new = (N : Names) → Within N names →
     Within N (partials_names setting.partials) → LayersKept N (layers_of old) (layers_of new)
 
 -- nodes that leave everything as it was
-abbrev pub IsRender : Node → Type 0
-IsRender (render x each bindings) = Unit {0}
-IsRender _ = ⊥
+abbrev pub IsRenderNode : Node → Type 0
+IsRenderNode (render x each bindings) = Unit {0}
+IsRenderNode _ = ⊥
 
-abbrev pub AreRenders : Nodes → Type 0
-AreRenders no_nodes = Unit {0}
-AreRenders (node n more) = IsRender n × AreRenders more
+abbrev pub AreRenderNodes : Nodes → Type 0
+AreRenderNodes no_nodes = Unit {0}
+AreRenderNodes (node n more) = IsRenderNode n × AreRenderNodes more

@@ -6,8 +6,8 @@ use Rattle.liquid_lib.specs.Pages.{Shown, page_view}
 use Rattle.liquid_lib.specs.declared.page.LimitedPage.{LimitedPage}
 
 -- a beginning of a text
-abbrev pub Begins : Text → Text → Type 0
-Begins front whole = (rest : Text) × (front ++ rest ≡ whole)
+abbrev pub IsPrefixOf : Text → Text → Type 0
+IsPrefixOf front whole = (rest : Text) × (front ++ rest ≡ whole)
 
 -- No limit was reached, and it is the whole page; or one was, and the page has a beginning of
 -- its text and ends by `Write`.
@@ -15,4 +15,4 @@ abbrev pub PageWithin : Shown → LimitedPage → Type 0
 PageWithin whole p =
     ((p.limit ≡ None) × (page_view p.page ≡ whole))
     ⊎ (IsSome p.limit × ((page_view p.page).fault ≡ Some Write)
-    × Begins (page_view p.page).text whole.text)
+    × IsPrefixOf (page_view p.page).text whole.text)

@@ -1,6 +1,6 @@
 -- What a writer still grants a run: bytes of text, and turns.
 --     Takes n old new      n of those left were taken; where there is no limit, there still is none
---     fits n left      so many are left, or there is no limit
+--     is_within_limit n left      so many are left, or there is no limit
 use Rattle.std.specs.Prelude.{◌≡◌, ℕ, ◌-◌, ◌≤◌, nat_le, Bool, true}
 use Rattle.std.specs.Prelude.{Option, Some, None, Result, Ok, Err}
 use Rattle.liquid_lib.specs.declared.limits.Limits.{Limits}
@@ -9,9 +9,9 @@ use Rattle.liquid_lib.specs.declared.limits.Limits.{Limits}
 abbrev pub unlimited : Limits
 unlimited = record { bytes = None; turns = None }
 
-abbrev pub fits : ℕ → Option ℕ → Bool
-fits n None = true
-fits n (Some left) = nat_le n left
+abbrev pub is_within_limit : ℕ → Option ℕ → Bool
+is_within_limit n None = true
+is_within_limit n (Some left) = nat_le n left
 
 abbrev pub Takes : ℕ → Option ℕ → Option ℕ → Type 0
 Takes n None new = new ≡ None

@@ -2,7 +2,7 @@
 --     Meets view r m before after      the step is the run m, unless the answer is `Memory` or
 --                                      `Write`: then a beginning of m's text was added
 --     Performs r m before after      the same of a step that gives no value
---     Writes r t old new      the step writes t and does nothing else
+--     WritesText r t old new      the step writes t and does nothing else
 use Rattle.std.specs.Prelude.{◌≡◌, ℕ, List, Bool, false, Result, Ok, Err, ◌⊎◌, Option, None}
 use Rattle.liquid_model.specs.Texts.{Text}
 use Rattle.liquid_model.specs.declared.error.Error.{Error}
@@ -75,8 +75,8 @@ abbrev pub Performs : Result (Unit {0}) Error → Run Nothing → Configuration 
 Performs r m before after = Meets unit r m before after
 
 -- the text was written, unless the answer is `Memory` or `Write`, and nothing else happened
-abbrev pub Writes : Result (Unit {0}) Error → Text → Sink → Sink → Type 0
-Writes r t old new = (e : Environment) → MeetsAt unit r (record {
+abbrev pub WritesText : Result (Unit {0}) Error → Text → Sink → Sink → Type 0
+WritesText r t old new = (e : Environment) → MeetsAt unit r (record {
   text = t;
   environment = e;
   end = Ok tt;

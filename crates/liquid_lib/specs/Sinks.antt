@@ -17,8 +17,8 @@ held_in (Some bytes) contents = Some bytes
 held_in None contents = contents
 
 -- what grows: the innermost open buffer, or what the caller's writer holds
-abbrev pub held : Sink → Option (List ℕ)
-held s = held_in s.buffer s.contents
+abbrev pub growing_contents : Sink → Option (List ℕ)
+growing_contents s = held_in s.buffer s.contents
 
 abbrev pub sink_of : {W : Type 0} → (W → Option (List ℕ)) → (W → ℕ) → Output W → Sink
 sink_of contents failure_count out = record {
@@ -29,7 +29,7 @@ sink_of contents failure_count out = record {
 
 -- text was added to the innermost open buffer, or to the caller's writer where none is open
 pub record Adds (old new : Sink) (text : List ℕ) : Type 0 where
-  pub added : Appends (held old) (held new) text
+  pub added : Appends (growing_contents old) (growing_contents new) text
   pub same_place : is_some new.buffer ≡ is_some old.buffer
   -- while a buffer is open nothing reaches the caller's writer
   pub behind : IsSome old.buffer → new.contents ≡ old.contents

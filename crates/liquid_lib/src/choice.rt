@@ -11,7 +11,7 @@ ghost use Rattle.liquid_syntax.specs.Flats.{Maker, StandsAt, IsRange, nodes_of};
 ghost use Rattle.liquid_syntax.specs.Forest.{Forest};
 ghost use Rattle.liquid_evaluation.specs.Tree as tree;
 ghost use Rattle.liquid_lib.specs.inside.Choices.{Meant, ComesTo, NodeComesTo, ListComesTo};
-ghost use Rattle.liquid_lib.specs.inside.Choices.{CaseStands, IsCase, CaseLeft, equal_among};
+ghost use Rattle.liquid_lib.specs.inside.Choices.{CaseStands, HasCaseAt, CaseLeft, equal_among};
 
 use crate::context::Places;
 use crate::fault_location::located_elsif;
@@ -94,7 +94,7 @@ pub(crate) fn case_range(
     last: usize,
     state: &State<'_>,
 ) -> Result<(usize, usize)>
-    requires { IsCase nodes.now (at + 1) arms.now last }
+    requires { HasCaseAt nodes.now (at + 1) arms.now last }
     ensures inside { IfOk result (λ range. (at < range.0) × (range.1 ≤ last)) }
     ensures chosen { (ws : tree.Whens) (o : tree.Nodes) →
         CaseStands nodes.now (at + 1) arms.now last ws o →
@@ -116,7 +116,7 @@ fn arm_range(
     last: usize,
     state: &State<'_>,
 ) -> Result<(usize, usize)>
-    requires { IsCase nodes.now first arms.now last }
+    requires { HasCaseAt nodes.now first arms.now last }
     ensures inside { IfOk result (λ range. (first ≤ range.0) × (range.1 ≤ last)) }
     ensures chosen { (names : List Text) (meant : Meant) →
         CaseLeft nodes.now (environment_of state.now) names meant (view wanted.now) arms.now

@@ -66,12 +66,12 @@ pub struct Counted<W> {
 }
 
 impl<W: Write> Counted<W> {
-    ghost use Rattle.liquid_lib.specs.CountedParts.{inner, count};
+    ghost use Rattle.liquid_lib.specs.CountedParts.{inner, failures_so_far};
 
     /// The writer, with no failure counted yet.
     pub fn new(writer: W) -> Self
         ensures writer { inner result ≡ writer }
-        ensures none { count result ≡ 0 }
+        ensures none { failures_so_far result ≡ 0 }
     {
         Counted {
             writer,
@@ -92,11 +92,11 @@ impl<W: Write> Counted<W> {
 }
 
 impl<W: Write> CountedWrite for Counted<W> {
-    ghost use Rattle.liquid_lib.specs.CountedParts.{inner, count};
+    ghost use Rattle.liquid_lib.specs.CountedParts.{inner, failures_so_far};
 
     ghost contents = { λ c. W.contents (inner c) };
 
-    ghost failure_count = { λ c. count c };
+    ghost failure_count = { λ c. failures_so_far c };
 
     fn write(&mut self, bytes: &[u8]) -> io::Result<usize> {
         let answer = self.writer.write(bytes);

@@ -13,7 +13,7 @@ ghost use Rattle.liquid_evaluation.specs.Names.{node_names, nodes_names};
 ghost use Rattle.liquid_evaluation.specs.Tree as tree;
 ghost use Rattle.liquid_lib.specs.inside.Choices.{NodeComesTo};
 ghost use Rattle.liquid_lib.specs.inside.Engine.{setting_of, node_in, nodes_in};
-ghost use Rattle.liquid_lib.specs.Kept.{Keeps, IsRender, AreRenders};
+ghost use Rattle.liquid_lib.specs.Kept.{Keeps, IsRenderNode, AreRenderNodes};
 ghost use Rattle.liquid_lib.specs.Performs.{Performs, configuration_of};
 ghost use Rattle.liquid_lib.specs.Silent.{AreSilent, IsDoneOrStopped, IsSilent};
 ghost use Rattle.liquid_lib.specs.Sinks.{sink_of};
@@ -58,7 +58,8 @@ pub(crate) fn run_range<'d, W: CountedWrite, H: NamedFilters>(
     ensures same_writer { out.new.writer.ghost_name ≡ out.old.writer.ghost_name }
     ensures kept { (f : Forest Maker) → StandsAt nodes.now from f to →
         Keeps (nodes_names (nodes_of f)) (setting_of H.named context.now) state.old state.new }
-    ensures alone { (f : Forest Maker) → StandsAt nodes.now from f to → AreRenders (nodes_of f) →
+    ensures alone { (f : Forest Maker) → StandsAt nodes.now from f to →
+        AreRenderNodes (nodes_of f) →
         layers_of state.new ≡ layers_of state.old }
     ensures silent { (f : Forest Maker) → StandsAt nodes.now from f to → AreSilent (nodes_of f) →
         IsDoneOrStopped result
@@ -109,7 +110,7 @@ fn run_node<'d, W: CountedWrite, H: NamedFilters>(
     ensures same_writer { out.new.writer.ghost_name ≡ out.old.writer.ghost_name }
     ensures kept { (n : tree.Node) (next : ℕ) → NodeAt nodes.now at n next →
         Keeps (node_names n) (setting_of H.named context.now) state.old state.new }
-    ensures alone { (n : tree.Node) (next : ℕ) → NodeAt nodes.now at n next → IsRender n →
+    ensures alone { (n : tree.Node) (next : ℕ) → NodeAt nodes.now at n next → IsRenderNode n →
         layers_of state.new ≡
         layers_of state.old }
     ensures silent { (n : tree.Node) (next : ℕ) → NodeAt nodes.now at n next →

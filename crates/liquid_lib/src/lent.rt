@@ -4,7 +4,7 @@ ghost use Rattle.liquid_core.specs.States.{layers_of, loops_of};
 ghost use Rattle.liquid_syntax.specs.Templates.{tree_of};
 ghost use Rattle.liquid_evaluation.specs.Names.{nodes_names};
 ghost use Rattle.liquid_lib.specs.inside.Engine.{setting_of, nodes_in};
-ghost use Rattle.liquid_lib.specs.Kept.{Keeps, LayersKept, AreRenders};
+ghost use Rattle.liquid_lib.specs.Kept.{Keeps, LayersKept, AreRenderNodes};
 ghost use Rattle.liquid_lib.specs.Performs.{Performs, configuration_of};
 ghost use Rattle.liquid_lib.specs.Rendered.{run_in, names_in};
 ghost use Rattle.liquid_lib.specs.RuntimeView.{SettingKept, layers_in};
@@ -35,7 +35,7 @@ pub(crate) fn run_template<W: CountedWrite>(
     ensures same_writer { out.new.writer.ghost_name ≡ out.old.writer.ghost_name }
     ensures kept { LayersKept (names_in runtime.old (tree_of template.now)) (layers_in runtime.old)
         (layers_in runtime.new) }
-    ensures alone { AreRenders (tree_of template.now) → layers_in runtime.new ≡
+    ensures alone { AreRenderNodes (tree_of template.now) → layers_in runtime.new ≡
         layers_in runtime.old }
     ensures silent { AreSilent (tree_of template.now) →
         IsDoneOrStopped result
@@ -71,7 +71,8 @@ pub(crate) fn run_lent<W: CountedWrite, H: NamedFilters>(
     ensures kept { Keeps (nodes_names (tree_of template.now)) (setting_of H.named context.now)
         state.old
         state.new }
-    ensures alone { AreRenders (tree_of template.now) → layers_of state.new ≡ layers_of state.old }
+    ensures alone { AreRenderNodes (tree_of template.now) → layers_of state.new ≡
+        layers_of state.old }
     ensures silent { AreSilent (tree_of template.now) →
         IsDoneOrStopped result
         (sink_of W.contents W.failure_count out.old).failures

@@ -5,7 +5,8 @@ ghost use Rattle.std.specs.Io.KnownBytes.{WriteAppends};
 ghost use Rattle.liquid_lib.specs.Failures.{failures_after, OneFailed};
 ghost use Rattle.liquid_lib.specs.LimitedParts.{limited_inner, limited_left, refusals};
 ghost use Rattle.liquid_lib.specs.LimitedParts.{failures_of, reached, Refuses};
-ghost use Rattle.liquid_lib.specs.Limits.{fits, Takes, TakesBytes, TakesTurn, WriteTakes};
+ghost use Rattle.liquid_lib.specs.Limits.{is_within_limit, Takes, TakesBytes, TakesTurn};
+ghost use Rattle.liquid_lib.specs.Limits.{WriteTakes};
 ghost use Rattle.liquid_lib.specs.declared.limits.LimitReached.TheVariants.{Bytes, Turns};
 
 use crate::counted::CountedWrite;
@@ -112,11 +113,11 @@ impl<W: CountedWrite> CountedWrite for Limited<W> {
             ≡ failures_after result bytes.now (failures_of W.failure_count self.old) }
         ensures takes { WriteTakes result (limited_left self.old) (limited_left self.new) }
         // what is longer than the bytes left is refused, and all else is up to the writer
-        ensures refused { fits (length bytes.now) (limited_left self.old).bytes ≡ false →
+        ensures refused { is_within_limit (length bytes.now) (limited_left self.old).bytes ≡ false →
             IsErr result }
-        ensures told { fits (length bytes.now) (limited_left self.old).bytes ≡ false →
+        ensures told { is_within_limit (length bytes.now) (limited_left self.old).bytes ≡ false →
             Refuses Bytes self.old self.new }
-        ensures passed { fits (length bytes.now) (limited_left self.old).bytes ≡ true →
+        ensures passed { is_within_limit (length bytes.now) (limited_left self.old).bytes ≡ true →
             refusals self.new ≡ refusals self.old }
     {
         if !is_left(self.left.bytes, bytes.len() as u64) {
@@ -145,10 +146,10 @@ impl<W: CountedWrite> CountedWrite for Limited<W> {
             (failures_of W.failure_count self.new) }
         ensures kept { result ≡ false → limited_left self.new ≡ limited_left self.old }
         // where no turn is left it is refused, and else it is the writer's to grant
-        ensures spent { fits 1 (limited_left self.old).turns ≡ false → result ≡ false }
-        ensures told { fits 1 (limited_left self.old).turns ≡ false →
+        ensures spent { is_within_limit 1 (limited_left self.old).turns ≡ false → result ≡ false }
+        ensures told { is_within_limit 1 (limited_left self.old).turns ≡ false →
             Refuses Turns self.old self.new }
-        ensures passed { fits 1 (limited_left self.old).turns ≡ true →
+        ensures passed { is_within_limit 1 (limited_left self.old).turns ≡ true →
             refusals self.new ≡ refusals self.old }
     {
         if !is_left(self.left.turns, 1) {
@@ -172,10 +173,11 @@ impl<W: CountedWrite> CountedWrite for Limited<W> {
             (failures_of W.failure_count self.new) }
         ensures kept { result ≡ false → limited_left self.new ≡ limited_left self.old }
         // as of a write
-        ensures full { fits bytes (limited_left self.old).bytes ≡ false → result ≡ false }
-        ensures told { fits bytes (limited_left self.old).bytes ≡ false →
+        ensures full { is_within_limit bytes (limited_left self.old).bytes ≡ false → result ≡
+            false }
+        ensures told { is_within_limit bytes (limited_left self.old).bytes ≡ false →
             Refuses Bytes self.old self.new }
-        ensures passed { fits bytes (limited_left self.old).bytes ≡ true →
+        ensures passed { is_within_limit bytes (limited_left self.old).bytes ≡ true →
             refusals self.new ≡ refusals self.old }
     {
         if !is_left(self.left.bytes, bytes as u64) {
@@ -192,7 +194,7 @@ impl<W: CountedWrite> CountedWrite for Limited<W> {
 
 /// Whether so many are left, which they are where there is no limit.
 fn is_left(left: Option<u64>, count: u64) -> bool
-    ensures { result ≡ fits count left }
+    ensures { result ≡ is_within_limit count left }
 {
     match left {
         Some(left) => count <= left,
@@ -202,7 +204,7 @@ fn is_left(left: Option<u64>, count: u64) -> bool
 
 /// What is left once so many are taken.
 fn less(left: Option<u64>, count: u64) -> Option<u64>
-    ensures { fits count left ≡ true → Takes count left result }
+    ensures { is_within_limit count left ≡ true → Takes count left result }
 {
     match left {
         Some(left) => Some(left.saturating_sub(count)),

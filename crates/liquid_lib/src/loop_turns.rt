@@ -11,7 +11,8 @@ ghost use Rattle.liquid_evaluation.specs.Evaluation.{asked_for};
 ghost use Rattle.liquid_evaluation.specs.SourceView.{source_view};
 ghost use Rattle.liquid_syntax.specs.Flats.{window_view};
 ghost use Rattle.liquid_lib.specs.inside.LoopTurns.{AreRows, IsFor, cells_asked, cells_of};
-ghost use Rattle.liquid_lib.specs.inside.LoopTurns.{items_asked, placed, some_columns, turns_of};
+ghost use Rattle.liquid_lib.specs.inside.LoopTurns.{items_asked, window_values, some_columns};
+ghost use Rattle.liquid_lib.specs.inside.LoopTurns.{loop_values};
 ghost use Rattle.liquid_meaning.specs.Effects.{is_break, value_or_nil};
 ghost use Rattle.liquid_meaning.specs.Loops.{columns_of};
 
@@ -29,7 +30,7 @@ pub(crate) fn for_frame<'d>(
     head: &'d For,
     state: &State<'d>,
 ) -> Result<Option<LoopFrame<'d>>>
-    ensures items { Answers turns_of result (items_asked (source_view head.now.source)
+    ensures items { Answers loop_values result (items_asked (source_view head.now.source)
         (window_view head.now.window) (environment_of state.now)) }
     ensures begins { IfOk result (λ t.
         IfSome t (IsFor (string_bytes head.now.variable) (environment_of state.now))) }
@@ -92,7 +93,7 @@ fn evaluate_window(
     state: &State<'_>,
 ) -> Result<Window>
     ensures items { (ds : List Datum) → length ds ≡ total →
-        Answers (λ w. placed ds w.from w.count asked.now.reversed) result
+        Answers (λ w. window_values ds w.from w.count asked.now.reversed) result
         (asked_for (window_view asked.now) ds (environment_of state.now)) }
     ensures within { IfOk result (λ w. (w.from ≤ total) × (w.count ≤ total)) }
 {

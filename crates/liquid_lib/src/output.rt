@@ -3,7 +3,7 @@ ghost use Rattle.std.specs.Prelude.{◌≡◌, [], length, Some, IsSome, OnOk, O
 ghost use Rattle.std.specs.Option.{option_map};
 ghost use Rattle.std.specs.String.{string_bytes};
 ghost use Rattle.liquid_lib.specs.Failures.{OneFailed};
-ghost use Rattle.liquid_lib.specs.Performs.{Cut, Writes};
+ghost use Rattle.liquid_lib.specs.Performs.{Cut, WritesText};
 ghost use Rattle.liquid_lib.specs.Limits.{TakesBytes, TakesTurn};
 ghost use Rattle.liquid_lib.specs.inside.Puts.{Puts};
 ghost use Rattle.liquid_lib.specs.Sinks.{sink_of};
@@ -45,7 +45,7 @@ impl<'w, W: CountedWrite> Output<'w, W> {
     /// Adds a text: `Memory` where the buffer can't grow, `Write` where the writer fails. Then a
     /// beginning of it was added.
     pub fn push_text(&mut self, alloc: Global, text: &str) -> Result<()>
-        ensures writes { Writes result text.now
+        ensures writes { WritesText result text.now
             (sink_of W.contents W.failure_count self.old)
             (sink_of W.contents W.failure_count self.new) }
         ensures same_writer { self.new.writer.ghost_name ≡ self.old.writer.ghost_name }

@@ -11,7 +11,7 @@ ghost use Rattle.liquid_syntax.specs.Flats.{bindings_view};
 ghost use Rattle.liquid_syntax.specs.Templates.{list_of, most_of, partials_of, tree_of};
 ghost use Rattle.liquid_lib.specs.inside.Partials.{Enters, IsWithin, bound_include, bound_object};
 ghost use Rattle.liquid_lib.specs.inside.Partials.{bound_scope, entry_at, include_entry};
-ghost use Rattle.liquid_lib.specs.inside.Partials.{jekyll_entry, partial_of, rendered_of};
+ghost use Rattle.liquid_lib.specs.inside.Partials.{jekyll_entry, partial_of, render_partial};
 ghost use Rattle.liquid_meaning.specs.Meaning.{name_of};
 
 use crate::context::RunContext;
@@ -189,7 +189,7 @@ pub(crate) fn partial_rendered<'p>(
     name: &str,
 ) -> Result<&'p Template>
     ensures found { Answers (λ t. tree_of t.now) result
-        (rendered_of (partials_of partials.now) name.now) }
+        (render_partial (partials_of partials.now) name.now) }
     ensures small { IfOk result (λ t. length (list_of t.now) ≤ most_of partials.now) }
 {
     if let Some(partial) = partials.get(name) {

@@ -3,7 +3,7 @@ ghost use Rattle.std.specs.Prelude.{◌≡◌, ◌++◌, decimal};
 ghost use Rattle.liquid_model.specs.Data.{truth as truth_datum, number, text_of, items_text};
 ghost use Rattle.liquid_model.specs.Data.{pairs_text};
 ghost use Rattle.liquid_model.specs.View.{view, items_view, pairs_view};
-ghost use Rattle.liquid_lib.specs.Performs.{Writes};
+ghost use Rattle.liquid_lib.specs.Performs.{WritesText};
 ghost use Rattle.liquid_lib.specs.Sinks.{sink_of};
 
 use crate::counted::CountedWrite;
@@ -20,7 +20,7 @@ pub fn push_value<W: CountedWrite>(
     value: &Value,
     out: &mut Output<'_, W>,
 ) -> Result<()>
-    ensures writes { Writes result (text_of (view value.now))
+    ensures writes { WritesText result (text_of (view value.now))
         (sink_of W.contents W.failure_count out.old)
         (sink_of W.contents W.failure_count out.new) }
     ensures same_writer { out.new.writer.ghost_name ≡ out.old.writer.ghost_name }
@@ -43,7 +43,7 @@ fn truth_text(truth: bool) -> &'static str
 
 /// Writes the digits of a number.
 pub fn push_number<W: CountedWrite>(alloc: Global, n: i64, out: &mut Output<'_, W>) -> Result<()>
-    ensures writes { Writes result (text_of (number n))
+    ensures writes { WritesText result (text_of (number n))
         (sink_of W.contents W.failure_count out.old)
         (sink_of W.contents W.failure_count out.new) }
     ensures same_writer { out.new.writer.ghost_name ≡ out.old.writer.ghost_name }
@@ -60,7 +60,7 @@ pub(crate) fn push_numbered<W: CountedWrite>(
     after: &str,
     out: &mut Output<'_, W>,
 ) -> Result<()>
-    ensures writes { Writes result (before.now ++ (decimal number ++ after.now))
+    ensures writes { WritesText result (before.now ++ (decimal number ++ after.now))
         (sink_of W.contents W.failure_count out.old)
         (sink_of W.contents W.failure_count out.new) }
     ensures same_writer { out.new.writer.ghost_name ≡ out.old.writer.ghost_name }
@@ -76,7 +76,7 @@ fn push_items<W: CountedWrite>(
     items: &Vec<Value>,
     out: &mut Output<'_, W>,
 ) -> Result<()>
-    ensures writes { Writes result (items_text (items_view items.now.items))
+    ensures writes { WritesText result (items_text (items_view items.now.items))
         (sink_of W.contents W.failure_count out.old)
         (sink_of W.contents W.failure_count out.new) }
     ensures same_writer { out.new.writer.ghost_name ≡ out.old.writer.ghost_name }
@@ -89,7 +89,7 @@ fn push_items<W: CountedWrite>(
 
 #[cycle(push_value)]
 fn push_pairs<W: CountedWrite>(alloc: Global, pairs: &Object, out: &mut Output<'_, W>) -> Result<()>
-    ensures writes { Writes result (pairs_text (pairs_view pairs.now.entries))
+    ensures writes { WritesText result (pairs_text (pairs_view pairs.now.entries))
         (sink_of W.contents W.failure_count out.old)
         (sink_of W.contents W.failure_count out.new) }
     ensures same_writer { out.new.writer.ghost_name ≡ out.old.writer.ghost_name }

@@ -10,7 +10,7 @@ ghost use Rattle.liquid_lib.specs.Added.{AppendsPart};
 ghost use Rattle.liquid_lib.specs.inside.Engine.{in_buffer, beside};
 ghost use Rattle.liquid_lib.specs.Failures.{OneFailed, AtMostOneFailed};
 ghost use Rattle.liquid_meaning.specs.Isolation.{changes};
-ghost use Rattle.liquid_lib.specs.Kept.{LayersKept, AreRenders};
+ghost use Rattle.liquid_lib.specs.Kept.{LayersKept, AreRenderNodes};
 ghost use Rattle.liquid_lib.specs.Performs.{Performs, answer_of, is_refused, unit};
 ghost use Rattle.liquid_lib.specs.Rendered.{PerformsForCut, run_in, outcome_in, names_in};
 ghost use Rattle.liquid_lib.specs.Rendered.{at_writer, is_rendering_kind};
@@ -72,7 +72,7 @@ pub trait Renderable {
             (layers_in runtime.new) }
         // nodes that are each a `render` leave the scopes, the variables, the counters, the data
         // and the registers
-        ensures alone { AreRenders (nodes self.now) → layers_in runtime.new ≡
+        ensures alone { AreRenderNodes (nodes self.now) → layers_in runtime.new ≡
             layers_in runtime.old }
         // a `break`, a `continue` and a comment take no memory: where each node is one, only the
         // writer can stop the run
@@ -111,7 +111,7 @@ pub trait Renderable {
             (layers_in runtime.new) }
         // nodes that are each a `render` leave the scopes, the variables, the counters, the data
         // and the registers
-        ensures alone { AreRenders (nodes self.now) → layers_in runtime.new ≡
+        ensures alone { AreRenderNodes (nodes self.now) → layers_in runtime.new ≡
             layers_in runtime.old }
         // a `break`, a `continue` and a comment take no memory
         ensures no_memory { AreSilent (nodes self.now) → IsOk result }
@@ -162,7 +162,7 @@ pub(crate) fn text_of_run(
         (in_buffer (string_bytes result.0) (environment_in runtime.new)) }
     ensures kept { LayersKept (names_in runtime.old (tree_of template.now)) (layers_in runtime.old)
         (layers_in runtime.new) }
-    ensures alone { AreRenders (tree_of template.now) → layers_in runtime.new ≡
+    ensures alone { AreRenderNodes (tree_of template.now) → layers_in runtime.new ≡
         layers_in runtime.old }
     ensures silent { AreSilent (tree_of template.now) → IsOk result.1 }
     ensures same { SettingKept runtime.old runtime.new }
@@ -184,7 +184,7 @@ pub(crate) fn text_beside<W: CountedWrite>(
         (environment_in runtime.new)) }
     ensures kept { LayersKept (names_in runtime.old (tree_of template.now))
         (layers_in runtime.old) (layers_in runtime.new) }
-    ensures alone { AreRenders (tree_of template.now) →
+    ensures alone { AreRenderNodes (tree_of template.now) →
         layers_in runtime.new ≡ layers_in runtime.old }
     ensures silent { AreSilent (tree_of template.now) →
         IsDoneOrStopped result.1 (W.failure_count writer.old) (W.failure_count writer.new) }

@@ -8,7 +8,7 @@ use mathlib.Core.Logic.{inl, inr}
 use mathlib.Core.Path.{sym, ap, subst, ◌∙◌}
 use Rattle.liquid_model.specs.Texts.{Text}
 use Rattle.liquid_model.specs.declared.error.ErrorKind.TheVariants.{Write}
-use Rattle.liquid_lib.specs.LimitedPages.{Begins, PageWithin}
+use Rattle.liquid_lib.specs.LimitedPages.{IsPrefixOf, PageWithin}
 use Rattle.liquid_lib.specs.Pages.{Shown, page_view}
 use Rattle.liquid_lib.specs.declared.limits.LimitReached.{LimitReached}
 use Rattle.liquid_lib.specs.declared.limits.LimitReached.TheVariants.{Bytes, Turns}
@@ -32,7 +32,7 @@ limit_back Turns = refl
 abbrev pub limit_code : Coded LimitReached
 limit_code = code_by Bool coded_bool by_turns limit_of limit_back
 
-pub Begins-prop : (front whole : Text) → IsProp (Begins front whole)
+pub Begins-prop : (front whole : Text) → IsProp (IsPrefixOf front whole)
 Begins-prop front whole a b =
     Σ_prop_path (λ (rest : Text). Coded-set text_code (front ++ rest) whole)
     (append_cancel_left front a.0 b.0 (a.1 ∙ sym b.1))

@@ -71,8 +71,9 @@ CaseStands ns from (arm ∷ arms) last (tree.when values body ws) o =
 CaseStands ns from [] last (tree.when values body ws) o = ⊥
 CaseStands ns from (arm ∷ arms) last tree.no_whens o = ⊥
 
-abbrev pub IsCase : List Node → ℕ → List Arm → ℕ → Type 0
-IsCase ns from arms last = (ws : tree.Whens) × (o : tree.Nodes) × CaseStands ns from arms last ws o
+abbrev pub HasCaseAt : List Node → ℕ → List Arm → ℕ → Type 0
+HasCaseAt ns from arms last = (ws : tree.Whens) × (o : tree.Nodes) ×
+    CaseStands ns from arms last ws o
 
 unfoldable pub equal_among : Datum → List Expression → Environment → Result Bool ErrorKind
 equal_among target [] e = Ok false

@@ -31,8 +31,8 @@ each_from item k zero = []
 each_from item k (suc m) = item k ∷ each_from item (suc k) m
 
 -- m items of a source from place o on, nil where there is none
-abbrev pub placed : List Datum → ℕ → ℕ → Bool → List Datum
-placed ds o m reversed = each_from (λ k. get_or ds (place_of reversed o m k) nil) 0 m
+abbrev pub window_values : List Datum → ℕ → ℕ → Bool → List Datum
+window_values ds o m reversed = each_from (λ k. get_or ds (place_of reversed o m k) nil) 0 m
 
 abbrev pub turn_items : LoopFrame → List Datum
 turn_items t = each_from (frame_item_at t) 0 t.count
@@ -43,9 +43,9 @@ abbrev pub items_asked : Source → Window → Environment → Result (List Datu
 items_asked source window e = source_items source e >>= (λ all. asked_for window all e)
 
 -- none where no loop begins
-abbrev pub turns_of : Option LoopFrame → List Datum
-turns_of None = []
-turns_of (Some t) = turn_items t
+abbrev pub loop_values : Option LoopFrame → List Datum
+loop_values None = []
+loop_values (Some t) = turn_items t
 
 pub record IsFor (name : Text) (e : Environment) (t : LoopFrame) : Type 0 where
   pub first : t.at ≡ 0

@@ -50,8 +50,8 @@ abbrev pub partial_of : List (Text × Nodes) → Text → Result Nodes ErrorKind
 partial_of partials name = found (listed partials name)
 
 -- the partial of that name, or of that name with `.liquid`
-abbrev pub rendered_of : List (Text × Nodes) → Text → Result Nodes ErrorKind
-rendered_of partials name =
+abbrev pub render_partial : List (Text × Nodes) → Text → Result Nodes ErrorKind
+render_partial partials name =
     found (listed partials name else listed partials (name ++ codes ".liquid"))
 
 -- ---- what a partial is entered with
@@ -90,20 +90,20 @@ jekyll_entry partials depth name bindings e =
     entry_of include_scope (partial_of partials name) depth bindings e
 
 -- of a `render`, in an environment of its own, which has the pairs alone
-abbrev pub own_names : List (Text × Datum) → Environment
-own_names pairs = new_environment (pairs_scope pairs)
+abbrev pub render_environment : List (Text × Datum) → Environment
+render_environment pairs = new_environment (pairs_scope pairs)
 
 abbrev pub render_entry : List (Text × Nodes) → ℕ → Expression → Bindings → Environment →
     Result (Environment × (Text × (Nodes × ℕ))) ErrorKind
 render_entry partials depth x bindings e =
-    named_entry own_names (rendered_of partials) depth x bindings e
+    named_entry render_environment (render_partial partials) depth x bindings e
 
 -- of a `render .. for`, with these names over the pairs
 abbrev pub item_entry : List (Text × Nodes) → ℕ → Text → Bindings → Map Datum → Environment →
     Result (Environment × (Nodes × ℕ)) ErrorKind
 item_entry partials depth name bindings names e =
     entry_of (λ pairs. new_environment (merged names (pairs_scope pairs)))
-    (rendered_of partials name) depth bindings e
+    (render_partial partials name) depth bindings e
 
 -- the names of a `render .. for` at one of its items
 abbrev pub item_scope : EachItem → Map Datum

@@ -6,11 +6,11 @@ use Rattle.liquid_model.specs.declared.error.ErrorKind.TheVariants.{Memory, Writ
 use Rattle.liquid_model.specs.ErrorKinds.{IsKindOrMemory}
 use Rattle.liquid_lib.specs.declared.output.Put.{Put}
 use Rattle.liquid_lib.specs.declared.output.Put.TheVariants.{All, NoMemory, NotWritten}
-use Rattle.liquid_lib.specs.Performs.{Writes}
+use Rattle.liquid_lib.specs.Performs.{WritesText}
 use Rattle.liquid_lib.specs.Sinks.{Sink}
 
 -- the text was written, or whatever fault is told of it may be told
 abbrev pub Puts : Put → Text → Sink → Sink → Type 0
-Puts All t old new = Writes (Ok tt) t old new
-Puts NoMemory t old new = (e : Error) → e.kind ≡ Memory → Writes (Err e) t old new
-Puts NotWritten t old new = (e : Error) → IsKindOrMemory Write e.kind → Writes (Err e) t old new
+Puts All t old new = WritesText (Ok tt) t old new
+Puts NoMemory t old new = (e : Error) → e.kind ≡ Memory → WritesText (Err e) t old new
+Puts NotWritten t old new = (e : Error) → IsKindOrMemory Write e.kind → WritesText (Err e) t old new

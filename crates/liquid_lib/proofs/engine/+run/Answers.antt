@@ -31,13 +31,13 @@ use Rattle.liquid_meaning.specs.Runs.{buffered, change}
 use Rattle.liquid_meaning.proofs.Law.{within_found}
 use Rattle.liquid_meaning.proofs.Rules.{comment_rule, break_rule, continue_rule, capture_rule, ifchanged_rule}
 use Rattle.liquid_lib.specs.inside.Changed.{shown_if_changed}
-use Rattle.liquid_lib.specs.inside.Choices.{CaseStands, IsCase, Chosen, NodeComesTo}
+use Rattle.liquid_lib.specs.inside.Choices.{CaseStands, HasCaseAt, Chosen, NodeComesTo}
 use Rattle.liquid_lib.specs.inside.Engine.{setting_of, node_meant, nodes_meant}
 use Rattle.liquid_lib.specs.Kept.{Keeps, LayersKept}
 use Rattle.liquid_lib.specs.inside.Partials.{item_scope}
 use Rattle.liquid_meaning.specs.Within.{Within}
 use Rattle.liquid_evaluation.specs.Names.{partials_names}
-use Rattle.liquid_lib.specs.Performs.{Meets, Performs, configuration_of, unit, Writes}
+use Rattle.liquid_lib.specs.Performs.{Meets, Performs, configuration_of, unit, WritesText}
 use Rattle.liquid_lib.specs.Sinks.{sink_of}
 use Rattle.liquid_lib.proofs.Cases.{the_case, case_performs, case_keeps, case_other, case_loud}
 use Rattle.liquid_lib.proofs.Choices.{chosen_inside, chosen_performs, refused_performs}
@@ -58,7 +58,7 @@ use Rattle.liquid_core.specs.declared.frame.Scope.{Scope}
 use Rattle.liquid_core.specs.declared.frame.LoopFrame.{LoopFrame}
 use Rattle.liquid_evaluation.specs.SourceView.{source_view}
 use Rattle.liquid_lib.specs.inside.LoopRuns.{StartsAt, behind, cells_meant, configuration_behind, turns_meant}
-use Rattle.liquid_lib.specs.inside.LoopTurns.{AreRows, IsFor, IsRow, cells_asked, cells_of, items_asked, turn_items, turns_of}
+use Rattle.liquid_lib.specs.inside.LoopTurns.{AreRows, IsFor, IsRow, cells_asked, cells_of, items_asked, turn_items, loop_values}
 use Rattle.std.specs.Prelude.{IfOk, IfSome}
 use Rattle.liquid_meaning.specs.Loops.{cell_end}
 use Rattle.liquid_lib.proofs.Turns.{performs_from, may_not_begin}
@@ -1085,7 +1085,7 @@ loops::run_cells-returns-in_err-close-clause-performs g t c f stood before u sta
     let p = err_from_is_err_and c.from_residual-in_err-close.result c.from_residual-in_err-close.ensures.1 in
     rw (p.1, p.2) (cell_fault u c.args.row.columns.count (behind c.args.state.now) body c.args.row.count c.cells.place (over c.args.out.now c.args.state.now) (over c.cells.out c.cells.state) (over c.close.new.out c.run_range.new.state) c.in_err-close.field-0.0 c.cells.invariant.within (c.cells.invariant.leads f stood before u starts)
     (cell_ran u c.cells.place (behind c.args.state.now) body (sink c.open.new.out) (sink c.run_range.new.out) (layers_of c.cells.state) (layers_of c.run_range.new.state) pushed kept.scopes c.args.row.columns.count c.in_ok-open.field-0 c.in_ok-run_range.field-0 (Err c.in_err-close.field-0.0) (sink c.cells.out) (sink c.close.new.out) c.in_ok-open.ensures.writes (c.in_ok-run_range.ensures.performs f stood)
-    (subst (λ n. Writes (Err c.in_err-close.field-0.0) (cell_end c.cells.place n c.args.row.columns.count) (sink c.run_range.new.out) (sink c.close.new.out)) (sym starts.count) c.in_err-close.ensures.writes)))
+    (subst (λ n. WritesText (Err c.in_err-close.field-0.0) (cell_end c.cells.place n c.args.row.columns.count) (sink c.run_range.new.out) (sink c.close.new.out)) (sym starts.count) c.in_err-close.ensures.writes)))
 
 pub loops::run_cells-returns-in_err-close-clause-kept : goal.loops::run_cells-returns-in_err-close-clause-kept
 loops::run_cells-returns-in_err-close-clause-kept g t c f stood N names inside =
@@ -1107,7 +1107,7 @@ loops::run_cells-returns-then-place-row-clause-performs g t c f stood before u s
     cells_end u c.args.row.columns.count (behind c.args.state.now) body c.args.row.count tt (c.cells.place + 1) (over c.args.out.now c.args.state.now) (over c.close.new.out c.run_range.new.state) c.if-place-row.true
     (cell_on u c.args.row.columns.count (behind c.args.state.now) body c.args.row.count c.cells.place (over c.args.out.now c.args.state.now) (over c.cells.out c.cells.state) (over c.close.new.out c.run_range.new.state) c.in_ok-close.field-0 c.cells.invariant.within (c.cells.invariant.leads f stood before u starts)
     (cell_ran u c.cells.place (behind c.args.state.now) body (sink c.open.new.out) (sink c.run_range.new.out) (layers_of c.cells.state) (layers_of c.run_range.new.state) pushed kept.scopes c.args.row.columns.count c.in_ok-open.field-0 c.in_ok-run_range.field-0 (Ok c.in_ok-close.field-0) (sink c.cells.out) (sink c.close.new.out) c.in_ok-open.ensures.writes (c.in_ok-run_range.ensures.performs f stood)
-    (subst (λ n. Writes (Ok c.in_ok-close.field-0) (cell_end c.cells.place n c.args.row.columns.count) (sink c.run_range.new.out) (sink c.close.new.out)) (sym starts.count) c.in_ok-close.ensures.writes)))
+    (subst (λ n. WritesText (Ok c.in_ok-close.field-0) (cell_end c.cells.place n c.args.row.columns.count) (sink c.run_range.new.out) (sink c.close.new.out)) (sym starts.count) c.in_ok-close.ensures.writes)))
 
 pub loops::run_cells-returns-then-place-row-clause-kept : goal.loops::run_cells-returns-then-place-row-clause-kept
 loops::run_cells-returns-then-place-row-clause-kept g t c f stood N names inside =
@@ -1157,7 +1157,7 @@ loops::run_cells-cells-preserved g t c =
           subst (λ l. CellsLead u c.args.row.columns.count (behind c.args.state.now) body c.args.row.count (c.cells.place + 1) (over c.args.out.now c.args.state.now) (record { sink = sink c.close.new.out; environment = merged_layers l })) (sym (advanced before u starts))
           (cell_on u c.args.row.columns.count (behind c.args.state.now) body c.args.row.count c.cells.place (over c.args.out.now c.args.state.now) (over c.cells.out c.cells.state) (over c.close.new.out c.run_range.new.state) c.in_ok-close.field-0 c.cells.invariant.within (c.cells.invariant.leads f stood before u starts)
           (cell_ran u c.cells.place (behind c.args.state.now) body (sink c.open.new.out) (sink c.run_range.new.out) (layers_of c.cells.state) (layers_of c.run_range.new.state) pushed kept.scopes c.args.row.columns.count c.in_ok-open.field-0 c.in_ok-run_range.field-0 (Ok c.in_ok-close.field-0) (sink c.cells.out) (sink c.close.new.out) c.in_ok-open.ensures.writes (c.in_ok-run_range.ensures.performs f stood)
-          (subst (λ n. Writes (Ok c.in_ok-close.field-0) (cell_end c.cells.place n c.args.row.columns.count) (sink c.run_range.new.out) (sink c.close.new.out)) (sym starts.count) c.in_ok-close.ensures.writes)));
+          (subst (λ n. WritesText (Ok c.in_ok-close.field-0) (cell_end c.cells.place n c.args.row.columns.count) (sink c.run_range.new.out) (sink c.close.new.out)) (sym starts.count) c.in_ok-close.ensures.writes)));
       frame = λ before u starts. at_next before u c.cells.place c.run_range.new.state c.advance.new.self (at_kept before u c.cells.place c.cells.state c.run_range.new.state c.in_ok-run_range.ensures.loops (c.cells.invariant.frame before u starts)) c.advance.ensures.loops;
       scopes = ap (λ l. l.scopes) (advanced before0 u0 starts0) ∙ ap scopes_behind all.scopes ∙ c.cells.invariant.scopes;
       kept = λ f stood N names inside. subst (λ l. LayersKept N (with_scope_popped (layers_of c.args.state.now)) l) (sym (advanced before0 u0 starts0)) (kept_cell N (layers_of c.args.state.now) (layers_of c.cells.state) (layers_of c.run_range.new.state) (c.cells.invariant.kept f stood N names inside) (c.run_range.ensures.kept f stood N names inside));
@@ -1200,7 +1200,7 @@ loops::run_for-run_range-requires g t c κs within =
 pub loops::run_for-returns-in_default-clause-performs : goal.loops::run_for-returns-in_default-clause-performs
 loops::run_for-returns-in_default-clause-performs g t c b d here after =
     let place = configuration_of g.W.CountedWrite.contents g.W.CountedWrite.failure_count in
-    let none : items_asked (source_view c.args.head.now.source) (window_view c.args.head.now.window) (environment_of c.args.state.now) ≡ Ok [] = subst (λ (o : Option LoopFrame). items_asked (source_view c.args.head.now.source) (window_view c.args.head.now.window) (environment_of c.args.state.now) ≡ Ok (turns_of o)) c.in_default.is c.in_ok-frame.ensures.items in
+    let none : items_asked (source_view c.args.head.now.source) (window_view c.args.head.now.window) (environment_of c.args.state.now) ≡ Ok [] = subst (λ (o : Option LoopFrame). items_asked (source_view c.args.head.now.source) (window_view c.args.head.now.window) (environment_of c.args.state.now) ≡ Ok (loop_values o)) c.in_default.is c.in_ok-frame.ensures.items in
     for_none (setting_of g.H.NamedFilters.named c.args.context.now) (deeper_meaning (setting_of g.H.NamedFilters.named c.args.context.now) c.args.context.now.depth) (string_bytes c.args.head.now.variable) (source_view c.args.head.now.source) (window_view c.args.head.now.window) (nodes_of b) (nodes_of d) c.run_range.result (place c.args.out.now c.args.state.now) (place c.run_range.new.out c.run_range.new.state) none (c.run_range.ensures.performs d after)
 
 pub loops::run_for-returns-in_default-clause-kept : goal.loops::run_for-returns-in_default-clause-kept
@@ -1227,7 +1227,7 @@ loops::run_for-returns-clause-performs g t c b d here after =
     let place = configuration_of g.W.CountedWrite.contents g.W.CountedWrite.failure_count in
     let sink = sink_of g.W.CountedWrite.contents g.W.CountedWrite.failure_count in
     let begins : IsFor (string_bytes c.args.head.now.variable) (environment_of c.args.state.now) c.in-Some.frame = subst (λ (o : Option LoopFrame). IfSome o (IsFor (string_bytes c.args.head.now.variable) (environment_of c.args.state.now))) c.in-Some.is c.in_ok-frame.ensures.begins in
-    let items : items_asked (source_view c.args.head.now.source) (window_view c.args.head.now.window) (environment_of c.args.state.now) ≡ Ok (turn_items c.in-Some.frame) = subst (λ (o : Option LoopFrame). items_asked (source_view c.args.head.now.source) (window_view c.args.head.now.window) (environment_of c.args.state.now) ≡ Ok (turns_of o)) c.in-Some.is c.in_ok-frame.ensures.items in
+    let items : items_asked (source_view c.args.head.now.source) (window_view c.args.head.now.window) (environment_of c.args.state.now) ≡ Ok (turn_items c.in-Some.frame) = subst (λ (o : Option LoopFrame). items_asked (source_view c.args.head.now.source) (window_view c.args.head.now.window) (environment_of c.args.state.now) ≡ Ok (loop_values o)) c.in-Some.is c.in_ok-frame.ensures.items in
     let starts : StartsAt c.in-Some.frame.count c.push_frame.new.self (loops_of c.args.state.now) c.in-Some.frame = record { innermost = c.in_ok-push_frame.ensures.over; first = begins.first; count = refl } in
     let some : 0 < c.in-Some.frame.count = (let below : c.in-Some.frame.at < c.in-Some.frame.count = c.in-Some.frame.within.0 in omega (arith, below)) in
     for_some (setting_of g.H.NamedFilters.named c.args.context.now) (deeper_meaning (setting_of g.H.NamedFilters.named c.args.context.now) c.args.context.now.depth) (string_bytes c.args.head.now.variable) (source_view c.args.head.now.source) (window_view c.args.head.now.window) (nodes_of b) (nodes_of d) c.in-Some.frame c.run_turns-answer.result (place c.args.out.now c.args.state.now) (place c.run_turns-answer.new.out c.pop_scope.new.self) some items begins
@@ -1387,7 +1387,7 @@ run_node-unless_range-chosen-requires-clause-otherwise g t c = (two c.args.nodes
 pub run_node-case_range-chosen-requires : goal.run_node-case_range-chosen-requires
 run_node-case_range-chosen-requires g t c =
     let (stands, past, inside) = the_case c.args.nodes.now c.args.at (expression_view c.in-Case.target) c.in-Case.arms.items c.in-Case.last c.args.to c.index-nodes-at.result _ c.requires c.index-nodes-at.is c.in-Case.is refl in
-    subst (λ arms. IsCase c.args.nodes.now (c.args.at + 1) arms c.in-Case.last) (sym c.deref-in-Case.ensures.value) stands
+    subst (λ arms. HasCaseAt c.args.nodes.now (c.args.at + 1) arms c.in-Case.last) (sym c.deref-in-Case.ensures.value) stands
 
 pub run_chosen-returns-in-Err-clause-performs : goal.run_chosen-returns-in-Err-clause-performs
 run_chosen-returns-in-Err-clause-performs g t c n comes =

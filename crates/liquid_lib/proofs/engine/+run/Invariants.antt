@@ -3,7 +3,7 @@ use Rattle.liquid_syntax.specs.Flats.{Maker, StandsAt, nodes_of}
 use Rattle.liquid_syntax.specs.Forest.{Forest}
 use Rattle.liquid_evaluation.specs.Names.{nodes_names}
 use Rattle.liquid_lib.specs.inside.Engine.{setting_of, nodes_in}
-use Rattle.liquid_lib.specs.Kept.{Keeps, AreRenders}
+use Rattle.liquid_lib.specs.Kept.{Keeps, AreRenderNodes}
 use Rattle.liquid_lib.specs.Performs.{configuration_of}
 use Rattle.liquid_core.specs.States.{layers_of, loops_of, scopes_behind}
 use Rattle.liquid_lib.proofs.Going.{Going}
@@ -59,7 +59,7 @@ invariant-run_range-loop-at g l =
       ordered : l.from ≤ l.at;
       going : Going (setting_of g.H.NamedFilters.named l.context) l.context.depth l.nodes l.from l.at l.to (place l.initial.out l.initial.state) (place l.out l.state);
       kept : (f : Forest Maker) → StandsAt l.nodes l.from f l.to → Keeps (nodes_names (nodes_of f)) (setting_of g.H.NamedFilters.named l.context) l.initial.state l.state;
-      alone : (f : Forest Maker) → StandsAt l.nodes l.from f l.to → AreRenders (nodes_of f) → layers_of l.state ≡ layers_of l.initial.state;
+      alone : (f : Forest Maker) → StandsAt l.nodes l.from f l.to → AreRenderNodes (nodes_of f) → layers_of l.state ≡ layers_of l.initial.state;
       silent : SilentOn l.nodes l.from l.at l.to;
       loops : loops_of l.state ≡ loops_of l.initial.state;
       same_writer : l.out.writer.ghost_name ≡ l.initial.out.writer.ghost_name;

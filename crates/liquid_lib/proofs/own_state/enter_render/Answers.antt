@@ -8,7 +8,7 @@ use Rattle.liquid_syntax.specs.Flats.{bindings_view}
 use Rattle.liquid_syntax.specs.Templates.{partials_of, tree_of}
 use Rattle.liquid_meaning.specs.Meaning.{pairs_scope}
 use Rattle.liquid_lib.specs.inside.Given.{given_map}
-use Rattle.liquid_lib.specs.inside.Partials.{own_names, render_entry, rendered_of}
+use Rattle.liquid_lib.specs.inside.Partials.{render_environment, render_entry, render_partial}
 use Rattle.liquid_lib.proofs.PartialRuns.{entry_is, left_entry, made_faulted, made_is, memory_faulted, named_faulted, named_is, no_entry, unbound, unentered, unfound, unnamed}
 use Rattle.liquid_lib.proofs.own_state.enter_render.Goals as goal
 
@@ -19,7 +19,7 @@ returns-in_err-called-clause-apart g c =
     let depth = c.args.context.now.depth in
     let bs = bindings_view c.args.bindings.now in
     let p = err_from_is_err_and c.from_residual.result c.from_residual.ensures.1 in
-    rw (p.1, p.2) (unnamed own_names depth bs e (rendered_of ps) (expression_view c.args.name.now) c.in_err-called.field-0.0.kind c.in_err-called.ensures)
+    rw (p.1, p.2) (unnamed render_environment depth bs e (render_partial ps) (expression_view c.args.name.now) c.in_err-called.field-0.0.kind c.in_err-called.ensures)
 
 pub returns-in_err-names-clause-apart : goal.returns-in_err-names-clause-apart
 returns-in_err-names-clause-apart g c =
@@ -29,8 +29,8 @@ returns-in_err-names-clause-apart g c =
     let bs = bindings_view c.args.bindings.now in
     let name = string_bytes c.in_ok-called.called in
     let p = err_from_is_err_and c.from_residual-in_err-names.result c.from_residual-in_err-names.ensures.1 in
-    rw (p.1, p.2) (named_faulted own_names depth bs e (rendered_of ps) (expression_view c.args.name.now) c.in_err-names.field-0.0.kind name c.in_ok-called.ensures
-    (unbound own_names depth bs e c.in_err-names.field-0.0.kind (rendered_of ps name) (made_faulted pairs_scope new_environment bs e c.in_err-names.field-0.0.kind c.in_err-names.ensures)))
+    rw (p.1, p.2) (named_faulted render_environment depth bs e (render_partial ps) (expression_view c.args.name.now) c.in_err-names.field-0.0.kind name c.in_ok-called.ensures
+    (unbound render_environment depth bs e c.in_err-names.field-0.0.kind (render_partial ps name) (made_faulted pairs_scope new_environment bs e c.in_err-names.field-0.0.kind c.in_err-names.ensures)))
 
 pub returns-in_err-partial-clause-apart : goal.returns-in_err-partial-clause-apart
 returns-in_err-partial-clause-apart g c =
@@ -40,10 +40,10 @@ returns-in_err-partial-clause-apart g c =
     let bs = bindings_view c.args.bindings.now in
     let name = string_bytes c.in_ok-called.called in
     let bound = made_is pairs_scope new_environment bs e (given_map c.in_ok-names.names) c.in_ok-names.ensures in
-    let unknown = subst (λ t. Faulted c.in_err-partial.field-0.0.kind (rendered_of ps t)) c.as_str.ensures.value c.in_err-partial.ensures.found in
+    let unknown = subst (λ t. Faulted c.in_err-partial.field-0.0.kind (render_partial ps t)) c.as_str.ensures.value c.in_err-partial.ensures.found in
     let p = err_from_is_err_and c.from_residual-in_err-partial.result c.from_residual-in_err-partial.ensures.1 in
-    rw (p.1, p.2) (named_faulted own_names depth bs e (rendered_of ps) (expression_view c.args.name.now) c.in_err-partial.field-0.0.kind name c.in_ok-called.ensures
-    (unfound own_names depth bs e c.in_err-partial.field-0.0.kind (rendered_of ps name) (new_environment (given_map c.in_ok-names.names)) bound unknown))
+    rw (p.1, p.2) (named_faulted render_environment depth bs e (render_partial ps) (expression_view c.args.name.now) c.in_err-partial.field-0.0.kind name c.in_ok-called.ensures
+    (unfound render_environment depth bs e c.in_err-partial.field-0.0.kind (render_partial ps name) (new_environment (given_map c.in_ok-names.names)) bound unknown))
 
 pub returns-in_err-context-clause-apart : goal.returns-in_err-context-clause-apart
 returns-in_err-context-clause-apart g c =
@@ -53,10 +53,10 @@ returns-in_err-context-clause-apart g c =
     let bs = bindings_view c.args.bindings.now in
     let name = string_bytes c.in_ok-called.called in
     let bound = made_is pairs_scope new_environment bs e (given_map c.in_ok-names.names) c.in_ok-names.ensures in
-    let known = subst (λ t. rendered_of ps t ≡ Ok (tree_of c.in_ok-partial.partial.now)) c.as_str.ensures.value c.in_ok-partial.ensures.found in
+    let known = subst (λ t. render_partial ps t ≡ Ok (tree_of c.in_ok-partial.partial.now)) c.as_str.ensures.value c.in_ok-partial.ensures.found in
     let p = err_from_is_err_and c.from_residual-in_err-context.result c.from_residual-in_err-context.ensures.1 in
-    rw (p.1, p.2) (named_faulted own_names depth bs e (rendered_of ps) (expression_view c.args.name.now) c.in_err-context.field-0.0.kind name c.in_ok-called.ensures
-    (unentered own_names depth bs e c.in_err-context.field-0.0.kind (rendered_of ps name) (new_environment (given_map c.in_ok-names.names)) (tree_of c.in_ok-partial.partial.now) bound known (no_entry depth (new_environment (given_map c.in_ok-names.names)) (tree_of c.in_ok-partial.partial.now) c.in_err-context.field-0.0.kind c.in_err-context.ensures.depth)))
+    rw (p.1, p.2) (named_faulted render_environment depth bs e (render_partial ps) (expression_view c.args.name.now) c.in_err-context.field-0.0.kind name c.in_ok-called.ensures
+    (unentered render_environment depth bs e c.in_err-context.field-0.0.kind (render_partial ps name) (new_environment (given_map c.in_ok-names.names)) (tree_of c.in_ok-partial.partial.now) bound known (no_entry depth (new_environment (given_map c.in_ok-names.names)) (tree_of c.in_ok-partial.partial.now) c.in_err-context.field-0.0.kind c.in_err-context.ensures.depth)))
 
 pub returns-in_err-own-clause-apart : goal.returns-in_err-own-clause-apart
 returns-in_err-own-clause-apart g c =
@@ -75,9 +75,9 @@ returns-clause-apart g c =
     let bs = bindings_view c.args.bindings.now in
     let name = string_bytes c.in_ok-called.called in
     let bound = made_is pairs_scope new_environment bs e (given_map c.in_ok-names.names) c.in_ok-names.ensures in
-    let known = subst (λ t. rendered_of ps t ≡ Ok (tree_of c.in_ok-partial.partial.now)) c.as_str.ensures.value c.in_ok-partial.ensures.found in
-    named_is own_names depth bs e (rendered_of ps) (expression_view c.args.name.now) name (new_environment (given_map c.in_ok-names.names)) (tree_of c.in_ok-partial.partial.now) c.in_ok-context.context.depth c.in_ok-called.ensures
-    (entry_is own_names depth bs e (rendered_of ps name) (new_environment (given_map c.in_ok-names.names)) (tree_of c.in_ok-partial.partial.now) bound known ∙ left_entry depth c.in_ok-context.context.depth (new_environment (given_map c.in_ok-names.names)) (tree_of c.in_ok-partial.partial.now) c.in_ok-context.ensures.depth)
+    let known = subst (λ t. render_partial ps t ≡ Ok (tree_of c.in_ok-partial.partial.now)) c.as_str.ensures.value c.in_ok-partial.ensures.found in
+    named_is render_environment depth bs e (render_partial ps) (expression_view c.args.name.now) name (new_environment (given_map c.in_ok-names.names)) (tree_of c.in_ok-partial.partial.now) c.in_ok-context.context.depth c.in_ok-called.ensures
+    (entry_is render_environment depth bs e (render_partial ps name) (new_environment (given_map c.in_ok-names.names)) (tree_of c.in_ok-partial.partial.now) bound known ∙ left_entry depth c.in_ok-context.context.depth (new_environment (given_map c.in_ok-names.names)) (tree_of c.in_ok-partial.partial.now) c.in_ok-context.ensures.depth)
     ∙ ap (λ own. Ok (own, (name, ((tree_of c.in_ok-partial.partial.now), c.in_ok-context.context.depth)))) (sym c.in_ok-own.ensures)
 
 pub returns-clause-within : goal.returns-clause-within

@@ -6,7 +6,7 @@ use Rattle.std.proofs.lemmas.List.{drop_more, drop_all}
 use Rattle.std.proofs.lemmas.Result.{err_from_is_err_and}
 use Rattle.liquid_model.specs.Data.{number, text_of, items_text, pairs_text}
 use Rattle.liquid_model.specs.View.{view, items_view, pairs_view}
-use Rattle.liquid_lib.specs.Performs.{Writes}
+use Rattle.liquid_lib.specs.Performs.{WritesText}
 use Rattle.liquid_lib.specs.Sinks.{sink_of}
 use Rattle.liquid_lib.proofs.Pieces.{GoesOn, writes_as, goes_on, goes_wrong, goes_to_end, next_pair, writes_nothing}
 use Rattle.liquid_lib.proofs.ValueTexts.{nil_text, truth_text, number_text, text_text, array_text, object_text}
@@ -48,7 +48,7 @@ push_items-returns-in_err-push_value-clause-writes g t c =
     let wrong = goes_wrong c.in_err-push_value.field-0.0 (text_of (view item)) (items_text (items_view (drop (i + 1) items))) (items_text (items_view items)) (sink c.args.out.now) (sink c.loop-item.out) (sink c.push_value.new.out)
     (subst (λ xs. GoesOn (items_text (items_view xs)) (sink c.loop-item.out) (items_text (items_view items)) (sink c.args.out.now)) rest c.loop-item.invariant.writes)
     c.in_err-push_value.ensures.writes in
-    rw (p.1, p.2) (subst (λ xs. Writes (Err c.in_err-push_value.field-0.0) (items_text (items_view xs)) (sink c.args.out.now) (sink c.push_value.new.out)) c.deref-item-items.ensures.value wrong)
+    rw (p.1, p.2) (subst (λ xs. WritesText (Err c.in_err-push_value.field-0.0) (items_text (items_view xs)) (sink c.args.out.now) (sink c.push_value.new.out)) c.deref-item-items.ensures.value wrong)
 
 pub push_items-loop-item-preserved : goal.push_items-loop-item-preserved
 push_items-loop-item-preserved g t c =
@@ -69,7 +69,7 @@ push_items-returns-clause-writes g t c =
     let sink = sink_of g.W.CountedWrite.contents g.W.CountedWrite.failure_count in
     let items = c.deref-item-items.result.now in
     let none : items_text (items_view (drop c.loop-item.item-index items)) ≡ [] = ap (λ xs. items_text (items_view xs)) (drop_all c.loop-item.item-index items c.loop-item-test.false) in
-    subst (λ xs. Writes _ (items_text (items_view xs)) (sink c.args.out.now) (sink c.loop-item.out)) c.deref-item-items.ensures.value
+    subst (λ xs. WritesText _ (items_text (items_view xs)) (sink c.args.out.now) (sink c.loop-item.out)) c.deref-item-items.ensures.value
     (goes_to_end tt _ _ (sink c.args.out.now) (sink c.loop-item.out) none c.loop-item.invariant.writes)
 
 pub push_pairs-returns-in_err-push_text-clause-writes : goal.push_pairs-returns-in_err-push_text-clause-writes
@@ -80,7 +80,7 @@ push_pairs-returns-in_err-push_text-clause-writes g t c =
     let all : c.into_iter-key-iterator.result ≡ c.args.pairs.now.entries = search rules in
     let key : c.as_str.result.now ≡ string_bytes c.in-Some.key.now = c.as_str.ensures.value in
     let x = c.in_err-push_text.field-0.0 in
-    rw (p.1, p.2) (subst (λ es. Writes (Err x) (pairs_text (pairs_view es)) (sink c.args.out.now) (sink c.push_text.new.self)) all
+    rw (p.1, p.2) (subst (λ es. WritesText (Err x) (pairs_text (pairs_view es)) (sink c.args.out.now) (sink c.push_text.new.self)) all
     (goes_wrong x (string_bytes c.in-Some.key.now) (text_of (view c.in-Some.value.now) ++ pairs_text (pairs_view c.next.new.self)) _ _ (sink c.loop-key.out) _
     (next_pair _ c.in-Some.key.now c.in-Some.value.now c.next.new.self _ _ (sink c.loop-key.out) rest c.loop-key.invariant.writes)
     (writes_as (Err x) _ _ _ _ key c.in_err-push_text.ensures.writes)))
@@ -107,7 +107,7 @@ push_pairs-returns-in_err-push_value-clause-writes g t c =
     let all : c.into_iter-key-iterator.result ≡ c.args.pairs.now.entries = search rules in
     let key : c.as_str.result.now ≡ string_bytes c.in-Some.key.now = c.as_str.ensures.value in
     let x = c.in_err-push_value.field-0.0 in
-    rw (p.1, p.2) (subst (λ es. Writes (Err x) (pairs_text (pairs_view es)) (sink c.args.out.now) (sink c.push_value.new.out)) all
+    rw (p.1, p.2) (subst (λ es. WritesText (Err x) (pairs_text (pairs_view es)) (sink c.args.out.now) (sink c.push_value.new.out)) all
     (goes_wrong x (text_of (view c.in-Some.value.now)) (pairs_text (pairs_view c.next.new.self)) _ _ (sink c.push_text.new.self) _
     (goes_on c.in_ok-push_text.field-0 (string_bytes c.in-Some.key.now) (text_of (view c.in-Some.value.now) ++ pairs_text (pairs_view c.next.new.self)) _ _ (sink c.loop-key.out) (sink c.push_text.new.self)
     (next_pair _ c.in-Some.key.now c.in-Some.value.now c.next.new.self _ _ (sink c.loop-key.out) rest c.loop-key.invariant.writes)
@@ -119,5 +119,5 @@ push_pairs-returns-clause-writes g t c =
     let sink = sink_of g.W.CountedWrite.contents g.W.CountedWrite.failure_count in
     let none : c.loop-key.key-iterator ≡ [] = search rules in
     let all : c.into_iter-key-iterator.result ≡ c.args.pairs.now.entries = search rules in
-    subst (λ es. Writes _ (pairs_text (pairs_view es)) (sink c.args.out.now) (sink c.loop-key.out)) all
+    subst (λ es. WritesText _ (pairs_text (pairs_view es)) (sink c.args.out.now) (sink c.loop-key.out)) all
     (goes_to_end tt _ _ (sink c.args.out.now) (sink c.loop-key.out) (ap (λ es. pairs_text (pairs_view es)) none) c.loop-key.invariant.writes)

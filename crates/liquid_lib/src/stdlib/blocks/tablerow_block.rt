@@ -2,7 +2,7 @@
 ghost use Rattle.std.specs.Prelude.{◌≡◌, ◌≤◌, ◌+◌, ◌/◌, ◌%◌, ◌==◌, ◌++◌, [], codes, decimal};
 ghost use Rattle.std.specs.Prelude.{if◌then◌else◌};
 ghost use Rattle.liquid_core.specs.Loops.{is_last_column};
-ghost use Rattle.liquid_lib.specs.Performs.{Writes};
+ghost use Rattle.liquid_lib.specs.Performs.{WritesText};
 ghost use Rattle.liquid_lib.specs.Sinks.{sink_of};
 ghost use Rattle.liquid_meaning.specs.Loops.{cell_end, cell_start};
 
@@ -28,7 +28,7 @@ impl Row {
         out: &mut Output<'_, W>,
     ) -> Result<()>
         requires { place ≤ 9223372036854775807 }
-        ensures writes { Writes result (cell_start place self.columns.count)
+        ensures writes { WritesText result (cell_start place self.columns.count)
             (sink_of W.contents W.failure_count out.old)
             (sink_of W.contents W.failure_count out.new) }
         ensures same_writer { out.new.writer.ghost_name ≡ out.old.writer.ghost_name }
@@ -46,7 +46,7 @@ impl Row {
         out: &mut Output<'_, W>,
     ) -> Result<()>
         requires { place ≤ 9223372036854775807 }
-        ensures writes { Writes result
+        ensures writes { WritesText result
             (if place % self.columns.count == 0 then codes "<tr class=\"row" ++
             (decimal (place / self.columns.count + 1) ++ codes "\">") else [])
             (sink_of W.contents W.failure_count out.old)
@@ -68,7 +68,7 @@ impl Row {
         out: &mut Output<'_, W>,
     ) -> Result<()>
         requires { place ≤ 9223372036854775807 }
-        ensures writes { Writes result (cell_end place self.count self.columns.count)
+        ensures writes { WritesText result (cell_end place self.count self.columns.count)
             (sink_of W.contents W.failure_count out.old)
             (sink_of W.contents W.failure_count out.new) }
         ensures same_writer { out.new.writer.ghost_name ≡ out.old.writer.ghost_name }
