@@ -18,7 +18,7 @@ use Rattle.liquid_lib.proofs.Joined.{bind_met, bind_faulted, done_met, memory_of
 use Rattle.liquid_lib.proofs.Sinks.{AddsPart-none}
 use Rattle.liquid_meaning.specs.Effects.{counter_number}
 use Rattle.liquid_meaning.specs.Meaning.{within_i64}
-use Rattle.liquid_meaning.specs.Runs.{Nothing, Run, done, read, evaluate, fault, ◌>>=◌}
+use Rattle.liquid_meaning.specs.Runs.{Nothing, Run, done, read_environment, evaluate, fault, ◌>>=◌}
 
 abbrev nothing : Run Nothing
 nothing = done tt
@@ -70,7 +70,7 @@ unfit_met z e k p h = bind_faulted unit unit e (within_i64 z) (λ a. k) p p (on 
 
 -- the counter's number decides what is shown and what is stored
 abbrev pub counting : Text → (ℤ → ℤ) → (ℤ → ℤ) → Run Nothing
-counting name shown stored = read (counter_number name) >>= (λ n. within_i64 (stored n) >>= (λ a. shown_and_stored name (shown n) (stored n)))
+counting name shown stored = read_environment (counter_number name) >>= (λ n. within_i64 (stored n) >>= (λ a. shown_and_stored name (shown n) (stored n)))
 
 module _ (name : Text) (shown stored : ℤ → ℤ) where
   abbrev from_number : ℤ → Run Nothing

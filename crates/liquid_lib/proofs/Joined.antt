@@ -14,7 +14,7 @@ use Rattle.liquid_core.specs.Environment.{Environment}
 use Rattle.liquid_core.specs.States.{Layers, merged_layers}
 use Rattle.liquid_evaluation.specs.Tree.{Node, Nodes, no_nodes, node}
 use Rattle.liquid_lib.specs.Sinks.{Sink, AddsPart}
-use Rattle.liquid_meaning.specs.Runs.{Nothing, Outcome, Run, done, read, evaluate, fault, change, write, after_text, go_on, ◌>>=◌, with_scope, buffered, ended_with}
+use Rattle.liquid_meaning.specs.Runs.{Nothing, Outcome, Run, done, read_environment, evaluate, fault, change, write, after_text, go_on, ◌>>=◌, with_scope, buffered, ended_with}
 use Rattle.liquid_meaning.specs.Effects.{if_none, unless_interrupted}
 use Rattle.liquid_meaning.specs.Meaning.{Setting, node_meaning, nodes_meaning}
 use Rattle.liquid_lib.specs.Performs.{Configuration, Exact, MeetsAt, Meets, Performs, WritesText, IsCut, unit}
@@ -115,9 +115,9 @@ pub refused_met : {V A U B : Type 0} (va : V → A) (vb : U → B) (e : Error) (
 refused_met va vb e f k p h = bind_faulted va vb e (evaluate f) k p p (no_value_met va e f p h)
 
 -- what is read, and what followed it
-pub read_met : {A U B : Type 0} (vb : U → B) (r : Result U Error) (f : Environment → A) (k : A → Run B) (p u : Configuration) → Meets vb r (k (f p.environment)) p u → Meets vb r (read f >>= k) p u
-unfolding read
-read_met vb r f k p u next = bind_met (λ a. a) vb (f p.environment) r (read f) k p p u (inl (record { end = refl; within = refl; adds = Adds-nil p.sink; none_failed = refl; same = refl })) next
+pub read_met : {A U B : Type 0} (vb : U → B) (r : Result U Error) (f : Environment → A) (k : A → Run B) (p u : Configuration) → Meets vb r (k (f p.environment)) p u → Meets vb r (read_environment f >>= k) p u
+unfolding read_environment
+read_met vb r f k p u next = bind_met (λ a. a) vb (f p.environment) r (read_environment f) k p p u (inl (record { end = refl; within = refl; adds = Adds-nil p.sink; none_failed = refl; same = refl })) next
 
 -- ---- texts and changes
 

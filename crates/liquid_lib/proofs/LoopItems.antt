@@ -25,7 +25,7 @@ use Rattle.liquid_evaluation.proofs.Calls.{faulted_as, faulted_then}
 use Rattle.liquid_evaluation.proofs.ItemPlaces.{item_by_place}
 use Rattle.liquid_evaluation.proofs.Windows.{window_by_place}
 use Rattle.liquid_lib.specs.inside.LoopTurns.{IsFor, cells_asked, each_from, in_columns, items_asked, window_values, some_columns}
-use Rattle.liquid_meaning.specs.Effects.{value_or_nil}
+use Rattle.liquid_meaning.specs.Effects.{variable_or_nil}
 use Rattle.liquid_meaning.specs.Loops.{columns_of}
 
 -- ---- lists by place
@@ -99,13 +99,13 @@ module _ (source : Source) (window : Window) (e : Environment) where
 -- ---- `forloop` before the loop
 
 -- a loop at its first item that was given what was found elsewhere
-pub begins_for : (t : LoopFrame) (name : Text) (e : Environment) (parent : Value) → t.at ≡ 0 → t.kind ≡ For parent → t.name.now ≡ name → parent_of (e.local (codes "forloop")) (view parent) ≡ value_or_nil (codes "forloop") e → IsFor name e t
+pub begins_for : (t : LoopFrame) (name : Text) (e : Environment) (parent : Value) → t.at ≡ 0 → t.kind ≡ For parent → t.name.now ≡ name → parent_of (e.local (codes "forloop")) (view parent) ≡ variable_or_nil (codes "forloop") e → IsFor name e t
 begins_for t name e parent first kind called is = record {
   first = first;
   names = λ k i. loop_scope (loop_name (kind i)) (around k i) (called i) (frame_item_at t k);
 }
   where
-    around : (k : ℕ) → loop_object t.kind k t.count e.local ≡ forloop_object k t.count (value_or_nil (codes "forloop") e)
+    around : (k : ℕ) → loop_object t.kind k t.count e.local ≡ forloop_object k t.count (variable_or_nil (codes "forloop") e)
     around k = ap (λ k0. loop_object k0 k t.count e.local) kind ∙ ap (λ d. forloop_object k t.count d) is
 
 -- ---- columns

@@ -17,10 +17,10 @@ use Rattle.liquid_core.specs.declared.interrupt.Interrupt.{Interrupt}
 use Rattle.liquid_core.specs.declared.frame.LoopFrame.{LoopFrame}
 use Rattle.liquid_evaluation.specs.Evaluation.{amount, asked_for, source_items}
 use Rattle.liquid_evaluation.specs.Tree as tree
-use Rattle.liquid_meaning.specs.Effects.{is_break, take_interrupt, value_or_nil}
+use Rattle.liquid_meaning.specs.Effects.{is_break, take_interrupt, variable_or_nil}
 use Rattle.liquid_meaning.specs.Loops.{cell_end, cell_start, columns_of, for_all, if_empty, loop, rows, until_break}
 use Rattle.liquid_meaning.specs.Meaning.{Setting, node_meaning, nodes_meaning}
-use Rattle.liquid_meaning.specs.Runs.{Nothing, Run, done, evaluate, fault, read, write, go_on, ◌>>=◌, with_scope}
+use Rattle.liquid_meaning.specs.Runs.{Nothing, Run, done, evaluate, fault, read_environment, write, go_on, ◌>>=◌, with_scope}
 use Rattle.liquid_meaning.proofs.Rules.{all_more, all_none, for_rule, joined, tablerow_rule, until_more, until_none}
 use Rattle.liquid_lib.specs.inside.LoopRuns.{cells_meant, one_cell, one_turn, turns_meant}
 use Rattle.liquid_lib.specs.inside.LoopTurns.{IsFor, IsRow, cells_asked, each_from, in_columns, items_asked, turn_items}
@@ -62,7 +62,7 @@ turns_are t name parent local body names =
 module _ (setting : Setting) (deeper : tree.Nodes → Run Nothing) (name : Text) (source : tree.Source) (window : tree.Window) (body otherwise : tree.Nodes) where
   -- a `for` whose items these are
   abbrev for_items : List Datum → Run Nothing
-  for_items items = read (value_or_nil (codes "forloop")) >>= (λ parent. if_empty items (nodes_meaning setting deeper otherwise) (loop name parent items (nodes_meaning setting deeper body)))
+  for_items items = read_environment (variable_or_nil (codes "forloop")) >>= (λ parent. if_empty items (nodes_meaning setting deeper otherwise) (loop name parent items (nodes_meaning setting deeper body)))
 
   for_asks : node_meaning setting deeper (tree.for_each name source window body otherwise) ≡ (evaluate (items_asked source window) >>= for_items)
   for_asks = for_rule setting deeper name source window body otherwise ∙ joined (source_items source) (λ all. asked_for window all) for_items
@@ -74,17 +74,17 @@ module _ (setting : Setting) (deeper : tree.Nodes → Run Nothing) (name : Text)
       → Performs r (node_meaning setting deeper (tree.for_each name source window body otherwise)) p q
   for_none r p q is h =
       by_rule for_asks (given_met {V = List Datum} (λ x. x) unit [] r (items_asked source window) for_items p q is
-      (read_met unit r (value_or_nil (codes "forloop")) (λ parent. if_empty [] (nodes_meaning setting deeper otherwise) (loop name parent [] (nodes_meaning setting deeper body))) p q h))
+      (read_met unit r (variable_or_nil (codes "forloop")) (λ parent. if_empty [] (nodes_meaning setting deeper otherwise) (loop name parent [] (nodes_meaning setting deeper body))) p q h))
 
   pub for_some : (t : LoopFrame) (r : Result (Unit {0}) Error) (p q : Configuration) → 0 < t.count → items_asked source window p.environment ≡ Ok (turn_items t) → IsFor name p.environment t
       → Performs r (turns_meant t p.environment.local (nodes_meaning setting deeper body)) p q → Performs r (node_meaning setting deeper (tree.for_each name source window body otherwise)) p q
   for_some t r p q some is binds h =
-      let parent = value_or_nil (codes "forloop") p.environment in
+      let parent = variable_or_nil (codes "forloop") p.environment in
       let turns : if_empty (turn_items t) (nodes_meaning setting deeper otherwise) (loop name parent (turn_items t) (nodes_meaning setting deeper body)) ≡ turns_meant t p.environment.local (nodes_meaning setting deeper body) =
       some_items (frame_item_at t) t.count (nodes_meaning setting deeper otherwise) (loop name parent (turn_items t) (nodes_meaning setting deeper body)) some
       ∙ turns_are t name parent p.environment.local (nodes_meaning setting deeper body) binds.names in
       by_rule for_asks (given_met {V = List Datum} (λ x. x) unit (turn_items t) r (items_asked source window) for_items p q is
-      (read_met unit r (value_or_nil (codes "forloop")) (λ parent. if_empty (turn_items t) (nodes_meaning setting deeper otherwise) (loop name parent (turn_items t) (nodes_meaning setting deeper body))) p q (by_rule turns h)))
+      (read_met unit r (variable_or_nil (codes "forloop")) (λ parent. if_empty (turn_items t) (nodes_meaning setting deeper otherwise) (loop name parent (turn_items t) (nodes_meaning setting deeper body))) p q (by_rule turns h)))
 
 -- ---- tablerow
 

@@ -22,7 +22,7 @@ use Rattle.liquid_syntax.specs.Templates.{list_of, most_of, node_count_of, parti
 use Rattle.liquid_syntax.specs.declared.template.Template.{Template}
 use Rattle.liquid_syntax.proofs.TreeCounts.{template_count}
 use Rattle.liquid_syntax.specs.declared.partials.Partials.{Partials}
-use Rattle.liquid_meaning.specs.Meaning.{Setting, found, name_of, include_scope, pairs_scope, node_meaning, deeper_meaning, render_apart}
+use Rattle.liquid_meaning.specs.Meaning.{Setting, found, partial_name_text, include_scope, pairs_scope, node_meaning, deeper_meaning, render_apart}
 use Rattle.liquid_meaning.specs.Runs as runs
 use Rattle.liquid_meaning.specs.Runs.{Nothing, Outcome, Run, apart, done, evaluate, fault, go_on, with_scope}
 use Rattle.liquid_meaning.specs.Within.{Within}
@@ -108,14 +108,14 @@ module _ {S : Type 0} (over : List (Text × Datum) → S) (depth : ℕ) (binding
     abbrev with_name : Text → Result (S × (Text × (tree.Nodes × ℕ))) ErrorKind
     with_name name = entry_of over (look name) depth bindings e >>= (λ entry. Ok (entry.0, (name, entry.1)))
 
-    pub unnamed : (kind : ErrorKind) → Faulted kind (name_of x e) → Faulted kind (named_entry over look depth x bindings e)
-    unnamed kind h = faulted_then kind (name_of x e) with_name h
+    pub unnamed : (kind : ErrorKind) → Faulted kind (partial_name_text x e) → Faulted kind (named_entry over look depth x bindings e)
+    unnamed kind h = faulted_then kind (partial_name_text x e) with_name h
 
-    pub named_faulted : (kind : ErrorKind) (name : Text) → name_of x e ≡ Ok name → Faulted kind (entry_of over (look name) depth bindings e) → Faulted kind (named_entry over look depth x bindings e)
+    pub named_faulted : (kind : ErrorKind) (name : Text) → partial_name_text x e ≡ Ok name → Faulted kind (entry_of over (look name) depth bindings e) → Faulted kind (named_entry over look depth x bindings e)
     named_faulted kind name is h =
         faulted_as kind (named_entry over look depth x bindings e) (with_name name) (ap (λ r. r >>= with_name) is) (faulted_then kind (entry_of over (look name) depth bindings e) (λ entry. Ok (entry.0, (name, entry.1))) h)
 
-    pub named_is : (name : Text) (made : S) (partial : tree.Nodes) (left : ℕ) → name_of x e ≡ Ok name → entry_of over (look name) depth bindings e ≡ Ok (made, (partial, left)) → named_entry over look depth x bindings e ≡ Ok (made, (name, (partial, left)))
+    pub named_is : (name : Text) (made : S) (partial : tree.Nodes) (left : ℕ) → partial_name_text x e ≡ Ok name → entry_of over (look name) depth bindings e ≡ Ok (made, (partial, left)) → named_entry over look depth x bindings e ≡ Ok (made, (name, (partial, left)))
     named_is name made partial left is h = ap (λ r. r >>= with_name) is ∙ ap (λ r. r >>= (λ entry. Ok (entry.0, (name, entry.1)))) h
 
 pub left_entry : {S : Type 0} (depth left : ℕ) (made : S) (partial : tree.Nodes) → depth_left depth ≡ Ok left → entry_at depth made partial ≡ Ok (made, (partial, left))
@@ -157,7 +157,7 @@ jekyll_found partials depth name bindings e scope partial left h =
 -- the partial of an `include` too
 pub include_found : (partials : List (Text × tree.Nodes)) (depth : ℕ) (x : Expression) (bindings : tree.Bindings) (e : Environment) (scope : Map Datum) (name : Text) (partial : tree.Nodes) (left : ℕ)
     → include_entry partials depth x bindings e ≡ Ok (scope, (name, (partial, left))) → listed partials name ≡ Some partial
-include_found partials depth x bindings e scope name partial left h = named (name_of x e) h
+include_found partials depth x bindings e scope name partial left h = named (partial_name_text x e) h
   where
     at : Text → Result (Map Datum × (tree.Nodes × ℕ)) ErrorKind
     at n = entry_of pairs_scope (partial_of partials n) depth bindings e
@@ -244,7 +244,7 @@ module _ (setting : Setting) (depth : ℕ) (x : Expression) (bindings : tree.Bin
   include_is e =
       (λ i. include_rule setting (deeper_meaning setting depth) x bindings i e)
       ∙ named_at (λ o. o) (λ name. entry_of pairs_scope (partial_of setting.partials name) depth bindings e) (λ name. looked pairs_scope over_scope setting depth bindings (partial_of setting.partials name)) (inside pairs_scope over_scope setting) e (λ kind. refl)
-      (λ name. looked_is pairs_scope over_scope setting scope_ends bindings (partial_of setting.partials name) depth e) (name_of x e)
+      (λ name. looked_is pairs_scope over_scope setting scope_ends bindings (partial_of setting.partials name) depth e) (partial_name_text x e)
 
   pub include_refused : (e : Error) (p : Configuration) → Faulted e.kind (include_entry setting.partials depth x bindings p.environment) → Performs (Err e) (node_meaning setting (deeper_meaning setting depth) (tree.include x bindings)) p p
   include_refused e p h = refused_by unit (node_meaning setting (deeper_meaning setting depth) (tree.include x bindings)) (include_entry setting.partials depth x bindings) included p (include_is p.environment) e h
@@ -271,7 +271,7 @@ module _ (setting : Setting) (depth : ℕ) (x : Expression) (bindings : tree.Bin
   render_is e =
       (λ i. render_rule setting (deeper_meaning setting depth) x bindings i e)
       ∙ named_at after_it (λ name. entry_of render_environment (render_partial setting.partials name) depth bindings e) (λ name. looked render_environment apart_in setting depth bindings (render_partial setting.partials name)) (inside render_environment apart_in setting) e (λ kind. refl)
-      (λ name. looked_is render_environment apart_in setting apart_ends bindings (render_partial setting.partials name) depth e) (name_of x e)
+      (λ name. looked_is render_environment apart_in setting apart_ends bindings (render_partial setting.partials name) depth e) (partial_name_text x e)
 
   pub render_refused : (e : Error) (p : Configuration) → Faulted e.kind (render_entry setting.partials depth x bindings p.environment) → Performs (Err e) (node_meaning setting (deeper_meaning setting depth) (tree.render x None bindings)) p p
   render_refused e p h = refused_by unit (node_meaning setting (deeper_meaning setting depth) (tree.render x None bindings)) (render_entry setting.partials depth x bindings) rendered p (render_is p.environment) e h

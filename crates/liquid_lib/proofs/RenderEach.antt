@@ -11,7 +11,7 @@ use Rattle.liquid_core.specs.declared.interrupt.Interrupt.{Interrupt}
 use Rattle.liquid_evaluation.specs.Evaluation.{source_items}
 use Rattle.liquid_evaluation.specs.Tree as tree
 use Rattle.liquid_meaning.specs.Loops.{until_break}
-use Rattle.liquid_meaning.specs.Meaning.{Setting, name_of, node_meaning, render_apart}
+use Rattle.liquid_meaning.specs.Meaning.{Setting, partial_name_text, node_meaning, render_apart}
 use Rattle.liquid_meaning.specs.Runs as runs
 use Rattle.liquid_meaning.specs.Runs.{Nothing, Run, evaluate}
 use Rattle.liquid_meaning.proofs.Rules.{render_each_rule}
@@ -29,17 +29,17 @@ module _ (setting : Setting) (deeper : tree.Nodes → Run Nothing) (x : Expressi
   abbrev each_from : Text → Run Nothing
   each_from name = runs.◌>>=◌ (evaluate (source_items each.0)) (items_run name)
 
-  pub name_refused : (e : Error) (p : Configuration) → Faulted e.kind (name_of x p.environment) → Performs (Err e) (node_meaning setting deeper (tree.render x (Some each) bindings)) p p
-  name_refused e p h = by_rule (render_each_rule setting deeper x each bindings) (refused_met {V = Text} (λ t. t) unit e (name_of x) each_from p h)
+  pub name_refused : (e : Error) (p : Configuration) → Faulted e.kind (partial_name_text x p.environment) → Performs (Err e) (node_meaning setting deeper (tree.render x (Some each) bindings)) p p
+  name_refused e p h = by_rule (render_each_rule setting deeper x each bindings) (refused_met {V = Text} (λ t. t) unit e (partial_name_text x) each_from p h)
 
-  pub items_refused : (e : Error) (name : Text) (p : Configuration) → name_of x p.environment ≡ Ok name → Faulted e.kind (source_items each.0 p.environment)
+  pub items_refused : (e : Error) (name : Text) (p : Configuration) → partial_name_text x p.environment ≡ Ok name → Faulted e.kind (source_items each.0 p.environment)
       → Performs (Err e) (node_meaning setting deeper (tree.render x (Some each) bindings)) p p
   items_refused e name p is h =
-      by_rule (render_each_rule setting deeper x each bindings) (given_met {V = Text} (λ t. t) unit name (Err e) (name_of x) each_from p p is
+      by_rule (render_each_rule setting deeper x each bindings) (given_met {V = Text} (λ t. t) unit name (Err e) (partial_name_text x) each_from p p is
       (refused_met {V = List Datum} (λ ds. ds) unit e (source_items each.0) (items_run name) p h))
 
-  pub items_met : (r : Result (Unit {0}) Error) (name : Text) (ds : List Datum) (p q : Configuration) → name_of x p.environment ≡ Ok name → source_items each.0 p.environment ≡ Ok ds
+  pub items_met : (r : Result (Unit {0}) Error) (name : Text) (ds : List Datum) (p q : Configuration) → partial_name_text x p.environment ≡ Ok name → source_items each.0 p.environment ≡ Ok ds
       → Performs r (items_run name ds) p q → Performs r (node_meaning setting deeper (tree.render x (Some each) bindings)) p q
   items_met r name ds p q is found h =
-      by_rule (render_each_rule setting deeper x each bindings) (given_met {V = Text} (λ t. t) unit name r (name_of x) each_from p q is
+      by_rule (render_each_rule setting deeper x each bindings) (given_met {V = Text} (λ t. t) unit name r (partial_name_text x) each_from p q is
       (given_met {V = List Datum} (λ ds. ds) unit ds r (source_items each.0) (items_run name) p q found h))

@@ -13,7 +13,7 @@ ghost use Rattle.liquid_syntax.specs.Flats.{window_view};
 ghost use Rattle.liquid_lib.specs.inside.LoopTurns.{AreRows, IsFor, cells_asked, cells_of};
 ghost use Rattle.liquid_lib.specs.inside.LoopTurns.{items_asked, window_values, some_columns};
 ghost use Rattle.liquid_lib.specs.inside.LoopTurns.{loop_values};
-ghost use Rattle.liquid_meaning.specs.Effects.{is_break, value_or_nil};
+ghost use Rattle.liquid_meaning.specs.Effects.{is_break, variable_or_nil};
 ghost use Rattle.liquid_meaning.specs.Loops.{columns_of};
 
 use liquid_core::{
@@ -106,7 +106,7 @@ fn evaluate_window(
 /// begins.
 fn forloop_elsewhere(alloc: Global, state: &State<'_>) -> Result<Value>
     ensures { IsValueOrMemory (λ v. parent_of ((environment_of state.now).local (codes "forloop"))
-        (view v)) result (value_or_nil (codes "forloop") (environment_of state.now)) }
+        (view v)) result (variable_or_nil (codes "forloop") (environment_of state.now)) }
 {
     match state.look_up("forloop") {
         Some(value) => value.copy(alloc),

@@ -12,7 +12,7 @@ ghost use Rattle.liquid_syntax.specs.Templates.{list_of, most_of, partials_of, t
 ghost use Rattle.liquid_lib.specs.inside.Partials.{Enters, IsWithin, bound_include, bound_object};
 ghost use Rattle.liquid_lib.specs.inside.Partials.{bound_scope, entry_at, include_entry};
 ghost use Rattle.liquid_lib.specs.inside.Partials.{jekyll_entry, partial_of, render_partial};
-ghost use Rattle.liquid_meaning.specs.Meaning.{name_of};
+ghost use Rattle.liquid_meaning.specs.Meaning.{partial_name_text};
 
 use crate::context::RunContext;
 use crate::near_partial::unknown;
@@ -102,7 +102,7 @@ fn enter<'d, H>(
 /// The name of a partial, which is a scalar's text.
 #[inline(never)]
 pub(crate) fn partial_name(alloc: Global, name: &Expression, state: &State<'_>) -> Result<String>
-    ensures { Answers (λ t. string_bytes t) result (name_of (expression_view name.now)
+    ensures { Answers (λ t. string_bytes t) result (partial_name_text (expression_view name.now)
         (environment_of state.now)) }
 {
     let value = name.evaluate(alloc, state)?;

@@ -12,7 +12,7 @@ use Rattle.liquid_core.specs.declared.interrupt.Interrupt.{Interrupt}
 use Rattle.liquid_meaning.specs.Runs.{Nothing, Outcome, Run, done, evaluate, go_on, ◌>>=◌, apart}
 use Rattle.liquid_meaning.specs.Effects.{if_none, unless_interrupted}
 use Rattle.liquid_meaning.specs.Loops.{until_break}
-use Rattle.liquid_meaning.specs.Meaning.{Setting, name_of, render_apart, node_meaning, nodes_meaning, deeper_meaning, meaning}
+use Rattle.liquid_meaning.specs.Meaning.{Setting, partial_name_text, render_apart, node_meaning, nodes_meaning, deeper_meaning, meaning}
 use Rattle.liquid_meaning.specs.Isolation.{RenderLeavesAll, RenderSeesItsValues, items_of_render}
 use Rattle.liquid_meaning.proofs.Steps.{alone}
 use Rattle.liquid_evaluation.specs.Evaluation.{bound_values}
@@ -121,7 +121,7 @@ module _ {e f : Environment} where
     same_render_apart : (name : Text) (bindings : Bindings) (over : Map Datum) → bound_values bindings e ≡ bound_values bindings f → SameIn e f (render_apart setting deeper name bindings over)
     same_render_apart name bindings over is = same_bind (same_evaluate _ is) (λ pairs. same_bind (same_evaluate _ refl) (λ partial. same_apart _ _))
 
-    same_render : (x : Expression) (each : Option (Source × Text)) (bindings : Bindings) → name_of x e ≡ name_of x f → items_of_render each e ≡ items_of_render each f → bound_values bindings e ≡ bound_values bindings f
+    same_render : (x : Expression) (each : Option (Source × Text)) (bindings : Bindings) → partial_name_text x e ≡ partial_name_text x f → items_of_render each e ≡ items_of_render each f → bound_values bindings e ≡ bound_values bindings f
         → SameIn e f (node_meaning setting deeper (render x each bindings))
     unfolding node_meaning
     same_render x None bindings in_name in_items in_pairs = same_bind (same_evaluate _ in_name) (λ name. same_bind (same_render_apart name bindings _ in_pairs) (λ left. same_done tt))

@@ -10,11 +10,11 @@ use Rattle.liquid_model.proofs.Maps.{same_key}
 use Rattle.liquid_core.specs.Environment.{Environment}
 use Rattle.liquid_core.specs.declared.interrupt.Interrupt.{Interrupt}
 use Rattle.liquid_evaluation.specs.Tree.{Node, Nodes}
-use Rattle.liquid_meaning.specs.Runs.{Nothing, Run, done, fault, read, evaluate, change, write, go_on, ◌>>=◌, with_scope, buffered}
+use Rattle.liquid_meaning.specs.Runs.{Nothing, Run, done, fault, read_environment, evaluate, change, write, go_on, ◌>>=◌, with_scope, buffered}
 use Rattle.liquid_meaning.specs.Effects.{assigned_to, is_break, if_none, unless_interrupted}
 use Rattle.liquid_meaning.specs.Loops.{until_break, for_all, needs_columns, loop, rows, columns_of}
 use Rattle.liquid_meaning.specs.Meaning.{Setting, node_meaning, nodes_meaning, deeper_meaning, meaning}
-use Rattle.liquid_meaning.specs.Assigning.{RanAmong, RanIn, RanAtItem, RanInCell, at_first, behind, the_assign, in_if, in_unless, in_capture, in_ifchanged, in_for, in_tablerow, at_item, at_later, in_cell, in_later, turn, cell, for_scope, row_scope, AssignedAnywhere}
+use Rattle.liquid_meaning.specs.Assigning.{RanAmong, RanIn, RanAtItem, RanInCell, at_first, behind, the_assign, in_if, in_unless, in_capture, in_ifchanged, in_for, in_tablerow, at_item, at_later, in_cell, in_later, loop_turn, cell, for_scope, row_scope, AssignedAnywhere}
 use Rattle.liquid_meaning.proofs.Stays.{Stays, stays_bind, stays_done, stays_cond, stays_with_scope, stays_until_break, stays_take_interrupt, stays_unless, stays_read, stays_change, stays_write, stays_assign, stays_for_all, nodes_stay, deeper_stays}
 
 -- under the name something stands after m
@@ -45,8 +45,8 @@ module _ (name : Text) where
   unfolding ◌>>=◌ go_on evaluate
   given {A = A} x k e a is h = subst (λ (r : Result A ErrorKind). IsSome ((go_on k [] e r).environment.assigned name)) (sym is) h
 
-  known : {A B : Type 0} (x : Environment → A) (k : A → Run B) (e : Environment) → Held name (k (x e)) e → Held name (read x >>= k) e
-  unfolding ◌>>=◌ go_on read
+  known : {A B : Type 0} (x : Environment → A) (k : A → Run B) (e : Environment) → Held name (k (x e)) e → Held name (read_environment x >>= k) e
+  unfolding ◌>>=◌ go_on read_environment
   known x k e h = h
 
   written : {B : Type 0} (t : Text) (k : Nothing → Run B) (e : Environment) → Held name (k tt) e → Held name (write t >>= k) e
@@ -83,7 +83,7 @@ module _ (name : Text) where
       columns_met (needs_columns (d ∷ items) columns) (for_all (cell variable columns (length (d ∷ items)) m) 0 (d ∷ items)) e (enough (columns == 0) (fault ZeroColumns) (done tt) some) h
 
 module _ (name : Text) (setting : Setting) (deeper : Nodes → Run Nothing) (kept : (nodes : Nodes) → Stays name (deeper nodes)) where
-  stays_turn : (variable : Text) (parent : Datum) (m : ℕ) (body : Nodes) (k : ℕ) (d : Datum) → Stays name (turn variable parent m (nodes_meaning setting deeper body) k d)
+  stays_turn : (variable : Text) (parent : Datum) (m : ℕ) (body : Nodes) (k : ℕ) (d : Datum) → Stays name (loop_turn variable parent m (nodes_meaning setting deeper body) k d)
   stays_turn variable parent m body k d = stays_bind (stays_with_scope _ (nodes_stay setting deeper kept body)) (λ a. stays_take_interrupt)
 
   stays_cell : (variable : Text) (columns m : ℕ) (body : Nodes) (k : ℕ) (d : Datum) → Stays name (cell variable columns m (nodes_meaning setting deeper body) k d)
@@ -117,14 +117,14 @@ module _ (name : Text) (setting : Setting) (deeper : Nodes → Run Nothing) (kep
         (rowed name variable (columns_of (length (d ∷ items)) asked) (nodes_meaning setting deeper body) d items e some (cells r))))
 
     turns : {variable : Text} {parent : Datum} {m : ℕ} {body : Nodes} {k : ℕ} {ds : List Datum} {e : Environment} → RanAtItem setting deeper name variable parent m body k ds e
-        → IsSome ((until_break (turn variable parent m (nodes_meaning setting deeper body)) k ds e).environment.assigned name)
+        → IsSome ((until_break (loop_turn variable parent m (nodes_meaning setting deeper body)) k ds e).environment.assigned name)
     turns (at_item {variable = variable} {parent = parent} {d = d} {m = m} {k = k} {body = body} {ds = ds} {e = e} r) =
-        held_then name (turn variable parent m (nodes_meaning setting deeper body) k d) _ e (λ left. stays_cond _ (stays_done tt) (stays_until_break _ (stays_turn variable parent m body) (suc k) ds))
+        held_then name (loop_turn variable parent m (nodes_meaning setting deeper body) k d) _ e (λ left. stays_cond _ (stays_done tt) (stays_until_break _ (stays_turn variable parent m body) (suc k) ds))
         (held_then name (with_scope (for_scope variable parent m k d) (nodes_meaning setting deeper body)) _ e (λ a. stays_take_interrupt)
         (held_scope name (for_scope variable parent m k d) (nodes_meaning setting deeper body) e (among r)))
     turns (at_later {variable = variable} {parent = parent} {d = d} {m = m} {k = k} {body = body} {ds = ds} {left = left} {e = e} ended free r) =
-        held_after name (turn variable parent m (nodes_meaning setting deeper body) k d) _ e left ended
-        (held_cond name (is_break left) (done tt) (until_break (turn variable parent m (nodes_meaning setting deeper body)) (suc k) ds) _ free (turns r))
+        held_after name (loop_turn variable parent m (nodes_meaning setting deeper body) k d) _ e left ended
+        (held_cond name (is_break left) (done tt) (until_break (loop_turn variable parent m (nodes_meaning setting deeper body)) (suc k) ds) _ free (turns r))
 
     cells : {variable : Text} {columns m : ℕ} {body : Nodes} {k : ℕ} {ds : List Datum} {e : Environment} → RanInCell setting deeper name variable columns m body k ds e
         → IsSome ((for_all (cell variable columns m (nodes_meaning setting deeper body)) k ds e).environment.assigned name)

@@ -12,7 +12,7 @@ use Rattle.liquid_evaluation.specs.declared.comparison.ComparisonOperator.TheVar
 use Rattle.liquid_evaluation.specs.Names.{expression_names, steps_names, all_names, optional_names, filters_names, chain_names, atom_names, atoms_names, condition_names, source_names, window_names, bound_names, target_names, include_name, node_names, nodes_names, whens_names, partials_names, run_names, mentioned}
 use Rattle.liquid_meaning.specs.Within.{Within}
 use Rattle.liquid_model.specs.Uses.{Use, Alike, nothing, everything, parts, Fields, no_fields, field, ItemUse, uncounted, every, there, asks_whether, includes, includes_fields, includes_items}
-use Rattle.liquid_meaning.specs.Reading.{Uses, Needs, key, by_key, grants, grants_along, grants_all, grants_optional, grants_filters, grants_chain, use_beside, grants_compared, grants_values, grants_atom, grants_atoms, grants_condition, grants_source, grants_window, grants_bindings, is_flat, grants_node, grants_nodes, grants_whens, grants_partials}
+use Rattle.liquid_meaning.specs.Reading.{Uses, Needs, key, for_known_key, grants, grants_along, grants_all, grants_optional, grants_filters, grants_chain, use_beside, grants_compared, grants_values, grants_atom, grants_atoms, grants_condition, grants_source, grants_window, grants_bindings, is_flat, grants_node, grants_nodes, grants_whens, grants_partials}
 use Rattle.liquid_meaning.specs.Reads.{AllRespect, NamesCover, whole_names}
 use Rattle.liquid_meaning.proofs.Within.{left, right, within_mentioned}
 use Rattle.liquid_model.proofs.Alike.{alike_same}
@@ -55,7 +55,7 @@ module _ (N : Names) where
       at true h = refl
       at false h = absurd h
 
-  known : (k : Option Text) (f : Text → Bool) (unknown : Bool) → ((t : Text) → T (f t)) → T unknown → T (by_key k f unknown)
+  known : (k : Option Text) (f : Text → Bool) (unknown : Bool) → ((t : Text) → T (f t)) → T unknown → T (for_known_key k f unknown)
   known None f unknown h u = u
   known (Some t) f unknown h u = h t
 

@@ -28,7 +28,7 @@ use Rattle.liquid_list_filters.specs.Rows.{reverse_answer, after_list, concat_by
 use Rattle.liquid_list_filters.specs.Sorting.{insert_in_order, sorted, Key, key_order, sort_by, given, key_of, lower_case, natural_key_of, sort_named, sort_answer, sort_natural_answer}
 use Rattle.liquid_model.specs.Uses.{Use, nothing, everything, parts, ItemUse, uncounted, every, shape_of, Pairwise, Alike, AlikeItems, present, use_of_each, join, items_wanted}
 use Rattle.liquid_meaning.specs.Reads.{Both}
-use Rattle.liquid_meaning.specs.FilterNeeds.{filter_needs, items_each, with_field, items_or_itself, one_field, named_by, by_property, kind_needs, KnownRespected}
+use Rattle.liquid_meaning.specs.FilterNeeds.{filter_needs, items_each, with_field, items_or_itself, one_field, literal_first_argument, by_property, kind_needs, KnownRespected}
 use Rattle.liquid_model.proofs.Alike.{pairwise_same, pairwise_more, alike_same, alike_shape, alike_present, present_asks, join_left, join_right, AlikeLists}
 use Rattle.liquid_meaning.proofs.Seen.{pairwise_reverse}
 use Rattle.liquid_meaning.proofs.NeededItems.{AlikeAs, by_shape, answers_same, same_size, list_alike, kept_alike, property_alike, field_of, rest_of, shape_of_field, maps_same, chosen}
@@ -214,7 +214,7 @@ record IsFirst (name : Text) (arguments : List Datum) : Type 0 where
   all : arguments ≡ first ∷ others
   named : text_of first ≡ name
 
-first_argument : (xs : List Expression) (name : Text) (e : Environment) (arguments : List Datum) → named_by xs ≡ Some name → all_required xs e ≡ Ok arguments → IsFirst name arguments
+first_argument : (xs : List Expression) (name : Text) (e : Environment) (arguments : List Datum) → literal_first_argument xs ≡ Some name → all_required xs e ≡ Ok arguments → IsFirst name arguments
 unfolding all_required value_of values
 first_argument [] name e arguments h is = absurd cc
 first_argument (variable x steps ∷ xs) name e arguments h is = absurd cc
@@ -231,19 +231,19 @@ no_arguments e arguments is = ap values is
 -- equal inputs where everything is asked, and else what f asks
 by_argument : (v : Use) (answer : Datum → List Datum → Result Datum ErrorKind) (f : Text → Use) (xs : List Expression) (e : Environment) (arguments : List Datum) → all_required xs e ≡ Ok arguments
     → ((name : Text) → bytes_eq name (codes "size") ≡ false → (first : Datum) (others : List Datum) → text_of first ≡ name → (c d : Datum) → AlikeAs (f name) c d → Both (AlikeAs v) (answer c (first ∷ others)) (answer d (first ∷ others)))
-    → (c d : Datum) → AlikeAs (by_property (named_by xs) f) c d → Both (AlikeAs v) (answer c arguments) (answer d arguments)
-by_argument v answer f xs e arguments is k c d a = at (named_by xs) refl a
+    → (c d : Datum) → AlikeAs (by_property (literal_first_argument xs) f) c d → Both (AlikeAs v) (answer c arguments) (answer d arguments)
+by_argument v answer f xs e arguments is k c d a = at (literal_first_argument xs) refl a
   where
     equal : Some c ≡ Some d → Both (AlikeAs v) (answer c arguments) (answer d arguments)
     equal a = answers_same v _ _ (ap (λ o. answer (unwrap_or o nil) arguments) a)
 
-    named : (name : Text) → named_by xs ≡ Some name → (b : Bool) → same_text name (codes "size") ≡ b → AlikeAs (cond b everything (f name)) c d → Both (AlikeAs v) (answer c arguments) (answer d arguments)
+    named : (name : Text) → literal_first_argument xs ≡ Some name → (b : Bool) → same_text name (codes "size") ≡ b → AlikeAs (cond b everything (f name)) c d → Both (AlikeAs v) (answer c arguments) (answer d arguments)
     named name h true no_length a = equal a
     named name h false no_length a =
         let r = first_argument xs name e arguments h is in
         subst (λ zs. Both (AlikeAs v) (answer c zs) (answer d zs)) (sym r.all) (k name no_length r.first r.others r.named c d a)
 
-    at : (o : Option Text) → named_by xs ≡ o → AlikeAs (by_property o f) c d → Both (AlikeAs v) (answer c arguments) (answer d arguments)
+    at : (o : Option Text) → literal_first_argument xs ≡ o → AlikeAs (by_property o f) c d → Both (AlikeAs v) (answer c arguments) (answer d arguments)
     at None h a = equal a
     at (Some name) h a = named name h (same_text name (codes "size")) refl a
 

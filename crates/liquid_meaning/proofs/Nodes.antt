@@ -14,10 +14,10 @@ use Rattle.liquid_core.specs.Environment.{Names, Environment, Registers}
 use Rattle.liquid_core.specs.declared.interrupt.Interrupt.{Interrupt}
 use Rattle.liquid_core.specs.Expressions.{required}
 use Rattle.liquid_evaluation.specs.Evaluation.{bound_values}
-use Rattle.liquid_meaning.specs.Runs.{Nothing, Run, read, evaluate, change, ◌>>=◌}
+use Rattle.liquid_meaning.specs.Runs.{Nothing, Run, read_environment, evaluate, change, ◌>>=◌}
 use Rattle.liquid_meaning.specs.Effects.{assigned_to, counted_to, interrupted_by, counter_number, take_interrupt, if_none, unless_interrupted}
 use Rattle.liquid_meaning.specs.Loops.{if_empty, columns_of, needs_columns, loop, rows}
-use Rattle.liquid_meaning.specs.Meaning.{Setting, write_item, cycle_meaning, has_equal, within_i64, named, name_of, found, render_apart, node_meaning, nodes_meaning, whens_meaning}
+use Rattle.liquid_meaning.specs.Meaning.{Setting, write_item, cycle_meaning, has_equal, within_i64, named, partial_name_text, found, render_apart, node_meaning, nodes_meaning, whens_meaning}
 use Rattle.liquid_evaluation.specs.Names.{expression_names, all_names, optional_names, condition_names, source_names, window_names, bound_names, target_names, include_name, node_names, nodes_names, whens_names}
 use Rattle.liquid_meaning.specs.Isolation.{KeepsOthers}
 use Rattle.liquid_meaning.proofs.Maps.{agree_insert, outside_insert}
@@ -56,13 +56,13 @@ module _ (N : Names) where
   isolated_required : (x : Expression) → Within N (expression_names x) → Isolated N (evaluate (required x))
   isolated_required x h = isolated_evaluate _ (λ e f a. required_same N e f a x h)
 
-  isolated_name : (x : Expression) → Within N (expression_names x) → Isolated N (evaluate (name_of x))
+  isolated_name : (x : Expression) → Within N (expression_names x) → Isolated N (evaluate (partial_name_text x))
   isolated_name x h = isolated_evaluate _ (λ e f a. ap named (required_same N e f a x h))
 
   isolated_pairs : (bindings : Bindings) → Within N (bound_names bindings) → Isolated N (evaluate (bound_values bindings))
   isolated_pairs bindings h = isolated_evaluate _ (λ e f a. bound_same N e f a bindings h)
 
-  isolated_counter : (name : Text) → T (N name) → Isolated N (read (counter_number name))
+  isolated_counter : (name : Text) → T (N name) → Isolated N (read_environment (counter_number name))
   isolated_counter name h = isolated_read _ (λ e f a i. unwrap_or (option_and_then whole (a.counters name h i)) (pos 0))
 
   isolated_within : (n : ℤ) → Isolated N (within_i64 n)

@@ -18,10 +18,10 @@ use Rattle.liquid_core.specs.declared.interrupt.Interrupt.{Interrupt}
 use Rattle.liquid_core.specs.Expressions.{required}
 use Rattle.liquid_evaluation.specs.Evaluation.{chain_value, bound_values}
 use Rattle.liquid_evaluation.specs.declared.comparison.ComparisonOperator.TheVariants.{Equals}
-use Rattle.liquid_meaning.specs.Runs.{Nothing, Run, done, read, evaluate, change, write, ◌>>=◌}
-use Rattle.liquid_meaning.specs.Effects.{assigned_to, counted_to, interrupted_by, counter_number, value_or_nil, take_interrupt, if_none, unless_interrupted, is_last_text}
+use Rattle.liquid_meaning.specs.Runs.{Nothing, Run, done, read_environment, evaluate, change, write, ◌>>=◌}
+use Rattle.liquid_meaning.specs.Effects.{assigned_to, counted_to, interrupted_by, counter_number, variable_or_nil, take_interrupt, if_none, unless_interrupted, is_last_text}
 use Rattle.liquid_meaning.specs.Loops.{if_empty, columns_of, needs_columns, cell_start, cell_end, loop, rows}
-use Rattle.liquid_meaning.specs.Meaning.{Setting, write_item, cycle_meaning, has_equal, within_i64, named, name_of, found, pairs_scope, include_scope, render_apart, node_meaning, nodes_meaning, whens_meaning, deeper_meaning, meaning}
+use Rattle.liquid_meaning.specs.Meaning.{Setting, write_item, cycle_meaning, has_equal, within_i64, named, partial_name_text, found, pairs_scope, include_scope, render_apart, node_meaning, nodes_meaning, whens_meaning, deeper_meaning, meaning}
 use Rattle.liquid_model.specs.Uses.{Use, nothing, everything, parts, there, shape_of, Pairwise, Alike, asks_whether, present}
 use Rattle.liquid_meaning.specs.Reading.{Uses, Needs, grants, grants_all, grants_optional, use_beside, grants_compared, grants_values, grants_condition, grants_source, grants_window, grants_bindings, grants_chain, bound_use, all_of, is_flat, grants_node, grants_nodes, grants_whens, grants_partials}
 use Rattle.liquid_meaning.specs.Reads.{AlikeMaps, AlikeIn, Both, Respects, ReadsAlone}
@@ -56,7 +56,7 @@ module _ (U : Uses) where
   tied_required : (x : Expression) → T (grants U x everything) → Tied U Same (evaluate (required x)) (evaluate (required x))
   tied_required x h = tied_value _ _ (λ e f a. required_equal U e f a x h)
 
-  tied_name : (x : Expression) → T (grants U x everything) → Tied U Same (evaluate (name_of x)) (evaluate (name_of x))
+  tied_name : (x : Expression) → T (grants U x everything) → Tied U Same (evaluate (partial_name_text x)) (evaluate (partial_name_text x))
   tied_name x h = tied_value _ _ (λ e f a. ap named (required_equal U e f a x h))
 
   whole_of_shape : (o : Option Datum) → option_and_then whole (shape_of o) ≡ option_and_then whole o
@@ -68,7 +68,7 @@ module _ (U : Uses) where
   whole_of_shape (Some (array ds)) = refl
   whole_of_shape (Some (object ps)) = refl
 
-  tied_counter : (name : Text) → T (asks_whether (U name)) → Tied U Same (read (counter_number name)) (read (counter_number name))
+  tied_counter : (name : Text) → T (asks_whether (U name)) → Tied U Same (read_environment (counter_number name)) (read_environment (counter_number name))
   tied_counter name h = tied_read Same _ _ (λ e f a. ap (λ o. unwrap_or o (pos 0))
       (sym (whole_of_shape (e.counters name)) ∙ (ap (option_and_then whole) (alike_shape (U name) (e.counters name) (f.counters name) h (a.counters name)) ∙ whole_of_shape (f.counters name))))
 
@@ -123,7 +123,7 @@ module _ (U : Uses) where
   outer_alike everything h o p a k n = ap (λ o. Some (forloop_object k n (unwrap_or o nil))) a
   outer_alike (parts members turns) h o p a k n = absurd h
 
-  tied_parent : T (is_flat (U (codes "forloop"))) → Tied U Outer (read (value_or_nil (codes "forloop"))) (read (value_or_nil (codes "forloop")))
+  tied_parent : T (is_flat (U (codes "forloop"))) → Tied U Outer (read_environment (variable_or_nil (codes "forloop"))) (read_environment (variable_or_nil (codes "forloop")))
   tied_parent h = tied_read Outer _ _ (λ e f a. outer_alike (U (codes "forloop")) h (lookup e (codes "forloop")) (lookup f (codes "forloop")) (lookup_alike U e f a (codes "forloop")))
 
   tied_if_empty : {m n o : Run Nothing} (u : Use) (ds es : List Datum) → AlikeLists u ds es → Tied U Same m m → Tied U Same n o → Tied U Same (if_empty ds m n) (if_empty es m o)

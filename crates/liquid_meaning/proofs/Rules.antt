@@ -15,10 +15,10 @@ use Rattle.liquid_core.specs.declared.interrupt.Interrupt.{Interrupt}
 use Rattle.liquid_core.specs.declared.interrupt.Interrupt.TheVariants.{Break, Continue}
 use Rattle.liquid_evaluation.specs.Tree.{Bindings, Chain, Condition, Nodes, Source, Whens, Window, no_whens, when, plain, raw, comment, output, assign, increment, decrement, break_loop, continue_loop, cycle, if_true, unless, case_of, for_each, tablerow, capture, ifchanged, include, jekyll_include, render}
 use Rattle.liquid_evaluation.specs.Evaluation.{chain_value, truth_of, source_items, amount, asked_for, bound_values}
-use Rattle.liquid_meaning.specs.Runs.{Nothing, Run, done, read, evaluate, change, write, go_on, ◌>>=◌, with_scope, buffered, apart}
-use Rattle.liquid_meaning.specs.Effects.{assigned_to, counted_to, interrupted_by, changed_to, counter_number, is_break, is_last_text, value_or_nil}
+use Rattle.liquid_meaning.specs.Runs.{Nothing, Run, done, read_environment, evaluate, change, write, go_on, ◌>>=◌, with_scope, buffered, apart}
+use Rattle.liquid_meaning.specs.Effects.{assigned_to, counted_to, interrupted_by, changed_to, counter_number, is_break, is_last_text, variable_or_nil}
 use Rattle.liquid_meaning.specs.Loops.{columns_of, for_all, if_empty, loop, rows, until_break}
-use Rattle.liquid_meaning.specs.Meaning.{Setting, within_i64, cycle_meaning, has_equal, name_of, found, include_scope, pairs_scope, render_apart, node_meaning, nodes_meaning, whens_meaning}
+use Rattle.liquid_meaning.specs.Meaning.{Setting, within_i64, cycle_meaning, has_equal, partial_name_text, found, include_scope, pairs_scope, render_apart, node_meaning, nodes_meaning, whens_meaning}
 
 module _ (setting : Setting) (deeper : Nodes → Run Nothing) where
   pub plain_rule : (t : Text) → node_meaning setting deeper (plain t) ≡ write t
@@ -64,7 +64,7 @@ module _ (setting : Setting) (deeper : Nodes → Run Nothing) where
   capture_rule name body = refl
 
   pub include_rule : (x : Expression) (bindings : Bindings) → node_meaning setting deeper (include x bindings)
-      ≡ (evaluate (name_of x) >>= (λ name. evaluate (bound_values bindings) >>= (λ pairs. evaluate (λ e. found (listed setting.partials name)) >>= (λ partial. with_scope (pairs_scope pairs) (deeper partial)))))
+      ≡ (evaluate (partial_name_text x) >>= (λ name. evaluate (bound_values bindings) >>= (λ pairs. evaluate (λ e. found (listed setting.partials name)) >>= (λ partial. with_scope (pairs_scope pairs) (deeper partial)))))
   unfolding node_meaning
   include_rule x bindings = refl
 
@@ -74,17 +74,17 @@ module _ (setting : Setting) (deeper : Nodes → Run Nothing) where
   jekyll_rule name bindings = refl
 
   pub render_rule : (x : Expression) (bindings : Bindings) → node_meaning setting deeper (render x None bindings)
-      ≡ (evaluate (name_of x) >>= (λ name. (evaluate (bound_values bindings) >>= (λ pairs. evaluate (λ e. found (listed setting.partials name else listed setting.partials (name ++ codes ".liquid"))) >>= (λ partial. apart (pairs_scope pairs) (deeper partial)))) >>= (λ left. done tt)))
+      ≡ (evaluate (partial_name_text x) >>= (λ name. (evaluate (bound_values bindings) >>= (λ pairs. evaluate (λ e. found (listed setting.partials name else listed setting.partials (name ++ codes ".liquid"))) >>= (λ partial. apart (pairs_scope pairs) (deeper partial)))) >>= (λ left. done tt)))
   unfolding node_meaning merged empty
   render_rule x bindings = refl
 
   pub increment_rule : (name : Text) → node_meaning setting deeper (increment name)
-      ≡ (read (counter_number name) >>= (λ n. within_i64 (n +ℤ pos 1) >>= (λ a. write (signed_decimal n) >>= (λ b. change (counted_to name (n +ℤ pos 1))))))
+      ≡ (read_environment (counter_number name) >>= (λ n. within_i64 (n +ℤ pos 1) >>= (λ a. write (signed_decimal n) >>= (λ b. change (counted_to name (n +ℤ pos 1))))))
   unfolding node_meaning
   increment_rule name = refl
 
   pub decrement_rule : (name : Text) → node_meaning setting deeper (decrement name)
-      ≡ (read (counter_number name) >>= (λ n. within_i64 (n -ℤ pos 1) >>= (λ a. write (signed_decimal (n -ℤ pos 1)) >>= (λ b. change (counted_to name (n -ℤ pos 1))))))
+      ≡ (read_environment (counter_number name) >>= (λ n. within_i64 (n -ℤ pos 1) >>= (λ a. write (signed_decimal (n -ℤ pos 1)) >>= (λ b. change (counted_to name (n -ℤ pos 1))))))
   unfolding node_meaning
   decrement_rule name = refl
 
@@ -107,12 +107,12 @@ module _ (setting : Setting) (deeper : Nodes → Run Nothing) where
   whens_more values body more d otherwise = refl
 
   pub ifchanged_rule : (body : Nodes) → node_meaning setting deeper (ifchanged body)
-      ≡ (buffered (nodes_meaning setting deeper body) >>= (λ t. read (λ e. e.registers.changed) >>= (λ last. cond (is_last_text last t) (done tt) (write t) >>= (λ a. change (changed_to t)))))
+      ≡ (buffered (nodes_meaning setting deeper body) >>= (λ t. read_environment (λ e. e.registers.changed) >>= (λ last. cond (is_last_text last t) (done tt) (write t) >>= (λ a. change (changed_to t)))))
   unfolding node_meaning
   ifchanged_rule body = refl
 
   pub for_rule : (name : Text) (source : Source) (window : Window) (body otherwise : Nodes) → node_meaning setting deeper (for_each name source window body otherwise)
-      ≡ (evaluate (source_items source) >>= (λ all. evaluate (asked_for window all) >>= (λ items. read (value_or_nil (codes "forloop")) >>= (λ parent.
+      ≡ (evaluate (source_items source) >>= (λ all. evaluate (asked_for window all) >>= (λ items. read_environment (variable_or_nil (codes "forloop")) >>= (λ parent.
       if_empty items (nodes_meaning setting deeper otherwise) (loop name parent items (nodes_meaning setting deeper body))))))
   unfolding node_meaning
   for_rule name source window body otherwise = refl
@@ -124,7 +124,7 @@ module _ (setting : Setting) (deeper : Nodes → Run Nothing) where
   tablerow_rule name source window columns body = refl
 
   pub render_each_rule : (x : Expression) (each : Source × Text) (bindings : Bindings) → node_meaning setting deeper (render x (Some each) bindings)
-      ≡ (evaluate (name_of x) >>= (λ name. evaluate (source_items each.0) >>= (λ items.
+      ≡ (evaluate (partial_name_text x) >>= (λ name. evaluate (source_items each.0) >>= (λ items.
       until_break (λ k d. render_apart setting deeper name bindings (loop_scope (codes "forloop") (forloop_object k (length items) nil) each.1 d)) 0 items)))
   unfolding node_meaning
   render_each_rule x each bindings = refl

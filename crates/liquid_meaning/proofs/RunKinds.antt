@@ -15,10 +15,10 @@ use Rattle.liquid_evaluation.specs.declared.comparison.ComparisonOperator.TheVar
 use Rattle.liquid_evaluation.specs.Calls.{applied}
 use Rattle.liquid_evaluation.specs.Tree.{Filter, FilterCall, Chain, Atom, bare, compared, Condition, Source, each_of, counted, Window, Bindings, Node, plain, raw, comment, output, assign, increment, decrement, break_loop, continue_loop, cycle, if_true, unless, case_of, for_each, tablerow, capture, ifchanged, include, jekyll_include, render, Nodes, no_nodes, node, Whens, no_whens, when}
 use Rattle.liquid_evaluation.specs.Evaluation.{FilterAnswers, entry_value, calls_by, chain_value, contains, comparison_truth, atom_truth, all_true, truth_of, value_items, not_too_long, source_items, amount, asked_for, bound_values}
-use Rattle.liquid_meaning.specs.Runs.{Nothing, Run, done, read, evaluate, fault, change, write, go_on, ◌>>=◌, with_scope, ended_with, buffered, apart}
+use Rattle.liquid_meaning.specs.Runs.{Nothing, Run, done, read_environment, evaluate, fault, change, write, go_on, ◌>>=◌, with_scope, ended_with, buffered, apart}
 use Rattle.liquid_meaning.specs.Effects.{take_interrupt, if_none, unless_interrupted}
 use Rattle.liquid_meaning.specs.Loops.{until_break, for_all, if_empty, needs_columns, loop, rows}
-use Rattle.liquid_meaning.specs.Meaning.{Setting, write_item, cycle_meaning, has_equal, within_i64, named, name_of, found, render_apart, node_meaning, nodes_meaning, whens_meaning, deeper_meaning, meaning}
+use Rattle.liquid_meaning.specs.Meaning.{Setting, write_item, cycle_meaning, has_equal, within_i64, named, partial_name_text, found, render_apart, node_meaning, nodes_meaning, whens_meaning, deeper_meaning, meaning}
 use Rattle.std.specs.Option.{ok_or}
 use Rattle.std.proofs.Common.{arith}
 use Rattle.std.proofs.Math.Facts.{leb_yes, yes_leb}
@@ -176,8 +176,8 @@ module _ (limit : ℕ) (least : (kind : ErrorKind) → T (is_run_kind kind) → 
   unfolding write
   ends_write t = record { ends = λ e. ended_ok tt }
 
-  ends_read : {A : Type 0} (x : Environment → A) → Ends (read x)
-  unfolding read
+  ends_read : {A : Type 0} (x : Environment → A) → Ends (read_environment x)
+  unfolding read_environment
   ends_read x = record { ends = λ e. ended_ok (x e) }
 
   ends_evaluate : {A : Type 0} {x : Environment → Result A ErrorKind} → ((e : Environment) → Ended (x e)) → Ends (evaluate x)
@@ -268,7 +268,7 @@ module _ (limit : ℕ) (least : (kind : ErrorKind) → T (is_run_kind kind) → 
   unfolding rows
   ends_rows name columns items i = ends_bind (ends_columns items columns) (λ a. ends_for_all _ (λ k d. ends_bind (ends_write _) (λ a. ends_bind (ends_with_scope _ i) (λ a. ends_write _))) 0 items)
 
-  ends_name : (x : Expression) → Ends (evaluate (name_of x))
+  ends_name : (x : Expression) → Ends (evaluate (partial_name_text x))
   ends_name x = ends_evaluate (λ e. ended_named (required x e) (ended_required x e))
 
   ends_pairs : (bindings : Bindings) → Ends (evaluate (bound_values bindings))

@@ -7,7 +7,7 @@ use Rattle.liquid_model.specs.declared.error.ErrorKind.{ErrorKind}
 use Rattle.liquid_model.specs.Maps.{Map, merged}
 use Rattle.liquid_core.specs.Environment.{Names, Environment}
 use Rattle.liquid_core.specs.declared.interrupt.Interrupt.{Interrupt}
-use Rattle.liquid_meaning.specs.Runs.{Nothing, Outcome, Run, done, read, evaluate, fault, change, write, go_on, ◌>>=◌, with_scope, ended_with, buffered, apart}
+use Rattle.liquid_meaning.specs.Runs.{Nothing, Outcome, Run, done, read_environment, evaluate, fault, change, write, go_on, ◌>>=◌, with_scope, ended_with, buffered, apart}
 use Rattle.liquid_meaning.specs.Loops.{until_break, for_all}
 use Rattle.liquid_meaning.specs.Isolation.{KeepsOthers}
 use Rattle.liquid_meaning.proofs.Maps.{AgreeAt, agree_merged}
@@ -50,8 +50,8 @@ module _ {N : Names} where
   unfolding write
   isolated_write t e f h = record { text = refl; end = refl; agree = h; kept = kept_here N e }
 
-  pub isolated_read : {A : Type 0} (x : Environment → A) → ((e f : Environment) → AgreeOn N e f → x e ≡ x f) → Isolated N (read x)
-  unfolding read
+  pub isolated_read : {A : Type 0} (x : Environment → A) → ((e f : Environment) → AgreeOn N e f → x e ≡ x f) → Isolated N (read_environment x)
+  unfolding read_environment
   isolated_read x same e f h = record { text = refl; end = ap Ok (same e f h); agree = h; kept = kept_here N e }
 
   pub isolated_evaluate : {A : Type 0} (x : Environment → Result A ErrorKind) → ((e f : Environment) → AgreeOn N e f → x e ≡ x f) → Isolated N (evaluate x)

@@ -20,7 +20,7 @@ use Rattle.liquid_evaluation.specs.Calls.{applied}
 use Rattle.liquid_evaluation.specs.Tree.{FilterCall, Chain, Atom, bare, compared, Condition, Source, each_of, counted, Window, Bindings}
 use Rattle.liquid_evaluation.specs.Evaluation.{FilterAnswers, entry_value, calls_by, chain_value, bare_truth, atom_truth, all_true, truth_of, value_items, most_items, not_too_long, source_items, amount, skipped, wanted, items_at, window_items, asked_for, bound_values}
 use Rattle.liquid_model.specs.Uses.{Use, everything, parts, no_fields, every, there, shape_of, member, loop_items, Pairwise, Alike, use_at, is_everything, asks_whether}
-use Rattle.liquid_meaning.specs.Reading.{Uses, key_of, key, by_key, grants, grants_along, grants_all, grants_optional, grants_filters, Needs, use_before, grants_chain, use_beside, grants_compared, grants_atom, grants_atoms, grants_condition, grants_source, grants_window, grants_bindings}
+use Rattle.liquid_meaning.specs.Reading.{Uses, known_key, key, for_known_key, grants, grants_along, grants_all, grants_optional, grants_filters, Needs, use_before, grants_chain, use_beside, grants_compared, grants_atom, grants_atoms, grants_condition, grants_source, grants_window, grants_bindings}
 use Rattle.liquid_meaning.specs.Reads.{AlikeIn, Both, Respects}
 use Rattle.liquid_meaning.proofs.Comparisons.{beside_asks, Sides, sides_compare}
 use Rattle.liquid_model.proofs.Alike.{AlikeLists, pairwise_length, both_left, both_right, pairwise_same, alike_same, alike_shape, alike_at, alike_included, alike_everything, present_asks, alike_present, alike_else}
@@ -95,7 +95,7 @@ along_none (Some d) = refl
 
 -- ---- a step that is known
 
-key_finds : (s : Datum) (k : Text) → key_of s ≡ Some k → (o : Option Datum) → stepped (Some s) o ≡ member k o
+key_finds : (s : Datum) (k : Text) → known_key s ≡ Some k → (o : Option Datum) → stepped (Some s) o ≡ member k o
 key_finds s k e None = refl
 key_finds s k e (Some d) = on s k e
   where
@@ -103,7 +103,7 @@ key_finds s k e (Some d) = on s k e
     of_number z true t f e = ap (λ i. step_into d i (signed_decimal z)) (number_text_is_read z f) ∙ ap (λ o. finding.step d (text (unwrap_or o t))) e
     of_number z false t f e = absurd cc
 
-    on : (s : Datum) (t : Text) → key_of s ≡ Some t → finding.step d s ≡ finding.step d (text t)
+    on : (s : Datum) (t : Text) → known_key s ≡ Some t → finding.step d s ≡ finding.step d (text t)
     on nil t e = absurd cc
     on (truth true) t e = ap (λ o. finding.step d (text (unwrap_or o t))) e
     on (truth false) t e = ap (λ o. finding.step d (text (unwrap_or o t))) e
@@ -132,7 +132,7 @@ module _ (U : Uses) (e f : Environment) (agree : AlikeIn U e f) where
       (next everything v (stepped s o) (stepped t p) (λ i. stepped (is i) (a i)) h)
 
   -- by a known step
-  known_step : (more : Steps) → Next more → (u v : Use) (d : Datum) (k : Text) (o p : Option Datum) → key_of d ≡ Some k → Alike u o p → T (grants_along U (use_at k u) more v)
+  known_step : (more : Steps) → Next more → (u v : Use) (d : Datum) (k : Text) (o p : Option Datum) → known_key d ≡ Some k → Alike u o p → T (grants_along U (use_at k u) more v)
       → Alike v (along o (with_step (Some d) (path_of more e))) (along p (with_step (Some d) (path_of more f)))
   known_step more next u v d k o p is a h =
       subst₂ (Alike v)
@@ -141,7 +141,7 @@ module _ (U : Uses) (e f : Environment) (agree : AlikeIn U e f) where
       (next (use_at k u) v (member k o) (member k p) (alike_at k u o p a) h)
 
   any_step : (x : Expression) (more : Steps) → Next more → (T (grants U x everything) → value_of x e ≡ value_of x f) → (k : Option Text) → key x ≡ k → (u v : Use) (o p : Option Datum) → Alike u o p
-      → T (by_key k (λ k. grants_along U (use_at k u) more v) (is_everything u && (grants U x everything && grants_along U everything more v)))
+      → T (for_known_key k (λ k. grants_along U (use_at k u) more v) (is_everything u && (grants U x everything && grants_along U everything more v)))
       → Alike v (along o (with_step (value_of x e) (path_of more e))) (along p (with_step (value_of x f) (path_of more f)))
   unfolding value_of
   any_step x more next same None is u v o p a h =

@@ -9,7 +9,7 @@ use Rattle.liquid_core.specs.Expression.{Expression}
 use Rattle.liquid_model.specs.Maps.{Map, insert, merged}
 use Rattle.liquid_core.specs.Environment.{Environment}
 use Rattle.liquid_evaluation.specs.Tree.{Bindings, Node, plain, raw, comment, output, assign, increment, decrement, break_loop, continue_loop, cycle, if_true, unless, case_of, for_each, tablerow, capture, ifchanged, include, jekyll_include, render, Nodes, no_nodes, node, Whens, no_whens, when}
-use Rattle.liquid_meaning.specs.Runs.{Nothing, Run, done, read, evaluate, fault, change, write, go_on, ◌>>=◌, with_scope, buffered, apart}
+use Rattle.liquid_meaning.specs.Runs.{Nothing, Run, done, read_environment, evaluate, fault, change, write, go_on, ◌>>=◌, with_scope, buffered, apart}
 use Rattle.liquid_meaning.specs.Effects.{assigned_to, counted_to, take_interrupt, if_none, unless_interrupted}
 use Rattle.liquid_meaning.specs.Loops.{until_break, for_all, if_empty, needs_columns, loop, rows}
 use Rattle.liquid_meaning.specs.Meaning.{Setting, write_item, cycle_meaning, has_equal, within_i64, render_apart, node_meaning, nodes_meaning, whens_meaning, deeper_meaning}
@@ -43,8 +43,8 @@ module _ {name : Text} where
   unfolding write
   stays_write t = record { stays = λ e h. h }
 
-  pub stays_read : {A : Type 0} (x : Environment → A) → Stays name (read x)
-  unfolding read
+  pub stays_read : {A : Type 0} (x : Environment → A) → Stays name (read_environment x)
+  unfolding read_environment
   stays_read x = record { stays = λ e h. h }
 
   stays_evaluate : {A : Type 0} (x : Environment → Result A ErrorKind) → Stays name (evaluate x)

@@ -7,7 +7,7 @@ use Rattle.liquid_model.specs.declared.error.ErrorKind.{ErrorKind}
 use Rattle.liquid_model.specs.Maps.{Map, merged}
 use Rattle.liquid_core.specs.Environment.{Environment, new_environment}
 use Rattle.liquid_core.specs.declared.interrupt.Interrupt.{Interrupt}
-use Rattle.liquid_meaning.specs.Runs.{Nothing, Outcome, Run, done, read, evaluate, fault, change, write, go_on, ◌>>=◌, with_scope, ended_with, buffered, apart}
+use Rattle.liquid_meaning.specs.Runs.{Nothing, Outcome, Run, done, read_environment, evaluate, fault, change, write, go_on, ◌>>=◌, with_scope, ended_with, buffered, apart}
 use Rattle.liquid_meaning.specs.Effects.{is_break}
 use Rattle.liquid_meaning.specs.Loops.{until_break, for_all}
 use Rattle.liquid_model.specs.Uses.{Use, Alike}
@@ -44,8 +44,8 @@ module _ {U : Uses} where
   unfolding write
   tied_write t e f h = record { text = refl; end = refl; left = h }
 
-  pub tied_read : {A : Type 0} (R : A → A → Type 0) (x y : Environment → A) → ((e f : Environment) → AlikeIn U e f → R (x e) (y f)) → Tied U R (read x) (read y)
-  unfolding read
+  pub tied_read : {A : Type 0} (R : A → A → Type 0) (x y : Environment → A) → ((e f : Environment) → AlikeIn U e f → R (x e) (y f)) → Tied U R (read_environment x) (read_environment y)
+  unfolding read_environment
   tied_read R x y r e f h = record { text = refl; end = r e f h; left = h }
 
   pub tied_evaluate : {A : Type 0} (R : A → A → Type 0) (x y : Environment → Result A ErrorKind) → ((e f : Environment) → AlikeIn U e f → Both R (x e) (y f)) → Tied U R (evaluate x) (evaluate y)

@@ -16,7 +16,7 @@ use Rattle.liquid_evaluation.specs.Tree.{node}
 use Rattle.liquid_evaluation.specs.Evaluation.{chain_value, truth_of, source_items, amount}
 use Rattle.liquid_evaluation.specs.Evaluation.{asked_for}
 use Rattle.liquid_meaning.specs.Runs.{Nothing, Run, write, ◌>>◌, with_scope}
-use Rattle.liquid_meaning.specs.Effects.{is_break, take_interrupt, value_or_nil}
+use Rattle.liquid_meaning.specs.Effects.{is_break, take_interrupt, variable_or_nil}
 use Rattle.liquid_core.specs.Loops.{loop_scope, forloop_object, tablerow_object}
 use Rattle.liquid_meaning.specs.Loops.{columns_of, cell_start, cell_end}
 use Rattle.liquid_meaning.specs.Meaning.{Setting, node_meaning, deeper_meaning, nodes_meaning}
@@ -32,8 +32,8 @@ row_scope variable columns m k d =
     loop_scope (codes "tablerow") (tablerow_object k m columns) variable d
 
 -- one turn of a `for`, and one cell of a `tablerow`
-abbrev pub turn : Text → Datum → ℕ → Run Nothing → ℕ → Datum → Run (Option Interrupt)
-turn variable parent m body k d = do
+abbrev pub loop_turn : Text → Datum → ℕ → Run Nothing → ℕ → Datum → Run (Option Interrupt)
+loop_turn variable parent m body k d = do
   with_scope (for_scope variable parent m k d) body
   take_interrupt
 
@@ -72,7 +72,7 @@ module _ (setting : Setting) (deeper : Nodes → Run Nothing) (name : Text) wher
       in_for : {variable : Text} {source : Source} {window : Window} {body otherwise : Nodes}
           {all items : List Datum} {d : Datum} {e : Environment}
           → source_items source e ≡ Ok all → asked_for window all e ≡ Ok (d ∷ items)
-          → RanAtItem variable (value_or_nil (codes "forloop") e) (length (d ∷ items)) body 0
+          → RanAtItem variable (variable_or_nil (codes "forloop") e) (length (d ∷ items)) body 0
           (d ∷ items) e
           → RanIn (for_each variable source window body otherwise) e
       in_tablerow : {variable : Text} {source : Source} {window : Window}
@@ -93,10 +93,10 @@ module _ (setting : Setting) (deeper : Nodes → Run Nothing) (name : Text) wher
           RanAtItem variable parent m body k (d ∷ ds) e
       at_later : {variable : Text} {parent d : Datum} {m k : ℕ} {body : Nodes} {ds : List Datum}
           {left : Option Interrupt} {e : Environment}
-          → (turn variable parent m (nodes_meaning setting deeper body) k d e).end ≡ Ok left →
+          → (loop_turn variable parent m (nodes_meaning setting deeper body) k d e).end ≡ Ok left →
           is_break left ≡ false
           → RanAtItem variable parent m body (suc k) ds
-          (turn variable parent m (nodes_meaning setting deeper body) k d e).environment
+          (loop_turn variable parent m (nodes_meaning setting deeper body) k d e).environment
           → RanAtItem variable parent m body k (d ∷ ds) e
 
     -- in the cell of item k of a `tablerow`, or in a later one that was reached

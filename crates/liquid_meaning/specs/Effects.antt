@@ -8,7 +8,7 @@ use Rattle.liquid_model.specs.Maps.{insert}
 use Rattle.liquid_core.specs.Environment.{Environment, lookup}
 use Rattle.liquid_core.specs.declared.interrupt.Interrupt.{Interrupt}
 use Rattle.liquid_core.specs.declared.interrupt.Interrupt.TheVariants.{Break}
-use Rattle.liquid_meaning.specs.Runs.{Nothing, Run, done, read, change, ◌>>=◌, ◌>>◌}
+use Rattle.liquid_meaning.specs.Runs.{Nothing, Run, done, read_environment, change, ◌>>=◌, ◌>>◌}
 
 -- ---- changes
 
@@ -39,8 +39,8 @@ abbrev pub cycle_index : Text → Environment → ℕ
 cycle_index group e = unwrap_or (e.registers.cycles group) 0
 
 -- what a name holds in any layer, else nil
-abbrev pub value_or_nil : Text → Environment → Datum
-value_or_nil name e = unwrap_or (lookup e name) nil
+abbrev pub variable_or_nil : Text → Environment → Datum
+variable_or_nil name e = unwrap_or (lookup e name) nil
 
 -- whether t is the last text of `ifchanged`
 abbrev pub is_last_text : Option Text → Text → Bool
@@ -56,7 +56,7 @@ is_break _ = false
 -- the interrupt, which is cleared
 abbrev pub take_interrupt : Run (Option Interrupt)
 take_interrupt = do
-  left ← read (λ e. e.registers.interrupt)
+  left ← read_environment (λ e. e.registers.interrupt)
   change (interrupted_by None)
   done left
 

@@ -44,9 +44,9 @@ abbrev pub one_field : Text → Use → Use
 one_field name u = parts (field name u no_fields) uncounted
 
 -- the text of a first argument that is a literal
-abbrev pub named_by : List Expression → Option Text
-named_by (literal d ∷ xs) = Some (text_of d)
-named_by _ = None
+abbrev pub literal_first_argument : List Expression → Option Text
+literal_first_argument (literal d ∷ xs) = Some (text_of d)
+literal_first_argument _ = None
 
 -- a property, whose step of the name finds it and no length
 abbrev pub by_property : Option Text → (Text → Use) → Use
@@ -57,7 +57,7 @@ by_property (Some name) f = cond (same_text name (codes "size")) everything (f n
 abbrev pub compact_needs : List Expression → Use → Use
 compact_needs [] v = items_each (present (items_wanted v))
 compact_needs (x ∷ xs) v =
-    by_property (named_by (x ∷ xs))
+    by_property (literal_first_argument (x ∷ xs))
     (λ name. items_each (with_field name there (items_wanted v)))
 
 abbrev pub kind_needs : FilterKind → List Expression → Use → Use
@@ -67,15 +67,15 @@ kind_needs (Last f) arguments v = one_field (codes "last") v
 kind_needs (Reverse f) arguments v = items_each (items_wanted v)
 kind_needs (Concat f) arguments v = items_each (items_wanted v)
 kind_needs (Map f) arguments v =
-    by_property (named_by arguments)
+    by_property (literal_first_argument arguments)
     (λ name. items_each (one_field name (present (items_wanted v))))
-kind_needs (Where f) arguments v = by_property (named_by arguments)
+kind_needs (Where f) arguments v = by_property (literal_first_argument arguments)
     (λ name. items_or_itself (with_field name everything (items_wanted v)))
 kind_needs (Sort f) arguments v =
-    by_property (named_by arguments)
+    by_property (literal_first_argument arguments)
     (λ name. items_or_itself (with_field name everything (items_wanted v)))
 kind_needs (SortNatural f) arguments v =
-    by_property (named_by arguments)
+    by_property (literal_first_argument arguments)
     (λ name. items_or_itself (with_field name everything (items_wanted v)))
 kind_needs (Compact f) arguments v = compact_needs arguments v
 kind_needs (Default f) arguments v = join (items_each nothing) v

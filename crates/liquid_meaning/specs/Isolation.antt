@@ -21,7 +21,7 @@ use Rattle.liquid_evaluation.specs.Tree.{Source, Bindings, Nodes, no_nodes, node
 use Rattle.liquid_evaluation.specs.Names.{run_names, mentioned}
 use Rattle.liquid_evaluation.specs.Evaluation.{source_items, bound_values}
 use Rattle.liquid_meaning.specs.Runs.{Outcome, Run}
-use Rattle.liquid_meaning.specs.Meaning.{Setting, name_of, meaning}
+use Rattle.liquid_meaning.specs.Meaning.{Setting, partial_name_text, meaning}
 
 -- the names that the template or a partial mentions
 abbrev pub names_of_run : Setting → Nodes → Names
@@ -132,7 +132,8 @@ items_of_render (Some each) e = source_items each.0 e
 abbrev pub RenderSeesItsValues : Type 0
 RenderSeesItsValues = (setting : Setting) (depth : ℕ) (x : Expression)
     (each : Option (Source × Text)) (bindings : Bindings) (e f : Environment)
-    → name_of x e ≡ name_of x f → items_of_render each e ≡ items_of_render each f →
+    → partial_name_text x e ≡ partial_name_text x f → items_of_render each e ≡
+        items_of_render each f →
     bound_values bindings e ≡ bound_values bindings f
     → (let o = meaning setting depth (node (render x each bindings) no_nodes) e in
     let p = meaning setting depth (node (render x each bindings) no_nodes) f in

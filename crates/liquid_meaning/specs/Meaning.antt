@@ -32,10 +32,11 @@ use Rattle.liquid_evaluation.specs.Tree.{ifchanged, include, jekyll_include, ren
 use Rattle.liquid_evaluation.specs.Tree.{no_nodes, node, Whens, no_whens, when}
 use Rattle.liquid_evaluation.specs.Evaluation.{FilterAnswers, chain_value, truth_of, source_items}
 use Rattle.liquid_evaluation.specs.Evaluation.{amount, asked_for, bound_values}
-use Rattle.liquid_meaning.specs.Runs.{Nothing, Run, done, read, evaluate, fault, change, write}
+use Rattle.liquid_meaning.specs.Runs.{Nothing, Run, done, read_environment, evaluate, fault, change}
+use Rattle.liquid_meaning.specs.Runs.{write}
 use Rattle.liquid_meaning.specs.Runs.{◌>>=◌, ◌>>◌, with_scope, buffered, apart}
 use Rattle.liquid_meaning.specs.Effects.{assigned_to, counted_to, interrupted_by, cycled_to}
-use Rattle.liquid_meaning.specs.Effects.{changed_to, counter_number, cycle_index, value_or_nil}
+use Rattle.liquid_meaning.specs.Effects.{changed_to, counter_number, cycle_index, variable_or_nil}
 use Rattle.liquid_meaning.specs.Effects.{is_last_text, unless_interrupted}
 use Rattle.liquid_core.specs.Loops.{loop_scope, forloop_object}
 use Rattle.liquid_meaning.specs.Loops.{until_break, if_empty, loop, columns_of, rows}
@@ -61,7 +62,7 @@ write_item (Some x) = do
 abbrev pub cycle_meaning : Text → List Expression → Run Nothing
 cycle_meaning group [] = fault CycleBounds
 cycle_meaning group (x ∷ xs) = do
-  i ← read (cycle_index group)
+  i ← read_environment (cycle_index group)
   change (cycled_to group ((i + 1) % length (x ∷ xs)))
   write_item (slice_get (x ∷ xs) i)
 
@@ -79,8 +80,8 @@ abbrev pub named : Result Datum ErrorKind → Result Text ErrorKind
 named (Ok d) = cond (scalar d) (Ok (text_of d)) (Err PartialName)
 named (Err kind) = Err kind
 
-abbrev pub name_of : Expression → Environment → Result Text ErrorKind
-name_of x e = named (required x e)
+abbrev pub partial_name_text : Expression → Environment → Result Text ErrorKind
+partial_name_text x e = named (required x e)
 
 abbrev pub found : Option Nodes → Result Nodes ErrorKind
 found partial = ok_or partial UnknownPartial
@@ -119,13 +120,13 @@ module _ (setting : Setting) (deeper : Nodes → Run Nothing) where
       change (assigned_to name d)
     -- the counter's number is written, and then one more is stored
     node_meaning (increment name) = do
-      n ← read (counter_number name)
+      n ← read_environment (counter_number name)
       within_i64 (n +ℤ pos 1)
       write (signed_decimal n)
       change (counted_to name (n +ℤ pos 1))
     -- one less is written, and then stored
     node_meaning (decrement name) = do
-      n ← read (counter_number name)
+      n ← read_environment (counter_number name)
       within_i64 (n -ℤ pos 1)
       write (signed_decimal (n -ℤ pos 1))
       change (counted_to name (n -ℤ pos 1))
@@ -146,7 +147,7 @@ module _ (setting : Setting) (deeper : Nodes → Run Nothing) where
     node_meaning (for_each name source window body otherwise) = do
       all ← evaluate (source_items source)
       items ← evaluate (asked_for window all)
-      parent ← read (value_or_nil (codes "forloop"))
+      parent ← read_environment (variable_or_nil (codes "forloop"))
       if_empty items (nodes_meaning otherwise) (loop name parent items (nodes_meaning body))
     -- the source first, then `cols`, limit and offset
     node_meaning (tablerow name source window columns body) = do
@@ -162,12 +163,12 @@ module _ (setting : Setting) (deeper : Nodes → Run Nothing) where
     -- the last one from then on
     node_meaning (ifchanged body) = do
       t ← buffered (nodes_meaning body)
-      last ← read (λ e. e.registers.changed)
+      last ← read_environment (λ e. e.registers.changed)
       cond (is_last_text last t) (done tt) (write t)
       change (changed_to t)
     -- the partial runs in the caller's environment, with the pairs as a scope
     node_meaning (include x bindings) = do
-      name ← evaluate (name_of x)
+      name ← evaluate (partial_name_text x)
       pairs ← evaluate (bound_values bindings)
       partial ← evaluate (λ e. found (listed setting.partials name))
       with_scope (pairs_scope pairs) (deeper partial)
@@ -177,13 +178,13 @@ module _ (setting : Setting) (deeper : Nodes → Run Nothing) where
       with_scope (include_scope pairs) (deeper partial)
     -- the partial runs once, apart
     node_meaning (render x None bindings) = do
-      name ← evaluate (name_of x)
+      name ← evaluate (partial_name_text x)
       render_apart name bindings empty
       done tt
     -- it runs once for each item, up to a run that leaves a break; `forloop` and then the variable
     -- win over the pairs
     node_meaning (render x (Some each) bindings) = do
-      name ← evaluate (name_of x)
+      name ← evaluate (partial_name_text x)
       items ← evaluate (source_items each.0)
       until_break (λ k d. render_apart name bindings
           (loop_scope (codes "forloop") (forloop_object k (length items) nil) each.1 d)) 0 items

@@ -31,19 +31,19 @@ Uses = Text → Use
 -- ---- expressions
 
 -- the text of a step whose value is known, where a step by that text finds the same
-abbrev pub key_of : Datum → Option Text
-key_of (truth b) = Some (text_of (truth b))
-key_of (number z) = cond (fits z) (Some (signed_decimal z)) None
-key_of (text s) = Some s
-key_of _ = None
+abbrev pub known_key : Datum → Option Text
+known_key (truth b) = Some (text_of (truth b))
+known_key (number z) = cond (fits z) (Some (signed_decimal z)) None
+known_key (text s) = Some s
+known_key _ = None
 
 abbrev pub key : Expression → Option Text
-key (literal d) = key_of d
+key (literal d) = known_key d
 key (variable name steps) = None
 
-abbrev pub by_key : Option Text → (Text → Bool) → Bool → Bool
-by_key None known unknown = unknown
-by_key (Some k) known unknown = known k
+abbrev pub for_known_key : Option Text → (Text → Bool) → Bool → Bool
+for_known_key None known unknown = unknown
+for_known_key (Some k) known unknown = known k
 
 unfoldable mutual
   pub grants : Uses → Expression → Use → Bool
@@ -54,7 +54,7 @@ unfoldable mutual
   -- other step everything
   pub grants_along : Uses → Use → Steps → Use → Bool
   grants_along U u no_steps v = includes u v
-  grants_along U u (step x more) v = by_key (key x) (λ k. grants_along U (use_at k u) more v)
+  grants_along U u (step x more) v = for_known_key (key x) (λ k. grants_along U (use_at k u) more v)
       (is_everything u && (grants U x everything && grants_along U everything more v))
 
 unfoldable pub grants_all : Uses → List Expression → Bool

@@ -22,21 +22,21 @@ use Rattle.liquid_meaning.specs.Meaning.{meaning}
 abbrev pub name : String → Expression
 name s = variable (codes s) no_steps
 
-abbrev pub property : String → String → Expression
-property s t = variable (codes s) (step (literal (text (codes t))) no_steps)
+abbrev pub variable_property : String → String → Expression
+variable_property s t = variable (codes s) (step (literal (text (codes t))) no_steps)
 
-abbrev pub quoted : String → Expression
-quoted s = literal (text (codes s))
+abbrev pub text_literal : String → Expression
+text_literal s = literal (text (codes s))
 
 abbrev pub integer : ℕ → Expression
 integer n = literal (number (pos n))
 
 -- a chain without filters
-abbrev pub alone : Expression → Chain
-alone x = record { entry = x; filters = [] }
+abbrev pub without_filters : Expression → Chain
+without_filters x = record { entry = x; filters = [] }
 
 abbrev pub show : Expression → Node
-show x = output (alone x)
+show x = output (without_filters x)
 
 abbrev pub tree : List Node → Nodes
 tree [] = no_nodes
@@ -51,12 +51,12 @@ abbrev pub from_to : ℕ → ℕ → Source
 from_to first last = counted (integer first) (integer last)
 
 -- all items, in their order
-abbrev pub all_items : Window
-all_items = record { limit = None; offset = None; reversed = false }
+abbrev pub whole_window : Window
+whole_window = record { limit = None; offset = None; reversed = false }
 
 -- `{% for s in source %}body{% endfor %}`
 abbrev pub for_in : String → Source → List Node → Node
-for_in s source body = for_each (codes s) source all_items (tree body) no_nodes
+for_in s source body = for_each (codes s) source whole_window (tree body) no_nodes
 
 -- ---- runs
 

@@ -20,8 +20,9 @@ use Rattle.liquid_evaluation.specs.Evaluation.{FilterAnswers}
 use Rattle.liquid_meaning.specs.Effects.{interrupted_by}
 use Rattle.liquid_meaning.specs.Runs.{Nothing, Outcome}
 use Rattle.liquid_meaning.specs.Meaning.{meaning}
-use Rattle.liquid_meaning.specs.Worked.{name, property, quoted, integer, alone, show, tree}
-use Rattle.liquid_meaning.specs.Worked.{if_compared, from_to, all_items, for_in, with_data, ran}
+use Rattle.liquid_meaning.specs.Worked.{name, variable_property, text_literal, integer}
+use Rattle.liquid_meaning.specs.Worked.{without_filters, show, tree}
+use Rattle.liquid_meaning.specs.Worked.{if_compared, from_to, whole_window, for_in, with_data, ran}
 use Rattle.liquid_meaning.specs.Worked.{page, Writes, WritesThen, assigned_after, interrupt_after}
 
 -- filters that answer their argument for nil, false and what is empty, as `default` does
@@ -41,7 +42,8 @@ two_names z =
     (codes "b", array (item (number (pos 7)) (item (number (pos 8)) no_items))) ∷
     (codes "z", z) ∷ []))
     (show (name "a") ∷ for_in "i" (each_of (name "b")) (show (name "i") ∷
-    show (property "forloop" "index") ∷ []) ∷ assign (codes "c") (alone (name "a")) ∷ [])
+    show (variable_property "forloop" "index") ∷ []) ∷ assign (codes "c")
+        (without_filters (name "a")) ∷ [])
 
 -- {% for i in (1..3) window %}[{{ i }}]{% endfor %}
 abbrev pub in_window : Window → Outcome Nothing
@@ -53,7 +55,7 @@ in_window window =
 -- {{ s.t }} and a space, for each t
 abbrev pub show_all : String → List String → List Node
 show_all s [] = []
-show_all s (t ∷ ts) = show (property s t) ∷ plain (codes " ") ∷ show_all s ts
+show_all s (t ∷ ts) = show (variable_property s t) ∷ plain (codes " ") ∷ show_all s ts
 
 pub record WorkedLoops : Type 0 where
   -- {{ nope | default: 'd' }}{{ nope }}
@@ -61,7 +63,7 @@ pub record WorkedLoops : Type 0 where
       WritesThen (meaning (record { answers = as_default; partials = [] }) 32
       (tree (output (record {
         entry = name "nope";
-        filters = (record { filter = default; arguments = quoted "d" ∷ [] }) ∷ [];
+        filters = (record { filter = default; arguments = text_literal "d" ∷ [] }) ∷ [];
       }) ∷
       show (name "nope") ∷ [])) (with_data []))
       "d" UnknownVariable
@@ -76,18 +78,18 @@ pub record WorkedLoops : Type 0 where
       (tree (plain (codes "b") ∷ [])) ∷ [])) "a"
   -- {% if 1 < 'a' %}y{% elsif nil <= nil %}z{% else %}n{% endif %}
   pub unlike_have_no_order : Writes
-      (page (if_true ((compared (integer 1) LessThan (quoted "a") ∷ []) ∷ [])
+      (page (if_true ((compared (integer 1) LessThan (text_literal "a") ∷ []) ∷ [])
       (tree (plain (codes "y") ∷ []))
       (tree (if_true ((compared (literal nil) LessThanEquals (literal nil) ∷ []) ∷ [])
       (tree (plain (codes "z") ∷ [])) (tree (plain (codes "n") ∷ [])) ∷ [])) ∷ [])) "n"
   -- {% if m contains 'k' and 123 contains 2 %}y{% endif %} where m is {"k": null}
   pub of_a_map_and_a_text : Writes
       (ran [] 32 (with_data ((codes "m", object (pair (codes "k") nil no_pairs)) ∷ []))
-      (if_true ((compared (name "m") Contains (quoted "k") ∷ compared (integer 123) Contains
+      (if_true ((compared (name "m") Contains (text_literal "k") ∷ compared (integer 123) Contains
       (integer 2) ∷ []) ∷ []) (tree (plain (codes "y") ∷ [])) no_nodes ∷ [])) "y"
   -- {% if nil contains 'a' %}y{% endif %} and {% if a == nil %}y{% endif %}
   pub nil_contains : WritesThen
-      (page (if_compared (literal nil) Contains (quoted "a") (plain (codes "y") ∷ []) ∷ [])) ""
+      (page (if_compared (literal nil) Contains (text_literal "a") (plain (codes "y") ∷ []) ∷ [])) ""
       UnexpectedValue
   pub missing_side : WritesThen
       (page (if_compared (name "a") Equals (literal nil) (plain (codes "y") ∷ []) ∷ [])) ""
@@ -137,19 +139,20 @@ pub record WorkedLoops : Type 0 where
       plain (codes "=") ∷ show (variable (codes "p") (step (integer 1) no_steps)) ∷
       plain (codes ";") ∷ []) ∷ [])) "a=1;b=2;"
   -- {% for i in 'a' %}{% endfor %} and {% for i in nope %}{% endfor %}
-  pub no_list : WritesThen (page (for_in "i" (each_of (quoted "a")) [] ∷ [])) "" UnexpectedValue
+  pub no_list : WritesThen (page (for_in "i" (each_of (text_literal "a")) [] ∷ [])) ""
+      UnexpectedValue
   pub no_value : WritesThen (page (for_in "i" (each_of (name "nope")) [] ∷ [])) "" UnknownVariable
   -- {% for i in ('x'..nope) %}{% endfor %}, {% for i in 'a' limit:nope %}{% endfor %} and {% for i
   -- in (1..2) limit:'a' %}{% endfor %}
-  pub ends_in_turn : WritesThen (page (for_in "i" (counted (quoted "x") (name "nope")) [] ∷ [])) ""
+  pub ends_in_turn : WritesThen (page (for_in "i" (counted (text_literal "x") (name "nope")) [] ∷ [])) ""
       UnexpectedValue
-  pub source_first : WritesThen (page (for_each (codes "i") (each_of (quoted "a")) (record {
+  pub source_first : WritesThen (page (for_each (codes "i") (each_of (text_literal "a")) (record {
     limit = Some (name "nope");
     offset = None;
     reversed = false;
   }) no_nodes no_nodes ∷ [])) "" UnexpectedValue
   pub no_whole_number : WritesThen (page (for_each (codes "i") (from_to 1 2) (record {
-    limit = Some (quoted "a");
+    limit = Some (text_literal "a");
     offset = None;
     reversed = false;
   }) no_nodes no_nodes ∷ [])) "" UnexpectedValue
@@ -157,8 +160,8 @@ pub record WorkedLoops : Type 0 where
   -- endfor %}{% endfor %}
   pub parent : Writes (page (for_in "i" (from_to 1 2) (for_in "j" (from_to 1 2)
       (show (variable (codes "forloop")
-      (step (quoted "parentloop") (step (quoted "index") no_steps))) ∷
-      show (property "forloop" "index") ∷ plain (codes ",") ∷ []) ∷ []) ∷ []))
+      (step (text_literal "parentloop") (step (text_literal "index") no_steps))) ∷
+      show (variable_property "forloop" "index") ∷ plain (codes ",") ∷ []) ∷ []) ∷ []))
       "11,12,21,22,"
   -- each property of `forloop`, and each that `tablerow` has besides
   pub properties_of_forloop : Writes
@@ -166,7 +169,7 @@ pub record WorkedLoops : Type 0 where
       "rindex0" ∷ "rindex" ∷ "first" ∷ "last" ∷ [])) ∷ []))
       "2 0 1 1 2 true false 2 1 2 0 1 false true "
   pub properties_of_tablerow : Writes
-      (page (tablerow (codes "i") (from_to 1 3) all_items (Some (integer 2))
+      (page (tablerow (codes "i") (from_to 1 3) whole_window (Some (integer 2))
       (tree (show_all "tablerow" ("length" ∷ "index0" ∷ "index" ∷ "rindex0" ∷ "rindex" ∷ "first" ∷
       "last" ∷ "col0" ∷ "col" ∷ "col_first" ∷ "col_last" ∷ []))) ∷ []))
       "<tr class=\"row1\"><td class=\"col1\">3 0 1 2 3 true false 0 1 true false </td><td class=\"col2\">3 1 2 1 2 false false 1 2 false true </td></tr><tr class=\"row2\"><td class=\"col1\">3 2 3 0 1 false true 0 1 true true </td></tr>"
@@ -174,7 +177,7 @@ pub record WorkedLoops : Type 0 where
   -- endfor %}
   pub variable_over_forloop : Writes
       (page (for_in "i" (from_to 1 2) (for_in "forloop" (from_to 8 8) (show (name "forloop") ∷
-      []) ∷ show (property "forloop" "rindex") ∷ []) ∷ [])) "8281"
+      []) ∷ show (variable_property "forloop" "rindex") ∷ []) ∷ [])) "8281"
   -- {% for i in (1..2) %}{% continue %}x{% endfor %}y
   pub continued : Writes (page (for_in "i" (from_to 1 2) (continue_loop ∷ plain (codes "x") ∷ []) ∷
       plain (codes "y") ∷ [])) "y"
@@ -196,20 +199,21 @@ pub record WorkedLoops : Type 0 where
       Writes o "1" × (interrupt_after o ≡ None)
   -- {% tablerow i in (1..2) %}a{% break %}b{% endtablerow %}z
   pub rows_keep_a_break :
-      let o = page (tablerow (codes "i") (from_to 1 2) all_items None (tree (plain (codes "a") ∷ break_loop ∷ plain (codes "b") ∷ [])) ∷ plain (codes "z") ∷ []) in
+      let o = page (tablerow (codes "i") (from_to 1 2) whole_window None (tree (plain (codes "a") ∷ break_loop ∷ plain (codes "b") ∷ [])) ∷ plain (codes "z") ∷ []) in
       Writes o "<tr class=\"row1\"><td class=\"col1\">a</td><td class=\"col2\">a</td></tr>" ×
       (interrupt_after o ≡ Some Break)
   -- {% tablerow i in (1..3) cols:2 %}{{ i }}{% if tablerow.col_last %}!{% endif %}{% endtablerow %}
   pub rows_and_columns : Writes
-      (page (tablerow (codes "i") (from_to 1 3) all_items (Some (integer 2))
-      (tree (show (name "i") ∷ if_true ((bare (property "tablerow" "col_last") ∷ []) ∷ [])
+      (page (tablerow (codes "i") (from_to 1 3) whole_window (Some (integer 2))
+      (tree (show (name "i") ∷ if_true ((bare (variable_property "tablerow" "col_last") ∷ []) ∷ [])
       (tree (plain (codes "!") ∷ [])) no_nodes ∷ [])) ∷ []))
       "<tr class=\"row1\"><td class=\"col1\">1</td><td class=\"col2\">2!</td></tr><tr class=\"row2\"><td class=\"col1\">3!</td></tr>"
   -- {% tablerow i in (1..3) cols:0 %}x{% endtablerow %}, and cols:nope limit:'a'
-  pub no_columns : WritesThen (page (tablerow (codes "i") (from_to 1 3) all_items (Some (integer 0))
+  pub no_columns : WritesThen (page (tablerow (codes "i") (from_to 1 3) whole_window
+      (Some (integer 0))
       (tree (plain (codes "x") ∷ [])) ∷ [])) "" ZeroColumns
   pub columns_first : WritesThen (page (tablerow (codes "i") (from_to 1 1) (record {
-    limit = Some (quoted "a");
+    limit = Some (text_literal "a");
     offset = None;
     reversed = false;
   }) (Some (name "nope")) no_nodes ∷ [])) "" UnknownVariable

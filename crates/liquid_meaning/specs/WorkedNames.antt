@@ -11,8 +11,9 @@ use Rattle.liquid_evaluation.specs.Tree.{decrement, if_true, unless, for_each, c
 use Rattle.liquid_evaluation.specs.Groups.{group_of}
 use Rattle.liquid_evaluation.specs.Names.{run_names, mentioned}
 use Rattle.liquid_meaning.specs.Within.{Within}
-use Rattle.liquid_meaning.specs.Worked.{name, property, quoted, integer, alone, show, tree}
-use Rattle.liquid_meaning.specs.Worked.{all_items, for_in}
+use Rattle.liquid_meaning.specs.Worked.{name, variable_property, text_literal, integer}
+use Rattle.liquid_meaning.specs.Worked.{without_filters, show, tree}
+use Rattle.liquid_meaning.specs.Worked.{whole_window, for_in}
 
 -- the names of a template and of these partials are just the given ones
 abbrev pub NamesAre : List (Text × Nodes) → List Node → List Text → Type 0
@@ -43,12 +44,13 @@ pub record WorkedNames : Type 0 where
   -- {{ a }}{% for i in b %}{{ i }}{{ forloop.index }}{% endfor %}{% assign c = a %}
   pub of_a_loop : NamesAre []
       (show (name "a") ∷ for_in "i" (each_of (name "b")) (show (name "i") ∷
-      show (property "forloop" "index") ∷ []) ∷ assign (codes "c") (alone (name "a")) ∷ [])
+      show (variable_property "forloop" "index") ∷ []) ∷ assign (codes "c") (without_filters (name "a")) ∷ [])
       (codes "a" ∷ codes "b" ∷ codes "c" ∷ codes "forloop" ∷ codes "i" ∷ [])
   -- {% for x in l %}{{ x }}{% endfor %}{{ a[b.c].d }}
   pub in_steps : NamesAre []
       (for_in "x" (each_of (name "l")) (show (name "x") ∷ []) ∷
-      show (variable (codes "a") (step (property "b" "c") (step (quoted "d") no_steps))) ∷
+      show (variable (codes "a") (step (variable_property "b" "c")
+          (step (text_literal "d") no_steps))) ∷
       [])
       (codes "a" ∷ codes "b" ∷ codes "forloop" ∷ codes "l" ∷ codes "x" ∷ [])
   -- {% comment %}{{ q }}{% endcomment %}{% raw %}{{ r }}{% endraw %}{% cycle g: t %}{% case t %}{{
@@ -61,9 +63,9 @@ pub record WorkedNames : Type 0 where
   -- {% render 'p' for (1..n) as i, k: z %}{% tablerow i in m %}{% endtablerow %}{% include 'q' w: 1
   -- %}, and a partial {% increment s %}
   pub of_partials : NamesAre ((codes "o", tree (increment (codes "s") ∷ [])) ∷ [])
-      (render (quoted "p") (Some (counted (integer 1) (name "n"), codes "i"))
+      (render (text_literal "p") (Some (counted (integer 1) (name "n"), codes "i"))
       ((codes "k", name "z") ∷ [])
-      ∷ tablerow (codes "i") (each_of (name "m")) all_items None no_nodes ∷ include (quoted "q")
+      ∷ tablerow (codes "i") (each_of (name "m")) whole_window None no_nodes ∷ include (text_literal "q")
       ((codes "w", integer 1) ∷ []) ∷ [])
       (codes "forloop" ∷ codes "i" ∷ codes "k" ∷ codes "m" ∷ codes "n" ∷ codes "s" ∷
       codes "tablerow" ∷ codes "w" ∷ codes "z" ∷ [])

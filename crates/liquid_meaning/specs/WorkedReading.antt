@@ -20,7 +20,8 @@ use Rattle.liquid_meaning.specs.FilterNeeds.{known_needs}
 use Rattle.liquid_meaning.specs.Reading.{Uses, Needs, covers}
 use Rattle.liquid_meaning.specs.Reads.{needs_all}
 use Rattle.liquid_model.specs.Projected.{projected}
-use Rattle.liquid_meaning.specs.Worked.{name, property, quoted, integer, alone, show, tree}
+use Rattle.liquid_meaning.specs.Worked.{name, variable_property, text_literal, integer}
+use Rattle.liquid_meaning.specs.Worked.{without_filters, show, tree}
 use Rattle.liquid_meaning.specs.Worked.{if_compared, for_in, no_filters}
 
 -- of these names these uses
@@ -49,8 +50,8 @@ abbrev pub covered : List (String × Use) → List (Text × Nodes) → List Node
 covered fs partials nodes = covered_by needs_all fs partials nodes
 
 -- by what each filter sees
-abbrev pub known : List (String × Use) → List Node → Bool
-known fs nodes = covered_by known_needs fs [] nodes
+abbrev pub covered_by_filters : List (String × Use) → List Node → Bool
+covered_by_filters fs nodes = covered_by known_needs fs [] nodes
 
 -- s | filter: arguments
 abbrev pub through : String → FilterKind → List Expression → Chain
@@ -69,7 +70,7 @@ case_over x values = case_of x (whens_of values) no_nodes
 
 -- {% for p in products %}{{ p.title }}{% endfor %}
 abbrev pub titles : List Node
-titles = for_in "p" (each_of (name "products")) (show (property "p" "title") ∷ []) ∷ []
+titles = for_in "p" (each_of (name "products")) (show (variable_property "p" "title") ∷ []) ∷ []
 
 abbrev pub title : Use
 title = with_members (("title", everything) ∷ [])
@@ -96,7 +97,8 @@ pub record WorkedReading : Type 0 where
   -- {{ a.b.c }}
   pub a_path : covered (("a", with_members (("b", with_members (("c", everything) ∷ [])) ∷ [])) ∷
       []) []
-      (show (variable (codes "a") (step (quoted "b") (step (quoted "c") no_steps))) ∷ []) ≡ true
+      (show (variable (codes "a") (step (text_literal "b") (step (text_literal "c") no_steps))) ∷
+          []) ≡ true
   -- {{ a[b] }}
   pub a_step_that_is_computed : covered (("a", everything) ∷ ("b", everything) ∷ []) []
       (show (variable (codes "a") (step (name "b") no_steps)) ∷ []) ≡ true
@@ -105,71 +107,74 @@ pub record WorkedReading : Type 0 where
       false
   -- {% if a.b %}y{% endif %} and {% if a.b == 1 %}y{% endif %}
   pub a_truth_is_a_kind : covered (("a", with_members (("b", there) ∷ [])) ∷ []) []
-      (if_true ((bare (property "a" "b") ∷ []) ∷ []) no_nodes no_nodes ∷ []) ≡ true
+      (if_true ((bare (variable_property "a" "b") ∷ []) ∷ []) no_nodes no_nodes ∷ []) ≡ true
   pub a_comparison_with_a_number : covered (("a", with_members (("b", there) ∷ [])) ∷ []) []
-      (if_compared (property "a" "b") Equals (integer 1) [] ∷ []) ≡ true
+      (if_compared (variable_property "a" "b") Equals (integer 1) [] ∷ []) ≡ true
   -- {% if nil == a.b %}
   pub a_comparison_of_nil : covered (("a", with_members (("b", there) ∷ [])) ∷ []) []
-      (if_compared (literal nil) Equals (property "a" "b") [] ∷ []) ≡ true
+      (if_compared (literal nil) Equals (variable_property "a" "b") [] ∷ []) ≡ true
   -- {% if a.b == c %}
   pub a_comparison_asks_all : covered
       (("a", with_members (("b", there) ∷ [])) ∷ ("c", everything) ∷ []) []
-      (if_compared (property "a" "b") Equals (name "c") [] ∷ []) ≡ false
+      (if_compared (variable_property "a" "b") Equals (name "c") [] ∷ []) ≡ false
   -- {% if a.b contains 'x' %}
   pub a_search_asks_all : covered (("a", with_members (("b", there) ∷ [])) ∷ []) []
-      (if_compared (property "a" "b") Contains (quoted "x") [] ∷ []) ≡ false
+      (if_compared (variable_property "a" "b") Contains (text_literal "x") [] ∷ []) ≡ false
   -- {% case a.b %}{% when 1, 2 %}{% when c %}{% endcase %}, with the last `when` and without it
   pub a_case_of_numbers : covered (("a", with_members (("b", there) ∷ [])) ∷ []) []
-      (case_over (property "a" "b") ((integer 1 ∷ integer 2 ∷ []) ∷ []) ∷ []) ≡ true
+      (case_over (variable_property "a" "b") ((integer 1 ∷ integer 2 ∷ []) ∷ []) ∷ []) ≡ true
   pub a_case_asks_all : covered
       (("a", with_members (("b", there) ∷ [])) ∷ ("c", everything) ∷ []) []
-      (case_over (property "a" "b") ((integer 1 ∷ []) ∷ (name "c" ∷ []) ∷ []) ∷ []) ≡ false
+      (case_over (variable_property "a" "b") ((integer 1 ∷ []) ∷ (name "c" ∷ []) ∷ []) ∷ []) ≡ false
   -- {% assign x = a.b %}{{ x.c }}
   pub an_assigned_value : covered
       (("a", with_members (("b", with_members (("c", everything) ∷ [])) ∷ [])) ∷
       ("x", with_members (("c", everything) ∷ [])) ∷ []) []
-      (assign (codes "x") (alone (property "a" "b")) ∷ show (property "x" "c") ∷ []) ≡ true
-  pub an_unread_value : covered [] [] (assign (codes "x") (alone (name "a")) ∷ []) ≡ false
+      (assign (codes "x") (without_filters (variable_property "a" "b")) ∷ show (variable_property "x" "c") ∷ []) ≡ true
+  pub an_unread_value : covered [] [] (assign (codes "x") (without_filters (name "a")) ∷ []) ≡ false
   -- {% render 'p' v: a.b %} and a partial {{ v.c }}
   pub a_partial : covered (("a", with_members (("b", with_members (("c", everything) ∷ [])) ∷ [])) ∷
       ("v", with_members (("c", everything) ∷ [])) ∷ [])
-      ((codes "p", tree (show (property "v" "c") ∷ [])) ∷ [])
-      (render (quoted "p") None ((codes "v", property "a" "b") ∷ []) ∷ []) ≡ true
+      ((codes "p", tree (show (variable_property "v" "c") ∷ [])) ∷ [])
+      (render (text_literal "p") None ((codes "v", variable_property "a" "b") ∷ []) ∷ []) ≡ true
   pub a_partial_is_looked_at : covered [] ((codes "p", tree (show (name "v") ∷ [])) ∷ []) [] ≡ false
   -- {% increment n %}
   pub a_counter : covered (("n", there) ∷ []) [] (increment (codes "n") ∷ []) ≡ true
   -- {{ a | map: 't' }} and {{ a | size }}
-  pub a_map : (f : _) → known (("a", of_each (with_members (("t", everything) ∷ []))) ∷ [])
-      (output (through "a" (Map f) (quoted "t" ∷ [])) ∷ []) ≡ true
-  pub a_map_asks_its_property : (f : _) → known (("a", of_each there) ∷ [])
-      (output (through "a" (Map f) (quoted "t" ∷ [])) ∷ []) ≡ false
-  pub a_number_of_items : (f : _) → known (("a", of_each nothing) ∷ [])
+  pub a_map : (f : _) → covered_by_filters (("a", of_each (with_members (("t", everything) ∷ []))) ∷
+      [])
+      (output (through "a" (Map f) (text_literal "t" ∷ [])) ∷ []) ≡ true
+  pub a_map_asks_its_property : (f : _) → covered_by_filters (("a", of_each there) ∷ [])
+      (output (through "a" (Map f) (text_literal "t" ∷ [])) ∷ []) ≡ false
+  pub a_number_of_items : (f : _) → covered_by_filters (("a", of_each nothing) ∷ [])
       (output (through "a" (Size f) []) ∷ []) ≡ true
   -- {% assign x = a | where: 't' %}{{ x.size }}
-  pub a_choice : (f : _) → known ((
+  pub a_choice : (f : _) → covered_by_filters ((
     "a",
     parts (fields (("t", everything) ∷ []))
         (every (with_members (("t", everything) ∷ []))),
   ) ∷
       ("x", with_members (("size", everything) ∷ [])) ∷ [])
-      (assign (codes "x") (through "a" (Where f) (quoted "t" ∷ [])) ∷
-      show (property "x" "size") ∷ []) ≡ true
+      (assign (codes "x") (through "a" (Where f) (text_literal "t" ∷ [])) ∷
+      show (variable_property "x" "size") ∷ []) ≡ true
   -- {% assign x = a | compact %}{{ x.size }}
-  pub a_nil_is_a_kind : (f : _) → known (("a", of_each there) ∷
+  pub a_nil_is_a_kind : (f : _) → covered_by_filters (("a", of_each there) ∷
       ("x", with_members (("size", everything) ∷ [])) ∷ [])
-      (assign (codes "x") (through "a" (Compact f) []) ∷ show (property "x" "size") ∷ []) ≡ true
+      (assign (codes "x") (through "a" (Compact f) []) ∷ show (variable_property "x" "size") ∷ []) ≡
+          true
   -- {% assign x = a | default: 'n' %}{{ x.t }}
-  pub a_default : (f : _) → known ((
+  pub a_default : (f : _) → covered_by_filters ((
     "a",
     parts (fields (("t", everything) ∷ []))
         (every nothing),
   ) ∷ ("x", with_members (("t", everything) ∷ [])) ∷ [])
-      (assign (codes "x") (through "a" (Default f) (quoted "n" ∷ [])) ∷
-      show (property "x" "t") ∷ []) ≡ true
-  pub a_default_asks_how_many : (f : _) → known (("a", with_members (("t", everything) ∷ [])) ∷
+      (assign (codes "x") (through "a" (Default f) (text_literal "n" ∷ [])) ∷
+      show (variable_property "x" "t") ∷ []) ≡ true
+  pub a_default_asks_how_many : (f : _) → covered_by_filters
+      (("a", with_members (("t", everything) ∷ [])) ∷
       ("x", with_members (("t", everything) ∷ [])) ∷ [])
-      (assign (codes "x") (through "a" (Default f) (quoted "n" ∷ [])) ∷
-      show (property "x" "t") ∷ []) ≡ false
+      (assign (codes "x") (through "a" (Default f) (text_literal "n" ∷ [])) ∷
+      show (variable_property "x" "t") ∷ []) ≡ false
   -- what is left
   pub items_with_one_member : projected (of_each title) two_products ≡
       array (item (only_title "x") (item (only_title "y") no_items))

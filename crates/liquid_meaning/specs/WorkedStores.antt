@@ -14,7 +14,8 @@ use Rattle.liquid_evaluation.specs.Tree.{Node, plain, assign, increment, decreme
 use Rattle.liquid_evaluation.specs.Tree.{cycle, capture, ifchanged}
 use Rattle.liquid_evaluation.specs.Groups.{group_of}
 use Rattle.liquid_meaning.specs.Runs.{Nothing, Outcome}
-use Rattle.liquid_meaning.specs.Worked.{name, property, quoted, integer, alone, show, tree}
+use Rattle.liquid_meaning.specs.Worked.{name, variable_property, text_literal, integer}
+use Rattle.liquid_meaning.specs.Worked.{without_filters, show, tree}
 use Rattle.liquid_meaning.specs.Worked.{if_compared, from_to, for_in, with_data, ran, page, Writes}
 use Rattle.liquid_meaning.specs.Worked.{WritesThen, assigned_after, counter_after, group_after}
 use Rattle.liquid_meaning.specs.Worked.{interrupt_after}
@@ -23,12 +24,12 @@ use Rattle.liquid_meaning.specs.Worked.{interrupt_after}
 abbrev pub cycle_named : Expression → List Expression → Node
 cycle_named x values = cycle (group_of (Some x) values) values
 
-abbrev pub cycle_of : List Expression → Node
-cycle_of values = cycle (group_of None values) values
+abbrev pub unnamed_cycle : List Expression → Node
+unnamed_cycle values = cycle (group_of None values) values
 
 -- a new environment with these assigned, or with these counters
-abbrev pub with_assigned : List (Text × Datum) → Environment
-with_assigned pairs = record (new_environment empty) { assigned = listed pairs }
+abbrev pub environment_with_assigned : List (Text × Datum) → Environment
+environment_with_assigned pairs = record (new_environment empty) { assigned = listed pairs }
 
 abbrev pub with_counters : List (Text × Datum) → Environment
 with_counters pairs = record (new_environment empty) { counters = listed pairs }
@@ -39,7 +40,7 @@ from e nodes = ran [] 32 e nodes
 pub record WorkedStores : Type 0 where
   -- {% assign val = 9 %}{% increment val %}{% increment val %}{{ val }}
   pub counters_are_their_own : Writes
-      (page (assign (codes "val") (alone (integer 9)) ∷ increment (codes "val") ∷
+      (page (assign (codes "val") (without_filters (integer 9)) ∷ increment (codes "val") ∷
       increment (codes "val") ∷ show (name "val") ∷ [])) "019"
   -- {% decrement val %}{{ val }}
   pub counters_are_found : Writes (page (decrement (codes "val") ∷ show (name "val") ∷ [])) "-1-1"
@@ -60,7 +61,7 @@ pub record WorkedStores : Type 0 where
       (counter_after o "n" ≡ Some (number (negsuc 9223372036854775807)))
   -- {% increment n %}{{ n }} where 5 is assigned to n, and where n is 5 in the data: these agree by
   -- look-up, and not layer by layer
-  pub assigned_first : Writes (from (with_assigned ((codes "n", number (pos 5)) ∷ []))
+  pub assigned_first : Writes (from (environment_with_assigned ((codes "n", number (pos 5)) ∷ []))
       (increment (codes "n") ∷ show (name "n") ∷ [])) "05"
   pub data_last : Writes (from (with_data ((codes "n", number (pos 5)) ∷ []))
       (increment (codes "n") ∷ show (name "n") ∷ [])) "01"
@@ -68,7 +69,7 @@ pub record WorkedStores : Type 0 where
   -- name decides
   pub first_layer_decides : WritesThen
       (from (with_data ((codes "a", object (pair (codes "b") (number (pos 2)) no_pairs)) ∷ []))
-      (assign (codes "a") (alone (integer 1)) ∷ plain (codes "x") ∷ show (property "a" "b") ∷ []))
+      (assign (codes "a") (without_filters (integer 1)) ∷ plain (codes "x") ∷ show (variable_property "a" "b") ∷ []))
       "x" UnknownVariable
   -- {% cycle c: 1, 2 %}\n{% cycle c: 1 %}\n
   pub cycle_bounds :
@@ -76,25 +77,26 @@ pub record WorkedStores : Type 0 where
       WritesThen o "1\n" CycleBounds × (group_after o "c" ≡ Some 0)
   -- {% cycle 'x': %}
   pub cycle_of_none :
-      let o = page (cycle_named (quoted "x") [] ∷ []) in
+      let o = page (cycle_named (text_literal "x") [] ∷ []) in
       WritesThen o "" CycleBounds × (group_after o "x" ≡ None)
   -- three times {% cycle a, 'b' %} where a is 1
   pub cycle_by_values :
-      let n = cycle_of (name "a" ∷ quoted "b" ∷ []) in
+      let n = unnamed_cycle (name "a" ∷ text_literal "b" ∷ []) in
       let o = from (with_data ((codes "a", number (pos 1)) ∷ [])) (n ∷ n ∷ n ∷ []) in
       Writes o "1b1" × (group_after o "a-\"b\"" ≡ Some 1)
   -- {% cycle '': 1, 2 %}
   pub cycle_by_an_empty_name :
-      let o = page (cycle_named (quoted "") (integer 1 ∷ integer 2 ∷ []) ∷ []) in
+      let o = page (cycle_named (text_literal "") (integer 1 ∷ integer 2 ∷ []) ∷ []) in
       Writes o "1" × (group_after o "1-2" ≡ Some 1)
   -- {% cycle a.b, c[0] %} where a is {"b": 7} and c is [8]
   pub cycle_by_written_forms :
       let o = from (with_data ((codes "a", object (pair (codes "b") (number (pos 7)) no_pairs)) ∷ (codes "c", array (item (number (pos 8)) no_items)) ∷ []))
-      (cycle_of (property "a" "b" ∷ variable (codes "c") (step (integer 0) no_steps) ∷ []) ∷ []) in
+      (unnamed_cycle (variable_property "a" "b" ∷ variable (codes "c") (step (integer 0) no_steps) ∷
+          []) ∷ []) in
       Writes o "7" × (group_after o "a[\"b\"]-c[0]" ≡ Some 1)
   -- {% assign t = 'old' %}{% capture t %}x{{ nope }}{% endcapture %}
   pub faulted_capture :
-      let o = page (assign (codes "t") (alone (quoted "old")) ∷ capture (codes "t") (tree (plain (codes "x") ∷ show (name "nope") ∷ [])) ∷ []) in
+      let o = page (assign (codes "t") (without_filters (text_literal "old")) ∷ capture (codes "t") (tree (plain (codes "x") ∷ show (name "nope") ∷ [])) ∷ []) in
       WritesThen o "" UnknownVariable × (assigned_after o "t" ≡ Some (text (codes "old")))
   -- {% capture a %}x{% break %}y{% endcapture %}z
   pub interrupted_capture :
@@ -114,7 +116,7 @@ pub record WorkedStores : Type 0 where
       Writes o "abab" × (o.environment.registers.changed ≡ Some (codes "ab"))
   -- {% cycle 'c': nope, 1 %}
   pub stored_before_evaluated :
-      let o = page (cycle_named (quoted "c") (name "nope" ∷ integer 1 ∷ []) ∷ []) in
+      let o = page (cycle_named (text_literal "c") (name "nope" ∷ integer 1 ∷ []) ∷ []) in
       WritesThen o "" UnknownVariable × (group_after o "c" ≡ Some 1)
   -- {% ifchanged %}a{% endifchanged %}{% ifchanged %}b{{ nope }}{% endifchanged %}
   pub faulted_change :

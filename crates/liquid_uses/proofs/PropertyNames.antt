@@ -8,7 +8,7 @@ use Rattle.liquid_core.specs.declared.expression.Expression.{Expression as Step}
 use Rattle.liquid_model.specs.Data.{text}
 use Rattle.liquid_model.specs.Texts.{Text, same_text}
 use Rattle.liquid_model.specs.Uses.{Use, everything}
-use Rattle.liquid_meaning.specs.FilterNeeds.{by_property, named_by}
+use Rattle.liquid_meaning.specs.FilterNeeds.{by_property, literal_first_argument}
 use Rattle.liquid_uses.specs.inside.Chains.{IsPropertyName, NamesProperty}
 
 pub match_more : {X : Type 0} (P Q : X → Type 0) → ((x : X) → P x → Q x) → (o : Option X) → MatchOption o (Unit {0}) P → MatchOption o (Unit {0}) Q
@@ -17,7 +17,7 @@ match_more P Q k (Some x) m = k x m
 
 named_first : (x : Expression) (xs : List Expression) (name : Text) → IsPropertyName x name → NamesProperty (x ∷ xs) name
 named_first x xs name is f =
-    subst (λ y. by_property (named_by (y ∷ xs)) f ≡ f name) (sym is.0) (ap (λ b. cond b everything (f name)) is.1)
+    subst (λ y. by_property (literal_first_argument (y ∷ xs)) f ≡ f name) (sym is.0) (ap (λ b. cond b everything (f name)) is.1)
 
 pub names_first : (xs : List Step) (x : Step) → x ≡ get_or xs 0 x → 0 < length xs → (name : Text) → IsPropertyName (expression_view x) name → NamesProperty (map expression_view xs) name
 names_first xs x is lt name named =

@@ -21,7 +21,7 @@ use Rattle.liquid_model.specs.declared.uses.Use.{Use as RustUse}
 use Rattle.liquid_uses.specs.declared.places.Place.{Place}
 use Rattle.liquid_uses.specs.declared.places.Place.TheVariants.{Whole, Asked, Unnamed, Refused}
 use Rattle.liquid_uses.specs.inside.Placing.{gives, gives_along, use_place, whole_if, Leads}
-use Rattle.liquid_meaning.specs.Reading.{Uses, Needs, by_key, key, grants, grants_along, grants_chain, grants_filters, use_before}
+use Rattle.liquid_meaning.specs.Reading.{Uses, Needs, for_known_key, key, grants, grants_along, grants_chain, grants_filters, use_before}
 
 pub true_both : (a b : Bool) → a ≡ true → b ≡ true → a && b ≡ true
 true_both true b e f = f
@@ -34,7 +34,7 @@ whole_step U nil more v h = h
 whole_step U (truth b) more v h = h
 whole_step U (number z) more v h = at (fits z)
   where
-    at : (b : Bool) → by_key (cond b (Some (signed_decimal z)) None) (λ k. grants_along U everything more v) (grants_along U everything more v) ≡ true
+    at : (b : Bool) → for_known_key (cond b (Some (signed_decimal z)) None) (λ k. grants_along U everything more v) (grants_along U everything more v) ≡ true
     at true = h
     at false = h
 whole_step U (text s) more v h = h
@@ -49,7 +49,7 @@ variable_step U name steps more v g h = true_both _ _ g h
 
 -- ---- what is granted everything is granted any use
 
-more_by : (k : Option Text) (a b : Text → Bool) (c d : Bool) → ((t : Text) → a t ≡ true → b t ≡ true) → (c ≡ true → d ≡ true) → by_key k a c ≡ true → by_key k b d ≡ true
+more_by : (k : Option Text) (a b : Text → Bool) (c d : Bool) → ((t : Text) → a t ≡ true → b t ≡ true) → (c ≡ true → d ≡ true) → for_known_key k a c ≡ true → for_known_key k b d ≡ true
 more_by None a b c d known unknown h = unknown h
 more_by (Some t) a b c d known unknown h = known t h
 

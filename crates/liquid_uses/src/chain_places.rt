@@ -3,7 +3,8 @@ ghost use Rattle.std.specs.Prelude.{◌≡◌, true, false, map};
 ghost use Rattle.liquid_core.specs.ExpressionView.{expression_view};
 ghost use Rattle.liquid_evaluation.specs.ChainView.{chain_filter_view};
 ghost use Rattle.liquid_meaning.specs.FilterNeeds.{items_each, items_or_itself, one_field};
-ghost use Rattle.liquid_meaning.specs.FilterNeeds.{by_property, compact_needs, named_by};
+ghost use Rattle.liquid_meaning.specs.FilterNeeds.{by_property, compact_needs};
+ghost use Rattle.liquid_meaning.specs.FilterNeeds.{literal_first_argument};
 ghost use Rattle.liquid_meaning.specs.FilterNeeds.{with_field};
 ghost use Rattle.liquid_model.specs.Uses.{asks_whether, everything, is_place, items_wanted, join};
 ghost use Rattle.liquid_model.specs.Uses.{nothing, present, there};
@@ -141,7 +142,8 @@ impl<'u> ChainPlace<'u> {
     /// The properties of the items.
     fn after_map(self, arguments: &[Expression]) -> ChainPlace<'u>
         ensures { (w : _) → sees result w ≡ true
-            → sees self.entry (present (by_property (named_by (map expression_view arguments.now))
+            → sees self.entry (present (by_property
+                (literal_first_argument (map expression_view arguments.now))
             (λ name. items_each (one_field name (present (items_wanted w)))))) ≡ true }
     {
         match property_name(arguments) {
@@ -154,7 +156,8 @@ impl<'u> ChainPlace<'u> {
     /// property.
     fn after_order(self, arguments: &[Expression]) -> ChainPlace<'u>
         ensures { (w : _) → sees result w ≡ true
-            → sees self.entry (present (by_property (named_by (map expression_view arguments.now))
+            → sees self.entry (present (by_property
+                (literal_first_argument (map expression_view arguments.now))
             (λ name. items_or_itself (with_field name everything (items_wanted w))))) ≡ true }
     {
         match property_name(arguments) {

@@ -22,7 +22,7 @@ use Rattle.liquid_core.specs.declared.frame.Columns.{Columns}
 use Rattle.liquid_core.specs.declared.frame.LoopFrame.{LoopFrame}
 use Rattle.liquid_evaluation.specs.Evaluation.{source_items, amount, asked_for}
 use Rattle.liquid_evaluation.specs.Tree.{Source, Window}
-use Rattle.liquid_meaning.specs.Effects.{value_or_nil}
+use Rattle.liquid_meaning.specs.Effects.{variable_or_nil}
 use Rattle.liquid_meaning.specs.Loops.{columns_of}
 
 -- item k, item k + 1 and so on, m of them
@@ -50,7 +50,7 @@ loop_values (Some t) = turn_items t
 pub record IsFor (name : Text) (e : Environment) (t : LoopFrame) : Type 0 where
   pub first : t.at ≡ 0
   pub names : (k : ℕ) → frame_map_at t k e.local ≡
-      loop_scope (codes "forloop") (forloop_object k t.count (value_or_nil (codes "forloop") e))
+      loop_scope (codes "forloop") (forloop_object k t.count (variable_or_nil (codes "forloop") e))
       name (frame_item_at t k)
 
 -- ---- tablerow

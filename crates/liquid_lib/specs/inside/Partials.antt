@@ -26,7 +26,7 @@ use Rattle.liquid_syntax.specs.Templates.{list_of, most_of}
 use Rattle.liquid_syntax.specs.declared.template.Template.{Template}
 use Rattle.liquid_lib.specs.declared.context.RunContext.{RunContext}
 use Rattle.liquid_lib.specs.declared.own_state.EachItem.{EachItem}
-use Rattle.liquid_meaning.specs.Meaning.{found, include_scope, name_of, pairs_scope}
+use Rattle.liquid_meaning.specs.Meaning.{found, include_scope, partial_name_text, pairs_scope}
 
 -- the pairs, evaluated in order, and what is made of them
 abbrev pub bound_as : {S : Type 0} → (List (Text × Datum) → S) → Bindings → Environment →
@@ -74,7 +74,7 @@ abbrev pub named_entry : {S : Type 0} → (List (Text × Datum) → S) →
     (Text → Result Nodes ErrorKind) → ℕ → Expression → Bindings → Environment →
     Result (S × (Text × (Nodes × ℕ))) ErrorKind
 named_entry over look depth x bindings e =
-    name_of x e >>= (λ name. entry_of over (look name) depth bindings e >>=
+    partial_name_text x e >>= (λ name. entry_of over (look name) depth bindings e >>=
     (λ entry. Ok (entry.0, (name, entry.1))))
 
 -- of an `include`, over a scope

@@ -11,7 +11,8 @@ use Rattle.liquid_model.specs.Data.{text}
 use Rattle.liquid_model.specs.Texts.{Text, same_text}
 use Rattle.liquid_model.specs.Uses.{Use, nothing, everything, parts, Fields, no_fields, field}
 use Rattle.liquid_model.specs.Uses.{has_every, is_place, items_wanted, present}
-use Rattle.liquid_meaning.specs.FilterNeeds.{by_property, kind_needs, known_needs, named_by}
+use Rattle.liquid_meaning.specs.FilterNeeds.{by_property, kind_needs, known_needs}
+use Rattle.liquid_meaning.specs.FilterNeeds.{literal_first_argument}
 use Rattle.liquid_uses.specs.declared.chain_places.ChainPlace.{ChainPlace}
 use Rattle.liquid_uses.specs.declared.chain_places.ChainPlace.TheVariants.{Items, Value}
 use Rattle.liquid_uses.specs.declared.place_pairs.Pair.{Pair}
@@ -50,4 +51,5 @@ IsPropertyName x name = (x ≡ literal (text name)) × (same_text name (codes "s
 
 -- the first argument names this property
 abbrev pub NamesProperty : List Expression → Text → Type 0
-NamesProperty arguments name = (f : Text → Use) → by_property (named_by arguments) f ≡ f name
+NamesProperty arguments name = (f : Text → Use) → by_property (literal_first_argument arguments) f ≡
+    f name
