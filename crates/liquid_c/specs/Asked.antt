@@ -14,7 +14,7 @@ use Rattle.liquid_completion.specs.Completed.{completed_pairs}
 use Rattle.liquid_evaluation.specs.Names.{mentioned}
 use Rattle.liquid_evaluation.specs.Tree.{Nodes}
 use Rattle.liquid_jekyll_host_filters.specs.Json.{json_text}
-use Rattle.liquid_syntax.specs.NameSets.{held as held_names}
+use Rattle.liquid_syntax.specs.NameSets.{mentioned_in_set as held_names}
 use Rattle.liquid_syntax.specs.Templates.{partials_of, tree_of}
 use Rattle.liquid_syntax.specs.declared.partials.Partials.{Partials}
 use Rattle.liquid_uses.specs.Covered.{SeesAlone}

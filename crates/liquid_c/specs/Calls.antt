@@ -13,7 +13,7 @@ use Rattle.liquid_core.specs.Held.{held as map_held}
 use Rattle.liquid_evaluation.specs.Tree.{Nodes}
 use Rattle.liquid_language.specs.Entries.{put}
 use Rattle.liquid_syntax.specs.Parsing.{IsOnlyTree, HasNoTree, MayRefuse}
-use Rattle.liquid_syntax.specs.Templates.{list_of, tree_of, partials_of}
+use Rattle.liquid_syntax.specs.Templates.{template_nodes, tree_of, partials_of}
 use Rattle.liquid_language.specs.declared.language.Language.{Language}
 use Rattle.liquid_syntax.specs.declared.partials.Partials.{Partials}
 use Rattle.liquid_syntax.specs.declared.template.Template.{Template}
@@ -52,7 +52,7 @@ ForUtf8Text bytes R answer = (IsUtf8 bytes × R answer) ⊎
 -- a source, or since memory ran out
 abbrev pub ParsesSource : Language → Text → Result Content Refusal → Type 0
 ParsesSource l source (Ok (content.Template t levels)) =
-    IsOnlyTree l (tree_of t) source × (levels ≡ levels_in (list_of t))
+    IsOnlyTree l (tree_of t) source × (levels ≡ levels_in (template_nodes t))
 ParsesSource l source (Ok (content.Fault e)) = MayRefuse e.kind ×
     MatchBool (is_memory e.kind) ⊤ (HasNoTree l source)
 ParsesSource l source _ = ⊥

@@ -10,7 +10,7 @@ use Rattle.liquid_model.specs.declared.error.ErrorKind.TheVariants.{Memory}
 use Rattle.liquid_jekyll_host_filters.specs.Json.{json_text}
 use Rattle.liquid_evaluation.specs.Names.{mentioned, run_names}
 use Rattle.liquid_evaluation.specs.Tree.{Nodes}
-use Rattle.liquid_syntax.specs.NameSets.{held as held_names}
+use Rattle.liquid_syntax.specs.NameSets.{mentioned_in_set as held_names}
 use Rattle.liquid_syntax.specs.Templates.{tree_of}
 use Rattle.liquid_c.specs.Calls.{partials_behind}
 use Rattle.liquid_c.specs.declared.content.Content.{Content}

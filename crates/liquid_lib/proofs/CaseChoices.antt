@@ -16,7 +16,7 @@ use Rattle.liquid_core.specs.Expressions.{required}
 use Rattle.liquid_evaluation.specs.Names.{all_names, expression_names, node_names, nodes_names, whens_names}
 use Rattle.liquid_evaluation.specs.Tree as tree
 use Rattle.liquid_evaluation.proofs.Calls.{faulted_as, faulted_then}
-use Rattle.liquid_syntax.specs.Flats.{Maker, StandsAt, flats, nodes_of, values_in}
+use Rattle.liquid_syntax.specs.Flats.{Maker, IsForestAt, flats, nodes_of, values_in}
 use Rattle.liquid_syntax.specs.Forest.{Forest}
 use Rattle.liquid_syntax.specs.declared.node.Arm.{Arm}
 use Rattle.liquid_syntax.specs.declared.node.Node.{Node}
@@ -123,7 +123,7 @@ module _ (ns : List Node) (e : Environment) (names : List Text) (meant : Meant) 
     pub more : tree.Whens
     pub otherwise : tree.Nodes
     pub nodes : Forest Maker
-    pub stands : StandsAt ns from nodes arm.end
+    pub stands : IsForestAt ns from nodes arm.end
     pub its_values : values ≡ values_in arm
     pub its_body : body ≡ nodes_of nodes
     pub behind : CaseStands ns arm.end arms last more otherwise

@@ -8,7 +8,7 @@ use Rattle.liquid_evaluation.specs.Tree as tree
 use Rattle.liquid_evaluation.specs.Tree.{Whens, Nodes, no_whens, when, case_of}
 use Rattle.liquid_syntax.specs.Flats.{Maker, arm_ends, arm_values, bodies_of, case_flat, flat_of, flats, nodes_of, values_in, with_arms, NodeAt, IsNode}
 use Rattle.liquid_syntax.specs.Forest.{Bodies, no_bodies, body}
-use Rattle.liquid_syntax.specs.Laid.{Stands, StandBodies, last_end}
+use Rattle.liquid_syntax.specs.Laid.{IsLaidOut, StandBodies, last_end}
 use Rattle.liquid_syntax.specs.declared.node.Arm.{Arm}
 use Rattle.liquid_syntax.specs.declared.node.Node.{Node}
 use Rattle.liquid_syntax.proofs.Places.{one_body}
@@ -32,7 +32,7 @@ case_bodies ns from (arm ∷ arms) last (body f bs) (e, rest, eq, here, more) =
     let same : e ≡ arm.end = cc in
     let ends : rest ≡ arm_ends arms ++ last ∷ [] = cc in
     let (ws, o, stands, made, over) = case_bodies ns arm.end arms last bs (subst (λ l. StandBodies (flats ns) arm.end l bs) ends (subst (λ k. StandBodies (flats ns) k rest bs) same more)) in
-    (when (values_in arm) (nodes_of f) ws, o, (f, subst (Stands (flats ns) from f) same here, refl, refl, stands), (λ make. made (λ ws o. make (when (values_in arm) (nodes_of f) ws) o)), over)
+    (when (values_in arm) (nodes_of f) ws, o, (f, subst (IsLaidOut (flats ns) from f) same here, refl, refl, stands), (λ make. made (λ ws o. make (when (values_in arm) (nodes_of f) ws) o)), over)
 
 module _ (ns : List Node) (at : ℕ) (target : Expression) (arms : List Arm) (last to : ℕ) (r m : Node) (req : IsNode ns at to) (read : r ≡ get_or ns at r) (same : r ≡ m)
     (form : flat_of m ≡ case_flat target (arm_values arms) (arm_ends arms) last) where

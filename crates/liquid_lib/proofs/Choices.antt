@@ -10,7 +10,7 @@ use Rattle.liquid_model.specs.ErrorKinds.{is_memory, is_refusal}
 use Rattle.liquid_core.specs.Environment.{Environment, Names}
 use Rattle.liquid_evaluation.specs.ConditionView.{condition_view}
 use Rattle.liquid_evaluation.specs.Evaluation.{truth_of}
-use Rattle.liquid_syntax.specs.Flats.{IsRange, Maker, with_two, flat_of, flats, nodes_of, StandsAt}
+use Rattle.liquid_syntax.specs.Flats.{IsNodeRange, Maker, with_two, flat_of, flats, nodes_of, IsForestAt}
 use Rattle.liquid_syntax.specs.Forest.{Forest, empty}
 use Rattle.liquid_evaluation.specs.Names.{node_names, nodes_names, condition_names}
 use Rattle.liquid_evaluation.specs.Tree as tree
@@ -117,7 +117,7 @@ comes_as ns e few many m n (Err x) names same h = on (is_memory x.kind) h
 abbrev pub Comes : List Node → Environment → tree.Nodes → ℕ → ℕ → Type 0
 Comes ns e nodes at to = Chosen ns e (nodes_names nodes) (list_meant nodes) at to
 
-pub comes_itself : (ns : List Node) (e : Environment) (f : Forest Maker) (from to : ℕ) → StandsAt ns from f to → Comes ns e (nodes_of f) from to
+pub comes_itself : (ns : List Node) (e : Environment) (f : Forest Maker) (from to : ℕ) → IsForestAt ns from f to → Comes ns e (nodes_of f) from to
 comes_itself ns e f from to stands = record { nodes = f; stands = stands; within = λ N h. h; same = λ setting deeper. refl }
 
 -- a node that ends by its condition's fault comes to that fault
@@ -162,13 +162,13 @@ module _ (ns : List Node) (c : tree.Condition) (b d : tree.Nodes) (e : Environme
 -- ---- a range that is one `if`
 
 abbrev pub LoneIf : List Node → ℕ → ℕ → ℕ → tree.Condition → Forest Maker → Type 0
-LoneIf ns at t e c f = (b d : Forest Maker) × StandsAt ns (at + 1) b t × StandsAt ns t d e × (nodes_of f ≡ tree.node (tree.if_true c (nodes_of b) (nodes_of d)) tree.no_nodes)
+LoneIf ns at t e c f = (b d : Forest Maker) × IsForestAt ns (at + 1) b t × IsForestAt ns t d e × (nodes_of f ≡ tree.node (tree.if_true c (nodes_of b) (nodes_of d)) tree.no_nodes)
 
 -- a range that isn't over begins inside the list
-pub range_within : (ns : List Node) (at to : ℕ) (f : Forest Maker) → StandsAt ns at f to → at < to → at < length ns
+pub range_within : (ns : List Node) (at to : ℕ) (f : Forest Maker) → IsForestAt ns at f to → at < to → at < length ns
 range_within ns at to f stands lt = subst (λ k. at < k) (length-map ns flat_of) (first-within (flats ns) at f to stands lt)
 
-lone_if : (ns : List Node) (at t e : ℕ) (c : tree.Condition) (f : Forest Maker) (r m : Node) → StandsAt ns at f e → at < e → r ≡ get_or ns at r → r ≡ m → flat_of m ≡ record { head = with_two (tree.if_true c); ends = t ∷ e ∷ [] }
+lone_if : (ns : List Node) (at t e : ℕ) (c : tree.Condition) (f : Forest Maker) (r m : Node) → IsForestAt ns at f e → at < e → r ≡ get_or ns at r → r ≡ m → flat_of m ≡ record { head = with_two (tree.if_true c); ends = t ∷ e ∷ [] }
     → LoneIf ns at t e c f
 lone_if ns at t e c f r m stands lt read same form =
     let (n, next, rest, there, is, after, le, past) = first ns at f e stands lt in
@@ -228,7 +228,7 @@ module _ (ns : List Node) (e : Environment) (nodes : tree.Nodes) (at to : ℕ) (
 -- ---- a run of what was chosen
 
 pub chosen_performs : (ns : List Node) (names : List Text) (meant : Meant) (from to depth : ℕ) (setting : Setting) (r : Result (Unit {0}) Error) (p u : Configuration) → Chosen ns p.environment names meant from to
-    → ((f : Forest Maker) → StandsAt ns from f to → Performs r (nodes_meant setting depth (nodes_of f)) p u) → Performs r (meant setting (deeper_meaning setting depth)) p u
+    → ((f : Forest Maker) → IsForestAt ns from f to → Performs r (nodes_meant setting depth (nodes_of f)) p u) → Performs r (meant setting (deeper_meaning setting depth)) p u
 chosen_performs ns names meant from to depth setting r p u x ran =
     subst (λ o. MeetsAt unit r o p.sink u.sink u.environment) (sym (x.same setting (deeper_meaning setting depth))) (ran x.nodes x.stands)
 
@@ -244,6 +244,6 @@ refused_performs ns names meant depth setting x p h = on (is_memory x.kind) refl
 
 -- what a choice comes to stands inside of the range in which its node stands
 pub chosen_inside : (ns : List Node) (e : Environment) (names : List Text) (meant : Meant) (at last to : ℕ) (r : Result (ℕ × ℕ) Error) → last ≤ to → IfOk r (λ range. (at < range.0) × (range.1 ≤ last)) → ComesTo ns e names meant r
-    → IfOk r (λ range. (at < range.0) × (range.1 ≤ to) × IsRange ns range.0 range.1)
+    → IfOk r (λ range. (at < range.0) × (range.1 ≤ to) × IsNodeRange ns range.0 range.1)
 chosen_inside ns e names meant at last to (Ok range) le inside x = (inside.0, (let last_le : range.1 ≤ last = inside.1 in let within : range.1 ≤ to = omega arith in within), (x.nodes, x.stands))
 chosen_inside ns e names meant at last to (Err fault) le inside x = tt

@@ -13,7 +13,7 @@ use Rattle.liquid_evaluation.specs.Tree as tree
 use Rattle.liquid_evaluation.specs.Names.{node_names, nodes_names}
 use Rattle.liquid_syntax.specs.Forest.{Forest, Bodies, empty, node}
 use Rattle.liquid_syntax.specs.Laid.{Flat, StandBodies, last_end}
-use Rattle.liquid_syntax.specs.Flats.{Maker, leaf, with_one, with_two, flat_of, flats, nodes_of, bodies_of, StandsAt, IsRange, NodeAt, IsNode}
+use Rattle.liquid_syntax.specs.Flats.{Maker, leaf, with_one, with_two, flat_of, flats, nodes_of, bodies_of, IsForestAt, IsNodeRange, NodeAt, IsNode}
 use Rattle.liquid_syntax.specs.declared.node.Node.{Node}
 use Rattle.liquid_syntax.proofs.Places.{Stands-le, StandBodies-le, one_body, two_bodies, nothing_left}
 use Rattle.liquid_meaning.specs.Within.{Within}
@@ -43,13 +43,13 @@ known ns at r m n next (x, bs, is, inner, made, ends) lt read same =
     subst (Known ns at n next) (same_some x (flat_of m) (sym is ∙ at_node ns at r m lt read same)) (bs, inner, made, ends)
 
 pub known_one : (ns : List Node) (at e : ℕ) (n : tree.Node) (next : ℕ) (make : tree.Nodes → tree.Node) → Known ns at n next (record { head = with_one make; ends = e ∷ [] })
-    → (b : Forest Maker) × (n ≡ make (nodes_of b)) × StandsAt ns (at + 1) b e × (next ≡ e)
+    → (b : Forest Maker) × (n ≡ make (nodes_of b)) × IsForestAt ns (at + 1) b e × (next ≡ e)
 known_one ns at e n next make (bs, inner, made, ends) =
     let (b, is, here) = one_body (flats ns) (at + 1) e bs inner in
     (b, made ∙ ap (λ x. with_one make (bodies_of x)) is, here, ends)
 
 pub known_two : (ns : List Node) (at t e : ℕ) (n : tree.Node) (next : ℕ) (make : tree.Nodes → tree.Nodes → tree.Node) → Known ns at n next (record { head = with_two make; ends = t ∷ e ∷ [] })
-    → (b d : Forest Maker) × (n ≡ make (nodes_of b) (nodes_of d)) × StandsAt ns (at + 1) b t × StandsAt ns t d e × (next ≡ e)
+    → (b d : Forest Maker) × (n ≡ make (nodes_of b) (nodes_of d)) × IsForestAt ns (at + 1) b t × IsForestAt ns t d e × (next ≡ e)
 known_two ns at t e n next make (bs, inner, made, ends) =
     let (b, d, is, here, there) = two_bodies (flats ns) (at + 1) t e bs inner in
     (b, d, made ∙ ap (λ x. with_two make (bodies_of x)) is, here, there, ends)
@@ -60,22 +60,22 @@ node_within ns at to (n, next, (x, bs, is, inner, made, ends), le) = subst (λ k
 -- ---- what is left of a range
 
 abbrev pub Going : Setting → ℕ → List Node → ℕ → ℕ → ℕ → Configuration → Configuration → Type 0
-Going setting depth ns from at to start here = (f : Forest Maker) → StandsAt ns from f to → (rest : Forest Maker) × StandsAt ns at rest to
+Going setting depth ns from at to start here = (f : Forest Maker) → IsForestAt ns from f to → (rest : Forest Maker) × IsForestAt ns at rest to
     × ((N : Names) → Within N (nodes_names (nodes_of f)) → Within N (nodes_names (nodes_of rest)))
     × (AreRenderNodes (nodes_of f) → AreRenderNodes (nodes_of rest))
     × ((r : Result (Unit {0}) Error) (after : Configuration) → Performs r (nodes_meant setting depth (nodes_of rest)) here after → Performs r (nodes_meant setting depth (nodes_of f)) start after)
 
 -- what a range begins with
 abbrev pub First : List Node → ℕ → Forest Maker → ℕ → Type 0
-First ns at f to = (n : tree.Node) × (next : ℕ) × (rest : Forest Maker) × NodeAt ns at n next × (nodes_of f ≡ tree.node n (nodes_of rest)) × StandsAt ns next rest to × (next ≤ to) × (at < next)
+First ns at f to = (n : tree.Node) × (next : ℕ) × (rest : Forest Maker) × NodeAt ns at n next × (nodes_of f ≡ tree.node n (nodes_of rest)) × IsForestAt ns next rest to × (next ≤ to) × (at < next)
 
-pub first : (ns : List Node) (at : ℕ) (f : Forest Maker) (to : ℕ) → StandsAt ns at f to → at < to → First ns at f to
+pub first : (ns : List Node) (at : ℕ) (f : Forest Maker) (to : ℕ) → IsForestAt ns at f to → at < to → First ns at f to
 first ns at empty to s lt = absurd (omega arith)
 first ns at (node h bs rest) to (x, is, eq, inner, after) lt =
     (h (bodies_of bs), last_end (at + 1) x.ends, rest, (x, bs, is, inner, ap (λ k. k (bodies_of bs)) (sym eq), refl), refl, after, Stands-le (flats ns) _ rest to after, (let le = StandBodies-le (flats ns) (at + 1) x.ends bs inner in omega arith))
 
 -- the next node is whole
-pub going_node : (setting : Setting) (depth : ℕ) (ns : List Node) (from at to : ℕ) (start here : Configuration) → IsRange ns from to → Going setting depth ns from at to start here → at < to → IsNode ns at to
+pub going_node : (setting : Setting) (depth : ℕ) (ns : List Node) (from at to : ℕ) (start here : Configuration) → IsNodeRange ns from to → Going setting depth ns from at to start here → at < to → IsNode ns at to
 going_node setting depth ns from at to start here (f, s) going lt =
     let (rest, stands, names, renders, gives) = going f s in
     let (n, next, more, there, is, after, le, past) = first ns at rest to stands lt in
@@ -106,7 +106,7 @@ going_on setting depth ns from at to at2 value start here there going lt ran non
     let (rest, stands, names, renders, gives) = going f s in
     let (n, next, more, is_there, is, after, le, past) = first ns at rest to stands lt in (
       more,
-      subst (λ k. StandsAt ns k more to) (sym (ends n next is_there)) after,
+      subst (λ k. IsForestAt ns k more to) (sym (ends n next is_there)) after,
       (λ N h. names_rest N n (nodes_of more) (nodes_of rest) is (names N h)),
       (λ h. (renders_first n (nodes_of more) (nodes_of rest) is (renders h)).1),
       λ r end h. gives r end (subst (λ x. Performs r (nodes_meant setting depth x) here end) (sym is)
@@ -116,7 +116,7 @@ going_on setting depth ns from at to at2 value start here there going lt ran non
 -- the node leaves an interrupt
 pub going_halt : (setting : Setting) (depth : ℕ) (ns : List Node) (from at to : ℕ) (value other : Unit {0}) (i : Interrupt) (start here there : Configuration) → Going setting depth ns from at to start here → at < to
     → NodePerforms setting depth ns at (Ok value) here there → there.environment.registers.interrupt ≡ Some i
-    → (f : Forest Maker) → StandsAt ns from f to → Performs (Ok other) (nodes_meant setting depth (nodes_of f)) start there
+    → (f : Forest Maker) → IsForestAt ns from f to → Performs (Ok other) (nodes_meant setting depth (nodes_of f)) start there
 going_halt setting depth ns from at to value other i start here there going lt ran some f s =
     let (rest, stands, names, renders, gives) = going f s in
     let (n, next, more, is_there, is, after, le, past) = first ns at rest to stands lt in
@@ -126,7 +126,7 @@ going_halt setting depth ns from at to value other i start here there going lt r
 -- the node ends by an error
 pub going_fault : (setting : Setting) (depth : ℕ) (ns : List Node) (from at to : ℕ) (e : Error) (start here there : Configuration) → Going setting depth ns from at to start here → at < to
     → NodePerforms setting depth ns at (Err e) here there
-    → (f : Forest Maker) → StandsAt ns from f to → Performs (Err e) (nodes_meant setting depth (nodes_of f)) start there
+    → (f : Forest Maker) → IsForestAt ns from f to → Performs (Err e) (nodes_meant setting depth (nodes_of f)) start there
 going_fault setting depth ns from at to e start here there going lt ran f s =
     let (rest, stands, names, renders, gives) = going f s in
     let (n, next, more, is_there, is, after, le, past) = first ns at rest to stands lt in
@@ -135,7 +135,7 @@ going_fault setting depth ns from at to e start here there going lt ran f s =
 
 -- nothing is left
 pub going_end : (setting : Setting) (depth : ℕ) (ns : List Node) (from at to : ℕ) (value : Unit {0}) (start here : Configuration) → Going setting depth ns from at to start here → to ≤ at
-    → (f : Forest Maker) → StandsAt ns from f to → Performs (Ok value) (nodes_meant setting depth (nodes_of f)) start here
+    → (f : Forest Maker) → IsForestAt ns from f to → Performs (Ok value) (nodes_meant setting depth (nodes_of f)) start here
 going_end setting depth ns from at to value start here going le f s =
     let (rest, stands, names, renders, gives) = going f s in
     let none = nothing_left (flats ns) at rest to stands le in
@@ -150,7 +150,7 @@ kept_on names setting s t u h k N within inside =
     let b = k N within inside in
     record { scopes = b.scopes ∙ a.scopes; globals = b.globals ∙ a.globals; assigned = λ q o. b.assigned q o ∙ a.assigned q o; counters = λ q o. b.counters q o ∙ a.counters q o }
 
-pub kept_step : (setting : Setting) (depth : ℕ) (ns : List Node) (from at to : ℕ) (start here : Configuration) (s t u : State) (f : Forest Maker) → StandsAt ns from f to → Going setting depth ns from at to start here → at < to
+pub kept_step : (setting : Setting) (depth : ℕ) (ns : List Node) (from at to : ℕ) (start here : Configuration) (s t u : State) (f : Forest Maker) → IsForestAt ns from f to → Going setting depth ns from at to start here → at < to
     → NodeKeeps setting ns at t u → Keeps (nodes_names (nodes_of f)) setting s t → Keeps (nodes_names (nodes_of f)) setting s u
 kept_step setting depth ns from at to start here s t u f stood going lt keeps before =
     let (rest, stands, names, renders, gives) = going f stood in
@@ -162,7 +162,7 @@ kept_step setting depth ns from at to start here s t u f stood going lt keeps be
 abbrev pub NodeAlone : List Node → ℕ → State → State → Type 0
 NodeAlone ns at old new = (n : tree.Node) (next : ℕ) → NodeAt ns at n next → IsRenderNode n → layers_of new ≡ layers_of old
 
-pub alone_step : (setting : Setting) (depth : ℕ) (ns : List Node) (from at to : ℕ) (start here : Configuration) (s t u : State) (f : Forest Maker) → StandsAt ns from f to → Going setting depth ns from at to start here → at < to
+pub alone_step : (setting : Setting) (depth : ℕ) (ns : List Node) (from at to : ℕ) (start here : Configuration) (s t u : State) (f : Forest Maker) → IsForestAt ns from f to → Going setting depth ns from at to start here → at < to
     → NodeAlone ns at t u → (AreRenderNodes (nodes_of f) → layers_of t ≡ layers_of s) → AreRenderNodes (nodes_of f) → layers_of u ≡ layers_of s
 alone_step setting depth ns from at to start here s t u f stood going lt leaves before all =
     let (rest, stands, names, renders, gives) = going f stood in
@@ -197,7 +197,7 @@ leaf_other ns at to r m x s t req read same form other n next there h =
 
 -- the two ranges of a node with two bodies
 abbrev pub Two : List Node → ℕ → ℕ → ℕ → ℕ → Type 0
-Two ns at t e to = IsRange ns (at + 1) t × IsRange ns t e × (at < t) × (t ≤ e) × (e ≤ to)
+Two ns at t e to = IsNodeRange ns (at + 1) t × IsNodeRange ns t e × (at < t) × (t ≤ e) × (e ≤ to)
 
 pub two : (ns : List Node) (at t e to : ℕ) (r m : Node) (make : tree.Nodes → tree.Nodes → tree.Node) → IsNode ns at to → r ≡ get_or ns at r → r ≡ m → flat_of m ≡ record { head = with_two make; ends = t ∷ e ∷ [] } → Two ns at t e to
 two ns at t e to r m make req read same form =
@@ -208,13 +208,13 @@ two ns at t e to r m make req read same form =
     ((b, here), (d, after), (omega arith), then_le, (let x : e ≤ to = omega arith in x))
 
 pub two_performs : (setting : Setting) (depth : ℕ) (ns : List Node) (at t e to : ℕ) (r m : Node) (make : tree.Nodes → tree.Nodes → tree.Node) (res : Result (Unit {0}) Error) (a z : Configuration) → IsNode ns at to → r ≡ get_or ns at r → r ≡ m → flat_of m ≡ record { head = with_two make; ends = t ∷ e ∷ [] }
-    → ((b d : Forest Maker) → StandsAt ns (at + 1) b t → StandsAt ns t d e → Performs res (node_meant setting depth (make (nodes_of b) (nodes_of d))) a z) → NodePerforms setting depth ns at res a z
+    → ((b d : Forest Maker) → IsForestAt ns (at + 1) b t → IsForestAt ns t d e → Performs res (node_meant setting depth (make (nodes_of b) (nodes_of d))) a z) → NodePerforms setting depth ns at res a z
 two_performs setting depth ns at t e to r m make res a z req read same form h n next there =
     let (b, d, is, here, after, ends) = known_two ns at t e n next make (subst (Known ns at n next) form (known ns at r m n next there (node_within ns at to req) read same)) in
     subst (λ y. Performs res (node_meant setting depth y) a z) (sym is) (h b d here after)
 
 pub two_keeps : (setting : Setting) (ns : List Node) (at t e to : ℕ) (r m : Node) (make : tree.Nodes → tree.Nodes → tree.Node) (s u : State) → IsNode ns at to → r ≡ get_or ns at r → r ≡ m → flat_of m ≡ record { head = with_two make; ends = t ∷ e ∷ [] }
-    → ((b d : Forest Maker) → StandsAt ns (at + 1) b t → StandsAt ns t d e → Keeps (node_names (make (nodes_of b) (nodes_of d))) setting s u) → NodeKeeps setting ns at s u
+    → ((b d : Forest Maker) → IsForestAt ns (at + 1) b t → IsForestAt ns t d e → Keeps (node_names (make (nodes_of b) (nodes_of d))) setting s u) → NodeKeeps setting ns at s u
 two_keeps setting ns at t e to r m make s u req read same form h n next there =
     let (b, d, is, here, after, ends) = known_two ns at t e n next make (subst (Known ns at n next) form (known ns at r m n next there (node_within ns at to req) read same)) in
     subst (λ y. Keeps (node_names y) setting s u) (sym is) (h b d here after)
@@ -225,7 +225,7 @@ two_other ns at t e to r m make s u req read same form other n next there h =
     let (b, d, is, here, after, ends) = known_two ns at t e n next make (subst (Known ns at n next) form (known ns at r m n next there (node_within ns at to req) read same)) in
     absurd (other (nodes_of b) (nodes_of d) (subst (λ y. IsRenderNode y) is h))
 
-pub going_past : (setting : Setting) (depth : ℕ) (ns : List Node) (from at to at2 : ℕ) (start here : Configuration) → IsRange ns from to → Going setting depth ns from at to start here → at < to → ((n : tree.Node) (next : ℕ) → NodeAt ns at n next → at2 ≡ next) → at < at2
+pub going_past : (setting : Setting) (depth : ℕ) (ns : List Node) (from at to at2 : ℕ) (start here : Configuration) → IsNodeRange ns from to → Going setting depth ns from at to start here → at < to → ((n : tree.Node) (next : ℕ) → NodeAt ns at n next → at2 ≡ next) → at < at2
 going_past setting depth ns from at to at2 start here (f, s) going lt ends =
     let (rest, stands, names, renders, gives) = going f s in
     let (n, next, more, there, is, after, le, past) = first ns at rest to stands lt in
@@ -233,7 +233,7 @@ going_past setting depth ns from at to at2 start here (f, s) going lt ends =
 
 -- the range of a node with one body
 abbrev pub One : List Node → ℕ → ℕ → ℕ → Type 0
-One ns at e to = IsRange ns (at + 1) e × (at < e) × (e ≤ to)
+One ns at e to = IsNodeRange ns (at + 1) e × (at < e) × (e ≤ to)
 
 pub one : (ns : List Node) (at e to : ℕ) (r m : Node) (make : tree.Nodes → tree.Node) → IsNode ns at to → r ≡ get_or ns at r → r ≡ m → flat_of m ≡ record { head = with_one make; ends = e ∷ [] } → One ns at e to
 one ns at e to r m make req read same form =
@@ -243,13 +243,13 @@ one ns at e to r m make req read same form =
     ((b, here), (omega arith), (let x : e ≤ to = omega arith in x))
 
 pub one_performs : (setting : Setting) (depth : ℕ) (ns : List Node) (at e to : ℕ) (r m : Node) (make : tree.Nodes → tree.Node) (res : Result (Unit {0}) Error) (a z : Configuration) → IsNode ns at to → r ≡ get_or ns at r → r ≡ m → flat_of m ≡ record { head = with_one make; ends = e ∷ [] }
-    → ((b : Forest Maker) → StandsAt ns (at + 1) b e → Performs res (node_meant setting depth (make (nodes_of b))) a z) → NodePerforms setting depth ns at res a z
+    → ((b : Forest Maker) → IsForestAt ns (at + 1) b e → Performs res (node_meant setting depth (make (nodes_of b))) a z) → NodePerforms setting depth ns at res a z
 one_performs setting depth ns at e to r m make res a z req read same form h n next there =
     let (b, is, here, ends) = known_one ns at e n next make (subst (Known ns at n next) form (known ns at r m n next there (node_within ns at to req) read same)) in
     subst (λ y. Performs res (node_meant setting depth y) a z) (sym is) (h b here)
 
 pub one_keeps : (setting : Setting) (ns : List Node) (at e to : ℕ) (r m : Node) (make : tree.Nodes → tree.Node) (s u : State) → IsNode ns at to → r ≡ get_or ns at r → r ≡ m → flat_of m ≡ record { head = with_one make; ends = e ∷ [] }
-    → ((b : Forest Maker) → StandsAt ns (at + 1) b e → Keeps (node_names (make (nodes_of b))) setting s u) → NodeKeeps setting ns at s u
+    → ((b : Forest Maker) → IsForestAt ns (at + 1) b e → Keeps (node_names (make (nodes_of b))) setting s u) → NodeKeeps setting ns at s u
 one_keeps setting ns at e to r m make s u req read same form h n next there =
     let (b, is, here, ends) = known_one ns at e n next make (subst (Known ns at n next) form (known ns at r m n next there (node_within ns at to req) read same)) in
     subst (λ y. Keeps (node_names y) setting s u) (sym is) (h b here)

@@ -18,7 +18,7 @@ use Rattle.liquid_core.specs.declared.interrupt.Interrupt.{Interrupt}
 use Rattle.liquid_evaluation.specs.Evaluation.{bound_values}
 use Rattle.liquid_evaluation.specs.Tree as tree
 use Rattle.liquid_evaluation.proofs.Calls.{faulted_as, faulted_then}
-use Rattle.liquid_syntax.specs.Templates.{list_of, most_of, node_count_of, partials_of}
+use Rattle.liquid_syntax.specs.Templates.{template_nodes, most_of, node_count_of, partials_of}
 use Rattle.liquid_syntax.specs.declared.template.Template.{Template}
 use Rattle.liquid_syntax.proofs.TreeCounts.{template_count}
 use Rattle.liquid_syntax.specs.declared.partials.Partials.{Partials}
@@ -362,7 +362,7 @@ partial_met scope r m s t l p q z pushed kept popped h =
     (scope_met unit r scope m s t (merged_layers l) (merged_layers q) inside)
 
 -- a template with no more nodes than these has no longer list
-pub small_list : (t : Template) (n : ℕ) → node_count_of t ≤ n → length (list_of t) ≤ n
+pub small_list : (t : Template) (n : ℕ) → node_count_of t ≤ n → length (template_nodes t) ≤ n
 small_list t n h = subst (λ k. k ≤ n) (template_count t) h
 
 -- a partial of the very name comes first

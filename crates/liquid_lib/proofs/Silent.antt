@@ -4,14 +4,14 @@ use Rattle.std.specs.Prelude.{IsOk}
 use Rattle.liquid_model.specs.declared.error.Error.{Error}
 use Rattle.liquid_evaluation.specs.Tree as tree
 use Rattle.liquid_syntax.specs.Forest.{Forest}
-use Rattle.liquid_syntax.specs.Flats.{Maker, leaf, with_one, with_two, flat_of, nodes_of, StandsAt, NodeAt, IsNode}
+use Rattle.liquid_syntax.specs.Flats.{Maker, leaf, with_one, with_two, flat_of, nodes_of, IsForestAt, NodeAt, IsNode}
 use Rattle.liquid_syntax.specs.declared.node.Node.{Node}
 use Rattle.liquid_lib.specs.Silent.{IsSilent, AreSilent}
 use Rattle.liquid_lib.proofs.Going.{Known, first, known, known_one, known_two, node_within, leaf_is}
 
 -- what is left of a range of such nodes is one too
 abbrev pub SilentOn : List Node → ℕ → ℕ → ℕ → Type 0
-SilentOn ns from at to = (f : Forest Maker) → StandsAt ns from f to → AreSilent (nodes_of f) → (rest : Forest Maker) × StandsAt ns at rest to × AreSilent (nodes_of rest)
+SilentOn ns from at to = (f : Forest Maker) → IsForestAt ns from f to → AreSilent (nodes_of f) → (rest : Forest Maker) × IsForestAt ns at rest to × AreSilent (nodes_of rest)
 
 abbrev pub NodeDone : List Node → ℕ → Result (Unit {0}) Error → Type 0
 NodeDone ns at r = (n : tree.Node) (next : ℕ) → NodeAt ns at n next → IsSilent n → IsOk r
@@ -22,7 +22,7 @@ parted n more all is h = subst (λ x. AreSilent x) is h
 pub silent_start : (ns : List Node) (from to : ℕ) → SilentOn ns from from to
 silent_start ns from to f stood are = (f, stood, are)
 
-pub silent_done : (ns : List Node) (from at to : ℕ) (r : Result (Unit {0}) Error) (f : Forest Maker) → StandsAt ns from f to → AreSilent (nodes_of f) → SilentOn ns from at to → at < to → NodeDone ns at r → IsOk r
+pub silent_done : (ns : List Node) (from at to : ℕ) (r : Result (Unit {0}) Error) (f : Forest Maker) → IsForestAt ns from f to → AreSilent (nodes_of f) → SilentOn ns from at to → at < to → NodeDone ns at r → IsOk r
 silent_done ns from at to r f stood are on lt done =
     let (rest, stands, left) = on f stood are in
     let (n, next, more, there, is, after, le, past) = first ns at rest to stands lt in
@@ -32,7 +32,7 @@ pub silent_next : (ns : List Node) (from at to at2 : ℕ) → SilentOn ns from a
 silent_next ns from at to at2 on lt ends f stood are =
     let (rest, stands, left) = on f stood are in
     let (n, next, more, there, is, after, le, past) = first ns at rest to stands lt in
-    (more, subst (λ k. StandsAt ns k more to) (sym (ends n next there)) after, (parted n (nodes_of more) (nodes_of rest) is left).1)
+    (more, subst (λ k. IsForestAt ns k more to) (sym (ends n next there)) after, (parted n (nodes_of more) (nodes_of rest) is left).1)
 
 -- ---- other nodes
 

@@ -7,7 +7,7 @@ ghost use Rattle.liquid_core.specs.ExpressionView.{expression_view};
 ghost use Rattle.liquid_core.specs.States.{environment_of};
 ghost use Rattle.liquid_evaluation.specs.ConditionView.{condition_view};
 ghost use Rattle.liquid_evaluation.specs.Evaluation.{truth_of};
-ghost use Rattle.liquid_syntax.specs.Flats.{Maker, StandsAt, IsRange, nodes_of};
+ghost use Rattle.liquid_syntax.specs.Flats.{Maker, IsForestAt, IsNodeRange, nodes_of};
 ghost use Rattle.liquid_syntax.specs.Forest.{Forest};
 ghost use Rattle.liquid_evaluation.specs.Tree as tree;
 ghost use Rattle.liquid_lib.specs.inside.Choices.{Meant, ComesTo, NodeComesTo, ListComesTo};
@@ -31,11 +31,11 @@ pub(crate) fn chosen_range(
     places: &Places<'_>,
     state: &State<'_>,
 ) -> Result<(usize, usize)>
-    requires body { IsRange nodes.now (at + 1) bodies.first_end }
-    requires otherwise { IsRange nodes.now bodies.first_end bodies.last_end }
+    requires body { IsNodeRange nodes.now (at + 1) bodies.first_end }
+    requires otherwise { IsNodeRange nodes.now bodies.first_end bodies.last_end }
     ensures inside { IfOk result (λ range. (at < range.0) × (range.1 ≤ bodies.last_end)) }
-    ensures chosen { (b d : Forest Maker) → StandsAt nodes.now (at + 1) b bodies.first_end →
-        StandsAt nodes.now bodies.first_end d bodies.last_end →
+    ensures chosen { (b d : Forest Maker) → IsForestAt nodes.now (at + 1) b bodies.first_end →
+        IsForestAt nodes.now bodies.first_end d bodies.last_end →
         NodeComesTo nodes.now (environment_of state.now)
         (tree.if_true (condition_view condition.now) (nodes_of b) (nodes_of d)) result }
 {
@@ -64,11 +64,11 @@ pub(crate) fn unless_range(
     bodies: TwoBodies,
     state: &State<'_>,
 ) -> Result<(usize, usize)>
-    requires body { IsRange nodes.now (at + 1) bodies.first_end }
-    requires otherwise { IsRange nodes.now bodies.first_end bodies.last_end }
+    requires body { IsNodeRange nodes.now (at + 1) bodies.first_end }
+    requires otherwise { IsNodeRange nodes.now bodies.first_end bodies.last_end }
     ensures inside { IfOk result (λ range. (at < range.0) × (range.1 ≤ bodies.last_end)) }
-    ensures chosen { (b d : Forest Maker) → StandsAt nodes.now (at + 1) b bodies.first_end →
-        StandsAt nodes.now bodies.first_end d bodies.last_end →
+    ensures chosen { (b d : Forest Maker) → IsForestAt nodes.now (at + 1) b bodies.first_end →
+        IsForestAt nodes.now bodies.first_end d bodies.last_end →
         NodeComesTo nodes.now (environment_of state.now) (tree.unless (condition_view condition.now)
         (nodes_of b) (nodes_of d)) result }
 {
@@ -158,9 +158,9 @@ fn else_range(
     places: &Places<'_>,
     state: &State<'_>,
 ) -> Result<(usize, usize)>
-    requires { IsRange nodes.now from to }
+    requires { IsNodeRange nodes.now from to }
     ensures inside { IfOk result (λ range. (from ≤ range.0) × (range.1 ≤ to)) }
-    ensures chosen { (f : Forest Maker) → StandsAt nodes.now from f to →
+    ensures chosen { (f : Forest Maker) → IsForestAt nodes.now from f to →
         ListComesTo nodes.now (environment_of state.now) (nodes_of f) result }
 {
     let mut at = from;

@@ -6,7 +6,7 @@
 ghost use Rattle.std.specs.Prelude.{◌≡◌, ℕ, ◌+◌, ◌<◌, ◌≤◌, IfOk, IsOk};
 ghost use Rattle.liquid_core.specs.ExpressionView.{expression_view};
 ghost use Rattle.liquid_core.specs.States.{environment_of, layers_of, loops_of};
-ghost use Rattle.liquid_syntax.specs.Flats.{Maker, StandsAt, IsRange, NodeAt, IsNode};
+ghost use Rattle.liquid_syntax.specs.Flats.{Maker, IsForestAt, IsNodeRange, NodeAt, IsNode};
 ghost use Rattle.liquid_syntax.specs.Flats.{bindings_view, nodes_of};
 ghost use Rattle.liquid_syntax.specs.Forest.{Forest};
 ghost use Rattle.liquid_evaluation.specs.Names.{node_names, nodes_names};
@@ -50,18 +50,18 @@ pub(crate) fn run_range<'d, W: CountedWrite, H: NamedFilters>(
     out: &mut Output<'_, W>,
     state: &mut State<'d>,
 ) -> Result<()>
-    requires { IsRange nodes.now from to }
-    ensures performs { (f : Forest Maker) → StandsAt nodes.now from f to →
+    requires { IsNodeRange nodes.now from to }
+    ensures performs { (f : Forest Maker) → IsForestAt nodes.now from f to →
         Performs result (nodes_in H.named context.now (nodes_of f))
         (configuration_of W.contents W.failure_count out.old state.old)
         (configuration_of W.contents W.failure_count out.new state.new) }
     ensures same_writer { out.new.writer.ghost_name ≡ out.old.writer.ghost_name }
-    ensures kept { (f : Forest Maker) → StandsAt nodes.now from f to →
+    ensures kept { (f : Forest Maker) → IsForestAt nodes.now from f to →
         Keeps (nodes_names (nodes_of f)) (setting_of H.named context.now) state.old state.new }
-    ensures alone { (f : Forest Maker) → StandsAt nodes.now from f to →
+    ensures alone { (f : Forest Maker) → IsForestAt nodes.now from f to →
         AreRenderNodes (nodes_of f) →
         layers_of state.new ≡ layers_of state.old }
-    ensures silent { (f : Forest Maker) → StandsAt nodes.now from f to → AreSilent (nodes_of f) →
+    ensures silent { (f : Forest Maker) → IsForestAt nodes.now from f to → AreSilent (nodes_of f) →
         IsDoneOrStopped result
         (sink_of W.contents W.failure_count out.old).failures
         (sink_of W.contents W.failure_count out.new).failures }
@@ -191,7 +191,7 @@ fn run_chosen<'d, W: CountedWrite, H: NamedFilters>(
     state: &mut State<'d>,
 ) -> Result<()>
     requires { IfOk chosen (λ range. (at < range.0) × (range.1 ≤ to) ×
-        IsRange nodes.now range.0 range.1) }
+        IsNodeRange nodes.now range.0 range.1) }
     ensures performs { (n : tree.Node) → NodeComesTo nodes.now (environment_of state.old) n chosen →
         Performs result (node_in H.named context.now n)
         (configuration_of W.contents W.failure_count out.old state.old)
@@ -220,13 +220,13 @@ fn run_capture<'d, W: CountedWrite, H: NamedFilters>(
     out: &mut Output<'_, W>,
     state: &mut State<'d>,
 ) -> Result<()>
-    requires body { IsRange nodes.now (at + 1) end }
-    ensures performs { (b : Forest Maker) → StandsAt nodes.now (at + 1) b end →
+    requires body { IsNodeRange nodes.now (at + 1) end }
+    ensures performs { (b : Forest Maker) → IsForestAt nodes.now (at + 1) b end →
         Performs result (node_in H.named context.now (tree.capture name.now (nodes_of b)))
         (configuration_of W.contents W.failure_count out.old state.old)
         (configuration_of W.contents W.failure_count out.new state.new) }
     ensures same_writer { out.new.writer.ghost_name ≡ out.old.writer.ghost_name }
-    ensures kept { (b : Forest Maker) → StandsAt nodes.now (at + 1) b end →
+    ensures kept { (b : Forest Maker) → IsForestAt nodes.now (at + 1) b end →
         Keeps (node_names (tree.capture name.now (nodes_of b))) (setting_of H.named context.now)
         state.old state.new }
     ensures loops { loops_of state.new ≡ loops_of state.old }
@@ -251,13 +251,13 @@ fn run_ifchanged<'d, W: CountedWrite, H: NamedFilters>(
     out: &mut Output<'_, W>,
     state: &mut State<'d>,
 ) -> Result<()>
-    requires { IsRange nodes.now (at + 1) end }
-    ensures performs { (b : Forest Maker) → StandsAt nodes.now (at + 1) b end →
+    requires { IsNodeRange nodes.now (at + 1) end }
+    ensures performs { (b : Forest Maker) → IsForestAt nodes.now (at + 1) b end →
         Performs result (node_in H.named context.now (tree.ifchanged (nodes_of b)))
         (configuration_of W.contents W.failure_count out.old state.old)
         (configuration_of W.contents W.failure_count out.new state.new) }
     ensures same_writer { out.new.writer.ghost_name ≡ out.old.writer.ghost_name }
-    ensures kept { (b : Forest Maker) → StandsAt nodes.now (at + 1) b end →
+    ensures kept { (b : Forest Maker) → IsForestAt nodes.now (at + 1) b end →
         Keeps (node_names (tree.ifchanged (nodes_of b))) (setting_of H.named context.now) state.old
         state.new }
     ensures loops { loops_of state.new ≡ loops_of state.old }

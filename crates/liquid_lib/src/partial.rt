@@ -8,7 +8,7 @@ ghost use Rattle.liquid_core.specs.Held.{held};
 ghost use Rattle.liquid_core.specs.LoopFrames.{without_innermost};
 ghost use Rattle.liquid_core.specs.States.{environment_of, layers_of, loops_of};
 ghost use Rattle.liquid_syntax.specs.Flats.{bindings_view};
-ghost use Rattle.liquid_syntax.specs.Templates.{list_of, most_of, partials_of, tree_of};
+ghost use Rattle.liquid_syntax.specs.Templates.{template_nodes, most_of, partials_of, tree_of};
 ghost use Rattle.liquid_lib.specs.inside.Partials.{Enters, IsWithin, bound_include, bound_object};
 ghost use Rattle.liquid_lib.specs.inside.Partials.{bound_scope, entry_at, include_entry};
 ghost use Rattle.liquid_lib.specs.inside.Partials.{jekyll_entry, partial_of, render_partial};
@@ -86,7 +86,7 @@ fn enter<'d, H>(
     scope: Object,
     state: &mut State<'_>,
 ) -> Result<Entered<'d, H>>
-    requires { length (list_of partial.now) ≤ most_of context.now.partials.now }
+    requires { length (template_nodes partial.now) ≤ most_of context.now.partials.now }
     ensures entered { Enters (λ r. (tree_of r.partial.now, r.context.depth)) result
         (entry_at context.now.depth (held scope) (tree_of partial.now)) (layers_of state.old)
         (layers_of state.new) }
@@ -172,7 +172,7 @@ fn include_scope(alloc: Global, bindings: &[Binding], state: &State<'_>) -> Resu
 fn partial_called<'p>(alloc: Global, partials: &'p Partials, name: &str) -> Result<&'p Template>
     ensures found { Answers (λ t. tree_of t.now) result
         (partial_of (partials_of partials.now) name.now) }
-    ensures small { IfOk result (λ t. length (list_of t.now) ≤ most_of partials.now) }
+    ensures small { IfOk result (λ t. length (template_nodes t.now) ≤ most_of partials.now) }
 {
     match partials.get(name) {
         Some(partial) => Ok(partial),
@@ -190,7 +190,7 @@ pub(crate) fn partial_rendered<'p>(
 ) -> Result<&'p Template>
     ensures found { Answers (λ t. tree_of t.now) result
         (render_partial (partials_of partials.now) name.now) }
-    ensures small { IfOk result (λ t. length (list_of t.now) ≤ most_of partials.now) }
+    ensures small { IfOk result (λ t. length (template_nodes t.now) ≤ most_of partials.now) }
 {
     if let Some(partial) = partials.get(name) {
         return Ok(partial);

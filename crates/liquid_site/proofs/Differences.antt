@@ -17,7 +17,7 @@ use Rattle.liquid_model.proofs.Views.{Entry}
 use Rattle.liquid_core.specs.Environment.{Names}
 use Rattle.liquid_core.specs.Held.{map_of}
 use Rattle.liquid_evaluation.specs.Names.{mentioned}
-use Rattle.liquid_syntax.specs.NameSets.{added, held}
+use Rattle.liquid_syntax.specs.NameSets.{added, mentioned_in_set}
 use Rattle.liquid_syntax.specs.inside.NameVisitors.{added_both, or_false}
 use Rattle.liquid_syntax.proofs.RunNames.{none_held}
 use Rattle.liquid_site.specs.Steps.{differs, is_same}
@@ -78,7 +78,7 @@ either_has (Some d) (Some e) = twice (not (same d e))
 
 -- the names of both that are added to none are those under which they differ
 pub all_differing : (old new : List Entry) (none some all : BTreeSet (String Global)) (o n : Map Datum) → o ≡ map_of (pairs_view old) → n ≡ map_of (pairs_view new) → none.keys ≡ []
-    → held some ≡ added (differing o n (keys_of old)) (held none) → held all ≡ added (differing o n (keys_of new)) (held some) → held all ≡ differs o n
+    → mentioned_in_set some ≡ added (differing o n (keys_of old)) (mentioned_in_set none) → mentioned_in_set all ≡ added (differing o n (keys_of new)) (mentioned_in_set some) → mentioned_in_set all ≡ differs o n
 unfolding added
 all_differing old new none some all o n is_old is_new empty first then = fun_ext (λ q.
     ap (λ h. h q) then

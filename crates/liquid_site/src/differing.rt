@@ -3,7 +3,7 @@ ghost use Rattle.std.specs.Prelude.{◌≡◌};
 ghost use Rattle.std.specs.Map.{keys_of};
 ghost use Rattle.liquid_model.specs.Answer.{IsValueOrMemory};
 ghost use Rattle.liquid_core.specs.Held.{held};
-ghost use Rattle.liquid_syntax.specs.NameSets.{added, held as held_names};
+ghost use Rattle.liquid_syntax.specs.NameSets.{added, mentioned_in_set as held_names};
 ghost use Rattle.liquid_site.specs.Steps.{differs};
 ghost use Rattle.liquid_site.specs.inside.Differing.{differing};
 

@@ -1,6 +1,6 @@
 //! Which pages are rendered again.
 ghost use Rattle.std.specs.Prelude.{◌≡◌};
-ghost use Rattle.liquid_syntax.specs.NameSets.{held};
+ghost use Rattle.liquid_syntax.specs.NameSets.{mentioned_in_set};
 ghost use Rattle.liquid_syntax.specs.Templates.{partials_of, tree_of};
 ghost use Rattle.liquid_site.specs.Contents.{mentions, mentions_any};
 ghost use Rattle.liquid_site.specs.inside.Fresh.{selects};
@@ -33,7 +33,8 @@ impl<'n> Selection<'n> {
     /// The pages that mention one of the names, or all of them where a partial does. It takes no
     /// memory.
     pub(crate) fn by_names(partials: &Partials, names: &'n BTreeSet<String>) -> Selection<'n>
-        ensures { selects result ≡ mentions_any (partials_of partials.now) (held names.now) }
+        ensures { selects result ≡ mentions_any (partials_of partials.now)
+            (mentioned_in_set names.now) }
     {
         if partials.mention_any(names) {
             return Selection::All;

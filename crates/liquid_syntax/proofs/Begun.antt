@@ -12,7 +12,7 @@ use Rattle.liquid_syntax.specs.declared.build.Stage.{Stage}
 use Rattle.liquid_syntax.specs.declared.build.Stage.TheVariants.{First}
 use Rattle.liquid_syntax.specs.declared.build.Statement.{Statement}
 use Rattle.liquid_syntax.specs.declared.node.Node as code
-use Rattle.liquid_syntax.specs.inside.Classifies.{begins, Classifies, ReadsBlock, ReadsTwo}
+use Rattle.liquid_syntax.specs.inside.Classifies.{block_start, Classifies, ReadsBlock, ReadsTwo}
 use Rattle.liquid_evaluation.specs.Tree.{Node, Nodes}
 
 -- a node with two bodies is a block's that begins with the first of them
@@ -21,22 +21,22 @@ two_read b o (Ok n) h = (ap (two_or b) h.0, h.1)
 two_read b o (Err errors.Memory) h = tt
 two_read b o (Err (errors.Fault f)) h = ap (two_or b) h
 
-begun : (b : Block) (s : Stage) (l : nesting.Statement) (r : Result code.Node ParseError) → ReadsBlock b s l r → Classifies l (begins b s r)
+begun : (b : Block) (s : Stage) (l : nesting.Statement) (r : Result code.Node ParseError) → ReadsBlock b s l r → Classifies l (block_start b s r)
 begun b s l (Ok n) h = h
 begun b s l (Err errors.Memory) h = tt
 begun b s l (Err (errors.Fault f)) h = h
 
-kind_kept : (b : Block) (s : Stage) (k : FaultKind) (r : Result code.Node ParseError) → FaultsAs k r → FaultsAs k (begins b s r)
+kind_kept : (b : Block) (s : Stage) (k : FaultKind) (r : Result code.Node ParseError) → FaultsAs k r → FaultsAs k (block_start b s r)
 kind_kept b s k (Ok n) h = tt
 kind_kept b s k (Err errors.Memory) h = tt
 kind_kept b s k (Err (errors.Fault f)) h = h
 
-place_kept : (b : Block) (s : Stage) (left : ℕ) (r : Result code.Node ParseError) → FaultsAt left r → FaultsAt left (begins b s r)
+place_kept : (b : Block) (s : Stage) (left : ℕ) (r : Result code.Node ParseError) → FaultsAt left r → FaultsAt left (block_start b s r)
 place_kept b s left (Ok n) h = tt
 place_kept b s left (Err errors.Memory) h = tt
 place_kept b s left (Err (errors.Fault f)) h = h
 
-module _ (b : Block) (s : Stage) (r : Result code.Node ParseError) (q : Result Statement ParseError) (is : q ≡ begins b s r) where
+module _ (b : Block) (s : Stage) (r : Result code.Node ParseError) (q : Result Statement ParseError) (is : q ≡ block_start b s r) where
   pub begins_as : (l : nesting.Statement) → ReadsBlock b s l r → Classifies l q
   begins_as l h = subst (Classifies l) (sym is) (begun b s l r h)
 

@@ -12,7 +12,7 @@ use Rattle.liquid_syntax.specs.inside.Called.{TakesFilter}
 use Rattle.liquid_lexer.specs.Readers.{Fails, Parses}
 use Rattle.liquid_lexer.specs.Tokens.{Token, value, range, symbol, tokens_view, value_first, word_first, is_symbol, past}
 use Rattle.liquid_syntax.specs.Chains.{Filters}
-use Rattle.liquid_syntax.specs.ChainReading.{Called, accepted_call, call_with, filters_of, call_of, called_of, arguments_of, further_of, no_arguments, one_argument}
+use Rattle.liquid_syntax.specs.ChainReading.{Called, accepted_call, call_with, filters_of, filter_call_after_bar, called_of, arguments_of, further_of, no_arguments, one_argument}
 use Rattle.liquid_lexer.specs.declared.item.Item.{Item}
 use Rattle.liquid_lexer.specs.declared.symbol.Symbol.TheVariants.{Colon, Comma, Bar}
 use Rattle.liquid_lexer.specs.declared.fault.ParseError.{ParseError}
@@ -53,7 +53,7 @@ module _ (known : Filters) where
   not_colon_by : (t : Token) (ts : List Token) (b : Bool) → is_symbol Colon t ≡ b → cond b (Some ts) None ≡ None → called_of known (t ∷ ts) ≡ no_arguments (filters_of known (t ∷ ts))
   unfolding filters_of
   not_colon_by t ts true e h = absurd cc
-  not_colon_by t ts false e h = ap (λ (b : Bool). cond b (arguments_of known ts) (no_arguments (cond (is_symbol Bar t) (call_of known ts) None))) e
+  not_colon_by t ts false e h = ap (λ (b : Bool). cond b (arguments_of known ts) (no_arguments (cond (is_symbol Bar t) (filter_call_after_bar known ts) None))) e
 
   pub not_colon : (ts : List Token) → past Colon ts ≡ None → called_of known ts ≡ no_arguments (filters_of known ts)
   unfolding filters_of
@@ -62,7 +62,7 @@ module _ (known : Filters) where
 
   colon_by : (t : Token) (ts rest : List Token) (b : Bool) → is_symbol Colon t ≡ b → cond b (Some ts) None ≡ Some rest → called_of known (t ∷ ts) ≡ arguments_of known rest
   unfolding filters_of
-  colon_by t ts rest true e h = let r : ts ≡ rest = cc in ap (λ (b : Bool). cond b (arguments_of known ts) (no_arguments (cond (is_symbol Bar t) (call_of known ts) None))) e ∙ ap (arguments_of known) r
+  colon_by t ts rest true e h = let r : ts ≡ rest = cc in ap (λ (b : Bool). cond b (arguments_of known ts) (no_arguments (cond (is_symbol Bar t) (filter_call_after_bar known ts) None))) e ∙ ap (arguments_of known) r
   colon_by t ts rest false e h = absurd cc
 
   pub colon : (ts rest : List Token) → past Colon ts ≡ Some rest → called_of known ts ≡ arguments_of known rest
@@ -72,7 +72,7 @@ module _ (known : Filters) where
   not_comma_by : (t : Token) (ts : List Token) (b : Bool) → is_symbol Comma t ≡ b → cond b (Some ts) None ≡ None → further_of known (t ∷ ts) ≡ no_arguments (filters_of known (t ∷ ts))
   unfolding filters_of
   not_comma_by t ts true e h = absurd cc
-  not_comma_by t ts false e h = ap (λ (b : Bool). cond b (arguments_of known ts) (no_arguments (cond (is_symbol Bar t) (call_of known ts) None))) e
+  not_comma_by t ts false e h = ap (λ (b : Bool). cond b (arguments_of known ts) (no_arguments (cond (is_symbol Bar t) (filter_call_after_bar known ts) None))) e
 
   not_comma : (ts : List Token) → past Comma ts ≡ None → further_of known ts ≡ no_arguments (filters_of known ts)
   unfolding filters_of
@@ -81,7 +81,7 @@ module _ (known : Filters) where
 
   comma_by : (t : Token) (ts rest : List Token) (b : Bool) → is_symbol Comma t ≡ b → cond b (Some ts) None ≡ Some rest → further_of known (t ∷ ts) ≡ arguments_of known rest
   unfolding filters_of
-  comma_by t ts rest true e h = let r : ts ≡ rest = cc in ap (λ (b : Bool). cond b (arguments_of known ts) (no_arguments (cond (is_symbol Bar t) (call_of known ts) None))) e ∙ ap (arguments_of known) r
+  comma_by t ts rest true e h = let r : ts ≡ rest = cc in ap (λ (b : Bool). cond b (arguments_of known ts) (no_arguments (cond (is_symbol Bar t) (filter_call_after_bar known ts) None))) e ∙ ap (arguments_of known) r
   comma_by t ts rest false e h = absurd cc
 
   comma : (ts rest : List Token) → past Comma ts ≡ Some rest → further_of known ts ≡ arguments_of known rest
@@ -127,7 +127,7 @@ module _ (known : Filters) where
   abbrev pub called_with : Text × List Token → Option (List FilterCall)
   called_with w = option_and_then (call_with known w.0) (called_of known w.1)
 
-  call_first : (ts : List Token) → call_of known ts ≡ option_and_then called_with (word_first ts)
+  call_first : (ts : List Token) → filter_call_after_bar known ts ≡ option_and_then called_with (word_first ts)
   unfolding filters_of
   call_first [] = refl
   call_first (symbol s ∷ ts) = refl
@@ -136,12 +136,12 @@ module _ (known : Filters) where
   call_first (value (variable w no_steps) ∷ ts) = refl
   call_first (value (variable w (step x more)) ∷ ts) = refl
 
-  bar_by : (t : Token) (ts : List Token) (b : Bool) (o : Option (List Token)) → is_symbol Bar t ≡ b → cond b (Some ts) None ≡ o → filters_of known (t ∷ ts) ≡ option_and_then (call_of known) o
+  bar_by : (t : Token) (ts : List Token) (b : Bool) (o : Option (List Token)) → is_symbol Bar t ≡ b → cond b (Some ts) None ≡ o → filters_of known (t ∷ ts) ≡ option_and_then (filter_call_after_bar known) o
   unfolding filters_of
-  bar_by t ts true o e h = ap (λ (b : Bool). cond b (call_of known ts) None) e ∙ ap (option_and_then (call_of known)) h
-  bar_by t ts false o e h = ap (λ (b : Bool). cond b (call_of known ts) None) e ∙ ap (option_and_then (call_of known)) h
+  bar_by t ts true o e h = ap (λ (b : Bool). cond b (filter_call_after_bar known ts) None) e ∙ ap (option_and_then (filter_call_after_bar known)) h
+  bar_by t ts false o e h = ap (λ (b : Bool). cond b (filter_call_after_bar known ts) None) e ∙ ap (option_and_then (filter_call_after_bar known)) h
 
-  filters_first : (ts : List Token) (o : Option (List Token)) → (length ts ≡ 0 → ⊥) → past Bar ts ≡ o → filters_of known ts ≡ option_and_then (call_of known) o
+  filters_first : (ts : List Token) (o : Option (List Token)) → (length ts ≡ 0 → ⊥) → past Bar ts ≡ o → filters_of known ts ≡ option_and_then (filter_call_after_bar known) o
   filters_first [] o some h = absurd (some refl)
   filters_first (t ∷ ts) o some h = bar_by t ts (is_symbol Bar t) o refl h
 
@@ -150,10 +150,10 @@ module _ (known : Filters) where
   no_bar before ts some h = ap (filters_behind before) (filters_first ts None some h)
 
   module _ (before : List FilterCall) (all ts : List Token) (some : length all ≡ 0 → ⊥) (barred : past Bar all ≡ Some ts) where
-    at_bar : filters_of known all ≡ call_of known ts
+    at_bar : filters_of known all ≡ filter_call_after_bar known ts
     at_bar = filters_first all (Some ts) some barred
 
-    pub filter_refused : (e : ParseError) (whole : Option (List FilterCall)) → whole ≡ filters_behind before (filters_of known all) → Fails e (call_of known ts) → Fails e whole
+    pub filter_refused : (e : ParseError) (whole : Option (List FilterCall)) → whole ≡ filters_behind before (filters_of known all) → Fails e (filter_call_after_bar known ts) → Fails e whole
     unfolding filters_behind
     filter_refused errors.Memory whole g h = tt
     filter_refused (errors.Fault f) whole g h = g ∙ ap (filters_behind before) (at_bar ∙ h)
@@ -163,25 +163,25 @@ module _ (known : Filters) where
     one_left None c = refl
     one_left (Some calls) c = ap (λ cs. Some cs) (sym (append_assoc before (c ∷ []) calls))
 
-    pub one_filter : (c : FilterCall) (new : List Token) → call_of known ts ≡ option_map (λ calls. c ∷ calls) (filters_of known new) → filters_behind before (filters_of known all) ≡ filters_behind (before ++ (c ∷ [])) (filters_of known new)
+    pub one_filter : (c : FilterCall) (new : List Token) → filter_call_after_bar known ts ≡ option_map (λ calls. c ∷ calls) (filters_of known new) → filters_behind before (filters_of known all) ≡ filters_behind (before ++ (c ∷ [])) (filters_of known new)
     one_filter c new h = ap (filters_behind before) (at_bar ∙ h) ∙ one_left (filters_of known new) c
 
   -- ---- a filter behind its `|`
 
-  pub no_name : (ts : List Token) → word_first ts ≡ None → call_of known ts ≡ None
+  pub no_name : (ts : List Token) → word_first ts ≡ None → filter_call_after_bar known ts ≡ None
   no_name ts h = call_first ts ∙ ap (option_and_then called_with) h
 
   module _ (ts : List Token) (name : Text) (next : List Token) (named : word_first ts ≡ Some (name, next)) where
-    named_call : (o : Option Called) → called_of known next ≡ o → call_of known ts ≡ option_and_then (call_with known name) o
+    named_call : (o : Option Called) → called_of known next ≡ o → filter_call_after_bar known ts ≡ option_and_then (call_with known name) o
     named_call o h = call_first ts ∙ ap (option_and_then called_with) named ∙ ap (option_and_then (call_with known name)) h
 
-    pub call_refused : (e : ParseError) → Fails e (called_of known next) → Fails e (call_of known ts)
+    pub call_refused : (e : ParseError) → Fails e (called_of known next) → Fails e (filter_call_after_bar known ts)
     call_refused errors.Memory h = tt
     call_refused (errors.Fault f) h = named_call None h
 
     -- behind a filter with these arguments
     with_call : (xs : List Expression) (o : Option (List FilterCall)) (call : Option FilterCall) → accepted_call name (listed known name) xs ≡ call → called_of known next ≡ option_map (λ calls. (xs, calls)) o
-        → call_of known ts ≡ option_and_then (λ calls. option_map (λ c. c ∷ calls) call) o
+        → filter_call_after_bar known ts ≡ option_and_then (λ calls. option_map (λ c. c ∷ calls) call) o
     with_call xs None call e h = named_call None h
     with_call xs (Some calls) call e h = named_call (Some (xs, calls)) h ∙ ap (option_map (λ c. c ∷ calls)) e
 

@@ -6,7 +6,7 @@ use Rattle.std.specs.Option.{option_map}
 use Rattle.liquid_model.specs.Texts.{Text}
 use Rattle.liquid_core.specs.Expression.{Expression, literal, variable, Steps, no_steps, step}
 use Rattle.liquid_syntax.specs.Conditions.{and_word, or_word, IsOperator, equals, not_equals, less_or_greater, less, greater, less_or_equal, greater_or_equal, contains, IsAtom, bare_value, comparison, IsConjunction, one_atom, and_more, IsCondition, one_conjunction, or_more}
-use Rattle.liquid_syntax.specs.ConditionReading.{operator_of, symbol_operator, with_atom, joined, compared_or, condition_of, behind_value, behind_operator, behind_atom}
+use Rattle.liquid_syntax.specs.ConditionReading.{operator_of, symbol_operator, with_atom, atom_joined, compared_or, condition_of, behind_value, behind_operator, behind_atom}
 use Rattle.liquid_lexer.specs.Tokens.{Token, value, range, symbol, word, is_word}
 use Rattle.liquid_evaluation.specs.Tree.{Atom, bare, compared, Condition}
 use Rattle.liquid_evaluation.specs.declared.comparison.ComparisonOperator.{ComparisonOperator}
@@ -47,7 +47,7 @@ atom_again : {a : Atom} {ts : List Token} (rest : List Token) → Stops rest →
 unfolding condition_of
 atom_again rest stops (bare_value x) = stops x
 atom_again rest stops (comparison {operator = o} {t = t} x y is) =
-    ap (λ p. compared_or p (behind_operator (value y ∷ rest) x) (joined (bare x) t (condition_of (value y ∷ rest)))) (operator_again is)
+    ap (λ p. compared_or p (behind_operator (value y ∷ rest) x) (atom_joined (bare x) t (condition_of (value y ∷ rest)))) (operator_again is)
 
 -- what ends a conjunction, and the conjunctions behind it
 pub data Ends : List Token → Option Condition → Type 0 where
@@ -138,12 +138,12 @@ joined_by a t ts us c true e h go is =
     subst (λ c. IsCondition c (us ++ (t ∷ ts))) same (subst (λ t. IsCondition (with_atom a d) (us ++ (t ∷ ts))) (sym (word_is (codes "and") t e)) (with_more is (go d read)))
 joined_by a t ts us c false e h go is = or_by a t ts us c (is_word (codes "or") t) refl h go is
 
-joined_takes : (a : Atom) (t : Token) (ts us : List Token) (c : Condition) → joined a t (condition_of ts) ≡ Some c
+joined_takes : (a : Atom) (t : Token) (ts us : List Token) (c : Condition) → atom_joined a t (condition_of ts) ≡ Some c
     → ((d : Condition) → condition_of ts ≡ Some d → IsCondition d ts) → IsAtom a us → IsCondition c (us ++ (t ∷ ts))
 joined_takes a t ts us c h go is = joined_by a t ts us c (is_word (codes "and") t) refl h go is
 
 compared_by : (x : Expression) (t : Token) (ts : List Token) (c : Condition) (o : Option ComparisonOperator) → operator_of t ≡ o
-    → compared_or o (behind_operator ts x) (joined (bare x) t (condition_of ts)) ≡ Some c
+    → compared_or o (behind_operator ts x) (atom_joined (bare x) t (condition_of ts)) ≡ Some c
     → ((d : Condition) → condition_of ts ≡ Some d → IsCondition d ts)
     → ((p : ComparisonOperator) → behind_operator ts x p ≡ Some c → IsOperator p t → IsCondition c (value x ∷ t ∷ ts))
     → IsCondition c (value x ∷ t ∷ ts)

@@ -4,7 +4,7 @@ use Rattle.std.proofs.lemmas.List.{append-nil}
 use Rattle.std.specs.Option.{option_and_then, option_map}
 use Rattle.liquid_core.specs.Expression.{Expression}
 use Rattle.liquid_syntax.specs.inside.ConditionAnswers.{operator_before, operator_first, before_alternatives}
-use Rattle.liquid_syntax.specs.ConditionReading.{operator_of, with_atom, joined, compared_or, condition_of, behind_value, behind_operator, behind_atom, alternatives_of}
+use Rattle.liquid_syntax.specs.ConditionReading.{operator_of, with_atom, atom_joined, compared_or, condition_of, behind_value, behind_operator, behind_atom, alternatives_of}
 use Rattle.liquid_lexer.specs.Tokens.{Token, value, range, symbol, value_first, is_word, past_word}
 use Rattle.liquid_lexer.proofs.WordLaws.{from_some}
 use Rattle.liquid_evaluation.specs.Tree.{Atom, bare, compared, Condition}
@@ -37,7 +37,7 @@ no_left ts h = condition_first ts ∙ ap (option_and_then behind_first) h
 
 no_operator_by : (x : Expression) (t : Token) (ts : List Token) (o : Option ComparisonOperator) → operator_of t ≡ o → operator_before ts o ≡ None → behind_value (t ∷ ts) x ≡ behind_atom (t ∷ ts) (bare x)
 unfolding condition_of
-no_operator_by x t ts None e h = ap (λ o. compared_or o (behind_operator ts x) (joined (bare x) t (condition_of ts))) e
+no_operator_by x t ts None e h = ap (λ o. compared_or o (behind_operator ts x) (atom_joined (bare x) t (condition_of ts))) e
 no_operator_by x t ts (Some operator) e h = absurd cc
 
 no_operator : (x : Expression) (ts : List Token) → operator_first ts ≡ None → behind_value ts x ≡ behind_atom ts (bare x)
@@ -50,7 +50,7 @@ operator_by : (x : Expression) (t : Token) (ts rest : List Token) (operator : Co
 unfolding condition_of
 operator_by x t ts rest operator None e h = absurd cc
 operator_by x t ts rest operator (Some found) e h =
-    ap (λ o. compared_or o (behind_operator ts x) (joined (bare x) t (condition_of ts))) e ∙ ap (λ (p : ComparisonOperator × List Token). behind_operator p.1 x p.0) (from_some h)
+    ap (λ o. compared_or o (behind_operator ts x) (atom_joined (bare x) t (condition_of ts))) e ∙ ap (λ (p : ComparisonOperator × List Token). behind_operator p.1 x p.0) (from_some h)
 
 behind_left : (x : Expression) (ts rest : List Token) (operator : ComparisonOperator) → operator_first ts ≡ Some (operator, rest) → behind_value ts x ≡ behind_operator rest x operator
 behind_left x [] rest operator h = absurd cc

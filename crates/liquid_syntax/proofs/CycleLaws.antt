@@ -11,7 +11,7 @@ use Rattle.liquid_lexer.specs.Tokens.{Token, value, symbol, value_first, past}
 use Rattle.liquid_lexer.specs.declared.symbol.Symbol.TheVariants.{Colon}
 use Rattle.liquid_lexer.proofs.WordLaws.{bind_some, map_some, from_some, guard_opt}
 use Rattle.liquid_evaluation.specs.Groups.{values_group}
-use Rattle.liquid_syntax.specs.Cycles.{Cycle, with_group, grouped_of, IsName, an_identifier, a_literal, IsCycle, without_name, with_name, name_alone, is_name, has_no_steps, any_values_of, named_of, behind_first, cycle_of}
+use Rattle.liquid_syntax.specs.Cycles.{Cycle, with_group, grouped_of, IsName, an_identifier, a_literal, IsCycle, without_name, with_name, name_alone, is_cycle_name, has_no_steps, any_values_of, named_of, behind_first, cycle_of}
 use Rattle.liquid_syntax.specs.Repeated.{AreRepeated, no_more, one_more}
 use Rattle.liquid_syntax.specs.ValueLists.{a_comma, IsFurther, a_further, IsValuesEnd, no_value, a_last_comma, AreValues, some_values, further_of}
 use Rattle.liquid_syntax.specs.declared.value_items.Separators.TheVariants.{Commas}
@@ -24,11 +24,11 @@ no_steps_is : (w : Text) (steps : Steps) → has_no_steps steps ≡ true → IsN
 no_steps_is w no_steps h = an_identifier w
 no_steps_is w (step x more) h = absurd cc
 
-name_is : (x : Expression) → is_name x ≡ true → IsName x
+name_is : (x : Expression) → is_cycle_name x ≡ true → IsName x
 name_is (literal d) h = a_literal d
 name_is (variable w steps) h = no_steps_is w steps h
 
-name_again : (x : Expression) → IsName x → is_name x ≡ true
+name_again : (x : Expression) → IsName x → is_cycle_name x ≡ true
 name_again x (an_identifier w) = refl
 name_again x (a_literal d) = refl
 
@@ -40,8 +40,8 @@ steps_seen [] b without with_some = without refl
 steps_seen (x ∷ xs) b without with_some = with_some (λ e. absurd (omega (arith, e)))
 
 -- the code asks whether there are steps
-pub name_seen : (x : code.Expression) (v : declared.Variable) (b : Bool) → x ≡ Variable v → (length v.indexes.items ≡ 0 → b ≡ true) → ((length v.indexes.items ≡ 0 → ⊥) → b ≡ false) → b ≡ is_name (expression_view x)
-name_seen x v b is without with_some = steps_seen v.indexes.items b without with_some ∙ sym (ap (λ y. is_name (expression_view y)) is ∙ ap is_name (variable_seen v))
+pub name_seen : (x : code.Expression) (v : declared.Variable) (b : Bool) → x ≡ Variable v → (length v.indexes.items ≡ 0 → b ≡ true) → ((length v.indexes.items ≡ 0 → ⊥) → b ≡ false) → b ≡ is_cycle_name (expression_view x)
+name_seen x v b is without with_some = steps_seen v.indexes.items b without with_some ∙ sym (ap (λ y. is_cycle_name (expression_view y)) is ∙ ap is_cycle_name (variable_seen v))
 
 -- ---- what is read is a cycle
 
@@ -51,7 +51,7 @@ any_values_take name (t ∷ ts) xs is h = with_name is (values_takes Commas xs (
 
 named_takes : (name : Expression) (ts : List Token) (c : Cycle) → named_of name ts ≡ Some c → IsCycle c.0 c.1 (value name ∷ symbol Colon ∷ ts)
 named_takes name ts c h =
-    let (named, made) = guard_opt (is_name name) (option_map (λ xs. (Some name, xs)) (any_values_of ts)) c h in
+    let (named, made) = guard_opt (is_cycle_name name) (option_map (λ xs. (Some name, xs)) (any_values_of ts)) c h in
     let (xs, read, same) = map_some (any_values_of ts) (λ xs. (Some name, xs)) c made in
     subst (λ (c : Cycle). IsCycle c.0 c.1 (value name ∷ symbol Colon ∷ ts)) same (any_values_take name ts xs (name_is name named) read)
 

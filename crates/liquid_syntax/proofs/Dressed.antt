@@ -1,7 +1,7 @@
 -- A list whose ends nest is that of a tree.
 use Rattle.std.proofs.Common.{◌≡◌, ℕ, suc, ◌+◌, List, [], ◌∷◌, ◌++◌, map, refl, sym, ap, ◌∙◌}
 use Rattle.std.proofs.lemmas.List.{map-append}
-use Rattle.liquid_syntax.specs.Forest.{Forest, Bodies, empty, node, no_bodies, body, size, sizes}
+use Rattle.liquid_syntax.specs.Forest.{Forest, Bodies, empty, node, no_bodies, body, forest_size, sizes}
 use Rattle.liquid_syntax.specs.Laid.{Flat, ends_of, laid, laid_bodies, tree_of}
 use Rattle.liquid_syntax.proofs.Round.{tree_of-laid}
 use Rattle.liquid_syntax.specs.Nested.{ends_in, with_ends, AreNested}
@@ -25,7 +25,7 @@ split_map f (x ∷ xs) (y ∷ ys) zs h =
 mutual
   unfolding undressed undress
 
-  dress : {A : Type 0} (k : ℕ) (g : Forest (Unit {0})) (xs : List (Flat A)) → undress xs ≡ laid k g → (f : Forest A) × (xs ≡ laid k f) × (size f ≡ size g)
+  dress : {A : Type 0} (k : ℕ) (g : Forest (Unit {0})) (xs : List (Flat A)) → undress xs ≡ laid k g → (f : Forest A) × (xs ≡ laid k f) × (forest_size f ≡ forest_size g)
   dress k empty [] h = (empty, refl, refl)
   dress k empty (x ∷ xs) h = absurd cc
   dress k (node u bs rest) [] h = absurd cc
@@ -39,21 +39,21 @@ mutual
       let here : vs ≡ laid (k + 1 + sizes cs) f = after ∙ ap (λ n. laid (k + 1 + n) f) (sym long) in (
         node x.head cs f,
         ap (λ l. x ∷ l) (parts ∙ ap (λ l. l ++ vs) inner ∙ ap (λ l. laid_bodies (k + 1) cs ++ l) here) ∙ ap (λ y. y ∷ (laid_bodies (k + 1) cs ++ laid (k + 1 + sizes cs) f)) is,
-        ap suc (ap (λ n. n + size f) long ∙ ap (λ n. sizes bs + n) more),
+        ap suc (ap (λ n. n + forest_size f) long ∙ ap (λ n. sizes bs + n) more),
       )
 
   dress_bodies : {A : Type 0} (k : ℕ) (bs : Bodies (Unit {0})) (xs : List (Flat A)) → undress xs ≡ laid_bodies k bs → (cs : Bodies A) × (xs ≡ laid_bodies k cs) × (sizes cs ≡ sizes bs) × (ends_of k cs ≡ ends_of k bs)
   dress_bodies k no_bodies [] h = (no_bodies, refl, refl, refl)
   dress_bodies k no_bodies (x ∷ xs) h = absurd cc
   dress_bodies k (body g bs) xs h =
-      let (us, vs, parts, first, second) = split_map undressed xs (laid k g) (laid_bodies (k + size g) bs) h in
+      let (us, vs, parts, first, second) = split_map undressed xs (laid k g) (laid_bodies (k + forest_size g) bs) h in
       let (f, inner, long) = dress k g us first in
-      let (cs, after, more, ends) = dress_bodies (k + size g) bs vs second in
-      let here : vs ≡ laid_bodies (k + size f) cs = after ∙ ap (λ n. laid_bodies (k + n) cs) (sym long) in (
+      let (cs, after, more, ends) = dress_bodies (k + forest_size g) bs vs second in
+      let here : vs ≡ laid_bodies (k + forest_size f) cs = after ∙ ap (λ n. laid_bodies (k + n) cs) (sym long) in (
         body f cs,
         parts ∙ ap (λ l. l ++ vs) inner ∙ ap (λ l. laid k f ++ l) here,
-        ap (λ n. n + sizes cs) long ∙ ap (λ n. size g + n) more,
-        ap (λ n. (k + n) ∷ ends_of (k + n) cs) long ∙ ap (λ l. (k + size g) ∷ l) ends,
+        ap (λ n. n + sizes cs) long ∙ ap (λ n. forest_size g + n) more,
+        ap (λ n. (k + n) ∷ ends_of (k + n) cs) long ∙ ap (λ l. (k + forest_size g) ∷ l) ends,
       )
 
 with_ends_in : {A : Type 0} (xs : List (Flat A)) → map with_ends (ends_in xs) ≡ undress xs
@@ -89,18 +89,18 @@ mutual
 mutual
   unfolding strip
 
-  size_strip : {A : Type 0} (f : Forest A) → size (strip f) ≡ size f
+  size_strip : {A : Type 0} (f : Forest A) → forest_size (strip f) ≡ forest_size f
   size_strip empty = refl
-  size_strip (node h bs rest) = ap suc (ap (λ n. n + size (strip rest)) (sizes_strip bs) ∙ ap (λ n. sizes bs + n) (size_strip rest))
+  size_strip (node h bs rest) = ap suc (ap (λ n. n + forest_size (strip rest)) (sizes_strip bs) ∙ ap (λ n. sizes bs + n) (size_strip rest))
 
   sizes_strip : {A : Type 0} (bs : Bodies A) → sizes (strip_bodies bs) ≡ sizes bs
   sizes_strip no_bodies = refl
-  sizes_strip (body f bs) = ap (λ n. n + sizes (strip_bodies bs)) (size_strip f) ∙ ap (λ n. size f + n) (sizes_strip bs)
+  sizes_strip (body f bs) = ap (λ n. n + sizes (strip_bodies bs)) (size_strip f) ∙ ap (λ n. forest_size f + n) (sizes_strip bs)
 
 ends_strip : {A : Type 0} (k : ℕ) (bs : Bodies A) → ends_of k (strip_bodies bs) ≡ ends_of k bs
 unfolding strip
 ends_strip k no_bodies = refl
-ends_strip k (body f bs) = ap (λ n. (k + n) ∷ ends_of (k + n) (strip_bodies bs)) (size_strip f) ∙ ap (λ l. (k + size f) ∷ l) (ends_strip (k + size f) bs)
+ends_strip k (body f bs) = ap (λ n. (k + n) ∷ ends_of (k + n) (strip_bodies bs)) (size_strip f) ∙ ap (λ l. (k + forest_size f) ∷ l) (ends_strip (k + forest_size f) bs)
 
 mutual
   unfolding strip undressed undress
@@ -116,8 +116,8 @@ mutual
   laid_bodies_strip : {A : Type 0} (k : ℕ) (bs : Bodies A) → undress (laid_bodies k bs) ≡ laid_bodies k (strip_bodies bs)
   laid_bodies_strip k no_bodies = refl
   laid_bodies_strip k (body f bs) =
-      let here : undress (laid_bodies (k + size f) bs) ≡ laid_bodies (k + size (strip f)) (strip_bodies bs) = laid_bodies_strip (k + size f) bs ∙ ap (λ n. laid_bodies (k + n) (strip_bodies bs)) (sym (size_strip f)) in
-      map-append undressed (laid k f) (laid_bodies (k + size f) bs) ∙ ap (λ l. l ++ undress (laid_bodies (k + size f) bs)) (laid_strip k f) ∙ ap (λ l. laid k (strip f) ++ l) here
+      let here : undress (laid_bodies (k + forest_size f) bs) ≡ laid_bodies (k + forest_size (strip f)) (strip_bodies bs) = laid_bodies_strip (k + forest_size f) bs ∙ ap (λ n. laid_bodies (k + n) (strip_bodies bs)) (sym (size_strip f)) in
+      map-append undressed (laid k f) (laid_bodies (k + forest_size f) bs) ∙ ap (λ l. l ++ undress (laid_bodies (k + forest_size f) bs)) (laid_strip k f) ∙ ap (λ l. laid k (strip f) ++ l) here
 
 ends_undressed : {A : Type 0} (xs : List (Flat A)) → ends_in (undress xs) ≡ ends_in xs
 unfolding undressed undress

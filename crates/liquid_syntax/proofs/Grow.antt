@@ -5,11 +5,11 @@ use Rattle.std.specs.Prelude.{slice_set, slice_get}
 use Rattle.std.proofs.Math.Seq.{set-append_seam, get_or-append_seam}
 use Rattle.std.proofs.lemmas.Option.{slice_get-get_or}
 use Rattle.liquid_syntax.specs.Flats.{Maker, nodes_of, bodies_of}
-use Rattle.liquid_syntax.specs.Forest.{Forest, Bodies, empty, node, no_bodies, body, size, sizes}
+use Rattle.liquid_syntax.specs.Forest.{Forest, Bodies, empty, node, no_bodies, body, forest_size, sizes}
 use Rattle.liquid_syntax.specs.Laid.{Flat, ends_of, laid, laid_bodies}
 use Rattle.liquid_syntax.proofs.Round as round
 use Rattle.liquid_syntax.proofs.Round.{length-laid, length-laid_bodies}
-use Rattle.liquid_syntax.specs.OpenBlocks.{append, Reading, last, first, unkept, armed, begun, to_when, context_in, ended, Level, level, context_of, depth, State, with_node, to_else}
+use Rattle.liquid_syntax.specs.OpenBlocks.{append, Reading, last, first, unkept, armed, begun, to_when, context_in, ended, Level, level, context_of, block_depth, State, with_node, to_else}
 use Rattle.liquid_evaluation.specs.Tree as tree
 use Rattle.liquid_evaluation.specs.Tree.{Nodes, no_nodes, Whens, no_whens, when}
 use Rattle.liquid_syntax.specs.Flats.{case_flat, flat_of, flats, with_arms}
@@ -37,13 +37,13 @@ nodes_append : (f g : Trees) → nodes_of (round.append f g) ≡ append (nodes_o
 nodes_append empty g = refl
 nodes_append (node make bs rest) g = ap (tree.node (make (bodies_of bs))) (nodes_append rest g)
 
-laid-append : (k : ℕ) (f g : Trees) → laid k (round.append f g) ≡ laid k f ++ laid (k + size f) g
+laid-append : (k : ℕ) (f g : Trees) → laid k (round.append f g) ≡ laid k f ++ laid (k + forest_size f) g
 laid-append k empty g = let e : k ≡ k + 0 = omega arith in ap (λ n. laid n g) e
 laid-append k (node h bs rest) g =
     let x : Flat Maker = record { head = h; ends = ends_of (k + 1) bs } in
-    let e : k + 1 + sizes bs + size rest ≡ k + suc (sizes bs + size rest) = omega arith in
+    let e : k + 1 + sizes bs + forest_size rest ≡ k + suc (sizes bs + forest_size rest) = omega arith in
     ap (λ l. x ∷ (laid_bodies (k + 1) bs ++ l)) (laid-append (k + 1 + sizes bs) rest g ∙ ap (λ n. laid (k + 1 + sizes bs) rest ++ laid n g) e)
-    ∙ ap (λ l. x ∷ l) (sym (append_assoc (laid_bodies (k + 1) bs) (laid (k + 1 + sizes bs) rest) (laid (k + suc (sizes bs + size rest)) g)))
+    ∙ ap (λ l. x ∷ l) (sym (append_assoc (laid_bodies (k + 1) bs) (laid (k + 1 + sizes bs) rest) (laid (k + suc (sizes bs + forest_size rest)) g)))
 
 -- one more body
 with_body : Bodies Maker → Trees → Bodies Maker
@@ -55,20 +55,20 @@ unfolding with_body
 bodies_with no_bodies f = refl
 bodies_with (body g bs) f = ap (λ l. nodes_of g ∷ l) (bodies_with bs f)
 
-ends_with : (k : ℕ) (bs : Bodies Maker) (f : Trees) → ends_of k (with_body bs f) ≡ ends_of k bs ++ (k + sizes bs + size f) ∷ []
+ends_with : (k : ℕ) (bs : Bodies Maker) (f : Trees) → ends_of k (with_body bs f) ≡ ends_of k bs ++ (k + sizes bs + forest_size f) ∷ []
 unfolding with_body
-ends_with k no_bodies f = let e : k + size f ≡ k + 0 + size f = omega arith in ap (λ n. n ∷ []) e
+ends_with k no_bodies f = let e : k + forest_size f ≡ k + 0 + forest_size f = omega arith in ap (λ n. n ∷ []) e
 ends_with k (body g bs) f =
-    let e : k + size g + sizes bs + size f ≡ k + (size g + sizes bs) + size f = omega arith in
-    ap (λ l. (k + size g) ∷ l) (ends_with (k + size g) bs f ∙ ap (λ n. ends_of (k + size g) bs ++ n ∷ []) e)
+    let e : k + forest_size g + sizes bs + forest_size f ≡ k + (forest_size g + sizes bs) + forest_size f = omega arith in
+    ap (λ l. (k + forest_size g) ∷ l) (ends_with (k + forest_size g) bs f ∙ ap (λ n. ends_of (k + forest_size g) bs ++ n ∷ []) e)
 
 laid_with : (k : ℕ) (bs : Bodies Maker) (f : Trees) → laid_bodies k (with_body bs f) ≡ laid_bodies k bs ++ laid (k + sizes bs) f
 unfolding with_body
 laid_with k no_bodies f = let e : k ≡ k + 0 = omega arith in append-nil (laid k f) ∙ ap (λ n. laid n f) e
 laid_with k (body g bs) f =
-    let e : k + size g + sizes bs ≡ k + (size g + sizes bs) = omega arith in
-    ap (λ l. laid k g ++ l) (laid_with (k + size g) bs f ∙ ap (λ n. laid_bodies (k + size g) bs ++ laid n f) e)
-    ∙ sym (append_assoc (laid k g) (laid_bodies (k + size g) bs) (laid (k + (size g + sizes bs)) f))
+    let e : k + forest_size g + sizes bs ≡ k + (forest_size g + sizes bs) = omega arith in
+    ap (λ l. laid k g ++ l) (laid_with (k + forest_size g) bs f ∙ ap (λ n. laid_bodies (k + forest_size g) bs ++ laid n f) e)
+    ∙ sym (append_assoc (laid k g) (laid_bodies (k + forest_size g) bs) (laid (k + (forest_size g + sizes bs)) f))
 
 pub set_last_seam : (e : ℕ) (xs : List ℕ) (z : ℕ) → set_last e (xs ++ z ∷ []) ≡ xs ++ e ∷ []
 set_last_seam e [] z = refl
@@ -83,7 +83,7 @@ set_before_seam e (x ∷ v ∷ u ∷ xs) y z = ap (λ l. x ∷ l) (set_before_se
 
 ends_count : (k : ℕ) (bs : Bodies Maker) → length (ends_of k bs) ≡ length (bodies_of bs)
 ends_count k no_bodies = refl
-ends_count k (body f bs) = omega (arith, ends_count (k + size f) bs)
+ends_count k (body f bs) = omega (arith, ends_count (k + forest_size f) bs)
 
 -- ---- the `when` parts of a `case`
 
@@ -107,10 +107,10 @@ take_seam (y ∷ pre) x rest = ap (λ l. y ∷ l) (take_seam pre x rest)
 -- ---- the list
 
 -- the length so far
-level-length : (pre : Flats) (x : Flat Maker) (bs : Bodies Maker) (c : Trees) (ns : Flats) → ns ≡ pre ++ x ∷ (laid_bodies (length pre + 1) bs ++ laid (length pre + 1 + sizes bs) c) → length ns ≡ length pre + 1 + sizes bs + size c
+level-length : (pre : Flats) (x : Flat Maker) (bs : Bodies Maker) (c : Trees) (ns : Flats) → ns ≡ pre ++ x ∷ (laid_bodies (length pre + 1) bs ++ laid (length pre + 1 + sizes bs) c) → length ns ≡ length pre + 1 + sizes bs + forest_size c
 level-length pre x bs c ns e =
     let inner = laid_bodies (length pre + 1) bs ++ laid (length pre + 1 + sizes bs) c in
-    let a : length inner ≡ sizes bs + size c =
+    let a : length inner ≡ sizes bs + forest_size c =
     length-append (laid_bodies (length pre + 1) bs) (laid (length pre + 1 + sizes bs) c)
     ∙ ap (λ n. n + length (laid (length pre + 1 + sizes bs) c)) (length-laid_bodies (length pre + 1) bs)
     ∙ ap (λ n. sizes bs + n) (length-laid (length pre + 1 + sizes bs) c) in
@@ -120,10 +120,10 @@ level-length pre x bs c ns e =
 -- more nodes of the innermost list
 grow : (ns : Flats) (os : List Open) (ls : List Level) (cur : Nodes) (g : Trees) → Builds ns os ls cur → Builds (ns ++ laid (length ns) g) os ls (append cur (nodes_of g))
 grow ns [] [] cur g (c, is, e) =
-    let long : length ns ≡ 0 + size c = let z : size c ≡ 0 + size c = omega arith in ap length e ∙ length-laid 0 c ∙ z in (
+    let long : length ns ≡ 0 + forest_size c = let z : forest_size c ≡ 0 + forest_size c = omega arith in ap length e ∙ length-laid 0 c ∙ z in (
       round.append c g,
       ap (λ f. append f (nodes_of g)) is ∙ sym (nodes_append c g),
-      ap (λ n. ns ++ laid n g) long ∙ ap (λ l. l ++ laid (0 + size c) g) e ∙ sym (laid-append 0 c g),
+      ap (λ n. ns ++ laid n g) long ∙ ap (λ l. l ++ laid (0 + forest_size c) g) e ∙ sym (laid-append 0 c g),
     )
 grow ns [] (l ∷ ls) cur g b = absurd b
 grow ns (o ∷ os) [] cur g b = absurd b
@@ -132,9 +132,9 @@ grow ns (o ∷ os) (level r f ch ∷ ls) cur g (pre, x, bs, c, is, at, chained, 
     let lb = laid_bodies (length pre + 1) bs in
     let all : ns ++ laid (length ns) g ≡ pre ++ x ∷ (lb ++ laid k (round.append c g)) =
     ap (λ n. ns ++ laid n g) (level-length pre x bs c ns e)
-    ∙ ap (λ m. m ++ laid (k + size c) g) e
-    ∙ append_assoc pre (x ∷ (lb ++ laid k c)) (laid (k + size c) g)
-    ∙ ap (λ m. pre ++ x ∷ m) (append_assoc lb (laid k c) (laid (k + size c) g))
+    ∙ ap (λ m. m ++ laid (k + forest_size c) g) e
+    ∙ append_assoc pre (x ∷ (lb ++ laid k c)) (laid (k + forest_size c) g)
+    ∙ ap (λ m. pre ++ x ∷ m) (append_assoc lb (laid k c) (laid (k + forest_size c) g))
     ∙ ap (λ m. pre ++ x ∷ (lb ++ m)) (sym (laid-append k c g)) in
     (pre, x, bs, round.append c g, ap (λ f. append f (nodes_of g)) is ∙ sym (nodes_append c g), at, chained, fits, all, below)
 
@@ -170,8 +170,8 @@ otherwise : (ns ms : Flats) (o p : Open) (os : List Open) (b : Block) (make : No
 otherwise ns ms o p os b make f k ls cur old y set was is at ch bl st (pre, x, bs, c, is_c, at', chained, (stage, block, nob, (y1, z1, ends), makes), e, below) =
     let n = length pre + 1 in
     let e0 : ns ≡ pre ++ x ∷ laid (n + 0) c = e ∙ ap (λ (bs : Bodies Maker). pre ++ x ∷ (laid_bodies n bs ++ laid (n + sizes bs) c)) nob in
-    let long : length ns ≡ n + size c = omega (arith, level-length pre x no_bodies c ns e0) in
-    let new : Flat Maker = record { head = x.head; ends = (n + size c) ∷ z1 ∷ [] } in
+    let long : length ns ≡ n + forest_size c = omega (arith, level-length pre x no_bodies c ns e0) in
+    let new : Flat Maker = record { head = x.head; ends = (n + forest_size c) ∷ z1 ∷ [] } in
     let old_is : old ≡ x = there pre x (laid (n + 0) c) ns o.node_index old at' e0 was in
     let new_is : y ≡ new =
     is ∙ ap (before_last_ended (length ns)) old_is ∙ ap (λ (es : List ℕ). record { head = x.head; ends = set_before_last (length ns) es }) ends ∙ ap (λ (l : ℕ). record { head = x.head; ends = l ∷ z1 ∷ [] }) long in
@@ -198,7 +198,7 @@ close_last : (ns ms : Flats) (o : Open) (os : List Open) (b : Block) (make : Nod
 close_last ns ms o os b make f k ls cur old y set was is (pre, x, bs, c, is_c, at, chained, (stage, block, (z, ends), makes), e, below) =
     let n = length pre + 1 in
     let cs = with_body bs c in
-    let long : length ns ≡ n + sizes bs + size c = level-length pre x bs c ns e in
+    let long : length ns ≡ n + sizes bs + forest_size c = level-length pre x bs c ns e in
     let rest = laid_bodies n bs ++ laid (n + sizes bs) c in
     let new : Flat Maker = record { head = x.head; ends = ends_of n cs } in
     let old_is : old ≡ x = there pre x rest ns o.node_index old at e was in
@@ -232,7 +232,7 @@ unfolding Pauses
 armed_pauses ns ms o os b make f k ls cur (old, was, set) (pre, x, bs, c, is_c, at, chained, (stage, block, t, vss, vs, y, z, count, x_is, makes), e, below) =
     let n = length pre + 1 in
     let cs = with_body bs c in
-    let long : length ns ≡ n + sizes bs + size c = level-length pre x bs c ns e in
+    let long : length ns ≡ n + sizes bs + forest_size c = level-length pre x bs c ns e in
     let rest = laid_bodies n bs ++ laid (n + sizes bs) c in
     let new : Flat Maker = case_flat t (vss ++ vs ∷ []) (ends_of n cs) z in
     let old_is : old ≡ x = there pre x rest ns o.node_index old at e was in
@@ -330,7 +330,7 @@ context_is ns xs ls cur b = ap (λ l. context_at (slice_get l (length l - 1))) (
 pub record Goes (ms : Flats) (os : List Open) (ls : List Level) (cur : Nodes) (s : State) : Type 0 where
   pub read : to_else ls cur ≡ Some s
   pub built : Builds ms os s.0 s.1
-  pub deep : depth ls ≡ depth s.0
+  pub deep : block_depth ls ≡ block_depth s.0
 
 else_by : (ns ms : Flats) (o p : Open) (os : List Open) → BodyEnded o.stage o.node_index ns ms → takes_else o.stage ≡ true
     → p.node_index ≡ o.node_index → p.chained ≡ o.chained → p.block ≡ o.block → p.stage ≡ Last
@@ -368,7 +368,7 @@ else_by ns ms o p os done takes at ch bl st (level (armed b make) f k ∷ ls) cu
 
 pub else_on : (ns ms : Flats) (all rest now : List Open) (o p : Open) → all ≡ rest ++ o ∷ [] → now ≡ rest ++ p ∷ [] → BodyEnded o.stage o.node_index ns ms → takes_else o.stage ≡ true
     → p.node_index ≡ o.node_index → p.chained ≡ o.chained → p.block ≡ o.block → p.stage ≡ Last
-    → (ls : List Level) (cur : Nodes) → Builds ns (reverse all) ls cur → (s : State) × (to_else ls cur ≡ Some s) × Builds ms (reverse now) s.0 s.1 × (depth ls ≡ depth s.0)
+    → (ls : List Level) (cur : Nodes) → Builds ns (reverse all) ls cur → (s : State) × (to_else ls cur ≡ Some s) × Builds ms (reverse now) s.0 s.1 × (block_depth ls ≡ block_depth s.0)
 else_on ns ms all rest now o p e e2 done takes at ch bl st ls cur h =
     let h' = subst (λ os. Builds ns os ls cur) (ap reverse e ∙ reverse-last rest o) h in
     let r = else_by ns ms o p (reverse rest) done takes at ch bl st ls cur h' in
@@ -378,7 +378,7 @@ else_on ns ms all rest now o p e e2 done takes at ch bl st ls cur h =
 when_by : (ns mid ms : Flats) (o p : Open) (os : List Open) (vs : List Expression) (old y : Flat Maker) → BodyEnded o.stage o.node_index ns mid → takes_when o.stage ≡ true
     → ms ≡ slice_set mid o.node_index y → old ≡ get_or mid o.node_index old → IsAdded vs old y
     → p.node_index ≡ o.node_index → p.chained ≡ o.chained → p.block ≡ o.block → p.stage ≡ Armed
-    → (ls : List Level) (cur : Nodes) → Builds ns (o ∷ os) ls cur → (s : State) × (to_when vs ls cur ≡ Some s) × Builds ms (p ∷ os) s.0 s.1 × (depth ls ≡ depth s.0)
+    → (ls : List Level) (cur : Nodes) → Builds ns (o ∷ os) ls cur → (s : State) × (to_when vs ls cur ≡ Some s) × Builds ms (p ∷ os) s.0 s.1 × (block_depth ls ≡ block_depth s.0)
 when_by ns mid ms o p os vs old y done takes set was added at ch bl st [] cur h = absurd h
 when_by ns mid ms o p os vs old y done takes set was added at ch bl st (level (last b make) f k ∷ ls) cur h =
     let no : false ≡ true = subst (λ (s : Stage). takes_when s ≡ true) h.7.0 takes in absurd cc
@@ -402,7 +402,7 @@ when_by ns mid ms o p os vs old y done takes set was added at ch bl st (level (a
 pub when_on : (ns mid ms : Flats) (all rest now : List Open) (o p : Open) (vs : List Expression) (old y : Flat Maker) → all ≡ rest ++ o ∷ [] → now ≡ rest ++ p ∷ [] → BodyEnded o.stage o.node_index ns mid → takes_when o.stage ≡ true
     → ms ≡ slice_set mid o.node_index y → old ≡ get_or mid o.node_index old → IsAdded vs old y
     → p.node_index ≡ o.node_index → p.chained ≡ o.chained → p.block ≡ o.block → p.stage ≡ Armed
-    → (ls : List Level) (cur : Nodes) → Builds ns (reverse all) ls cur → (s : State) × (to_when vs ls cur ≡ Some s) × Builds ms (reverse now) s.0 s.1 × (depth ls ≡ depth s.0)
+    → (ls : List Level) (cur : Nodes) → Builds ns (reverse all) ls cur → (s : State) × (to_when vs ls cur ≡ Some s) × Builds ms (reverse now) s.0 s.1 × (block_depth ls ≡ block_depth s.0)
 when_on ns mid ms all rest now o p vs old y e e2 done takes set was added at ch bl st ls cur h =
     let h' = subst (λ os. Builds ns os ls cur) (ap reverse e ∙ reverse-last rest o) h in
     let r = when_by ns mid ms o p (reverse rest) vs old y done takes set was added at ch bl st ls cur h' in

@@ -11,8 +11,8 @@ use Rattle.liquid_lexer.specs.declared.symbol.Symbol.{Symbol}
 use Rattle.liquid_lexer.specs.declared.symbol.Symbol.TheVariants.{Colon, Comma}
 use Rattle.liquid_lexer.proofs.WordLaws.{bind_some, map_some, from_some}
 use Rattle.liquid_evaluation.specs.Tree.{Bindings, Source, each_of, counted}
-use Rattle.liquid_syntax.specs.Bound.{ArePairs, IsOneOf, IsPair, IsPairsEnd, a_pair, any_item, behind_comma, ends_pairs, is_separated, last_comma, mark_of, no_item, one_first, pair_first, pairs_of, past_comma, unseparated}
-use Rattle.liquid_syntax.specs.Loops.{source_token, source_of, source_first, Part, limit_is, offset_is, cols_is, is_reversed, IsPart, a_limit, an_offset, a_reversal, a_width, Parts, no_parts, with_parts, with_part, IsNothing, is_nothing, Head, head_with, IsLoop, a_loop, part_value, or_else, own_part, part_first, parts_of, parts_after, loop_of}
+use Rattle.liquid_syntax.specs.Bound.{ArePairs, IsOneOf, IsPair, IsPairsEnd, a_pair, any_item, behind_comma, ends_pairs, is_separated, last_comma, mark_of, no_item, one_first, pair_first, bound_pairs, past_comma, unseparated}
+use Rattle.liquid_syntax.specs.Loops.{source_token, source_of, source_first, Part, limit_is, offset_is, cols_is, is_reversed, IsLoopPart, a_limit, an_offset, a_reversal, a_width, Parts, no_parts, with_parts, with_part, IsNothing, is_nothing, Head, head_with, IsLoop, a_loop, part_value, read_or_else, own_part, part_first, parts_of, parts_after, loop_of}
 use Rattle.liquid_syntax.specs.Repeated.{AreRepeated}
 use Rattle.liquid_syntax.specs.ValueLists.{IsSeparator, a_comma, an_or, IsFurther, a_further, IsValuesEnd, no_value, a_last_comma, AreValues, some_values, is_separator, past_separator, further_first, ends_values, further_of, values_of}
 use Rattle.liquid_syntax.specs.declared.loop_items.LoopTag.{LoopTag}
@@ -102,40 +102,40 @@ part_value_is make ts p rest h =
     let (x, front, same) = map_some (value_first mid) (λ x. (make x.0, x.1)) (p, rest) more in
     (x.0, past_is Colon ts mid behind ∙ ap (λ (ts : List Token). symbol Colon ∷ ts) (first_value mid x.0 x.1 front) ∙ ap (λ (y : Part × List Token). symbol Colon ∷ value x.0 ∷ y.1) same, ap (λ (y : Part × List Token). y.0) same)
 
-valued_takes : (k : LoopTag) (w : Text) (make : Expression → Part) (rule : (x : Expression) → IsPart k (make x) (word w ∷ symbol Colon ∷ value x ∷ [])) (ts mid : List Token) (p : Part) (rest : List Token)
-    → past_word w ts ≡ Some mid → part_value make mid ≡ Some (p, rest) → (us : List Token) × (ts ≡ us ++ rest) × IsPart k p us
+valued_takes : (k : LoopTag) (w : Text) (make : Expression → Part) (rule : (x : Expression) → IsLoopPart k (make x) (word w ∷ symbol Colon ∷ value x ∷ [])) (ts mid : List Token) (p : Part) (rest : List Token)
+    → past_word w ts ≡ Some mid → part_value make mid ≡ Some (p, rest) → (us : List Token) × (ts ≡ us ++ rest) × IsLoopPart k p us
 valued_takes k w make rule ts mid p rest e h =
     let (x, cut, same) = part_value_is make mid p rest h in
-    (word w ∷ symbol Colon ∷ value x ∷ [], past_word_is w ts mid e ∙ ap (λ (ts : List Token). word w ∷ ts) cut, subst (λ (p : Part). IsPart k p (word w ∷ symbol Colon ∷ value x ∷ [])) same (rule x))
+    (word w ∷ symbol Colon ∷ value x ∷ [], past_word_is w ts mid e ∙ ap (λ (ts : List Token). word w ∷ ts) cut, subst (λ (p : Part). IsLoopPart k p (word w ∷ symbol Colon ∷ value x ∷ [])) same (rule x))
 
-own_takes : (k : LoopTag) (ts : List Token) (p : Part) (rest : List Token) → own_part k ts ≡ Some (p, rest) → (us : List Token) × (ts ≡ us ++ rest) × IsPart k p us
+own_takes : (k : LoopTag) (ts : List Token) (p : Part) (rest : List Token) → own_part k ts ≡ Some (p, rest) → (us : List Token) × (ts ≡ us ++ rest) × IsLoopPart k p us
 own_takes Each ts p rest h =
     let (mid, front, same) = map_some (past_word (codes "reversed") ts) (λ rest. (is_reversed, rest)) (p, rest) h in
     let is : is_reversed ≡ p = ap (λ (y : Part × List Token). y.0) same in
-    (word (codes "reversed") ∷ [], past_word_is (codes "reversed") ts mid front ∙ ap (λ (y : Part × List Token). word (codes "reversed") ∷ y.1) same, subst (λ (p : Part). IsPart Each p (word (codes "reversed") ∷ [])) is a_reversal)
+    (word (codes "reversed") ∷ [], past_word_is (codes "reversed") ts mid front ∙ ap (λ (y : Part × List Token). word (codes "reversed") ∷ y.1) same, subst (λ (p : Part). IsLoopPart Each p (word (codes "reversed") ∷ [])) is a_reversal)
 own_takes Rows ts p rest h =
     let (mid, front, more) = bind_some (past_word (codes "cols") ts) (part_value cols_is) (p, rest) h in
     valued_takes Rows (codes "cols") cols_is (λ x. a_width x) ts mid p rest front more
 
-offset_takes : (k : LoopTag) (ts : List Token) (p : Part) (rest : List Token) (o : Option (List Token)) → past_word (codes "offset") ts ≡ o → or_else o (part_value offset_is) (own_part k ts) ≡ Some (p, rest) → (us : List Token) × (ts ≡ us ++ rest) × IsPart k p us
+offset_takes : (k : LoopTag) (ts : List Token) (p : Part) (rest : List Token) (o : Option (List Token)) → past_word (codes "offset") ts ≡ o → read_or_else o (part_value offset_is) (own_part k ts) ≡ Some (p, rest) → (us : List Token) × (ts ≡ us ++ rest) × IsLoopPart k p us
 offset_takes k ts p rest None e h = own_takes k ts p rest h
 offset_takes k ts p rest (Some mid) e h = valued_takes k (codes "offset") offset_is (λ x. an_offset x) ts mid p rest e h
 
 limit_takes : (k : LoopTag) (ts : List Token) (p : Part) (rest : List Token) (o : Option (List Token)) → past_word (codes "limit") ts ≡ o
-    → or_else o (part_value limit_is) (or_else (past_word (codes "offset") ts) (part_value offset_is) (own_part k ts)) ≡ Some (p, rest) → (us : List Token) × (ts ≡ us ++ rest) × IsPart k p us
+    → read_or_else o (part_value limit_is) (read_or_else (past_word (codes "offset") ts) (part_value offset_is) (own_part k ts)) ≡ Some (p, rest) → (us : List Token) × (ts ≡ us ++ rest) × IsLoopPart k p us
 limit_takes k ts p rest None e h = offset_takes k ts p rest (past_word (codes "offset") ts) refl h
 limit_takes k ts p rest (Some mid) e h = valued_takes k (codes "limit") limit_is (λ x. a_limit x) ts mid p rest e h
 
-part_takes : (k : LoopTag) (ts : List Token) (p : Part) (rest : List Token) → part_first k ts ≡ Some (p, rest) → (us : List Token) × (ts ≡ us ++ rest) × IsPart k p us
+part_takes : (k : LoopTag) (ts : List Token) (p : Part) (rest : List Token) → part_first k ts ≡ Some (p, rest) → (us : List Token) × (ts ≡ us ++ rest) × IsLoopPart k p us
 part_takes k ts p rest h = limit_takes k ts p rest (past_word (codes "limit") ts) refl h
 
-part_again : (k : LoopTag) (p : Part) (ts rest : List Token) → IsPart k p ts → (part_first k (ts ++ rest) ≡ Some (p, rest)) × (is_nothing (ts ++ rest) ≡ false)
+part_again : (k : LoopTag) (p : Part) (ts rest : List Token) → IsLoopPart k p ts → (part_first k (ts ++ rest) ≡ Some (p, rest)) × (is_nothing (ts ++ rest) ≡ false)
 part_again k p ts rest (a_limit x) = (refl, refl)
 part_again k p ts rest (an_offset x) = (refl, refl)
 part_again k p ts rest a_reversal = (refl, refl)
 part_again k p ts rest (a_width x) = (refl, refl)
 
-part_long : (k : LoopTag) (p : Part) (ts : List Token) → IsPart k p ts → 0 < length ts
+part_long : (k : LoopTag) (p : Part) (ts : List Token) → IsLoopPart k p ts → 0 < length ts
 part_long k p ts (a_limit x) = omega arith
 part_long k p ts (an_offset x) = omega arith
 part_long k p ts a_reversal = omega arith
@@ -175,7 +175,7 @@ loop_takes k head ts h =
     let (qs, read, is) = map_some (parts_of k s.1) (with_parts no_parts) ps settle in
     let there : ts ≡ word w.0 ∷ word (codes "in") ∷ source_token s.0 ∷ s.1 =
     first_word ts w.0 w.1 named ∙ ap (λ (ts : List Token). word w.0 ∷ ts) (past_word_is (codes "in") w.1 rest behind) ∙ ap (λ (ts : List Token). word w.0 ∷ word (codes "in") ∷ ts) (first_source rest s.0 s.1 front) in
-    let all = repeated_takes (part_first k) is_nothing (part_shorter k) (IsPart k) IsNothing (part_takes k) (part_again k) nothing_is nothing_again s.1 qs read in
+    let all = repeated_takes (part_first k) is_nothing (part_shorter k) (IsLoopPart k) IsNothing (part_takes k) (part_again k) nothing_is nothing_again s.1 qs read in
     subst (λ (head : Head). IsLoop k head ts) (ap (head_with w.0 s.0) is ∙ same) (subst (λ (ts : List Token). IsLoop k (head_with w.0 s.0 (with_parts no_parts qs)) ts) (sym there) (a_loop w.0 s.0 all))
 
 behind_source : LoopTag → Text → Source × List Token → Option Head
@@ -186,7 +186,7 @@ unfolding behind_source
 loop_again k head ts (a_loop {ps = ps} {ts = us} w s more) =
     ap (λ (o : Option (Source × List Token)). option_and_then (behind_source k w) o) (source_again s us)
     ∙ ap (λ (o : Option (List Part)). option_map (head_with w s) (option_map (with_parts no_parts) o))
-    (repeated_again (part_first k) is_nothing (part_shorter k) (IsPart k) IsNothing (part_takes k) (part_again k) nothing_is nothing_again ps us more)
+    (repeated_again (part_first k) is_nothing (part_shorter k) (IsLoopPart k) IsNothing (part_takes k) (part_again k) nothing_is nothing_again ps us more)
 
 -- ---- in the loop that reads parts
 
@@ -273,8 +273,8 @@ pairs_end_again k ts no_item = refl
 pairs_end_again k ts (any_item t) = refl
 pairs_end_again k ts last_comma = refl
 
-pub pairs_takes : (k : PairStyle) (ps : Bindings) (ts : List Token) → pairs_of k ts ≡ Some ps → ArePairs k ps ts
+pub pairs_takes : (k : PairStyle) (ps : Bindings) (ts : List Token) → bound_pairs k ts ≡ Some ps → ArePairs k ps ts
 pairs_takes k ps ts h = repeated_takes (one_first k) (ends_pairs k) (one_shorter k) (IsOneOf k) (IsPairsEnd k) (one_takes k) (one_again k) (pairs_end_is k) (pairs_end_again k) ts ps h
 
-pub pairs_again : (k : PairStyle) (ps : Bindings) (ts : List Token) → ArePairs k ps ts → pairs_of k ts ≡ Some ps
+pub pairs_again : (k : PairStyle) (ps : Bindings) (ts : List Token) → ArePairs k ps ts → bound_pairs k ts ≡ Some ps
 pairs_again k ps ts h = repeated_again (one_first k) (ends_pairs k) (one_shorter k) (IsOneOf k) (IsPairsEnd k) (one_takes k) (one_again k) (pairs_end_is k) (pairs_end_again k) ps ts h

@@ -4,7 +4,7 @@ use Rattle.std.proofs.lemmas.Bool.Decides.{nat_tests}
 use Rattle.liquid_core.specs.Expression.{Expression}
 use Rattle.liquid_evaluation.specs.Tree.{Node, Nodes, no_nodes, node, Whens, no_whens, when}
 use Rattle.liquid_syntax.specs.Nesting.{Opening, of_one, of_two, of_many, Statement, leaf, closed, begins, elsif, arm, otherwise, ends, refused, AreNodes, none, is_leaf, is_closed, is_block, IsBlock, one, two, many, IsLast, no_else, is_else, IsElse, is_last, is_elsif, AreWhens, no_more, is_when}
-use Rattle.liquid_syntax.specs.OpenBlocks.{append, with_node, Reading, last, first, unkept, armed, begun, context_in, ended, else_of, when_of, elsif_of, Level, level, context_of, deeper, depth, close, step, to_closed, to_begin, go, read}
+use Rattle.liquid_syntax.specs.OpenBlocks.{append, with_node, Reading, last, first, unkept, armed, begun, context_in, ended, else_of, when_of, elsif_of, Level, level, context_of, deeper, block_depth, close, statement_step, to_closed, to_begin, go, read_pieces}
 use Rattle.liquid_language.specs.declared.block.Block.{Block}
 use Rattle.liquid_language.specs.declared.block.BlockContext.{BlockContext}
 use Rattle.liquid_language.specs.declared.block.BlockContext.TheVariants.{Outside, InBody, InLast}
@@ -37,14 +37,14 @@ Stands refused = ⊥
 module _ {P : Type 0} (Is : BlockContext → P → Statement → Type 0) (reads : BlockContext → P → Statement) (says : (x : BlockContext) (p : P) (l : Statement) → Is x p l → reads x p ≡ l) (stands : (x : BlockContext) (p : P) (l : Statement) → Stands l → reads x p ≡ l → Is x p l) where
   -- ---- what stands in the grammar is read
 
-  turn : (x : BlockContext) (p : P) (l : Statement) (ps : List P) (ls : List Level) (cur : Nodes) → context_of ls ≡ x → Is x p l → read reads (p ∷ ps) ls cur ≡ go (read reads ps) (step l ls cur)
-  turn x p l ps ls cur e h = ap (λ (y : BlockContext). go (read reads ps) (step (reads y p) ls cur)) e ∙ ap (λ (l : Statement). go (read reads ps) (step l ls cur)) (says x p l h)
+  turn : (x : BlockContext) (p : P) (l : Statement) (ps : List P) (ls : List Level) (cur : Nodes) → context_of ls ≡ x → Is x p l → read_pieces reads (p ∷ ps) ls cur ≡ go (read_pieces reads ps) (statement_step l ls cur)
+  turn x p l ps ls cur e h = ap (λ (y : BlockContext). go (read_pieces reads ps) (statement_step (reads y p) ls cur)) e ∙ ap (λ (l : Statement). go (read_pieces reads ps) (statement_step l ls cur)) (says x p l h)
 
-  begin_turn : (o : Opening) (ps : List P) (ls : List Level) (cur : Nodes) → depth ls < 200 → go (read reads ps) (to_begin o ls cur) ≡ read reads ps (level (begun o) cur false ∷ ls) no_nodes
-  begin_turn o ps ls cur h = ap (λ (b : Bool). go (read reads ps) (cond b (Some (level (begun o) cur false ∷ ls, no_nodes)) None)) (some_room (depth ls) h)
+  begin_turn : (o : Opening) (ps : List P) (ls : List Level) (cur : Nodes) → block_depth ls < 200 → go (read_pieces reads ps) (to_begin o ls cur) ≡ read_pieces reads ps (level (begun o) cur false ∷ ls) no_nodes
+  begin_turn o ps ls cur h = ap (λ (b : Bool). go (read_pieces reads ps) (cond b (Some (level (begun o) cur false ∷ ls, no_nodes)) None)) (some_room (block_depth ls) h)
 
-  closed_turn : (n : Node) (ps : List P) (ls : List Level) (cur : Nodes) → depth ls < 200 → go (read reads ps) (to_closed n ls cur) ≡ read reads ps ls (with_node cur n)
-  closed_turn n ps ls cur h = ap (λ (b : Bool). go (read reads ps) (cond b (Some (ls, with_node cur n)) None)) (some_room (depth ls) h)
+  closed_turn : (n : Node) (ps : List P) (ls : List Level) (cur : Nodes) → block_depth ls < 200 → go (read_pieces reads ps) (to_closed n ls cur) ≡ read_pieces reads ps ls (with_node cur n)
+  closed_turn n ps ls cur h = ap (λ (b : Bool). go (read_pieces reads ps) (cond b (Some (ls, with_node cur n)) None)) (some_room (block_depth ls) h)
 
   -- the body that is being read can be ended by a `when` and an `else`, with this node
   record Arms (b : Block) (r : Reading) (cur : Nodes) (make : Whens → Nodes → Node) : Type 0 where
@@ -54,25 +54,25 @@ module _ {P : Type 0} (Is : BlockContext → P → Statement → Type 0) (reads 
     at_when : (vs : List Expression) → when_of vs r cur ≡ Some (armed b (λ g ws o. make (when vs g ws) o))
 
   mutual
-    pub nodes_again : {x : BlockContext} {d : ℕ} {f : Nodes} {ps rest : List P} → AreNodes Is x d f ps rest → (ls : List Level) (cur : Nodes) → context_of ls ≡ x → depth ls + d ≤ 200
-        → read reads ps ls cur ≡ read reads rest ls (append cur f)
-    nodes_again (none {ps = ps}) ls cur e m = ap (read reads ps ls) (sym (append-none cur))
+    pub nodes_again : {x : BlockContext} {d : ℕ} {f : Nodes} {ps rest : List P} → AreNodes Is x d f ps rest → (ls : List Level) (cur : Nodes) → context_of ls ≡ x → block_depth ls + d ≤ 200
+        → read_pieces reads ps ls cur ≡ read_pieces reads rest ls (append cur f)
+    nodes_again (none {ps = ps}) ls cur e m = ap (read_pieces reads ps ls) (sym (append-none cur))
     nodes_again (is_leaf {x = x} {p = p} {n = n} {f = f} {ps = ps} {rest = rest} r ns) ls cur e m =
-        turn x p (leaf n) ps ls cur e r ∙ nodes_again ns ls (with_node cur n) e m ∙ ap (read reads rest ls) (append-assoc cur (node n no_nodes) f)
+        turn x p (leaf n) ps ls cur e r ∙ nodes_again ns ls (with_node cur n) e m ∙ ap (read_pieces reads rest ls) (append-assoc cur (node n no_nodes) f)
     nodes_again (is_closed {x = x} {d = d} {p = p} {n = n} {f = f} {ps = ps} {rest = rest} r ns) ls cur e m =
         turn x p (closed n) ps ls cur e r
         ∙ closed_turn n ps ls cur (omega (arith, m))
         ∙ nodes_again ns ls (with_node cur n) e m
-        ∙ ap (read reads rest ls) (append-assoc cur (node n no_nodes) f)
+        ∙ ap (read_pieces reads rest ls) (append-assoc cur (node n no_nodes) f)
     nodes_again (is_block {x = x} {d = d} {p = p} {o = o} {n = n} {f = f} {ps = ps} {after = after} {rest = rest} r b ns) ls cur e m =
         turn x p (begins o) ps ls cur e r
         ∙ begin_turn o ps ls cur (omega (arith, m))
         ∙ block_again b cur ls (omega (arith, m))
         ∙ nodes_again ns ls (with_node cur n) e m
-        ∙ ap (read reads rest ls) (append-assoc cur (node n no_nodes) f)
+        ∙ ap (read_pieces reads rest ls) (append-assoc cur (node n no_nodes) f)
 
-    block_again : {d : ℕ} {o : Opening} {n : Node} {ps rest : List P} → IsBlock Is d o n ps rest → (cur : Nodes) (ls : List Level) → suc (depth ls) + d ≤ 200
-        → read reads ps (level (begun o) cur false ∷ ls) no_nodes ≡ read reads rest ls (with_node cur n)
+    block_again : {d : ℕ} {o : Opening} {n : Node} {ps rest : List P} → IsBlock Is d o n ps rest → (cur : Nodes) (ls : List Level) → suc (block_depth ls) + d ≤ 200
+        → read_pieces reads ps (level (begun o) cur false ∷ ls) no_nodes ≡ read_pieces reads rest ls (with_node cur n)
     block_again (one {b = b} {make = make} {f = f} {q = q} {rest = rest} ns e) cur ls m =
         nodes_again ns (level (last b make) cur false ∷ ls) no_nodes refl m ∙ turn (InLast b) q ends rest (level (last b make) cur false ∷ ls) f refl e
     block_again (two {b = b} {make = make} {f = f} ns os) cur ls m =
@@ -81,8 +81,8 @@ module _ {P : Type 0} (Is : BlockContext → P → Statement → Type 0) (reads 
         nodes_again ns (level (unkept b make) cur false ∷ ls) no_nodes refl m
         ∙ whens_again ws (unkept b make) make cur false ls f (record { context = refl; at_end = refl; at_else = refl; at_when = λ vs. refl }) m
 
-    else_again : {b : Block} {d : ℕ} {o : Nodes} {ps rest : List P} → IsElse Is b d o ps rest → (make : Nodes → Nodes → Node) (f : Nodes) (k : Bool) (ls : List Level) (cur : Nodes) → deeper k (depth ls) + d ≤ 200
-        → read reads ps (level (first b make) f k ∷ ls) cur ≡ go (read reads rest) (close k ls (with_node f (make cur o)))
+    else_again : {b : Block} {d : ℕ} {o : Nodes} {ps rest : List P} → IsElse Is b d o ps rest → (make : Nodes → Nodes → Node) (f : Nodes) (k : Bool) (ls : List Level) (cur : Nodes) → deeper k (block_depth ls) + d ≤ 200
+        → read_pieces reads ps (level (first b make) f k ∷ ls) cur ≡ go (read_pieces reads rest) (close k ls (with_node f (make cur o)))
     else_again (is_last {b = b} os) make f k ls cur m = last_again os (first b make) (make cur) f k ls cur refl refl refl m
     else_again (is_elsif {b = b} {p = p} {make = next} {f = g} {o = o} {ps = ps} r ns os) make f k ls cur m =
         turn (InBody b) p (elsif next) ps (level (first b make) f k ∷ ls) cur refl r
@@ -90,24 +90,24 @@ module _ {P : Type 0} (Is : BlockContext → P → Statement → Type 0) (reads 
         ∙ else_again os next no_nodes true (level (last b (make cur)) f k ∷ ls) g m
 
     last_again : {b : Block} {d : ℕ} {o : Nodes} {ps rest : List P} → IsLast Is b d o ps rest → (r : Reading) (make : Nodes → Node) (f : Nodes) (k : Bool) (ls : List Level) (cur : Nodes)
-        → context_in r ≡ InBody b → ended r cur ≡ make no_nodes → else_of r cur ≡ Some (last b make) → deeper k (depth ls) + d ≤ 200
-        → read reads ps (level r f k ∷ ls) cur ≡ go (read reads rest) (close k ls (with_node f (make o)))
+        → context_in r ≡ InBody b → ended r cur ≡ make no_nodes → else_of r cur ≡ Some (last b make) → deeper k (block_depth ls) + d ≤ 200
+        → read_pieces reads ps (level r f k ∷ ls) cur ≡ go (read_pieces reads rest) (close k ls (with_node f (make o)))
     last_again (no_else {b = b} {p = p} {rest = rest} s) r make f k ls cur x e h m =
-        turn (InBody b) p ends rest (level r f k ∷ ls) cur x s ∙ ap (λ (n : Node). go (read reads rest) (close k ls (with_node f n))) e
+        turn (InBody b) p ends rest (level r f k ∷ ls) cur x s ∙ ap (λ (n : Node). go (read_pieces reads rest) (close k ls (with_node f n))) e
     last_again (is_else {b = b} {p = p} {q = q} {o = o} {ps = ps} {rest = rest} s ns t) r make f k ls cur x e h m =
         turn (InBody b) p otherwise ps (level r f k ∷ ls) cur x s
-        ∙ ap (λ (o : Option Reading). go (read reads ps) (option_map (λ s. (level s f k ∷ ls, no_nodes)) o)) h
+        ∙ ap (λ (o : Option Reading). go (read_pieces reads ps) (option_map (λ s. (level s f k ∷ ls, no_nodes)) o)) h
         ∙ nodes_again ns (level (last b make) f k ∷ ls) no_nodes refl m
         ∙ turn (InLast b) q ends rest (level (last b make) f k ∷ ls) o refl t
 
     whens_again : {b : Block} {d : ℕ} {ws : Whens} {o : Nodes} {ps rest : List P} → AreWhens Is b d ws o ps rest → (r : Reading) (make : Whens → Nodes → Node) (f : Nodes) (k : Bool) (ls : List Level) (cur : Nodes)
-        → Arms b r cur make → deeper k (depth ls) + d ≤ 200
-        → read reads ps (level r f k ∷ ls) cur ≡ go (read reads rest) (close k ls (with_node f (make ws o)))
+        → Arms b r cur make → deeper k (block_depth ls) + d ≤ 200
+        → read_pieces reads ps (level r f k ∷ ls) cur ≡ go (read_pieces reads rest) (close k ls (with_node f (make ws o)))
     whens_again (no_more os) r make f k ls cur a m = last_again os r (make no_whens) f k ls cur a.context a.at_end a.at_else m
     whens_again (is_when {b = b} {p = p} {vs = vs} {f = g} {ps = ps} s ns ws) r make f k ls cur a m =
         let next : Nodes → Whens → Nodes → Node = λ g ws o. make (when vs g ws) o in
         turn (InBody b) p (arm vs) ps (level r f k ∷ ls) cur a.context s
-        ∙ ap (λ (o : Option Reading). go (read reads ps) (option_map (λ s. (level s f k ∷ ls, no_nodes)) o)) (a.at_when vs)
+        ∙ ap (λ (o : Option Reading). go (read_pieces reads ps) (option_map (λ s. (level s f k ∷ ls, no_nodes)) o)) (a.at_when vs)
         ∙ nodes_again ns (level (armed b next) f k ∷ ls) no_nodes refl m
         ∙ whens_again ws (armed b next) (next g) f k ls g (record { context = refl; at_end = refl; at_else = refl; at_when = λ us. refl }) m
 
@@ -125,7 +125,7 @@ module _ {P : Type 0} (Is : BlockContext → P → Statement → Type 0) (reads 
   Completes true [] cur ps t = ⊥
   Completes true (level r f k ∷ ls) cur ps t = Completes k ls (with_node f (ended r cur)) ps t
   Completes false [] cur ps t = (f : Nodes) × AreNodes Is Outside 200 f ps [] × (t ≡ append cur f)
-  Completes false (level r f k ∷ ls) cur ps t = (n : Node) × (rest : List P) × Rest r (200 - deeper k (depth ls)) cur n ps rest × Completes k ls (with_node f n) rest t
+  Completes false (level r f k ∷ ls) cur ps t = (n : Node) × (rest : List P) × Rest r (200 - deeper k (block_depth ls)) cur n ps rest × Completes k ls (with_node f n) rest t
 
   rest_leaf : (p : P) (m : Node) (r : Reading) (d : ℕ) (cur : Nodes) (n : Node) (ps rest : List P) → Is (context_in r) p (leaf m) → Rest r d (with_node cur m) n ps rest → Rest r d cur n (p ∷ ps) rest
   unfolding Rest
@@ -195,7 +195,7 @@ module _ {P : Type 0} (Is : BlockContext → P → Statement → Type 0) (reads 
   more_leaf : (p : P) (m : Node) (ls : List Level) (cur : Nodes) (ps : List P) (t : Nodes) → Is (context_of ls) p (leaf m) → Completes false ls (with_node cur m) ps t → Completes false ls cur (p ∷ ps) t
   unfolding Completes
   more_leaf p m [] cur ps t s (f, ns, e) = (node m f, is_leaf s ns, e ∙ append-assoc cur (node m no_nodes) f)
-  more_leaf p m (level r f k ∷ ls) cur ps t s (n, rest, h, c) = (n, rest, rest_leaf p m r (200 - deeper k (depth ls)) cur n ps rest s h, c)
+  more_leaf p m (level r f k ∷ ls) cur ps t s (n, rest, h, c) = (n, rest, rest_leaf p m r (200 - deeper k (block_depth ls)) cur n ps rest s h, c)
 
   rest_deeper : (p : P) (o : Opening) (m : Node) (r : Reading) (e : ℕ) (cur : Nodes) (n : Node) (ps after rest : List P) → e < 200 → Is (context_in r) p (begins o) → IsBlock Is (200 - suc e) o m ps after
       → Rest r (200 - e) (with_node cur m) n after rest → Rest r (200 - e) cur n (p ∷ ps) rest
@@ -208,69 +208,69 @@ module _ {P : Type 0} (Is : BlockContext → P → Statement → Type 0) (reads 
       let is : 200 - e ≡ suc (200 - suc e) = omega (arith, l) in
       subst (λ (d : ℕ). Rest r d cur n (p ∷ ps) rest) (sym is) (rest_closed p m r (200 - suc e) cur n ps rest s (subst (λ (d : ℕ). Rest r d (with_node cur m) n ps rest) is h))
 
-  more_closed : (p : P) (m : Node) (ls : List Level) (cur : Nodes) (ps : List P) (t : Nodes) → depth ls < 200 → Is (context_of ls) p (closed m) → Completes false ls (with_node cur m) ps t → Completes false ls cur (p ∷ ps) t
+  more_closed : (p : P) (m : Node) (ls : List Level) (cur : Nodes) (ps : List P) (t : Nodes) → block_depth ls < 200 → Is (context_of ls) p (closed m) → Completes false ls (with_node cur m) ps t → Completes false ls cur (p ∷ ps) t
   unfolding Completes
   more_closed p m [] cur ps t l s (f, ns, e) = (node m f, is_closed s ns, e ∙ append-assoc cur (node m no_nodes) f)
-  more_closed p m (level r f k ∷ ls) cur ps t l s (n, rest, h, c) = (n, rest, rest_closed_deeper p m r (deeper k (depth ls)) cur n ps rest l s h, c)
+  more_closed p m (level r f k ∷ ls) cur ps t l s (n, rest, h, c) = (n, rest, rest_closed_deeper p m r (deeper k (block_depth ls)) cur n ps rest l s h, c)
 
-  more_block : (p : P) (o : Opening) (m : Node) (ls : List Level) (cur : Nodes) (ps after : List P) (t : Nodes) → depth ls < 200 → Is (context_of ls) p (begins o) → IsBlock Is (200 - suc (depth ls)) o m ps after
+  more_block : (p : P) (o : Opening) (m : Node) (ls : List Level) (cur : Nodes) (ps after : List P) (t : Nodes) → block_depth ls < 200 → Is (context_of ls) p (begins o) → IsBlock Is (200 - suc (block_depth ls)) o m ps after
       → Completes false ls (with_node cur m) after t → Completes false ls cur (p ∷ ps) t
   unfolding Completes
   more_block p o m [] cur ps after t l s b (f, ns, e) = (node m f, is_block s b ns, e ∙ append-assoc cur (node m no_nodes) f)
-  more_block p o m (level r f k ∷ ls) cur ps after t l s b (n, rest, h, c) = (n, rest, rest_deeper p o m r (deeper k (depth ls)) cur n ps after rest l s b h, c)
+  more_block p o m (level r f k ∷ ls) cur ps after t l s b (n, rest, h, c) = (n, rest, rest_deeper p o m r (deeper k (block_depth ls)) cur n ps after rest l s b h, c)
 
-  module _ (t : Nodes) (ps : List P) (more : (ls : List Level) (cur : Nodes) → read reads ps ls cur ≡ Some t → Completes false ls cur ps t) where
-    close_takes : (k : Bool) (ls : List Level) (cur : Nodes) → go (read reads ps) (close k ls cur) ≡ Some t → Completes k ls cur ps t
+  module _ (t : Nodes) (ps : List P) (more : (ls : List Level) (cur : Nodes) → read_pieces reads ps ls cur ≡ Some t → Completes false ls cur ps t) where
+    close_takes : (k : Bool) (ls : List Level) (cur : Nodes) → go (read_pieces reads ps) (close k ls cur) ≡ Some t → Completes k ls cur ps t
     unfolding Completes
     close_takes false ls cur h = more ls cur h
     close_takes true [] cur h = absurd cc
     close_takes true (level r f k ∷ ls) cur h = close_takes k ls (with_node f (ended r cur)) h
 
-    begin_takes : (p : P) (o : Opening) (ls : List Level) (cur : Nodes) (room : Bool) → nat_lt (depth ls) 200 ≡ room → Is (context_of ls) p (begins o)
-        → go (read reads ps) (cond room (Some (level (begun o) cur false ∷ ls, no_nodes)) None) ≡ Some t → Completes false ls cur (p ∷ ps) t
+    begin_takes : (p : P) (o : Opening) (ls : List Level) (cur : Nodes) (room : Bool) → nat_lt (block_depth ls) 200 ≡ room → Is (context_of ls) p (begins o)
+        → go (read_pieces reads ps) (cond room (Some (level (begun o) cur false ∷ ls, no_nodes)) None) ≡ Some t → Completes false ls cur (p ∷ ps) t
     unfolding Completes
     begin_takes p o ls cur false e s h = absurd cc
     begin_takes p o ls cur true e s h =
         let (n, rest, r, c) = more (level (begun o) cur false ∷ ls) no_nodes h in
-        more_block p o n ls cur ps rest t (room_is (depth ls) e) s (rest_begun o (200 - suc (depth ls)) n ps rest r) c
+        more_block p o n ls cur ps rest t (room_is (block_depth ls) e) s (rest_begun o (200 - suc (block_depth ls)) n ps rest r) c
 
-    closed_takes : (p : P) (m : Node) (ls : List Level) (cur : Nodes) (room : Bool) → nat_lt (depth ls) 200 ≡ room → Is (context_of ls) p (closed m)
-        → go (read reads ps) (cond room (Some (ls, with_node cur m)) None) ≡ Some t → Completes false ls cur (p ∷ ps) t
+    closed_takes : (p : P) (m : Node) (ls : List Level) (cur : Nodes) (room : Bool) → nat_lt (block_depth ls) 200 ≡ room → Is (context_of ls) p (closed m)
+        → go (read_pieces reads ps) (cond room (Some (ls, with_node cur m)) None) ≡ Some t → Completes false ls cur (p ∷ ps) t
     closed_takes p m ls cur false e s h = absurd cc
-    closed_takes p m ls cur true e s h = more_closed p m ls cur ps t (room_is (depth ls) e) s (more ls (with_node cur m) h)
+    closed_takes p m ls cur true e s h = more_closed p m ls cur ps t (room_is (block_depth ls) e) s (more ls (with_node cur m) h)
 
     else_takes : (p : P) (r : Reading) (f : Nodes) (k : Bool) (ls : List Level) (cur : Nodes) (to : Option Reading) → else_of r cur ≡ to → Is (context_in r) p otherwise
-        → go (read reads ps) (option_map (λ s. (level s f k ∷ ls, no_nodes)) to) ≡ Some t → Completes false (level r f k ∷ ls) cur (p ∷ ps) t
+        → go (read_pieces reads ps) (option_map (λ s. (level s f k ∷ ls, no_nodes)) to) ≡ Some t → Completes false (level r f k ∷ ls) cur (p ∷ ps) t
     unfolding Completes
     else_takes p r f k ls cur None e s h = absurd cc
     else_takes p r f k ls cur (Some to) e s h =
         let (n, rest, d, c) = more (level to f k ∷ ls) no_nodes h in
-        (n, rest, rest_else p r to (200 - deeper k (depth ls)) cur n ps rest s e d, c)
+        (n, rest, rest_else p r to (200 - deeper k (block_depth ls)) cur n ps rest s e d, c)
 
     when_takes : (p : P) (vs : List Expression) (r : Reading) (f : Nodes) (k : Bool) (ls : List Level) (cur : Nodes) (to : Option Reading) → when_of vs r cur ≡ to → Is (context_in r) p (arm vs)
-        → go (read reads ps) (option_map (λ s. (level s f k ∷ ls, no_nodes)) to) ≡ Some t → Completes false (level r f k ∷ ls) cur (p ∷ ps) t
+        → go (read_pieces reads ps) (option_map (λ s. (level s f k ∷ ls, no_nodes)) to) ≡ Some t → Completes false (level r f k ∷ ls) cur (p ∷ ps) t
     unfolding Completes
     when_takes p vs r f k ls cur None e s h = absurd cc
     when_takes p vs r f k ls cur (Some to) e s h =
         let (n, rest, d, c) = more (level to f k ∷ ls) no_nodes h in
-        (n, rest, rest_when p vs r to (200 - deeper k (depth ls)) cur n ps rest s e d, c)
+        (n, rest, rest_when p vs r to (200 - deeper k (block_depth ls)) cur n ps rest s e d, c)
 
     elsif_takes : (p : P) (next : Nodes → Nodes → Node) (r : Reading) (f : Nodes) (k : Bool) (ls : List Level) (cur : Nodes) → Is (context_in r) p (elsif next)
-        → go (read reads ps) (option_map (λ s. (level s.1 no_nodes true ∷ level s.0 f k ∷ ls, no_nodes)) (elsif_of next r cur)) ≡ Some t → Completes false (level r f k ∷ ls) cur (p ∷ ps) t
+        → go (read_pieces reads ps) (option_map (λ s. (level s.1 no_nodes true ∷ level s.0 f k ∷ ls, no_nodes)) (elsif_of next r cur)) ≡ Some t → Completes false (level r f k ∷ ls) cur (p ∷ ps) t
     unfolding Completes Rest
     elsif_takes p next (last b make) f k ls cur s h = absurd cc
     elsif_takes p next (first b make) f k ls cur s h =
         let (n, rest, (g, after, o, ns, os, is), c) = more (level (first b next) no_nodes true ∷ level (last b (make cur)) f k ∷ ls) no_nodes h in
-        let e : IsElse Is b (200 - deeper k (depth ls)) (node n no_nodes) (p ∷ ps) rest = subst (λ (m : Node). IsElse Is b (200 - deeper k (depth ls)) (node m no_nodes) (p ∷ ps) rest) (sym is) (is_elsif s ns os) in
+        let e : IsElse Is b (200 - deeper k (block_depth ls)) (node n no_nodes) (p ∷ ps) rest = subst (λ (m : Node). IsElse Is b (200 - deeper k (block_depth ls)) (node m no_nodes) (p ∷ ps) rest) (sym is) (is_elsif s ns os) in
         (make cur (node n no_nodes), rest, (no_nodes, p ∷ ps, node n no_nodes, none, e, ap (λ (f : Nodes). make f (node n no_nodes)) (sym (append-none cur))), c)
     elsif_takes p next (unkept b make) f k ls cur s h = absurd cc
     elsif_takes p next (armed b make) f k ls cur s h = absurd cc
 
-    step_takes : (p : P) (l : Statement) (ls : List Level) (cur : Nodes) → reads (context_of ls) p ≡ l → go (read reads ps) (step l ls cur) ≡ Some t → Completes false ls cur (p ∷ ps) t
+    step_takes : (p : P) (l : Statement) (ls : List Level) (cur : Nodes) → reads (context_of ls) p ≡ l → go (read_pieces reads ps) (statement_step l ls cur) ≡ Some t → Completes false ls cur (p ∷ ps) t
     unfolding Completes
     step_takes p (leaf m) ls cur s h = more_leaf p m ls cur ps t (stands (context_of ls) p (leaf m) tt s) (more ls (with_node cur m) h)
-    step_takes p (closed m) ls cur s h = closed_takes p m ls cur (nat_lt (depth ls) 200) refl (stands (context_of ls) p (closed m) tt s) h
-    step_takes p (begins o) ls cur s h = begin_takes p o ls cur (nat_lt (depth ls) 200) refl (stands (context_of ls) p (begins o) tt s) h
+    step_takes p (closed m) ls cur s h = closed_takes p m ls cur (nat_lt (block_depth ls) 200) refl (stands (context_of ls) p (closed m) tt s) h
+    step_takes p (begins o) ls cur s h = begin_takes p o ls cur (nat_lt (block_depth ls) 200) refl (stands (context_of ls) p (begins o) tt s) h
     step_takes p (elsif next) [] cur s h = absurd cc
     step_takes p (elsif next) (level r f k ∷ ls) cur s h = elsif_takes p next r f k ls cur (stands (context_in r) p (elsif next) tt s) h
     step_takes p (arm vs) [] cur s h = absurd cc
@@ -278,20 +278,20 @@ module _ {P : Type 0} (Is : BlockContext → P → Statement → Type 0) (reads 
     step_takes p otherwise [] cur s h = absurd cc
     step_takes p otherwise (level r f k ∷ ls) cur s h = else_takes p r f k ls cur (else_of r cur) refl (stands (context_in r) p otherwise tt s) h
     step_takes p ends [] cur s h = absurd cc
-    step_takes p ends (level r f k ∷ ls) cur s h = (ended r cur, ps, rest_ends p r (200 - deeper k (depth ls)) cur ps (stands (context_in r) p ends tt s), close_takes k ls (with_node f (ended r cur)) h)
+    step_takes p ends (level r f k ∷ ls) cur s h = (ended r cur, ps, rest_ends p r (200 - deeper k (block_depth ls)) cur ps (stands (context_in r) p ends tt s), close_takes k ls (with_node f (ended r cur)) h)
     step_takes p refused ls cur s h = absurd cc
 
-  read_takes : (t : Nodes) (ps : List P) (ls : List Level) (cur : Nodes) → read reads ps ls cur ≡ Some t → Completes false ls cur ps t
+  read_takes : (t : Nodes) (ps : List P) (ls : List Level) (cur : Nodes) → read_pieces reads ps ls cur ≡ Some t → Completes false ls cur ps t
   unfolding Completes
   read_takes t [] [] cur h = let e : cur ≡ t = cc in (no_nodes, none, sym e ∙ sym (append-none cur))
   read_takes t [] (l ∷ ls) cur h = absurd cc
   read_takes t (p ∷ ps) ls cur h = step_takes t ps (read_takes t ps) p (reads (context_of ls) p) ls cur refl h
 
-  pub tree_takes : (t : Nodes) (ps : List P) → read reads ps [] no_nodes ≡ Some t → AreNodes Is Outside 200 t ps []
+  pub tree_takes : (t : Nodes) (ps : List P) → read_pieces reads ps [] no_nodes ≡ Some t → AreNodes Is Outside 200 t ps []
   unfolding Completes
   tree_takes t ps h = let (f, ns, e) = read_takes t ps [] no_nodes h in subst (λ (n : Nodes). AreNodes Is Outside 200 n ps []) (sym e) ns
 
-  pub tree_again : (t : Nodes) (ps : List P) → AreNodes Is Outside 200 t ps [] → read reads ps [] no_nodes ≡ Some t
+  pub tree_again : (t : Nodes) (ps : List P) → AreNodes Is Outside 200 t ps [] → read_pieces reads ps [] no_nodes ≡ Some t
   tree_again t ps h = nodes_again h [] no_nodes refl (omega arith)
 
   pub one_tree : (t u : Nodes) (ps : List P) → AreNodes Is Outside 200 t ps [] → AreNodes Is Outside 200 u ps [] → t ≡ u

@@ -6,7 +6,7 @@ use Rattle.std.specs.Prelude.{Result, Ok, Err}
 use Rattle.liquid_model.specs.Texts.{Text}
 use Rattle.liquid_syntax.specs.inside.Building.{IsBuilding, Finishes, text_added}
 use Rattle.liquid_syntax.specs.inside.Classifies.{Classifies}
-use Rattle.liquid_syntax.specs.Classification.{if_of, unless_of, bare, capture_of, case_for, for_of, rows_of, one_or, many_or, two_or, tag_statement, raw_statement, comment_statement, reads, is_start, opens}
+use Rattle.liquid_syntax.specs.Classification.{if_of, unless_of, bare, capture_of, case_for, for_of, rows_of, one_or, many_or, two_or, tag_statement, raw_statement, comment_statement, reads, is_start, starts_block}
 use Rattle.liquid_language.specs.Roles.{role_of, unread_body}
 use Rattle.liquid_lexer.specs.Items.{Item}
 use Rattle.liquid_lexer.specs.Tokens.{Token, tokens_of}
@@ -17,7 +17,7 @@ use Rattle.liquid_language.specs.declared.block.Role.{Role}
 use Rattle.liquid_language.specs.declared.block.Role.TheVariants.{End, Control as Word, Tag, Block as Start}
 use Rattle.liquid_language.specs.declared.language.BlockKind.TheVariants as blocks
 use Rattle.liquid_syntax.specs.Nesting.{Opening, Statement, leaf, closed, begins, elsif, arm, otherwise, ends, refused}
-use Rattle.liquid_syntax.specs.OpenBlocks.{Level, level, State, begun, depth, context_of, step, at_end, with_node}
+use Rattle.liquid_syntax.specs.OpenBlocks.{Level, level, State, begun, block_depth, context_of, statement_step, at_end, with_node}
 use Rattle.liquid_syntax.specs.Parsing.{ReadsTo}
 use Rattle.liquid_syntax.specs.inside.TemplateReading.{begun_with, body_of, piece_step, template_at, whole_at}
 use Rattle.liquid_lexer.specs.Pieces as pieces
@@ -44,9 +44,9 @@ fails_by (errors.Fault g) o p f h = f h
 pub after_text : (b : Builder) (ls : List Level) (now : Nodes) → ((s : State) × (Some (ls, now) ≡ Some s) × IsBuilding b s.0 s.1) → IsBuilding b ls now
 after_text b ls now (s, e, h) = let same : (ls, now) ≡ s = cc in subst (λ (s : State). IsBuilding b s.0 s.1) (sym same) h
 
-pub statement_refused : (e : ParseError) (l : Statement) (ls : List Level) (cur : Nodes) → Classifies l (Err e) → Fails e (step l ls cur)
+pub statement_refused : (e : ParseError) (l : Statement) (ls : List Level) (cur : Nodes) → Classifies l (Err e) → Fails e (statement_step l ls cur)
 statement_refused errors.Memory l ls cur h = tt
-statement_refused (errors.Fault f) l ls cur h = ap (λ (l : Statement). step l ls cur) h
+statement_refused (errors.Fault f) l ls cur h = ap (λ (l : Statement). statement_step l ls cur) h
 
 refused_all : (l : Language) (e : ParseError) (source : Text) → Fails e (template_at l source) → ReadsTo l source (Err e)
 refused_all l errors.Memory source h = tt
@@ -89,7 +89,7 @@ start_statement otherwise = ⊥
 start_statement ends = ⊥
 start_statement refused = Unit {0}
 
-start_refused : (x : Statement) (ls : List Level) (cur : Nodes) → start_statement x → nat_lt (depth ls) 200 ≡ false → step x ls cur ≡ None
+start_refused : (x : Statement) (ls : List Level) (cur : Nodes) → start_statement x → nat_lt (block_depth ls) 200 ≡ false → statement_step x ls cur ≡ None
 unfolding start_statement
 start_refused (leaf n) ls cur s h = absurd s
 start_refused (closed n) ls cur s h = ap (λ (b : Bool). cond b (Some (ls, with_node cur n)) None) h
@@ -148,15 +148,15 @@ comment_starts None = tt
 comment_starts (Some bodies.Raw) = tt
 comment_starts (Some bodies.Comment) = tt
 
-piece_starts : (l : Language) (x : BlockContext) (p : Piece) → opens l x p ≡ true → start_statement (reads l x p)
+piece_starts : (l : Language) (x : BlockContext) (p : Piece) → starts_block l x p ≡ true → start_statement (reads l x p)
 piece_starts l x (pieces.text t) h = absurd cc
 piece_starts l x (pieces.output is) h = absurd cc
 piece_starts l x (pieces.tag w is) h = tag_starts l is (tokens_of is) (role_of l x w) h
 piece_starts l x (pieces.raw w t) h = raw_starts t (unread_body (role_of l x w))
 piece_starts l x (pieces.comment w) h = comment_starts (unread_body (role_of l x w))
 
-pub no_room : (l : Language) (x : BlockContext) (p : Piece) (ls : List Level) (cur : Nodes) → opens l x p ≡ true → nat_le 200 (depth ls) ≡ true → step (reads l x p) ls cur ≡ None
-no_room l x p ls cur o d = start_refused (reads l x p) ls cur (piece_starts l x p o) (full (depth ls) d)
+pub no_room : (l : Language) (x : BlockContext) (p : Piece) (ls : List Level) (cur : Nodes) → starts_block l x p ≡ true → nat_le 200 (block_depth ls) ≡ true → statement_step (reads l x p) ls cur ≡ None
+no_room l x p ls cur o d = start_refused (reads l x p) ls cur (piece_starts l x p o) (full (block_depth ls) d)
 
 text_taken : (l : Language) (t : Text) (ls : List Level) (cur : Nodes) → text_step (piece_step l) t (ls, cur) ≡ Some (ls, text_added t cur)
 text_taken l [] ls cur = refl
@@ -168,7 +168,7 @@ module _ (l : Language) (m : Markup × Text) (ls : List Level) (cur : Nodes) whe
   pub no_whole : (e : ParseError) → Fails e (whole_at l (ls, cur) m) → Fails e (option_and_then (λ v. piece_step l (ls, cur) v.0.piece) (whole_at l (ls, cur) m))
   no_whole e h = fails_by e _ _ (λ g. ap (option_and_then (λ v. piece_step l (ls, cur) v.0.piece)) g) h
 
-  pub no_piece : (v : Markup × Text) → whole_at l (ls, cur) m ≡ Some v → (e : ParseError) → Fails e (step (reads l (context_of ls) v.0.piece) ls cur) → Fails e (option_and_then (λ v. piece_step l (ls, cur) v.0.piece) (whole_at l (ls, cur) m))
+  pub no_piece : (v : Markup × Text) → whole_at l (ls, cur) m ≡ Some v → (e : ParseError) → Fails e (statement_step (reads l (context_of ls) v.0.piece) ls cur) → Fails e (option_and_then (λ v. piece_step l (ls, cur) v.0.piece) (whole_at l (ls, cur) m))
   no_piece v is e h = fails_by e _ _ (λ g. ap (option_and_then (λ v. piece_step l (ls, cur) v.0.piece)) is ∙ g) h
 
 -- ---- a turn

@@ -8,7 +8,7 @@ use Rattle.liquid_lexer.specs.Tokens.{Token, tokens_of, value, value_first}
 use Rattle.liquid_lexer.specs.declared.symbol.Symbol.TheVariants.{Colon}
 use Rattle.liquid_lexer.proofs.WordLaws.{bind_some, map_some, from_some}
 use Rattle.liquid_evaluation.specs.Tree.{Bindings}
-use Rattle.liquid_syntax.specs.Bound.{a_pair, pair_first, pairs_of}
+use Rattle.liquid_syntax.specs.Bound.{a_pair, pair_first, bound_pairs}
 use Rattle.liquid_syntax.specs.PartialItems.{IsInclude, IsJekyllInclude, include_of, included_pairs, jekyll_name, jekyll_of, name_alone, name_and_pairs, spelled_name}
 use Rattle.liquid_syntax.specs.declared.pair_items.PairStyle.TheVariants.{Include, JekyllInclude}
 use Rattle.liquid_syntax.proofs.ItemLaws.{pair_takes, pairs_again, pairs_takes}
@@ -20,7 +20,7 @@ behind_name : (x : Expression) (ps : Bindings) (ts : List Token) → included_pa
 behind_name x ps [] h = subst (λ (ps : Bindings). IsInclude x ps (value x ∷ [])) (from_some h) (name_alone x)
 behind_name x ps (t ∷ ts) h =
     let (p, front, more) = bind_some (pair_first Colon (t ∷ ts)) _ ps h in
-    let (qs, read, same) = map_some (pairs_of Include p.1) (λ ps. p.0 ∷ ps) ps more in
+    let (qs, read, same) = map_some (bound_pairs Include p.1) (λ ps. p.0 ∷ ps) ps more in
     let (us, cut, is) = pair_takes Colon (t ∷ ts) p.0 p.1 front in
     subst (λ (ps : Bindings). IsInclude x ps (value x ∷ t ∷ ts)) same
     (subst (λ (ts : List Token). IsInclude x (p.0 ∷ qs) (value x ∷ ts)) (sym cut) (name_and_pairs x is (pairs_takes Include qs p.1 read)))
@@ -42,7 +42,7 @@ include_again x ps ts (name_and_pairs {ps = qs} {us = us} y (a_pair w z) more) =
 pub jekyll_takes : (w : Text) (ps : Bindings) (is : List items.Item) → jekyll_of is ≡ Some (w, ps) → IsJekyllInclude w ps is
 jekyll_takes w ps [] h = absurd cc
 jekyll_takes w ps (items.value x s ∷ is) h =
-    let (qs, read, same) = map_some (pairs_of JekyllInclude (tokens_of is)) (λ ps. (spelled_name x s, ps)) (w, ps) h in
+    let (qs, read, same) = map_some (bound_pairs JekyllInclude (tokens_of is)) (λ ps. (spelled_name x s, ps)) (w, ps) h in
     subst (λ (r : Text × Bindings). IsJekyllInclude r.0 r.1 (items.value x s ∷ is)) same (jekyll_name x s (pairs_takes JekyllInclude qs (tokens_of is) read))
 jekyll_takes w ps (items.range x y ∷ is) h = absurd cc
 jekyll_takes w ps (items.symbol s ∷ is) h = absurd cc

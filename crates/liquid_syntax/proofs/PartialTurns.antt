@@ -14,7 +14,7 @@ use Rattle.liquid_lexer.specs.declared.item.Item.TheVariants.{Value, Range, Symb
 use Rattle.liquid_lexer.specs.declared.fault.ParseError.{ParseError}
 use Rattle.liquid_lexer.specs.declared.fault.ParseError.TheVariants as errors
 use Rattle.liquid_evaluation.specs.Tree.{Bindings, Node}
-use Rattle.liquid_syntax.specs.Bound.{pairs_of}
+use Rattle.liquid_syntax.specs.Bound.{bound_pairs}
 use Rattle.liquid_syntax.specs.inside.Classifies.{Classifies}
 use Rattle.liquid_syntax.specs.inside.PartialAnswers.{first_spelling}
 use Rattle.liquid_syntax.specs.Classification.{leaf_or}
@@ -40,14 +40,14 @@ pub pairs_alone : (bs : List Binding) (o : Option Bindings) (ps : Bindings) → 
 pairs_alone bs o ps none h = unmapped o ps (subst (λ (bs : List Binding). option_map (λ qs. bindings_view bs ++ qs) o ≡ Some ps) none h)
 
 jekyll_named : (is : List Item) (us : List Token) (x : Expression) (s : Text) → Some (x, us) ≡ value_first (tokens_view is) → Some s ≡ first_spelling (items_view is)
-    → jekyll_of (items_view is) ≡ option_map (λ ps. (spelled_name x s, ps)) (pairs_of JekyllInclude us)
+    → jekyll_of (items_view is) ≡ option_map (λ ps. (spelled_name x s, ps)) (bound_pairs JekyllInclude us)
 jekyll_named [] us x s front spelled = absurd cc
 jekyll_named (Value y t ∷ is) us x s front spelled =
     let said : t.now ≡ s = cc in
     let same : (expression_view y, tokens_view is) ≡ (x, us) = cc in
-    ap (λ (ts : List Token). option_map (λ ps. (spelled_name (expression_view y) t.now, ps)) (pairs_of JekyllInclude ts)) (seen_tokens is)
-    ∙ ap (λ (z : Expression × List Token). option_map (λ ps. (spelled_name z.0 t.now, ps)) (pairs_of JekyllInclude z.1)) same
-    ∙ ap (λ (s : Text). option_map (λ ps. (spelled_name x s, ps)) (pairs_of JekyllInclude us)) said
+    ap (λ (ts : List Token). option_map (λ ps. (spelled_name (expression_view y) t.now, ps)) (bound_pairs JekyllInclude ts)) (seen_tokens is)
+    ∙ ap (λ (z : Expression × List Token). option_map (λ ps. (spelled_name z.0 t.now, ps)) (bound_pairs JekyllInclude z.1)) same
+    ∙ ap (λ (s : Text). option_map (λ ps. (spelled_name x s, ps)) (bound_pairs JekyllInclude us)) said
 jekyll_named (Range y z ∷ is) us x s front spelled = absurd cc
 jekyll_named (Symbol t ∷ is) us x s front spelled = absurd cc
 
@@ -59,10 +59,10 @@ jekyll_stuck (Symbol t ∷ is) none = refl
 
 -- behind the name
 module _ (is : List Item) (us : List Token) (x : Expression) (s : Text) (front : Some (x, us) ≡ value_first (tokens_view is)) (spelled : Some s ≡ first_spelling (items_view is)) where
-  pub jekyll_read : (w : Text) (ps : Bindings) → w ≡ spelled_name x s → pairs_of JekyllInclude us ≡ Some ps → jekyll_of (items_view is) ≡ Some (w, ps)
+  pub jekyll_read : (w : Text) (ps : Bindings) → w ≡ spelled_name x s → bound_pairs JekyllInclude us ≡ Some ps → jekyll_of (items_view is) ≡ Some (w, ps)
   jekyll_read w ps named read =
       jekyll_named is us x s front spelled ∙ ap (λ (o : Option Bindings). option_map (λ ps. (spelled_name x s, ps)) o) read ∙ ap (λ (w : Text). Some (w, ps)) (sym named)
 
-  pub jekyll_refused : (bs : List Binding) (e : ParseError) → bs ≡ [] → Fails e (option_map (λ qs. bindings_view bs ++ qs) (pairs_of JekyllInclude us)) → Fails e (jekyll_of (items_view is))
+  pub jekyll_refused : (bs : List Binding) (e : ParseError) → bs ≡ [] → Fails e (option_map (λ qs. bindings_view bs ++ qs) (bound_pairs JekyllInclude us)) → Fails e (jekyll_of (items_view is))
   jekyll_refused bs errors.Memory none h = tt
-  jekyll_refused bs (errors.Fault f) none h = jekyll_named is us x s front spelled ∙ ap (option_map (λ ps. (spelled_name x s, ps))) (nothing_read bs (pairs_of JekyllInclude us) h)
+  jekyll_refused bs (errors.Fault f) none h = jekyll_named is us x s front spelled ∙ ap (option_map (λ ps. (spelled_name x s, ps))) (nothing_read bs (bound_pairs JekyllInclude us) h)

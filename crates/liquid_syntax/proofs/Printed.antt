@@ -7,7 +7,7 @@ use Rattle.liquid_model.specs.Maps.{listed}
 use Rattle.liquid_model.specs.Texts.{Text}
 use Rattle.liquid_language.specs.Registered.{registered_counts}
 use Rattle.liquid_language.specs.declared.registered_filter.RegisteredFilter.{RegisteredFilter}
-use Rattle.liquid_syntax.specs.ChainReading.{accepted_call, call_with, filters_of, call_of, called_of, arguments_of, further_of, chain_of}
+use Rattle.liquid_syntax.specs.ChainReading.{accepted_call, call_with, filters_of, filter_call_after_bar, called_of, arguments_of, further_of, chain_of}
 use Rattle.liquid_syntax.specs.Chains.{Filters, further_arguments, arguments, AreFilters, none, filter, IsChain, IsAssign, called_as}
 use Rattle.liquid_lexer.specs.Tokens.{Token, value, range, symbol, word, word_of, word_first, past, is_symbol}
 use Rattle.liquid_syntax.specs.Classification.{assign_of}
@@ -115,7 +115,7 @@ module _ (l : Filters) where
   Arguments : List Token → List Expression × List FilterCall → Type 0
   Arguments is x = (v : Expression) × (vs : List Expression) × (rest : List Token) × (x.0 ≡ v ∷ vs) × (is ≡ value v ∷ (further_arguments vs ++ rest)) × AreFilters l x.1 rest
 
-  filters_by : (i : Token) (is : List Token) (fs : List FilterCall) (b : Bool) → is_symbol Bar i ≡ b → cond b (call_of l is) None ≡ Some fs → ((fs : List FilterCall) → call_of l is ≡ Some fs → AreFilters l fs (symbol Bar ∷ is)) → AreFilters l fs (i ∷ is)
+  filters_by : (i : Token) (is : List Token) (fs : List FilterCall) (b : Bool) → is_symbol Bar i ≡ b → cond b (filter_call_after_bar l is) None ≡ Some fs → ((fs : List FilterCall) → filter_call_after_bar l is ≡ Some fs → AreFilters l fs (symbol Bar ∷ is)) → AreFilters l fs (i ∷ is)
   filters_by i is fs true e h go = subst (λ (i : Token). AreFilters l fs (i ∷ is)) (sym (bar_is i e)) (go fs h)
   filters_by i is fs false e h go = absurd cc
 
@@ -128,15 +128,15 @@ module _ (l : Filters) where
   unfolding Called More
   tail_by is o x h go = let m = map_some o _ x h in let f = go m.0 m.1 in subst (λ (x : List Expression × List FilterCall). Called is x × More is x) m.2 ((is, refl, f), (is, refl, f))
 
-  called_by : (i : Token) (is : List Token) (x : List Expression × List FilterCall) (b : Bool) → is_symbol Colon i ≡ b → cond b (arguments_of l is) (option_map (λ fs. ([], fs)) (cond (is_symbol Bar i) (call_of l is) None)) ≡ Some x
-      → ((x : List Expression × List FilterCall) → arguments_of l is ≡ Some x → Arguments is x) → ((fs : List FilterCall) → call_of l is ≡ Some fs → AreFilters l fs (symbol Bar ∷ is)) → Called (i ∷ is) x
+  called_by : (i : Token) (is : List Token) (x : List Expression × List FilterCall) (b : Bool) → is_symbol Colon i ≡ b → cond b (arguments_of l is) (option_map (λ fs. ([], fs)) (cond (is_symbol Bar i) (filter_call_after_bar l is) None)) ≡ Some x
+      → ((x : List Expression × List FilterCall) → arguments_of l is ≡ Some x → Arguments is x) → ((fs : List FilterCall) → filter_call_after_bar l is ≡ Some fs → AreFilters l fs (symbol Bar ∷ is)) → Called (i ∷ is) x
   called_by i is x true e h args go = subst (λ (i : Token). Called (i ∷ is) x) (sym (colon_is i e)) (arguments_head is x (args x h)).0
-  called_by i is x false e h args go = (tail_by (i ∷ is) (cond (is_symbol Bar i) (call_of l is) None) x h (λ fs g. filters_by i is fs (is_symbol Bar i) refl g go)).0
+  called_by i is x false e h args go = (tail_by (i ∷ is) (cond (is_symbol Bar i) (filter_call_after_bar l is) None) x h (λ fs g. filters_by i is fs (is_symbol Bar i) refl g go)).0
 
-  more_by : (i : Token) (is : List Token) (x : List Expression × List FilterCall) (b : Bool) → is_symbol Comma i ≡ b → cond b (arguments_of l is) (option_map (λ fs. ([], fs)) (cond (is_symbol Bar i) (call_of l is) None)) ≡ Some x
-      → ((x : List Expression × List FilterCall) → arguments_of l is ≡ Some x → Arguments is x) → ((fs : List FilterCall) → call_of l is ≡ Some fs → AreFilters l fs (symbol Bar ∷ is)) → More (i ∷ is) x
+  more_by : (i : Token) (is : List Token) (x : List Expression × List FilterCall) (b : Bool) → is_symbol Comma i ≡ b → cond b (arguments_of l is) (option_map (λ fs. ([], fs)) (cond (is_symbol Bar i) (filter_call_after_bar l is) None)) ≡ Some x
+      → ((x : List Expression × List FilterCall) → arguments_of l is ≡ Some x → Arguments is x) → ((fs : List FilterCall) → filter_call_after_bar l is ≡ Some fs → AreFilters l fs (symbol Bar ∷ is)) → More (i ∷ is) x
   more_by i is x true e h args go = subst (λ (i : Token). More (i ∷ is) x) (sym (comma_is i e)) (arguments_head is x (args x h)).1
-  more_by i is x false e h args go = (tail_by (i ∷ is) (cond (is_symbol Bar i) (call_of l is) None) x h (λ fs g. filters_by i is fs (is_symbol Bar i) refl g go)).1
+  more_by i is x false e h args go = (tail_by (i ∷ is) (cond (is_symbol Bar i) (filter_call_after_bar l is) None) x h (λ fs g. filters_by i is fs (is_symbol Bar i) refl g go)).1
 
   mutual
     unfolding filters_of Called More Arguments
@@ -145,7 +145,7 @@ module _ (l : Filters) where
     filters_takes [] fs h = subst (λ fs. AreFilters l fs []) (from_some h) none
     filters_takes (i ∷ is) fs h = filters_by i is fs (is_symbol Bar i) refl h (call_takes is)
 
-    call_takes : (is : List Token) (fs : List FilterCall) → call_of l is ≡ Some fs → AreFilters l fs (symbol Bar ∷ is)
+    call_takes : (is : List Token) (fs : List FilterCall) → filter_call_after_bar l is ≡ Some fs → AreFilters l fs (symbol Bar ∷ is)
     call_takes [] fs h = absurd cc
     call_takes (i ∷ is) fs h =
         let (w, named, x_is) = bind_some (word_of i) _ fs h in

@@ -6,8 +6,8 @@ use Rattle.liquid_model.specs.Texts.{Text}
 use Rattle.liquid_lexer.specs.Tokens.{Token, value, word, value_first, word_first, past_word}
 use Rattle.liquid_lexer.proofs.WordLaws.{bind_some, map_some}
 use Rattle.liquid_evaluation.specs.Tree.{Bindings, Source, each_of, counted}
-use Rattle.liquid_syntax.specs.Bound.{ArePairs, behind_comma, last_comma, no_item, pairs_of, unseparated}
-use Rattle.liquid_syntax.specs.Loops.{or_else, source_first, source_token}
+use Rattle.liquid_syntax.specs.Bound.{ArePairs, behind_comma, last_comma, no_item, bound_pairs, unseparated}
+use Rattle.liquid_syntax.specs.Loops.{read_or_else, source_first, source_token}
 use Rattle.liquid_syntax.specs.PartialItems.{IsRender, Rendered, each_first, for_each_of, render_of, rendered_each, rendered_of, rendered_once, rendered_with, with_first, with_one, without}
 use Rattle.liquid_syntax.specs.Repeated.{no_more, one_more}
 use Rattle.liquid_syntax.specs.declared.pair_items.PairStyle.TheVariants.{Render}
@@ -37,13 +37,13 @@ each_takes ts e rest h =
 
 once_takes : (x : Expression) (r : Rendered) (ts : List Token) → rendered_once ts ≡ Some r → IsRender x r.0 r.1 (value x ∷ ts)
 once_takes x r ts h =
-    let (ps, read, same) = map_some (pairs_of Render ts) _ r h in
+    let (ps, read, same) = map_some (bound_pairs Render ts) _ r h in
     subst (λ (r : Rendered). IsRender x r.0 r.1 (value x ∷ ts)) same (without x (pairs_takes Render ps ts read))
 
 behind_with : (x : Expression) (r : Rendered) (ts behind : List Token) → past_word (codes "with") ts ≡ Some behind → rendered_with behind ≡ Some r → IsRender x r.0 r.1 (value x ∷ ts)
 behind_with x r ts behind e h =
     let (p, front, more) = bind_some (with_first behind) _ r h in
-    let (ps, read, same) = map_some (pairs_of Render p.1) _ r more in
+    let (ps, read, same) = map_some (bound_pairs Render p.1) _ r more in
     let there : ts ≡ word (codes "with") ∷ value p.0.1 ∷ word (codes "as") ∷ word p.0.0 ∷ p.1 =
     past_word_is (codes "with") ts behind e ∙ ap (λ (ts : List Token). word (codes "with") ∷ ts) (with_takes behind p.0 p.1 front) in
     subst (λ (r : Rendered). IsRender x r.0 r.1 (value x ∷ ts)) same
@@ -52,17 +52,17 @@ behind_with x r ts behind e h =
 behind_for : (x : Expression) (r : Rendered) (ts behind : List Token) → past_word (codes "for") ts ≡ Some behind → rendered_each behind ≡ Some r → IsRender x r.0 r.1 (value x ∷ ts)
 behind_for x r ts behind e h =
     let (each, front, more) = bind_some (each_first behind) _ r h in
-    let (ps, read, same) = map_some (pairs_of Render each.1) _ r more in
+    let (ps, read, same) = map_some (bound_pairs Render each.1) _ r more in
     let there : ts ≡ word (codes "for") ∷ source_token each.0.0 ∷ word (codes "as") ∷ word each.0.1 ∷ each.1 =
     past_word_is (codes "for") ts behind e ∙ ap (λ (ts : List Token). word (codes "for") ∷ ts) (each_takes behind each.0 each.1 front) in
     subst (λ (r : Rendered). IsRender x r.0 r.1 (value x ∷ ts)) same
     (subst (λ (ts : List Token). IsRender x (Some each.0) ps (value x ∷ ts)) (sym there) (for_each_of x each.0.0 each.0.1 (pairs_takes Render ps each.1 read)))
 
-for_or_once : (x : Expression) (r : Rendered) (ts : List Token) (o : Option (List Token)) → past_word (codes "for") ts ≡ o → or_else o rendered_each (rendered_once ts) ≡ Some r → IsRender x r.0 r.1 (value x ∷ ts)
+for_or_once : (x : Expression) (r : Rendered) (ts : List Token) (o : Option (List Token)) → past_word (codes "for") ts ≡ o → read_or_else o rendered_each (rendered_once ts) ≡ Some r → IsRender x r.0 r.1 (value x ∷ ts)
 for_or_once x r ts None e h = once_takes x r ts h
 for_or_once x r ts (Some behind) e h = behind_for x r ts behind e h
 
-behind_name : (x : Expression) (r : Rendered) (ts : List Token) (o : Option (List Token)) → past_word (codes "with") ts ≡ o → or_else o rendered_with (or_else (past_word (codes "for") ts) rendered_each (rendered_once ts)) ≡ Some r
+behind_name : (x : Expression) (r : Rendered) (ts : List Token) (o : Option (List Token)) → past_word (codes "with") ts ≡ o → read_or_else o rendered_with (read_or_else (past_word (codes "for") ts) rendered_each (rendered_once ts)) ≡ Some r
     → IsRender x r.0 r.1 (value x ∷ ts)
 behind_name x r ts None e h = for_or_once x r ts (past_word (codes "for") ts) refl h
 behind_name x r ts (Some behind) e h = behind_with x r ts behind e h
@@ -88,7 +88,7 @@ each_again (each_of x) w ts = refl
 each_again (counted x y) w ts = refl
 
 each_with : (Source × Text) × List Token → Option Rendered
-each_with e = option_map (λ ps. (Some e.0, ps)) (pairs_of Render e.1)
+each_with e = option_map (λ ps. (Some e.0, ps)) (bound_pairs Render e.1)
 
 of_name : Expression → Option Rendered → Option (Expression × Rendered)
 of_name x o = option_map (λ r. (x, r)) o
@@ -96,8 +96,8 @@ of_name x o = option_map (λ r. (x, r)) o
 pub render_again : (x : Expression) (each : Option (Source × Text)) (ps : Bindings) (ts : List Token) → IsRender x each ps ts → render_of ts ≡ Some (x, (each, ps))
 unfolding each_with of_name
 render_again x each ps ts (without {ts = us} y is) =
-    ap (λ (o : Option (List Token)). of_name x (or_else o rendered_with (or_else (past_word (codes "for") us) rendered_each (rendered_once us)))) (no_word (codes "with") ps us is)
-    ∙ ap (λ (o : Option (List Token)). of_name x (or_else o rendered_each (rendered_once us))) (no_word (codes "for") ps us is)
+    ap (λ (o : Option (List Token)). of_name x (read_or_else o rendered_with (read_or_else (past_word (codes "for") us) rendered_each (rendered_once us)))) (no_word (codes "with") ps us is)
+    ∙ ap (λ (o : Option (List Token)). of_name x (read_or_else o rendered_each (rendered_once us))) (no_word (codes "for") ps us is)
     ∙ ap (λ (o : Option Bindings). of_name x (option_map (λ ps. (None, ps)) o)) (pairs_again Render ps us is)
 render_again x each ps ts (with_one {ps = qs} {ts = us} y z w is) =
     ap (λ (o : Option Bindings). of_name x (option_map (λ ps. (None, (w, z) ∷ ps)) o)) (pairs_again Render qs us is)

@@ -6,7 +6,7 @@ use Rattle.std.specs.String.{string_bytes}
 use Rattle.std.proofs.lemmas.Map.Text.{btree_set_updates_text}
 use Rattle.std.proofs.lemmas.Slice.Eq.{bytes_eq-Decides}
 use Rattle.liquid_model.specs.Texts.{Text}
-use Rattle.liquid_syntax.specs.NameSets.{held, added}
+use Rattle.liquid_syntax.specs.NameSets.{mentioned_in_set, added}
 
 or_neither : (b : Bool) → b ≡ (b || (false || false))
 or_neither true = refl
@@ -28,12 +28,12 @@ module _ (P : Bool → Bool → Type 0) (a b : Text) (same : a ≡ b → P true 
       on false true e f = absurd (let h : a ≡ b = sym ((bytes_eq-Decides b a).0 f) in let k : bytes_eq a b ≡ true = (bytes_eq-Decides a b).1 h in cc)
 
 -- the set was given the name
-pub name_put : (name : Text) (k : String Global) (s n : BTreeSet (String Global)) → UpdatesBy string_cmp (string_cmp k) s n true → string_bytes k ≡ name → held n ≡ added (name ∷ []) (held s)
-unfolding held added
+pub name_put : (name : Text) (k : String Global) (s n : BTreeSet (String Global)) → UpdatesBy string_cmp (string_cmp k) s n true → string_bytes k ≡ name → mentioned_in_set n ≡ added (name ∷ []) (mentioned_in_set s)
+unfolding mentioned_in_set added
 name_put name k s n updates is = fun_ext (λ q. btree_set_updates_text (string_bytes k) s n true updates q ∙ ap (λ t. cond (bytes_eq t q) true (contains_text s q)) is
     ∙ either (λ x y. cond x true (contains_text s q) ≡ (contains_text s q || (y || false))) name q (λ e. or_both (contains_text s q)) (or_neither (contains_text s q)))
 
 -- the set has it
-pub name_there : (name : Text) (s : BTreeSet (String Global)) → true ≡ contains_text s name → held s ≡ added (name ∷ []) (held s)
-unfolding held added
+pub name_there : (name : Text) (s : BTreeSet (String Global)) → true ≡ contains_text s name → mentioned_in_set s ≡ added (name ∷ []) (mentioned_in_set s)
+unfolding mentioned_in_set added
 name_there name s has = fun_ext (λ q. either (λ x y. contains_text s q ≡ (contains_text s q || (y || false))) name q (λ e. ap (contains_text s) (sym e) ∙ sym has ∙ or_both (contains_text s q)) (or_neither (contains_text s q)))

@@ -9,7 +9,7 @@ use Rattle.liquid_language.specs.declared.block.Role.TheVariants.{End, Control a
 use Rattle.liquid_language.specs.declared.language.BlockKind.TheVariants as blocks
 use Rattle.liquid_lexer.specs.declared.piece.Body.{Body}
 use Rattle.liquid_lexer.specs.declared.piece.Body.TheVariants as bodies
-use Rattle.liquid_syntax.specs.OpenBlocks.{Level, State, context_of, step, at_end, go, read}
+use Rattle.liquid_syntax.specs.OpenBlocks.{Level, State, context_of, statement_step, at_end, go, read_pieces}
 use Rattle.liquid_lexer.specs.Pieces.{Piece, text, output, tag, raw, comment}
 use Rattle.liquid_lexer.specs.SourceReading.{all_steps, source_at, TakesWanted}
 use Rattle.liquid_syntax.specs.Parsing.{IsTemplate, IsOnlyTree, HasNoTree}
@@ -23,7 +23,7 @@ use Rattle.liquid_lexer.proofs.SourceLaws.{source_takes, source_again}
 use Rattle.liquid_lexer.proofs.WordLaws.{bind_some, from_some}
 
 module _ (l : Language) where
-  bare_tag : (role : Option Role) (s next : State) → step (tag_statement l [] [] role) s.0 s.1 ≡ Some next → unread_body role ≡ None
+  bare_tag : (role : Option Role) (s next : State) → statement_step (tag_statement l [] [] role) s.0 s.1 ≡ Some next → unread_body role ≡ None
   bare_tag None s next h = refl
   bare_tag (Some End) s next h = refl
   bare_tag (Some (Word word)) s next h = refl
@@ -38,12 +38,12 @@ module _ (l : Language) where
   bare_tag (Some (Start blocks.Raw)) s next h = absurd cc
   bare_tag (Some (Start blocks.Comment)) s next h = absurd cc
 
-  raw_wanted : (t : Text) (body : Option Body) (s next : State) → step (raw_statement t body) s.0 s.1 ≡ Some next → body ≡ Some bodies.Raw
+  raw_wanted : (t : Text) (body : Option Body) (s next : State) → statement_step (raw_statement t body) s.0 s.1 ≡ Some next → body ≡ Some bodies.Raw
   raw_wanted t None s next h = absurd cc
   raw_wanted t (Some bodies.Raw) s next h = refl
   raw_wanted t (Some bodies.Comment) s next h = absurd cc
 
-  comment_wanted : (body : Option Body) (s next : State) → step (comment_statement body) s.0 s.1 ≡ Some next → body ≡ Some bodies.Comment
+  comment_wanted : (body : Option Body) (s next : State) → statement_step (comment_statement body) s.0 s.1 ≡ Some next → body ≡ Some bodies.Comment
   comment_wanted None s next h = absurd cc
   comment_wanted (Some bodies.Raw) s next h = absurd cc
   comment_wanted (Some bodies.Comment) s next h = refl
@@ -58,12 +58,12 @@ module _ (l : Language) where
   agrees s next (comment w) h = comment_wanted (unread_body (role_of l (context_of s.0) w)) s next h
 
   -- one piece after another, and then the end
-  steps_read : (ps : List Piece) (ls : List Level) (cur : Nodes) → option_and_then (λ s. at_end s.0 s.1) (all_steps (piece_step l) ps (ls, cur)) ≡ read (reads l) ps ls cur
+  steps_read : (ps : List Piece) (ls : List Level) (cur : Nodes) → option_and_then (λ s. at_end s.0 s.1) (all_steps (piece_step l) ps (ls, cur)) ≡ read_pieces (reads l) ps ls cur
   steps_read [] ls cur = refl
-  steps_read (p ∷ ps) ls cur = on (step (reads l (context_of ls) p) ls cur) (λ s. steps_read ps s.0 s.1)
+  steps_read (p ∷ ps) ls cur = on (statement_step (reads l (context_of ls) p) ls cur) (λ s. steps_read ps s.0 s.1)
     where
-      on : (o : Option State) → ((s : State) → option_and_then (λ s. at_end s.0 s.1) (all_steps (piece_step l) ps s) ≡ read (reads l) ps s.0 s.1)
-          → option_and_then (λ s. at_end s.0 s.1) (option_and_then (all_steps (piece_step l) ps) o) ≡ go (read (reads l) ps) o
+      on : (o : Option State) → ((s : State) → option_and_then (λ s. at_end s.0 s.1) (all_steps (piece_step l) ps s) ≡ read_pieces (reads l) ps s.0 s.1)
+          → option_and_then (λ s. at_end s.0 s.1) (option_and_then (all_steps (piece_step l) ps) o) ≡ go (read_pieces (reads l) ps) o
       on None more = refl
       on (Some s) more = more s
 

@@ -5,10 +5,10 @@ use Rattle.std.proofs.Common.{refl, sym, ap, subst, ◌∙◌}
 use Rattle.std.proofs.lemmas.List.{length-map}
 use Rattle.liquid_core.specs.Expression.{Expression}
 use Rattle.liquid_evaluation.specs.Tree as tree
-use Rattle.liquid_syntax.specs.Forest.{Forest, Bodies, empty, node, no_bodies, body, size, sizes}
+use Rattle.liquid_syntax.specs.Forest.{Forest, Bodies, empty, node, no_bodies, body, forest_size, sizes}
 use Rattle.liquid_syntax.specs.Laid.{Flat, laid, laid_bodies, ends_of}
 use Rattle.liquid_syntax.specs.Flats.{Maker, leaf, one_body, two_bodies, case_flat, with_arms, values_in, arm_values, arm_ends, flat_of, flats, nodes_of, bodies_of}
-use Rattle.liquid_syntax.specs.Templates.{list_of, forest_of, tree_of}
+use Rattle.liquid_syntax.specs.Templates.{template_nodes, forest_of, tree_of}
 use Rattle.liquid_syntax.specs.declared.node.Arm.{Arm}
 use Rattle.liquid_syntax.specs.declared.node.Node.{Node}
 use Rattle.liquid_syntax.specs.declared.node.TwoBodies.{TwoBodies}
@@ -144,7 +144,7 @@ module _ {R : Type 0} (none : R) (plus : R → R → R) (of_node : tree.Node →
 
     ends_count : (k : ℕ) (bs : Bodies Maker) → length (bodies_of bs) ≡ length (ends_of k bs)
     ends_count k no_bodies = refl
-    ends_count k (body f bs) = ap suc (ends_count (k + size f) bs)
+    ends_count k (body f bs) = ap suc (ends_count (k + forest_size f) bs)
 
     mutual
       unfolding total all_themselves IsMade
@@ -164,8 +164,8 @@ module _ {R : Type 0} (none : R) (plus : R → R → R) (of_node : tree.Node →
       bodies_total k no_bodies h = refl
       bodies_total k (body f bs) h =
           let first = laid k f in
-          let after = laid_bodies (k + size f) bs in
-          (λ i. plus (forest_total k f (all_left first after h) i) (bodies_total (k + size f) bs (all_right first after h) i)) ∙ sym (both_themselves first after)
+          let after = laid_bodies (k + forest_size f) bs in
+          (λ i. plus (forest_total k f (all_left first after h) i) (bodies_total (k + forest_size f) bs (all_right first after h) i)) ∙ sym (both_themselves first after)
 
     -- ---- templates
 
@@ -179,9 +179,9 @@ module _ {R : Type 0} (none : R) (plus : R → R → R) (of_node : tree.Node →
       list_themselves [] = refl
       list_themselves (n ∷ ns) = (λ i. plus (itself_is (own n) (flat_of n) (makes n) i) (list_themselves ns i))
 
-      pub tree_total : (t : Template) → of_nodes (tree_of t) ≡ list_total own (list_of t)
+      pub tree_total : (t : Template) → of_nodes (tree_of t) ≡ list_total own (template_nodes t)
       tree_total t =
           ap of_nodes (tree_is t)
-          ∙ forest_total 0 (forest_of t) (subst (AllByRecursion IsMade) (sym (template_laid t)) (all_made (list_of t)))
+          ∙ forest_total 0 (forest_of t) (subst (AllByRecursion IsMade) (sym (template_laid t)) (all_made (template_nodes t)))
           ∙ ap all_themselves (template_laid t)
-          ∙ list_themselves (list_of t)
+          ∙ list_themselves (template_nodes t)

@@ -8,7 +8,7 @@ use Rattle.liquid_evaluation.specs.Counts.{count_of_node, count_of_nodes, count_
 use Rattle.liquid_evaluation.specs.SourceView.{source_view}
 use Rattle.liquid_evaluation.specs.Tree as tree
 use Rattle.liquid_syntax.specs.Flats.{arm_values, bindings_view, each_view, flat_of, leaf, window_view}
-use Rattle.liquid_syntax.specs.Templates.{list_of, tree_of}
+use Rattle.liquid_syntax.specs.Templates.{template_nodes, tree_of}
 use Rattle.liquid_syntax.specs.declared.node.Node.{Node}
 use Rattle.liquid_syntax.specs.declared.node.Node.TheVariants.{Text as Plain, Output, Assign, Raw, Comment, If, Unless, Capture, Case, For, TableRow, Break, Continue, Increment, Decrement, Cycle, IfChanged, Include, JekyllInclude, Render, RenderEach}
 use Rattle.liquid_syntax.specs.declared.template.Template.{Template}
@@ -77,5 +77,5 @@ unfolding list_total
 list_length [] = refl
 list_length (n ∷ ns) = omega (arith, list_length ns)
 
-pub template_count : (t : Template) → count_of_nodes (tree_of t) ≡ length (list_of t)
-template_count t = tree_total 0 plus count_of_node count_of_nodes sum (λ n. 1) makes t ∙ list_length (list_of t)
+pub template_count : (t : Template) → count_of_nodes (tree_of t) ≡ length (template_nodes t)
+template_count t = tree_total 0 plus count_of_node count_of_nodes sum (λ n. 1) makes t ∙ list_length (template_nodes t)

@@ -16,7 +16,7 @@ use Rattle.liquid_evaluation.specs.SourceView.{source_view}
 use Rattle.liquid_evaluation.specs.Tree as tree
 use Rattle.liquid_syntax.specs.Flats.{arm_values, bindings_view, each_view, flat_of, leaf, window_view}
 use Rattle.liquid_syntax.specs.inside.Mentions.{arms_names, each_names, for_names, head_names, jekyll_names, list_names, own_names, pairs_names, row_names}
-use Rattle.liquid_syntax.specs.Templates.{list_of, tree_of}
+use Rattle.liquid_syntax.specs.Templates.{template_nodes, tree_of}
 use Rattle.liquid_syntax.specs.declared.loop_nodes.For as loops
 use Rattle.liquid_syntax.specs.declared.loop_nodes.TableRow as rows
 use Rattle.liquid_syntax.specs.declared.node.Node.{Node}
@@ -134,5 +134,5 @@ module _ (N : Names) where
   list_names_are [] = refl
   list_names_are (n ∷ ns) = ap (λ r. own n || r) (list_names_are ns) ∙ sym (any_both (own_names n) (list_names ns) N)
 
-pub template_mentions : (t : Template) (N : Names) → list_any N (nodes_names (tree_of t)) ≡ list_any N (list_names (list_of t))
-template_mentions t N = tree_total false (either N) (in_node N) (in_nodes N) (sum N) (own N) (makes N) t ∙ list_names_are N (list_of t)
+pub template_mentions : (t : Template) (N : Names) → list_any N (nodes_names (tree_of t)) ≡ list_any N (list_names (template_nodes t))
+template_mentions t N = tree_total false (either N) (in_node N) (in_nodes N) (sum N) (own N) (makes N) t ∙ list_names_are N (template_nodes t)

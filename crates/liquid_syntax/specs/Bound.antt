@@ -74,5 +74,5 @@ ends_pairs k [] = true
 ends_pairs k (t ∷ []) = is_last k t
 ends_pairs k (t ∷ u ∷ ts) = false
 
-abbrev pub pairs_of : PairStyle → List Token → Option Bindings
-pairs_of k ts = repeated_of (one_first k) (ends_pairs k) ts
+abbrev pub bound_pairs : PairStyle → List Token → Option Bindings
+bound_pairs k ts = repeated_of (one_first k) (ends_pairs k) ts

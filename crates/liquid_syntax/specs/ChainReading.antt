@@ -45,12 +45,13 @@ module _ (known : Filters) where
     -- filters, up to the end
     pub filters_of : List Token → Option (List FilterCall)
     filters_of [] = Some []
-    filters_of (t ∷ ts) = cond (is_symbol Bar t) (call_of ts) None
+    filters_of (t ∷ ts) = cond (is_symbol Bar t) (filter_call_after_bar ts) None
 
     -- after a `|`
-    pub call_of : List Token → Option (List FilterCall)
-    call_of [] = None
-    call_of (t ∷ ts) = option_and_then (λ name. option_and_then (call_with name) (called_of ts))
+    pub filter_call_after_bar : List Token → Option (List FilterCall)
+    filter_call_after_bar [] = None
+    filter_call_after_bar (t ∷ ts) = option_and_then (λ name.
+        option_and_then (call_with name) (called_of ts))
         (word_of t)
 
     -- after a filter's name
@@ -58,7 +59,7 @@ module _ (known : Filters) where
     called_of [] = Some ([], [])
     called_of (t ∷ ts) =
         cond (is_symbol Colon t) (arguments_of ts)
-        (no_arguments (cond (is_symbol Bar t) (call_of ts) None))
+        (no_arguments (cond (is_symbol Bar t) (filter_call_after_bar ts) None))
 
     -- after a `:` or a `,`
     pub arguments_of : List Token → Option Called
@@ -70,7 +71,7 @@ module _ (known : Filters) where
     further_of [] = Some ([], [])
     further_of (t ∷ ts) =
         cond (is_symbol Comma t) (arguments_of ts)
-        (no_arguments (cond (is_symbol Bar t) (call_of ts) None))
+        (no_arguments (cond (is_symbol Bar t) (filter_call_after_bar ts) None))
 
   unfoldable pub chain_of : List Token → Option Chain
   chain_of [] = None

@@ -191,9 +191,9 @@ is_start (Some (Tag kind)) = false
 is_start (Some (Start kind)) = true
 
 -- the piece is the start of a block, whatever its items are
-abbrev pub opens : Language → BlockContext → pieces.Piece → Bool
-opens l x (pieces.text t) = false
-opens l x (pieces.output is) = false
-opens l x (pieces.tag w is) = is_start (role_of l x w)
-opens l x (pieces.raw w t) = is_start (role_of l x w)
-opens l x (pieces.comment w) = is_start (role_of l x w)
+abbrev pub starts_block : Language → BlockContext → pieces.Piece → Bool
+starts_block l x (pieces.text t) = false
+starts_block l x (pieces.output is) = false
+starts_block l x (pieces.tag w is) = is_start (role_of l x w)
+starts_block l x (pieces.raw w t) = is_start (role_of l x w)
+starts_block l x (pieces.comment w) = is_start (role_of l x w)

@@ -35,8 +35,8 @@ with_atom a [] = (a ∷ []) ∷ []
 with_atom a (c ∷ cs) = (a ∷ c) ∷ cs
 
 -- what an atom and the token after it give, where a condition may be after that
-abbrev pub joined : Atom → Token → Option Condition → Option Condition
-joined a t o = cond (is_word (codes "and") t) (option_map (with_atom a) o)
+abbrev pub atom_joined : Atom → Token → Option Condition → Option Condition
+atom_joined a t o = cond (is_word (codes "and") t) (option_map (with_atom a) o)
     (option_map (λ cs. (a ∷ []) ∷ cs) (cond (is_word (codes "or") t) o None))
 
 -- a comparison, where the token is an operator
@@ -56,7 +56,7 @@ unfoldable mutual
   pub behind_value : List Token → Expression → Option Condition
   behind_value [] x = Some ((bare x ∷ []) ∷ [])
   behind_value (t ∷ ts) x = compared_or (operator_of t) (behind_operator ts x)
-      (joined (bare x) t (condition_of ts))
+      (atom_joined (bare x) t (condition_of ts))
 
   -- after an operator
   pub behind_operator : List Token → Expression → ComparisonOperator → Option Condition
@@ -66,7 +66,7 @@ unfoldable mutual
   -- after an atom
   pub behind_atom : List Token → Atom → Option Condition
   behind_atom [] a = Some ((a ∷ []) ∷ [])
-  behind_atom (t ∷ ts) a = joined a t (condition_of ts)
+  behind_atom (t ∷ ts) a = atom_joined a t (condition_of ts)
 
 -- after a conjunction: nothing, or `or` and a condition
 unfoldable pub alternatives_of : List Token → Option Condition

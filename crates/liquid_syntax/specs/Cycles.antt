@@ -41,9 +41,9 @@ abbrev pub has_no_steps : Steps → Bool
 has_no_steps no_steps = true
 has_no_steps (step x more) = false
 
-abbrev pub is_name : Expression → Bool
-is_name (literal d) = true
-is_name (variable w steps) = has_no_steps steps
+abbrev pub is_cycle_name : Expression → Bool
+is_cycle_name (literal d) = true
+is_cycle_name (variable w steps) = has_no_steps steps
 
 -- values, or nothing
 abbrev pub any_values_of : List Token → Option (List Expression)
@@ -52,7 +52,8 @@ any_values_of (t ∷ ts) = values_of Commas (t ∷ ts)
 
 -- what follows a name and its `:`
 abbrev pub named_of : Expression → List Token → Option Cycle
-named_of name ts = cond (is_name name) (option_map (λ xs. (Some name, xs)) (any_values_of ts)) None
+named_of name ts = cond (is_cycle_name name) (option_map (λ xs. (Some name, xs)) (any_values_of ts))
+    None
 
 -- what follows a first value, from the `:` on where there is one
 abbrev pub behind_first : Expression → List Token → Option (List Token) → Option Cycle

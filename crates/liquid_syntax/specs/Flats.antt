@@ -1,7 +1,7 @@
 -- The list of nodes of a template, seen as a tree.
 --     flat_of x      what a node of the list makes of the trees of its bodies, and where those end
 --     nodes_of f      the tree of a range of the list
---     IsRange ns from to      the nodes from `from` to `to` are whole: each with all the nodes of
+--     IsNodeRange ns from to      the nodes from `from` to `to` are whole: each with all the nodes of
 --                             its bodies
 --     NodeAt ns at n next      the node at `at`, with its bodies, is n, and ends before `next`
 use Rattle.std.specs.Prelude.{◌≡◌, ℕ, ◌+◌, ◌≤◌, List, [], ◌∷◌, ◌++◌, map, Some, None, option_map}
@@ -14,7 +14,7 @@ use Rattle.liquid_evaluation.specs.SourceView.{source_view}
 use Rattle.liquid_evaluation.specs.Tree as tree
 use Rattle.liquid_syntax.specs.declared.node.Arm.{Arm}
 use Rattle.liquid_syntax.specs.Forest.{Forest, Bodies, empty, node, no_bodies, body}
-use Rattle.liquid_syntax.specs.Laid.{Flat, Stands, StandBodies, last_end}
+use Rattle.liquid_syntax.specs.Laid.{Flat, IsLaidOut, StandBodies, last_end}
 use Rattle.liquid_model.specs.Texts.{Text}
 use Rattle.liquid_core.specs.Expression.{Expression}
 use Rattle.liquid_syntax.specs.declared.loop_nodes.Each.{Each}
@@ -142,11 +142,11 @@ abbrev mutual
   bodies_of no_bodies = []
   bodies_of (body f bs) = nodes_of f ∷ bodies_of bs
 
-abbrev pub StandsAt : List Node → ℕ → Forest Maker → ℕ → Type 0
-StandsAt ns from f to = Stands (flats ns) from f to
+abbrev pub IsForestAt : List Node → ℕ → Forest Maker → ℕ → Type 0
+IsForestAt ns from f to = IsLaidOut (flats ns) from f to
 
-abbrev pub IsRange : List Node → ℕ → ℕ → Type 0
-IsRange ns from to = (f : Forest Maker) × StandsAt ns from f to
+abbrev pub IsNodeRange : List Node → ℕ → ℕ → Type 0
+IsNodeRange ns from to = (f : Forest Maker) × IsForestAt ns from f to
 
 abbrev pub NodeAt : List Node → ℕ → tree.Node → ℕ → Type 0
 NodeAt ns at n next =

@@ -12,10 +12,10 @@ mutual
 
 -- how many nodes there are, in all depths
 abbrev mutual
-  pub size : {A : Type 0} → Forest A → ℕ
-  size empty = 0
-  size (node h bs rest) = suc (sizes bs + size rest)
+  pub forest_size : {A : Type 0} → Forest A → ℕ
+  forest_size empty = 0
+  forest_size (node h bs rest) = suc (sizes bs + forest_size rest)
 
   pub sizes : {A : Type 0} → Bodies A → ℕ
   sizes no_bodies = 0
-  sizes (body f bs) = size f + sizes bs
+  sizes (body f bs) = forest_size f + sizes bs

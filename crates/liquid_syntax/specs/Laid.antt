@@ -1,7 +1,8 @@
 -- A forest as one list of nodes in source order: a node is followed by the nodes of its bodies,
 -- body after body.
 use Rattle.std.specs.Prelude.{◌≡◌, ℕ, zero, suc, ◌+◌, ◌-◌, List, [], ◌∷◌, ◌++◌, Some, slice_get}
-use Rattle.liquid_syntax.specs.Forest.{Forest, Bodies, empty, node, no_bodies, body, size, sizes}
+use Rattle.liquid_syntax.specs.Forest.{Forest, Bodies, empty, node, no_bodies, body, forest_size}
+use Rattle.liquid_syntax.specs.Forest.{sizes}
 
 -- a node of the list: its head, and where each of its bodies ends. A body begins where the one
 -- before ends, and the first after the node
@@ -16,21 +17,21 @@ last_end k (e ∷ es) = last_end e es
 
 -- the nodes from `at` to `to` are those of the forest
 abbrev mutual
-  pub Stands : {A : Type 0} → List (Flat A) → ℕ → Forest A → ℕ → Type 0
-  Stands ns at empty to = at ≡ to
-  Stands ns at (node h bs rest) to =
+  pub IsLaidOut : {A : Type 0} → List (Flat A) → ℕ → Forest A → ℕ → Type 0
+  IsLaidOut ns at empty to = at ≡ to
+  IsLaidOut ns at (node h bs rest) to =
       (x : Flat _) × (slice_get ns at ≡ Some x) × (x.head ≡ h) × StandBodies ns (at + 1) x.ends bs ×
-      Stands ns (last_end (at + 1) x.ends) rest to
+      IsLaidOut ns (last_end (at + 1) x.ends) rest to
 
   pub StandBodies : {A : Type 0} → List (Flat A) → ℕ → List ℕ → Bodies A → Type 0
   StandBodies ns at es no_bodies = es ≡ []
   StandBodies ns at es (body f bs) =
-      (e : ℕ) × (rest : List ℕ) × (es ≡ e ∷ rest) × Stands ns at f e × StandBodies ns e rest bs
+      (e : ℕ) × (rest : List ℕ) × (es ≡ e ∷ rest) × IsLaidOut ns at f e × StandBodies ns e rest bs
 
 -- the ends of bodies of which the first begins at k
 abbrev pub ends_of : {A : Type 0} → ℕ → Bodies A → List ℕ
 ends_of k no_bodies = []
-ends_of k (body f bs) = (k + size f) ∷ ends_of (k + size f) bs
+ends_of k (body f bs) = (k + forest_size f) ∷ ends_of (k + forest_size f) bs
 
 -- the list of a forest whose first node has index k
 abbrev mutual
@@ -44,7 +45,7 @@ abbrev mutual
 
   pub laid_bodies : {A : Type 0} → ℕ → Bodies A → List (Flat A)
   laid_bodies k no_bodies = []
-  laid_bodies k (body f bs) = laid k f ++ laid_bodies (k + size f) bs
+  laid_bodies k (body f bs) = laid k f ++ laid_bodies (k + forest_size f) bs
 
 -- the first roots that have n nodes together, and the roots after them
 abbrev pub front : {A : Type 0} → Forest A → ℕ → Forest A

@@ -34,11 +34,12 @@ abbrev pub valued : Text → Expression → List Token
 valued w x = word w ∷ symbol Colon ∷ value x ∷ []
 
 -- `limit: v` and `offset: v`; `reversed` in a `for`, and `cols: v` in a `tablerow`
-pub data IsPart : LoopTag → Part → List Token → Type 0 where
-  a_limit : {k : LoopTag} (x : Expression) → IsPart k (limit_is x) (valued (codes "limit") x)
-  an_offset : {k : LoopTag} (x : Expression) → IsPart k (offset_is x) (valued (codes "offset") x)
-  a_reversal : IsPart Each is_reversed (word (codes "reversed") ∷ [])
-  a_width : (x : Expression) → IsPart Rows (cols_is x) (valued (codes "cols") x)
+pub data IsLoopPart : LoopTag → Part → List Token → Type 0 where
+  a_limit : {k : LoopTag} (x : Expression) → IsLoopPart k (limit_is x) (valued (codes "limit") x)
+  an_offset : {k : LoopTag} (x : Expression) → IsLoopPart k (offset_is x)
+      (valued (codes "offset") x)
+  a_reversal : IsLoopPart Each is_reversed (word (codes "reversed") ∷ [])
+  a_width : (x : Expression) → IsLoopPart Rows (cols_is x) (valued (codes "cols") x)
 
 pub record Parts : Type 0 where
   pub limit : Option Expression
@@ -88,18 +89,18 @@ pub record Head : Type 0 where
   pub source : Source
   pub parts : Parts
 
-abbrev pub in_word : Token
-in_word = word (codes "in")
+abbrev pub in_keyword : Token
+in_keyword = word (codes "in")
 
 -- `w in R`, and any parts, of which the last of a kind counts
 pub data IsLoop (k : LoopTag) : Head → List Token → Type 0 where
   a_loop : {ps : List Part} {ts : List Token} (w : Text) (s : Source) →
-      AreRepeated (IsPart k) IsNothing ps ts
+      AreRepeated (IsLoopPart k) IsNothing ps ts
       → IsLoop k (record {
         variable = w;
         source = s;
         parts = with_parts no_parts ps;
-      }) (word w ∷ in_word ∷ source_token s ∷ ts)
+      }) (word w ∷ in_keyword ∷ source_token s ∷ ts)
 
 -- ---- reading
 
@@ -117,9 +118,9 @@ abbrev pub part_value : (Expression → Part) → List Token → Option (Part ×
 part_value make ts = option_and_then (λ rest. option_map (λ x. (make x.0, x.1)) (value_first rest))
     (past Colon ts)
 
-abbrev pub or_else : {A B : Type 0} → Option A → (A → Option B) → Option B → Option B
-or_else None f o = o
-or_else (Some x) f o = f x
+abbrev pub read_or_else : {A B : Type 0} → Option A → (A → Option B) → Option B → Option B
+read_or_else None f o = o
+read_or_else (Some x) f o = f x
 
 abbrev pub own_part : LoopTag → List Token → Option (Part × List Token)
 own_part Each ts = option_map (λ rest. (is_reversed, rest)) (past_word (codes "reversed") ts)
@@ -127,8 +128,8 @@ own_part Rows ts = option_and_then (part_value cols_is) (past_word (codes "cols"
 
 abbrev pub part_first : LoopTag → List Token → Option (Part × List Token)
 part_first k ts =
-    or_else (past_word (codes "limit") ts) (part_value limit_is)
-    (or_else (past_word (codes "offset") ts) (part_value offset_is) (own_part k ts))
+    read_or_else (past_word (codes "limit") ts) (part_value limit_is)
+    (read_or_else (past_word (codes "offset") ts) (part_value offset_is) (own_part k ts))
 
 abbrev pub is_nothing : List Token → Bool
 is_nothing [] = true

@@ -9,8 +9,8 @@ use Rattle.liquid_model.specs.Texts.{Text}
 use Rattle.liquid_evaluation.specs.Names.{mentioned}
 
 -- whether a set has a name
-unfoldable pub held : BTreeSet (String Global) → Names
-held names name = contains_text names name
+unfoldable pub mentioned_in_set : BTreeSet (String Global) → Names
+mentioned_in_set names name = contains_text names name
 
 -- the names before, and these besides
 unfoldable pub added : List Text → Names → Names

@@ -80,9 +80,9 @@ deeper true n = n
 deeper false n = suc n
 
 -- how deep the blocks nest: an `elsif` adds nothing
-abbrev pub depth : List Level → ℕ
-depth [] = 0
-depth (level r f k ∷ ls) = deeper k (depth ls)
+abbrev pub block_depth : List Level → ℕ
+block_depth [] = 0
+block_depth (level r f k ∷ ls) = deeper k (block_depth ls)
 
 -- the open blocks, the innermost first, and the nodes since
 abbrev pub State : Type 0
@@ -97,7 +97,7 @@ close true (level r f k ∷ ls) cur = close k ls (with_node f (ended r cur))
 
 -- a block may stand here: it is no more than 200 deep
 abbrev pub is_room : List Level → Bool
-is_room ls = nat_lt (depth ls) 200
+is_room ls = nat_lt (block_depth ls) 200
 
 abbrev pub to_closed : Node → List Level → Nodes → Option State
 to_closed n ls cur = cond (is_room ls) (Some (ls, with_node cur n)) None
@@ -120,15 +120,15 @@ to_elsif next (level r f k ∷ ls) cur =
     option_map (λ s. (level s.1 no_nodes true ∷ level s.0 f k ∷ ls, no_nodes)) (elsif_of next r cur)
 
 -- a piece changes the state
-abbrev pub step : Statement → List Level → Nodes → Option State
-step (leaf n) ls cur = Some (ls, with_node cur n)
-step (closed n) ls cur = to_closed n ls cur
-step (begins o) ls cur = to_begin o ls cur
-step (elsif next) ls cur = to_elsif next ls cur
-step (arm vs) ls cur = to_when vs ls cur
-step otherwise ls cur = to_else ls cur
-step ends ls cur = close true ls cur
-step refused ls cur = None
+abbrev pub statement_step : Statement → List Level → Nodes → Option State
+statement_step (leaf n) ls cur = Some (ls, with_node cur n)
+statement_step (closed n) ls cur = to_closed n ls cur
+statement_step (begins o) ls cur = to_begin o ls cur
+statement_step (elsif next) ls cur = to_elsif next ls cur
+statement_step (arm vs) ls cur = to_when vs ls cur
+statement_step otherwise ls cur = to_else ls cur
+statement_step ends ls cur = close true ls cur
+statement_step refused ls cur = None
 
 -- at the end of the source no block is open
 abbrev pub at_end : List Level → Nodes → Option Nodes
@@ -139,6 +139,7 @@ abbrev pub go : (List Level → Nodes → Option Nodes) → Option State → Opt
 go more s = option_and_then (λ s. more s.0 s.1) s
 
 module _ {P : Type 0} (reads : BlockContext → P → Statement) where
-  abbrev pub read : List P → List Level → Nodes → Option Nodes
-  read [] ls cur = at_end ls cur
-  read (p ∷ ps) ls cur = go (read ps) (step (reads (context_of ls) p) ls cur)
+  abbrev pub read_pieces : List P → List Level → Nodes → Option Nodes
+  read_pieces [] ls cur = at_end ls cur
+  read_pieces (p ∷ ps) ls cur = go (read_pieces ps)
+      (statement_step (reads (context_of ls) p) ls cur)

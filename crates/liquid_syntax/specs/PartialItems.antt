@@ -9,8 +9,8 @@ use Rattle.liquid_lexer.specs.Tokens.{Token, tokens_of, value, word, value_first
 use Rattle.liquid_lexer.specs.Tokens.{past_word}
 use Rattle.liquid_lexer.specs.declared.symbol.Symbol.TheVariants.{Colon}
 use Rattle.liquid_evaluation.specs.Tree.{Bindings, Node, Source, include, jekyll_include, render}
-use Rattle.liquid_syntax.specs.Bound.{IsPair, ArePairs, pair_first, pairs_of}
-use Rattle.liquid_syntax.specs.Loops.{or_else, source_first, source_token}
+use Rattle.liquid_syntax.specs.Bound.{IsPair, ArePairs, pair_first, bound_pairs}
+use Rattle.liquid_syntax.specs.Loops.{read_or_else, source_first, source_token}
 use Rattle.liquid_syntax.specs.declared.pair_items.PairStyle.TheVariants.{Include, JekyllInclude}
 use Rattle.liquid_syntax.specs.declared.pair_items.PairStyle.TheVariants.{Render}
 
@@ -37,12 +37,12 @@ pub data IsRender : Expression → Option (Source × Text) → Bindings → List
       word (codes "as") ∷ word w ∷ ts)
 
 -- the name of a jekyll `include`: the text of a text literal, or else the value as it is spelled
-abbrev pub text_or : Datum → Text → Text
-text_or (text t) spelling = t
-text_or _ spelling = spelling
+abbrev pub jekyll_include_name : Datum → Text → Text
+jekyll_include_name (text t) spelling = t
+jekyll_include_name _ spelling = spelling
 
 abbrev pub spelled_name : Expression → Text → Text
-spelled_name (literal d) spelling = text_or d spelling
+spelled_name (literal d) spelling = jekyll_include_name d spelling
 spelled_name (variable w steps) spelling = spelling
 
 -- that name, then pairs with `=`
@@ -56,7 +56,8 @@ pub data IsJekyllInclude : Text → Bindings → List items.Item → Type 0 wher
 -- no pairs, or a first one and those after it
 abbrev pub included_pairs : List Token → Option Bindings
 included_pairs [] = Some []
-included_pairs (t ∷ ts) = option_and_then (λ p. option_map (λ ps. p.0 ∷ ps) (pairs_of Include p.1))
+included_pairs (t ∷ ts) = option_and_then (λ p. option_map (λ ps.
+    p.0 ∷ ps) (bound_pairs Include p.1))
     (pair_first Colon (t ∷ ts))
 
 abbrev pub include_of : List Token → Option (Expression × Bindings)
@@ -83,21 +84,22 @@ Rendered = Option (Source × Text) × Bindings
 
 -- the pairs alone
 abbrev pub rendered_once : List Token → Option Rendered
-rendered_once ts = option_map (λ ps. (None, ps)) (pairs_of Render ts)
+rendered_once ts = option_map (λ ps. (None, ps)) (bound_pairs Render ts)
 
 -- after `with`: the first pair, and those after it
 abbrev pub rendered_with : List Token → Option Rendered
-rendered_with ts = option_and_then (λ p. option_map (λ ps. (None, p.0 ∷ ps)) (pairs_of Render p.1))
+rendered_with ts = option_and_then (λ p. option_map (λ ps.
+    (None, p.0 ∷ ps)) (bound_pairs Render p.1))
     (with_first ts)
 
 -- after `for`: the source and the variable, and the pairs
 abbrev pub rendered_each : List Token → Option Rendered
-rendered_each ts = option_and_then (λ e. option_map (λ ps. (Some e.0, ps)) (pairs_of Render e.1))
+rendered_each ts = option_and_then (λ e. option_map (λ ps. (Some e.0, ps)) (bound_pairs Render e.1))
     (each_first ts)
 
 abbrev pub rendered_of : List Token → Option Rendered
-rendered_of ts = or_else (past_word (codes "with") ts) rendered_with
-    (or_else (past_word (codes "for") ts) rendered_each (rendered_once ts))
+rendered_of ts = read_or_else (past_word (codes "with") ts) rendered_with
+    (read_or_else (past_word (codes "for") ts) rendered_each (rendered_once ts))
 
 abbrev pub render_of : List Token → Option (Expression × Rendered)
 render_of ts = option_and_then (λ x. option_map (λ r. (x.0, r)) (rendered_of x.1)) (value_first ts)
@@ -105,7 +107,7 @@ render_of ts = option_and_then (λ x. option_map (λ r. (x.0, r)) (rendered_of x
 abbrev pub jekyll_of : List items.Item → Option (Text × Bindings)
 jekyll_of [] = None
 jekyll_of (items.value x spelling ∷ is) = option_map (λ ps. (spelled_name x spelling, ps))
-    (pairs_of JekyllInclude (tokens_of is))
+    (bound_pairs JekyllInclude (tokens_of is))
 jekyll_of (items.range x y ∷ is) = None
 jekyll_of (items.symbol s ∷ is) = None
 

@@ -3,7 +3,7 @@ use Rattle.std.specs.Prelude.{◌≡◌, ◌↔◌, List, Some}
 use Rattle.liquid_core.specs.Expression.{Expression}
 use Rattle.liquid_lexer.specs.Tokens.{Token}
 use Rattle.liquid_evaluation.specs.Tree.{Bindings}
-use Rattle.liquid_syntax.specs.Bound.{ArePairs, pairs_of}
+use Rattle.liquid_syntax.specs.Bound.{ArePairs, bound_pairs}
 use Rattle.liquid_syntax.specs.Loops.{Head, IsLoop, loop_of}
 use Rattle.liquid_syntax.specs.ValueLists.{AreValues, values_of}
 use Rattle.liquid_syntax.specs.declared.loop_items.LoopTag.{LoopTag}
@@ -18,5 +18,5 @@ abbrev pub ReadsLoops : Type 0
 ReadsLoops = (k : LoopTag) (h : Head) (ts : List Token) → (loop_of k ts ≡ Some h) ↔ IsLoop k h ts
 
 abbrev pub ReadsPairs : Type 0
-ReadsPairs = (k : PairStyle) (ps : Bindings) (ts : List Token) → (pairs_of k ts ≡ Some ps) ↔
+ReadsPairs = (k : PairStyle) (ps : Bindings) (ts : List Token) → (bound_pairs k ts ≡ Some ps) ↔
     ArePairs k ps ts

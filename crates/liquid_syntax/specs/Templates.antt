@@ -17,8 +17,8 @@ use Rattle.liquid_syntax.specs.declared.template.Template.{Template}
 use Rattle.liquid_syntax.specs.declared.partials.Partials.{Partials}
 use Rattle.liquid_syntax.specs.declared.positions.Position.{Position}
 
-abbrev pub list_of : Template → List Node
-list_of t = t.nodes.items
+abbrev pub template_nodes : Template → List Node
+template_nodes t = t.nodes.items
 
 -- where each of them begins in the source, which nothing else depends on
 abbrev pub positions_of : Template → List Position

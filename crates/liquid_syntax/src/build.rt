@@ -6,13 +6,15 @@ ghost use Rattle.std.specs.Prelude.{OnOk, true};
 ghost use Rattle.liquid_syntax.specs.inside.Building.{Begins, Closes, EndsFirst};
 ghost use Rattle.liquid_syntax.specs.inside.Building.{Finishes, IsBuilding, IsBuilt, IsFirst};
 ghost use Rattle.liquid_syntax.specs.inside.Building.{IsMemory, IsPrepared, IsSound, IsStack};
-ghost use Rattle.liquid_syntax.specs.inside.Building.{Steps, is_full, statement_view, of_bodies};
+ghost use Rattle.liquid_syntax.specs.inside.Building.{AdvancesTo, is_full, statement_view};
+ghost use Rattle.liquid_syntax.specs.inside.Building.{of_bodies};
 ghost use Rattle.liquid_syntax.specs.inside.Building.{context_at, opening, takes_else, takes_when};
 ghost use Rattle.liquid_syntax.specs.inside.Building.{text_added};
 ghost use Rattle.liquid_syntax.specs.Faults.{FaultsAt};
 ghost use Rattle.liquid_syntax.specs.Flats.{flat_of};
 ghost use Rattle.liquid_core.specs.ExpressionView.{expression_view};
-ghost use Rattle.liquid_syntax.specs.OpenBlocks.{Level, at_end, close, step, to_begin, to_closed};
+ghost use Rattle.liquid_syntax.specs.OpenBlocks.{Level, at_end, close, statement_step, to_begin};
+ghost use Rattle.liquid_syntax.specs.OpenBlocks.{to_closed};
 ghost use Rattle.liquid_syntax.specs.OpenBlocks.{to_else, to_elsif, to_when, with_node};
 ghost use Rattle.liquid_evaluation.specs.Tree.{Nodes, no_nodes};
 ghost use Rattle.liquid_syntax.specs.declared.build.Stage.TheVariants as stages;
@@ -119,7 +121,7 @@ impl Builder {
     fn leaf(&mut self, node: Node) -> Result<(), ParseError>
         requires { (flat_of node).ends ≡ [] }
         ensures stack { (ls : List Level) (cur : Nodes) → IsBuilding self.old ls cur →
-            Steps (Some (ls, with_node cur ((flat_of node).head []))) self.new result }
+            AdvancesTo (Some (ls, with_node cur ((flat_of node).head []))) self.new result }
         ensures fails { IsMemory result }
     {
         self.nodes.push(node)?;
@@ -129,7 +131,7 @@ impl Builder {
     /// A text; an empty one is no node.
     pub fn text(&mut self, alloc: Global, text: &str) -> Result<(), ParseError>
         ensures { (ls : List Level) (cur : Nodes) → IsBuilding self.old ls cur →
-            Steps (Some (ls, text_added text.now cur)) self.new result }
+            AdvancesTo (Some (ls, text_added text.now cur)) self.new result }
     {
         if text.is_empty() {
             return Ok(());
@@ -166,7 +168,7 @@ impl Builder {
     fn otherwise(&mut self, left: usize) -> Result<(), ParseError>
         requires { IsBuilt self.old }
         ensures stack { (ls : List Level) (cur : Nodes) → IsBuilding self.old ls cur →
-            Steps (to_else ls cur) self.new result }
+            AdvancesTo (to_else ls cur) self.new result }
         ensures place { FaultsAt left result }
     {
         match self.blocks.pop() {
@@ -191,7 +193,7 @@ impl Builder {
     fn when(&mut self, values: Vec<Expression>, left: usize) -> Result<(), ParseError>
         requires { IsBuilt self.old }
         ensures stack { (ls : List Level) (cur : Nodes) → IsBuilding self.old ls cur →
-            Steps (to_when (map expression_view values.items) ls cur) self.new result }
+            AdvancesTo (to_when (map expression_view values.items) ls cur) self.new result }
         ensures place { FaultsAt left result }
     {
         match self.blocks.pop() {
@@ -244,7 +246,7 @@ impl Builder {
         requires { IsBuilt self.old }
         ensures stack { IsPrepared stages.First node → (ls : List Level) (cur : Nodes) →
             IsBuilding self.old ls cur →
-            Steps (to_elsif (of_bodies (flat_of node)) ls cur) self.new result }
+            AdvancesTo (to_elsif (of_bodies (flat_of node)) ls cur) self.new result }
         ensures place { FaultsAt left result }
     {
         match self.end_first(left) {
@@ -276,7 +278,7 @@ impl Builder {
     fn close(&mut self, left: usize) -> Result<(), ParseError>
         requires { IsBuilt self.old }
         ensures stack { (ls : List Level) (cur : Nodes) → IsBuilding self.old ls cur →
-            Steps (close true ls cur) self.new result }
+            AdvancesTo (close true ls cur) self.new result }
         ensures place { FaultsAt left result }
     {
         let mut chained = true;
@@ -294,7 +296,7 @@ impl Builder {
     fn closed(&mut self, node: Node, left: usize) -> Result<(), ParseError>
         requires { (flat_of node).ends ≡ [] }
         ensures stack { (ls : List Level) (cur : Nodes) → IsBuilding self.old ls cur →
-            Steps (to_closed ((flat_of node).head []) ls cur) self.new result }
+            AdvancesTo (to_closed ((flat_of node).head []) ls cur) self.new result }
         ensures place { FaultsAt left result }
     {
         // the node goes in before the depth is looked at: a fault ends the reading anyhow, and a
@@ -316,7 +318,7 @@ impl Builder {
     ) -> Result<(), ParseError>
         ensures stack { IsPrepared stage node → (ls : List Level) (cur : Nodes) →
             IsBuilding self.old ls cur →
-            Steps (to_begin (opening block stage node) ls cur) self.new result }
+            AdvancesTo (to_begin (opening block stage node) ls cur) self.new result }
         ensures place { FaultsAt left result }
     {
         // here too the node goes in first
@@ -333,7 +335,7 @@ impl Builder {
         requires built { IsBuilt self.old }
         requires sound { IsSound statement }
         ensures stack { (ls : List Level) (cur : Nodes) → IsBuilding self.old ls cur →
-            Steps (step (statement_view statement) ls cur) self.new result }
+            AdvancesTo (statement_step (statement_view statement) ls cur) self.new result }
         ensures place { FaultsAt left result }
     {
         match statement {

@@ -6,7 +6,7 @@ ghost use Rattle.liquid_lexer.specs.Readers.{IsAt, IsOfKind};
 ghost use Rattle.liquid_lexer.specs.Tokens.{tokens_view};
 ghost use Rattle.liquid_syntax.specs.Faults.{FaultsAs, FaultsAt};
 ghost use Rattle.liquid_syntax.specs.inside.Classifies.{Classifies};
-ghost use Rattle.liquid_syntax.specs.Classification.{comment_statement, ends_or, opens};
+ghost use Rattle.liquid_syntax.specs.Classification.{comment_statement, ends_or, starts_block};
 ghost use Rattle.liquid_syntax.specs.Classification.{raw_statement, reads, tag_statement};
 ghost use Rattle.liquid_language.specs.Roles.{role_of};
 
@@ -26,7 +26,7 @@ use std::collections::VecDeque;
 
 /// Whether the piece is the start of a block, whatever its items are.
 pub fn opens(language: &Language, context: BlockContext, piece: &Piece<'_>) -> bool
-    ensures { result ≡ opens language.now context (piece_view piece.now) }
+    ensures { result ≡ starts_block language.now context (piece_view piece.now) }
 {
     match piece {
         Piece::Output(_) => false,

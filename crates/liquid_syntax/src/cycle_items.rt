@@ -4,7 +4,8 @@ ghost use Rattle.std.specs.Option.{option_map};
 ghost use Rattle.liquid_core.specs.ExpressionView.{expression_view};
 ghost use Rattle.liquid_lexer.specs.Readers.{Parses};
 ghost use Rattle.liquid_lexer.specs.Tokens.{tokens_view};
-ghost use Rattle.liquid_syntax.specs.Cycles.{any_values_of, grouped_of, grouped_view, is_name};
+ghost use Rattle.liquid_syntax.specs.Cycles.{any_values_of, grouped_of, grouped_view};
+ghost use Rattle.liquid_syntax.specs.Cycles.{is_cycle_name};
 ghost use Rattle.liquid_syntax.specs.Cycles.{named_of, with_group};
 ghost use Rattle.liquid_syntax.specs.Faults.{FaultsAs, FaultsAt};
 
@@ -64,7 +65,7 @@ fn read_named(
 
 /// Whether the value may name a group: an identifier or a literal.
 fn is_name(value: &Expression) -> bool
-    ensures { result ≡ is_name (expression_view value.now) }
+    ensures { result ≡ is_cycle_name (expression_view value.now) }
 {
     match value {
         Expression::Literal(_) => true,

@@ -3,7 +3,7 @@
 ghost use Rattle.std.specs.Prelude.{◌≡◌, [], ◌∷◌, OnOk};
 ghost use Rattle.liquid_model.specs.Texts.{same_text};
 ghost use Rattle.liquid_syntax.specs.inside.NameVisitors.{gathers, looks};
-ghost use Rattle.liquid_syntax.specs.NameSets.{Gathers, Looks, added, held};
+ghost use Rattle.liquid_syntax.specs.NameSets.{Gathers, Looks, added, mentioned_in_set};
 
 use liquid_evaluation::NameVisitor;
 use std::alloc::{AllocError, Global};
@@ -32,13 +32,13 @@ pub(crate) struct SearchAny<'n> {
 }
 
 impl NameVisitor for SearchAny<'_> {
-    ghost tells = { Looks (λ search. held search.wanted.now) };
+    ghost tells = { Looks (λ search. mentioned_in_set search.wanted.now) };
 
     fn visit(&mut self, name: &str) -> bool {
         self.wanted.contains(name)
     }
 
-    ghost laws = { looks (λ search. held search.wanted.now) };
+    ghost laws = { looks (λ search. mentioned_in_set search.wanted.now) };
 }
 
 /// Gathers the names that it is given, and ends the visit where there is no room for one.
@@ -49,18 +49,19 @@ pub(crate) struct Gather {
 }
 
 impl NameVisitor for Gather {
-    ghost tells = { Gathers (λ gather. held gather.names) };
+    ghost tells = { Gathers (λ gather. mentioned_in_set gather.names) };
 
     fn visit(&mut self, name: &str) -> bool {
         add_name(self.alloc, &mut self.names, name).is_err()
     }
 
-    ghost laws = { gathers (λ gather. held gather.names) };
+    ghost laws = { gathers (λ gather. mentioned_in_set gather.names) };
 }
 
 /// Puts a name into the set. It is copied only where the set doesn't have it.
 pub fn add_name(alloc: Global, names: &mut BTreeSet<String>, name: &str) -> Result<(), AllocError>
-    ensures { OnOk result (held names.new ≡ added (name.now ∷ []) (held names.old)) }
+    ensures { OnOk result (mentioned_in_set names.new ≡
+        added (name.now ∷ []) (mentioned_in_set names.old)) }
 {
     if !names.contains(name) {
         names.insert(String::from_str(alloc, name)?)?;

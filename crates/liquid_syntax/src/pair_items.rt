@@ -3,7 +3,7 @@ ghost use Rattle.std.specs.Prelude.{◌≡◌, ◌<◌, ◌++◌, IfSome, length
 ghost use Rattle.liquid_lexer.specs.Readers.{Parses};
 ghost use Rattle.liquid_lexer.specs.Tokens.{tokens_view};
 ghost use Rattle.liquid_syntax.specs.Bound.{ends_pairs, is_separated, mark_of, one_first};
-ghost use Rattle.liquid_syntax.specs.Bound.{pair_first, pairs_of};
+ghost use Rattle.liquid_syntax.specs.Bound.{pair_first, bound_pairs};
 ghost use Rattle.liquid_syntax.specs.Faults.{FaultsAs, FaultsAt};
 ghost use Rattle.liquid_syntax.specs.Flats.{binding_view, bindings_view};
 
@@ -103,7 +103,7 @@ pub(crate) fn read_pairs(
 ) -> Result<Vec<Binding>, ParseError>
     ensures pairs { Parses (λ ps. bindings_view ps.items) result
         (option_map (λ ps. bindings_view first.items ++ ps)
-        (pairs_of style (tokens_view items.entry.items))) }
+        (bound_pairs style (tokens_view items.entry.items))) }
     ensures kind { FaultsAs FaultKind.Expected result }
     ensures place { FaultsAt (length at.now) result }
 {

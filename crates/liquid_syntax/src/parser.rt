@@ -5,7 +5,7 @@ ghost use Rattle.liquid_lexer.specs.Readers.{TellsOf};
 ghost use Rattle.liquid_lexer.specs.SourceReading.{source_at};
 ghost use Rattle.liquid_syntax.specs.OpenBlocks.{Level};
 ghost use Rattle.liquid_syntax.specs.Parsing.{MayRefuse, ParsesTo, ReadsTo};
-ghost use Rattle.liquid_syntax.specs.inside.Building.{IsBuilding, IsBuilt, Steps, text_added};
+ghost use Rattle.liquid_syntax.specs.inside.Building.{IsBuilding, IsBuilt, AdvancesTo, text_added};
 ghost use Rattle.liquid_syntax.specs.inside.TemplateReading.{AddsPiece, begun_with, body_of};
 ghost use Rattle.liquid_syntax.specs.inside.TemplateReading.{piece_step};
 ghost use Rattle.liquid_evaluation.specs.Tree.{Nodes, no_nodes};
@@ -113,7 +113,7 @@ impl Reader<'_> {
         language: &Language,
     ) -> std::result::Result<(), ParseError>
         requires { IsBuilding self.old.builder [] no_nodes }
-        ensures { Steps (source_at (body_of language.now) (piece_step language.now)
+        ensures { AdvancesTo (source_at (body_of language.now) (piece_step language.now)
             (length source.now) false begun_with source.now) self.new.builder result }
     {
         let mut strip_next = false;
@@ -143,7 +143,7 @@ impl Reader<'_> {
         left: usize,
     ) -> std::result::Result<(), ParseError>
         ensures { (ls : List Level) (cur : Nodes) → IsBuilding self.old.builder ls cur →
-            Steps (Some (ls, text_added text.now cur)) self.new.builder result }
+            AdvancesTo (Some (ls, text_added text.now cur)) self.new.builder result }
     {
         self.builder.text(alloc, text)?;
         self.positions.mark(left, self.builder.nodes.len())?;

@@ -8,7 +8,7 @@ ghost use Rattle.liquid_syntax.specs.Faults.{FaultsAs, FaultsAt};
 ghost use Rattle.liquid_syntax.specs.Flats.{binding_view, bindings_view, each_view, flat_of, leaf};
 ghost use Rattle.liquid_syntax.specs.inside.Classifies.{Classifies};
 ghost use Rattle.liquid_syntax.specs.inside.PartialAnswers.{first_spelling, rendered_view};
-ghost use Rattle.liquid_syntax.specs.inside.PartialAnswers.{spelling_of};
+ghost use Rattle.liquid_syntax.specs.inside.PartialAnswers.{value_spelling};
 ghost use Rattle.liquid_syntax.specs.Classification.{leaf_or};
 ghost use Rattle.liquid_syntax.specs.PartialItems.{each_first, include_node, include_of};
 ghost use Rattle.liquid_syntax.specs.PartialItems.{included_pairs, jekyll_node, jekyll_of};
@@ -243,7 +243,7 @@ fn next_spelled<'s>(items: &mut VecDeque<Item<'s>>) -> Option<(Expression, &'s s
 
 /// How the item is spelled, if it is a value.
 fn spelling_of<'s>(item: &Item<'s>) -> Option<&'s str>
-    ensures { option_map (λ s. s.now) result ≡ spelling_of (item_view item.now) }
+    ensures { option_map (λ s. s.now) result ≡ value_spelling (item_view item.now) }
 {
     match item {
         Item::Value(_, spelling) => Some(*spelling),

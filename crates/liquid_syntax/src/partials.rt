@@ -6,7 +6,7 @@ ghost use Rattle.std.specs.Map.{values_of};
 ghost use Rattle.liquid_model.specs.Answer.{IsValueOrMemory};
 ghost use Rattle.liquid_model.specs.Maps.{listed, insert};
 ghost use Rattle.liquid_language.specs.Entries.{put, placed};
-ghost use Rattle.liquid_syntax.specs.NameSets.{held};
+ghost use Rattle.liquid_syntax.specs.NameSets.{mentioned_in_set};
 ghost use Rattle.liquid_syntax.specs.Slots.{reserved, exchanged};
 ghost use Rattle.liquid_syntax.specs.inside.Mentions.{held_names, partials_list_names};
 ghost use Rattle.liquid_syntax.specs.Templates.{most_of, node_count_of, tree_of, partials_of};
@@ -93,9 +93,10 @@ impl Partials {
     pub fn exchange(&mut self, name: &str, held: Option<Template>) -> Option<Template>
         requires { IsSome (listed (slots_of self.old) name.now) }
         ensures out { listed (slots_of self.old) name.now ≡ Some (option_map tree_of result) }
-        ensures slot { slots_of self.new ≡ placed name.now (option_map tree_of held)
+        ensures slot { slots_of self.new ≡ placed name.now (option_map tree_of mentioned_in_set)
             (slots_of self.old) }
-        ensures held { partials_of self.new ≡ exchanged name.now (option_map tree_of held)
+        ensures held { partials_of self.new ≡ exchanged name.now
+            (option_map tree_of mentioned_in_set)
             (partials_of self.old) }
     {
         match self.templates.get_mut(name) {
@@ -136,7 +137,8 @@ impl Partials {
 
     /// Whether one of the templates mentions one of the names. It takes no memory.
     pub fn mention_any(&self, names: &BTreeSet<String>) -> bool
-        ensures { result ≡ list_any (held names.now) (partials_names (partials_of self.now)) }
+        ensures { result ≡ list_any (mentioned_in_set names.now)
+            (partials_names (partials_of self.now)) }
     {
         let mut search_any = SearchAny { wanted: names };
         self.visit_names(&mut search_any)

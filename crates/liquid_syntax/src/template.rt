@@ -42,14 +42,15 @@ impl Template {
     ghost use Rattle.std.specs.List.{list_any};
     ghost use Rattle.std.specs.String.{string_cmp};
     ghost use Rattle.liquid_model.specs.Answer.{IsValueOrMemory};
-    ghost use Rattle.liquid_syntax.specs.NameSets.{held};
-    ghost use Rattle.liquid_syntax.specs.Templates.{list_of, partials_of, positions_of, tree_of};
+    ghost use Rattle.liquid_syntax.specs.NameSets.{mentioned_in_set};
+    ghost use Rattle.liquid_syntax.specs.Templates.{template_nodes, partials_of, positions_of};
+    ghost use Rattle.liquid_syntax.specs.Templates.{tree_of};
     ghost use Rattle.liquid_evaluation.specs.Counts.{count_of_nodes};
     ghost use Rattle.liquid_evaluation.specs.Names.{mentioned, nodes_names, run_names};
 
     /// The nodes, in source order.
     pub fn nodes(&self) -> &[Node]
-        ensures { result.now ≡ list_of self.now }
+        ensures { result.now ≡ template_nodes self.now }
     {
         &self.nodes
     }
@@ -71,7 +72,7 @@ impl Template {
 
     /// The same template, which keeps its source.
     pub(crate) fn with_source(self, source: String) -> Template
-        ensures list { list_of result ≡ list_of self }
+        ensures list { template_nodes result ≡ template_nodes self }
         ensures positions { positions_of result ≡ positions_of self }
     {
         let mut template = self;
@@ -94,7 +95,7 @@ impl Template {
     ///
     /// `Memory` where there is no room for them.
     pub fn names(&self, alloc: Global, partials: &Partials) -> Result<BTreeSet<String>>
-        ensures exact { IsValueOrMemory held result
+        ensures exact { IsValueOrMemory mentioned_in_set result
             (mentioned (run_names (partials_of partials.now) (tree_of self.now))) }
         ensures ascending { IfOk result (λ names. IsOrdered string_cmp names) }
     {
@@ -123,7 +124,7 @@ impl Template {
     /// Whether the template itself mentions one of the names, and not a partial that it names. It
     /// takes no memory.
     pub fn mentions_any(&self, names: &BTreeSet<String>) -> bool
-        ensures { result ≡ list_any (held names.now) (nodes_names (tree_of self.now)) }
+        ensures { result ≡ list_any (mentioned_in_set names.now) (nodes_names (tree_of self.now)) }
     {
         let mut search_any = SearchAny { wanted: names };
         visit_nodes(&self.nodes, &mut search_any)

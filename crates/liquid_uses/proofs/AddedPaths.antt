@@ -14,7 +14,7 @@ use Rattle.liquid_model.specs.Uses as seen
 use Rattle.liquid_model.specs.Uses.{nothing, everything, parts, Fields, ItemUse, asks_whether, has_every}
 use Rattle.liquid_model.specs.UseViews.{use_view, members_view, turns_view}
 use Rattle.liquid_model.specs.declared.uses.Use.{Use}
-use Rattle.liquid_syntax.specs.NameSets.{added, held}
+use Rattle.liquid_syntax.specs.NameSets.{added, mentioned_in_set}
 use Rattle.liquid_syntax.specs.inside.NameVisitors.{added_both, or_false}
 use Rattle.liquid_uses.specs.Paths.{are_words, asks_members, chosen_paths, one_path, use_paths, member_paths, item_paths, paths_in}
 use Rattle.liquid_uses.proofs.WholeNames.{Entry}
@@ -32,8 +32,8 @@ pub then_added : {X E : Type 0} (r : Result X E) (n a h : Names) (xs ys : List T
 then_added r n a h xs ys e p = subst (λ x. OnOk r (n ≡ x)) (ap (added ys) e ∙ sym (added_both xs ys h)) p
 
 -- to no paths
-pub added_first : (s : BTreeSet (String Global)) (xs : List Text) → s.keys ≡ [] → added xs (held s) ≡ mentioned xs
-unfolding added held
+pub added_first : (s : BTreeSet (String Global)) (xs : List Text) → s.keys ≡ [] → added xs (mentioned_in_set s) ≡ mentioned xs
+unfolding added mentioned_in_set
 added_first s xs empty = fun_ext (λ name. ap (λ ks. list_any (is_at (λ k. slice_cmp nat_cmp name (string_bytes k))) ks || mentioned xs name) empty)
 
 -- ---- what is asked of a value

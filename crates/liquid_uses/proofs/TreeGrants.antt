@@ -12,7 +12,7 @@ use Rattle.liquid_evaluation.specs.Tree as tree
 use Rattle.liquid_language.specs.Entries.{seen}
 use Rattle.liquid_syntax.specs.Slots.{filled, with_held}
 use Rattle.liquid_syntax.specs.Flats.{arm_values, bindings_view, each_view, flat_of, leaf, window_view}
-use Rattle.liquid_syntax.specs.Templates.{list_of, tree_of}
+use Rattle.liquid_syntax.specs.Templates.{template_nodes, tree_of}
 use Rattle.liquid_syntax.specs.declared.loop_nodes.For as loops
 use Rattle.liquid_syntax.specs.declared.loop_nodes.TableRow as rows
 use Rattle.liquid_syntax.specs.declared.node.Node.{Node}
@@ -133,8 +133,8 @@ module _ (U : Uses) where
   list_is [] = refl
   list_is (n ∷ ns) = ap (λ r. own_grants U n && r) (list_is ns)
 
-pub template_grants : (U : Uses) (t : Template) → grants_nodes known_needs U (tree_of t) ≡ list_grants U (list_of t)
-template_grants U t = tree_total true (both U) (of_node U) (of_nodes U) (sum U) (own_grants U) (makes U) t ∙ list_is U (list_of t)
+pub template_grants : (U : Uses) (t : Template) → grants_nodes known_needs U (tree_of t) ≡ list_grants U (template_nodes t)
+template_grants U t = tree_total true (both U) (of_node U) (of_nodes U) (sum U) (own_grants U) (makes U) t ∙ list_is U (template_nodes t)
 
 pub partials_grant : (U : Uses) (es : List (String Global × Option Template)) → grants_partials known_needs U (filled (seen (option_map tree_of) es)) ≡ slots_grant U (values_of es)
 unfolding grants_partials slots_grant

@@ -7,7 +7,7 @@ ghost use Rattle.liquid_evaluation.specs.Names.{mentioned};
 ghost use Rattle.liquid_model.specs.Answer.{IsValueOrMemory};
 ghost use Rattle.liquid_model.specs.Uses as seen;
 ghost use Rattle.liquid_model.specs.UseViews.{members_view, turns_view, use_view};
-ghost use Rattle.liquid_syntax.specs.NameSets.{added, held};
+ghost use Rattle.liquid_syntax.specs.NameSets.{added, mentioned_in_set};
 ghost use Rattle.liquid_uses.specs.Paths as spec;
 ghost use Rattle.liquid_uses.specs.Paths.{item_paths, member_paths, paths_in, use_paths};
 
@@ -25,7 +25,7 @@ use std::result::Result;
 ///
 /// `Memory` where there is no room for them.
 pub fn paths_of(alloc: Global, uses: &Uses) -> liquid_core::Result<BTreeSet<String>>
-    ensures exact { IsValueOrMemory held result
+    ensures exact { IsValueOrMemory mentioned_in_set result
         (mentioned (paths_in (members_view uses.now.entries))) }
     ensures ascending { IfOk result (λ paths. IsOrdered string_cmp paths) }
 {
@@ -46,8 +46,8 @@ fn add_paths(
     path: &str,
     paths: &mut BTreeSet<String>,
 ) -> Result<(), AllocError>
-    ensures { OnOk result (held paths.new
-        ≡ added (use_paths path.now (use_view asked.now)) (held paths.old)) }
+    ensures { OnOk result (mentioned_in_set paths.new
+        ≡ added (use_paths path.now (use_view asked.now)) (mentioned_in_set paths.old)) }
 {
     match asked {
         Use::Nothing => Ok(()),
@@ -73,8 +73,9 @@ fn add_member_paths(
     path: &str,
     paths: &mut BTreeSet<String>,
 ) -> Result<(), AllocError>
-    ensures { OnOk result (held paths.new
-        ≡ added (member_paths path.now (members_view members.now.entries)) (held paths.old)) }
+    ensures { OnOk result (mentioned_in_set paths.new
+        ≡ added (member_paths path.now (members_view members.now.entries))
+            (mentioned_in_set paths.old)) }
 {
     for (key, asked) in members.iter() {
         let inner = joined_path(alloc, path, ".", key.as_str())?;
@@ -91,8 +92,8 @@ fn add_item_paths(
     path: &str,
     paths: &mut BTreeSet<String>,
 ) -> Result<(), AllocError>
-    ensures { OnOk result (held paths.new
-        ≡ added (item_paths path.now (turns_view items.now)) (held paths.old)) }
+    ensures { OnOk result (mentioned_in_set paths.new
+        ≡ added (item_paths path.now (turns_view items.now)) (mentioned_in_set paths.old)) }
 {
     match items {
         None => Ok(()),
@@ -114,8 +115,8 @@ fn add_path(
     mark: &str,
     paths: &mut BTreeSet<String>,
 ) -> Result<(), AllocError>
-    ensures { OnOk result (held paths.new
-        ≡ added (spec.one_path (path.now ++ mark.now)) (held paths.old)) }
+    ensures { OnOk result (mentioned_in_set paths.new
+        ≡ added (spec.one_path (path.now ++ mark.now)) (mentioned_in_set paths.old)) }
 {
     paths.insert(joined_path(alloc, path, mark, "")?)?;
     Ok(())

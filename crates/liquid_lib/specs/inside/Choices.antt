@@ -19,7 +19,7 @@ use Rattle.liquid_model.specs.Order.{same}
 use Rattle.liquid_core.specs.Environment.{Environment, Names}
 use Rattle.liquid_core.specs.Expression.{Expression}
 use Rattle.liquid_core.specs.Expressions.{required}
-use Rattle.liquid_syntax.specs.Flats.{Maker, StandsAt, nodes_of, values_in}
+use Rattle.liquid_syntax.specs.Flats.{Maker, IsForestAt, nodes_of, values_in}
 use Rattle.liquid_syntax.specs.Forest.{Forest}
 use Rattle.liquid_evaluation.specs.Names.{node_names, nodes_names, whens_names}
 use Rattle.liquid_evaluation.specs.Tree as tree
@@ -37,7 +37,7 @@ Meant = Setting → (tree.Nodes → Run Nothing) → Run Nothing
 pub record Chosen (ns : List Node) (e : Environment) (names : List Text) (meant : Meant)
     (from to : ℕ) : Type 0 where
   pub nodes : Forest Maker
-  pub stands : StandsAt ns from nodes to
+  pub stands : IsForestAt ns from nodes to
   pub within : (N : Names) → Within N names → Within N (nodes_names (nodes_of nodes))
   pub same : (setting : Setting) (deeper : tree.Nodes → Run Nothing) → meant setting deeper e ≡
       nodes_meaning setting deeper (nodes_of nodes) e
@@ -63,10 +63,10 @@ NodeComesTo ns e n r = ComesTo ns e (node_names n) (λ setting deeper. node_mean
 -- ---- the parts of a `case`
 
 abbrev pub CaseStands : List Node → ℕ → List Arm → ℕ → tree.Whens → tree.Nodes → Type 0
-CaseStands ns from [] last tree.no_whens o = (f : Forest Maker) × StandsAt ns from f last ×
+CaseStands ns from [] last tree.no_whens o = (f : Forest Maker) × IsForestAt ns from f last ×
     (o ≡ nodes_of f)
 CaseStands ns from (arm ∷ arms) last (tree.when values body ws) o =
-    (f : Forest Maker) × StandsAt ns from f arm.end × (values ≡ values_in arm) ×
+    (f : Forest Maker) × IsForestAt ns from f arm.end × (values ≡ values_in arm) ×
     (body ≡ nodes_of f) × CaseStands ns arm.end arms last ws o
 CaseStands ns from [] last (tree.when values body ws) o = ⊥
 CaseStands ns from (arm ∷ arms) last tree.no_whens o = ⊥

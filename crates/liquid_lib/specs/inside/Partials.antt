@@ -22,7 +22,7 @@ use Rattle.liquid_core.specs.States.{Layers, with_scope_pushed}
 use Rattle.liquid_core.specs.declared.interrupt.Interrupt.{Interrupt}
 use Rattle.liquid_evaluation.specs.Evaluation.{bound_values}
 use Rattle.liquid_evaluation.specs.Tree.{Bindings, Nodes}
-use Rattle.liquid_syntax.specs.Templates.{list_of, most_of}
+use Rattle.liquid_syntax.specs.Templates.{template_nodes, most_of}
 use Rattle.liquid_syntax.specs.declared.template.Template.{Template}
 use Rattle.liquid_lib.specs.declared.context.RunContext.{RunContext}
 use Rattle.liquid_lib.specs.declared.own_state.EachItem.{EachItem}
@@ -123,7 +123,7 @@ Enters view (Err e) wanted old new = Faulted e.kind wanted × (new ≡ old)
 -- the partial is one of the run's, and its nodes are given the same partials and filters, and one
 -- nested partial fewer
 abbrev pub IsWithin : {H : Type 0} → RunContext H → Template → RunContext H → Type 0
-IsWithin context partial inner = (length (list_of partial) ≤ most_of context.partials.now) ×
+IsWithin context partial inner = (length (template_nodes partial) ≤ most_of context.partials.now) ×
     (depth_left context.depth ≡ Ok inner.depth) × (inner.partials.now ≡ context.partials.now) ×
     (inner.host.now ≡ context.host.now)
 

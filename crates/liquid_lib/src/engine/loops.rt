@@ -8,7 +8,7 @@ ghost use Rattle.liquid_core.specs.declared.frame.LoopFrame.{LoopFrame};
 ghost use Rattle.liquid_evaluation.specs.Names.{node_names, nodes_names};
 ghost use Rattle.liquid_evaluation.specs.SourceView.{source_view};
 ghost use Rattle.liquid_evaluation.specs.Tree as tree;
-ghost use Rattle.liquid_syntax.specs.Flats.{Maker, StandsAt, IsRange, nodes_of, window_view};
+ghost use Rattle.liquid_syntax.specs.Flats.{Maker, IsForestAt, IsNodeRange, nodes_of, window_view};
 ghost use Rattle.liquid_syntax.specs.Forest.{Forest};
 ghost use Rattle.liquid_lib.specs.inside.Engine.{setting_of, node_in, nodes_in};
 ghost use Rattle.liquid_lib.specs.Kept.{Keeps};
@@ -39,18 +39,18 @@ pub(super) fn run_for<'d, W: CountedWrite, H: NamedFilters>(
     out: &mut Output<'_, W>,
     state: &mut State<'d>,
 ) -> Result<()>
-    requires body { IsRange nodes.now (at + 1) bodies.first_end }
-    requires otherwise { IsRange nodes.now bodies.first_end bodies.last_end }
-    ensures performs { (b d : Forest Maker) → StandsAt nodes.now (at + 1) b bodies.first_end →
-        StandsAt nodes.now bodies.first_end d bodies.last_end →
+    requires body { IsNodeRange nodes.now (at + 1) bodies.first_end }
+    requires otherwise { IsNodeRange nodes.now bodies.first_end bodies.last_end }
+    ensures performs { (b d : Forest Maker) → IsForestAt nodes.now (at + 1) b bodies.first_end →
+        IsForestAt nodes.now bodies.first_end d bodies.last_end →
         Performs result (node_in H.named context.now (tree.for_each (string_bytes head.now.variable)
         (source_view head.now.source) (window_view head.now.window) (nodes_of b)
         (nodes_of d)))
         (configuration_of W.contents W.failure_count out.old state.old)
         (configuration_of W.contents W.failure_count out.new state.new) }
     ensures same_writer { out.new.writer.ghost_name ≡ out.old.writer.ghost_name }
-    ensures kept { (b d : Forest Maker) → StandsAt nodes.now (at + 1) b bodies.first_end →
-        StandsAt nodes.now bodies.first_end d bodies.last_end →
+    ensures kept { (b d : Forest Maker) → IsForestAt nodes.now (at + 1) b bodies.first_end →
+        IsForestAt nodes.now bodies.first_end d bodies.last_end →
         Keeps (node_names (tree.for_each (string_bytes head.now.variable)
         (source_view head.now.source) (window_view head.now.window) (nodes_of b)
         (nodes_of d))) (setting_of H.named context.now) state.old state.new }
@@ -96,16 +96,16 @@ fn run_turns<'d, W: CountedWrite, H: NamedFilters>(
     out: &mut Output<'_, W>,
     state: &mut State<'d>,
 ) -> Result<()>
-    requires range { IsRange nodes.now from to }
+    requires range { IsNodeRange nodes.now from to }
     requires start { (before : List Scope) × ((t : LoopFrame) × StartsAt count state.old before t) }
-    ensures performs { (f : Forest Maker) → StandsAt nodes.now from f to →
+    ensures performs { (f : Forest Maker) → IsForestAt nodes.now from f to →
         (before : List Scope) (t : LoopFrame) → StartsAt count state.old before t →
         Performs result
         (turns_meant t (behind state.old) (nodes_in H.named context.now (nodes_of f)))
         (configuration_behind W.contents W.failure_count out.old state.old)
         (configuration_behind W.contents W.failure_count out.new state.new) }
     ensures same_writer { out.new.writer.ghost_name ≡ out.old.writer.ghost_name }
-    ensures kept { (f : Forest Maker) → StandsAt nodes.now from f to →
+    ensures kept { (f : Forest Maker) → IsForestAt nodes.now from f to →
         KeepsBehind (nodes_names (nodes_of f)) (setting_of H.named context.now) state.old
         state.new }
     ensures loops { without_innermost (loops_of state.new) ≡
@@ -138,15 +138,15 @@ pub(super) fn run_tablerow<'d, W: CountedWrite, H: NamedFilters>(
     out: &mut Output<'_, W>,
     state: &mut State<'d>,
 ) -> Result<()>
-    requires { IsRange nodes.now (at + 1) end }
-    ensures performs { (b : Forest Maker) → StandsAt nodes.now (at + 1) b end →
+    requires { IsNodeRange nodes.now (at + 1) end }
+    ensures performs { (b : Forest Maker) → IsForestAt nodes.now (at + 1) b end →
         Performs result (node_in H.named context.now (tree.tablerow (string_bytes head.now.variable)
         (source_view head.now.source) (window_view head.now.window)
         (option_map expression_view head.now.cols) (nodes_of b)))
         (configuration_of W.contents W.failure_count out.old state.old)
         (configuration_of W.contents W.failure_count out.new state.new) }
     ensures same_writer { out.new.writer.ghost_name ≡ out.old.writer.ghost_name }
-    ensures kept { (b : Forest Maker) → StandsAt nodes.now (at + 1) b end →
+    ensures kept { (b : Forest Maker) → IsForestAt nodes.now (at + 1) b end →
         Keeps (node_names (tree.tablerow (string_bytes head.now.variable)
         (source_view head.now.source) (window_view head.now.window)
         (option_map expression_view head.now.cols) (nodes_of b)))
@@ -179,17 +179,17 @@ fn run_cells<'d, W: CountedWrite, H: NamedFilters>(
     out: &mut Output<'_, W>,
     state: &mut State<'d>,
 ) -> Result<()>
-    requires range { IsRange nodes.now from to }
+    requires range { IsNodeRange nodes.now from to }
     requires start { (before : List Scope) ×
         ((t : LoopFrame) × StartsAt row.count state.old before t) }
-    ensures performs { (f : Forest Maker) → StandsAt nodes.now from f to →
+    ensures performs { (f : Forest Maker) → IsForestAt nodes.now from f to →
         (before : List Scope) (t : LoopFrame) → StartsAt row.count state.old before t →
         Performs result (cells_meant t row.columns.count (behind state.old)
         (nodes_in H.named context.now (nodes_of f)))
         (configuration_behind W.contents W.failure_count out.old state.old)
         (configuration_behind W.contents W.failure_count out.new state.new) }
     ensures same_writer { out.new.writer.ghost_name ≡ out.old.writer.ghost_name }
-    ensures kept { (f : Forest Maker) → StandsAt nodes.now from f to →
+    ensures kept { (f : Forest Maker) → IsForestAt nodes.now from f to →
         KeepsBehind (nodes_names (nodes_of f)) (setting_of H.named context.now) state.old
         state.new }
     ensures loops { without_innermost (loops_of state.new) ≡

@@ -6,7 +6,7 @@ use Rattle.liquid_model.specs.Texts.{Text}
 use Rattle.liquid_evaluation.specs.Tree.{Nodes}
 use Rattle.liquid_evaluation.specs.Names.{mentioned, nodes_names}
 use Rattle.liquid_language.specs.Entries.{placed}
-use Rattle.liquid_syntax.specs.NameSets.{held}
+use Rattle.liquid_syntax.specs.NameSets.{mentioned_in_set}
 use Rattle.liquid_site.specs.Contents.{Trees}
 use Rattle.liquid_site.specs.declared.selection.Selection.{Selection}
 use Rattle.liquid_site.specs.declared.selection.Selection.TheVariants.{All, Naming, NamingAny}
@@ -15,7 +15,7 @@ use Rattle.liquid_site.specs.declared.selection.Selection.TheVariants.{All, Nami
 abbrev pub selects : Selection → Nodes → Bool
 selects All nodes = true
 selects (Naming name) nodes = mentioned (nodes_names nodes) name.now
-selects (NamingAny names) nodes = list_any (held names.now) (nodes_names nodes)
+selects (NamingAny names) nodes = list_any (mentioned_in_set names.now) (nodes_names nodes)
 
 abbrev pub selected : (Nodes → Bool) → Trees → Trees
 selected test pages = filter (λ p. test p.1) pages

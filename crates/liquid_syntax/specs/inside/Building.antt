@@ -7,7 +7,7 @@ use Rattle.liquid_syntax.specs.Forest.{Forest, Bodies, no_bodies, sizes}
 use Rattle.liquid_syntax.specs.Laid.{Flat, ends_of, laid, laid_bodies}
 use Rattle.liquid_syntax.specs.Nesting as nesting
 use Rattle.liquid_syntax.specs.OpenBlocks.{Reading, last, first, unkept, armed, begun, ended, Level}
-use Rattle.liquid_syntax.specs.OpenBlocks.{level, State, depth, to_elsif, with_node}
+use Rattle.liquid_syntax.specs.OpenBlocks.{level, State, block_depth, to_elsif, with_node}
 use Rattle.liquid_lexer.specs.Readers.{Fails}
 use Rattle.liquid_syntax.specs.Templates.{tree_of}
 use Rattle.liquid_evaluation.specs.Tree.{Node, Nodes, no_nodes, plain}
@@ -181,7 +181,7 @@ abbrev pub IsStack : Builder → List Level → Nodes → Type 0
 IsStack b ls cur = Builds (flats b.nodes.items) (reverse b.blocks.items) ls cur
 
 abbrev pub IsBuilding : Builder → List Level → Nodes → Type 0
-IsBuilding b ls cur = IsStack b ls cur × (b.depth ≡ depth ls)
+IsBuilding b ls cur = IsStack b ls cur × (b.depth ≡ block_depth ls)
 
 abbrev pub IsBuilt : Builder → Type 0
 IsBuilt b = (ls : List Level) × (cur : Nodes) × IsBuilding b ls cur
@@ -194,9 +194,9 @@ is_full b = nat_le 200 b.depth
 
 -- The builder went on to the state that was to come, memory aside. No fault is answered where there
 -- is one.
-abbrev pub Steps : Option State → Builder → Result (Unit {0}) ParseError → Type 0
-Steps read b (Ok _) = (s : State) × (read ≡ Some s) × IsBuilding b s.0 s.1
-Steps read b (Err e) = Fails e read
+abbrev pub AdvancesTo : Option State → Builder → Result (Unit {0}) ParseError → Type 0
+AdvancesTo read b (Ok _) = (s : State) × (read ≡ Some s) × IsBuilding b s.0 s.1
+AdvancesTo read b (Err e) = Fails e read
 
 -- where the body stands that is being read
 abbrev pub stage_context : Stage → Block → BlockContext

@@ -7,7 +7,7 @@ use Rattle.liquid_core.specs.declared.expression.Expression.{Expression}
 use Rattle.liquid_lexer.specs.Readers.{Fails}
 use Rattle.liquid_lexer.specs.Tokens.{Token}
 use Rattle.liquid_syntax.specs.Chains.{Filters}
-use Rattle.liquid_syntax.specs.ChainReading.{call_of, called_of, filters_of}
+use Rattle.liquid_syntax.specs.ChainReading.{filter_call_after_bar, called_of, filters_of}
 use Rattle.liquid_evaluation.specs.ChainView.{chain_filter_view}
 use Rattle.liquid_evaluation.specs.declared.chain.ChainFilter.{ChainFilter}
 use Rattle.liquid_lexer.specs.declared.fault.ParseError.{ParseError}
@@ -21,6 +21,6 @@ Calls known old new (Err e) = Fails e (called_of known old)
 
 -- the filter after a `|`: what stands there reads as it and the filters that are left
 abbrev pub TakesFilter : Filters → List Token → List Token → Result ChainFilter ParseError → Type 0
-TakesFilter known old new (Ok filter) = call_of known old ≡
+TakesFilter known old new (Ok filter) = filter_call_after_bar known old ≡
     option_map (λ calls. chain_filter_view filter ∷ calls) (filters_of known new)
-TakesFilter known old new (Err e) = Fails e (call_of known old)
+TakesFilter known old new (Err e) = Fails e (filter_call_after_bar known old)

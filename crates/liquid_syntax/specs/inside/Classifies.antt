@@ -35,6 +35,6 @@ ReadsTwo o (Ok n) = (o ≡ Some (of_bodies (flat_of n))) × IsPrepared First n
 ReadsTwo o (Err e) = Fails e o
 
 -- the block that begins with the node that was read
-abbrev pub begins : Block → Stage → Result code.Node ParseError → Result Statement ParseError
-begins b stage (Ok n) = Ok (Begins b stage n)
-begins b stage (Err e) = Err e
+abbrev pub block_start : Block → Stage → Result code.Node ParseError → Result Statement ParseError
+block_start b stage (Ok n) = Ok (Begins b stage n)
+block_start b stage (Err e) = Err e

@@ -16,7 +16,7 @@ use Rattle.liquid_evaluation.specs.Names.{source_names, target_names, window_nam
 use Rattle.liquid_evaluation.specs.SourceView.{source_view}
 use Rattle.liquid_evaluation.specs.Tree.{Bindings, Source}
 use Rattle.liquid_syntax.specs.Flats.{arm_values, bindings_view, window_view}
-use Rattle.liquid_syntax.specs.Templates.{list_of}
+use Rattle.liquid_syntax.specs.Templates.{template_nodes}
 use Rattle.liquid_syntax.specs.declared.loop_nodes.Each.{Each}
 use Rattle.liquid_syntax.specs.declared.loop_nodes.For as loops
 use Rattle.liquid_syntax.specs.declared.loop_nodes.TableRow as rows
@@ -95,7 +95,7 @@ list_names (n ∷ ns) = own_names n ++ list_names ns
 
 abbrev pub held_names : Option Template → List Text
 held_names None = []
-held_names (Some t) = list_names (list_of t)
+held_names (Some t) = list_names (template_nodes t)
 
 unfoldable pub partials_list_names : List (Option Template) → List Text
 partials_list_names [] = []

@@ -8,14 +8,14 @@ use Rattle.liquid_syntax.specs.PartialItems as partials
 use Rattle.liquid_syntax.specs.declared.partial_items.Rendered.{Rendered}
 
 -- how an item is spelled, if it is a value
-abbrev pub spelling_of : items.Item → Option Text
-spelling_of (items.value x spelling) = Some spelling
-spelling_of (items.range x y) = None
-spelling_of (items.symbol s) = None
+abbrev pub value_spelling : items.Item → Option Text
+value_spelling (items.value x spelling) = Some spelling
+value_spelling (items.range x y) = None
+value_spelling (items.symbol s) = None
 
 abbrev pub first_spelling : List items.Item → Option Text
 first_spelling [] = None
-first_spelling (i ∷ is) = spelling_of i
+first_spelling (i ∷ is) = value_spelling i
 
 -- what follows the name of a `render`
 abbrev pub rendered_view : Rendered → partials.Rendered

@@ -9,7 +9,7 @@ use Rattle.liquid_lexer.specs.SourceReading.{Markup, body_at, source_at, wanted_
 use Rattle.liquid_lexer.specs.declared.fault.ParseError.{ParseError}
 use Rattle.liquid_lexer.specs.declared.piece.Body.{Body}
 use Rattle.liquid_syntax.specs.Classification.{reads}
-use Rattle.liquid_syntax.specs.OpenBlocks.{State, context_of, step, at_end}
+use Rattle.liquid_syntax.specs.OpenBlocks.{State, context_of, statement_step, at_end}
 use Rattle.liquid_syntax.specs.declared.build.Builder.{Builder}
 use Rattle.liquid_syntax.specs.inside.Building.{IsBuilding}
 use Rattle.liquid_language.specs.Roles.{body_behind}
@@ -22,7 +22,7 @@ body_of l s w = body_behind l (context_of s.0) w
 
 -- the next piece
 abbrev pub piece_step : Language → State → Piece → Option State
-piece_step l s p = step (reads l (context_of s.0) p) s.0 s.1
+piece_step l s p = statement_step (reads l (context_of s.0) p) s.0 s.1
 
 abbrev pub begun_with : State
 begun_with = ([], no_nodes)

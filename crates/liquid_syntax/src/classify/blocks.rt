@@ -4,7 +4,8 @@ ghost use Rattle.liquid_lexer.specs.Tokens.{tokens_view};
 ghost use Rattle.liquid_syntax.specs.Faults.{FaultsAs, FaultsAt};
 ghost use Rattle.liquid_language.specs.declared.block.Block.TheVariants as BlockOf;
 ghost use Rattle.liquid_syntax.specs.declared.build.Stage.TheVariants as StageOf;
-ghost use Rattle.liquid_syntax.specs.inside.Classifies.{begins, Classifies, ReadsBlock, ReadsTwo};
+ghost use Rattle.liquid_syntax.specs.inside.Classifies.{block_start, Classifies, ReadsBlock};
+ghost use Rattle.liquid_syntax.specs.inside.Classifies.{ReadsTwo};
 ghost use Rattle.liquid_syntax.specs.Classification.{block_statement, capture_of, case_for};
 ghost use Rattle.liquid_syntax.specs.Classification.{control_statement, for_of, if_of, many_or};
 ghost use Rattle.liquid_syntax.specs.Classification.{one_or, rows_of, unless_of};
@@ -57,7 +58,7 @@ fn begins(
     stage: Stage,
     read: Result<Node, ParseError>,
 ) -> Result<Statement, ParseError>
-    ensures { result ≡ begins block stage read }
+    ensures { result ≡ block_start block stage read }
 {
     match read {
         Ok(node) => Ok(Statement::Begins(block, stage, node)),

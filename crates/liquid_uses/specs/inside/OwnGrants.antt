@@ -12,7 +12,7 @@ use Rattle.liquid_evaluation.specs.SourceView.{source_view}
 use Rattle.liquid_evaluation.specs.Tree.{Bindings, Source}
 use Rattle.liquid_syntax.specs.Flats.{arm_values, bindings_view, each_view, window_view}
 use Rattle.std.specs.Map.{values_of}
-use Rattle.liquid_syntax.specs.Templates.{list_of}
+use Rattle.liquid_syntax.specs.Templates.{template_nodes}
 use Rattle.liquid_syntax.specs.declared.template.Template.{Template}
 use Rattle.liquid_syntax.specs.declared.partials.Partials.{Partials}
 use Rattle.liquid_syntax.specs.declared.loop_nodes.For as loops
@@ -93,7 +93,7 @@ list_grants U (n ∷ ns) = own_grants U n && list_grants U ns
 
 abbrev pub held_grants : Uses → Option Template → Bool
 held_grants U None = true
-held_grants U (Some t) = list_grants U (list_of t)
+held_grants U (Some t) = list_grants U (template_nodes t)
 
 unfoldable pub slots_grant : Uses → List (Option Template) → Bool
 slots_grant U [] = true

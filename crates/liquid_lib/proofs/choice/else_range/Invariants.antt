@@ -1,6 +1,6 @@
 use Rattle.std.proofs.Common.{◌-◌, ◌≤◌}
 use Rattle.liquid_core.specs.States.{environment_of}
-use Rattle.liquid_syntax.specs.Flats.{Maker, StandsAt, nodes_of}
+use Rattle.liquid_syntax.specs.Flats.{Maker, IsForestAt, nodes_of}
 use Rattle.liquid_syntax.specs.Forest.{Forest}
 use Rattle.liquid_lib.proofs.Choices.{Comes}
 use Rattle.liquid_lib.proofs.choice.else_range.Given as goal
@@ -8,7 +8,7 @@ use Rattle.liquid_lib.proofs.choice.else_range.Given as goal
 abbrev pub invariant-loop-at : goal.invariant-loop-at
 invariant-loop-at l = record {
   ordered : l.from ≤ l.at;
-  comes : (f : Forest Maker) → StandsAt l.nodes l.from f l.to → Comes l.nodes (environment_of l.state) (nodes_of f) l.at l.to;
+  comes : (f : Forest Maker) → IsForestAt l.nodes l.from f l.to → Comes l.nodes (environment_of l.state) (nodes_of f) l.at l.to;
 }
 
 abbrev pub decreases-loop-at : goal.decreases-loop-at

@@ -21,7 +21,7 @@ use Rattle.liquid_evaluation.specs.ChainView.{chain_view}
 use Rattle.liquid_evaluation.specs.ConditionView.{condition_view}
 use Rattle.liquid_evaluation.specs.Names.{node_names}
 use Rattle.liquid_evaluation.specs.Tree as tree
-use Rattle.liquid_syntax.specs.Flats.{Maker, StandsAt, IsRange, bindings_view, each_view, flats, nodes_of, window_view}
+use Rattle.liquid_syntax.specs.Flats.{Maker, IsForestAt, IsNodeRange, bindings_view, each_view, flats, nodes_of, window_view}
 use Rattle.liquid_syntax.specs.Forest.{Forest}
 use Rattle.liquid_syntax.specs.Templates.{forest_of, most_of, partials_of, tree_of}
 use Rattle.liquid_syntax.proofs.Places.{Stands-le}
@@ -347,12 +347,12 @@ pub run_node-returns-in-Capture-clause-performs : goal.run_node-returns-in-Captu
 run_node-returns-in-Capture-clause-performs g t c =
     let place = configuration_of g.W.CountedWrite.contents g.W.CountedWrite.failure_count in
     one_performs (setting_of g.H.NamedFilters.named c.args.context.now) c.args.context.now.depth c.args.nodes.now c.args.at c.in-Capture.end c.args.to c.index-nodes-at.result _ (tree.capture (string_bytes c.in-Capture.name)) c.run_capture.result (place c.args.out.now c.args.state.now) (place c.run_capture.new.out c.run_capture.new.state) c.requires c.index-nodes-at.is c.in-Capture.is refl
-    (subst (λ x. (b : Forest Maker) → StandsAt c.args.nodes.now (c.args.at + 1) b c.in-Capture.end → Performs c.run_capture.result (node_meant (setting_of g.H.NamedFilters.named c.args.context.now) c.args.context.now.depth (tree.capture x (nodes_of b))) (place c.args.out.now c.args.state.now) (place c.run_capture.new.out c.run_capture.new.state)) c.as_str-in-Capture.ensures.value c.run_capture.ensures.performs)
+    (subst (λ x. (b : Forest Maker) → IsForestAt c.args.nodes.now (c.args.at + 1) b c.in-Capture.end → Performs c.run_capture.result (node_meant (setting_of g.H.NamedFilters.named c.args.context.now) c.args.context.now.depth (tree.capture x (nodes_of b))) (place c.args.out.now c.args.state.now) (place c.run_capture.new.out c.run_capture.new.state)) c.as_str-in-Capture.ensures.value c.run_capture.ensures.performs)
 
 pub run_node-returns-in-Capture-clause-kept : goal.run_node-returns-in-Capture-clause-kept
 run_node-returns-in-Capture-clause-kept g t c =
     one_keeps (setting_of g.H.NamedFilters.named c.args.context.now) c.args.nodes.now c.args.at c.in-Capture.end c.args.to c.index-nodes-at.result _ (tree.capture (string_bytes c.in-Capture.name)) c.args.state.now c.run_capture.new.state c.requires c.index-nodes-at.is c.in-Capture.is refl
-    (subst (λ x. (b : Forest Maker) → StandsAt c.args.nodes.now (c.args.at + 1) b c.in-Capture.end → Keeps (node_names (tree.capture x (nodes_of b))) (setting_of g.H.NamedFilters.named c.args.context.now) c.args.state.now c.run_capture.new.state) c.as_str-in-Capture.ensures.value c.run_capture.ensures.kept)
+    (subst (λ x. (b : Forest Maker) → IsForestAt c.args.nodes.now (c.args.at + 1) b c.in-Capture.end → Keeps (node_names (tree.capture x (nodes_of b))) (setting_of g.H.NamedFilters.named c.args.context.now) c.args.state.now c.run_capture.new.state) c.as_str-in-Capture.ensures.value c.run_capture.ensures.kept)
 
 pub run_node-run_include-requires : goal.run_node-run_include-requires
 run_node-run_include-requires g t c κs within =
@@ -416,14 +416,14 @@ run_node-returns-in-RenderEach-clause-performs g t c =
 
 pub run_capture-overflow_add-at : goal.run_capture-overflow_add-at
 run_capture-overflow_add-at g t c =
-    let body : IsRange c.args.nodes.now (c.args.at + 1) c.args.end = search rules in
+    let body : IsNodeRange c.args.nodes.now (c.args.at + 1) c.args.end = search rules in
     let (b, here) = body in
     let le : c.args.at + 1 ≤ c.args.end = Stands-le (flats c.args.nodes.now) (c.args.at + 1) b c.args.end here in
     search rules
 
 pub run_capture-run_range-answer-requires : goal.run_capture-run_range-answer-requires
 run_capture-run_range-answer-requires g t c κs within =
-    let body : IsRange c.args.nodes.now (c.args.at + 1) c.args.end = search rules in
+    let body : IsNodeRange c.args.nodes.now (c.args.at + 1) c.args.end = search rules in
     let (b, here) = body in
     let le : c.args.at + 1 ≤ c.args.end = Stands-le (flats c.args.nodes.now) (c.args.at + 1) b c.args.end here in
     (let lt : 4 * (c.args.end - (c.args.at + 1)) + 1 + reserve c.args.context.now.depth c.args.context.now.partials.now < t = omega arith in lt, (within.0, (within.1, body)))
@@ -821,14 +821,14 @@ run_node-returns-in-IfChanged-clause-alone g t c = one_other c.args.nodes.now c.
 
 pub run_ifchanged-overflow_add-at : goal.run_ifchanged-overflow_add-at
 run_ifchanged-overflow_add-at g t c =
-    let body : IsRange c.args.nodes.now (c.args.at + 1) c.args.end = c.requires in
+    let body : IsNodeRange c.args.nodes.now (c.args.at + 1) c.args.end = c.requires in
     let (b, here) = body in
     let le : c.args.at + 1 ≤ c.args.end = Stands-le (flats c.args.nodes.now) (c.args.at + 1) b c.args.end here in
     search rules
 
 pub run_ifchanged-run_range-ended-requires : goal.run_ifchanged-run_range-ended-requires
 run_ifchanged-run_range-ended-requires g t c κs within =
-    let body : IsRange c.args.nodes.now (c.args.at + 1) c.args.end = c.requires in
+    let body : IsNodeRange c.args.nodes.now (c.args.at + 1) c.args.end = c.requires in
     let (b, here) = body in
     let le : c.args.at + 1 ≤ c.args.end = Stands-le (flats c.args.nodes.now) (c.args.at + 1) b c.args.end here in
     (let lt : 4 * (c.args.end - (c.args.at + 1)) + 1 + reserve c.args.context.now.depth c.args.context.now.partials.now < t = omega arith in lt, (within.0, (within.1, body)))
@@ -891,12 +891,12 @@ pub run_node-returns-in-For-clause-performs : goal.run_node-returns-in-For-claus
 run_node-returns-in-For-clause-performs g t c =
     let place = configuration_of g.W.CountedWrite.contents g.W.CountedWrite.failure_count in
     two_performs (setting_of g.H.NamedFilters.named c.args.context.now) c.args.context.now.depth c.args.nodes.now c.args.at c.in-For.bodies.first_end c.in-For.bodies.last_end c.args.to c.index-nodes-at.result _ (tree.for_each (string_bytes c.in-For.head.value.variable) (source_view c.in-For.head.value.source) (window_view c.in-For.head.value.window)) c.run_for.result (place c.args.out.now c.args.state.now) (place c.run_for.new.out c.run_for.new.state) c.requires c.index-nodes-at.is c.in-For.is refl
-    (subst (λ (x : heads_For.For). (b d : Forest Maker) → StandsAt c.args.nodes.now (c.args.at + 1) b c.in-For.bodies.first_end → StandsAt c.args.nodes.now c.in-For.bodies.first_end d c.in-For.bodies.last_end → Performs c.run_for.result (node_meant (setting_of g.H.NamedFilters.named c.args.context.now) c.args.context.now.depth ((tree.for_each (string_bytes x.variable) (source_view x.source) (window_view x.window)) (nodes_of b) (nodes_of d))) (place c.args.out.now c.args.state.now) (place c.run_for.new.out c.run_for.new.state)) c.deref-in-For.ensures c.run_for.ensures.performs)
+    (subst (λ (x : heads_For.For). (b d : Forest Maker) → IsForestAt c.args.nodes.now (c.args.at + 1) b c.in-For.bodies.first_end → IsForestAt c.args.nodes.now c.in-For.bodies.first_end d c.in-For.bodies.last_end → Performs c.run_for.result (node_meant (setting_of g.H.NamedFilters.named c.args.context.now) c.args.context.now.depth ((tree.for_each (string_bytes x.variable) (source_view x.source) (window_view x.window)) (nodes_of b) (nodes_of d))) (place c.args.out.now c.args.state.now) (place c.run_for.new.out c.run_for.new.state)) c.deref-in-For.ensures c.run_for.ensures.performs)
 
 pub run_node-returns-in-For-clause-kept : goal.run_node-returns-in-For-clause-kept
 run_node-returns-in-For-clause-kept g t c =
     two_keeps (setting_of g.H.NamedFilters.named c.args.context.now) c.args.nodes.now c.args.at c.in-For.bodies.first_end c.in-For.bodies.last_end c.args.to c.index-nodes-at.result _ (tree.for_each (string_bytes c.in-For.head.value.variable) (source_view c.in-For.head.value.source) (window_view c.in-For.head.value.window)) c.args.state.now c.run_for.new.state c.requires c.index-nodes-at.is c.in-For.is refl
-    (subst (λ (x : heads_For.For). (b d : Forest Maker) → StandsAt c.args.nodes.now (c.args.at + 1) b c.in-For.bodies.first_end → StandsAt c.args.nodes.now c.in-For.bodies.first_end d c.in-For.bodies.last_end → Keeps (node_names ((tree.for_each (string_bytes x.variable) (source_view x.source) (window_view x.window)) (nodes_of b) (nodes_of d))) (setting_of g.H.NamedFilters.named c.args.context.now) c.args.state.now c.run_for.new.state) c.deref-in-For.ensures c.run_for.ensures.kept)
+    (subst (λ (x : heads_For.For). (b d : Forest Maker) → IsForestAt c.args.nodes.now (c.args.at + 1) b c.in-For.bodies.first_end → IsForestAt c.args.nodes.now c.in-For.bodies.first_end d c.in-For.bodies.last_end → Keeps (node_names ((tree.for_each (string_bytes x.variable) (source_view x.source) (window_view x.window)) (nodes_of b) (nodes_of d))) (setting_of g.H.NamedFilters.named c.args.context.now) c.args.state.now c.run_for.new.state) c.deref-in-For.ensures c.run_for.ensures.kept)
 
 pub run_node-returns-in-For-clause-alone : goal.run_node-returns-in-For-clause-alone
 run_node-returns-in-For-clause-alone g t c =
@@ -911,12 +911,12 @@ pub run_node-returns-in-TableRow-clause-performs : goal.run_node-returns-in-Tabl
 run_node-returns-in-TableRow-clause-performs g t c =
     let place = configuration_of g.W.CountedWrite.contents g.W.CountedWrite.failure_count in
     one_performs (setting_of g.H.NamedFilters.named c.args.context.now) c.args.context.now.depth c.args.nodes.now c.args.at c.in-TableRow.end c.args.to c.index-nodes-at.result _ (tree.tablerow (string_bytes c.in-TableRow.head.value.variable) (source_view c.in-TableRow.head.value.source) (window_view c.in-TableRow.head.value.window) (option_map expression_view c.in-TableRow.head.value.cols)) c.run_tablerow.result (place c.args.out.now c.args.state.now) (place c.run_tablerow.new.out c.run_tablerow.new.state) c.requires c.index-nodes-at.is c.in-TableRow.is refl
-    (subst (λ (x : heads_TableRow.TableRow). (b : Forest Maker) → StandsAt c.args.nodes.now (c.args.at + 1) b c.in-TableRow.end → Performs c.run_tablerow.result (node_meant (setting_of g.H.NamedFilters.named c.args.context.now) c.args.context.now.depth ((tree.tablerow (string_bytes x.variable) (source_view x.source) (window_view x.window) (option_map expression_view x.cols)) (nodes_of b))) (place c.args.out.now c.args.state.now) (place c.run_tablerow.new.out c.run_tablerow.new.state)) c.deref-in-TableRow.ensures c.run_tablerow.ensures.performs)
+    (subst (λ (x : heads_TableRow.TableRow). (b : Forest Maker) → IsForestAt c.args.nodes.now (c.args.at + 1) b c.in-TableRow.end → Performs c.run_tablerow.result (node_meant (setting_of g.H.NamedFilters.named c.args.context.now) c.args.context.now.depth ((tree.tablerow (string_bytes x.variable) (source_view x.source) (window_view x.window) (option_map expression_view x.cols)) (nodes_of b))) (place c.args.out.now c.args.state.now) (place c.run_tablerow.new.out c.run_tablerow.new.state)) c.deref-in-TableRow.ensures c.run_tablerow.ensures.performs)
 
 pub run_node-returns-in-TableRow-clause-kept : goal.run_node-returns-in-TableRow-clause-kept
 run_node-returns-in-TableRow-clause-kept g t c =
     one_keeps (setting_of g.H.NamedFilters.named c.args.context.now) c.args.nodes.now c.args.at c.in-TableRow.end c.args.to c.index-nodes-at.result _ (tree.tablerow (string_bytes c.in-TableRow.head.value.variable) (source_view c.in-TableRow.head.value.source) (window_view c.in-TableRow.head.value.window) (option_map expression_view c.in-TableRow.head.value.cols)) c.args.state.now c.run_tablerow.new.state c.requires c.index-nodes-at.is c.in-TableRow.is refl
-    (subst (λ (x : heads_TableRow.TableRow). (b : Forest Maker) → StandsAt c.args.nodes.now (c.args.at + 1) b c.in-TableRow.end → Keeps (node_names ((tree.tablerow (string_bytes x.variable) (source_view x.source) (window_view x.window) (option_map expression_view x.cols)) (nodes_of b))) (setting_of g.H.NamedFilters.named c.args.context.now) c.args.state.now c.run_tablerow.new.state) c.deref-in-TableRow.ensures c.run_tablerow.ensures.kept)
+    (subst (λ (x : heads_TableRow.TableRow). (b : Forest Maker) → IsForestAt c.args.nodes.now (c.args.at + 1) b c.in-TableRow.end → Keeps (node_names ((tree.tablerow (string_bytes x.variable) (source_view x.source) (window_view x.window) (option_map expression_view x.cols)) (nodes_of b))) (setting_of g.H.NamedFilters.named c.args.context.now) c.args.state.now c.run_tablerow.new.state) c.deref-in-TableRow.ensures c.run_tablerow.ensures.kept)
 
 pub run_node-returns-in-TableRow-clause-alone : goal.run_node-returns-in-TableRow-clause-alone
 run_node-returns-in-TableRow-clause-alone g t c =
@@ -1397,8 +1397,8 @@ run_chosen-returns-in-Err-clause-performs g t c n comes =
 
 pub run_chosen-run_range-requires : goal.run_chosen-run_range-requires
 run_chosen-run_range-requires g t c κs within =
-    let chosen : IfOk {T = ℕ × ℕ} {E = Error} (Ok c.in-Ok.range) (λ range. (c.args.at < range.0) × (range.1 ≤ c.args.to) × IsRange c.args.nodes.now range.0 range.1) =
-    subst (λ r. IfOk r (λ range. (c.args.at < range.0) × (range.1 ≤ c.args.to) × IsRange c.args.nodes.now range.0 range.1)) c.in-Ok.is c.requires in
+    let chosen : IfOk {T = ℕ × ℕ} {E = Error} (Ok c.in-Ok.range) (λ range. (c.args.at < range.0) × (range.1 ≤ c.args.to) × IsNodeRange c.args.nodes.now range.0 range.1) =
+    subst (λ r. IfOk r (λ range. (c.args.at < range.0) × (range.1 ≤ c.args.to) × IsNodeRange c.args.nodes.now range.0 range.1)) c.in-Ok.is c.requires in
     let (first, last, (f, stands)) = chosen in
     let order : c.in-Ok.range.0 ≤ c.in-Ok.range.1 = Stands-le (flats c.args.nodes.now) c.in-Ok.range.0 f c.in-Ok.range.1 stands in
     (let lt : 4 * (c.in-Ok.range.1 - c.in-Ok.range.0) + 1 + reserve c.args.context.now.depth c.args.context.now.partials.now < t = omega arith in lt, (within.0, (within.1, (f, stands))))

@@ -1,5 +1,5 @@
 use Rattle.std.proofs.Common.{◌≡◌, ◌+◌, ◌-◌, ◌*◌, ◌≤◌, ◌<◌, List}
-use Rattle.liquid_syntax.specs.Flats.{Maker, StandsAt, nodes_of}
+use Rattle.liquid_syntax.specs.Flats.{Maker, IsForestAt, nodes_of}
 use Rattle.liquid_syntax.specs.Forest.{Forest}
 use Rattle.liquid_evaluation.specs.Names.{nodes_names}
 use Rattle.liquid_lib.specs.inside.Engine.{setting_of, nodes_in}
@@ -58,8 +58,8 @@ invariant-run_range-loop-at g l =
     record {
       ordered : l.from ≤ l.at;
       going : Going (setting_of g.H.NamedFilters.named l.context) l.context.depth l.nodes l.from l.at l.to (place l.initial.out l.initial.state) (place l.out l.state);
-      kept : (f : Forest Maker) → StandsAt l.nodes l.from f l.to → Keeps (nodes_names (nodes_of f)) (setting_of g.H.NamedFilters.named l.context) l.initial.state l.state;
-      alone : (f : Forest Maker) → StandsAt l.nodes l.from f l.to → AreRenderNodes (nodes_of f) → layers_of l.state ≡ layers_of l.initial.state;
+      kept : (f : Forest Maker) → IsForestAt l.nodes l.from f l.to → Keeps (nodes_names (nodes_of f)) (setting_of g.H.NamedFilters.named l.context) l.initial.state l.state;
+      alone : (f : Forest Maker) → IsForestAt l.nodes l.from f l.to → AreRenderNodes (nodes_of f) → layers_of l.state ≡ layers_of l.initial.state;
       silent : SilentOn l.nodes l.from l.at l.to;
       loops : loops_of l.state ≡ loops_of l.initial.state;
       same_writer : l.out.writer.ghost_name ≡ l.initial.out.writer.ghost_name;
@@ -101,11 +101,11 @@ invariant-loops::run_turns-turns g l =
     let over = configuration_behind g.W.CountedWrite.contents g.W.CountedWrite.failure_count in
     record {
       within : l.place < l.count;
-      leads : (f : Forest Maker) → StandsAt l.nodes l.from f l.to → (before : List Scope) (t : LoopFrame) → StartsAt l.count l.initial.state before t
+      leads : (f : Forest Maker) → IsForestAt l.nodes l.from f l.to → (before : List Scope) (t : LoopFrame) → StartsAt l.count l.initial.state before t
           → TurnsLead t (behind l.initial.state) (nodes_in g.H.NamedFilters.named l.context (nodes_of f)) l.count l.place (over l.initial.out l.initial.state) (over l.out l.state);
       frame : (before : List Scope) (t : LoopFrame) → StartsAt l.count l.initial.state before t → AtTurn before t l.place l.state;
       scopes : scopes_behind (layers_of l.state).scopes ≡ scopes_behind (layers_of l.initial.state).scopes;
-      kept : (f : Forest Maker) → StandsAt l.nodes l.from f l.to → KeepsBehind (nodes_names (nodes_of f)) (setting_of g.H.NamedFilters.named l.context) l.initial.state l.state;
+      kept : (f : Forest Maker) → IsForestAt l.nodes l.from f l.to → KeepsBehind (nodes_names (nodes_of f)) (setting_of g.H.NamedFilters.named l.context) l.initial.state l.state;
       same_writer : l.out.writer.ghost_name ≡ l.initial.out.writer.ghost_name;
     }
 
@@ -117,11 +117,11 @@ invariant-loops::run_cells-cells g l =
     let over = configuration_behind g.W.CountedWrite.contents g.W.CountedWrite.failure_count in
     record {
       within : l.place < l.row.count;
-      leads : (f : Forest Maker) → StandsAt l.nodes l.from f l.to → (before : List Scope) (t : LoopFrame) → StartsAt l.row.count l.initial.state before t
+      leads : (f : Forest Maker) → IsForestAt l.nodes l.from f l.to → (before : List Scope) (t : LoopFrame) → StartsAt l.row.count l.initial.state before t
           → CellsLead t l.row.columns.count (behind l.initial.state) (nodes_in g.H.NamedFilters.named l.context (nodes_of f)) l.row.count l.place (over l.initial.out l.initial.state) (over l.out l.state);
       frame : (before : List Scope) (t : LoopFrame) → StartsAt l.row.count l.initial.state before t → AtTurn before t l.place l.state;
       scopes : scopes_behind (layers_of l.state).scopes ≡ scopes_behind (layers_of l.initial.state).scopes;
-      kept : (f : Forest Maker) → StandsAt l.nodes l.from f l.to → KeepsBehind (nodes_names (nodes_of f)) (setting_of g.H.NamedFilters.named l.context) l.initial.state l.state;
+      kept : (f : Forest Maker) → IsForestAt l.nodes l.from f l.to → KeepsBehind (nodes_names (nodes_of f)) (setting_of g.H.NamedFilters.named l.context) l.initial.state l.state;
       same_writer : l.out.writer.ghost_name ≡ l.initial.out.writer.ghost_name;
     }
 

@@ -1,7 +1,7 @@
 use Rattle.std.proofs.Common.{◌≡◌, [], ◌∷◌, true, false, string_bytes, sym, ap, ◌∙◌}
 use Rattle.std.specs.Map.{keys_of}
 use Rattle.liquid_core.specs.Held.{held}
-use Rattle.liquid_syntax.specs.NameSets.{added, held as held_names}
+use Rattle.liquid_syntax.specs.NameSets.{added, mentioned_in_set as held_names}
 use Rattle.liquid_site.specs.Steps.{differs}
 use Rattle.liquid_site.specs.inside.Differing.{name_texts, differing}
 use Rattle.liquid_site.proofs.Differences.{one_added, one_passed, none_added}

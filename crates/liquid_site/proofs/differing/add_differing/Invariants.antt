@@ -1,7 +1,7 @@
 use Rattle.std.proofs.Common.{◌≡◌}
 use Rattle.std.specs.Map.{keys_of}
 use Rattle.liquid_core.specs.Held.{held}
-use Rattle.liquid_syntax.specs.NameSets.{added, held as held_names}
+use Rattle.liquid_syntax.specs.NameSets.{added, mentioned_in_set as held_names}
 use Rattle.liquid_site.specs.inside.Differing.{differing}
 use Rattle.liquid_site.proofs.differing.add_differing.Given as goal
 

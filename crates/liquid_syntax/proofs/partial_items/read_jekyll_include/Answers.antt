@@ -3,7 +3,7 @@ use Rattle.std.proofs.lemmas.Result.{err_from_is_err_and}
 use Rattle.std.specs.Option.{option_map}
 use Rattle.liquid_core.specs.ExpressionView.{expression_view}
 use Rattle.liquid_lexer.specs.Tokens.{tokens_view}
-use Rattle.liquid_syntax.specs.Bound.{pairs_of}
+use Rattle.liquid_syntax.specs.Bound.{bound_pairs}
 use Rattle.liquid_syntax.specs.Flats.{bindings_view}
 use Rattle.liquid_syntax.specs.Classification.{leaf_or}
 use Rattle.liquid_syntax.specs.PartialItems.{jekyll_node}
@@ -28,7 +28,7 @@ pub returns-clause-statement : goal.returns-clause-statement
 returns-clause-statement c =
     let left = tokens_view c.next_spelled.new.items.items in
     let all = bindings_view c.in_ok-all.all.items in
-    let read = pairs_alone c.new.result.items (pairs_of JekyllInclude left) all c.new.ensures.items c.in_ok-all.ensures.pairs in (
+    let read = pairs_alone c.new.result.items (bound_pairs JekyllInclude left) all c.new.ensures.items c.in_ok-all.ensures.pairs in (
       ap (λ o. leaf_or (option_map jekyll_node o))
           (jekyll_read c.args.items.items left (expression_view c.in-Some.value) c.in-Some.spelling.now c.in-Some.ensures.value c.in-Some.ensures.spelling (string_bytes c.in_ok-name.name) all c.in_ok-name.ensures read),
       refl,

@@ -3,13 +3,13 @@ use Rattle.std.specs.Prelude.{string_bytes}
 use Rattle.liquid_model.specs.Uses.{asks_whether}
 use Rattle.liquid_model.specs.UseViews.{members_view, turns_view, use_view}
 use Rattle.liquid_model.proofs.UseViews.{view-Nothing, view-Everything, view-Parts}
-use Rattle.liquid_syntax.specs.NameSets.{held}
+use Rattle.liquid_syntax.specs.NameSets.{mentioned_in_set}
 use Rattle.liquid_uses.proofs.WholeNames.{Entry}
 use Rattle.liquid_uses.proofs.AddedPaths.{same_added, then_added, nothing_added, whole_paths, unwritable, seen_only, all_parts, no_items_added, items_asked, items_counted, member_added, members_added}
 use Rattle.liquid_uses.proofs.paths.+add.Goals as goal
 
 pub add_paths-returns-in-Nothing : goal.add_paths-returns-in-Nothing
-add_paths-returns-in-Nothing t c = nothing_added c.args.path.now (held c.args.paths.now) (use_view c.args.asked.now) (ap use_view c.in-Nothing.is ∙ view-Nothing)
+add_paths-returns-in-Nothing t c = nothing_added c.args.path.now (mentioned_in_set c.args.paths.now) (use_view c.args.asked.now) (ap use_view c.in-Nothing.is ∙ view-Nothing)
 
 pub add_paths-returns-in-Everything : goal.add_paths-returns-in-Everything
 add_paths-returns-in-Everything t c = same_added _ _ _ _ _ (whole_paths c.args.path.now (use_view c.args.asked.now) (ap use_view c.in-Everything.is ∙ view-Everything)) c.add_path.ensures
@@ -39,16 +39,16 @@ pub add_member_paths-loop-key-preserved : goal.add_member_paths-loop-key-preserv
 add_member_paths-loop-key-preserved t c =
     let e : Entry = (c.in-Some.key.now, c.in-Some.asked.now) in
     let named : string_bytes c.in_ok-inner.inner ≡ c.args.path.now ++ (codes "." ++ string_bytes e.0) = c.in_ok-inner.ensures ∙ ap (λ k. c.args.path.now ++ (codes "." ++ k)) c.as_str.ensures.value in
-    member_added c.args.path.now _ (held c.loop-key.paths) _ e c.next.new.self c.loop-key.key-iterator c.in-Some.ensures.steps (c.as_str-in-loop-key.ensures.value ∙ named) c.in_ok-add_paths.ensures
+    member_added c.args.path.now _ (mentioned_in_set c.loop-key.paths) _ e c.next.new.self c.loop-key.key-iterator c.in-Some.ensures.steps (c.as_str-in-loop-key.ensures.value ∙ named) c.in_ok-add_paths.ensures
     ∙ c.loop-key.invariant
 
 pub add_member_paths-returns : goal.add_member_paths-returns
 add_member_paths-returns t c =
     let none : c.loop-key.key-iterator ≡ [] = search rules in
-    members_added c.args.path.now (held c.loop-key.paths) _ c.loop-key.key-iterator none c.loop-key.invariant
+    members_added c.args.path.now (mentioned_in_set c.loop-key.paths) _ c.loop-key.key-iterator none c.loop-key.invariant
 
 pub add_item_paths-returns-in-None : goal.add_item_paths-returns-in-None
-add_item_paths-returns-in-None t c = no_items_added c.args.path.now (held c.args.paths.now) c.args.items.now c.in-None.is
+add_item_paths-returns-in-None t c = no_items_added c.args.path.now (mentioned_in_set c.args.paths.now) c.args.items.now c.in-None.is
 
 pub add_item_paths-returns-then-asks_whether : goal.add_item_paths-returns-then-asks_whether
 add_item_paths-returns-then-asks_whether t c =

@@ -1,6 +1,6 @@
 use Rattle.std.proofs.Common.{◌≡◌, cond, [], ◌∷◌, sym, ap, ◌∙◌, rules}
 use Rattle.liquid_model.specs.Uses.{everything, nothing}
-use Rattle.liquid_syntax.specs.NameSets.{held}
+use Rattle.liquid_syntax.specs.NameSets.{mentioned_in_set}
 use Rattle.liquid_uses.proofs.WholeNames.{with_left, name_put}
 use Rattle.liquid_uses.proofs.whole_names.whole_names.Goals as goal
 
@@ -12,7 +12,7 @@ loop-name-preserved c = λ q.
     ∙ ap (λ ks. with_left q ks c.loop-name.uses.entries) (sym rest) ∙ c.loop-name.invariant q
 
 pub returns : goal.returns
-unfolding held
+unfolding mentioned_in_set
 returns c = λ q.
     let none : c.loop-name.name-iterator ≡ [] = search rules in
     let all : c.into_iter-name-iterator.result ≡ c.args.names.keys = search rules in

@@ -1,13 +1,13 @@
 use Rattle.std.proofs.Common.{◌≡◌, List, true, length}
 use Rattle.liquid_evaluation.specs.Tree.{Nodes}
-use Rattle.liquid_syntax.specs.OpenBlocks.{Level, deeper, depth, close}
+use Rattle.liquid_syntax.specs.OpenBlocks.{Level, deeper, block_depth, close}
 use Rattle.liquid_syntax.specs.inside.Building.{IsStack}
 use Rattle.liquid_syntax.proofs.build.Builder.close.Given as goal
 
 abbrev pub invariant-chain : goal.invariant-chain
 invariant-chain l =
     ((ls : List Level) (cur : Nodes) → IsStack l.initial.self ls cur
-    → (ms : List Level) × (now : Nodes) × IsStack l.self ms now × (close true ls cur ≡ close l.chained ms now) × (depth ls ≡ deeper l.chained (depth ms)))
+    → (ms : List Level) × (now : Nodes) × IsStack l.self ms now × (close true ls cur ≡ close l.chained ms now) × (block_depth ls ≡ deeper l.chained (block_depth ms)))
     × (l.self.depth ≡ l.initial.self.depth)
 
 abbrev pub decreases-chain : goal.decreases-chain

@@ -8,9 +8,9 @@ use Rattle.liquid_lexer.specs.declared.piece.Body.{Body}
 use Rattle.liquid_syntax.specs.inside.Building.{statement_view}
 use Rattle.liquid_syntax.specs.Flats.{flats}
 use Rattle.liquid_syntax.specs.inside.Classifies.{Classifies}
-use Rattle.liquid_syntax.specs.Classification.{opens, reads}
+use Rattle.liquid_syntax.specs.Classification.{starts_block, reads}
 use Rattle.liquid_syntax.specs.Nesting.{Statement}
-use Rattle.liquid_syntax.specs.OpenBlocks.{context_of, step}
+use Rattle.liquid_syntax.specs.OpenBlocks.{context_of, statement_step}
 use Rattle.liquid_language.specs.Roles.{body_behind}
 use Rattle.liquid_language.specs.declared.block.BlockContext.{BlockContext}
 use Rattle.liquid_syntax.proofs.ChainCalls.{faulted}
@@ -34,7 +34,7 @@ returns-then-opens c = λ ls cur b.
     let wanted = c.body_behind-body.ensures ∙ ap (λ (x : BlockContext). wanted_body (body_behind c.args.language.now x) (piece_view c.args.found.0.piece)) at in
     let closed = ap (λ (o : Option Body). body_at o found.0 found.1) (sym wanted) ∙ c.in_ok-markup.ensures in
     let full = ap (nat_le 200) (sym b.1) ∙ sym c.is_full.ensures ∙ c.if-is_full.true in
-    let begins = ap (λ (x : BlockContext). opens c.args.language.now x (piece_view c.in_ok-markup.markup.piece)) (sym at) ∙ sym c.opens.ensures ∙ c.if-opens.true in
+    let begins = ap (λ (x : BlockContext). starts_block c.args.language.now x (piece_view c.in_ok-markup.markup.piece)) (sym at) ∙ sym c.opens.ensures ∙ c.if-opens.true in
     let none = no_room c.args.language.now (context_of ls) (piece_view c.in_ok-markup.markup.piece) ls cur begins full in
     no_piece c.args.language.now found ls cur (markup_view c.in_ok-markup.markup, c.in_ok-markup.after.now) closed c.too_nested.result (faulted c.too_nested.result _ none)
 
@@ -58,7 +58,7 @@ returns-in_err-add c = λ ls cur b.
     let p = err_from_is_err_and c.from_residual-in_err-add.result c.from_residual-in_err-add.ensures.1 in
     let statement : reads c.args.language.now (context_of ls) (piece_view c.in_ok-markup.markup.piece) ≡ statement_view c.in_ok-statement.statement = ap (λ (x : BlockContext). reads c.args.language.now x (piece_view c.in_ok-markup.markup.piece)) (sym at) ∙ c.in_ok-statement.ensures.statement.0 in
     rw (p.1, p.2) (no_piece c.args.language.now found ls cur (markup_view c.in_ok-markup.markup, c.in_ok-markup.after.now) closed c.in_err-add.field-0.0
-    (subst (λ (l : Statement). Fails c.in_err-add.field-0.0 (step l ls cur)) (sym statement) (c.in_err-add.ensures.stack ls cur b)))
+    (subst (λ (l : Statement). Fails c.in_err-add.field-0.0 (statement_step l ls cur)) (sym statement) (c.in_err-add.ensures.stack ls cur b)))
 
 pub returns : goal.returns
 returns c = λ ls cur b.
@@ -73,6 +73,6 @@ returns c = λ ls cur b.
       refl,
       refl,
       added.0,
-      ap (λ (l : Statement). step l ls cur) statement ∙ added.1,
+      ap (λ (l : Statement). statement_step l ls cur) statement ∙ added.1,
       added.2,
     )

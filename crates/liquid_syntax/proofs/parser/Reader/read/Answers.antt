@@ -2,7 +2,7 @@ use Rattle.std.proofs.Common.{rules, ◌≡◌, length, ◌-◌, ◌<◌, [], sy
 use Rattle.std.proofs.lemmas.Result.{err_from_is_err_and}
 use Rattle.liquid_lexer.specs.PieceView.{markup_view}
 use Rattle.liquid_lexer.specs.SourceReading.{source_at}
-use Rattle.liquid_syntax.specs.inside.Building.{Steps, text_added}
+use Rattle.liquid_syntax.specs.inside.Building.{AdvancesTo, text_added}
 use Rattle.liquid_syntax.specs.inside.TemplateReading.{body_of, piece_step}
 use Rattle.liquid_syntax.specs.OpenBlocks.{State}
 use Rattle.liquid_evaluation.specs.Tree.{no_nodes}
@@ -18,7 +18,7 @@ returns-in_default c =
     let all = all_of c.args.language.now c.args.source.now in
     let read : all ≡ _ = last_text c.args.language.now all c.pieces.rest.now c.text_before.result.0.now c.text_before.result.1.now v.0 c.pieces.strip_next v.1 v.2 v.5 c.text_before.ensures
     c.stripped.result.now (sym c.in_default.ensures) c.stripped.ensures in
-    subst (λ (o : Option State). Steps o c.text.new.self.builder c.text.result) (sym read) (c.text.ensures v.1 v.2 v.4)
+    subst (λ (o : Option State). AdvancesTo o c.text.new.self.builder c.text.result) (sym read) (c.text.ensures v.1 v.2 v.4)
 
 pub returns-in_err-found : goal.returns-in_err-found
 returns-in_err-found c =
