@@ -11,7 +11,7 @@ use Rattle.liquid_model.specs.View.{pairs_view}
 use Rattle.liquid_model.specs.declared.error.ErrorKind.TheVariants.{Memory, Write}
 use Rattle.liquid_core.specs.Held.{held as map_held}
 use Rattle.liquid_evaluation.specs.Tree.{Nodes}
-use Rattle.liquid_language.specs.Entries.{put}
+use Rattle.liquid_language.specs.Entries.{put_entry}
 use Rattle.liquid_syntax.specs.Parsing.{IsOnlyTree, HasNoTree, MayRefuse}
 use Rattle.liquid_syntax.specs.Templates.{template_nodes, tree_of, partials_of}
 use Rattle.liquid_language.specs.declared.language.Language.{Language}
@@ -154,7 +154,7 @@ Holds _ trees levels = ⊥
 pub data InsertsPartial (old : Partials) (most : Levels) (name : List ℕ) (t : Template)
     (levels : Levels)
     (number : ℕ) (partials template was : Option Held) : Type 0 where
-  done : IsUtf8 name → number ≡ 0 → Holds partials (put name (tree_of t) (partials_of old))
+  done : IsUtf8 name → number ≡ 0 → Holds partials (put_entry name (tree_of t) (partials_of old))
       (greater_of most levels) → template ≡ None →
       InsertsPartial old most name t levels number partials template was
   refused : IsUtf8 name → number ≡ number_of Memory → Holds partials (partials_of old) most →

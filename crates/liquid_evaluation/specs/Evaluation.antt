@@ -71,9 +71,9 @@ chain_value answers chain e = do
 -- ---- conditions
 
 -- where the order of conditions has no answer, each test of it is false
-abbrev pub passes : (Ordering → Bool) → Option Ordering → Bool
-passes test None = false
-passes test (Some o) = test o
+abbrev pub order_passes : (Ordering → Bool) → Option Ordering → Bool
+order_passes test None = false
+order_passes test (Some o) = test o
 
 -- whether t has s in it
 abbrev pub occurs_in : Text → Text → Bool
@@ -95,10 +95,10 @@ contains c d = Ok (occurs_in (text_of d) (text_of c))
 unfoldable pub comparison_truth : ComparisonOperator → Datum → Datum → Result Bool ErrorKind
 comparison_truth Equals l r = Ok (same l r)
 comparison_truth NotEquals l r = Ok (not (same l r))
-comparison_truth LessThan l r = Ok (passes is_lt (compare l r))
-comparison_truth GreaterThan l r = Ok (passes is_gt (compare l r))
-comparison_truth LessThanEquals l r = Ok (passes is_le (compare l r))
-comparison_truth GreaterThanEquals l r = Ok (passes is_ge (compare l r))
+comparison_truth LessThan l r = Ok (order_passes is_lt (compare l r))
+comparison_truth GreaterThan l r = Ok (order_passes is_gt (compare l r))
+comparison_truth LessThanEquals l r = Ok (order_passes is_le (compare l r))
+comparison_truth GreaterThanEquals l r = Ok (order_passes is_ge (compare l r))
 comparison_truth Contains l r = contains l r
 
 -- a missing value is false
@@ -173,29 +173,29 @@ amount (Some x) e = do
   Ok (Some n)
 
 -- a negative number counts as huge
-abbrev pub at_most : ℕ → ℤ → ℕ
-at_most n (pos k) = min k n
-at_most n (negsuc k) = n
+abbrev pub count_within_limit : ℕ → ℤ → ℕ
+count_within_limit n (pos k) = min k n
+count_within_limit n (negsuc k) = n
 
 -- of n items, how many are left out, and how many are asked for after o of them
 abbrev pub skipped : ℕ → Option ℤ → ℕ
 skipped n None = 0
-skipped n (Some offset) = at_most n offset
+skipped n (Some offset) = count_within_limit n offset
 
 abbrev pub wanted : ℕ → ℕ → Option ℤ → ℕ
 wanted n o None = n - o
-wanted n o (Some limit) = at_most n limit
+wanted n o (Some limit) = count_within_limit n limit
 
 -- m items from place o on, each nil where there is none
-abbrev pub items_at : List Datum → ℕ → ℕ → List Datum
-items_at ds o zero = []
-items_at ds o (suc m) = get_or ds o nil ∷ items_at ds (suc o) m
+abbrev pub items_in_window : List Datum → ℕ → ℕ → List Datum
+items_in_window ds o zero = []
+items_in_window ds o (suc m) = get_or ds o nil ∷ items_in_window ds (suc o) m
 
 -- of these items, what limit, offset and, last of all, `reversed` ask for
 abbrev pub window_items : List Datum → Option ℤ → Option ℤ → Bool → List Datum
 window_items ds limit offset reversed =
     let o = skipped (length ds) offset in
-    let items = items_at ds o (wanted (length ds) o limit) in
+    let items = items_in_window ds o (wanted (length ds) o limit) in
     cond reversed (reverse items) items
 
 -- limit and offset are evaluated in this order

@@ -6,7 +6,7 @@ ghost use Rattle.liquid_model.specs.declared.error.ErrorKind.TheVariants.{Unexpe
 ghost use Rattle.liquid_core.specs.ExpressionView.{expression_view};
 ghost use Rattle.liquid_core.specs.Expressions.{needed_whole};
 ghost use Rattle.liquid_core.specs.States.{environment_of};
-ghost use Rattle.liquid_evaluation.specs.Evaluation.{amount, at_most, skipped, wanted};
+ghost use Rattle.liquid_evaluation.specs.Evaluation.{amount, count_within_limit, skipped, wanted};
 
 use liquid_core::{Error, ErrorKind, Expression, Quoted, Result, Spelled, State, Value};
 use std::alloc::Global;
@@ -43,7 +43,7 @@ impl Window {
 
 /// As many as the number says, and at most all of them; a negative number counts as huge.
 fn at_most(all: usize, number: i64) -> usize
-    ensures value { result ≡ at_most all number }
+    ensures value { result ≡ count_within_limit all number }
     ensures within { result ≤ all }
 {
     if number < 0 {

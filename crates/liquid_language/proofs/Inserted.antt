@@ -9,7 +9,7 @@ use Rattle.std.proofs.lemmas.Map.Text.{is_eq-slice_cmp}
 use Rattle.std.proofs.lemmas.Slice.Eq.{bytes_eq-Decides}
 use Rattle.liquid_model.specs.Texts.{Text}
 use Rattle.liquid_model.specs.Maps.{listed, insert}
-use Rattle.liquid_language.specs.Entries.{seen, put}
+use Rattle.liquid_language.specs.Entries.{seen, put_entry}
 
 abbrev pub Entry : Type 0 → Type 0
 Entry X = String Global × X
@@ -19,7 +19,7 @@ by_order f Less a b c = refl
 by_order f Equal a b c = refl
 by_order f Greater a b c = refl
 
-pub seen_inserted : {X Y : Type 0} (f : X → Y) (es : List (Entry X)) (k : String Global) (x : X) → seen f (insert_entry string_cmp es k x) ≡ put (string_bytes k) (f x) (seen f es)
+pub seen_inserted : {X Y : Type 0} (f : X → Y) (es : List (Entry X)) (k : String Global) (x : X) → seen f (insert_entry string_cmp es k x) ≡ put_entry (string_bytes k) (f x) (seen f es)
 seen_inserted f [] k x = refl
 seen_inserted f (e ∷ es) k x = by_order f (string_cmp k e.0) _ _ _ ∙ rw (seen_inserted f es k x)
 
@@ -59,8 +59,8 @@ found_reference f r name es e = by_reference f r ∙ ap (option_map f) e ∙ loo
 -- ---- what was put is found
 
 put_by : {Y : Type 0} (o : Ordering) (name other l : Text) (t u : Y) (es : List (Text × Y)) → slice_cmp nat_cmp name l ≡ o
-    → listed (put name t es) other ≡ cond (bytes_eq name other) (Some t) (listed es other)
-    → listed (match_ordering o ((name, t) ∷ (l, u) ∷ es) ((l, t) ∷ es) ((l, u) ∷ put name t es)) other ≡ cond (bytes_eq name other) (Some t) (listed ((l, u) ∷ es) other)
+    → listed (put_entry name t es) other ≡ cond (bytes_eq name other) (Some t) (listed es other)
+    → listed (match_ordering o ((name, t) ∷ (l, u) ∷ es) ((l, t) ∷ es) ((l, u) ∷ put_entry name t es)) other ≡ cond (bytes_eq name other) (Some t) (listed ((l, u) ∷ es) other)
 unfolding listed
 put_by Less name other l t u es is later = refl
 put_by Equal name other l t u es is later =
@@ -84,12 +84,12 @@ put_by Greater name other l t u es is later = ap (λ o. cond (bytes_eq l other) 
         let no : false ≡ true = sym (ap is_eq is) ∙ is_eq-slice_cmp name l ∙ h in
         absurd cc
 
-put_found : {Y : Type 0} (name other : Text) (t : Y) (es : List (Text × Y)) → listed (put name t es) other ≡ cond (bytes_eq name other) (Some t) (listed es other)
+put_found : {Y : Type 0} (name other : Text) (t : Y) (es : List (Text × Y)) → listed (put_entry name t es) other ≡ cond (bytes_eq name other) (Some t) (listed es other)
 unfolding listed
 put_found name other t [] = refl
 put_found name other t (e ∷ es) = put_by (slice_cmp nat_cmp name e.0) name other e.0 t e.1 es refl (put_found name other t es)
 
-pub listed_put : {Y : Type 0} (name : Text) (t : Y) (es : List (Text × Y)) → listed (put name t es) ≡ insert (listed es) name t
+pub listed_put : {Y : Type 0} (name : Text) (t : Y) (es : List (Text × Y)) → listed (put_entry name t es) ≡ insert (listed es) name t
 unfolding insert
 listed_put name t es = fun_ext (λ other. put_found name other t es)
 

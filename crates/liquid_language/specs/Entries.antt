@@ -11,10 +11,10 @@ abbrev pub seen : {X Y : Type 0} → (X → Y) → List (String Global × X) →
 seen f es = map (λ e. (string_bytes e.0, f e.1)) es
 
 -- the entries with y at a name; what stood there before is gone
-abbrev pub put : {Y : Type 0} → Text → Y → List (Text × Y) → List (Text × Y)
-put name y [] = (name, y) ∷ []
-put name y (e ∷ es) = match_ordering (slice_cmp nat_cmp name e.0) ((name, y) ∷ e ∷ es)
-    ((e.0, y) ∷ es) (e ∷ put name y es)
+abbrev pub put_entry : {Y : Type 0} → Text → Y → List (Text × Y) → List (Text × Y)
+put_entry name y [] = (name, y) ∷ []
+put_entry name y (e ∷ es) = match_ordering (slice_cmp nat_cmp name e.0) ((name, y) ∷ e ∷ es)
+    ((e.0, y) ∷ es) (e ∷ put_entry name y es)
 
 -- the entries with y at a name that is there
 abbrev pub placed : {Y : Type 0} → Text → Y → List (Text × Y) → List (Text × Y)

@@ -10,7 +10,7 @@ use Rattle.liquid_model.specs.declared.error.ErrorKind.{ErrorKind}
 use Rattle.liquid_core.specs.Expression.{Expression, literal, variable}
 use Rattle.liquid_evaluation.specs.declared.comparison.ComparisonOperator.{ComparisonOperator}
 use Rattle.liquid_evaluation.specs.declared.comparison.ComparisonOperator.TheVariants.{Equals, NotEquals, LessThan, GreaterThan, LessThanEquals, GreaterThanEquals, Contains}
-use Rattle.liquid_evaluation.specs.Evaluation.{passes, comparison_truth}
+use Rattle.liquid_evaluation.specs.Evaluation.{order_passes, comparison_truth}
 use Rattle.liquid_model.specs.Uses.{Use, everything, there, shape, Alike, asks_whether}
 use Rattle.liquid_meaning.specs.Reading.{Uses, is_nil_or_scalar, sees_kind_alone, use_beside, grants}
 
@@ -103,10 +103,10 @@ left_seen : (comparison : ComparisonOperator) (d l m : Datum) → Alike (use_bes
 unfolding comparison_truth
 left_seen Equals d l m a = by_shape_or_whole (is_nil_or_scalar (literal d)) (λ c. comparison_truth Equals c d) (λ h c. ap Ok (same_shape c d h)) l m a
 left_seen NotEquals d l m a = by_shape_or_whole (is_nil_or_scalar (literal d)) (λ c. comparison_truth NotEquals c d) (λ h c. ap (λ b. Ok (not b)) (same_shape c d h)) l m a
-left_seen LessThan d l m a = by_shape_or_whole (is_nil_or_scalar (literal d)) (λ c. comparison_truth LessThan c d) (λ h c. ap (λ o. Ok (passes is_lt o)) (compare_shape c d h)) l m a
-left_seen GreaterThan d l m a = by_shape_or_whole (is_nil_or_scalar (literal d)) (λ c. comparison_truth GreaterThan c d) (λ h c. ap (λ o. Ok (passes is_gt o)) (compare_shape c d h)) l m a
-left_seen LessThanEquals d l m a = by_shape_or_whole (is_nil_or_scalar (literal d)) (λ c. comparison_truth LessThanEquals c d) (λ h c. ap (λ o. Ok (passes is_le o)) (compare_shape c d h)) l m a
-left_seen GreaterThanEquals d l m a = by_shape_or_whole (is_nil_or_scalar (literal d)) (λ c. comparison_truth GreaterThanEquals c d) (λ h c. ap (λ o. Ok (passes is_ge o)) (compare_shape c d h)) l m a
+left_seen LessThan d l m a = by_shape_or_whole (is_nil_or_scalar (literal d)) (λ c. comparison_truth LessThan c d) (λ h c. ap (λ o. Ok (order_passes is_lt o)) (compare_shape c d h)) l m a
+left_seen GreaterThan d l m a = by_shape_or_whole (is_nil_or_scalar (literal d)) (λ c. comparison_truth GreaterThan c d) (λ h c. ap (λ o. Ok (order_passes is_gt o)) (compare_shape c d h)) l m a
+left_seen LessThanEquals d l m a = by_shape_or_whole (is_nil_or_scalar (literal d)) (λ c. comparison_truth LessThanEquals c d) (λ h c. ap (λ o. Ok (order_passes is_le o)) (compare_shape c d h)) l m a
+left_seen GreaterThanEquals d l m a = by_shape_or_whole (is_nil_or_scalar (literal d)) (λ c. comparison_truth GreaterThanEquals c d) (λ h c. ap (λ o. Ok (order_passes is_ge o)) (compare_shape c d h)) l m a
 left_seen Contains d l m a = ap (λ o. comparison_truth Contains (unwrap_or o nil) d) a
 
 -- of two values on its right
@@ -114,10 +114,10 @@ right_seen : (comparison : ComparisonOperator) (d r s : Datum) → Alike (use_be
 unfolding comparison_truth
 right_seen Equals d r s a = by_shape_or_whole (is_nil_or_scalar (literal d)) (λ c. comparison_truth Equals d c) (λ h c. ap Ok (same_shape_after c d h)) r s a
 right_seen NotEquals d r s a = by_shape_or_whole (is_nil_or_scalar (literal d)) (λ c. comparison_truth NotEquals d c) (λ h c. ap (λ b. Ok (not b)) (same_shape_after c d h)) r s a
-right_seen LessThan d r s a = by_shape_or_whole (is_nil_or_scalar (literal d)) (λ c. comparison_truth LessThan d c) (λ h c. ap (λ o. Ok (passes is_lt o)) (compare_shape_after c d h)) r s a
-right_seen GreaterThan d r s a = by_shape_or_whole (is_nil_or_scalar (literal d)) (λ c. comparison_truth GreaterThan d c) (λ h c. ap (λ o. Ok (passes is_gt o)) (compare_shape_after c d h)) r s a
-right_seen LessThanEquals d r s a = by_shape_or_whole (is_nil_or_scalar (literal d)) (λ c. comparison_truth LessThanEquals d c) (λ h c. ap (λ o. Ok (passes is_le o)) (compare_shape_after c d h)) r s a
-right_seen GreaterThanEquals d r s a = by_shape_or_whole (is_nil_or_scalar (literal d)) (λ c. comparison_truth GreaterThanEquals d c) (λ h c. ap (λ o. Ok (passes is_ge o)) (compare_shape_after c d h)) r s a
+right_seen LessThan d r s a = by_shape_or_whole (is_nil_or_scalar (literal d)) (λ c. comparison_truth LessThan d c) (λ h c. ap (λ o. Ok (order_passes is_lt o)) (compare_shape_after c d h)) r s a
+right_seen GreaterThan d r s a = by_shape_or_whole (is_nil_or_scalar (literal d)) (λ c. comparison_truth GreaterThan d c) (λ h c. ap (λ o. Ok (order_passes is_gt o)) (compare_shape_after c d h)) r s a
+right_seen LessThanEquals d r s a = by_shape_or_whole (is_nil_or_scalar (literal d)) (λ c. comparison_truth LessThanEquals d c) (λ h c. ap (λ o. Ok (order_passes is_le o)) (compare_shape_after c d h)) r s a
+right_seen GreaterThanEquals d r s a = by_shape_or_whole (is_nil_or_scalar (literal d)) (λ c. comparison_truth GreaterThanEquals d c) (λ h c. ap (λ o. Ok (order_passes is_ge o)) (compare_shape_after c d h)) r s a
 right_seen Contains d r s a = ap (λ o. comparison_truth Contains d (unwrap_or o nil)) a
 
 -- beside a variable all is seen

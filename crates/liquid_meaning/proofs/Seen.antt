@@ -18,7 +18,7 @@ use Rattle.liquid_core.specs.Expressions.{value_of, path_of, required, all_requi
 use Rattle.liquid_model.specs.Fallible.{◌>>=◌}
 use Rattle.liquid_evaluation.specs.Calls.{applied}
 use Rattle.liquid_evaluation.specs.Tree.{FilterCall, Chain, Atom, bare, compared, Condition, Source, each_of, counted, Window, Bindings}
-use Rattle.liquid_evaluation.specs.Evaluation.{FilterAnswers, entry_value, calls_by, chain_value, bare_truth, atom_truth, all_true, truth_of, value_items, most_items, not_too_long, source_items, amount, skipped, wanted, items_at, window_items, asked_for, bound_values}
+use Rattle.liquid_evaluation.specs.Evaluation.{FilterAnswers, entry_value, calls_by, chain_value, bare_truth, atom_truth, all_true, truth_of, value_items, most_items, not_too_long, source_items, amount, skipped, wanted, items_in_window, window_items, asked_for, bound_values}
 use Rattle.liquid_model.specs.Uses.{Use, everything, parts, no_fields, every, there, shape_of, member, loop_items, Pairwise, Alike, use_at, is_everything, asks_whether}
 use Rattle.liquid_meaning.specs.Reading.{Uses, known_key, key, for_known_key, grants, grants_along, grants_all, grants_optional, grants_filters, Needs, use_before, grants_chain, use_beside, grants_compared, grants_atom, grants_atoms, grants_condition, grants_source, grants_window, grants_bindings}
 use Rattle.liquid_meaning.specs.Reads.{AlikeIn, Both, Respects}
@@ -329,13 +329,13 @@ module _ (u : Use) where
       at true = h
       at false = refl
 
-  items_at_alike : (ds es : List Datum) (o m : ℕ) → AlikeLists u ds es → AlikeLists u (items_at ds o m) (items_at es o m)
+  items_at_alike : (ds es : List Datum) (o m : ℕ) → AlikeLists u ds es → AlikeLists u (items_in_window ds o m) (items_in_window es o m)
   items_at_alike ds es o zero h = tt
   items_at_alike ds es o (suc m) h = (pairwise_get _ nil (alike_same u (Some nil)) ds es o h, items_at_alike ds es (suc o) m h)
 
   -- the items of a list of n
   abbrev within : Option ℤ → Option ℤ → ℕ → List Datum → List Datum
-  within limit offset n ds = items_at ds (skipped n offset) (wanted n (skipped n offset) limit)
+  within limit offset n ds = items_in_window ds (skipped n offset) (wanted n (skipped n offset) limit)
 
   window_alike : (ds es : List Datum) (limit offset : Option ℤ) (reversed : Bool) → AlikeLists u ds es → AlikeLists u (window_items ds limit offset reversed) (window_items es limit offset reversed)
   window_alike ds es limit offset reversed h = at (length ds) (length es) (pairwise_length _ ds es h)

@@ -12,7 +12,7 @@ use Rattle.liquid_core.specs.Hosts.{no_host}
 use Rattle.liquid_evaluation.specs.Evaluation.{answers_with}
 use Rattle.liquid_evaluation.specs.Tree.{Nodes}
 use Rattle.liquid_syntax.specs.Parsing.{IsOnlyTree, HasNoTree, IsOfSource}
-use Rattle.liquid_language.specs.Entries.{put}
+use Rattle.liquid_language.specs.Entries.{put_entry}
 use Rattle.liquid_language.specs.declared.language.Language.{Language}
 use Rattle.liquid_meaning.specs.Runs.{Nothing, Outcome}
 use Rattle.liquid_meaning.specs.Meaning.{meaning}
@@ -39,7 +39,7 @@ TemplateTrees = List (Text × Nodes)
 abbrev pub ArePartials : Language → Sources → TemplateTrees → TemplateTrees → Type 0
 ArePartials l [] before all = all ≡ before
 ArePartials l (p ∷ ps) before all = (t : Nodes) × IsOnlyTree l t p.1 ×
-    ArePartials l ps (put p.0 t before) all
+    ArePartials l ps (put_entry p.0 t before) all
 
 -- the first of these partials that has no tree
 abbrev pub HasBadPartial : Language → Sources → Type 0

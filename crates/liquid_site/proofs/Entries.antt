@@ -14,7 +14,7 @@ use mathlib.Core.Path.{refl, sym, ap, ◌∙◌}
 use Rattle.liquid_model.specs.Texts.{Text, same_text}
 use Rattle.liquid_model.specs.Maps.{listed}
 use Rattle.liquid_model.proofs.Maps.{same_key}
-use Rattle.liquid_language.specs.Entries.{seen, put, placed, without}
+use Rattle.liquid_language.specs.Entries.{seen, put_entry, placed, without}
 use Rattle.liquid_syntax.proofs.Held.{apart, order, names, same_turned, seen_found, seen_placed}
 use Rattle.liquid_language.proofs.Inserted.{named, seen_inserted}
 
@@ -49,19 +49,19 @@ seen_removed f name (e ∷ es) = removed_seen f (named name e.0) (same_text (str
 
 -- ---- a new name is put in and taken out again
 
-put_taken : {Y : Type 0} (name : Text) (y : Y) (es : List (Text × Y)) → is_some (listed es name) ≡ false → without name (put name y es) ≡ es
+put_taken : {Y : Type 0} (name : Text) (y : Y) (es : List (Text × Y)) → is_some (listed es name) ≡ false → without name (put_entry name y es) ≡ es
 unfolding listed
 put_taken name y [] h = ap (λ b. cond b [] ((name, y) ∷ [])) (same_key name)
 put_taken name y (e ∷ es) h = on (order name e.0) refl (same_text e.0 name) refl h (put_taken name y es)
   where
-    on : (o : Ordering) → order name e.0 ≡ o → (b : Bool) → same_text e.0 name ≡ b → is_some (cond b (Some e.1) (listed es name)) ≡ false → (is_some (listed es name) ≡ false → without name (put name y es) ≡ es)
-        → without name (match_ordering (order name e.0) ((name, y) ∷ e ∷ es) ((e.0, y) ∷ es) (e ∷ put name y es)) ≡ e ∷ es
+    on : (o : Ordering) → order name e.0 ≡ o → (b : Bool) → same_text e.0 name ≡ b → is_some (cond b (Some e.1) (listed es name)) ≡ false → (is_some (listed es name) ≡ false → without name (put_entry name y es) ≡ es)
+        → without name (match_ordering (order name e.0) ((name, y) ∷ e ∷ es) ((e.0, y) ∷ es) (e ∷ put_entry name y es)) ≡ e ∷ es
     on o k true s l rest = absurd (apart l)
     on Less k false s l rest =
-        ap (λ x. without name (match_ordering x ((name, y) ∷ e ∷ es) ((e.0, y) ∷ es) (e ∷ put name y es))) k ∙ ap (λ b. cond b (e ∷ es) ((name, y) ∷ without name (e ∷ es))) (same_key name)
+        ap (λ x. without name (match_ordering x ((name, y) ∷ e ∷ es) ((e.0, y) ∷ es) (e ∷ put_entry name y es))) k ∙ ap (λ b. cond b (e ∷ es) ((name, y) ∷ without name (e ∷ es))) (same_key name)
     on Equal k false s l rest = absurd (apart (sym (same_turned e.0 name ∙ sym (is_eq-slice_cmp name e.0) ∙ ap is_eq k) ∙ s))
     on Greater k false s l rest =
-        ap (λ x. without name (match_ordering x ((name, y) ∷ e ∷ es) ((e.0, y) ∷ es) (e ∷ put name y es))) k ∙ ap (λ b. cond b (put name y es) (e ∷ without name (put name y es))) s ∙ ap (λ l. e ∷ l) (rest l)
+        ap (λ x. without name (match_ordering x ((name, y) ∷ e ∷ es) ((e.0, y) ∷ es) (e ∷ put_entry name y es))) k ∙ ap (λ b. cond b (put_entry name y es) (e ∷ without name (put_entry name y es))) s ∙ ap (λ l. e ∷ l) (rest l)
 
 is_listed : {Y : Type 0} (name : Text) (es : List (Text × Y)) → is_some (listed es name) ≡ list_any (λ k. same_text k name) (names es)
 unfolding listed

@@ -9,7 +9,7 @@ use Rattle.liquid_model.specs.Texts.{Text, same_text}
 use Rattle.liquid_model.specs.Data.{Datum}
 use Rattle.liquid_model.specs.Maps.{Map, listed}
 use Rattle.liquid_evaluation.specs.Tree.{Nodes}
-use Rattle.liquid_language.specs.Entries.{put, without}
+use Rattle.liquid_language.specs.Entries.{put_entry, without}
 use Rattle.liquid_syntax.proofs.Held.{apart}
 use Rattle.liquid_model.proofs.Maps.{same_text_equal}
 use Rattle.liquid_lib.specs.Pages.{Shown, page_over}
@@ -23,12 +23,12 @@ by_order f Less a b c = refl
 by_order f Equal a b c = refl
 by_order f Greater a b c = refl
 
-pub put_shown : (show : Nodes → Shown) (name : Text) (t : Nodes) (ps : Trees) → put name (show t) (all_pages show ps) ≡ all_pages show (put name t ps)
+pub put_shown : (show : Nodes → Shown) (name : Text) (t : Nodes) (ps : Trees) → put_entry name (show t) (all_pages show ps) ≡ all_pages show (put_entry name t ps)
 put_shown show name t [] = refl
 put_shown show name t (p ∷ ps) =
     let o = slice_cmp nat_cmp name p.0 in
     ap (λ l. match_ordering o ((name, show t) ∷ (p.0, show p.1) ∷ all_pages show ps) ((p.0, show t) ∷ all_pages show ps) ((p.0, show p.1) ∷ l)) (put_shown show name t ps)
-    ∙ sym (by_order (all_pages show) o ((name, t) ∷ p ∷ ps) ((p.0, t) ∷ ps) (p ∷ put name t ps))
+    ∙ sym (by_order (all_pages show) o ((name, t) ∷ p ∷ ps) ((p.0, t) ∷ ps) (p ∷ put_entry name t ps))
 
 on_cond : {X Y : Type 0} (f : X → Y) (b : Bool) (x y : X) → f (cond b x y) ≡ cond b (f x) (f y)
 on_cond f true x y = refl

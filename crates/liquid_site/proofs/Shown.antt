@@ -6,7 +6,7 @@ use Rattle.std.specs.declared.cmp.Ordering.TheVariants.{Less, Equal, Greater}
 use Rattle.std.specs.declared.alloc.Global.{Global}
 use mathlib.Core.Path.{refl, sym, ap, subst, ◌∙◌}
 use Rattle.liquid_model.specs.Texts.{Text, same_text}
-use Rattle.liquid_language.specs.Entries.{seen, put, placed, without}
+use Rattle.liquid_language.specs.Entries.{seen, put_entry, placed, without}
 use Rattle.liquid_syntax.proofs.Held.{order, names}
 use Rattle.liquid_lib.specs.Pages.{Shown, page_view}
 use Rattle.liquid_lib.specs.declared.page.Page.{Page}
@@ -31,13 +31,13 @@ module _ {P : Type 0} (shows : Shown → P → Type 0) where
   pub shown_as : (vs ws : Pages) (qs ps : List (Text × P)) → vs ≡ ws → qs ≡ ps → AreShown shows vs qs → AreShown shows ws ps
   shown_as vs ws qs ps e f h = subst (λ l. AreShown shows l ps) e (subst (λ l. AreShown shows vs l) f h)
 
-  pub shown_put : (name : Text) (w : Shown) (p : P) (ws : Pages) (ps : List (Text × P)) → shows w p → AreShown shows ws ps → AreShown shows (put name w ws) (put name p ps)
+  pub shown_put : (name : Text) (w : Shown) (p : P) (ws : Pages) (ps : List (Text × P)) → shows w p → AreShown shows ws ps → AreShown shows (put_entry name w ws) (put_entry name p ps)
   shown_put name w p [] [] h k = (refl, h, tt)
   shown_put name w p (v ∷ ws) (q ∷ ps) h k =
-      subst (λ o. AreShown shows (put name w (v ∷ ws)) (match_ordering o ((name, p) ∷ q ∷ ps) ((q.0, p) ∷ ps) (q ∷ put name p ps))) (ap (order name) k.0) (on (order name v.0) (shown_put name w p ws ps h k.2))
+      subst (λ o. AreShown shows (put_entry name w (v ∷ ws)) (match_ordering o ((name, p) ∷ q ∷ ps) ((q.0, p) ∷ ps) (q ∷ put_entry name p ps))) (ap (order name) k.0) (on (order name v.0) (shown_put name w p ws ps h k.2))
     where
-      on : (o : Ordering) → AreShown shows (put name w ws) (put name p ps)
-          → AreShown shows (match_ordering o ((name, w) ∷ v ∷ ws) ((v.0, w) ∷ ws) (v ∷ put name w ws)) (match_ordering o ((name, p) ∷ q ∷ ps) ((q.0, p) ∷ ps) (q ∷ put name p ps))
+      on : (o : Ordering) → AreShown shows (put_entry name w ws) (put_entry name p ps)
+          → AreShown shows (match_ordering o ((name, w) ∷ v ∷ ws) ((v.0, w) ∷ ws) (v ∷ put_entry name w ws)) (match_ordering o ((name, p) ∷ q ∷ ps) ((q.0, p) ∷ ps) (q ∷ put_entry name p ps))
       on Less rest = (refl, h, k)
       on Equal rest = (k.0, h, k.2)
       on Greater rest = (k.0, k.1, rest)

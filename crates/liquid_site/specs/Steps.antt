@@ -12,7 +12,7 @@ use Rattle.liquid_model.specs.Order.{same}
 use Rattle.liquid_core.specs.DataChanges.{with_value}
 use Rattle.liquid_core.specs.Environment.{Names}
 use Rattle.liquid_evaluation.specs.Tree.{Nodes}
-use Rattle.liquid_language.specs.Entries.{put, without}
+use Rattle.liquid_language.specs.Entries.{put_entry, without}
 use Rattle.liquid_lib.specs.Pages.{Shown, page_over}
 use Rattle.liquid_site.specs.Contents.{Trees, Contents, page_of, Pages, pages_from_scratch}
 use Rattle.liquid_site.specs.Contents.{mentions, mentions_any}
@@ -42,9 +42,9 @@ no_contents depth = record { depth = depth; pages = []; partials = []; «data» 
 
 -- a set replaces, and a removal of what isn't there changes nothing
 abbrev pub stepped : Step → Contents → Contents
-stepped (set_page name t) c = record c { pages = put name t c.pages }
+stepped (set_page name t) c = record c { pages = put_entry name t c.pages }
 stepped (remove_page name) c = record c { pages = without name c.pages }
-stepped (set_partial name t) c = record c { partials = put name t c.partials }
+stepped (set_partial name t) c = record c { partials = put_entry name t c.partials }
 stepped (remove_partial name) c = record c { partials = without name c.partials }
 stepped (set_value name d) c = record c { «data» = with_value c.«data» name (Some d) }
 stepped (remove_value name) c = record c { «data» = with_value c.«data» name None }
@@ -83,7 +83,7 @@ refreshed test show _ _ = []
 
 -- the pages after a step
 abbrev pub kept_by : Step → Contents → Pages → Pages
-kept_by (set_page name t) c pages = put name (page_of c t) pages
+kept_by (set_page name t) c pages = put_entry name (page_of c t) pages
 kept_by (remove_page name) c pages = without name pages
 kept_by (set_partial name t) c pages =
     refreshed (λ n. true) (page_of (stepped (set_partial name t) c)) c.pages pages

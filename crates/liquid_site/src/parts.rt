@@ -48,7 +48,7 @@ impl<P: Drop> SiteParts<P> {
     ghost use Rattle.liquid_model.specs.Maps.{listed};
     ghost use Rattle.liquid_model.specs.View.{view};
     ghost use Rattle.liquid_core.specs.Held.{held};
-    ghost use Rattle.liquid_language.specs.Entries.{put, without};
+    ghost use Rattle.liquid_language.specs.Entries.{put_entry, without};
     ghost use Rattle.liquid_syntax.specs.Slots.{exchanged};
     ghost use Rattle.liquid_syntax.specs.Templates.{tree_of, slots_of};
     ghost use Rattle.liquid_evaluation.specs.Tree.{Nodes};
@@ -140,7 +140,7 @@ impl<P: Drop> SiteParts<P> {
         ensures keeps { KeepsPages R.shows self.new }
         ensures set { IsValueOrMemory (λ _. (site_parts_view self.new).contents) result
             (record (site_parts_view self.old).contents {
-              pages = put (string_bytes name) (tree_of template)
+              pages = put_entry (string_bytes name) (tree_of template)
                   (site_parts_view self.old).contents.pages;
             }) }
         ensures counted { OnOk result ((site_parts_view self.new).rendered ≡

@@ -4,7 +4,7 @@ ghost use Rattle.std.specs.List.Sorted.{IsStrictlySortedBy};
 ghost use Rattle.std.specs.Map.{keys_of};
 ghost use Rattle.std.specs.String.{string_cmp};
 ghost use Rattle.liquid_core.specs.Held.{held};
-ghost use Rattle.liquid_language.specs.Entries.{put, placed};
+ghost use Rattle.liquid_language.specs.Entries.{put_entry, placed};
 ghost use Rattle.liquid_syntax.specs.Templates.{tree_of, partials_of};
 ghost use Rattle.liquid_lib.specs.Pages.{page_over};
 ghost use Rattle.liquid_site.specs.Contents.{all_pages};
@@ -108,9 +108,9 @@ pub(crate) fn put_page<P: Drop>(
 ) -> Result<()>
     requires { map (λ p. p.0) (trees_in templates.old) ≡ map (λ p. p.0) (by_name pages.old) }
     ensures templates { OnOk result (trees_in templates.new ≡
-        put (string_bytes name) (tree_of rendered.0)
+        put_entry (string_bytes name) (tree_of rendered.0)
         (trees_in templates.old)) }
-    ensures pages { OnOk result (by_name pages.new ≡ put (string_bytes name) rendered.1
+    ensures pages { OnOk result (by_name pages.new ≡ put_entry (string_bytes name) rendered.1
         (by_name pages.old)) }
     ensures templates_unchanged { OnErr result (trees_in templates.new ≡ trees_in templates.old) }
     ensures pages_unchanged { OnErr result (by_name pages.new ≡ by_name pages.old) }

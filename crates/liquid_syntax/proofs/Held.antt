@@ -20,7 +20,7 @@ use Rattle.liquid_model.specs.Texts.{Text, same_text}
 use Rattle.liquid_model.specs.Maps.{listed, insert}
 use Rattle.liquid_model.proofs.Maps.{same_key}
 use Rattle.liquid_language.proofs.Inserted.{named, looked_up, seen_inserted, listed_inserted}
-use Rattle.liquid_language.specs.Entries.{seen, put, placed, without}
+use Rattle.liquid_language.specs.Entries.{seen, put_entry, placed, without}
 use Rattle.liquid_syntax.specs.Slots.{with_held, filled, reserved, exchanged}
 
 abbrev pub order : Text → Text → Ordering
@@ -92,9 +92,9 @@ all_above_filled {Y = Y} a (e ∷ es) h = on e.1 (all_above_filled a es h.1)
     on None rest = rest
     on (Some y) rest = (h.0, rest)
 
-put_below : {Y : Type 0} (a : Text) (y : Y) (es : List (Text × Y)) → AllAbove a es → put a y es ≡ (a, y) ∷ es
+put_below : {Y : Type 0} (a : Text) (y : Y) (es : List (Text × Y)) → AllAbove a es → put_entry a y es ≡ (a, y) ∷ es
 put_below a y [] h = refl
-put_below a y (e ∷ es) h = ap (λ o. match_ordering o ((a, y) ∷ e ∷ es) ((e.0, y) ∷ es) (e ∷ put a y es)) h.0
+put_below a y (e ∷ es) h = ap (λ o. match_ordering o ((a, y) ∷ e ∷ es) ((e.0, y) ∷ es) (e ∷ put_entry a y es)) h.0
 
 without_below : {Y : Type 0} (a : Text) (es : List (Text × Y)) → AllAbove a es → without a es ≡ es
 without_below a [] h = refl
@@ -118,35 +118,35 @@ present_above name other (e ∷ es) h k = on (same_text e.0 other) refl k (prese
 reversed : (a b : Text) → order a b ≡ Less → order b a ≡ Greater
 reversed a b h = IsTotalOrder.antisymm nat_list_cmp_total b a ∙ ap ordering_reverse h
 
-pub placed_put : {X : Type 0} (name : Text) (y : X) (es : List (Text × X)) → Ascend es → IsSome (listed es name) → placed name y es ≡ put name y es
+pub placed_put : {X : Type 0} (name : Text) (y : X) (es : List (Text × X)) → Ascend es → IsSome (listed es name) → placed name y es ≡ put_entry name y es
 unfolding listed
 placed_put name y [] h k = absurd (apart (sym k))
 placed_put name y (e ∷ es) h k = on (same_text e.0 name) refl k (placed_put name y es h.1)
   where
-    on : (b : Bool) → same_text e.0 name ≡ b → IsSome (cond b (Some e.1) (listed es name)) → (IsSome (listed es name) → placed name y es ≡ put name y es) → cond b ((e.0, y) ∷ es) (e ∷ placed name y es) ≡ match_ordering (order name e.0) ((name, y) ∷ e ∷ es) ((e.0, y) ∷ es) (e ∷ put name y es)
-    on true s l rest = sym (ap (λ o. match_ordering o ((name, y) ∷ e ∷ es) ((e.0, y) ∷ es) (e ∷ put name y es)) (ap (order name) (same_is e.0 name s) ∙ order_itself name))
-    on false s l rest = ap (λ l. e ∷ l) (rest l) ∙ sym (ap (λ o. match_ordering o ((name, y) ∷ e ∷ es) ((e.0, y) ∷ es) (e ∷ put name y es)) (reversed e.0 name (present_above e.0 name es h.0 l)))
+    on : (b : Bool) → same_text e.0 name ≡ b → IsSome (cond b (Some e.1) (listed es name)) → (IsSome (listed es name) → placed name y es ≡ put_entry name y es) → cond b ((e.0, y) ∷ es) (e ∷ placed name y es) ≡ match_ordering (order name e.0) ((name, y) ∷ e ∷ es) ((e.0, y) ∷ es) (e ∷ put_entry name y es)
+    on true s l rest = sym (ap (λ o. match_ordering o ((name, y) ∷ e ∷ es) ((e.0, y) ∷ es) (e ∷ put_entry name y es)) (ap (order name) (same_is e.0 name s) ∙ order_itself name))
+    on false s l rest = ap (λ l. e ∷ l) (rest l) ∙ sym (ap (λ o. match_ordering o ((name, y) ∷ e ∷ es) ((e.0, y) ∷ es) (e ∷ put_entry name y es)) (reversed e.0 name (present_above e.0 name es h.0 l)))
 
 -- ---- what places hold after a change
 
 module _ {Y : Type 0} where
-  pub filled_put : (name : Text) (y : Y) (es : List (Text × Option Y)) → Ascend es → filled (put name (Some y) es) ≡ put name y (filled es)
+  pub filled_put : (name : Text) (y : Y) (es : List (Text × Option Y)) → Ascend es → filled (put_entry name (Some y) es) ≡ put_entry name y (filled es)
   filled_put name y [] h = refl
   filled_put name y (e ∷ es) h = on (order name e.0) refl e.1 (filled_put name y es h.1)
     where
-      at : (o : Ordering) (v : Option Y) → order name e.0 ≡ o → (let l = match_ordering o ((name, Some y) ∷ (e.0, v) ∷ es) ((e.0, Some y) ∷ es) ((e.0, v) ∷ put name (Some y) es) in filled (put name (Some y) es) ≡ put name y (filled es) → filled l ≡ put name y (with_held e.0 v (filled es)))
-      at Less (Some z) k rest = sym (ap (λ o. match_ordering o ((name, y) ∷ (e.0, z) ∷ filled es) ((e.0, y) ∷ filled es) ((e.0, z) ∷ put name y (filled es))) k)
+      at : (o : Ordering) (v : Option Y) → order name e.0 ≡ o → (let l = match_ordering o ((name, Some y) ∷ (e.0, v) ∷ es) ((e.0, Some y) ∷ es) ((e.0, v) ∷ put_entry name (Some y) es) in filled (put_entry name (Some y) es) ≡ put_entry name y (filled es) → filled l ≡ put_entry name y (with_held e.0 v (filled es)))
+      at Less (Some z) k rest = sym (ap (λ o. match_ordering o ((name, y) ∷ (e.0, z) ∷ filled es) ((e.0, y) ∷ filled es) ((e.0, z) ∷ put_entry name y (filled es))) k)
       at Less None k rest = sym (put_below name y (filled es) (all_above_filled name es (all_above_more name e.0 es k h.0)))
-      at Equal (Some z) k rest = sym (ap (λ o. match_ordering o ((name, y) ∷ (e.0, z) ∷ filled es) ((e.0, y) ∷ filled es) ((e.0, z) ∷ put name y (filled es))) k)
+      at Equal (Some z) k rest = sym (ap (λ o. match_ordering o ((name, y) ∷ (e.0, z) ∷ filled es) ((e.0, y) ∷ filled es) ((e.0, z) ∷ put_entry name y (filled es))) k)
       at Equal None k rest = let is : e.0 ≡ name = sym (equal_is name e.0 k) in ap (λ n. (n, y) ∷ filled es) is ∙ sym (put_below name y (filled es) (all_above_filled name es (subst (λ n. AllAbove n es) is h.0)))
-      at Greater (Some z) k rest = ap (λ l. (e.0, z) ∷ l) rest ∙ sym (ap (λ o. match_ordering o ((name, y) ∷ (e.0, z) ∷ filled es) ((e.0, y) ∷ filled es) ((e.0, z) ∷ put name y (filled es))) k)
+      at Greater (Some z) k rest = ap (λ l. (e.0, z) ∷ l) rest ∙ sym (ap (λ o. match_ordering o ((name, y) ∷ (e.0, z) ∷ filled es) ((e.0, y) ∷ filled es) ((e.0, z) ∷ put_entry name y (filled es))) k)
       at Greater None k rest = rest
 
-      on : (o : Ordering) → order name e.0 ≡ o → (v : Option Y) → filled (put name (Some y) es) ≡ put name y (filled es) → filled (match_ordering (order name e.0) ((name, Some y) ∷ (e.0, v) ∷ es) ((e.0, Some y) ∷ es) ((e.0, v) ∷ put name (Some y) es)) ≡ put name y (with_held e.0 v (filled es))
-      on o k v rest = ap (λ x. filled (match_ordering x ((name, Some y) ∷ (e.0, v) ∷ es) ((e.0, Some y) ∷ es) ((e.0, v) ∷ put name (Some y) es))) k ∙ at o v k rest
+      on : (o : Ordering) → order name e.0 ≡ o → (v : Option Y) → filled (put_entry name (Some y) es) ≡ put_entry name y (filled es) → filled (match_ordering (order name e.0) ((name, Some y) ∷ (e.0, v) ∷ es) ((e.0, Some y) ∷ es) ((e.0, v) ∷ put_entry name (Some y) es)) ≡ put_entry name y (with_held e.0 v (filled es))
+      on o k v rest = ap (λ x. filled (match_ordering x ((name, Some y) ∷ (e.0, v) ∷ es) ((e.0, Some y) ∷ es) ((e.0, v) ∷ put_entry name (Some y) es))) k ∙ at o v k rest
 
   -- a new slot that holds nothing
-  pub filled_reserved : (name : Text) (es : List (Text × Option Y)) → listed es name ≡ None → filled (put name None es) ≡ filled es
+  pub filled_reserved : (name : Text) (es : List (Text × Option Y)) → listed es name ≡ None → filled (put_entry name None es) ≡ filled es
   unfolding listed
   filled_reserved name [] h = refl
   filled_reserved name (e ∷ es) h = on (order name e.0) refl (same_text e.0 name) refl h (filled_reserved name es)
@@ -154,11 +154,11 @@ module _ {Y : Type 0} where
       none : {X : Type 0} (x : X) (o : Option X) → Some x ≡ None → ⊥
       none x o k = cc
 
-      on : (o : Ordering) → order name e.0 ≡ o → (b : Bool) → same_text e.0 name ≡ b → cond b (Some e.1) (listed es name) ≡ None → (listed es name ≡ None → filled (put name None es) ≡ filled es) → filled (match_ordering (order name e.0) ((name, None) ∷ e ∷ es) ((e.0, None) ∷ es) (e ∷ put name None es)) ≡ filled (e ∷ es)
+      on : (o : Ordering) → order name e.0 ≡ o → (b : Bool) → same_text e.0 name ≡ b → cond b (Some e.1) (listed es name) ≡ None → (listed es name ≡ None → filled (put_entry name None es) ≡ filled es) → filled (match_ordering (order name e.0) ((name, None) ∷ e ∷ es) ((e.0, None) ∷ es) (e ∷ put_entry name None es)) ≡ filled (e ∷ es)
       on o k true s l rest = absurd (none e.1 None l)
-      on Less k false s l rest = ap (λ x. filled (match_ordering x ((name, None) ∷ e ∷ es) ((e.0, None) ∷ es) (e ∷ put name None es))) k
+      on Less k false s l rest = ap (λ x. filled (match_ordering x ((name, None) ∷ e ∷ es) ((e.0, None) ∷ es) (e ∷ put_entry name None es))) k
       on Equal k false s l rest = absurd (apart (sym (same_key e.0) ∙ ap (same_text e.0) (sym (equal_is name e.0 k)) ∙ s))
-      on Greater k false s l rest = ap (λ x. filled (match_ordering x ((name, None) ∷ e ∷ es) ((e.0, None) ∷ es) (e ∷ put name None es))) k ∙ ap (λ ps. with_held e.0 e.1 ps) (rest l)
+      on Greater k false s l rest = ap (λ x. filled (match_ordering x ((name, None) ∷ e ∷ es) ((e.0, None) ∷ es) (e ∷ put_entry name None es))) k ∙ ap (λ ps. with_held e.0 e.1 ps) (rest l)
 
   pub filled_emptied : (name : Text) (es : List (Text × Option Y)) → Ascend es → filled (placed name None es) ≡ without name (filled es)
   filled_emptied name [] h = refl
@@ -259,7 +259,7 @@ seen_there f name es h = seen_has f name es ∙ h
 
 -- a name that has a place keeps it, and one that has none gets an empty one
 abbrev reserved_if : {Y : Type 0} → Text → List (Text × Option Y) → Bool → List (Text × Option Y)
-reserved_if name es has = cond has es (put name None es)
+reserved_if name es has = cond has es (put_entry name None es)
 
 pub reserved_there : {X Y : Type 0} (f : X → Option Y) (name : Text) (es : List (String Global × X)) → is_some (lookup (named name) es) ≡ true → seen f es ≡ reserved name (seen f es)
 reserved_there f name es h = sym (ap (reserved_if name (seen f es)) (seen_has f name es ∙ h))

@@ -5,7 +5,7 @@ ghost use Rattle.std.specs.List.{list_any};
 ghost use Rattle.std.specs.Map.{values_of};
 ghost use Rattle.liquid_model.specs.Answer.{IsValueOrMemory};
 ghost use Rattle.liquid_model.specs.Maps.{listed, insert};
-ghost use Rattle.liquid_language.specs.Entries.{put, placed};
+ghost use Rattle.liquid_language.specs.Entries.{put_entry, placed};
 ghost use Rattle.liquid_syntax.specs.NameSets.{mentioned_in_set};
 ghost use Rattle.liquid_syntax.specs.Slots.{reserved, exchanged};
 ghost use Rattle.liquid_syntax.specs.inside.Mentions.{held_names, partials_list_names};
@@ -43,7 +43,7 @@ impl Partials {
     /// nothing changes.
     pub fn insert(&mut self, name: String, template: Template) -> Result<()>
         ensures inserted { IsValueOrMemory (λ _. partials_of self.new) result
-            (put (string_bytes name) (tree_of template) (partials_of self.old)) }
+            (put_entry (string_bytes name) (tree_of template) (partials_of self.old)) }
         ensures looked_up { IsValueOrMemory (λ _. listed (partials_of self.new)) result
             (insert (listed (partials_of self.old)) (string_bytes name) (tree_of template)) }
         ensures unchanged { OnErr result (partials_of self.new ≡ partials_of self.old) }

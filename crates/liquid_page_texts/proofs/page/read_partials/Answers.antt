@@ -2,7 +2,7 @@ use Rattle.std.proofs.Common.{◌≡◌, ◌∷◌, ◌+◌, drop, inl, inr, sym
 use Rattle.std.proofs.lemmas.List.{drop_more}
 use Rattle.std.proofs.lemmas.Result.{err_from_is_err_and}
 use Rattle.liquid_syntax.specs.Parsing.{IsOnlyTree, HasNoTree}
-use Rattle.liquid_language.specs.Entries.{put}
+use Rattle.liquid_language.specs.Entries.{put_entry}
 use Rattle.liquid_syntax.specs.Templates.{tree_of, partials_of}
 use Rattle.liquid_page_texts.specs.Page.{sources_of, ArePartials, HasBadPartial}
 use Rattle.liquid_page_texts.proofs.Reading.{partial_refused}
@@ -31,6 +31,6 @@ loop-name-preserved c =
     let named : string_bytes c.in_ok-from_str.field-0 ≡ string_bytes item.0 = c.in_ok-from_str.ensures.ok ∙ c.as_str-called.ensures.value in
     record {
       read = λ all h. c.loop-name.invariant.read all (subst (λ ps. ArePartials l (sources_of ps) (partials_of c.loop-name.partials) all) (sym next)
-          (tree, only, subst (λ before. ArePartials l (sources_of (drop (i + 1) xs)) before all) (c.in_ok-insert.ensures.inserted ∙ ap (λ name. put name tree (partials_of c.loop-name.partials)) named) h));
+          (tree, only, subst (λ before. ArePartials l (sources_of (drop (i + 1) xs)) before all) (c.in_ok-insert.ensures.inserted ∙ ap (λ name. put_entry name tree (partials_of c.loop-name.partials)) named) h));
       bad = λ h. c.loop-name.invariant.bad (subst (λ ps. HasBadPartial l (sources_of ps)) (sym next) (inr (tree, only, h)));
     }

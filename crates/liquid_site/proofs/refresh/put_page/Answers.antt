@@ -1,6 +1,6 @@
 use Rattle.std.proofs.Common.{string_bytes, ap, ◌∙◌}
 use Rattle.std.specs.Map.{lookup}
-use Rattle.liquid_language.specs.Entries.{seen, put}
+use Rattle.liquid_language.specs.Entries.{seen, put_entry}
 use Rattle.liquid_syntax.specs.Templates.{tree_of}
 use Rattle.liquid_language.proofs.Inserted.{named, seen_inserted}
 use Rattle.liquid_site.specs.Parts.{by_name}
@@ -13,7 +13,7 @@ returns-in-Ok-clause-templates g c = ap (seen tree_of) c.in_ok-insert.ensures.en
 pub returns-in-Ok-clause-pages : goal.returns-in-Ok-clause-pages
 returns-in-Ok-clause-pages g c =
     ap (seen (λ p. p)) c.in-Ok.ensures.entries ∙ seen_inserted (λ p. p) c.args.pages.now.entries c.in_ok-own.own c.args.rendered.1
-    ∙ ap (λ n. put n c.args.rendered.1 (by_name c.args.pages.now)) (c.in_ok-own.ensures.ok ∙ c.as_str.ensures.value)
+    ∙ ap (λ n. put_entry n c.args.rendered.1 (by_name c.args.pages.now)) (c.in_ok-own.ensures.ok ∙ c.as_str.ensures.value)
 
 pub returns-in-Err-clause-templates_unchanged : goal.returns-in-Err-clause-templates_unchanged
 returns-in-Err-clause-templates_unchanged g c =

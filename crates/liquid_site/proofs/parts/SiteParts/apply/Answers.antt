@@ -2,7 +2,7 @@ use Rattle.std.proofs.Common.{rules, OnOk, OnErr, ◌≡◌, Bool, true, false, 
 use Rattle.std.specs.Map.{lookup}
 use Rattle.liquid_model.specs.Answer.{IsValueOrMemory}
 use Rattle.liquid_core.specs.Held.{held}
-use Rattle.liquid_language.specs.Entries.{put, without}
+use Rattle.liquid_language.specs.Entries.{put_entry, without}
 use Rattle.liquid_site.specs.Parts.{by_name, trees_in}
 use Rattle.liquid_model.specs.View.{view}
 use Rattle.liquid_model.specs.Maps.{listed}
@@ -76,8 +76,8 @@ returns-in_ok-reserve-in-SetPartial-clause-applied g c =
     let only : IsOnlyTree l t (string_bytes c.in-SetPartial.source) = subst (IsOnlyTree l t) c.as_str-in-SetPartial.ensures.value c.in_ok-template-in-SetPartial.ensures.parses in
     let named = c.as_str-in-SetPartial-3.ensures.value in
     let same = c.in_ok-reserve-in-SetPartial.ensures.same in
-    let meant : record { depth = old.depth; pages = trees_in old.templates; partials = put c.as_str-in-SetPartial-3.result.now t (partials_of c.reserve.new.self); «data» = held old.«data» } ≡ stepped s (contents_of old) =
-    λ i. record { depth = old.depth; pages = trees_in old.templates; partials = put (named i) t (same i); «data» = held old.«data» } in
+    let meant : record { depth = old.depth; pages = trees_in old.templates; partials = put_entry c.as_str-in-SetPartial-3.result.now t (partials_of c.reserve.new.self); «data» = held old.«data» } ≡ stepped s (contents_of old) =
+    λ i. record { depth = old.depth; pages = trees_in old.templates; partials = put_entry (named i) t (same i); «data» = held old.«data» } in
     let before : record { depth = old.depth; pages = trees_in old.templates; partials = partials_of c.reserve.new.self; «data» = held old.«data» } ≡ contents_of old =
     λ i. record { depth = old.depth; pages = trees_in old.templates; partials = same i; «data» = held old.«data» } in
     applied c.args.change r (site_parts_view old) (site_parts_view new) s (subst (λ ch. IsStep l ch s) (sym c.in-SetPartial.is) (t, only, refl)) (subst (λ x. IsValueOrMemory (λ u. contents_of new) r x) meant c.exchange_partial.ensures.set) c.exchange_partial.ensures.counted

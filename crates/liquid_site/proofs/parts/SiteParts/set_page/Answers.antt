@@ -1,5 +1,5 @@
 use Rattle.std.proofs.Common.{string_bytes, refl, sym, ap, ◌∙◌}
-use Rattle.liquid_language.specs.Entries.{put}
+use Rattle.liquid_language.specs.Entries.{put_entry}
 use Rattle.liquid_syntax.specs.Templates.{tree_of}
 use Rattle.liquid_site.specs.Contents.{page_of, all_pages, pages_from_scratch}
 use Rattle.liquid_site.specs.PartViews.{site_parts_view}
@@ -23,7 +23,7 @@ returns-clause-keeps g c =
     let t = tree_of c.args.template in
     let name = string_bytes c.args.name in
     let page = c.in_ok-page.page in
-    shown_as g.R.Rendering.shows (put name (show t) ws) (all_pages show (trees_in c.put_page.new.templates)) (put name page (by_name s.pages)) (by_name c.put_page.new.pages)
+    shown_as g.R.Rendering.shows (put_entry name (show t) ws) (all_pages show (trees_in c.put_page.new.templates)) (put_entry name page (by_name s.pages)) (by_name c.put_page.new.pages)
     (put_shown show name t (trees_in s.templates) ∙ ap (all_pages show) (sym c.in_ok-put_page.ensures.templates)) (sym c.in_ok-put_page.ensures.pages)
     (shown_put g.R.Rendering.shows name (show t) page ws (by_name s.pages) c.in_ok-page.ensures.page c.requires)
 
