@@ -4,7 +4,7 @@ use Rattle.std.proofs.lemmas.Bool.Decides.{nat_tests}
 use Rattle.std.specs.Char.{is_ascii_digit}
 use Rattle.liquid_date_filters.specs.Clock.{Clock}
 use Rattle.liquid_date_filters.specs.Laws.{IsWritten, ReadIsWritten}
-use Rattle.liquid_date_filters.specs.Spelling.{◌>>=◌, Read, byte, clock, digit, end, exists, if_exists, known, month, month_number, named_day, offset, one_or_two, or_else, past, plain_day, read, second_digit, sign, spelled, time, two, four, Day, Offset, Spelled, Time}
+use Rattle.liquid_date_filters.specs.Spelling.{◌>>=◌, Read, byte, clock, digit, end, exists, if_exists, known, month, month_number, named_day, offset, one_or_two, or_else, past_date_byte, plain_day, read, second_digit, sign, read_spelled_date, time, two, four, Day, Offset, Spelled, Time}
 use Rattle.liquid_date_filters.specs.Written.{two_digits, four_digits, letters, named_written, plain_written, short_written, time_written, sign_of, offset_written}
 
 -- what is read as a digit was written so
@@ -71,7 +71,7 @@ past_by true b c s r h e =
     rw (same, rest) refl
 past_by false b c s r h e = search (rules, e)
 
-past_was : (b : ℕ) (s r : List ℕ) → past b s ≡ Some r → s ≡ b ∷ r
+past_was : (b : ℕ) (s r : List ℕ) → past_date_byte b s ≡ Some r → s ≡ b ∷ r
 past_was b [] r e = search (rules, e)
 past_was b (c ∷ s) r e = past_by (c == b) b c s r refl e
 
@@ -189,21 +189,21 @@ abbrev plain₄ : ℕ → ℕ → List ℕ → Read Day
 plain₄ y m s = ◌>>=◌ (two s) (plain₅ y m)
 
 abbrev plain₃ : ℕ → ℕ × List ℕ → Read Day
-plain₃ y m = ◌>>=◌ (past 45 m.1) (plain₄ y m.0)
+plain₃ y m = ◌>>=◌ (past_date_byte 45 m.1) (plain₄ y m.0)
 
 abbrev plain₂ : ℕ → List ℕ → Read Day
 plain₂ y s = ◌>>=◌ (two s) (plain₃ y)
 
 abbrev plain₁ : ℕ × List ℕ → Read Day
-plain₁ y = ◌>>=◌ (past 45 y.1) (plain₂ y.0)
+plain₁ y = ◌>>=◌ (past_date_byte 45 y.1) (plain₂ y.0)
 
 plain_was : (s r : List ℕ) (d : Day) → plain_day s ≡ Some (d, r) → s ≡ plain_written d r
 unfolding plain_day
 plain_was s r d e =
     let a = bind_was (four s) plain₁ (d, r) e in
-    let b = bind_was (past 45 a.0.1) (plain₂ a.0.0) (d, r) a.2 in
+    let b = bind_was (past_date_byte 45 a.0.1) (plain₂ a.0.0) (d, r) a.2 in
     let c = bind_was (two b.0) (plain₃ a.0.0) (d, r) b.2 in
-    let f = bind_was (past 45 c.0.1) (plain₄ a.0.0 c.0.0) (d, r) c.2 in
+    let f = bind_was (past_date_byte 45 c.0.1) (plain₄ a.0.0 c.0.0) (d, r) c.2 in
     let g = bind_was (two f.0) (plain₅ a.0.0 c.0.0) (d, r) f.2 in
     let same = ap day_in g.2 in
     let rest : g.0.1 ≡ r = ap left g.2 in
@@ -219,13 +219,13 @@ abbrev named₄ : ℕ → ℕ → List ℕ → Read Day
 named₄ d m s = ◌>>=◌ (four s) (named₅ d m)
 
 abbrev named₃ : ℕ → ℕ × List ℕ → Read Day
-named₃ d m = ◌>>=◌ (past 32 m.1) (named₄ d m.0)
+named₃ d m = ◌>>=◌ (past_date_byte 32 m.1) (named₄ d m.0)
 
 abbrev named₂ : ℕ → List ℕ → Read Day
 named₂ d s = ◌>>=◌ (month s) (named₃ d)
 
 abbrev named₁ : ℕ × List ℕ → Read Day
-named₁ d = ◌>>=◌ (past 32 d.1) (named₂ d.0)
+named₁ d = ◌>>=◌ (past_date_byte 32 d.1) (named₂ d.0)
 
 abbrev IsNamed : Day → List ℕ → List ℕ → Type 0
 IsNamed d s r = (s ≡ named_written d r) ⊎ ((d.day < 10) × (s ≡ short_written d r))
@@ -238,9 +238,9 @@ named_was : (s r : List ℕ) (d : Day) → named_day s ≡ Some (d, r) → IsNam
 unfolding named_day
 named_was s r d e =
     let a = bind_was (one_or_two s) named₁ (d, r) e in
-    let b = bind_was (past 32 a.0.1) (named₂ a.0.0) (d, r) a.2 in
+    let b = bind_was (past_date_byte 32 a.0.1) (named₂ a.0.0) (d, r) a.2 in
     let c = bind_was (month b.0) (named₃ a.0.0) (d, r) b.2 in
-    let f = bind_was (past 32 c.0.1) (named₄ a.0.0 c.0.0) (d, r) c.2 in
+    let f = bind_was (past_date_byte 32 c.0.1) (named₄ a.0.0 c.0.0) (d, r) c.2 in
     let g = bind_was (four f.0) (named₅ a.0.0 c.0.0) (d, r) f.2 in
     let own : Day = record { year = g.0.0; month = c.0.0; day = a.0.0 } in
     let same : own ≡ d = ap day_in g.2 in
@@ -256,21 +256,21 @@ abbrev time₄ : ℕ → ℕ → List ℕ → Read Time
 time₄ h m s = ◌>>=◌ (two s) (time₅ h m)
 
 abbrev time₃ : ℕ → ℕ × List ℕ → Read Time
-time₃ h m = ◌>>=◌ (past 58 m.1) (time₄ h m.0)
+time₃ h m = ◌>>=◌ (past_date_byte 58 m.1) (time₄ h m.0)
 
 abbrev time₂ : ℕ → List ℕ → Read Time
 time₂ h s = ◌>>=◌ (two s) (time₃ h)
 
 abbrev time₁ : ℕ × List ℕ → Read Time
-time₁ h = ◌>>=◌ (past 58 h.1) (time₂ h.0)
+time₁ h = ◌>>=◌ (past_date_byte 58 h.1) (time₂ h.0)
 
 time_was : (s r : List ℕ) (t : Time) → time s ≡ Some (t, r) → s ≡ time_written t r
 unfolding time
 time_was s r t e =
     let a = bind_was (two s) time₁ (t, r) e in
-    let b = bind_was (past 58 a.0.1) (time₂ a.0.0) (t, r) a.2 in
+    let b = bind_was (past_date_byte 58 a.0.1) (time₂ a.0.0) (t, r) a.2 in
     let c = bind_was (two b.0) (time₃ a.0.0) (t, r) b.2 in
-    let f = bind_was (past 58 c.0.1) (time₄ a.0.0 c.0.0) (t, r) c.2 in
+    let f = bind_was (past_date_byte 58 c.0.1) (time₄ a.0.0 c.0.0) (t, r) c.2 in
     let g = bind_was (two f.0) (time₅ a.0.0 c.0.0) (t, r) f.2 in
     let same = ap time_in g.2 in
     let rest : g.0.1 ≡ r = ap left g.2 in
@@ -340,13 +340,13 @@ abbrev rest₄ : Day → Time → List ℕ → Option Spelled
 rest₄ d t s = ◌>>=◌ (offset s) (rest₅ d t)
 
 abbrev rest₃ : Day → Time × List ℕ → Option Spelled
-rest₃ d t = ◌>>=◌ (past 32 t.1) (rest₄ d t.0)
+rest₃ d t = ◌>>=◌ (past_date_byte 32 t.1) (rest₄ d t.0)
 
 abbrev rest₂ : Day → List ℕ → Option Spelled
 rest₂ d s = ◌>>=◌ (time s) (rest₃ d)
 
 abbrev rest₁ : Day × List ℕ → Option Spelled
-rest₁ d = ◌>>=◌ (past 32 d.1) (rest₂ d.0)
+rest₁ d = ◌>>=◌ (past_date_byte 32 d.1) (rest₂ d.0)
 
 abbrev after : Spelled → List ℕ
 after x = 32 ∷ time_written x.time (32 ∷ offset_written x.offset [])
@@ -359,13 +359,13 @@ by_day s r x e (inl h) = spell (named_was s r x.date h)
     spell (inr w) = inr (inr (w.0, w.1 ∙ ap (short_written x.date) e))
 by_day s r x e (inr h) = inl (plain_was s r x.date h ∙ ap (plain_written x.date) e)
 
-spelled_was : (s : List ℕ) (x : Spelled) → spelled s ≡ Some x → IsWritten x s
-unfolding spelled
+spelled_was : (s : List ℕ) (x : Spelled) → read_spelled_date s ≡ Some x → IsWritten x s
+unfolding read_spelled_date
 spelled_was s x e =
     let a = bind_was (or_else (named_day s) (plain_day s)) rest₁ x e in
-    let b = bind_was (past 32 a.0.1) (rest₂ a.0.0) x a.2 in
+    let b = bind_was (past_date_byte 32 a.0.1) (rest₂ a.0.0) x a.2 in
     let c = bind_was (time b.0) (rest₃ a.0.0) x b.2 in
-    let f = bind_was (past 32 c.0.1) (rest₄ a.0.0 c.0.0) x c.2 in
+    let f = bind_was (past_date_byte 32 c.0.1) (rest₄ a.0.0 c.0.0) x c.2 in
     let g = bind_was (offset f.0) (rest₅ a.0.0 c.0.0) x f.2 in
     let own : Spelled = record { date = a.0.0; time = c.0.0; offset = g.0.0 } in
     let over = end_was g.0.1 own x g.2 in
@@ -381,6 +381,6 @@ there false x c h e = search (rules, e)
 pub read_is_written : ReadIsWritten
 unfolding read
 read_is_written s c e =
-    let p = bind_was (spelled s) if_exists c e in
+    let p = bind_was (read_spelled_date s) if_exists c e in
     let h = there (exists p.0) p.0 c refl p.2 in
     (p.0, h.0, h.1, spelled_was s p.0 p.1)

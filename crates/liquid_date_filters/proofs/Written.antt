@@ -3,7 +3,7 @@ use Rattle.std.proofs.Common.{◌≡◌, refl, ℕ, zero, suc, pos, ◌+◌, ◌
 use Rattle.std.proofs.lemmas.Bool.Decides.{nat_tests}
 use Rattle.std.specs.Char.{is_ascii_digit}
 use Rattle.liquid_date_filters.specs.Written.{two_digits, four_digits, letters, named_written, plain_written, short_written, time_written, sign_of, offset_written, date_written}
-use Rattle.liquid_date_filters.specs.Spelling.{clock, digit, exists, two, four, past, one_or_two, month, named_day, plain_day, read, Day, Time, time, sign, offset, Offset, spelled, Spelled}
+use Rattle.liquid_date_filters.specs.Spelling.{clock, digit, exists, two, four, past_date_byte, one_or_two, month, named_day, plain_day, read, Day, Time, time, sign, offset, Offset, read_spelled_date, Spelled}
 use Rattle.liquid_date_filters.specs.Laws.{NamedIsRead, PlainIsRead, ShortIsRead}
 use Rattle.jiff_core.proofs.CalendarLemmas.{days_in_month_bounds}
 
@@ -49,7 +49,7 @@ offset_read o s h m =
     rw (sign_read o.behind (two_digits o.hours (two_digits o.minutes s)), two_read o.hours (two_digits o.minutes s) h, two_read o.minutes s m) refl
 
 -- an ordinary date is no day with a month's name: its third byte is a digit
-no_space : (a : ℕ) (s : List ℕ) → a < 10 → past 32 ((48 + a) ∷ s) ≡ None
+no_space : (a : ℕ) (s : List ℕ) → a < 10 → past_date_byte 32 ((48 + a) ∷ s) ≡ None
 no_space a s h = let differs : ((48 + a) == 32) ≡ false = grind (arith, nat_tests) in rw differs refl
 
 named_by : (a b c : ℕ) (s : List ℕ) → a < 10 → b < 10 → c < 10 → named_day ((48 + a) ∷ (48 + b) ∷ (48 + c) ∷ s) ≡ None
@@ -57,8 +57,8 @@ unfolding named_day one_or_two
 named_by a b c s h k l = rw (digit_read a ((48 + b) ∷ (48 + c) ∷ s) h, digit_read b ((48 + c) ∷ s) k, no_space c s l) refl
 
 spelled_read : (x : Spelled) → x.date.year < 10000 → x.date.month < 100 → x.date.day < 100 → x.time.hour < 100 → x.time.minute < 100 → x.time.second < 100 → x.offset.hours < 100 → x.offset.minutes < 100
-    → spelled (plain_written x.date (32 ∷ time_written x.time (32 ∷ offset_written x.offset []))) ≡ Some x
-unfolding spelled
+    → read_spelled_date (plain_written x.date (32 ∷ time_written x.time (32 ∷ offset_written x.offset []))) ≡ Some x
+unfolding read_spelled_date
 spelled_read x y m d h n s o q =
     let after = 32 ∷ time_written x.time (32 ∷ offset_written x.offset []) in
     let named : named_day (plain_written x.date after) ≡ None = named_by (x.date.year / 100 / 10) (x.date.year / 100 % 10) (x.date.year % 100 / 10) _ (omega arith) (omega arith) (omega arith) in
@@ -110,8 +110,8 @@ short_read d s k low high y =
     rw (one_alone d.day (letters d.month ++ after) k, month_read d.month after low high, four_read d.year s y) refl
 
 spelled_by : (x : Spelled) (day : Day → List ℕ → List ℕ) → named_day (date_written day x) ≡ Some (x.date, 32 ∷ time_written x.time (32 ∷ offset_written x.offset []))
-    → x.time.hour < 100 → x.time.minute < 100 → x.time.second < 100 → x.offset.hours < 100 → x.offset.minutes < 100 → spelled (date_written day x) ≡ Some x
-unfolding spelled
+    → x.time.hour < 100 → x.time.minute < 100 → x.time.second < 100 → x.offset.hours < 100 → x.offset.minutes < 100 → read_spelled_date (date_written day x) ≡ Some x
+unfolding read_spelled_date
 spelled_by x day e h n s o q = rw (e, time_read x.time (32 ∷ offset_written x.offset []) h n s, offset_read x.offset [] o q) refl
 
 -- ---- dates that exist
@@ -141,7 +141,7 @@ within x e =
       minutes = grind (arith, nat_tests);
     }
 
-exists_read : (x : Spelled) (s : List ℕ) → exists x ≡ true → spelled s ≡ Some x → read s ≡ Some (clock x)
+exists_read : (x : Spelled) (s : List ℕ) → exists x ≡ true → read_spelled_date s ≡ Some x → read s ≡ Some (clock x)
 unfolding read
 exists_read x s e h = rw (h, e) refl
 

@@ -22,14 +22,14 @@ abbrev pub ◌>>=◌ : {A B : Type 0} → Option A → (A → Option B) → Opti
 abbrev pub Read : Type 0 → Type 0
 Read A = Option (A × List ℕ)
 
-abbrev pub read_view : {A : Type 0} → Option (A × Bor (List ℕ)) → Read A
-read_view None = None
-read_view (Some p) = Some (p.0, p.1.now)
+abbrev pub date_part_view : {A : Type 0} → Option (A × Bor (List ℕ)) → Read A
+date_part_view None = None
+date_part_view (Some p) = Some (p.0, p.1.now)
 
 -- this byte
-abbrev pub past : ℕ → List ℕ → Option (List ℕ)
-past b [] = None
-past b (a ∷ s) = if a == b then Some s else None
+abbrev pub past_date_byte : ℕ → List ℕ → Option (List ℕ)
+past_date_byte b [] = None
+past_date_byte b (a ∷ s) = if a == b then Some s else None
 
 -- a digit, two, four
 abbrev pub digit : List ℕ → Read ℕ
@@ -97,18 +97,18 @@ pub record Day : Type 0 where
 unfoldable pub named_day : List ℕ → Read Day
 named_day s = do
   d ← one_or_two s
-  s₁ ← past 32 d.1
+  s₁ ← past_date_byte 32 d.1
   m ← month s₁
-  s₂ ← past 32 m.1
+  s₂ ← past_date_byte 32 m.1
   y ← four s₂
   Some (record { year = y.0; month = m.0; day = d.0 }, y.1)
 
 unfoldable pub plain_day : List ℕ → Read Day
 plain_day s = do
   y ← four s
-  s₁ ← past 45 y.1
+  s₁ ← past_date_byte 45 y.1
   m ← two s₁
-  s₂ ← past 45 m.1
+  s₂ ← past_date_byte 45 m.1
   d ← two s₂
   Some (record { year = y.0; month = m.0; day = d.0 }, d.1)
 
@@ -124,9 +124,9 @@ pub record Time : Type 0 where
 unfoldable pub time : List ℕ → Read Time
 time s = do
   h ← two s
-  s₁ ← past 58 h.1
+  s₁ ← past_date_byte 58 h.1
   m ← two s₁
-  s₂ ← past 58 m.1
+  s₂ ← past_date_byte 58 m.1
   x ← two s₂
   Some (record { hour = h.0; minute = m.0; second = x.0 }, x.1)
 
@@ -157,12 +157,12 @@ pub record Spelled : Type 0 where
   pub offset : Offset
 
 -- the whole text, in one of the two spellings
-unfoldable pub spelled : List ℕ → Option Spelled
-spelled s = do
+unfoldable pub read_spelled_date : List ℕ → Option Spelled
+read_spelled_date s = do
   d ← or_else (named_day s) (plain_day s)
-  s₁ ← past 32 d.1
+  s₁ ← past_date_byte 32 d.1
   t ← time s₁
-  s₂ ← past 32 t.1
+  s₂ ← past_date_byte 32 t.1
   o ← offset s₂
   end o.1 (record { date = d.0; time = t.0; offset = o.0 })
 
@@ -199,7 +199,7 @@ if_exists x = if exists x then Some (clock x) else None
 -- the clock of a text that is a date
 unfoldable pub read : List ℕ → Option Clock
 read s = do
-  x ← spelled s
+  x ← read_spelled_date s
   if_exists x
 
 -- the code's numbers, as they were read

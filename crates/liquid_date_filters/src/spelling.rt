@@ -1,11 +1,11 @@
 //! How a date is spelled, read byte by byte.
 ghost use Rattle.std.specs.Prelude.{◌≡◌, ◌<◌, ◌≤◌, option_map, IfSome};
 ghost use Rattle.liquid_date_filters.specs.Spelling as spec;
-ghost use Rattle.liquid_date_filters.specs.Spelling.{read_view};
+ghost use Rattle.liquid_date_filters.specs.Spelling.{date_part_view};
 
 /// The text after this byte, where it stands at the front.
 fn past(byte: u8, text: &[u8]) -> Option<&[u8]>
-    ensures { option_map (λ r. r.now) result ≡ spec.past byte text.now }
+    ensures { option_map (λ r. r.now) result ≡ spec.past_date_byte byte text.now }
 {
     match text {
         [first, rest @ ..] if *first == byte => Some(rest),
@@ -15,7 +15,7 @@ fn past(byte: u8, text: &[u8]) -> Option<&[u8]>
 
 /// A digit, and the text after it.
 fn digit(text: &[u8]) -> Option<(u8, &[u8])>
-    ensures value { read_view result ≡ spec.digit text.now }
+    ensures value { date_part_view result ≡ spec.digit text.now }
     ensures bound { IfSome result (λ p. p.0 < 10) }
 {
     match text {
@@ -27,7 +27,7 @@ fn digit(text: &[u8]) -> Option<(u8, &[u8])>
 /// Two digits.
 #[tactic(auto, unfolding(crate::specs::Spelling::two))]
 fn two(text: &[u8]) -> Option<(u8, &[u8])>
-    ensures value { read_view result ≡ spec.two text.now }
+    ensures value { date_part_view result ≡ spec.two text.now }
     ensures bound { IfSome result (λ p. p.0 < 100) }
 {
     let (a, text) = digit(text)?;
@@ -38,7 +38,7 @@ fn two(text: &[u8]) -> Option<(u8, &[u8])>
 /// Four digits.
 #[tactic(auto, unfolding(crate::specs::Spelling::four))]
 fn four(text: &[u8]) -> Option<(u16, &[u8])>
-    ensures value { read_view result ≡ spec.four text.now }
+    ensures value { date_part_view result ≡ spec.four text.now }
     ensures bound { IfSome result (λ p. p.0 < 10000) }
 {
     let (a, text) = two(text)?;
@@ -49,7 +49,7 @@ fn four(text: &[u8]) -> Option<(u16, &[u8])>
 /// One digit or two, as many as there are.
 #[tactic(auto, unfolding(crate::specs::Spelling::one_or_two))]
 fn one_or_two(text: &[u8]) -> Option<(u8, &[u8])>
-    ensures value { read_view result ≡ spec.one_or_two text.now }
+    ensures value { date_part_view result ≡ spec.one_or_two text.now }
     ensures bound { IfSome result (λ p. p.0 < 100) }
 {
     let (a, text) = digit(text)?;
@@ -84,7 +84,7 @@ fn month_number(a: u8, b: u8, c: u8) -> u8
 /// A number that is the number of a month, with the text after it.
 fn known(number: u8, text: &[u8]) -> Option<(u8, &[u8])>
     requires { number ≤ 12 }
-    ensures value { read_view result ≡ spec.known number text.now }
+    ensures value { date_part_view result ≡ spec.known number text.now }
     ensures bound { IfSome result (λ p. p.0 ≤ 12) }
 {
     if number == 0 {
@@ -96,7 +96,7 @@ fn known(number: u8, text: &[u8]) -> Option<(u8, &[u8])>
 
 /// A byte, and the text after it.
 fn byte(text: &[u8]) -> Option<(u8, &[u8])>
-    ensures { read_view result ≡ spec.byte text.now }
+    ensures { date_part_view result ≡ spec.byte text.now }
 {
     match text {
         [first, rest @ ..] => Some((*first, rest)),
@@ -107,7 +107,7 @@ fn byte(text: &[u8]) -> Option<(u8, &[u8])>
 /// A month by its three letters.
 #[tactic(auto, unfolding(crate::specs::Spelling::month))]
 fn month(text: &[u8]) -> Option<(u8, &[u8])>
-    ensures value { read_view result ≡ spec.month text.now }
+    ensures value { date_part_view result ≡ spec.month text.now }
     ensures bound { IfSome result (λ p. p.0 ≤ 12) }
 {
     let (a, text) = byte(text)?;
@@ -199,7 +199,7 @@ fn read_time(text: &[u8]) -> Option<(Time, &[u8])>
 
 /// Whether the sign is a minus.
 fn sign(text: &[u8]) -> Option<(bool, &[u8])>
-    ensures { read_view result ≡ spec.sign text.now }
+    ensures { date_part_view result ≡ spec.sign text.now }
 {
     match text {
         [b'+', rest @ ..] => Some((false, rest)),
@@ -250,9 +250,9 @@ fn only(found: Spelled, text: &[u8]) -> Option<Spelled>
 }
 
 /// The numbers of the whole text, where it spells a date, a time and an offset.
-#[tactic(auto, unfolding(crate::specs::Spelling::spelled))]
+#[tactic(auto, unfolding(crate::specs::Spelling::read_spelled_date))]
 pub(crate) fn read_spelled(text: &[u8]) -> Option<Spelled>
-    ensures { option_map spec.whole_view result ≡ spec.spelled text.now }
+    ensures { option_map spec.whole_view result ≡ spec.read_spelled_date text.now }
 {
     let (date, text) = read_day(text)?;
     let text = past(b' ', text)?;

@@ -24,7 +24,7 @@ use Rattle.liquid_jekyll_shopify_filters.specs.Slugs.{mode_named, slugify_answer
 use Rattle.liquid_jekyll_shopify_filters.specs.Sorting.{nils_given, or_no_path, sort_items}
 use Rattle.liquid_list_filters.specs.Ends.{first_answer, last_answer}
 use Rattle.liquid_list_filters.specs.Joined.{join_by}
-use Rattle.liquid_list_filters.specs.Keeping.{compact, compact_by, compact_answer, where_by, where_answer, map_of, map_answer, uniq}
+use Rattle.liquid_list_filters.specs.Keeping.{compact, compact_by, compact_answer, where_by, where_answer, mapped_property, map_answer, uniq}
 use Rattle.liquid_list_filters.specs.Rows.{after_list, concat_by, concat_answer}
 use Rattle.liquid_list_filters.specs.Sequences.{sequence, all_maps, of_list}
 use Rattle.liquid_list_filters.specs.Sorting.{Key, key_of, natural_key_of, sort_named, sort_answer, sort_natural_answer}
@@ -85,7 +85,7 @@ ended_where d (name ∷ args) = ended_where_by (text_of name) (first_of args) d
 
 ended_map : (d : Datum) (args : List Datum) → Ended (map_answer d args)
 ended_map d [] = ended_err _ tt
-ended_map d (name ∷ args) = ended_of_list (map_of (text_of name)) d
+ended_map d (name ∷ args) = ended_of_list (mapped_property (text_of name)) d
 
 ended_compact_by : (name : Text) (d : Datum) → Ended (compact_by name d)
 ended_compact_by name (array ds) = ended_cond (all_maps (list_of ds)) (ended_ok _) (ended_err _ tt)

@@ -22,7 +22,7 @@ use Rattle.liquid_list_filters.proofs.Sorts.{sorted_twice, all_sorted}
 use Rattle.liquid_list_filters.proofs.SortsByKey.{sort_one}
 use Rattle.liquid_list_filters.proofs.EachLaw.{list_of_items}
 use Rattle.liquid_jekyll_shopify_filters.specs.Ends.{without_last}
-use Rattle.liquid_jekyll_shopify_filters.specs.Laws.{ReadThen, LosesLast, LosesFirst, GoesOn, IsSentence, SortsItems, mode_given, PushIsOne, UnshiftIsOne, PopIsOne, ShiftIsOne, PopUndoesPush, ShiftUndoesUnshift, SentenceIsOne, SortIsOne, SortTwiceIsOnce, SlugifyIsOne}
+use Rattle.liquid_jekyll_shopify_filters.specs.Laws.{AfterReading, LosesLast, LosesFirst, ContinuesSentence, IsSentence, SortsItems, mode_given, PushIsOne, UnshiftIsOne, PopIsOne, ShiftIsOne, PopUndoesPush, ShiftUndoesUnshift, SentenceIsOne, JekyllSortIsOne, JekyllSortTwiceIsOnce, SlugifyIsOne}
 use Rattle.liquid_jekyll_shopify_filters.specs.Runs.{IsSlugOf}
 use Rattle.liquid_jekyll_shopify_filters.specs.Sentence.{next_text, next_texts, sentence}
 use Rattle.liquid_jekyll_shopify_filters.specs.Slugs.{hyphened, without_outer, keeps, slug}
@@ -42,7 +42,7 @@ lists_one : (R : List Datum → Type 0) (ds : List Datum) → IsTheOne R ds → 
 lists_one R ds h = image_one R (λ l. answer (list l)) ds h
 
 -- what is read, and then done with it
-read_one : {X : Type 0} (r : Result X ErrorKind) (R : X → Answer → Type 0) (f : X → Answer) → ((x : X) → IsTheOne (R x) (f x)) → IsTheOne (ReadThen r R) (r >>= f)
+read_one : {X : Type 0} (r : Result X ErrorKind) (R : X → Answer → Type 0) (f : X → Answer) → ((x : X) → IsTheOne (R x) (f x)) → IsTheOne (AfterReading r R) (r >>= f)
 read_one (Ok x) R f h = h x
 read_one (Err kind) R f h = same_one (Err kind)
 
@@ -120,14 +120,14 @@ inside : (connector t u : Text) (ts : List Text) → next_texts connector (t ∷
 inside connector t u ts =
     ap (λ b. next_text connector b t ++ next_texts connector (u ∷ ts)) (not_zero (length ts)) ∙ append_assoc (codes ", ") t (next_texts connector (u ∷ ts))
 
-goes_on : (connector : Text) (ts : List Text) → IsTheOne (GoesOn connector ts) (next_texts connector ts)
+goes_on : (connector : Text) (ts : List Text) → IsTheOne (ContinuesSentence connector ts) (next_texts connector ts)
 goes_on connector [] = same_one []
 goes_on connector (t ∷ []) = λ s. (λ e. e ∙ sym (append-nil (codes ", " ++ (connector ++ (codes " " ++ t)))), λ e. e ∙ append-nil (codes ", " ++ (connector ++ (codes " " ++ t))))
 goes_on connector (t ∷ (u ∷ ts)) =
     let rest = next_texts connector (u ∷ ts) in
     let h = goes_on connector (u ∷ ts) in
     let e = inside connector t u ts in
-    one (GoesOn connector (t ∷ (u ∷ ts))) (next_texts connector (t ∷ (u ∷ ts))) (rest, e, (h rest).1 refl) (λ s m. m.1 ∙ ap (λ r. codes ", " ++ (t ++ r)) ((h m.0).0 m.2) ∙ sym e)
+    one (ContinuesSentence connector (t ∷ (u ∷ ts))) (next_texts connector (t ∷ (u ∷ ts))) (rest, e, (h rest).1 refl) (λ s m. m.1 ∙ ap (λ r. codes ", " ++ (t ++ r)) ((h m.0).0 m.2) ∙ sym e)
 
 sentence_one : (connector : Text) (ts : List Text) → IsTheOne (IsSentence connector ts) (sentence connector ts)
 sentence_one connector [] = same_one []
@@ -148,7 +148,7 @@ items_sort ds (name ∷ args) =
     (read_one (nils_given (first_of args)) _ _ (λ nils. path_one (text_of name) _ _ (λ p. lists_one _ _ (sort_one (found_key nils p) ds))))
     (same_one (Err InvalidInput))
 
-pub sort_is_one : SortIsOne
+pub sort_is_one : JekyllSortIsOne
 sort_is_one d args = either_one (length (sequence d) == 0) _ _ _ _ (same_one (Err InvalidInput)) (items_sort (sequence d) args)
 
 placed_length : (lt : Datum → Datum → Bool) (x : Datum) (ys : List Datum) → length (insert_in_order lt x ys) ≡ suc (length ys)
@@ -216,7 +216,7 @@ twice_by : (ds : List Datum) (e : Datum) (args : List Datum) (b : Bool) → (len
 twice_by ds e args true h g = cc
 twice_by ds e args false h g = twice_items ds e args h g
 
-pub sort_twice_is_once : SortTwiceIsOnce
+pub sort_twice_is_once : JekyllSortTwiceIsOnce
 sort_twice_is_once d e args h = twice_by (sequence d) e args (length (sequence d) == 0) refl h
 
 -- ---- slugs

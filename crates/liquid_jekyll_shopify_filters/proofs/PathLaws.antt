@@ -11,9 +11,9 @@ use Rattle.liquid_lexer.specs.ValueReading.{literal_at, literal_by, number_at, p
 use Rattle.liquid_lexer.proofs.ValueLaws.{number_no_quote}
 use Rattle.liquid_lexer.proofs.WordLaws.{bind_some, byte_some, from_some, map_some, number_again, number_shorter, number_takes, quoted_again, quoted_shorter, quoted_takes, word_again, word_shorter, word_takes}
 use Rattle.liquid_jekyll_shopify_filters.specs.Laws.{AtPath, PathIsRead}
-use Rattle.liquid_jekyll_shopify_filters.specs.Path.{bracketed_at, closed, member_at, path, path_by, step_at, step_by, steps_in}
+use Rattle.liquid_jekyll_shopify_filters.specs.Path.{bracketed_at, closed, path_member, path, path_by, path_step, path_step_by, steps_in}
 use Rattle.liquid_jekyll_shopify_filters.specs.Sorting.{or_no_path, path_given}
-use Rattle.liquid_jekyll_shopify_filters.specs.Written.{AreSteps, IsLiteral, IsPath, is_index, is_member, is_number, is_path, is_text, no_step}
+use Rattle.liquid_jekyll_shopify_filters.specs.Written.{ArePathSteps, IsLiteral, IsPath, is_index, is_member, is_number, is_path, is_text, no_step}
 
 -- ---- what is read is written so
 
@@ -27,7 +27,7 @@ literal_takes bs x h = literal_takes_by bs (quoted_at bs) x refl h
 
 -- with the steps behind it
 abbrev Leads : List ℕ → Datum × List ℕ → Type 0
-Leads s x = (ds : List Datum) → AreSteps ds x.1 → AreSteps (x.0 ∷ ds) s
+Leads s x = (ds : List Datum) → ArePathSteps ds x.1 → ArePathSteps (x.0 ∷ ds) s
 
 closed_takes : (inside : List ℕ) (o : Option (Datum × List ℕ)) (x : Datum × List ℕ) → literal_at inside ≡ o → closed o ≡ Some x → Leads (91 ∷ inside) x
 closed_takes inside None x e h = absurd (let u : ⊥ = cc in u)
@@ -40,30 +40,30 @@ index_takes : (inside : List ℕ) (x : Datum × List ℕ) → bracketed_at insid
 unfolding bracketed_at
 index_takes inside x h = closed_takes inside (literal_at inside) x refl h
 
-member_takes : (from : List ℕ) (x : Datum × List ℕ) → member_at from ≡ Some x → Leads (46 ∷ from) x
-unfolding member_at
+member_takes : (from : List ℕ) (x : Datum × List ℕ) → path_member from ≡ Some x → Leads (46 ∷ from) x
+unfolding path_member
 member_takes from x h =
     let m = map_some (word_at from) _ x h in
     subst (Leads (46 ∷ from)) m.2 (λ ds more. is_member (word_takes from m.0 m.1) more)
 
-step_takes_by : (s : List ℕ) (o p : Option (List ℕ)) (x : Datum × List ℕ) → past_byte 91 s ≡ o → past_byte 46 s ≡ p → step_by o p ≡ Some x → Leads s x
+step_takes_by : (s : List ℕ) (o p : Option (List ℕ)) (x : Datum × List ℕ) → past_byte 91 s ≡ o → past_byte 46 s ≡ p → path_step_by o p ≡ Some x → Leads s x
 step_takes_by s (Some inside) p x e f h = subst (λ l. Leads l x) (sym (byte_some 91 s inside e)) (index_takes inside x h)
 step_takes_by s None (Some from) x e f h = subst (λ l. Leads l x) (sym (byte_some 46 s from f)) (member_takes from x h)
 step_takes_by s None None x e f h = absurd (let u : ⊥ = cc in u)
 
-step_takes : (s : List ℕ) (x : Datum × List ℕ) → step_at s ≡ Some x → Leads s x
-unfolding step_at
+step_takes : (s : List ℕ) (x : Datum × List ℕ) → path_step s ≡ Some x → Leads s x
+unfolding path_step
 step_takes s x h = step_takes_by s (past_byte 91 s) (past_byte 46 s) x refl refl h
 
-steps_take : (n : ℕ) (s : List ℕ) (ds : List Datum) → steps_in n s ≡ Some ds → AreSteps ds s
+steps_take : (n : ℕ) (s : List ℕ) (ds : List Datum) → steps_in n s ≡ Some ds → ArePathSteps ds s
 unfolding steps_in
-steps_take zero [] ds h = subst (λ l. AreSteps l []) (from_some h) no_step
-steps_take (suc n) [] ds h = subst (λ l. AreSteps l []) (from_some h) no_step
+steps_take zero [] ds h = subst (λ l. ArePathSteps l []) (from_some h) no_step
+steps_take (suc n) [] ds h = subst (λ l. ArePathSteps l []) (from_some h) no_step
 steps_take zero (b ∷ s) ds h = absurd (let u : ⊥ = cc in u)
 steps_take (suc n) (b ∷ s) ds h =
-    let x = bind_some (step_at (b ∷ s)) _ ds h in
+    let x = bind_some (path_step (b ∷ s)) _ ds h in
     let m = map_some (steps_in n x.0.1) _ ds x.2 in
-    subst (λ l. AreSteps l (b ∷ s)) m.2 (step_takes (b ∷ s) x.0 x.1 m.0 (steps_take n x.0.1 m.0 m.1))
+    subst (λ l. ArePathSteps l (b ∷ s)) m.2 (step_takes (b ∷ s) x.0 x.1 m.0 (steps_take n x.0.1 m.0 m.1))
 
 path_takes_by : (s : List ℕ) (o : Option (List ℕ × List ℕ)) (p : List Datum) → word_at s ≡ o → path_by o ≡ Some p → IsPath p s
 path_takes_by s None p e h = absurd (let u : ⊥ = cc in u)
@@ -86,15 +86,15 @@ literal_shorter : {d : Datum} {bs rest : List ℕ} → IsLiteral d bs rest → l
 literal_shorter (is_text q) = quoted_shorter q
 literal_shorter (is_number h) = omega (arith, number_shorter h)
 
-member_again : (w from rest : List ℕ) → word_at from ≡ Some (w, rest) → step_at (46 ∷ from) ≡ Some (text w, rest)
-unfolding step_at member_at
+member_again : (w from rest : List ℕ) → word_at from ≡ Some (w, rest) → path_step (46 ∷ from) ≡ Some (text w, rest)
+unfolding path_step path_member
 member_again w from rest h = rw h refl
 
-index_again : (d : Datum) (from rest : List ℕ) → literal_at from ≡ Some (d, 93 ∷ rest) → step_at (91 ∷ from) ≡ Some (d, rest)
-unfolding step_at bracketed_at
+index_again : (d : Datum) (from rest : List ℕ) → literal_at from ≡ Some (d, 93 ∷ rest) → path_step (91 ∷ from) ≡ Some (d, rest)
+unfolding path_step bracketed_at
 index_again d from rest h = rw h refl
 
-steps_again : {ds : List Datum} {s : List ℕ} → AreSteps ds s → (n : ℕ) → length s ≤ n → steps_in n s ≡ Some ds
+steps_again : {ds : List Datum} {s : List ℕ} → ArePathSteps ds s → (n : ℕ) → length s ≤ n → steps_in n s ≡ Some ds
 unfolding steps_in
 steps_again no_step zero l = refl
 steps_again no_step (suc n) l = refl

@@ -7,7 +7,7 @@ use Rattle.liquid_model.specs.Whole.{whole_text}
 use Rattle.liquid_lexer.specs.Bytes.{is_letter, in_word, not_quote}
 use Rattle.liquid_lexer.specs.ValueReading.{literal_at, literal_by, number_at, number_len, past_byte, quoted_at, run_len, until_quote, word_at}
 use Rattle.liquid_lexer.specs.Words.{passes, goes_on}
-use Rattle.liquid_jekyll_shopify_filters.specs.Path.{bracketed_at, closed, member_at, step_at, step_by, steps_in}
+use Rattle.liquid_jekyll_shopify_filters.specs.Path.{bracketed_at, closed, path_member, path_step, path_step_by, steps_in}
 
 -- what is left, if anything was read
 abbrev left : {A : Type 0} → Option (A × List ℕ) → List ℕ
@@ -29,8 +29,8 @@ word_by : (t : Bool) (w rest : List ℕ) (x : Datum × List ℕ) → option_map 
 word_by true w rest x e = ap left e
 word_by false w rest x e = absurd (let u : ⊥ = cc in u)
 
-member_within : (s : List ℕ) (x : Datum × List ℕ) → member_at s ≡ Some x → length x.1 ≤ length s
-unfolding member_at word_at
+member_within : (s : List ℕ) (x : Datum × List ℕ) → path_member s ≡ Some x → length x.1 ≤ length s
+unfolding path_member word_at
 member_within s x e = subst (λ (r : List ℕ). length r ≤ length s) (word_by (is_letter (slice_index s 0)) (take (run_len in_word s) s) (drop (run_len in_word s) s) x e) (dropped (run_len in_word s) s)
 
 closing : (q : ℕ) (bs s : List ℕ) (o : Option (List ℕ)) (y : List ℕ × List ℕ) → past_byte q (drop (run_len (not_quote q) bs) bs) ≡ o → option_map (λ rest. (s, rest)) o ≡ Some y → length y.1 ≤ length bs
@@ -80,13 +80,13 @@ bracketed_within : (s : List ℕ) (y : Datum × List ℕ) → bracketed_at s ≡
 unfolding bracketed_at
 bracketed_within s y e = bracketed_from s (literal_at s) y refl e
 
-step_from : (s : List ℕ) (o p : Option (List ℕ)) (x : Datum × List ℕ) → past_byte 91 s ≡ o → past_byte 46 s ≡ p → step_by o p ≡ Some x → length x.1 < length s
+step_from : (s : List ℕ) (o p : Option (List ℕ)) (x : Datum × List ℕ) → past_byte 91 s ≡ o → past_byte 46 s ≡ p → path_step_by o p ≡ Some x → length x.1 < length s
 step_from s (Some inside) p x e f g = omega (arith, past_shrinks 91 s inside e, bracketed_within inside x g)
 step_from s None (Some from) x e f g = omega (arith, past_shrinks 46 s from f, member_within from x g)
 step_from s None None x e f g = absurd (let u : ⊥ = cc in u)
 
-pub step_shrinks : (s : List ℕ) (x : Datum × List ℕ) → step_at s ≡ Some x → length x.1 < length s
-unfolding step_at
+pub step_shrinks : (s : List ℕ) (x : Datum × List ℕ) → path_step s ≡ Some x → length x.1 < length s
+unfolding path_step
 step_shrinks s x e = step_from s (past_byte 91 s) (past_byte 46 s) x refl refl e
 
 -- the steps so far, and those of the rest: the number is enough for its bytes
@@ -101,7 +101,7 @@ more : (done : List Datum) (d : Datum) (o : Option (List Datum)) → option_map 
 more done d None = refl
 more done d (Some ds) = ap Some (sym (append_assoc done (d ∷ []) ds))
 
-turn_by : (n : ℕ) (all : Option (List Datum)) (done : List Datum) (b : ℕ) (s : List ℕ) (x : Datum × List ℕ) → length (b ∷ s) ≤ n → step_at (b ∷ s) ≡ Some x
+turn_by : (n : ℕ) (all : Option (List Datum)) (done : List Datum) (b : ℕ) (s : List ℕ) (x : Datum × List ℕ) → length (b ∷ s) ≤ n → path_step (b ∷ s) ≡ Some x
     → all ≡ option_map (λ ds. done ++ ds) (steps_in n (b ∷ s)) → Before all (done ++ x.0 ∷ []) x.1
 unfolding Before steps_in
 turn_by zero all done b s x l e h = absurd (omega arith)
@@ -111,21 +111,21 @@ turn_by (suc n) all done b s x l e h = (
   h ∙ ap (λ o. option_map (λ ds. done ++ ds) (option_and_then (λ x. option_map (λ ds. x.0 ∷ ds) (steps_in n x.1)) o)) e ∙ more done x.0 (steps_in n x.1),
 )
 
-turn : (all : Option (List Datum)) (done : List Datum) (s : List ℕ) (x : Datum × List ℕ) → 0 < length s → step_at s ≡ Some x → Before all done s → Before all (done ++ x.0 ∷ []) x.1
+turn : (all : Option (List Datum)) (done : List Datum) (s : List ℕ) (x : Datum × List ℕ) → 0 < length s → path_step s ≡ Some x → Before all done s → Before all (done ++ x.0 ∷ []) x.1
 unfolding Before
 turn all done [] x l e h = absurd (omega arith)
 turn all done (b ∷ s) x l e h = turn_by h.0 all done b s x h.1 e h.2
 
-pub turned : (all : Option (List Datum)) (done next : List Datum) (s : List ℕ) (x : Datum × List ℕ) → next ≡ done ++ x.0 ∷ [] → 0 < length s → step_at s ≡ Some x → Before all done s → Before all next x.1
+pub turned : (all : Option (List Datum)) (done next : List Datum) (s : List ℕ) (x : Datum × List ℕ) → next ≡ done ++ x.0 ∷ [] → 0 < length s → path_step s ≡ Some x → Before all done s → Before all next x.1
 turned all done next s x e l f h = subst (λ ds. Before all ds x.1) (sym e) (turn all done s x l f h)
 
-ended_by : (n : ℕ) (all : Option (List Datum)) (done : List Datum) (b : ℕ) (s : List ℕ) → step_at (b ∷ s) ≡ None → all ≡ option_map (λ ds. done ++ ds) (steps_in n (b ∷ s)) → all ≡ None
+ended_by : (n : ℕ) (all : Option (List Datum)) (done : List Datum) (b : ℕ) (s : List ℕ) → path_step (b ∷ s) ≡ None → all ≡ option_map (λ ds. done ++ ds) (steps_in n (b ∷ s)) → all ≡ None
 unfolding steps_in
 ended_by zero all done b s e h = h
 ended_by (suc n) all done b s e h = h ∙ ap (λ o. option_map (λ ds. done ++ ds) (option_and_then (λ x. option_map (λ ds. x.0 ∷ ds) (steps_in n x.1)) o)) e
 
 -- where a part is no step there is no path
-pub ended : (all : Option (List Datum)) (done : List Datum) (s : List ℕ) → 0 < length s → step_at s ≡ None → Before all done s → all ≡ None
+pub ended : (all : Option (List Datum)) (done : List Datum) (s : List ℕ) → 0 < length s → path_step s ≡ None → Before all done s → all ≡ None
 unfolding Before
 ended all done [] l e h = absurd (omega arith)
 ended all done (b ∷ s) l e h = ended_by h.0 all done b s e h.2

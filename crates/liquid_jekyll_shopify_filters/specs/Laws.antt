@@ -19,7 +19,7 @@ use Rattle.liquid_jekyll_shopify_filters.specs.Ends.{unshift_answer}
 use Rattle.liquid_jekyll_shopify_filters.specs.Runs.{IsSlug, IsSlugOf}
 use Rattle.liquid_jekyll_shopify_filters.specs.Sentence.{array_to_sentence_string_answer}
 use Rattle.liquid_jekyll_shopify_filters.specs.Slugs.{mode_named, slugify_answer}
-use Rattle.liquid_jekyll_shopify_filters.specs.Sorting.{found_key, nils_given, sort_answer}
+use Rattle.liquid_jekyll_shopify_filters.specs.Sorting.{found_key, nils_given, jekyll_sort_answer}
 use Rattle.liquid_jekyll_shopify_filters.specs.Path.{path}
 use Rattle.liquid_jekyll_shopify_filters.specs.Pluralize.{pluralize_answer}
 use Rattle.liquid_jekyll_shopify_filters.specs.Written.{IsPath}
@@ -28,9 +28,10 @@ use Rattle.liquid_jekyll_shopify_filters.specs.declared.jekyll.slugify.Mode.{Mod
 use Rattle.liquid_jekyll_shopify_filters.specs.declared.jekyll.slugify.Mode.TheVariants.{Default}
 
 -- where something was read R holds of it and the answer, else the fault is the answer
-abbrev pub ReadThen : {X : Type 0} → Result X ErrorKind → (X → Answer → Type 0) → Answer → Type 0
-ReadThen (Ok x) R a = R x a
-ReadThen (Err kind) R a = a ≡ Err kind
+abbrev pub AfterReading : {X : Type 0} → Result X ErrorKind → (X → Answer → Type 0) → Answer →
+    Type 0
+AfterReading (Ok x) R a = R x a
+AfterReading (Err kind) R a = a ≡ Err kind
 
 -- ---- numbers
 
@@ -85,15 +86,16 @@ ShiftUndoesUnshift = (d x e : Datum) → unshift_answer d (x ∷ []) ≡ Ok e �
 
 -- ---- sentences
 -- what follows the first text
-abbrev pub GoesOn : Text → List Text → Text → Type 0
-GoesOn connector [] s = s ≡ []
-GoesOn connector (t ∷ []) s = s ≡ codes ", " ++ (connector ++ (codes " " ++ t))
-GoesOn connector (t ∷ (u ∷ ts)) s = (rest : Text) × (s ≡ codes ", " ++ (t ++ rest)) ×
-    GoesOn connector (u ∷ ts) rest
+abbrev pub ContinuesSentence : Text → List Text → Text → Type 0
+ContinuesSentence connector [] s = s ≡ []
+ContinuesSentence connector (t ∷ []) s = s ≡ codes ", " ++ (connector ++ (codes " " ++ t))
+ContinuesSentence connector (t ∷ (u ∷ ts)) s = (rest : Text) × (s ≡ codes ", " ++ (t ++ rest)) ×
+    ContinuesSentence connector (u ∷ ts) rest
 
 abbrev pub IsSentence : Text → List Text → Text → Type 0
 IsSentence connector [] s = s ≡ []
-IsSentence connector (t ∷ ts) s = (rest : Text) × (s ≡ t ++ rest) × GoesOn connector ts rest
+IsSentence connector (t ∷ ts) s = (rest : Text) × (s ≡ t ++ rest) ×
+    ContinuesSentence connector ts rest
 
 abbrev pub MakesSentence : Text → Datum → Answer → Type 0
 MakesSentence connector = OfList (λ ds. Texts (IsSentence connector (map text_of ds)))
@@ -119,21 +121,22 @@ abbrev pub SortsItems : List Datum → List Datum → Answer → Type 0
 SortsItems ds [] = Lists (IsSort (found_key First []) ds)
 SortsItems ds (name ∷ args) =
     OfMaps ds
-    (ReadThen (nils_given (first_of args))
+    (AfterReading (nils_given (first_of args))
     (λ nils. AtPath (text_of name) (λ p. Lists (IsSort (found_key nils p) ds))))
     (λ a. a ≡ Err InvalidInput)
 
-abbrev pub Sorts : Datum → List Datum → Answer → Type 0
-Sorts d args a = MatchBool (length (sequence d) == 0) (a ≡ Err InvalidInput)
+abbrev pub JekyllSorts : Datum → List Datum → Answer → Type 0
+JekyllSorts d args a = MatchBool (length (sequence d) == 0) (a ≡ Err InvalidInput)
     (SortsItems (sequence d) args a)
 
-abbrev pub SortIsOne : Type 0
-SortIsOne = (d : Datum) (args : List Datum) → IsTheOne (Sorts d args) (sort_answer d args)
+abbrev pub JekyllSortIsOne : Type 0
+JekyllSortIsOne = (d : Datum) (args : List Datum) →
+    IsTheOne (JekyllSorts d args) (jekyll_sort_answer d args)
 
 -- where it isn't refused, a sort twice is the sort once
-abbrev pub SortTwiceIsOnce : Type 0
-SortTwiceIsOnce = (d e : Datum) (args : List Datum) → sort_answer d args ≡ Ok e →
-    sort_answer e args ≡ Ok e
+abbrev pub JekyllSortTwiceIsOnce : Type 0
+JekyllSortTwiceIsOnce = (d e : Datum) (args : List Datum) → jekyll_sort_answer d args ≡ Ok e →
+    jekyll_sort_answer e args ≡ Ok e
 
 -- ---- slugs
 abbrev pub mode_given : List Datum → Result Mode ErrorKind
@@ -142,7 +145,7 @@ mode_given (name ∷ args) = mode_named (text_of name)
 
 abbrev pub SlugifyIsOne : Type 0
 SlugifyIsOne = (d : Datum) (args : List Datum) →
-    IsTheOne (ReadThen (mode_given args) (λ mode. Texts (IsSlugOf mode (text_of d))))
+    IsTheOne (AfterReading (mode_given args) (λ mode. Texts (IsSlugOf mode (text_of d))))
     (slugify_answer d args)
 
 -- what the mode `ascii` makes of a text is a slug, and stays as it is

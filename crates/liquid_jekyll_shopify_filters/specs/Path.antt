@@ -7,8 +7,8 @@ use Rattle.liquid_model.specs.Texts.{Text}
 use Rattle.liquid_lexer.specs.ValueReading.{literal_at, past_byte, word_at, Reads}
 
 -- the word after a `.`
-unfoldable pub member_at : Reads Datum
-member_at s = option_map (λ w. (text w.0, w.1)) (word_at s)
+unfoldable pub path_member : Reads Datum
+path_member s = option_map (λ w. (text w.0, w.1)) (word_at s)
 
 abbrev pub closed : Option (Datum × Text) → Option (Datum × Text)
 closed None = None
@@ -18,13 +18,13 @@ closed (Some x) = option_map (λ rest. (x.0, rest)) (past_byte 93 x.1)
 unfoldable pub bracketed_at : Reads Datum
 bracketed_at s = closed (literal_at s)
 
-abbrev pub step_by : Option Text → Option Text → Option (Datum × Text)
-step_by (Some inside) dotted = bracketed_at inside
-step_by None (Some from) = member_at from
-step_by None None = None
+abbrev pub path_step_by : Option Text → Option Text → Option (Datum × Text)
+path_step_by (Some inside) dotted = bracketed_at inside
+path_step_by None (Some from) = path_member from
+path_step_by None None = None
 
-unfoldable pub step_at : Reads Datum
-step_at s = step_by (past_byte 91 s) (past_byte 46 s)
+unfoldable pub path_step : Reads Datum
+path_step s = path_step_by (past_byte 91 s) (past_byte 46 s)
 
 -- the steps of a whole text, or none where it has other parts; the number bounds the steps, and the
 -- count of the bytes is always enough
@@ -32,7 +32,7 @@ unfoldable pub steps_in : ℕ → Text → Option (List Datum)
 steps_in n [] = Some []
 steps_in zero (b ∷ s) = None
 steps_in (suc n) (b ∷ s) = option_and_then (λ x. option_map (λ ds. x.0 ∷ ds) (steps_in n x.1))
-    (step_at (b ∷ s))
+    (path_step (b ∷ s))
 
 abbrev pub path_by : Option (Text × Text) → Option (List Datum)
 path_by None = None

@@ -57,6 +57,6 @@ abbrev pub sort_items : List Datum → List Datum → Answer
 sort_items ds [] = Ok (list (sort_by (found_key First []) ds))
 sort_items ds (name ∷ args) = sort_maps ds (text_of name) (first_of args)
 
-abbrev pub sort_answer : Datum → List Datum → Answer
-sort_answer d args = if length (sequence d) == 0 then Err InvalidInput else sort_items
+abbrev pub jekyll_sort_answer : Datum → List Datum → Answer
+jekyll_sort_answer d args = if length (sequence d) == 0 then Err InvalidInput else sort_items
     (sequence d) args

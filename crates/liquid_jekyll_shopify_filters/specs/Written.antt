@@ -11,17 +11,17 @@ pub data IsLiteral : Datum → List ℕ → List ℕ → Type 0 where
   is_number : {n : ℤ} {bs rest : List ℕ} → Number n bs rest → IsLiteral (number n) bs rest
 
 -- the whole text is any of `.word` and `[literal]`
-pub data AreSteps : List Datum → Text → Type 0 where
-  no_step : AreSteps [] []
+pub data ArePathSteps : List Datum → Text → Type 0 where
+  no_step : ArePathSteps [] []
   -- `.word`
   is_member : {w from rest : List ℕ} {ds : List Datum} → Word w from rest
-      → AreSteps ds rest → AreSteps (text w ∷ ds) (dot ∷ from)
+      → ArePathSteps ds rest → ArePathSteps (text w ∷ ds) (dot ∷ from)
   -- `[literal]`
   is_index : {d : Datum} {from rest : List ℕ} {ds : List Datum}
       → IsLiteral d from (close_bracket ∷ rest)
-      → AreSteps ds rest → AreSteps (d ∷ ds) (open_bracket ∷ from)
+      → ArePathSteps ds rest → ArePathSteps (d ∷ ds) (open_bracket ∷ from)
 
 -- the whole text is a word, and steps after it
 pub data IsPath : List Datum → Text → Type 0 where
   is_path : {w bs rest : List ℕ} {ds : List Datum} → Word w bs rest
-      → AreSteps ds rest → IsPath (text w ∷ ds) bs
+      → ArePathSteps ds rest → IsPath (text w ∷ ds) bs

@@ -6,8 +6,9 @@
 ghost use Rattle.liquid_jekyll_shopify_filters.specs.Laws.{PushIsOne, UnshiftIsOne, PopIsOne};
 ghost use Rattle.liquid_jekyll_shopify_filters.specs.Laws.{ShiftIsOne, PopUndoesPush};
 ghost use Rattle.liquid_jekyll_shopify_filters.specs.Laws.{ShiftUndoesUnshift, SentenceIsOne};
-ghost use Rattle.liquid_jekyll_shopify_filters.specs.Laws.{PathIsRead, PluralizeIsOne, SortIsOne};
-ghost use Rattle.liquid_jekyll_shopify_filters.specs.Laws.{SortTwiceIsOnce, SlugifyIsOne};
+ghost use Rattle.liquid_jekyll_shopify_filters.specs.Laws.{PathIsRead, PluralizeIsOne};
+ghost use Rattle.liquid_jekyll_shopify_filters.specs.Laws.{JekyllSortIsOne};
+ghost use Rattle.liquid_jekyll_shopify_filters.specs.Laws.{JekyllSortTwiceIsOnce, SlugifyIsOne};
 ghost use Rattle.liquid_jekyll_shopify_filters.specs.Laws.{AsciiSlugs};
 
 /// The filters over lists.
@@ -28,8 +29,8 @@ pub fn list_laws()
     ensures shift_is_one { ShiftIsOne }
     ensures pop_undoes_push { PopUndoesPush }
     ensures shift_undoes_unshift { ShiftUndoesUnshift }
-    ensures sort_is_one { SortIsOne }
-    ensures sort_twice_is_once { SortTwiceIsOnce }
+    ensures sort_is_one { JekyllSortIsOne }
+    ensures sort_twice_is_once { JekyllSortTwiceIsOnce }
 {}
 
 /// The filters over texts, and the paths of `sort`.

@@ -55,12 +55,12 @@ where_answer d [] = Err InvalidArgument
 where_answer d (name ∷ args) = where_by (text_of name) (first_of args) d
 
 -- `map`: the property's values of the maps that have it
-abbrev pub map_of : Text → List Datum → List Datum
-map_of name ds = filter_map (property name) ds
+abbrev pub mapped_property : Text → List Datum → List Datum
+mapped_property name ds = filter_map (property name) ds
 
 abbrev pub map_answer : Datum → List Datum → Answer
 map_answer d [] = Err InvalidArgument
-map_answer d (name ∷ args) = of_list (map_of (text_of name)) d
+map_answer d (name ∷ args) = of_list (mapped_property (text_of name)) d
 
 -- `uniq`: the items that equal no kept one before
 abbrev pub has_same : Datum → List Datum → Bool

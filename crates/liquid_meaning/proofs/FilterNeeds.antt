@@ -23,7 +23,7 @@ use Rattle.liquid_evaluation.specs.Evaluation.{answers_with}
 use Rattle.liquid_core.specs.Expressions.{value_of, all_required}
 use Rattle.liquid_list_filters.specs.Sequences.{list, sequence, all_maps, property, of_list}
 use Rattle.liquid_list_filters.specs.Ends.{or_nil, first_answer, last_answer}
-use Rattle.liquid_list_filters.specs.Keeping.{is_wanted, where_of, where_by, where_answer, map_of, map_answer, compact_by, compact_answer}
+use Rattle.liquid_list_filters.specs.Keeping.{is_wanted, where_of, where_by, where_answer, mapped_property, map_answer, compact_by, compact_answer}
 use Rattle.liquid_list_filters.specs.Rows.{reverse_answer, after_list, concat_by, concat_answer}
 use Rattle.liquid_list_filters.specs.Sorting.{insert_in_order, sorted, Key, key_order, sort_by, given, key_of, lower_case, natural_key_of, sort_named, sort_answer, sort_natural_answer}
 use Rattle.liquid_model.specs.Uses.{Use, nothing, everything, parts, ItemUse, uncounted, every, shape_of, Pairwise, Alike, AlikeItems, present, use_of_each, join, items_wanted}
@@ -93,20 +93,20 @@ concat_respects v (b ∷ bs) c d a = by_shape (λ c d. AlikeAs (items_each (item
 
 -- ---- map
 
-map_alike : (name : Text) (w : Use) → bytes_eq name (codes "size") ≡ false → (ds es : List Datum) → AlikeLists (one_field name (present w)) ds es → AlikeLists w (map_of name ds) (map_of name es)
+map_alike : (name : Text) (w : Use) → bytes_eq name (codes "size") ≡ false → (ds es : List Datum) → AlikeLists (one_field name (present w)) ds es → AlikeLists w (mapped_property name ds) (mapped_property name es)
 map_alike name w no_length [] [] a = tt
 map_alike name w no_length [] (e ∷ es) a = absurd a
 map_alike name w no_length (d ∷ ds) [] a = absurd a
 map_alike name w no_length (d ∷ ds) (e ∷ es) a = at (property name d) (property name e) (property_alike name (present w) d e no_length a.0.0 a.0.1.0.0) (map_alike name w no_length ds es a.1)
   where
-    at : (o p : Option Datum) → Alike (present w) o p → AlikeLists w (map_of name ds) (map_of name es) → AlikeLists w (cons_option o (map_of name ds)) (cons_option p (map_of name es))
+    at : (o p : Option Datum) → Alike (present w) o p → AlikeLists w (mapped_property name ds) (mapped_property name es) → AlikeLists w (cons_option o (mapped_property name ds)) (cons_option p (mapped_property name es))
     at None None a rest = rest
     at None (Some y) a rest = let e = alike_shape (present w) None (Some y) (present_asks w) a in absurd cc
     at (Some x) None a rest = let e = alike_shape (present w) (Some x) None (present_asks w) a in absurd cc
     at (Some x) (Some y) a rest = (alike_present w (Some x) (Some y) a, rest)
 
-map_respects : (name : Text) (v : Use) (c d : Datum) → bytes_eq name (codes "size") ≡ false → AlikeAs (items_each (one_field name (present (items_wanted v)))) c d → Both (AlikeAs v) (of_list (map_of name) c) (of_list (map_of name) d)
-map_respects name v c d no_length a = by_shape (λ c d. AlikeAs (items_each (one_field name (present (items_wanted v)))) c d → Both (AlikeAs v) (of_list (map_of name) c) (of_list (map_of name) d))
+map_respects : (name : Text) (v : Use) (c d : Datum) → bytes_eq name (codes "size") ≡ false → AlikeAs (items_each (one_field name (present (items_wanted v)))) c d → Both (AlikeAs v) (of_list (mapped_property name) c) (of_list (mapped_property name) d)
+map_respects name v c d no_length a = by_shape (λ c d. AlikeAs (items_each (one_field name (present (items_wanted v)))) c d → Both (AlikeAs v) (of_list (mapped_property name) c) (of_list (mapped_property name) d))
     (λ d a. answers_same v _ _ refl)
     (λ ds es a. list_alike v _ _ (map_alike name (items_wanted v) no_length (list_of ds) (list_of es) a.1.1))
     (λ ps qs a. refl) c d a.0 a
@@ -255,7 +255,7 @@ kind_respects (Last f) xs v e arguments is c d a = last_respects v arguments c d
 kind_respects (Reverse f) xs v e arguments is c d a = reverse_respects v arguments c d a
 kind_respects (Concat f) xs v e arguments is c d a = concat_respects v arguments c d a
 kind_respects (Map f) xs v e arguments is c d a = by_argument v map_answer _ xs e arguments is
-    (λ name no_length first others h c d a. subst (λ t. Both (AlikeAs v) (of_list (map_of t) c) (of_list (map_of t) d)) (sym h) (map_respects name v c d no_length a)) c d a
+    (λ name no_length first others h c d a. subst (λ t. Both (AlikeAs v) (of_list (mapped_property t) c) (of_list (mapped_property t) d)) (sym h) (map_respects name v c d no_length a)) c d a
 kind_respects (Where f) xs v e arguments is c d a = by_argument v where_answer _ xs e arguments is
     (λ name no_length first others h c d a. subst (λ t. Both (AlikeAs v) (where_by t (first_of others) c) (where_by t (first_of others) d)) (sym h) (where_respects name v no_length (first_of others) c d a)) c d a
 kind_respects (Sort f) xs v e arguments is c d a = by_argument v sort_answer _ xs e arguments is

@@ -7,7 +7,7 @@ use Rattle.liquid_model.specs.Lists.{list_of, pair_lists}
 use Rattle.liquid_model.specs.declared.error.ErrorKind.TheVariants.{InvalidInput}
 use Rattle.liquid_list_filters.specs.Sequences.{list, all_maps, property, of_list}
 use Rattle.liquid_list_filters.specs.Keeping.{is_nil, compact, is_given, compact_of, compact_by}
-use Rattle.liquid_text_filters.specs.Default.{or_nil, default_answer}
+use Rattle.liquid_text_filters.specs.Default.{first_item_or_nil, default_answer}
 use Rattle.liquid_model.specs.Uses.{Use, nothing, shape_of, Alike, present, join, items_wanted, there}
 use Rattle.liquid_meaning.specs.Reads.{Both}
 use Rattle.liquid_meaning.specs.FilterNeeds.{items_each, with_field}
@@ -80,9 +80,9 @@ default_same c d a = by_shape (λ c d. AlikeAs (items_each nothing) c d → is_d
 pub default_respects : (v : Use) (arguments : List Datum) (c d : Datum) → AlikeAs (join (items_each nothing) v) c d → Both (AlikeAs v) (default_answer c arguments) (default_answer d arguments)
 default_respects v arguments c d a = at (is_default_datum c) (is_default_datum d) (default_same c d (join_left (items_each nothing) v (Some c) (Some d) a))
   where
-    taken : (x : Bool) → AlikeAs v (cond x (or_nil arguments) c) (cond x (or_nil arguments) d)
-    taken true = alike_same v (Some (or_nil arguments))
+    taken : (x : Bool) → AlikeAs v (cond x (first_item_or_nil arguments) c) (cond x (first_item_or_nil arguments) d)
+    taken true = alike_same v (Some (first_item_or_nil arguments))
     taken false = join_right (items_each nothing) v (Some c) (Some d) a
 
-    at : (x y : Bool) → x ≡ y → AlikeAs v (cond x (or_nil arguments) c) (cond y (or_nil arguments) d)
-    at x y e = subst (λ y. AlikeAs v (cond x (or_nil arguments) c) (cond y (or_nil arguments) d)) e (taken x)
+    at : (x y : Bool) → x ≡ y → AlikeAs v (cond x (first_item_or_nil arguments) c) (cond y (first_item_or_nil arguments) d)
+    at x y e = subst (λ y. AlikeAs v (cond x (first_item_or_nil arguments) c) (cond y (first_item_or_nil arguments) d)) e (taken x)

@@ -15,7 +15,7 @@ use Rattle.liquid_filter_base.specs.Arguments.{Answer}
 use Rattle.liquid_filter_base.proofs.Ones.{same_one}
 use Rattle.liquid_number_filters.specs.Decimals.{is_decimal_text}
 use Rattle.liquid_number_filters.specs.Numbers.{operands_of, both_or, or_range, in_range, unlike, plus, minus, times, divided_by, modulo, at_least, at_most, absolute, abs}
-use Rattle.liquid_number_filters.specs.NumberLaws.{StepsOf, Steps, IsSum, IsDifference, IsProduct, IsQuotient, IsRemainder, IsGreater, IsLesser, AbsoluteOf}
+use Rattle.liquid_number_filters.specs.NumberLaws.{StepsOf, OperandSteps, IsSum, IsDifference, IsProduct, IsQuotient, IsRemainder, IsGreater, IsLesser, AbsoluteOf}
 use Rattle.liquid_number_filters.proofs.Divisions.{division_is, division_meets}
 
 -- ---- the steps stand for one answer, where the relation of two whole numbers does
@@ -41,32 +41,32 @@ steps_of R f false h true true k (Some n) None = same_one (Err k)
 steps_of R f divides h true true k a (Some b) = divisor_one R f divides h k a b (divides && int_eq b (pos 0)) refl
 
 steps_one : (R : ℤ → ℤ → Answer → Type 0) (f : ℤ → ℤ → Answer) (divides : Bool) → ((a b : ℤ) → NonZero divides b → IsTheOne (R a b) (f a b)) → (d e : Datum)
-    → IsTheOne (Steps R divides d e) (operands_of divides (scalar d) (scalar e) (unlike d e) (whole d) (whole e) >>= λ p. f p.0 p.1)
+    → IsTheOne (OperandSteps R divides d e) (operands_of divides (scalar d) (scalar e) (unlike d e) (whole d) (whole e) >>= λ p. f p.0 p.1)
 steps_one R f divides h d e = steps_of R f divides h (scalar d) (scalar e) (unlike d e) (whole d) (whole e)
 
 -- ---- the relations of two whole numbers
-pub plus_one : (d e : Datum) → IsTheOne (Steps IsSum false d e) (plus d e)
+pub plus_one : (d e : Datum) → IsTheOne (OperandSteps IsSum false d e) (plus d e)
 plus_one = steps_one IsSum (λ a b. in_range (a +ℤ b)) false (λ a b n. same_one (in_range (a +ℤ b)))
 
-pub times_one : (d e : Datum) → IsTheOne (Steps IsProduct false d e) (times d e)
+pub times_one : (d e : Datum) → IsTheOne (OperandSteps IsProduct false d e) (times d e)
 times_one = steps_one IsProduct (λ a b. in_range (a *ℤ b)) false (λ a b n. same_one (in_range (a *ℤ b)))
 
 difference_one : (a b : ℤ) → NonZero false b → IsTheOne (IsDifference a b) (in_range (a -ℤ b))
 difference_one a b n = λ x. (λ h. let e : h.0 ≡ a -ℤ b = omega (arith, ints, h.1) in h.2 ∙ ap in_range e, λ e. (a -ℤ b, omega (arith, ints), e))
 
-pub minus_one : (d e : Datum) → IsTheOne (Steps IsDifference false d e) (minus d e)
+pub minus_one : (d e : Datum) → IsTheOne (OperandSteps IsDifference false d e) (minus d e)
 minus_one = steps_one IsDifference (λ a b. in_range (a -ℤ b)) false difference_one
 
 quotient_one : (a b : ℤ) → NonZero true b → IsTheOne (IsQuotient a b) (in_range (int_div a b))
 quotient_one a b n = λ x. (λ h. h.3 ∙ ap in_range (division_is a b h.0 h.1 h.2).0, λ e. (int_div a b, int_rem a b, division_meets a b (n refl), e))
 
-pub divided_by_one : (d e : Datum) → IsTheOne (Steps IsQuotient true d e) (divided_by d e)
+pub divided_by_one : (d e : Datum) → IsTheOne (OperandSteps IsQuotient true d e) (divided_by d e)
 divided_by_one = steps_one IsQuotient (λ a b. in_range (int_div a b)) true quotient_one
 
 remainder_one : (a b : ℤ) → NonZero true b → IsTheOne (IsRemainder a b) (Ok (number (int_rem a b)))
 remainder_one a b n = λ x. (λ h. h.3 ∙ ap (λ z. Ok (number z)) (division_is a b h.0 h.1 h.2).1, λ e. (int_div a b, int_rem a b, division_meets a b (n refl), e))
 
-pub modulo_one : (d e : Datum) → IsTheOne (Steps IsRemainder true d e) (modulo d e)
+pub modulo_one : (d e : Datum) → IsTheOne (OperandSteps IsRemainder true d e) (modulo d e)
 modulo_one = steps_one IsRemainder (λ a b. Ok (number (int_rem a b))) true remainder_one
 
 either : (a b : ℤ) (t : Bool) → (cond t a b ≡ a) ⊎ (cond t a b ≡ b)
@@ -79,7 +79,7 @@ greater_is a b z h l m = ⊎_elim (λ e. omega (arith, ints, e, int_max_is a b))
 greater_one : (a b : ℤ) → NonZero false b → IsTheOne (IsGreater a b) (Ok (number (int_max a b)))
 greater_one a b n = λ x. (λ h. h.4 ∙ ap (λ z. Ok (number z)) (greater_is a b h.0 h.1 h.2 h.3), λ e. (int_max a b, either a b (int_lt b a), omega (arith, ints, int_max_is a b), omega (arith, ints, int_max_is a b), e))
 
-pub at_least_one : (d e : Datum) → IsTheOne (Steps IsGreater false d e) (at_least d e)
+pub at_least_one : (d e : Datum) → IsTheOne (OperandSteps IsGreater false d e) (at_least d e)
 at_least_one = steps_one IsGreater (λ a b. Ok (number (int_max a b))) false greater_one
 
 lesser_is : (a b z : ℤ) → (z ≡ a) ⊎ (z ≡ b) → z ≤ℤ a → z ≤ℤ b → z ≡ int_min a b
@@ -92,7 +92,7 @@ swapped a b false = inl refl
 lesser_one : (a b : ℤ) → NonZero false b → IsTheOne (IsLesser a b) (Ok (number (int_min a b)))
 lesser_one a b n = λ x. (λ h. h.4 ∙ ap (λ z. Ok (number z)) (lesser_is a b h.0 h.1 h.2 h.3), λ e. (int_min a b, swapped a b (int_lt b a), omega (arith, ints, int_min_is a b), omega (arith, ints, int_min_is a b), e))
 
-pub at_most_one : (d e : Datum) → IsTheOne (Steps IsLesser false d e) (at_most d e)
+pub at_most_one : (d e : Datum) → IsTheOne (OperandSteps IsLesser false d e) (at_most d e)
 at_most_one = steps_one IsLesser (λ a b. Ok (number (int_min a b))) false lesser_one
 
 -- ---- the absolute value

@@ -11,7 +11,7 @@ use Rattle.liquid_filter_base.specs.Arguments.{Answer}
 use Rattle.liquid_filter_base.specs.Stands.{Stands}
 use Rattle.liquid_filter_base.proofs.Standing.{none_given, stands}
 use Rattle.liquid_number_filters.specs.Decimals.{is_decimal_text}
-use Rattle.liquid_number_filters.specs.NumberLaws.{AbsoluteOf, Steps, StepsWith}
+use Rattle.liquid_number_filters.specs.NumberLaws.{AbsoluteOf, OperandSteps, StepsWith}
 use Rattle.liquid_number_filters.specs.Numbers.{abs, of_none, of_one}
 use Rattle.liquid_number_filters.specs.Rounding.{round, rounded}
 use Rattle.liquid_number_filters.specs.RoundingLaws.{IsRounded, Rounds}
@@ -19,10 +19,10 @@ use Rattle.liquid_number_filters.specs.declared.stdlib.filters.math.decimal.Roun
 use Rattle.liquid_number_filters.proofs.Operations.{abs_one}
 use Rattle.liquid_number_filters.proofs.RoundingRelation.{round_one, rounded_one}
 
-pub operated : (R : ℤ → ℤ → Answer → Type 0) (divides : Bool) (f : Datum → Datum → Answer) → ((d e : Datum) → IsTheOne (Steps R divides d e) (f d e))
+pub operated : (R : ℤ → ℤ → Answer → Type 0) (divides : Bool) (f : Datum → Datum → Answer) → ((d e : Datum) → IsTheOne (OperandSteps R divides d e) (f d e))
     → (d : Datum) (args : List Datum) (r : Result Value Error) → Answers view r (of_one f d args) → Stands (StepsWith R divides d args) r
-operated R divides f one d [] r h = none_given (λ e rest. Steps R divides d e) r
-operated R divides f one d (e ∷ args) r h = stands (Steps R divides d e) (f d e) r (one d e) h
+operated R divides f one d [] r h = none_given (λ e rest. OperandSteps R divides d e) r
+operated R divides f one d (e ∷ args) r h = stands (OperandSteps R divides d e) (f d e) r (one d e) h
 
 pub absolutes : (d : Datum) (args : List Datum) (r : Result Value Error) → Answers view r (of_none abs d args) → Stands (AbsoluteOf (scalar d) (whole d) (is_decimal_text d)) r
 absolutes d args r = stands (AbsoluteOf (scalar d) (whole d) (is_decimal_text d)) (abs d) r (abs_one d)

@@ -51,33 +51,34 @@ StepsOf R divides true true kind a (Some b) x =
     MatchBool (divides && int_eq b (pos 0)) (x ≡ Err DivideByZero)
     (MatchOption a (x ≡ Err kind) (λ n. R n b x))
 
-abbrev pub Steps : (ℤ → ℤ → Answer → Type 0) → Bool → Datum → Datum → Answer → Type 0
-Steps R divides d e x = StepsOf R divides (scalar d) (scalar e) (unlike d e) (whole d) (whole e) x
+abbrev pub OperandSteps : (ℤ → ℤ → Answer → Type 0) → Bool → Datum → Datum → Answer → Type 0
+OperandSteps R divides d e x = StepsOf R divides (scalar d) (scalar e) (unlike d e) (whole d)
+    (whole e) x
 
 -- with the first argument as the operand, where there is one
 abbrev pub StepsWith : (ℤ → ℤ → Answer → Type 0) → Bool → Datum → List Datum → Answer → Type 0
-StepsWith R divides d = WithFirst (λ e rest. Steps R divides d e)
+StepsWith R divides d = WithFirst (λ e rest. OperandSteps R divides d e)
 
 abbrev pub PlusIsOne : Type 0
-PlusIsOne = (d e : Datum) → IsTheOne (Steps IsSum false d e) (plus d e)
+PlusIsOne = (d e : Datum) → IsTheOne (OperandSteps IsSum false d e) (plus d e)
 
 abbrev pub MinusIsOne : Type 0
-MinusIsOne = (d e : Datum) → IsTheOne (Steps IsDifference false d e) (minus d e)
+MinusIsOne = (d e : Datum) → IsTheOne (OperandSteps IsDifference false d e) (minus d e)
 
 abbrev pub TimesIsOne : Type 0
-TimesIsOne = (d e : Datum) → IsTheOne (Steps IsProduct false d e) (times d e)
+TimesIsOne = (d e : Datum) → IsTheOne (OperandSteps IsProduct false d e) (times d e)
 
 abbrev pub DividedByIsOne : Type 0
-DividedByIsOne = (d e : Datum) → IsTheOne (Steps IsQuotient true d e) (divided_by d e)
+DividedByIsOne = (d e : Datum) → IsTheOne (OperandSteps IsQuotient true d e) (divided_by d e)
 
 abbrev pub ModuloIsOne : Type 0
-ModuloIsOne = (d e : Datum) → IsTheOne (Steps IsRemainder true d e) (modulo d e)
+ModuloIsOne = (d e : Datum) → IsTheOne (OperandSteps IsRemainder true d e) (modulo d e)
 
 abbrev pub AtLeastIsOne : Type 0
-AtLeastIsOne = (d e : Datum) → IsTheOne (Steps IsGreater false d e) (at_least d e)
+AtLeastIsOne = (d e : Datum) → IsTheOne (OperandSteps IsGreater false d e) (at_least d e)
 
 abbrev pub AtMostIsOne : Type 0
-AtMostIsOne = (d e : Datum) → IsTheOne (Steps IsLesser false d e) (at_most d e)
+AtMostIsOne = (d e : Datum) → IsTheOne (OperandSteps IsLesser false d e) (at_most d e)
 
 -- ---- of one whole number: it or its opposite, and not below 0
 abbrev pub AbsoluteOf : Bool → Option ℤ → Bool → Answer → Type 0

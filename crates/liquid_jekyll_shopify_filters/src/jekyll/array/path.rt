@@ -2,7 +2,8 @@
 ghost use Rattle.std.specs.Prelude.{map};
 ghost use Rattle.liquid_model.specs.Answer.{IsValueOrMemory};
 ghost use Rattle.liquid_model.specs.View.{view};
-ghost use Rattle.liquid_jekyll_shopify_filters.specs.Path.{bracketed_at, member_at, path, step_at};
+ghost use Rattle.liquid_jekyll_shopify_filters.specs.Path.{bracketed_at, path_member, path};
+ghost use Rattle.liquid_jekyll_shopify_filters.specs.Path.{path_step};
 ghost use Rattle.liquid_jekyll_shopify_filters.specs.Path.{with_steps};
 ghost use Rattle.liquid_lexer.specs.ValueReading.{literal_at};
 ghost use Rattle.liquid_jekyll_shopify_filters.specs.inside.PathView.{path_view, step_view};
@@ -40,9 +41,9 @@ fn read_steps(alloc: Global, mut steps: Vec<Value>, text: &str) -> Result<Option
 }
 
 /// One step, and what follows it.
-#[tactic(auto, unfolding(crate::specs::Path::step_at))]
+#[tactic(auto, unfolding(crate::specs::Path::path_step))]
 fn read_step(alloc: Global, text: &str) -> Result<Option<(Value, &str)>>
-    ensures { IsValueOrMemory step_view result (step_at text.now) }
+    ensures { IsValueOrMemory step_view result (path_step text.now) }
 {
     if let Some(inside) = past_byte(text, b'[') {
         return read_bracketed(alloc, inside);
@@ -54,9 +55,9 @@ fn read_step(alloc: Global, text: &str) -> Result<Option<(Value, &str)>>
 }
 
 /// The word after a `.`.
-#[tactic(auto, unfolding(crate::specs::Path::member_at))]
+#[tactic(auto, unfolding(crate::specs::Path::path_member))]
 fn read_member(alloc: Global, text: &str) -> Result<Option<(Value, &str)>>
-    ensures { IsValueOrMemory step_view result (member_at text.now) }
+    ensures { IsValueOrMemory step_view result (path_member text.now) }
 {
     match word(text) {
         Some((name, rest)) => Ok(Some((Value::Text(String::from_str(alloc, name)?), rest))),

@@ -10,7 +10,8 @@ ghost use Rattle.liquid_list_filters.specs.Sequences.{list, sequence};
 ghost use Rattle.liquid_list_filters.specs.Sorting.{sort_by};
 ghost use Rattle.liquid_jekyll_shopify_filters.specs.Sorting.{value_or_nil, found_key, nils_given};
 ghost use Rattle.liquid_jekyll_shopify_filters.specs.Sorting.{nils_key, nils_named, path_given};
-ghost use Rattle.liquid_jekyll_shopify_filters.specs.Sorting.{sort_answer, sort_items, sort_maps};
+ghost use Rattle.liquid_jekyll_shopify_filters.specs.Sorting.{jekyll_sort_answer, sort_items};
+ghost use Rattle.liquid_jekyll_shopify_filters.specs.Sorting.{sort_maps};
 
 use super::path::read_path;
 use liquid_core::{Error, ErrorKind, Filter, Result, Value, ValueCow};
@@ -28,7 +29,7 @@ pub struct Sort;
 impl Filter for Sort {
     ghost counts = { λ _ n. nat_le n 2 };
 
-    ghost answer = { λ _. sort_answer };
+    ghost answer = { λ _. jekyll_sort_answer };
 
     fn accepts(&self, count: usize) -> bool {
         count <= 2

@@ -9,7 +9,8 @@ ghost use Rattle.liquid_filter_base.specs.Stands.{Stands, WithFirst};
 ghost use Rattle.liquid_list_filters.specs.Laws.{Compacts, Maps, Uniqs, Wheres};
 ghost use Rattle.liquid_list_filters.specs.Keeping.{compact, compact_of, compact_by};
 ghost use Rattle.liquid_list_filters.specs.Keeping.{compact_answer, is_given, is_wanted, where_of};
-ghost use Rattle.liquid_list_filters.specs.Keeping.{where_by, where_answer, map_of, map_answer};
+ghost use Rattle.liquid_list_filters.specs.Keeping.{where_by, where_answer, mapped_property};
+ghost use Rattle.liquid_list_filters.specs.Keeping.{map_answer};
 ghost use Rattle.liquid_list_filters.specs.Keeping.{uniq, uniq_answer};
 ghost use Rattle.liquid_list_filters.specs.Sequences.{of_list};
 
@@ -234,7 +235,7 @@ fn map_answer(alloc: Global, input: &Value, args: &[Value]) -> Result<Value>
 }
 
 fn mapped(alloc: Global, input: &Value, name: &str) -> Result<Value>
-    ensures { Answers view result (of_list (map_of name.now) (view input.now)) }
+    ensures { Answers view result (of_list (mapped_property name.now) (view input.now)) }
 {
     match input {
         Value::Array(items) => Ok(Value::Array(map_of(alloc, items, name)?)),
@@ -244,7 +245,7 @@ fn mapped(alloc: Global, input: &Value, name: &str) -> Result<Value>
 
 fn map_of(alloc: Global, items: &[Value], name: &str) -> Result<Vec<Value>>
     ensures { IsValueOrMemory (λ v. map view v.items) result
-        (map_of name.now (list_of (items_view items.now))) }
+        (mapped_property name.now (list_of (items_view items.now))) }
 {
     let mut values = Vec::new(alloc);
     for item in items {
