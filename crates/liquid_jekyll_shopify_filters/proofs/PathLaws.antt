@@ -7,7 +7,7 @@ use Rattle.liquid_model.specs.Texts.{Text}
 use Rattle.liquid_model.specs.declared.error.ErrorKind.TheVariants.{InvalidArgument}
 use Rattle.liquid_filter_base.specs.Arguments.{Answer}
 use Rattle.liquid_filter_base.proofs.Ones.{one}
-use Rattle.liquid_lexer.specs.ValueReading.{literal_at, literal_by, number_at, past_byte, quoted_at, word_at}
+use Rattle.liquid_lexer.specs.ValueReading.{literal_at, literal_by, integer_at, past_byte, quoted_at, word_at}
 use Rattle.liquid_lexer.proofs.ValueLaws.{number_no_quote}
 use Rattle.liquid_lexer.proofs.WordLaws.{bind_some, byte_some, from_some, map_some, number_again, number_shorter, number_takes, quoted_again, quoted_shorter, quoted_takes, word_again, word_shorter, word_takes}
 use Rattle.liquid_jekyll_shopify_filters.specs.Laws.{AtPath, PathIsRead}
@@ -19,7 +19,7 @@ use Rattle.liquid_jekyll_shopify_filters.specs.Written.{ArePathSteps, IsLiteral,
 
 literal_takes_by : (bs : List ℕ) (o : Option (List ℕ × List ℕ)) (x : Datum × List ℕ) → quoted_at bs ≡ o → literal_by bs o ≡ Some x → IsLiteral x.0 bs x.1
 literal_takes_by bs (Some s) x e h = subst (λ (x : Datum × List ℕ). IsLiteral x.0 bs x.1) (from_some h) (is_text (quoted_takes bs s e))
-literal_takes_by bs None x e h = let n = map_some (number_at bs) _ x h in subst (λ (x : Datum × List ℕ). IsLiteral x.0 bs x.1) n.2 (is_number (number_takes bs n.0 n.1))
+literal_takes_by bs None x e h = let n = map_some (integer_at bs) _ x h in subst (λ (x : Datum × List ℕ). IsLiteral x.0 bs x.1) n.2 (is_number (number_takes bs n.0 n.1))
 
 literal_takes : (bs : List ℕ) (x : Datum × List ℕ) → literal_at bs ≡ Some x → IsLiteral x.0 bs x.1
 unfolding literal_at

@@ -5,7 +5,7 @@ use Rattle.std.specs.Prelude.{slice_index}
 use Rattle.liquid_model.specs.Data.{Datum, text, number}
 use Rattle.liquid_model.specs.Whole.{whole_text}
 use Rattle.liquid_lexer.specs.Bytes.{is_letter, in_word, not_quote}
-use Rattle.liquid_lexer.specs.ValueReading.{literal_at, literal_by, number_at, number_len, past_byte, quoted_at, run_len, until_quote, word_at}
+use Rattle.liquid_lexer.specs.ValueReading.{literal_at, literal_by, integer_at, number_len, past_byte, quoted_at, run_len, until_quote, word_at}
 use Rattle.liquid_lexer.specs.Words.{passes, goes_on}
 use Rattle.liquid_jekyll_shopify_filters.specs.Path.{bracketed_at, closed, path_member, path_step, path_step_by, steps_in}
 
@@ -58,7 +58,7 @@ number_of false None rest x e = absurd (let u : ⊥ = cc in u)
 number_of false (Some n) rest x e = ap left e
 
 literal_from : (s : List ℕ) (o : Option (List ℕ × List ℕ)) (x : Datum × List ℕ) → quoted_at s ≡ o → literal_by s o ≡ Some x → length x.1 ≤ length s
-unfolding number_at
+unfolding integer_at
 literal_from s None x e f =
     let n = number_len s in
     subst (λ (r : List ℕ). length r ≤ length s) (number_of (passes goes_on (drop n s)) (whole_text (take n s)) (drop n s) x f) (dropped n s)

@@ -3,9 +3,9 @@ use Rattle.std.proofs.Common.{◌≡◌, ℕ, zero, suc, ◌<◌, ◌≤◌, Lis
 use Rattle.std.specs.Option.{option_and_then, option_map, option_or}
 use Rattle.liquid_core.specs.Expression.{Expression}
 use Rattle.liquid_lexer.specs.Words.{Blank}
-use Rattle.liquid_lexer.specs.ValueReading.{past_white, past_byte, value_at, word_at, literal_at, quoted_at, number_at}
+use Rattle.liquid_lexer.specs.ValueReading.{past_white, past_byte, expression_at, word_at, literal_at, quoted_at, integer_at}
 use Rattle.liquid_lexer.specs.Items.{Item, value, range, spelling_of, IsSymbol, IsRange, is_range, mark, dash_if, IsItem, is_symbol, is_interval, is_value, NoCloser, AreItems, closed, item}
-use Rattle.liquid_lexer.specs.ItemReading.{bare_closer_at, closer_by, closer_at, two_bytes, one_byte, long_symbol_at, short_symbol_at, symbol_at, range_at, before, range_or_value, item_by, item_at, ReadItems, items_by, items_at}
+use Rattle.liquid_lexer.specs.ItemReading.{bare_closer_at, closer_by, closer_at, two_bytes, one_byte, long_symbol_at, short_symbol_at, symbol_at, range_at, before, range_or_value, item_by, lexed_item, ReadItems, items_by, items_at}
 use Rattle.liquid_lexer.specs.declared.symbol.Symbol.{Symbol}
 use Rattle.liquid_lexer.specs.declared.symbol.Symbol.TheVariants.{Equals, NotEquals, LessOrGreater, LessThanEquals, GreaterThanEquals, LessThan, GreaterThan, Assign, Colon, Comma, Bar}
 use Rattle.liquid_lexer.specs.declared.item.Delimiter.{Delimiter}
@@ -175,10 +175,10 @@ symbol_shrinks {s} {bs} {rest} h = let e = ap (length {A = ℕ}) h.joined ∙ le
 range_takes : (bs : List ℕ) (x : Item × List ℕ) → range_at bs ≡ Some x → (first : Expression) × (second : Expression) × (x.0 ≡ range first second) × IsRange first second bs x.1
 unfolding range_at
 range_takes bs x h =
-    let a = bind_some (value_at 200 (past_white bs)) _ x h in
+    let a = bind_some (expression_at 200 (past_white bs)) _ x h in
     let b = bind_some (past_byte 46 (past_white a.0.1)) _ x a.2 in
     let c = bind_some (past_byte 46 b.0) _ x b.2 in
-    let d = bind_some (value_at 200 (past_white c.0)) _ x c.2 in
+    let d = bind_some (expression_at 200 (past_white c.0)) _ x c.2 in
     let e = bind_some (past_byte 41 (past_white d.0.1)) _ x d.2 in
     let whole : (range a.0.0 d.0.0, e.0) ≡ x = from_some e.2 in
     let dots : past_white a.0.1 ≡ 46 ∷ 46 ∷ c.0 = byte_some 46 (past_white a.0.1) b.0 b.1 ∙ ap (λ (l : List ℕ). 46 ∷ l) (byte_some 46 b.0 c.0 c.1) in
@@ -222,7 +222,7 @@ range_or_takes bs (Some inside) x e h =
     let r = range_takes inside x h in
     subst (λ (i : Item). IsItem i bs x.1) (sym r.2) (subst (λ (l : List ℕ). IsItem (range r.0 r.1) l x.1) (sym (byte_some 40 bs inside e)) (is_interval r.3))
 range_or_takes bs None x e h =
-    let v = map_some (value_at 200 bs) _ x h in
+    let v = map_some (expression_at 200 bs) _ x h in
     let f = value_at_front 200 bs v.0 v.1 in
     let spelled : before bs v.0.1 ≡ f.0 = ap (λ (l : List ℕ). before l v.0.1) f.1 ∙ before_is f.0 v.0.1 in
     subst (λ (x : Item × List ℕ). IsItem x.0 bs x.1) v.2 (is_value (value_takes 200 bs v.0 v.1) (f.1 ∙ ap (λ (l : List ℕ). l ++ v.0.1) (sym spelled)))
@@ -231,8 +231,8 @@ item_takes_by : (bs : List ℕ) (o : Option (Symbol × List ℕ)) (x : Item × L
 item_takes_by bs (Some y) x e h = subst (λ (x : Item × List ℕ). IsItem x.0 bs x.1) (from_some h) (is_symbol (symbol_takes bs y e))
 item_takes_by bs None x e h = range_or_takes bs (past_byte 40 bs) x refl h
 
-pub item_takes : (bs : List ℕ) (x : Item × List ℕ) → item_at bs ≡ Some x → IsItem x.0 bs x.1
-unfolding item_at
+pub item_takes : (bs : List ℕ) (x : Item × List ℕ) → lexed_item bs ≡ Some x → IsItem x.0 bs x.1
+unfolding lexed_item
 item_takes bs x h = item_takes_by bs (symbol_at bs) x refl h
 
 parenthesis_no_symbol : (inside : List ℕ) → symbol_at (40 ∷ inside) ≡ None
@@ -240,13 +240,13 @@ unfolding long_symbol_at short_symbol_at
 parenthesis_no_symbol inside = refl
 
 -- at the end no item stands
-pub nothing_read : (bs : List ℕ) → length bs ≡ 0 → item_at bs ≡ None
-unfolding item_at long_symbol_at short_symbol_at value_at word_at literal_at quoted_at number_at
+pub nothing_read : (bs : List ℕ) → length bs ≡ 0 → lexed_item bs ≡ None
+unfolding lexed_item long_symbol_at short_symbol_at expression_at word_at literal_at quoted_at integer_at
 nothing_read [] e = refl
 nothing_read (b ∷ bs) e = absurd (omega (arith, e))
 
-pub item_again : {i : Item} {bs rest : List ℕ} → IsItem i bs rest → item_at bs ≡ Some (i, rest)
-unfolding item_at
+pub item_again : {i : Item} {bs rest : List ℕ} → IsItem i bs rest → lexed_item bs ≡ Some (i, rest)
+unfolding lexed_item
 item_again (is_symbol {s = s} {bs = bs} {rest = rest} e) = ap (item_by bs) (symbol_again s bs rest e)
 item_again (is_interval {inside = inside} r) = ap (item_by (40 ∷ inside)) (parenthesis_no_symbol inside) ∙ range_again r
 item_again (is_value {x = x} {spelling = spelling} {bs = bs} {rest = rest} v e) =
@@ -267,7 +267,7 @@ module _ (k : Delimiter) where
       → (bs : List ℕ) (o : Option (Bool × List ℕ)) (x : ReadItems) → closer_at k (past_white bs) ≡ o → items_by k again (past_white bs) o ≡ Some x → AreItems k x.0 x.1 bs x.2
   by_takes again takes bs (Some y) x e h = subst (λ (x : ReadItems). AreItems k x.0 x.1 bs x.2) (from_some h) (closed (blank_takes bs) (closer_takes k (past_white bs) y e))
   by_takes again takes bs None x e h =
-      let v = bind_some (item_at (past_white bs)) _ x h in
+      let v = bind_some (lexed_item (past_white bs)) _ x h in
       let r = map_some (again v.0.1) _ x v.2 in
       subst (λ (x : ReadItems). AreItems k x.0 x.1 bs x.2) r.2 (item (blank_takes bs) (closer_none k (past_white bs) e) (item_takes (past_white bs) v.0 v.1) (takes v.0.1 r.0 r.1))
 
@@ -296,5 +296,5 @@ items_shorter (item b c i is) = omega (arith, blank_shorter b, item_shrinks i, i
 pub white_shorter : (bs : List ℕ) → length (past_white bs) ≤ length bs
 white_shorter bs = blank_shorter (blank_takes bs)
 
-pub turn_shorter : (bs from : List ℕ) (x : Item × List ℕ) → from ≡ past_white bs → item_at from ≡ Some x → length x.1 < length bs
+pub turn_shorter : (bs from : List ℕ) (x : Item × List ℕ) → from ≡ past_white bs → lexed_item from ≡ Some x → length x.1 < length bs
 turn_shorter bs from x e h = omega (arith, item_shrinks (item_takes from x h), white_shorter bs, ap (length {A = ℕ}) e)

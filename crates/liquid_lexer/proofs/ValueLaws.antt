@@ -6,7 +6,7 @@ use Rattle.liquid_core.specs.Expression.{Expression, literal, Steps, step}
 use Rattle.liquid_lexer.specs.Bytes.{is_letter, is_digit, in_word}
 use Rattle.liquid_lexer.specs.Words.{passes, Blank, Word, Quoted, Number}
 use Rattle.liquid_lexer.specs.Values.{WordKind, name, constant, state, word_kind, dotted, step_begins, IsValue, is_text, is_number, is_constant, is_variable, AreSteps, no_step, is_member, is_index}
-use Rattle.liquid_lexer.specs.ValueReading.{Reads, past_white, past_byte, word_at, quoted_at, number_at, literal_by, literal_at, member_at, index_at, step_by, step_at, more_steps, steps_at, named_by, value_by, value_at, inner_of}
+use Rattle.liquid_lexer.specs.ValueReading.{Reads, past_white, past_byte, word_at, quoted_at, integer_at, literal_by, literal_at, member_at, index_at, step_by, step_at, more_steps, steps_at, word_value, value_by, expression_at, inner_of}
 use Rattle.liquid_lexer.proofs.WordLaws.{opens_value, bind_some, map_some, guard_none, from_some, blank_takes, blank_again, word_takes, word_again, quoted_takes, quoted_again, number_takes, number_again, number_front, byte_some, blank_shorter, word_shorter, quoted_shorter, number_shorter, either}
 use Rattle.std.proofs.lemmas.List.{length-append}
 use Rattle.std.proofs.lemmas.Bool.{eqb-true, ne_eqb, or_left, or_right, or_from, or_parts, false_from_ne_true}
@@ -99,13 +99,13 @@ module _ (d : ℕ) (inner : Reads Expression) (inner_takes : (bs : List ℕ) (x 
 
   literal_takes_by : (bs : List ℕ) (o : Option (List ℕ × List ℕ)) (x : Datum × List ℕ) → quoted_at bs ≡ o → literal_by bs o ≡ Some x → IsValue d (literal x.0) bs x.1
   literal_takes_by bs (Some s) x e h = subst (λ (x : Datum × List ℕ). IsValue d (literal x.0) bs x.1) (from_some h) (is_text (quoted_takes bs s e))
-  literal_takes_by bs None x e h = let n = map_some (number_at bs) _ x h in subst (λ (x : Datum × List ℕ). IsValue d (literal x.0) bs x.1) n.2 (is_number (number_takes bs n.0 n.1))
+  literal_takes_by bs None x e h = let n = map_some (integer_at bs) _ x h in subst (λ (x : Datum × List ℕ). IsValue d (literal x.0) bs x.1) n.2 (is_number (number_takes bs n.0 n.1))
 
   literal_takes : (bs : List ℕ) (x : Datum × List ℕ) → literal_at bs ≡ Some x → IsValue d (literal x.0) bs x.1
   unfolding literal_at
   literal_takes bs x h = literal_takes_by bs (quoted_at bs) x refl h
 
-  named_takes : (w bs rest : List ℕ) (k : WordKind) (x : Expression × List ℕ) → Word w bs rest → word_kind w ≡ k → named_by inner w rest k ≡ Some x → IsValue d x.0 bs x.1
+  named_takes : (w bs rest : List ℕ) (k : WordKind) (x : Expression × List ℕ) → Word w bs rest → word_kind w ≡ k → word_value inner w rest k ≡ Some x → IsValue d x.0 bs x.1
   named_takes w bs rest name x o e h =
       let s = map_some (steps_at inner (length rest) rest) _ x h in
       subst (λ (x : Expression × List ℕ). IsValue d x.0 bs x.1) s.2 (is_variable o e (steps_takes (length rest) rest s.0 s.1))
@@ -125,8 +125,8 @@ unfolding inner_of Inside
 inner_takes zero bs x h = absurd cc
 inner_takes (suc d) bs x h = value_by_takes d (inner_of d) (inner_takes d) bs (word_at bs) x refl h
 
-pub value_takes : (d : ℕ) (bs : List ℕ) (x : Expression × List ℕ) → value_at d bs ≡ Some x → IsValue d x.0 bs x.1
-unfolding value_at
+pub value_takes : (d : ℕ) (bs : List ℕ) (x : Expression × List ℕ) → expression_at d bs ≡ Some x → IsValue d x.0 bs x.1
+unfolding expression_at
 value_takes d bs x h = value_by_takes d (inner_of d) (inner_takes d) bs (word_at bs) x refl h
 
 -- ---- values: what stands in the grammar is read
@@ -187,9 +187,9 @@ number_no_quote n (b ∷ bs) rest h =
     rw (ne_eqb b 34 (λ e. omega (arith, e, r.0)), ne_eqb b 39 (λ e. omega (arith, e, r.0)))
 
 mutual
-  unfolding steps_at inner_of value_at literal_at
+  unfolding steps_at inner_of expression_at literal_at
 
-  pub value_again : {d : ℕ} {x : Expression} {bs rest : List ℕ} → IsValue d x bs rest → value_at d bs ≡ Some (x, rest)
+  pub value_again : {d : ℕ} {x : Expression} {bs rest : List ℕ} → IsValue d x bs rest → expression_at d bs ≡ Some (x, rest)
   value_again (is_text q) = rw (no_word _ _ _ q, quoted_again _ _ _ q)
   value_again (is_number n) = rw (number_no_word _ _ _ n, number_no_quote _ _ _ n, number_again _ _ _ n)
   value_again (is_constant w k e) = rw (word_again _ _ _ w, k, e)
@@ -208,8 +208,8 @@ pub step_shorter : (d : ℕ) (bs : List ℕ) (v : Expression × List ℕ) → st
 unfolding Stepped
 step_shorter d bs v h = (step_takes d (inner_of d) (inner_takes d) bs (Some v) h).1
 
-pub inner_is : (d : ℕ) (bs : List ℕ) → 0 < d → inner_of d bs ≡ value_at (d - 1) bs
-unfolding inner_of value_at
+pub inner_is : (d : ℕ) (bs : List ℕ) → 0 < d → inner_of d bs ≡ expression_at (d - 1) bs
+unfolding inner_of expression_at
 inner_is zero bs h = absurd (omega arith)
 inner_is (suc d) bs h = ap (λ k. value_by (inner_of k) bs (word_at bs)) (omega arith)
 
@@ -297,6 +297,6 @@ mutual
       front_cons 91 inside rest (front_join inside from rest (front_of a.blank inside from a.joined) (front_join from until rest (value_front v)
       (front_join until (93 ∷ after) rest (front_of b.blank until (93 ∷ after) b.joined) (front_cons 93 after rest (steps_front ss)))))
 
-pub value_at_front : (d : ℕ) (bs : List ℕ) (x : Expression × List ℕ) → value_at d bs ≡ Some x → (front : List ℕ) × (bs ≡ front ++ x.1)
+pub value_at_front : (d : ℕ) (bs : List ℕ) (x : Expression × List ℕ) → expression_at d bs ≡ Some x → (front : List ℕ) × (bs ≡ front ++ x.1)
 unfolding Front
 value_at_front d bs x h = value_front (value_takes d bs x h)

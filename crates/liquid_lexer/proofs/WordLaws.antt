@@ -5,7 +5,7 @@ use Rattle.std.specs.Str.{all_ascii_digits}
 use Rattle.liquid_model.specs.Whole.{whole_text, is_whole_text}
 use Rattle.liquid_lexer.specs.Bytes.{is_white, is_letter, is_digit, in_word, not_quote}
 use Rattle.liquid_lexer.specs.Words.{passes, IsRun, Blank, Word, Quoted, Number, goes_on}
-use Rattle.liquid_lexer.specs.ValueReading.{run_len, past_white, past_byte, word_at, until_quote, quoted_at, number_at, number_len, with_sign}
+use Rattle.liquid_lexer.specs.ValueReading.{run_len, past_white, past_byte, word_at, until_quote, quoted_at, integer_at, number_len, with_sign}
 use Rattle.std.proofs.lemmas.List.{take-append-drop, length-append}
 use Rattle.std.proofs.Math.Seq.{take-append_seam, drop-append_seam}
 use Rattle.std.proofs.lemmas.Bool.{eqb-true, eq-eqb, and_parts, or_left, or_right}
@@ -134,8 +134,8 @@ pub guard_none : {A : Type 0} (b : Bool) (o : Option A) (y : A) → cond b None 
 guard_none true o y h = absurd cc
 guard_none false o y h = (refl, h)
 
-pub number_takes : (bs : List ℕ) (x : ℤ × List ℕ) → number_at bs ≡ Some x → Number x.0 bs x.1
-unfolding number_at
+pub number_takes : (bs : List ℕ) (x : ℤ × List ℕ) → integer_at bs ≡ Some x → Number x.0 bs x.1
+unfolding integer_at
 number_takes bs x h =
     let g = guard_none (passes goes_on (drop (number_len bs) bs)) _ x h in
     let m = map_some (whole_text (take (number_len bs) bs)) _ x g.1 in
@@ -177,8 +177,8 @@ no_digit (b ∷ bs) h = first_false (is_digit b bs) _ h
 pub is_whole : (s : List ℕ) (n : ℤ) → whole_text s ≡ Some n → is_whole_text s ≡ true
 is_whole s n h = (and_parts (is_whole_text s) _ (cond_some _ _ n h).0).0
 
-pub number_again : (n : ℤ) (bs rest : List ℕ) → Number n bs rest → number_at bs ≡ Some (n, rest)
-unfolding number_at
+pub number_again : (n : ℤ) (bs rest : List ℕ) → Number n bs rest → integer_at bs ≡ Some (n, rest)
+unfolding integer_at
 number_again n bs rest h =
     rw (h.joined, spelling_len h.spelling rest (is_whole h.spelling n h.whole) (no_digit rest h.ends), take-append_seam, drop-append_seam, h.ends, h.whole)
 

@@ -5,7 +5,7 @@ use Rattle.std.specs.Option.{option_and_then, option_map, option_or}
 use Rattle.liquid_lexer.specs.Bytes.{bar, close_brace, close_parenthesis, colon, comma, dash, dot}
 use Rattle.liquid_lexer.specs.Bytes.{equals_sign, exclamation_mark, greater_sign, less_sign}
 use Rattle.liquid_lexer.specs.Bytes.{open_parenthesis}
-use Rattle.liquid_lexer.specs.ValueReading.{◌>>=◌, Reads, past_white, past_byte, value_at}
+use Rattle.liquid_lexer.specs.ValueReading.{◌>>=◌, Reads, past_white, past_byte, expression_at}
 use Rattle.liquid_lexer.specs.Items.{Item, value, range, symbol, mark}
 use Rattle.liquid_lexer.specs.declared.symbol.Symbol.{Symbol}
 use Rattle.liquid_lexer.specs.declared.symbol.Symbol.TheVariants.{Equals, NotEquals, LessOrGreater}
@@ -41,10 +41,10 @@ symbol_at bs = option_or (long_symbol_at bs) (short_symbol_at bs)
 -- after the `(` of a range
 unfoldable pub range_at : Reads Item
 range_at bs = do
-  first ← value_at 200 (past_white bs)
+  first ← expression_at 200 (past_white bs)
   one ← past_byte dot (past_white first.1)
   after ← past_byte dot one
-  second ← value_at 200 (past_white after)
+  second ← expression_at 200 (past_white after)
   rest ← past_byte close_parenthesis (past_white second.1)
   Some (range first.0 second.0, rest)
 
@@ -54,14 +54,14 @@ before bs rest = take (length bs - length rest) bs
 
 abbrev pub range_or_value : List ℕ → Option (List ℕ) → Option (Item × List ℕ)
 range_or_value bs (Some inside) = range_at inside
-range_or_value bs None = option_map (λ v. (value v.0 (before bs v.1), v.1)) (value_at 200 bs)
+range_or_value bs None = option_map (λ v. (value v.0 (before bs v.1), v.1)) (expression_at 200 bs)
 
 abbrev pub item_by : List ℕ → Option (Symbol × List ℕ) → Option (Item × List ℕ)
 item_by bs (Some s) = Some (symbol s.0, s.1)
 item_by bs None = range_or_value bs (past_byte open_parenthesis bs)
 
-unfoldable pub item_at : Reads Item
-item_at bs = item_by bs (symbol_at bs)
+unfoldable pub lexed_item : Reads Item
+lexed_item bs = item_by bs (symbol_at bs)
 
 abbrev pub bare_closer_at : Delimiter → List ℕ → Option (List ℕ)
 bare_closer_at k bs = option_and_then (past_byte close_brace) (past_byte (mark k) bs)
@@ -83,7 +83,7 @@ module _ (k : Delimiter) where
       Option ReadItems
   items_by again bs (Some x) = Some ([], x.0, x.1)
   items_by again bs None =
-      option_and_then (λ i. option_map (λ r. (i.0 ∷ r.0, r.1, r.2)) (again i.1)) (item_at bs)
+      option_and_then (λ i. option_map (λ r. (i.0 ∷ r.0, r.1, r.2)) (again i.1)) (lexed_item bs)
 
   unfoldable pub items_at : ℕ → List ℕ → Option ReadItems
   items_at zero bs = items_by (λ bs. None) (past_white bs) (closer_at k (past_white bs))

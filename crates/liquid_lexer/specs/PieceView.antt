@@ -31,13 +31,13 @@ item_view (item.Value x s) = items.value (expression_view x) s.now
 item_view (item.Range x y) = items.range (expression_view x) (expression_view y)
 item_view (item.Symbol s) = items.symbol s
 
-abbrev pub items_view : List Item → List items.Item
-items_view is = map item_view is
+abbrev pub lexed_items_view : List Item → List items.Item
+lexed_items_view is = map item_view is
 
 -- none is seen as a text: the code cuts texts off apart from what stands between them
 abbrev pub piece_view : Piece → pieces.Piece
-piece_view (piece.Output is) = pieces.output (items_view is.items)
-piece_view (piece.Tag w is) = pieces.tag w.now (items_view is.items)
+piece_view (piece.Output is) = pieces.output (lexed_items_view is.items)
+piece_view (piece.Tag w is) = pieces.tag w.now (lexed_items_view is.items)
 piece_view (piece.Raw w t) = pieces.raw w.now t.now
 piece_view (piece.Comment w) = pieces.comment w.now
 

@@ -3,7 +3,7 @@
 use Rattle.std.specs.Prelude.{◌≡◌, ℕ, List, Bool, false, codes, length, Option, Some}
 use Rattle.liquid_core.specs.Expression.{Expression}
 use Rattle.liquid_lexer.specs.Values.{IsValue}
-use Rattle.liquid_lexer.specs.ValueReading.{value_at}
+use Rattle.liquid_lexer.specs.ValueReading.{expression_at}
 use Rattle.liquid_lexer.specs.Items.{Item, AreItems}
 use Rattle.liquid_lexer.specs.ItemReading.{items_at}
 use Rattle.liquid_lexer.specs.Verbatim.{IsRaw, IsComment}
@@ -16,12 +16,12 @@ use Rattle.liquid_lexer.specs.declared.piece.Body.{Body}
 -- ---- values, with brackets at most so deep
 
 abbrev pub ReadValueStands : Type 0
-ReadValueStands = (depth : ℕ) (bs rest : List ℕ) (x : Expression) → value_at depth bs ≡
+ReadValueStands = (depth : ℕ) (bs rest : List ℕ) (x : Expression) → expression_at depth bs ≡
     Some (x, rest) → IsValue depth x bs rest
 
 abbrev pub StandingValueIsRead : Type 0
 StandingValueIsRead = (depth : ℕ) (bs rest : List ℕ) (x : Expression) → IsValue depth x bs rest →
-    value_at depth bs ≡ Some (x, rest)
+    expression_at depth bs ≡ Some (x, rest)
 
 -- ---- the items up to a closer
 

@@ -30,18 +30,18 @@ abbrev pub tokens_view : List Item → List Token
 tokens_view is = map (λ i. token_of (item_view i)) is
 
 -- the number of a symbol among all
-abbrev pub number_of : Symbol → ℕ
-number_of Equals = 0
-number_of NotEquals = 1
-number_of LessOrGreater = 2
-number_of LessThanEquals = 3
-number_of GreaterThanEquals = 4
-number_of LessThan = 5
-number_of GreaterThan = 6
-number_of Assign = 7
-number_of Colon = 8
-number_of Comma = 9
-number_of Bar = 10
+abbrev pub symbol_number : Symbol → ℕ
+symbol_number Equals = 0
+symbol_number NotEquals = 1
+symbol_number LessOrGreater = 2
+symbol_number LessThanEquals = 3
+symbol_number GreaterThanEquals = 4
+symbol_number LessThan = 5
+symbol_number GreaterThan = 6
+symbol_number Assign = 7
+symbol_number Colon = 8
+symbol_number Comma = 9
+symbol_number Bar = 10
 
 -- a word: a variable without steps
 abbrev pub word : Text → Token
@@ -75,7 +75,7 @@ word_first ts = option_and_then (λ x. option_map (λ w. (w, x.1)) (word_in x.0)
 
 -- whether two symbols are the same
 abbrev pub same_symbol : Symbol → Symbol → Bool
-same_symbol s t = nat_eq (number_of s) (number_of t)
+same_symbol s t = nat_eq (symbol_number s) (symbol_number t)
 
 abbrev pub is_symbol : Symbol → Token → Bool
 is_symbol s (symbol t) = same_symbol s t

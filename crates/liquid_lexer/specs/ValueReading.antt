@@ -63,12 +63,12 @@ number_len bs = with_sign (sign_len bs) (run_len is_digit (drop (sign_len bs) bs
 abbrev pub number_by : List ℕ → List ℕ → Option (ℤ × List ℕ)
 number_by s rest = if passes goes_on rest then None else option_map (λ n. (n, rest)) (whole_text s)
 
-unfoldable pub number_at : Reads ℤ
-number_at bs = number_by (take (number_len bs) bs) (drop (number_len bs) bs)
+unfoldable pub integer_at : Reads ℤ
+integer_at bs = number_by (take (number_len bs) bs) (drop (number_len bs) bs)
 
 abbrev pub literal_by : List ℕ → Option (List ℕ × List ℕ) → Option (Datum × List ℕ)
 literal_by bs (Some s) = Some (text s.0, s.1)
-literal_by bs None = option_map (λ n. (number n.0, n.1)) (number_at bs)
+literal_by bs None = option_map (λ n. (number n.0, n.1)) (integer_at bs)
 
 -- a text in quotes, or a number
 unfoldable pub literal_at : Reads Datum
@@ -105,14 +105,14 @@ module _ (inner : Reads Expression) where
   steps_at (suc n) bs = step_at bs >>= more_steps (steps_at n) bs
 
   -- a value that opens by a word
-  abbrev pub named_by : List ℕ → List ℕ → WordKind → Option (Expression × List ℕ)
-  named_by w rest name = option_map (λ steps. (variable w steps.0, steps.1))
+  abbrev pub word_value : List ℕ → List ℕ → WordKind → Option (Expression × List ℕ)
+  word_value w rest name = option_map (λ steps. (variable w steps.0, steps.1))
       (steps_at (length rest) rest)
-  named_by w rest (constant v) = if dotted rest then None else Some (literal v, rest)
-  named_by w rest state = None
+  word_value w rest (constant v) = if dotted rest then None else Some (literal v, rest)
+  word_value w rest state = None
 
   abbrev pub value_by : List ℕ → Option (List ℕ × List ℕ) → Option (Expression × List ℕ)
-  value_by bs (Some w) = named_by w.0 w.1 (word_kind w.0)
+  value_by bs (Some w) = word_value w.0 w.1 (word_kind w.0)
   value_by bs None = option_map (λ v. (literal v.0, v.1)) (literal_at bs)
 
 -- what may stand between brackets, of which no more than the number nest
@@ -121,8 +121,8 @@ inner_of zero bs = None
 inner_of (suc depth) bs = value_by (inner_of depth) bs (word_at bs)
 
 -- the brackets nested no deeper than the number
-unfoldable pub value_at : ℕ → Reads Expression
-value_at depth bs = value_by (inner_of depth) bs (word_at bs)
+unfoldable pub expression_at : ℕ → Reads Expression
+expression_at depth bs = value_by (inner_of depth) bs (word_at bs)
 
 -- the text up to the leftmost opener
 abbrev pub text_at : List ℕ → List ℕ × List ℕ

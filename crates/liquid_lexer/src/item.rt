@@ -2,10 +2,10 @@
 ghost use Rattle.std.specs.Prelude.{◌≡◌, ◌≤◌, length};
 ghost use Rattle.std.specs.Option.{option_map};
 ghost use Rattle.liquid_lexer.specs.Items.{mark};
-ghost use Rattle.liquid_lexer.specs.ItemReading.{range_at, item_at, bare_closer_at, closer_at};
+ghost use Rattle.liquid_lexer.specs.ItemReading.{range_at, lexed_item, bare_closer_at, closer_at};
 ghost use Rattle.liquid_lexer.specs.ItemReading.{items_at};
 ghost use Rattle.liquid_lexer.specs.Readers.{Parses};
-ghost use Rattle.liquid_lexer.specs.PieceView.{item_view, items_view};
+ghost use Rattle.liquid_lexer.specs.PieceView.{item_view, lexed_items_view};
 
 use crate::cut::{before, past_byte, past_white};
 use crate::expectation::Expectation;
@@ -61,9 +61,9 @@ fn read_range(alloc: Global, text: &str) -> Result<(Item, &str), ParseError>
 }
 
 /// The item at the front, and what follows it.
-#[tactic(auto, unfolding(crate::specs::ItemReading::item_at))]
+#[tactic(auto, unfolding(crate::specs::ItemReading::lexed_item))]
 pub(crate) fn read_item<'s>(alloc: Global, text: &'s str) -> Result<(Item<'s>, &'s str), ParseError>
-    ensures { Parses (λ x. (item_view x.0, x.1.now)) result (item_at text.now) }
+    ensures { Parses (λ x. (item_view x.0, x.1.now)) result (lexed_item text.now) }
 {
     if let Some((symbol, rest)) = read_symbol(text) {
         return Ok((Item::Symbol(symbol), rest));
@@ -117,7 +117,7 @@ pub fn read_items<'s>(
     text: &'s str,
     kind: Delimiter,
 ) -> Result<(VecDeque<Item<'s>>, bool, &'s str), ParseError>
-    ensures { Parses (λ x. (items_view x.0.items, x.1, x.2.now)) result
+    ensures { Parses (λ x. (lexed_items_view x.0.items, x.1, x.2.now)) result
         (items_at kind (length text.now) text.now) }
 {
     let mut items = VecDeque::new(alloc);

@@ -5,7 +5,7 @@ ghost use Rattle.liquid_core.specs.ExpressionView.{steps_view};
 ghost use Rattle.liquid_model.specs.Whole.{whole_text};
 ghost use Rattle.liquid_lexer.specs.inside.ValueFaults.{number_fault, value_fault};
 ghost use Rattle.liquid_lexer.specs.Values.{word_kind};
-ghost use Rattle.liquid_lexer.specs.ValueReading.{literal_at, named_by, inner_of, value_at};
+ghost use Rattle.liquid_lexer.specs.ValueReading.{literal_at, word_value, inner_of, expression_at};
 ghost use Rattle.liquid_lexer.specs.ValueReading.{step_at, steps_at};
 ghost use Rattle.liquid_lexer.specs.Readers.{Parses};
 ghost use Rattle.liquid_lexer.specs.PieceView.{word_kind_view, read_view};
@@ -94,9 +94,9 @@ fn read_literal(alloc: Global, text: &str) -> Result<(Value, &str), ParseError>
 
 /// The value at the front, and what follows it. Brackets nest at most `depth` deep.
 #[cycle(read_value)]
-#[tactic(auto, unfolding(crate::specs::ValueReading::value_at))]
+#[tactic(auto, unfolding(crate::specs::ValueReading::expression_at))]
 pub fn read_value(alloc: Global, text: &str, depth: usize) -> Result<(Expression, &str), ParseError>
-    ensures { Parses read_view result (value_at depth text.now) }
+    ensures { Parses read_view result (expression_at depth text.now) }
 {
     if let Some((name, rest)) = word(text) {
         return read_named(alloc, text, name, rest, depth);
@@ -114,7 +114,7 @@ fn read_named<'s>(
     rest: &'s str,
     depth: usize,
 ) -> Result<(Expression, &'s str), ParseError>
-    ensures { Parses read_view result (named_by (inner_of depth) name.now rest.now
+    ensures { Parses read_view result (word_value (inner_of depth) name.now rest.now
         (word_kind name.now)) }
 {
     match word_kind(name) {

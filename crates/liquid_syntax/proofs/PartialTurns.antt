@@ -7,7 +7,7 @@ use Rattle.liquid_core.specs.ExpressionView.{expression_view}
 use Rattle.liquid_model.specs.Texts.{Text}
 use Rattle.liquid_lexer.specs.Readers.{Fails}
 use Rattle.liquid_lexer.specs.Tokens.{Token, tokens_view, value_first}
-use Rattle.liquid_lexer.specs.PieceView.{items_view}
+use Rattle.liquid_lexer.specs.PieceView.{lexed_items_view}
 use Rattle.liquid_lexer.proofs.Seen.{seen_tokens}
 use Rattle.liquid_lexer.specs.declared.item.Item.{Item}
 use Rattle.liquid_lexer.specs.declared.item.Item.TheVariants.{Value, Range, Symbol}
@@ -39,8 +39,8 @@ nothing_read bs (Some qs) h = absurd cc
 pub pairs_alone : (bs : List Binding) (o : Option Bindings) (ps : Bindings) → bs ≡ [] → option_map (λ qs. bindings_view bs ++ qs) o ≡ Some ps → o ≡ Some ps
 pairs_alone bs o ps none h = unmapped o ps (subst (λ (bs : List Binding). option_map (λ qs. bindings_view bs ++ qs) o ≡ Some ps) none h)
 
-jekyll_named : (is : List Item) (us : List Token) (x : Expression) (s : Text) → Some (x, us) ≡ value_first (tokens_view is) → Some s ≡ first_spelling (items_view is)
-    → jekyll_of (items_view is) ≡ option_map (λ ps. (spelled_name x s, ps)) (bound_pairs JekyllInclude us)
+jekyll_named : (is : List Item) (us : List Token) (x : Expression) (s : Text) → Some (x, us) ≡ value_first (tokens_view is) → Some s ≡ first_spelling (lexed_items_view is)
+    → jekyll_of (lexed_items_view is) ≡ option_map (λ ps. (spelled_name x s, ps)) (bound_pairs JekyllInclude us)
 jekyll_named [] us x s front spelled = absurd cc
 jekyll_named (Value y t ∷ is) us x s front spelled =
     let said : t.now ≡ s = cc in
@@ -51,18 +51,18 @@ jekyll_named (Value y t ∷ is) us x s front spelled =
 jekyll_named (Range y z ∷ is) us x s front spelled = absurd cc
 jekyll_named (Symbol t ∷ is) us x s front spelled = absurd cc
 
-pub jekyll_stuck : (is : List Item) → None ≡ first_spelling (items_view is) → jekyll_of (items_view is) ≡ None
+pub jekyll_stuck : (is : List Item) → None ≡ first_spelling (lexed_items_view is) → jekyll_of (lexed_items_view is) ≡ None
 jekyll_stuck [] none = refl
 jekyll_stuck (Value y t ∷ is) none = absurd cc
 jekyll_stuck (Range y z ∷ is) none = refl
 jekyll_stuck (Symbol t ∷ is) none = refl
 
 -- behind the name
-module _ (is : List Item) (us : List Token) (x : Expression) (s : Text) (front : Some (x, us) ≡ value_first (tokens_view is)) (spelled : Some s ≡ first_spelling (items_view is)) where
-  pub jekyll_read : (w : Text) (ps : Bindings) → w ≡ spelled_name x s → bound_pairs JekyllInclude us ≡ Some ps → jekyll_of (items_view is) ≡ Some (w, ps)
+module _ (is : List Item) (us : List Token) (x : Expression) (s : Text) (front : Some (x, us) ≡ value_first (tokens_view is)) (spelled : Some s ≡ first_spelling (lexed_items_view is)) where
+  pub jekyll_read : (w : Text) (ps : Bindings) → w ≡ spelled_name x s → bound_pairs JekyllInclude us ≡ Some ps → jekyll_of (lexed_items_view is) ≡ Some (w, ps)
   jekyll_read w ps named read =
       jekyll_named is us x s front spelled ∙ ap (λ (o : Option Bindings). option_map (λ ps. (spelled_name x s, ps)) o) read ∙ ap (λ (w : Text). Some (w, ps)) (sym named)
 
-  pub jekyll_refused : (bs : List Binding) (e : ParseError) → bs ≡ [] → Fails e (option_map (λ qs. bindings_view bs ++ qs) (bound_pairs JekyllInclude us)) → Fails e (jekyll_of (items_view is))
+  pub jekyll_refused : (bs : List Binding) (e : ParseError) → bs ≡ [] → Fails e (option_map (λ qs. bindings_view bs ++ qs) (bound_pairs JekyllInclude us)) → Fails e (jekyll_of (lexed_items_view is))
   jekyll_refused bs errors.Memory none h = tt
   jekyll_refused bs (errors.Fault f) none h = jekyll_named is us x s front spelled ∙ ap (option_map (λ ps. (spelled_name x s, ps))) (nothing_read bs (bound_pairs JekyllInclude us) h)

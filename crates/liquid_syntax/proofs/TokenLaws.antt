@@ -5,7 +5,7 @@ use Rattle.std.proofs.Common.{length-append}
 use Rattle.std.proofs.lemmas.Option.{cond_some}
 use Rattle.liquid_core.specs.Expression.{Expression}
 use Rattle.liquid_model.specs.Texts.{Text}
-use Rattle.liquid_lexer.specs.Tokens.{Token, value, range, symbol, word, number_of, is_symbol, past, past_word, is_word, value_first}
+use Rattle.liquid_lexer.specs.Tokens.{Token, value, range, symbol, word, symbol_number, is_symbol, past, past_word, is_word, value_first}
 use Rattle.liquid_lexer.specs.declared.symbol.Symbol.{Symbol}
 use Rattle.liquid_lexer.specs.declared.symbol.Symbol.TheVariants.{Equals, NotEquals, LessOrGreater, LessThanEquals, GreaterThanEquals, LessThan, GreaterThan, Assign, Colon, Comma, Bar}
 use Rattle.liquid_lexer.proofs.WordLaws.{from_some}
@@ -15,7 +15,7 @@ use Rattle.liquid_syntax.proofs.ConditionLaws.{word_is}
 at_place : ℕ → Symbol
 at_place n = get_or (Equals ∷ NotEquals ∷ LessOrGreater ∷ LessThanEquals ∷ GreaterThanEquals ∷ LessThan ∷ GreaterThan ∷ Assign ∷ Colon ∷ Comma ∷ Bar ∷ []) n Bar
 
-placed : (s : Symbol) → at_place (number_of s) ≡ s
+placed : (s : Symbol) → at_place (symbol_number s) ≡ s
 unfolding at_place
 placed Equals = refl
 placed NotEquals = refl
@@ -35,7 +35,7 @@ same_number n m h = grind (arith, nat_tests)
 pub symbol_is : (s : Symbol) (t : Token) → is_symbol s t ≡ true → t ≡ symbol s
 symbol_is s (value x) h = absurd cc
 symbol_is s (range x y) h = absurd cc
-symbol_is s (symbol u) h = ap (λ (u : Symbol). symbol u) (sym (placed u) ∙ ap at_place (sym (same_number (number_of s) (number_of u) h)) ∙ placed s)
+symbol_is s (symbol u) h = ap (λ (u : Symbol). symbol u) (sym (placed u) ∙ ap at_place (sym (same_number (symbol_number s) (symbol_number u) h)) ∙ placed s)
 
 pub symbol_again : (s : Symbol) → is_symbol s (symbol s) ≡ true
 symbol_again Equals = refl

@@ -1,7 +1,7 @@
 //! What a piece is, where it stands: the statement of an output or a tag, by the language and by
 //! its items.
 ghost use Rattle.std.specs.Prelude.{◌≡◌, length};
-ghost use Rattle.liquid_lexer.specs.PieceView.{items_view, piece_view};
+ghost use Rattle.liquid_lexer.specs.PieceView.{lexed_items_view, piece_view};
 ghost use Rattle.liquid_lexer.specs.Readers.{IsAt, IsOfKind};
 ghost use Rattle.liquid_lexer.specs.Tokens.{tokens_view};
 ghost use Rattle.liquid_syntax.specs.Faults.{FaultsAs, FaultsAt};
@@ -102,7 +102,7 @@ fn read_tag(
     items: VecDeque<Item<'_>>,
     at: &str,
 ) -> Result<Statement, ParseError>
-    ensures statement { Classifies (tag_statement language.now (items_view items.entry.items)
+    ensures statement { Classifies (tag_statement language.now (lexed_items_view items.entry.items)
         (tokens_view items.entry.items) (role_of language.now context name.now)) result }
     ensures place { FaultsAt (length at.now) result }
 {

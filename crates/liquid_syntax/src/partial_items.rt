@@ -1,7 +1,7 @@
 //! Tags that run a partial, read from the items of a piece.
 ghost use Rattle.std.specs.Prelude.{◌≡◌, [], ◌∷◌, IfOk, length, option_map, string_bytes};
 ghost use Rattle.liquid_core.specs.ExpressionView.{expression_view};
-ghost use Rattle.liquid_lexer.specs.PieceView.{item_view, items_view};
+ghost use Rattle.liquid_lexer.specs.PieceView.{item_view, lexed_items_view};
 ghost use Rattle.liquid_lexer.specs.Readers.{Parses};
 ghost use Rattle.liquid_lexer.specs.Tokens.{tokens_view, value_first};
 ghost use Rattle.liquid_syntax.specs.Faults.{FaultsAs, FaultsAt};
@@ -216,7 +216,7 @@ pub(crate) fn read_jekyll_include(
     at: &str,
 ) -> Result<Statement, ParseError>
     ensures statement { Classifies
-        (leaf_or (option_map jekyll_node (jekyll_of (items_view items.entry.items))))
+        (leaf_or (option_map jekyll_node (jekyll_of (lexed_items_view items.entry.items))))
         result }
     ensures kind { FaultsAs FaultKind.Expected result }
     ensures place { FaultsAt (length at.now) result }
@@ -235,7 +235,7 @@ fn next_spelled<'s>(items: &mut VecDeque<Item<'s>>) -> Option<(Expression, &'s s
     ensures value { option_map (λ x. (expression_view x.0, tokens_view items.new.items)) result ≡
         value_first (tokens_view items.old.items) }
     ensures spelling { option_map (λ x. x.1.now) result ≡
-        first_spelling (items_view items.old.items) }
+        first_spelling (lexed_items_view items.old.items) }
 {
     let spelling = spelling_of(items.front()?)?;
     Some((next_value(items)?, spelling))

@@ -1,6 +1,6 @@
 //! Tags that are nodes without bodies, by their items.
 ghost use Rattle.std.specs.Prelude.{length};
-ghost use Rattle.liquid_lexer.specs.PieceView.{items_view};
+ghost use Rattle.liquid_lexer.specs.PieceView.{lexed_items_view};
 ghost use Rattle.liquid_lexer.specs.Tokens.{tokens_view};
 ghost use Rattle.liquid_syntax.specs.Faults.{FaultsAt};
 ghost use Rattle.liquid_syntax.specs.inside.Classifies.{Classifies};
@@ -24,7 +24,7 @@ pub(super) fn read_leaf(
     items: VecDeque<Item<'_>>,
     at: &str,
 ) -> Result<Statement, ParseError>
-    ensures statement { Classifies (leaf_statement language.now (items_view items.entry.items)
+    ensures statement { Classifies (leaf_statement language.now (lexed_items_view items.entry.items)
         (tokens_view items.entry.items) kind) result }
     ensures place { FaultsAt (length at.now) result }
 {

@@ -1,5 +1,5 @@
 use Rattle.std.proofs.Common.{rules, ◌≡◌, length, ℕ, ◌-◌, List, [], ◌∷◌, ◌++◌, Some, map, sym, ap, ◌∙◌, arith}
-use Rattle.liquid_lexer.specs.ValueReading.{named_by, steps_at, step_at, inner_of}
+use Rattle.liquid_lexer.specs.ValueReading.{word_value, steps_at, step_at, inner_of}
 use Rattle.liquid_core.specs.Expression as tree
 use Rattle.liquid_core.specs.ExpressionView.{expression_view, steps_view}
 use Rattle.liquid_lexer.proofs.Expressions.{view-Variable}
@@ -50,6 +50,6 @@ read_named-returns-in_ok-name-in-Name t c =
     let indexes = c.in_ok-indexes-in-Name.indexes in
     let rest = c.in_ok-indexes-in-Name.rest.now in
     let seen = view-Variable name indexes ∙ ap (λ (w : List ℕ). tree.variable w (steps_view indexes.items)) c.in_ok-name-in-Name.ensures.ok in
-    ap (named_by (inner_of c.args.depth) c.args.name.now c.args.rest.now) (sym c.in-Name.ensures)
+    ap (word_value (inner_of c.args.depth) c.args.name.now c.args.rest.now) (sym c.in-Name.ensures)
     ∙ ap (option_map (λ steps. (tree.variable c.args.name.now steps.0, steps.1))) c.in_ok-indexes-in-Name.ensures
     ∙ ap (λ (x : tree.Expression). Some (x, rest)) (sym seen)
