@@ -1,5 +1,5 @@
 //! The sets of filters: the language and the filters of Jekyll's or Shopify's templates.
-use crate::parts::Parts;
+use crate::parts::PageParts;
 use liquid_commands::FilterSet;
 use liquid_core::{Filter, HostFilters, Result};
 use liquid_filter_sets::{WhereExp, jekyll_language, shopify_language};
@@ -26,7 +26,7 @@ pub fn language_with(alloc: Global, filters: Option<FilterSet>) -> Result<Langua
 pub fn page_with(
     alloc: Global,
     filters: Option<FilterSet>,
-    parts: &Parts,
+    parts: &PageParts,
     limits: Limits,
 ) -> Result<LimitedPage> {
     match filters {
@@ -43,7 +43,7 @@ pub fn page_with(
     }
 }
 
-fn jekyll_page(alloc: Global, parts: &Parts, limits: Limits) -> Result<LimitedPage> {
+fn jekyll_page(alloc: Global, parts: &PageParts, limits: Limits) -> Result<LimitedPage> {
     let site = SiteSettings::of(&parts.data);
     let mut filters = Vec::new(alloc);
     for kind in JEKYLL_FILTERS {
@@ -56,7 +56,7 @@ fn jekyll_page(alloc: Global, parts: &Parts, limits: Limits) -> Result<LimitedPa
     hosted_page(alloc, parts, &HostFilters::new(filters), limits)
 }
 
-fn shopify_page(alloc: Global, parts: &Parts, limits: Limits) -> Result<LimitedPage> {
+fn shopify_page(alloc: Global, parts: &PageParts, limits: Limits) -> Result<LimitedPage> {
     let shop = Rc::new(alloc, shop_of(alloc, &parts.data)?)?;
     let mut filters = Vec::new(alloc);
     for kind in SHOPIFY_FILTERS {
@@ -69,7 +69,7 @@ fn shopify_page(alloc: Global, parts: &Parts, limits: Limits) -> Result<LimitedP
 
 fn hosted_page(
     alloc: Global,
-    parts: &Parts,
+    parts: &PageParts,
     host: &HostFilters,
     limits: Limits,
 ) -> Result<LimitedPage> {

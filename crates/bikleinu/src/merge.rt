@@ -1,5 +1,5 @@
 //! The command `merge`.
-use crate::parts::{Parts, read_parts, read_pattern};
+use crate::parts::{PageParts, read_parts, read_pattern};
 use crate::progress::Progress;
 use crate::report::Report;
 use crate::target::Target;
@@ -16,7 +16,7 @@ use std::{fs, io};
 /// Writes the page of each record. A record's fault is printed, and stops no other.
 pub fn merge(rt: &HostRuntime, call: &MergeCall<'_>) -> Result<(), Stop> {
     let parts = read_parts(rt, &call.inputs)?;
-    let Parts {
+    let PageParts {
         sources,
         template,
         partials,

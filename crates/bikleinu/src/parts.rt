@@ -10,7 +10,7 @@ use std::alloc::Global;
 
 /// What pages are made of.
 #[derive(Drop)]
-pub struct Parts {
+pub struct PageParts {
     pub sources: Sources,
     pub template: Template,
     pub partials: Partials,
@@ -18,18 +18,18 @@ pub struct Parts {
 }
 
 /// Reads the template, the data and the partials. A fault of one of them is printed.
-pub fn read_parts(rt: &HostRuntime, inputs: &Inputs<'_>) -> Result<Parts, Stop> {
+pub fn read_parts(rt: &HostRuntime, inputs: &Inputs<'_>) -> Result<PageParts, Stop> {
     let language = language_with(rt.alloc(), inputs.filters)?;
     parts_in(rt, inputs, &language)
 }
 
-fn parts_in(rt: &HostRuntime, inputs: &Inputs<'_>, language: &Language) -> Result<Parts, Stop> {
+fn parts_in(rt: &HostRuntime, inputs: &Inputs<'_>, language: &Language) -> Result<PageParts, Stop> {
     let mut sources = Sources::read(rt, inputs.template)?;
     let template = parsed(rt, sources.template(), language)?;
     let data = read_data(rt, &inputs.data, inputs.forms)?;
     sources.read_partials(rt, &inputs.partials)?;
     let partials = partials_of(rt, &sources, language)?;
-    Ok(Parts {
+    Ok(PageParts {
         sources,
         template,
         partials,
@@ -69,7 +69,7 @@ pub fn read_pattern(rt: &HostRuntime, pattern: &str) -> Result<Template, Stop> {
     parsed(rt, &source, &language(rt.alloc())?)
 }
 
-impl Parts {
+impl PageParts {
     /// Puts nil into the data where they lack what the template asks for, unless that is a fault.
     pub fn complete(&mut self, alloc: Global, missing: Missing) -> Result<(), Stop> {
         if let Missing::Nil = missing {

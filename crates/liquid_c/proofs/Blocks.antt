@@ -4,7 +4,7 @@ use Rattle.std.proofs.lemmas.Bool.{lt-ltb, le-ltb, ltb-true, ltb-false}
 use Rattle.std.proofs.lemmas.List.{at_drop_more}
 use Rattle.liquid_syntax.specs.declared.node.Node.{Node}
 use Rattle.liquid_c.specs.Levels.{has_else, left_by_elsif, levels_from, opened, still_open, levels_with_node}
-use Rattle.liquid_c.specs.declared.levels.Levels.{Levels}
+use Rattle.liquid_c.specs.declared.levels.TemplateLevels.{TemplateLevels}
 use Rattle.liquid_c.specs.declared.levels.Open.{Open}
 
 -- the innermost hasn't ended
@@ -35,7 +35,7 @@ none_left at end [] none = refl
 none_left at end (x ∷ os) none = absurd (omega (arith, none))
 
 -- one node on
-pub next : (ns : List Node) (at : ℕ) (n : Node) (os before now : List Open) (l m : Levels) → at < length ns → n ≡ get_or ns at n → before ≡ still_open at os → now ≡ opened at n before → m ≡ levels_with_node n (length now + 1) l
+pub next : (ns : List Node) (at : ℕ) (n : Node) (os before now : List Open) (l m : TemplateLevels) → at < length ns → n ≡ get_or ns at n → before ≡ still_open at os → now ≡ opened at n before → m ≡ levels_with_node n (length now + 1) l
     → levels_from at os l (drop at ns) ≡ levels_from (at + 1) now m (drop (at + 1) ns)
 next ns at n os before now l m lt is closed enters adds =
     let e : now ≡ opened at n (still_open at os) = enters ∙ ap (opened at n) closed in

@@ -36,10 +36,10 @@ pub record ArePaths (uses : UsesByName) (it : Text) : Type 0 where
 
 -- a run over these partials sees no more of its data than the uses ask
 pub record Covers (partials : List (Text × Nodes)) (nodes : Nodes) (uses : UsesByName) : Type 0
-    where
-  pub over : Partials
-  pub same : partials_of over ≡ partials
-  pub alone : SeesAlone (uses_view uses) over nodes
+  where
+    pub over : Partials
+    pub same : partials_of over ≡ partials
+    pub alone : SeesAlone (uses_view uses) over nodes
 
 -- such uses, with their paths;  or memory ran out
 abbrev pub TellsPaths : List (Text × Nodes) → Nodes → Result Content Refusal → Type 0

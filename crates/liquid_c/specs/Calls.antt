@@ -25,7 +25,7 @@ use Rattle.liquid_c.specs.Levels.{levels_in, no_levels, greater_of, most_levels}
 use Rattle.liquid_c.specs.Numbers.{number_of_refusal}
 use Rattle.liquid_c.specs.declared.content.Content.{Content}
 use Rattle.liquid_c.specs.declared.content.Content.TheVariants as content
-use Rattle.liquid_c.specs.declared.levels.Levels.{Levels}
+use Rattle.liquid_c.specs.declared.levels.TemplateLevels.{TemplateLevels}
 use Rattle.liquid_c.specs.declared.held.Held.{Held}
 use Rattle.liquid_c.specs.declared.held.Held.TheVariants.{Own, Shared}
 use Rattle.liquid_c.specs.declared.refusal.Refusal.{Refusal}
@@ -84,7 +84,7 @@ partials_behind (Some (content.Partials p levels)) = Some (partials_of p)
 partials_behind (Some _) = None
 
 -- the most levels that one of them reaches by itself
-abbrev pub levels_behind : Option Content → Levels
+abbrev pub levels_behind : Option Content → TemplateLevels
 levels_behind (Some (content.Partials p levels)) = levels
 levels_behind _ = no_levels
 
@@ -144,15 +144,15 @@ bound_of asked = if nat_eq asked 0 then usual_levels else asked
 -- ---- a partial put in
 
 -- the handle holds these partials, of which one reaches so many levels
-abbrev pub Holds : Option Held → List (Text × Nodes) → Levels → Type 0
+abbrev pub Holds : Option Held → List (Text × Nodes) → TemplateLevels → Type 0
 Holds (Some (Own (content.Partials p most))) trees levels =
     (partials_of p ≡ trees) × (most ≡ levels)
 Holds _ trees levels = ⊥
 
 -- the template now stands among the partials, and its handle holds nothing;  memory ran out, and
 -- nothing changed;  the name is no text
-pub data InsertsPartial (old : Partials) (most : Levels) (name : List ℕ) (t : Template)
-    (levels : Levels)
+pub data InsertsPartial (old : Partials) (most : TemplateLevels) (name : List ℕ) (t : Template)
+    (levels : TemplateLevels)
     (number : ℕ) (partials template was : Option Held) : Type 0 where
   done : IsUtf8 name → number ≡ 0 → Holds partials (put_entry name (tree_of t) (partials_of old))
       (greater_of most levels) → template ≡ None →
@@ -169,7 +169,7 @@ IsInsertion (Some (Own (content.Partials p most))) name (Some (Own (content.Temp
     number
     partials template =
     InsertsPartial p most name t levels number partials template
-        (Some (Own (content.Template t levels)))
+    (Some (Own (content.Template t levels)))
 IsInsertion (Some (Shared c)) name (Some was) number partials template =
     (number ≡ number_of_refusal SharedHandle) × (partials ≡ Some (Shared c)) × (template ≡ Some was)
 IsInsertion (Some (Own (content.Partials p most))) name (Some (Shared c)) number partials template =

@@ -14,7 +14,7 @@ use Rattle.liquid_syntax.specs.declared.node.Node.TheVariants.{TableRow, IfChang
 use Rattle.liquid_syntax.specs.declared.node.Node.TheVariants.{Include, JekyllInclude, Render}
 use Rattle.liquid_syntax.specs.declared.node.Node.TheVariants.{RenderEach}
 use Rattle.liquid_syntax.specs.declared.node.TwoBodies.{TwoBodies}
-use Rattle.liquid_c.specs.declared.levels.Levels.{Levels}
+use Rattle.liquid_c.specs.declared.levels.TemplateLevels.{TemplateLevels}
 use Rattle.liquid_c.specs.declared.levels.Open.{Open}
 
 -- ---- which blocks are open at an index of a list of nodes: the innermost first
@@ -60,38 +60,38 @@ is_call (RenderEach name each pairs) = true
 is_call _ = false
 
 -- what a node adds that stands at this level
-abbrev pub levels_with_node : Node → ℕ → Levels → Levels
+abbrev pub levels_with_node : Node → ℕ → TemplateLevels → TemplateLevels
 levels_with_node n level l = record {
   lists = max l.lists level;
   calls = cond (is_call n) (max l.calls level) l.calls;
 }
 
 -- the nodes from an index on, where these blocks are open
-abbrev pub levels_from : ℕ → List Open → Levels → List Node → Levels
+abbrev pub levels_from : ℕ → List Open → TemplateLevels → List Node → TemplateLevels
 levels_from at os l [] = l
 levels_from at os l (n ∷ ns) =
     let now = opened at n (still_open at os) in
     levels_from (at + 1) now (levels_with_node n (length now + 1) l) ns
 
 -- a list is a level of its own
-unfoldable pub levels_in : List Node → Levels
+unfoldable pub levels_in : List Node → TemplateLevels
 levels_in ns = levels_from 0 [] (record { lists = 1; calls = 0 }) ns
 
 -- ---- templates with partials
 
 -- no template
-abbrev pub no_levels : Levels
+abbrev pub no_levels : TemplateLevels
 no_levels = record { lists = 0; calls = 0 }
 
 -- of two templates the more
-abbrev pub greater_of : Levels → Levels → Levels
+abbrev pub greater_of : TemplateLevels → TemplateLevels → TemplateLevels
 greater_of a b = record { lists = max a.lists b.lists; calls = max a.calls b.calls }
 
 -- what is reached through a tag at this level (0: there is none): all partials but the last run
 -- one in their turn
-abbrev pub levels_through : ℕ → ℕ → Levels → ℕ
+abbrev pub levels_through : ℕ → ℕ → TemplateLevels → ℕ
 levels_through depth level p =
     cond (nat_eq depth 0 || nat_eq level 0) 0 (level + (p.calls * (depth - 1) + p.lists))
 
-unfoldable pub most_levels : ℕ → Levels → Levels → ℕ
+unfoldable pub most_levels : ℕ → TemplateLevels → TemplateLevels → ℕ
 most_levels depth t p = max t.lists (levels_through depth t.calls p)

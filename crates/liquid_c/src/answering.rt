@@ -75,7 +75,7 @@ pub extern "C" fn bikleinu_answer(
 ) -> u32
     ensures answered { Regaining (λ was. IsAnswering was
         (call_behind number (shared_content calls.old.held))
-            (answer_behind (shared_content «data».old.held))
+        (answer_behind (shared_content «data».old.held))
         result answers.new.held) answers.old.held }
     ensures calls { calls.new.held ≡ calls.old.held }
     ensures data { «data».new.held ≡ «data».old.held }

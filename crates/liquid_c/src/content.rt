@@ -3,7 +3,7 @@ ghost use Rattle.std.specs.Prelude.{◌≡◌, option_map};
 ghost use Rattle.liquid_c.specs.Numbers.{content_fault, text_behind};
 ghost use Rattle.liquid_c.specs.Numbers.{number_of_fault, number_of_content, number_of_limit};
 
-use crate::levels::Levels;
+use crate::levels::TemplateLevels;
 use liquid_answers::{Answers, Lacking};
 use liquid_core::{Error, Object, Uses};
 use liquid_lib::{Language, LimitReached, Page, Partials, Template};
@@ -13,9 +13,9 @@ use liquid_lib::{Language, LimitReached, Page, Partials, Template};
 pub enum Content {
     Language(Language),
     /// With the levels that it reaches by itself.
-    Template(Template, Levels),
+    Template(Template, TemplateLevels),
     /// With the most that the templates reach which were ever put among them.
-    Partials(Partials, Levels),
+    Partials(Partials, TemplateLevels),
     Data(Object),
     Page(Page),
     /// A page that a limit of the caller's ended.

@@ -36,7 +36,7 @@ pub extern "C" fn bikleinu_render_with(
     ensures rendered { Settled (IsHosted (bound_of limits.now.levels)
         (shared_content template.old.held)
         (shared_content «data».old.held) (shared_content partials.old.held) depth
-            (shared_content answers.old.held))
+        (shared_content answers.old.held))
         result made.new.held }
     ensures template { template.new.held ≡ template.old.held }
     ensures data { «data».new.held ≡ «data».old.held }

@@ -10,7 +10,7 @@ ghost use Rattle.liquid_c.specs.Shared.{RegainingBoth};
 use crate::content::Content;
 use crate::handle::Handle;
 use crate::held::Held;
-use crate::levels::Levels;
+use crate::levels::TemplateLevels;
 use crate::refusal::Refusal;
 use liquid_core::ErrorKind;
 use liquid_lib::Partials;
@@ -91,7 +91,7 @@ fn is_reserved(alloc: Global, partials: &mut Partials, name: &str) -> bool
 fn put_template(
     alloc: Global,
     partials: &mut Partials,
-    most: &mut Levels,
+    most: &mut TemplateLevels,
     name: &[u8],
     template: Box<Held>,
 ) -> (u32, Option<Box<Held>>)

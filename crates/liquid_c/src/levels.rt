@@ -16,7 +16,7 @@ use std::collections::LinkedList;
 
 /// What a template reaches by itself, or what some templates reach.
 #[derive(Clone, Copy, Drop)]
-pub struct Levels {
+pub struct TemplateLevels {
     /// How many levels: the template's own, and one for each block that stands in another.
     pub(crate) lists: usize,
     /// At which of them the deepest tag stands that runs a partial; 0 where there is none.
@@ -41,19 +41,19 @@ impl Open {
     }
 }
 
-impl Levels {
+impl TemplateLevels {
     /// Those of no template.
-    pub(crate) fn none() -> Levels
+    pub(crate) fn none() -> TemplateLevels
         ensures { result ≡ no_levels }
     {
-        Levels { lists: 0, calls: 0 }
+        TemplateLevels { lists: 0, calls: 0 }
     }
 
     /// Of two templates the more.
-    pub(crate) fn greater_of(self, other: Levels) -> Levels
+    pub(crate) fn greater_of(self, other: TemplateLevels) -> TemplateLevels
         ensures { result ≡ greater_of self other }
     {
-        Levels {
+        TemplateLevels {
             lists: self.lists.max(other.lists),
             calls: self.calls.max(other.calls),
         }
@@ -62,7 +62,7 @@ impl Levels {
     /// Whether a template of these levels could reach more than the bound, with partials of which
     /// so many may be nested.
     #[tactic(auto, unfolding(crate::specs::Levels::most_levels), using(crate::proofs::Blocks::same_side))]
-    pub(crate) fn pass(self, partials: Levels, depth: u32, bound: u32) -> bool
+    pub(crate) fn pass(self, partials: TemplateLevels, depth: u32, bound: u32) -> bool
         ensures { result ≡ nat_lt bound (most_levels depth self partials) }
     {
         let reached = self.lists.max(reached_through(self.calls, partials, depth));
@@ -70,23 +70,23 @@ impl Levels {
     }
 
     /// With a node at a level.
-    fn with_node(self, node: &Node, level: usize) -> Levels
+    fn with_node(self, node: &Node, level: usize) -> TemplateLevels
         ensures { result ≡ levels_with_node node.now level self }
     {
         let lists = self.lists.max(level);
         if !is_call(node) {
-            return Levels {
+            return TemplateLevels {
                 lists,
                 calls: self.calls,
             };
         }
         let calls = self.calls.max(level);
-        Levels { lists, calls }
+        TemplateLevels { lists, calls }
     }
 }
 
 /// What is reached through a tag at a level that runs a partial, or the most that a number holds.
-fn reached_through(level: usize, partials: Levels, depth: u32) -> usize
+fn reached_through(level: usize, partials: TemplateLevels, depth: u32) -> usize
     ensures { result ≡ min (levels_through depth level partials) (2 ^ 64 - 1) }
 {
     if depth == 0 || level == 0 {
@@ -98,11 +98,11 @@ fn reached_through(level: usize, partials: Levels, depth: u32) -> usize
 
 /// What a list of nodes reaches by itself. `Memory` where there is no room to keep which blocks
 /// are open.
-pub(crate) fn levels_in(alloc: Global, nodes: &[Node]) -> Result<Levels>
+pub(crate) fn levels_in(alloc: Global, nodes: &[Node]) -> Result<TemplateLevels>
     ensures { IsValueOrMemory (λ l. l) result (levels_in nodes.now) }
 {
     let mut open = LinkedList::new(alloc);
-    let mut levels = Levels { lists: 1, calls: 0 };
+    let mut levels = TemplateLevels { lists: 1, calls: 0 };
     for at in 0..nodes.len() {
         let node = &nodes[at];
         close_ended(&mut open, at);

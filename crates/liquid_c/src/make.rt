@@ -5,7 +5,7 @@ ghost use Rattle.liquid_c.specs.Settled.{Settled};
 
 use crate::content::Content;
 use crate::handle::Handle;
-use crate::levels::Levels;
+use crate::levels::TemplateLevels;
 use crate::refusal::{Refusal, settle};
 use liquid_json::data_from_json;
 use liquid_lib::{Partials, language};
@@ -39,7 +39,7 @@ pub extern "C" fn bikleinu_partials(alloc: Global, made: &mut Handle) -> u32
 fn no_partials(alloc: Global) -> Result<Content, Refusal>
     ensures { AreNoPartials result }
 {
-    Ok(Content::Partials(Partials::new(alloc), Levels::none()))
+    Ok(Content::Partials(Partials::new(alloc), TemplateLevels::none()))
 }
 
 /// Reads data from a text of JSON. 0, or the number of the fault that `made` then has:

@@ -12,7 +12,7 @@ ghost use Rattle.liquid_c.specs.Shared.{shared_content};
 use crate::content::Content;
 use crate::handle::Handle;
 use crate::held::seen;
-use crate::levels::Levels;
+use crate::levels::TemplateLevels;
 use crate::refusal::{Refusal, settle};
 use liquid_core::Object;
 use liquid_lib::{LimitedPage, Partials, Template, render_page, render_page_within};
@@ -66,7 +66,7 @@ pub extern "C" fn bikleinu_render(
 ) -> u32
     ensures rendered { Settled
         (IsRendering usual_levels false (shared_content template.old.held)
-            (shared_content «data».old.held)
+        (shared_content «data».old.held)
         (shared_content partials.old.held) depth)
         result made.new.held }
     ensures template { template.new.held ≡ template.old.held }
@@ -98,7 +98,7 @@ pub extern "C" fn bikleinu_render_within(
     ensures rendered { Settled
         (IsRendering (bound_of limits.now.levels) (has_limit limits.now.bytes limits.now.turns)
         (shared_content template.old.held) (shared_content «data».old.held)
-            (shared_content partials.old.held) depth)
+        (shared_content partials.old.held) depth)
         result made.new.held }
     ensures template { template.new.held ≡ template.old.held }
     ensures data { «data».new.held ≡ «data».old.held }
@@ -140,7 +140,7 @@ fn rendered(
 ) -> Result<Content, Refusal>
     ensures rendered { IsRendering allowed.levels (has_limit allowed.bytes allowed.turns)
         (shared_content template.old.held) (shared_content «data».old.held)
-            (shared_content partials.old.held)
+        (shared_content partials.old.held)
         allowed.depth result }
     ensures template { template.new.held ≡ template.old.held }
     ensures data { «data».new.held ≡ «data».old.held }
@@ -314,11 +314,11 @@ pub(crate) fn partials_held<'a>(
 }
 
 /// The most levels that one of the partials behind a handle reaches by itself.
-pub(crate) fn levels_held(held: Option<&Content>) -> Levels
+pub(crate) fn levels_held(held: Option<&Content>) -> TemplateLevels
     ensures { result ≡ levels_behind (option_map (λ h. h.now) held.entry) }
 {
     match held {
         Some(Content::Partials(_, levels)) => *levels,
-        _ => Levels::none(),
+        _ => TemplateLevels::none(),
     }
 }

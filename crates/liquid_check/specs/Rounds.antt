@@ -2,7 +2,8 @@
 -- text.
 --     AreRounds l source found last      what is found, and what the source is after the last round
 --     AreFindings l source found tree      the same, with the template that it is then
---     IsSilentAboutTemplates l source found      nothing is found exactly where the source is a template
+--     IsSilentAboutTemplates l source found      nothing is found exactly where the source is a
+--       template
 use Rattle.std.specs.Prelude.{◌≡◌, ℕ, Bool, false, List, [], ◌∷◌, Option, Some, None, length}
 use Rattle.liquid_model.specs.Texts.{Text}
 use Rattle.liquid_model.specs.declared.error.ErrorKind.{ErrorKind}

@@ -30,4 +30,4 @@ text_of_origin sources Template = Some (source_text sources.template)
 text_of_origin sources Data = None
 text_of_origin sources (Partial name) =
     source_text_at (partial_place (string_bytes name) (names_of sources.names))
-        sources.partials.items
+    sources.partials.items

@@ -102,7 +102,7 @@ fn read_items(alloc: Global, reader: &mut Reader<'_>, depth: usize) -> Result<Ve
 fn read_pairs(alloc: Global, reader: &mut Reader<'_>, depth: usize) -> Result<Object, NoValue>
     ensures ok { IfOk result
         (λ m. parse_map (decimals_pairs no_pairs) (members (value depth) (length reader.old)
-            reader.old) ≡
+        reader.old) ≡
         Some (pairs_view m.entries, reader.new)) }
     ensures shorter { OnOk result (length reader.new < length reader.old) }
     ensures err { result ≡ Err NoJson →

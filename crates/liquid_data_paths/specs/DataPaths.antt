@@ -1,6 +1,7 @@
 -- Paths in data. A path begins with a name; then a key leads from a map to what it has there, and
 -- `each` from a list to each of its items.
---     values_at_path path ps      the values that the path leads to in data of these pairs, in order
+--     values_at_path path ps      the values that the path leads to in data of these pairs, in
+--       order
 --     lack_of path ps      where the way first comes to a map without the key of its next step
 use Rattle.std.specs.Prelude.{ℕ, cond, codes, bytes_eq, string_bytes}
 use Rattle.std.specs.Prelude.{List, [], ◌∷◌, ◌++◌, length, Option, Some, None}

@@ -14,19 +14,19 @@ use Rattle.liquid_jekyll_host_filters.specs.declared.searches.Which.TheVariants.
 
 -- a truth value, a number or a text, of this text
 abbrev pub item_says : Text → Datum → Bool
-item_says search_matches (truth b) = same_text (text_of (truth b)) search_matches
-item_says search_matches (number z) = same_text (text_of (number z)) search_matches
-item_says search_matches (text s) = same_text s search_matches
-item_says search_matches d = false
+item_says wanted (truth b) = same_text (text_of (truth b)) wanted
+item_says wanted (number z) = same_text (text_of (number z)) wanted
+item_says wanted (text s) = same_text s wanted
+item_says wanted d = false
 
 abbrev pub any_says : Text → List Datum → Bool
-any_says search_matches [] = false
-any_says search_matches (d ∷ ds) = item_says search_matches d || any_says search_matches ds
+any_says wanted [] = false
+any_says wanted (d ∷ ds) = item_says wanted d || any_says wanted ds
 
 -- the same, or a list with such an item
 abbrev pub value_says : Text → Datum → Bool
-value_says search_matches (array ds) = any_says search_matches (list_of ds)
-value_says search_matches d = item_says search_matches d
+value_says wanted (array ds) = any_says wanted (list_of ds)
+value_says wanted d = item_says wanted d
 
 abbrev pub is_nil_datum : Datum → Bool
 is_nil_datum nil = true
@@ -35,7 +35,7 @@ is_nil_datum d = false
 -- without a text nil is wanted
 abbrev pub meets : Option Text → Datum → Bool
 meets None d = is_nil_datum d
-meets (Some search_matches) d = value_says search_matches d
+meets (Some wanted) d = value_says wanted d
 
 abbrev pub is_search_match : Text → Option Text → Datum → Bool
 is_search_match name target d = meets target (dotted_property name d)

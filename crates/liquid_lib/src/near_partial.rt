@@ -31,7 +31,7 @@ pub(crate) fn unknown(alloc: Global, partials: &Partials, name: &str) -> Error
             alloc,
             ErrorKind::UnknownPartial,
             format_args!(
-                "no partial is named `{quoted}`; hand it in by this name, as `{quoted}=FILE` on a command line"
+                "no partial is named `{quoted}`; pass it under this name, as `{quoted}=FILE` on a command line"
             ),
         ),
     }

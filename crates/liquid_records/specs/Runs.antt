@@ -1,6 +1,6 @@
 -- A merge over a list of records, and what holds of it.
---     AreRecordsTaken comes records old fates new      the records were taken one after another; comes
---       says what each comes to
+--     AreRecordsTaken comes records old fates new      the records were taken one after another;
+--       comes says what each comes to
 --     written_names fates      the names of the files that were written, or refused by the disk
 use Rattle.std.specs.Prelude.{◌≡◌, ℕ, false, List, [], ◌∷◌, ◌++◌, bytes_eq, ⊤, Some, Result, Ok}
 use Rattle.std.specs.Prelude.{Err}

@@ -25,8 +25,8 @@ unfolding partials_names partials_list_names
 partials_mention N [] = refl
 partials_mention N (e ∷ es) = on e.1 (partials_mention N es)
   where
-    on : (mentioned_in_set : Option Template) → list_any N (partials_names (filled (seen (option_map tree_of) es))) ≡ list_any N (partials_list_names (values_of es))
-        → list_any N (partials_names (with_held (string_bytes e.0) (option_map tree_of mentioned_in_set) (filled (seen (option_map tree_of) es)))) ≡ list_any N (held_names mentioned_in_set ++ partials_list_names (values_of es))
+    on : (held : Option Template) → list_any N (partials_names (filled (seen (option_map tree_of) es))) ≡ list_any N (partials_list_names (values_of es))
+        → list_any N (partials_names (with_held (string_bytes e.0) (option_map tree_of held) (filled (seen (option_map tree_of) es)))) ≡ list_any N (held_names held ++ partials_list_names (values_of es))
     on None rest = rest
     on (Some t) rest =
         any_both (nodes_names (tree_of t)) (partials_names (filled (seen (option_map tree_of) es))) N

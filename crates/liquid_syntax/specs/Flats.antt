@@ -1,8 +1,8 @@
 -- The list of nodes of a template, seen as a tree.
 --     flat_of x      what a node of the list makes of the trees of its bodies, and where those end
 --     nodes_of f      the tree of a range of the list
---     IsNodeRange ns from to      the nodes from `from` to `to` are whole: each with all the nodes of
---                             its bodies
+--     IsNodeRange ns from to      the nodes from `from` to `to` are whole: each with all the nodes
+--       of its bodies
 --     NodeAt ns at n next      the node at `at`, with its bodies, is n, and ends before `next`
 use Rattle.std.specs.Prelude.{◌≡◌, ℕ, ◌+◌, ◌≤◌, List, [], ◌∷◌, ◌++◌, map, Some, None, option_map}
 use Rattle.std.specs.Prelude.{slice_get, string_bytes}

@@ -2,7 +2,7 @@
 use crate::faults::no_call;
 use liquid_core::{ErrorKind, Items, LoopFrame, LoopKind, Object, Result, State, Value};
 use liquid_test_refusals::{
-    Step, Told, found, items, items_member, kind_of, nil, optional, owned, step_of, text_member,
+    StateChange, Told, found, items, items_member, kind_of, nil, optional, owned, step_of, text_member,
 };
 use std::alloc::Global;
 
@@ -54,12 +54,12 @@ fn looped<'d>(state: &mut State<'d>, step: &'d Value) -> Result<Value> {
     }))
 }
 
-fn changed(state: &mut State<'_>, change: Step) -> Result<Value> {
+fn changed(state: &mut State<'_>, change: StateChange) -> Result<Value> {
     match change {
-        Step::Index(name, value) => nil(state.set_index(name, value)),
-        Step::Global(name, value) => nil(state.set_global(name, value)),
-        Step::Push(scope) => nil(state.push_scope(scope)),
-        Step::Pop => {
+        StateChange::Index(name, value) => nil(state.set_index(name, value)),
+        StateChange::Global(name, value) => nil(state.set_global(name, value)),
+        StateChange::Push(scope) => nil(state.push_scope(scope)),
+        StateChange::Pop => {
             state.pop_scope();
             Ok(Value::Nil)
         }

@@ -3,7 +3,7 @@ use crate::given::depth;
 use liquid_core::{ErrorKind, Object, Result, Value};
 use liquid_lib::{Partials, Runtime, RuntimeBuilder};
 use liquid_test_refusals::{
-    Step, Told, WorkedRow, found, items, items_member, kind_of, nil, optional, owned, step_of,
+    StateChange, Told, WorkedRow, found, items, items_member, kind_of, nil, optional, owned, step_of,
     text_member,
 };
 use std::alloc::Global;
@@ -29,10 +29,10 @@ pub(crate) fn runtime_made<R: Print>(
             // made here: of a runtime that is handed on rt ci takes it that filters of a host are
             // made for it
             let answer = match step_of(told.alloc, step) {
-                Ok(Some(Step::Index(name, value))) => nil(runtime.set_index(name, value)),
-                Ok(Some(Step::Global(name, value))) => nil(runtime.set_global(name, value)),
-                Ok(Some(Step::Push(scope))) => nil(runtime.push_scope(scope)),
-                Ok(Some(Step::Pop)) => {
+                Ok(Some(StateChange::Index(name, value))) => nil(runtime.set_index(name, value)),
+                Ok(Some(StateChange::Global(name, value))) => nil(runtime.set_global(name, value)),
+                Ok(Some(StateChange::Push(scope))) => nil(runtime.push_scope(scope)),
+                Ok(Some(StateChange::Pop)) => {
                     runtime.pop_scope();
                     Ok(Value::Nil)
                 }

@@ -8,5 +8,5 @@ mod steps;
 mod told;
 
 pub use row::{WorkedRow, items, items_member, member, read_row, text_member, text_of};
-pub use steps::{Step, step_of};
+pub use steps::{StateChange, step_of};
 pub use told::{Told, ending, flag, found, kind_of, name_of, nil, number, optional, owned, text};

@@ -6,7 +6,7 @@ use std::alloc::Global;
 
 /// What a call changes in a state or a runtime.
 #[derive(Drop)]
-pub enum Step {
+pub enum StateChange {
     /// `set_index`.
     Index(String, Value),
     /// `set_global`.
@@ -19,24 +19,24 @@ pub enum Step {
 
 /// What the step's call changes, or none where it looks something up. A step is a list of the
 /// call's name, a name, and a value.
-pub fn step_of(alloc: Global, step: &Value) -> Result<Option<Step>> {
+pub fn step_of(alloc: Global, step: &Value) -> Result<Option<StateChange>> {
     match text_member(step, 0) {
         "set_index" => index(alloc, step),
         "set_global" => global(alloc, step),
-        "push_scope" => Ok(Some(Step::Push(scope(alloc, step)?))),
-        "pop_scope" => Ok(Some(Step::Pop)),
+        "push_scope" => Ok(Some(StateChange::Push(scope(alloc, step)?))),
+        "pop_scope" => Ok(Some(StateChange::Pop)),
         _ => Ok(None),
     }
 }
 
-fn index(alloc: Global, step: &Value) -> Result<Option<Step>> {
+fn index(alloc: Global, step: &Value) -> Result<Option<StateChange>> {
     let name = String::from_str(alloc, text_member(step, 1))?;
-    Ok(Some(Step::Index(name, given(alloc, step)?)))
+    Ok(Some(StateChange::Index(name, given(alloc, step)?)))
 }
 
-fn global(alloc: Global, step: &Value) -> Result<Option<Step>> {
+fn global(alloc: Global, step: &Value) -> Result<Option<StateChange>> {
     let name = String::from_str(alloc, text_member(step, 1))?;
-    Ok(Some(Step::Global(name, given(alloc, step)?)))
+    Ok(Some(StateChange::Global(name, given(alloc, step)?)))
 }
 
 /// The value that the call is given.

@@ -22,7 +22,7 @@ KeepsFor zero d e = Unit {0}
 KeepsFor (suc n) d e =
     (shape d ≡ shape e)
     × ((s c : Datum) → own_member s d ≡ Some c → (f : Datum) × (own_member s e ≡ Some f) ×
-        KeepsFor n c f)
+    KeepsFor n c f)
 
 abbrev pub KeepsDatum : Datum → Datum → Type 0
 KeepsDatum d e = (n : ℕ) → KeepsFor n d e

@@ -201,7 +201,7 @@ fn in_place_of_pair<'s>(spot: &Spot<'s>) -> Option<Phrasing<'s>> {
     if !is_closer || !spot.before.starts_with(is_letter) || spot.count < 3 {
         return None;
     }
-    let words = "a value is handed in under a name, as `name: …`";
+    let words = "a value is passed under a name, as `name: …`";
     Some(Phrasing::quoting(spot.rest, words, spot.before, ""))
 }
 

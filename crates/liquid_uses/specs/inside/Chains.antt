@@ -1,8 +1,8 @@
 -- What may be asked of the value that reaches a filter of a chain.
 --     takes r u      both places ask all that u asks, and u is plain where that is wanted
 --     sees s v      v may be asked of the value
---     CoversCall s call next      what may be asked of the call's answer asks no more of its input than
---                             may be asked of that
+--     CoversCall s call next      what may be asked of the call's answer asks no more of its input
+--       than may be asked of that
 use Rattle.std.specs.Prelude.{◌≡◌, Bool, true, false, ◌&&◌, ◌||◌, not, List, codes}
 use Rattle.liquid_core.specs.Expression.{Expression, literal}
 use Rattle.liquid_filters.specs.declared.kind.FilterKind.{FilterKind}
