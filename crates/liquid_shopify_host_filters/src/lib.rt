@@ -1,4 +1,4 @@
-//! The filters that Shopify's templates call beside those of the language, for a host to hand in.
+//! The filters that Shopify's templates call beside those of the language, for a host to add.
 #![tactic(auto)]
 
 mod amount;

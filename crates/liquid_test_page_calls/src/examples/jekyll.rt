@@ -12,7 +12,7 @@ pub(crate) fn jekyll_page(alloc: Global) -> Result<String> {
     let source = "{{ 'a page' | relative_url }} {{ 'x' | absolute_url }}";
     let template = parse(alloc, source, &language)?;
 
-    // A run has each by its name. They are boxed here, where they are handed in.
+    // A run has each by its name. They are boxed here, where they are passed.
     let mut filters = Vec::new(alloc);
     for filter in JEKYLL_FILTERS {
         let site = SiteFilter::new(alloc, filter, "https://example.org", "/blog")?;

@@ -11,7 +11,7 @@ pub(crate) fn shop_page(alloc: Global) -> Result<String> {
     let source = "{{ 'Green tea' | link_to: '/tea' }}: {{ 1999 | money }}";
     let template = parse(alloc, source, &language)?;
 
-    // Each filter is made where it is handed in: a `dyn` can't be made elsewhere.
+    // Each filter is made where it is passed: a `dyn` can't be made elsewhere.
     let shop = Rc::new(alloc, shop(alloc)?)?;
     let mut filters = Vec::new(alloc);
     for kind in SHOPIFY_FILTERS {
