@@ -8,10 +8,10 @@ abbrev pub SelectsPartByPart : Type 0
 SelectsPartByPart =
     (test : Test) (front back : List Datum) →
     items_passing_test test (front ++ back) ≡ items_passing_test test front
-        ++ items_passing_test test back
+    ++ items_passing_test test back
 
 -- the condition holds of each item that is selected
 abbrev pub EachKeptIsSelected : Type 0
 EachKeptIsSelected =
     (test : Test) (ds : List Datum) → All (λ d. passes_test test d ≡
-        true) (items_passing_test test ds)
+    true) (items_passing_test test ds)

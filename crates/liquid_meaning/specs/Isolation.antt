@@ -133,7 +133,7 @@ abbrev pub RenderSeesItsValues : Type 0
 RenderSeesItsValues = (setting : Setting) (depth : ℕ) (x : Expression)
     (each : Option (Source × Text)) (bindings : Bindings) (e f : Environment)
     → partial_name_text x e ≡ partial_name_text x f → items_of_render each e ≡
-        items_of_render each f →
+    items_of_render each f →
     bound_values bindings e ≡ bound_values bindings f
     → (let o = meaning setting depth (node (render x each bindings) no_nodes) e in
     let p = meaning setting depth (node (render x each bindings) no_nodes) f in

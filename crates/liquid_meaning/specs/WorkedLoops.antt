@@ -43,7 +43,7 @@ two_names z =
     (codes "z", z) ∷ []))
     (show (name "a") ∷ for_in "i" (each_of (name "b")) (show (name "i") ∷
     show (variable_property "forloop" "index") ∷ []) ∷ assign (codes "c")
-        (without_filters (name "a")) ∷ [])
+    (without_filters (name "a")) ∷ [])
 
 -- {% for i in (1..3) window %}[{{ i }}]{% endfor %}
 abbrev pub in_window : Window → Outcome Nothing

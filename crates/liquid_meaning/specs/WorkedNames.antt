@@ -50,7 +50,7 @@ pub record WorkedNames : Type 0 where
   pub in_steps : NamesAre []
       (for_in "x" (each_of (name "l")) (show (name "x") ∷ []) ∷
       show (variable (codes "a") (step (variable_property "b" "c")
-          (step (text_literal "d") no_steps))) ∷
+      (step (text_literal "d") no_steps))) ∷
       [])
       (codes "a" ∷ codes "b" ∷ codes "forloop" ∷ codes "l" ∷ codes "x" ∷ [])
   -- {% comment %}{{ q }}{% endcomment %}{% raw %}{{ r }}{% endraw %}{% cycle g: t %}{% case t %}{{

@@ -81,7 +81,7 @@ pub record WorkedPartials : Type 0 where
       UnknownVariable
   pub nothing_for_no_items : Writes
       (page (render (text_literal "none") (Some (from_to 2 1, codes "v"))
-          ((codes "x", name "nope") ∷
+      ((codes "x", name "nope") ∷
       []) ∷ plain (codes "|") ∷ [])) "|"
   -- {% render 'r' for (1..3) as v %}|
   pub break_ends_the_items : Writes
@@ -95,7 +95,7 @@ pub record WorkedPartials : Type 0 where
   -- for (7..7) as forloop %} where g is {{ forloop }}
   pub forloop_over_pairs : Writes (page_with "f" (show (variable_property "forloop" "index") ∷ [])
       (render (text_literal "f") (Some (from_to 1 1, codes "v")) ((codes "forloop", integer 9) ∷ [])
-          ∷
+      ∷
       [])) "1"
   pub item_over_forloop : Writes (page_with "g" (show (name "forloop") ∷ [])
       (render (text_literal "g") (Some (from_to 7 7, codes "forloop")) [] ∷ [])) "7"
@@ -124,7 +124,7 @@ pub record WorkedPartials : Type 0 where
   pub include_object : Writes
       (page_with "e.txt" shows_include
       (jekyll_include (codes "e.txt") ((codes "a", text_literal "x") ∷ (codes "b", integer 1) ∷ [])
-          ∷
+      ∷
       [])) "x1"
   pub later_key_wins : Writes
       (page_with "e.txt" shows_include (jekyll_include (codes "e.txt") ((codes "a", integer 1) ∷

@@ -98,7 +98,7 @@ pub record WorkedReading : Type 0 where
   pub a_path : covered (("a", with_members (("b", with_members (("c", everything) ∷ [])) ∷ [])) ∷
       []) []
       (show (variable (codes "a") (step (text_literal "b") (step (text_literal "c") no_steps))) ∷
-          []) ≡ true
+      []) ≡ true
   -- {{ a[b] }}
   pub a_step_that_is_computed : covered (("a", everything) ∷ ("b", everything) ∷ []) []
       (show (variable (codes "a") (step (name "b") no_steps)) ∷ []) ≡ true
@@ -161,7 +161,7 @@ pub record WorkedReading : Type 0 where
   pub a_nil_is_a_kind : (f : _) → covered_by_filters (("a", of_each there) ∷
       ("x", with_members (("size", everything) ∷ [])) ∷ [])
       (assign (codes "x") (through "a" (Compact f) []) ∷ show (variable_property "x" "size") ∷ []) ≡
-          true
+      true
   -- {% assign x = a | default: 'n' %}{{ x.t }}
   pub a_default : (f : _) → covered_by_filters ((
     "a",

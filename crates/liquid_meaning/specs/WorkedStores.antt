@@ -92,7 +92,7 @@ pub record WorkedStores : Type 0 where
   pub cycle_by_written_forms :
       let o = from (with_data ((codes "a", object (pair (codes "b") (number (pos 7)) no_pairs)) ∷ (codes "c", array (item (number (pos 8)) no_items)) ∷ []))
       (unnamed_cycle (variable_property "a" "b" ∷ variable (codes "c") (step (integer 0) no_steps) ∷
-          []) ∷ []) in
+      []) ∷ []) in
       Writes o "7" × (group_after o "a[\"b\"]-c[0]" ≡ Some 1)
   -- {% assign t = 'old' %}{% capture t %}x{{ nope }}{% endcapture %}
   pub faulted_capture :

@@ -26,8 +26,8 @@ impl<W: Write> Buffered<W> {
 
     /// A buffer in front of the writer, or the writer where there is no memory for a buffer.
     pub fn new(alloc: Global, writer: W) -> Result<Buffered<W>, W>
-        ensures held { IfOk result (λ b. Keeps (W.contents writer) (buffered_contents W.contents b))
-            }
+        ensures held { IfOk result (λ b. Keeps (W.contents writer)
+            (buffered_contents W.contents b)) }
         ensures back { IfErr result (λ w. w ≡ writer) }
     {
         match Vec::with_capacity(alloc, ROOM) {

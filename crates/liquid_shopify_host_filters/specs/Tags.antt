@@ -61,7 +61,7 @@ in_class_span class tag = codes "<span class=\"" ++ (class ++ (codes "\">" ++ (t
 abbrev pub highlight_answer : List Text → Datum → List Datum → Answer
 highlight_answer tags (text s) args =
     if has_tag tags s then Ok (text (in_class_span (text_or (codes "active") args) s)) else Ok
-        (text s)
+    (text s)
 highlight_answer tags d args = Ok d
 
 -- an address within the collection of a handle

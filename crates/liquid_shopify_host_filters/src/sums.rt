@@ -51,8 +51,8 @@ fn term<'a>(item: &'a Value, name: Option<&str>) -> Option<&'a Value>
 
 /// A sum with one more term.
 fn added(alloc: Global, sum: i64, term: Option<&Value>) -> Result<i64>
-    ensures { Answers (λ n. n) result (sum_with_term sum (option_map (λ v. view v.now) term.entry))
-        }
+    ensures { Answers (λ n. n) result (sum_with_term sum
+        (option_map (λ v. view v.now) term.entry)) }
 {
     let number = summand(alloc, term)?;
     match sum.checked_add(number) {

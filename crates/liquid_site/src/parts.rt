@@ -201,8 +201,8 @@ impl<P: Drop> SiteParts<P> {
                   (option_map tree_of held) (site_parts_view self.old).contents.partials;
             }) }
         ensures counted { OnOk result ((site_parts_view self.new).rendered ≡ saturated_sum
-            (site_parts_view self.old).rendered (length (site_parts_view self.old).contents.pages))
-                }
+            (site_parts_view self.old).rendered
+                (length (site_parts_view self.old).contents.pages)) }
         ensures unchanged { OnErr result
             ((site_parts_view self.new).contents ≡ (site_parts_view self.old).contents) }
         ensures uncounted { OnErr result
@@ -247,7 +247,7 @@ impl<P: Drop> SiteParts<P> {
             }) }
         ensures counted { OnOk result ((site_parts_view self.new).rendered ≡ saturated_sum
             (site_parts_view self.old).rendered (mentioning (site_parts_view self.old).contents
-                name.now)) }
+            name.now)) }
         ensures unchanged { OnErr result
             ((site_parts_view self.new).contents ≡ (site_parts_view self.old).contents) }
         ensures uncounted { OnErr result
@@ -296,7 +296,7 @@ impl<P: Drop> SiteParts<P> {
     ) -> Result<()>
         requires untouched { (nodes : Nodes) → selects selection nodes ≡ false →
             page_over (site_parts_view self.old).contents.depth
-                (site_parts_view self.old).contents.partials
+            (site_parts_view self.old).contents.partials
             (held «data») nodes ≡ page_of (site_parts_view self.old).contents nodes }
         requires shown { KeepsPages R.shows self.old }
         ensures keeps { KeepsPages R.shows self.new }

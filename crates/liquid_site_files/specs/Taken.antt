@@ -48,4 +48,4 @@ abbrev pub AreTaken : Language → Folder → Files → List Changed → Content
 AreTaken l folder files [] c d = d ≡ c
 AreTaken l folder files (changed ∷ rest) c d = (m : Contents) ×
     TakesFile l changed (files (changed_file_path folder changed)) c m ×
-        AreTaken l folder files rest m d
+    AreTaken l folder files rest m d

@@ -60,7 +60,7 @@ pub(crate) fn take<D: Disk>(
     ensures taken { IfSome (D.files disk.now)
         (λ f. OnOk result (TakesFile (language_of site.old) changed.now
         (f (changed_file_path folder.now changed.now)) (contents_of site.old)
-            (contents_of site.new))) }
+        (contents_of site.new))) }
     ensures refused { IfSome (D.files disk.now)
         (λ f. IfOk result (λ r. RefusesFile (language_of site.old) changed.now
         (f (changed_file_path folder.now changed.now)) (option_map (λ refusal. refusal.why) r))) }

@@ -10,7 +10,7 @@ use Rattle.liquid_language.specs.declared.block.BlockContext.TheVariants.{Outsid
 abbrev pub ReadsTheGrammar : Type 0
 ReadsTheGrammar = (reads : BlockContext → ℕ → Statement) (ps : List ℕ) (t : Nodes) →
     (read_pieces reads ps [] no_nodes ≡ Some t) ↔ AreNodes (λ x p l. reads x p ≡
-        l) Outside 200 t ps []
+    l) Outside 200 t ps []
 
 -- the grammar gives a list of pieces at most one tree
 abbrev pub AtMostOneTree : Type 0

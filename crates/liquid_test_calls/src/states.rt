@@ -2,7 +2,8 @@
 use crate::faults::no_call;
 use liquid_core::{ErrorKind, Items, LoopFrame, LoopKind, Object, Result, State, Value};
 use liquid_test_refusals::{
-    StateChange, Told, found, items, items_member, kind_of, nil, optional, owned, step_of, text_member,
+    StateChange, Told, found, items, items_member, kind_of, nil, optional, owned, step_of,
+    text_member,
 };
 use std::alloc::Global;
 

@@ -3,8 +3,8 @@ use crate::given::depth;
 use liquid_core::{ErrorKind, Object, Result, Value};
 use liquid_lib::{Partials, Runtime, RuntimeBuilder};
 use liquid_test_refusals::{
-    StateChange, Told, WorkedRow, found, items, items_member, kind_of, nil, optional, owned, step_of,
-    text_member,
+    StateChange, Told, WorkedRow, found, items, items_member, kind_of, nil, optional, owned,
+    step_of, text_member,
 };
 use std::alloc::Global;
 
