@@ -117,7 +117,7 @@ pub(crate) fn has_name(names: &[String], name: &str) -> bool
 /// A call as one value.
 pub(crate) fn call_of(alloc: Global, name: &str, input: &Value, args: &[Value]) -> Result<Value>
     ensures { IsValueOrMemory view result (call_datum name.now (view input.now)
-            (map view args.now)) }
+        (map view args.now)) }
 {
     let mut call = Vec::new(alloc);
     call.push(Value::Text(String::from_str(alloc, name)?))?;

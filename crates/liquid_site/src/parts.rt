@@ -202,7 +202,7 @@ impl<P: Drop> SiteParts<P> {
             }) }
         ensures counted { OnOk result ((site_parts_view self.new).rendered ≡ saturated_sum
             (site_parts_view self.old).rendered
-                (length (site_parts_view self.old).contents.pages)) }
+            (length (site_parts_view self.old).contents.pages)) }
         ensures unchanged { OnErr result
             ((site_parts_view self.new).contents ≡ (site_parts_view self.old).contents) }
         ensures uncounted { OnErr result

@@ -143,7 +143,7 @@ impl<'u> ChainPlace<'u> {
     fn after_map(self, arguments: &[Expression]) -> ChainPlace<'u>
         ensures { (w : _) → sees result w ≡ true
             → sees self.entry (present (by_property
-                (literal_first_argument (map expression_view arguments.now))
+            (literal_first_argument (map expression_view arguments.now))
             (λ name. items_each (one_field name (present (items_wanted w)))))) ≡ true }
     {
         match property_name(arguments) {
@@ -157,7 +157,7 @@ impl<'u> ChainPlace<'u> {
     fn after_order(self, arguments: &[Expression]) -> ChainPlace<'u>
         ensures { (w : _) → sees result w ≡ true
             → sees self.entry (present (by_property
-                (literal_first_argument (map expression_view arguments.now))
+            (literal_first_argument (map expression_view arguments.now))
             (λ name. items_or_itself (with_field name everything (items_wanted w))))) ≡ true }
     {
         match property_name(arguments) {

@@ -75,7 +75,7 @@ fn add_member_paths(
 ) -> Result<(), AllocError>
     ensures { OnOk result (mentioned_in_set paths.new
         ≡ added (member_paths path.now (members_view members.now.entries))
-            (mentioned_in_set paths.old)) }
+        (mentioned_in_set paths.old)) }
 {
     for (key, asked) in members.iter() {
         let inner = joined_path(alloc, path, ".", key.as_str())?;

@@ -28,7 +28,7 @@ use std::alloc::Global;
 pub fn uses_of(alloc: Global, template: &Template, partials: &Partials) -> Result<Uses>
     ensures covers { (answers : FilterAnswers) → IfOk result (λ uses.
         covers known_needs (uses_view uses) (covered_setting answers partials.now)
-            (tree_of template.now)
+        (tree_of template.now)
         ≡ true) }
     ensures alone { IfOk result (λ uses.
         SeesAlone (uses_view uses) partials.now (tree_of template.now)) }
