@@ -54,9 +54,13 @@ def format_cases():
 def file_cases():
     return [
         case("no words", "check", {}, status=2, errors=("error: the following required arguments were not provided", "  <PATH>...")),
-        case("no file", "check u t", {"t": ""}, status=1, errors=("error: u: there is no such file", *counted(1))),
+        case("no file", "check u t", {"t": ""}, status=1, errors=("error: u: No such file or directory", *counted(1))),
+        case("an empty path", "check ''", {}, status=2, errors=("error: a PATH is empty",)),
+        case("no path of data", "check t -d a=", {"t": ""}, status=2, errors=("error: -d a=: there is no path; write a path, or NAME=FILE",)),
+        case("a file in place of a folder of partials", "check t -p t", {"t": ""}, status=1, errors=("error: t: Not a directory; one file is named NAME=t", *counted(1))),
+        case("an empty folder of a name with a line end", "check 'a\nb'", {"a\nb/": ""}, status=1, errors=("error: a\\nb: there is no file in this folder", *counted(0))),
         case("an empty folder", "check f", {"f/": ""}, status=1, errors=("error: f: there is no file in this folder", *counted(0))),
-        case("no folder of partials", "check t -p u", {"t": ""}, status=1, errors=("error: u: there is no such file", *counted(1))),
+        case("no folder of partials", "check t -p u", {"t": ""}, status=1, errors=("error: u: No such file or directory", *counted(1))),
         case("a file that isn't UTF-8", "check f", {"f/a": b"a\n\xff", "f/b": ""}, status=1, errors=("error: f/a: the file isn't UTF-8: line 2, column 1", *counted(1))),
         case("what is no text in a folder is passed over", "check f", {"f/a.png": b"\x89PNG\0\xff", "f/b": ""}, errors=counted(1)),
         case("what is no text by its name", "check f/a.png", {"f/a.png": b"\x89PNG\0\xff"}, status=1, errors=("error: f/a.png: the file isn't UTF-8: line 1, column 1", *counted(0))),

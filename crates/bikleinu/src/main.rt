@@ -20,7 +20,7 @@ use clap::ArgMatches;
 use clap::error::ErrorKind;
 use liquid_check_command::check;
 use liquid_command_files::Stop;
-use liquid_commands::{check_call, merge_call, paths_call, program, render_call};
+use liquid_commands::{check_call, command_fault, merge_call, paths_call, program, render_call};
 use std::alloc::{AllocError, Global};
 use std::process::ExitCode;
 use std::{env, io};
@@ -40,8 +40,19 @@ fn run(rt: &HostRuntime) -> Result<(), Stop> {
     let words = words_given(rt)?;
     match program(rt.alloc())?.try_get_matches_from(words.as_slice()) {
         Ok(matches) => called(rt, &matches),
-        Err(answer) => answered(rt, &answer),
+        Err(answer) => answered(rt, &explained(rt.alloc(), answer, &words)?),
     }
+}
+
+/// What is wrong in the command line, with what to write where a file stands in the place of the
+/// command.
+fn explained(alloc: Global, answer: clap::Error, words: &[String]) -> Result<clap::Error, Stop> {
+    if answer.kind() == ErrorKind::InvalidSubcommand {
+        if let Some(fault) = command_fault(alloc, words)? {
+            return Ok(fault);
+        }
+    }
+    Ok(answer)
 }
 
 /// Does what a command is called for.

@@ -5,7 +5,7 @@ use crate::report::Report;
 use crate::target::Target;
 use liquid_command_files::{Sources, Stop, called, form_of};
 use liquid_commands::{MergeCall, is_selected};
-use liquid_excerpts::Reason;
+use liquid_excerpts::{Reason, ShownPath};
 use liquid_lib::DEFAULT_DEPTH;
 use liquid_records::{Job, Merge};
 use liquid_row_records::{HeadStop, Records};
@@ -79,7 +79,9 @@ impl Run<'_> {
             Err(HeadStop::Memory) => Err(Stop::from(AllocError)),
             Err(HeadStop::Unread(kind)) => Err(self.unread(kind)),
             Err(HeadStop::Faulted(fault)) => {
-                let path = called(self.call.records);
+                let path = ShownPath {
+                    path: called(self.call.records),
+                };
                 let _ = eprintln!(self.rt; "error: {path}: {fault}");
                 Err(Stop::Faulted)
             }

@@ -1,7 +1,7 @@
 //! The command `render`.
 use crate::filters::page_with;
 use crate::parts::read_parts;
-use liquid_command_files::{Sources, Stop, print_text, put_file};
+use liquid_command_files::{Sources, Stop, end_line, print_text, put_file};
 use liquid_commands::RenderCall;
 use liquid_lib::{LimitReached, LimitedPage, Limits, Page};
 
@@ -16,6 +16,9 @@ pub fn render(rt: &HostRuntime, call: &RenderCall<'_>) -> Result<(), Stop> {
     let Page { text, fault } = page;
     if call.out.is_none() {
         print_text(rt, text.as_str())?;
+        if limit.is_some() || fault.is_some() {
+            end_line(rt, text.as_str());
+        }
     }
     if let Some(limit) = limit {
         print_limit(rt, &parts.sources, limit, limits);

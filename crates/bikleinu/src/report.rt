@@ -1,5 +1,6 @@
 //! What is printed of a record that has no page.
 use liquid_command_files::{Sources, print_excerpt};
+use liquid_excerpts::system_words;
 use liquid_records::{Failure, Why};
 use liquid_row_records::{RecordFault, RowFault};
 use std::{fmt, io};
@@ -50,7 +51,10 @@ impl fmt::Display for Report {
             Report::NoRow(fault) => write!(f, "{fault}"),
             Report::NoPage(why) => write!(f, "{why}"),
             Report::NoFile(failure, reason) => match (failure, reason) {
-                (Failure::Unwritten(_), Some(kind)) => write!(f, "{failure}: {kind}"),
+                (Failure::Unwritten(_), Some(kind)) => {
+                    let words = system_words(*kind);
+                    write!(f, "{failure}: {words}")
+                }
                 _ => write!(f, "{failure}"),
             },
         }

@@ -1,6 +1,7 @@
 //! The files that a call of `check` names.
 use liquid_command_files::{Stop, files_below};
 use liquid_commands::CheckCall;
+use liquid_excerpts::ShownPath;
 use liquid_partial_names::{PartialNames, joined_path, named_file};
 use std::alloc::{AllocError, Global};
 use std::collections::BTreeMap;
@@ -81,7 +82,8 @@ impl Paths {
             return Ok(());
         };
         if files.is_empty() {
-            let _ = eprintln!(rt; "error: {folder}: there is no file in this folder");
+            let path = ShownPath { path: folder };
+            let _ = eprintln!(rt; "error: {path}: there is no file in this folder");
             self.unread = self.unread.saturating_add(1);
         }
         for file in &files {

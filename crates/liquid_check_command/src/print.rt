@@ -4,7 +4,7 @@ use liquid_check::MOST_FINDINGS;
 use liquid_command_files::{Stop, print_text};
 use liquid_core::{Location, Origin};
 use liquid_diagnostics::{Diagnostic, DiagnosticFormat, diagnostic_line};
-use liquid_excerpts::Excerpt;
+use liquid_excerpts::{Excerpt, ShownPath};
 use liquid_warnings::{Remark, remarks_of};
 use std::fmt::Write;
 
@@ -73,7 +73,9 @@ pub(crate) fn print_file(
         print_remark(rt, format, file, remark)?;
     }
     if file.template.is_none() {
-        let path = file.path.as_str();
+        let path = ShownPath {
+            path: file.path.as_str(),
+        };
         let most = MOST_FINDINGS;
         let _ = eprintln!(rt; "error: {path}: only the first {most} faults are looked for");
     }

@@ -3,7 +3,7 @@ use crate::faults::print_fault;
 use crate::forms::{added, data_of_file, form_of, with_time};
 use crate::input::{called, text_at};
 use crate::stop::Stop;
-use liquid_commands::{DataFile, Forms};
+use liquid_commands::{DataFile, Forms, is_yaml};
 use liquid_core::Object;
 
 /// The data of all files: the members of each, or its object under its name; the later wins. The
@@ -28,6 +28,9 @@ fn data_at(rt: &HostRuntime, path: &str, forms: Forms<'_>) -> Result<Object, Sto
         Ok(data) => Ok(data),
         Err(fault) => {
             print_fault(rt, called(path), &fault, Some(text.as_str()));
+            if is_yaml(path) {
+                let _ = eprintln!(rt; "  tip: YAML isn't read; give the data as JSON or TOML");
+            }
             Err(Stop::Faulted)
         }
     }

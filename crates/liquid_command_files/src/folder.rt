@@ -1,6 +1,5 @@
 //! The files of a folder of partials.
 use crate::stop::Stop;
-use liquid_excerpts::Reason;
 use liquid_partial_names::joined_path;
 use std::fs::DirEntry;
 use std::{fs, io};
@@ -18,7 +17,7 @@ pub fn files_below(rt: &HostRuntime, folder: &str) -> Result<Vec<String>, Stop> 
         let path = joined_path(rt.alloc(), folder, inner.as_str())?;
         let path = path.as_str().strip_suffix('/').unwrap_or(folder);
         if let Err(refused) = add_entries(rt, path, inner.as_str(), &mut files, &mut folders) {
-            return Err(Stop::unread(rt.alloc(), path, Reason::from(refused.kind())));
+            return Err(Stop::no_folder(rt.alloc(), path, refused.kind()));
         }
     }
     files.sort_unstable();

@@ -2,9 +2,9 @@
 ghost use Rattle.std.specs.Prelude.{◌≡◌};
 ghost use Rattle.liquid_command_files.specs.Stops.{status_of};
 
-use liquid_commands::WordFault;
+use liquid_commands::{Gap, WordFault};
 use liquid_core::Error;
-use liquid_excerpts::{Reason, ShownPath};
+use liquid_excerpts::{Reason, ShownPath, reason_words, system_words};
 use std::alloc::{AllocError, AllocFailed, Global};
 use std::{fmt, io};
 
@@ -15,12 +15,16 @@ pub enum Stop {
     Refused,
     /// The command line is wrong in this.
     Usage(&'static str),
+    /// The command line is wrong: the word after this option lacks something.
+    Lacking(&'static str, String, Gap),
     /// A template, the data or a page has a fault, and it is printed.
     Faulted,
     /// A fault of no text, as that memory ran out.
     Fault(Error),
     /// The file or folder of this path can't be read.
     Unread(String, Reason),
+    /// Partials are to be in the folder of this path, and it is none.
+    NoFolder(String),
     /// The file of this path can't be written.
     Unwritten(String, io::ErrorKind),
     /// Standard output can't be written.
@@ -32,6 +36,17 @@ impl Stop {
     pub fn unread(alloc: Global, path: &str, reason: Reason) -> Stop {
         match String::from_str(alloc, path) {
             Ok(path) => Stop::Unread(path, reason),
+            Err(refused) => Stop::from(refused),
+        }
+    }
+
+    /// A folder of partials that can't be read.
+    pub fn no_folder(alloc: Global, path: &str, kind: io::ErrorKind) -> Stop {
+        match String::from_str(alloc, path) {
+            Ok(path) => match kind {
+                io::ErrorKind::NotADirectory => Stop::NoFolder(path),
+                kind => Stop::Unread(path, Reason::from(kind)),
+            },
             Err(refused) => Stop::from(refused),
         }
     }
@@ -49,7 +64,7 @@ impl Stop {
         ensures { result ≡ status_of self.now }
     {
         match self {
-            Stop::Refused | Stop::Usage(_) => 2,
+            Stop::Refused | Stop::Usage(_) | Stop::Lacking(_, _, _) => 2,
             _ => 1,
         }
     }
@@ -57,7 +72,7 @@ impl Stop {
     /// Prints that a path can't be read, so that a command can go on without it. What isn't that
     /// ends the command.
     pub fn passed_over(self, rt: &HostRuntime) -> Result<(), Stop> {
-        if let Stop::Unread(_, _) = &self {
+        if let Stop::Unread(_, _) | Stop::NoFolder(_) = &self {
             self.print(rt);
             return Ok(());
         }
@@ -82,6 +97,23 @@ fn shown(path: &String) -> ShownPath<'_> {
     }
 }
 
+/// A word of the command line as a message shows it.
+#[derive(Clone, Copy)]
+struct ShownWord<'w> {
+    word: &'w str,
+}
+
+/// As a path is shown, and `''` where it is empty.
+impl fmt::Display for ShownWord<'_> {
+    fn fmt<W: fmt::Write>(&self, f: &mut fmt::Formatter<W>) -> fmt::Result {
+        if self.word.is_empty() {
+            return f.write_str("''");
+        }
+        let path = ShownPath { path: self.word };
+        write!(f, "{path}")
+    }
+}
+
 /// What follows `error: `.
 impl fmt::Display for Stop {
     fn fmt<W: fmt::Write>(&self, f: &mut fmt::Formatter<W>) -> fmt::Result {
@@ -89,15 +121,33 @@ impl fmt::Display for Stop {
             Stop::Refused | Stop::Faulted => Ok(()),
             Stop::Usage(told) => f.write_str(told),
             Stop::Fault(fault) => write!(f, "{fault}"),
+            Stop::Lacking(option, word, gap) => {
+                let word = ShownWord {
+                    word: word.as_str(),
+                };
+                let option = *option;
+                write!(f, "{option} {word}: {gap}")
+            }
             Stop::Unread(path, reason) => {
                 let path = shown(path);
-                write!(f, "{path}: {reason}")
+                match reason_words(*reason) {
+                    Some(words) => write!(f, "{path}: {words}"),
+                    None => write!(f, "{path}: {reason}"),
+                }
+            }
+            Stop::NoFolder(path) => {
+                let path = shown(path);
+                write!(f, "{path}: Not a directory; one file is named NAME={path}")
             }
             Stop::Unwritten(path, kind) => {
                 let path = shown(path);
-                write!(f, "{path}: it can't be written: {kind}")
+                let words = system_words(*kind);
+                write!(f, "{path}: it can't be written: {words}")
             }
-            Stop::Output(kind) => write!(f, "standard output: {kind}"),
+            Stop::Output(kind) => {
+                let words = system_words(*kind);
+                write!(f, "standard output: {words}")
+            }
         }
     }
 }
@@ -112,6 +162,7 @@ impl From<WordFault> for Stop {
     fn from(fault: WordFault) -> Stop {
         match fault {
             WordFault::Wrong(told) => Stop::Usage(told),
+            WordFault::Lacking(option, word, gap) => Stop::Lacking(option, word, gap),
             WordFault::Memory => Stop::from(AllocError),
         }
     }

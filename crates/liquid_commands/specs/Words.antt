@@ -1,17 +1,23 @@
 -- What single words of a call mean.
 --     data_file word      a file of data, with its name where the word is NAME=FILE
+--     gap_of word      what such a word lacks
 --     filter_set, missing_of, are_in_csv, format_of      what the values of options ask for
+--     is_yaml path      whether a file is named as YAML
+--     is_template_path word      whether a word is a path rather than a command
 --     is_selected number from count      whether a record is among those that are asked for
-use Rattle.std.specs.Prelude.{ℕ, Bool, false, cond, ◌-◌, ◌==◌, nat_lt, nat_le, length}
-use Rattle.std.specs.Prelude.{List, drop, codes, bytes_eq, Option, Some, None, option_map}
+use Rattle.std.specs.Prelude.{ℕ, Bool, false, cond, ◌||◌, ◌&&◌, ◌-◌, ◌==◌, nat_lt, nat_le, length}
+use Rattle.std.specs.Prelude.{List, [], ◌∷◌, drop, codes, bytes_eq, Option, Some, None, option_map}
 use Rattle.std.specs.Borrow.{Bor}
-use Rattle.std.specs.List.{after_first, before_first, position_or_len}
+use Rattle.std.specs.Int.{is_in_range}
+use Rattle.std.specs.List.{list_all, list_any, after_first, before_first, position_or_len}
 use Rattle.liquid_diagnostics.specs.declared.diagnostic.DiagnosticFormat.{DiagnosticFormat}
 use Rattle.liquid_diagnostics.specs.declared.diagnostic.DiagnosticFormat.TheVariants.{Text, Json}
 use Rattle.liquid_diagnostics.specs.declared.diagnostic.DiagnosticFormat.TheVariants.{Github}
 use Rattle.liquid_commands.specs.declared.words.DataFile.{DataFile}
 use Rattle.liquid_commands.specs.declared.words.FilterSet.{FilterSet}
 use Rattle.liquid_commands.specs.declared.words.FilterSet.TheVariants.{Jekyll, Shopify}
+use Rattle.liquid_commands.specs.declared.words.Gap.{Gap}
+use Rattle.liquid_commands.specs.declared.words.Gap.TheVariants as gap
 use Rattle.liquid_commands.specs.declared.words.Missing.{Missing}
 use Rattle.liquid_commands.specs.declared.words.Missing.TheVariants.{Fault, Nil}
 
@@ -41,6 +47,22 @@ file_of word (Some p) = record { name = Some p.0; path = p.1 }
 
 abbrev pub data_file : CommandWord → Named
 data_file word = file_of word (split_at_equals word)
+
+abbrev pub gap_of_path : CommandWord → Option Gap
+gap_of_path [] = Some gap.Path
+gap_of_path (b ∷ bs) = None
+
+abbrev pub gap_of_parts : CommandWord → CommandWord → Option Gap
+gap_of_parts [] path = Some gap.Name
+gap_of_parts (b ∷ bs) path = gap_of_path path
+
+abbrev pub gap_found : CommandWord → Option (CommandWord × CommandWord) → Option Gap
+gap_found word None = gap_of_path word
+gap_found word (Some p) = gap_of_parts p.0 p.1
+
+-- a name before its first `=`, and a path
+abbrev pub gap_of : CommandWord → Option Gap
+gap_of word = gap_found word (split_at_equals word)
 
 abbrev pub set_named : CommandWord → Option FilterSet
 set_named name = cond (bytes_eq name (codes "jekyll")) (Some Jekyll)
@@ -73,6 +95,26 @@ abbrev pub are_in_csv : Option CommandWord → CommandWord → Bool
 are_in_csv None path = has_ending (codes ".csv") path
 are_in_csv (Some format) path = bytes_eq format (codes "csv")
 
+-- as its path ends
+abbrev pub is_yaml : CommandWord → Bool
+is_yaml path = has_ending (codes ".yaml") path || has_ending (codes ".yml") path
+
 -- so many at most, from this number on
 abbrev pub is_selected : ℕ → ℕ → ℕ → Bool
 is_selected number from count = cond (nat_le from number) (nat_lt (number - from) count) false
+
+-- `+ , - . /`, a digit, a letter, and `: = @ _`
+abbrev pub is_plain_byte : ℕ → Bool
+is_plain_byte b = is_in_range 0x2B 0x3A b || ((b == 0x3D) || (is_in_range 0x40 0x5A b
+    || ((b == 0x5F) || is_in_range 0x61 0x7A b)))
+
+-- no shell reads it otherwise
+abbrev pub is_plain_word : CommandWord → Bool
+is_plain_word word = list_all is_plain_byte word
+
+-- a dot or a slash
+abbrev pub is_path_byte : ℕ → Bool
+is_path_byte b = (b == 0x2E) || (b == 0x2F)
+
+abbrev pub is_template_path : CommandWord → Bool
+is_template_path word = is_plain_word word && list_any is_path_byte word

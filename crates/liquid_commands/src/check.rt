@@ -89,9 +89,12 @@ pub fn check_call<'w>(alloc: Global, given: &ArgMatches<'w>) -> Result<CheckCall
     Ok(call)
 }
 
-fn paths_of<'w>(alloc: Global, given: &ArgMatches<'w>) -> Result<Vec<&'w str>, AllocError> {
+fn paths_of<'w>(alloc: Global, given: &ArgMatches<'w>) -> Result<Vec<&'w str>, WordFault> {
     let mut paths = Vec::new(alloc);
     for word in given.get_strs("PATH").unwrap_or_default() {
+        if word.is_empty() {
+            return Err(WordFault::Wrong("a PATH is empty"));
+        }
         paths.push(*word)?;
     }
     Ok(paths)

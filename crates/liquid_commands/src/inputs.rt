@@ -1,6 +1,6 @@
 //! What a page is made of, as the words name it.
 use crate::forms::Forms;
-use crate::words::{DataFile, FilterSet, data_file, filter_set};
+use crate::words::{DataFile, FilterSet, Gap, data_file, filter_set, gap_of};
 use clap::ArgMatches;
 use std::alloc::{AllocError, AllocFailed, Global};
 
@@ -9,6 +9,8 @@ use std::alloc::{AllocError, AllocFailed, Global};
 pub enum WordFault {
     /// They are wrong in this.
     Wrong(&'static str),
+    /// The word after this option lacks something.
+    Lacking(&'static str, String, Gap),
     /// Memory ran out.
     Memory,
 }
@@ -48,6 +50,12 @@ pub(crate) fn inputs_of<'w>(
     let Some(template) = given.get_str("TEMPLATE") else {
         return Err(WordFault::Wrong("a template is needed"));
     };
+    if template.is_empty() {
+        return Err(WordFault::Wrong("the path of the template is empty"));
+    }
+    if records.is_some_and(str::is_empty) {
+        return Err(WordFault::Wrong("the path of the records is empty"));
+    }
     let inputs = Inputs {
         template,
         data: data_of(alloc, given, records.is_none())?,
@@ -66,25 +74,38 @@ pub(crate) fn data_of<'w>(
     alloc: Global,
     given: &ArgMatches<'w>,
     has_own: bool,
-) -> Result<Vec<DataFile<'w>>, AllocError> {
+) -> Result<Vec<DataFile<'w>>, WordFault> {
     let mut data = Vec::new(alloc);
     if has_own {
         if let Some(path) = given.get_str("DATA") {
+            if path.is_empty() {
+                return Err(WordFault::Wrong("the path of the data is empty"));
+            }
             data.push(DataFile { name: None, path })?;
         }
     }
     for word in given.get_strs("data").unwrap_or_default() {
+        check_gap(alloc, "-d", word)?;
         data.push(data_file(word))?;
     }
     Ok(data)
 }
 
+/// Refuses a word FILE or NAME=FILE after an option that lacks something.
+fn check_gap(alloc: Global, option: &'static str, word: &str) -> Result<(), WordFault> {
+    match gap_of(word) {
+        Some(gap) => Err(WordFault::Lacking(option, String::from_str(alloc, word)?, gap)),
+        None => Ok(()),
+    }
+}
+
 pub(crate) fn partials_of<'w>(
     alloc: Global,
     given: &ArgMatches<'w>,
-) -> Result<Vec<&'w str>, AllocError> {
+) -> Result<Vec<&'w str>, WordFault> {
     let mut partials = Vec::new(alloc);
     for word in given.get_strs("partials").unwrap_or_default() {
+        check_gap(alloc, "-p", word)?;
         partials.push(*word)?;
     }
     Ok(partials)
@@ -95,6 +116,14 @@ impl Inputs<'_> {
     fn from_standard_input(&self) -> usize {
         let others = count_from_standard_input(&self.data, &self.partials);
         others.saturating_add((self.template == "-") as usize)
+    }
+}
+
+/// The file that a page goes to; it has a name.
+pub(crate) fn out_of<'w>(given: &ArgMatches<'w>) -> Result<Option<&'w str>, WordFault> {
+    match given.get_str("out") {
+        Some("") => Err(WordFault::Wrong("the path after --out is empty")),
+        out => Ok(out),
     }
 }
 

@@ -10,6 +10,7 @@ mod merge;
 mod options;
 mod paths;
 mod render;
+mod tips;
 mod words;
 
 pub use check::{CheckCall, check_call, check_command};
@@ -22,7 +23,8 @@ pub use options::{
 };
 pub use paths::{PathsCall, PathsFormat, paths_call, paths_command};
 pub use render::{RenderCall, render_call, render_command};
+pub use tips::{command_fault, is_template_path};
 pub use words::{
-    DataFile, FilterSet, Missing, are_in_csv, data_file, filter_set, is_selected, is_toml,
-    missing_of,
+    DataFile, FilterSet, Gap, Missing, are_in_csv, data_file, filter_set, gap_of, is_selected,
+    is_toml, is_yaml, missing_of,
 };

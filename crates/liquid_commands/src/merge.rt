@@ -1,6 +1,6 @@
 //! The words of `merge`.
 use crate::forms::with_form_options;
-use crate::inputs::{Inputs, WordFault, inputs_of};
+use crate::inputs::{Inputs, WordFault, inputs_of, out_of};
 use crate::options::{STATUSES, data_option, flag, limit_option, partials_option, template_word};
 use crate::words::are_in_csv;
 use clap::{Arg, ArgMatches, Command};
@@ -87,11 +87,17 @@ pub fn merge_call<'w>(alloc: Global, given: &ArgMatches<'w>) -> Result<MergeCall
     let Some(records) = given.get_str("RECORDS") else {
         return Err(WordFault::Wrong("records are needed"));
     };
+    let out = out_of(given)?;
+    if out.is_none() && given.get_flag("dry-run") {
+        return Err(WordFault::Wrong(
+            "--dry-run prints the names of files: write their pattern after --out",
+        ));
+    }
     Ok(MergeCall {
         inputs: inputs_of(alloc, given, Some(records))?,
         records,
         in_csv: are_in_csv(given.get_str("records-format"), records),
-        out: given.get_str("out"),
+        out,
         separator: given.get_str("separator").unwrap_or("\n"),
         from: given.get_one::<u64>("from").unwrap_or(1).max(1),
         count: given.get_one::<u64>("count").unwrap_or(u64::MAX),

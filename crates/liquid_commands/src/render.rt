@@ -1,6 +1,6 @@
 //! The words of `render`.
 use crate::forms::with_form_options;
-use crate::inputs::{Inputs, WordFault, inputs_of};
+use crate::inputs::{Inputs, WordFault, inputs_of, out_of};
 use crate::options::{
     STATUSES, data_option, filters_option, limit_option, partials_option, template_word,
 };
@@ -76,7 +76,7 @@ fn missing_option<'a>(alloc: Global) -> Arg<'a> {
 pub fn render_call<'w>(alloc: Global, given: &ArgMatches<'w>) -> Result<RenderCall<'w>, WordFault> {
     Ok(RenderCall {
         inputs: inputs_of(alloc, given, None)?,
-        out: given.get_str("out"),
+        out: out_of(given)?,
         max_bytes: given.get_one::<u64>("max-bytes"),
         max_turns: given.get_one::<u64>("max-turns"),
         missing: missing_of(given.get_str("missing")),

@@ -1,8 +1,11 @@
 //! What single words mean.
 ghost use Rattle.std.specs.Prelude.{◌≡◌, codes, option_map};
 ghost use Rattle.liquid_commands.specs.Words.{are_in_csv, data_file, file_view, filter_set};
-ghost use Rattle.liquid_commands.specs.Words.{has_ending, is_selected, missing_of, split_view};
-ghost use Rattle.liquid_commands.specs.Words.{split_at_equals, set_named};
+ghost use Rattle.liquid_commands.specs.Words.{has_ending, is_selected, is_yaml, missing_of};
+ghost use Rattle.liquid_commands.specs.Words.{gap_of, gap_of_path, split_at_equals, split_view};
+ghost use Rattle.liquid_commands.specs.Words.{set_named};
+
+use std::fmt;
 
 /// A file of data, with the name that it is given in a template, where it has one.
 #[derive(Clone, Copy, Drop)]
@@ -48,6 +51,46 @@ fn named_file(word: &str) -> Option<(&str, &str)>
     ensures { split_view result ≡ split_at_equals word.now }
 {
     word.split_once('=')
+}
+
+/// What a word FILE or NAME=FILE lacks.
+#[derive(Clone, Copy, Debug, Drop)]
+pub enum Gap {
+    /// Nothing stands before its `=`.
+    Name,
+    /// There is no path.
+    Path,
+}
+
+/// What is to be said of it.
+impl fmt::Display for Gap {
+    fn fmt<W: fmt::Write>(&self, f: &mut fmt::Formatter<W>) -> fmt::Result {
+        f.write_str(match self {
+            Gap::Name => "there is no name before `=`; write NAME=FILE",
+            Gap::Path => "there is no path; write a path, or NAME=FILE",
+        })
+    }
+}
+
+/// What a word FILE or NAME=FILE lacks, where it lacks something. It takes no memory.
+pub fn gap_of(word: &str) -> Option<Gap>
+    ensures { result ≡ gap_of word.now }
+{
+    match named_file(word) {
+        Some(("", _)) => Some(Gap::Name),
+        Some((_, path)) => gap_of_path(path),
+        None => gap_of_path(word),
+    }
+}
+
+fn gap_of_path(path: &str) -> Option<Gap>
+    ensures { result ≡ gap_of_path path.now }
+{
+    if path.is_empty() {
+        Some(Gap::Path)
+    } else {
+        None
+    }
 }
 
 /// The set of a name, where one is given. It takes no memory.
@@ -96,6 +139,13 @@ pub fn is_toml(path: &str) -> bool
     ensures { result ≡ has_ending (codes ".toml") path.now }
 {
     ends_in(path, ".toml")
+}
+
+/// Whether a file of data is named as YAML, which isn't read. It takes no memory.
+pub fn is_yaml(path: &str) -> bool
+    ensures { result ≡ is_yaml path.now }
+{
+    ends_in(path, ".yaml") || ends_in(path, ".yml")
 }
 
 fn ends_in(path: &str, ending: &str) -> bool

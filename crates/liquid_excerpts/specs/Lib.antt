@@ -1,2 +1,3 @@
 -- What the public contracts of this crate cite.
 pub mod Paths
+pub mod SystemWords

@@ -1,11 +1,13 @@
 //! What the programs print beside a fault: the line of a text that it is in, the path of a file,
-//! and why a file has no text.
+//! and why a file has no text or can't be written.
 #![tactic(auto)]
 
 mod excerpt;
 mod shown_path;
+mod system_words;
 mod unreadable;
 
 pub use excerpt::Excerpt;
 pub use shown_path::ShownPath;
+pub use system_words::{reason_words, system_words};
 pub use unreadable::Reason;

@@ -14,7 +14,7 @@ why_text (NoData e) = error_text e
 why_text (Faulted e) = error_text e
 why_text (Unnamed e) = codes "the name of its file: " ++ error_text e
 why_text (BadName name) = codes "the name of its file is `" ++ (quotation (string_bytes name)
-    ++ codes "`: a part between slashes needs more than dots")
+    ++ codes "`: it may not begin with a slash, and each part between slashes needs more than dots")
 
 abbrev pub failure_text : Failure → Text
 failure_text (NoPage why) = why_text why

@@ -22,7 +22,7 @@ impl fmt::Display for Why {
                 };
                 write!(
                     f,
-                    "the name of its file is `{name}`: a part between slashes needs more than dots"
+                    "the name of its file is `{name}`: it may not begin with a slash, and each part between slashes needs more than dots"
                 )
             }
         }

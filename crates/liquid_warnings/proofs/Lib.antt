@@ -1,1 +1,3 @@
+pub mod FileWarnings
+pub mod ReadPlaces
 pub mod SeenLiterals

@@ -5,4 +5,5 @@ pub mod Messages
 pub mod Nodes
 pub mod Paths
 pub mod Remarks
+pub mod Warnings
 pub mod inside

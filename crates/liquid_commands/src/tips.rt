@@ -1,0 +1,90 @@
+//! What is said where a file stands in the place of a command.
+ghost use Rattle.std.specs.Prelude.{◌≡◌};
+ghost use Rattle.std.specs.List.{list_all, list_any};
+ghost use Rattle.liquid_commands.specs.Words.{is_plain_word, is_plain_byte, is_path_byte};
+ghost use Rattle.liquid_commands.specs.Words.{is_template_path};
+
+use crate::commands::program;
+use clap::Error;
+use clap::error::ErrorKind;
+use std::alloc::{AllocError, Global};
+
+/// What is wrong where the first word of a call names a file, and no command: `render` is likely
+/// meant. None where it names none. `AllocError` where there is no room for it, and nowhere else.
+pub fn command_fault(alloc: Global, words: &[String]) -> Result<Option<Error>, AllocError> {
+    let [_, first, ..] = words else {
+        return Ok(None);
+    };
+    if !is_template_path(first.as_str()) {
+        return Ok(None);
+    }
+    let call = render_call(alloc, words)?;
+    let first = first.as_str();
+    let message = format!(in alloc;
+        "unrecognized subcommand '{first}'\n\n  tip: to render a template, write '{call}'"
+    )?;
+    let mut program = program(alloc)?;
+    Ok(Some(program.error(ErrorKind::InvalidSubcommand, message.as_str())?))
+}
+
+/// The call of `render` with these words.
+fn render_call(alloc: Global, words: &[String]) -> Result<String, AllocError> {
+    let mut call = String::from_str(alloc, "bikleinu render")?;
+    for word in words.iter().skip(1) {
+        if !is_plain(word.as_str()) {
+            return String::from_str(alloc, "bikleinu render TEMPLATE [DATA]");
+        }
+        call.push(' ')?;
+        call.push_str(word.as_str())?;
+    }
+    Ok(call)
+}
+
+/// Whether a word is the path of a file rather than the name of a command: each of its characters
+/// may stand in a path that no shell reads otherwise, and a dot or a slash is among them. It takes
+/// no memory.
+pub fn is_template_path(word: &str) -> bool
+    ensures { result ≡ is_template_path word.now }
+{
+    is_plain(word) && has_path_byte(word.as_bytes())
+}
+
+fn has_path_byte(bytes: &[u8]) -> bool
+    ensures { result ≡ list_any is_path_byte bytes.now }
+{
+    for byte in bytes {
+        if is_path_byte(*byte) {
+            return true;
+        }
+    }
+    false
+}
+
+fn is_path_byte(byte: u8) -> bool
+    ensures { result ≡ is_path_byte byte }
+{
+    byte == b'.' || byte == b'/'
+}
+
+fn is_plain(word: &str) -> bool
+    ensures { result ≡ is_plain_word word.now }
+{
+    are_plain(word.as_bytes())
+}
+
+fn are_plain(bytes: &[u8]) -> bool
+    ensures { result ≡ list_all is_plain_byte bytes.now }
+{
+    for byte in bytes {
+        if !is_plain_byte(*byte) {
+            return false;
+        }
+    }
+    true
+}
+
+fn is_plain_byte(byte: u8) -> bool
+    ensures { result ≡ is_plain_byte byte }
+{
+    matches!(byte, b'+'..=b':' | b'=' | b'@'..=b'Z' | b'_' | b'a'..=b'z')
+}
