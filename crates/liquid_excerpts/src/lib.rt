@@ -4,10 +4,10 @@
 
 mod excerpt;
 mod shown_path;
-mod system_words;
+mod system;
 mod unreadable;
 
 pub use excerpt::Excerpt;
 pub use shown_path::ShownPath;
-pub use system_words::{reason_words, system_words};
+pub use system::{reason_words, system_words};
 pub use unreadable::Reason;

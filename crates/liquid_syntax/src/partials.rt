@@ -93,10 +93,10 @@ impl Partials {
     pub fn exchange(&mut self, name: &str, held: Option<Template>) -> Option<Template>
         requires { IsSome (listed (slots_of self.old) name.now) }
         ensures out { listed (slots_of self.old) name.now ≡ Some (option_map tree_of result) }
-        ensures slot { slots_of self.new ≡ placed name.now (option_map tree_of mentioned_in_set)
+        ensures slot { slots_of self.new ≡ placed name.now (option_map tree_of held)
             (slots_of self.old) }
         ensures held { partials_of self.new ≡ exchanged name.now
-            (option_map tree_of mentioned_in_set)
+            (option_map tree_of held)
             (partials_of self.old) }
     {
         match self.templates.get_mut(name) {
