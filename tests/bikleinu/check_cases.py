@@ -83,6 +83,7 @@ def partial_cases():
         warned("a render finds a name with .liquid, an include doesn't", "t -p a.liquid=x", {"t": "{% render 'a' %}{% include 'a' %}", "x": ""}, warning("t", 1, 17, "MissingPartial", "no partial is named `a`"), 1, 2),
         warned("no partials are given", "t", {"t": "{% include 'a' %}"}, "", 0),
         warned("a partial that nothing runs", "t -p p", {"t": "{% render 'a' %}", "p/a": "", "p/b": ""}, warning("p/b", 1, 1, "UnusedPartial", "none of the templates runs this partial"), 1, 3),
+        warned("two files of one name", "t -p a=x -p a=y", {"t": "{% render 'a' %}", "x": "", "y": ""}, warning("x", 1, 1, "UnusedPartial", "none of the templates runs this partial"), 1, 3),
         warned("a partial that a name in the data may run", "t -p p", {"t": "{% render a %}", "p/b": ""}, "", 0, 2),
         warned("pages among the partials", "f -p f", {"f/a": "{% render 'b' %}", "f/b": ""}, "", 0, 2),
         warned("a folder of partials inside that of pages", "f -p f/p", {"f/a": "", "f/p/b": ""}, warning("f/p/b", 1, 1, "UnusedPartial", "none of the templates runs this partial"), 1, 2),
@@ -93,6 +94,7 @@ def partial_cases():
 def name_cases():
     return [
         warned("a name that the data lacks", "t -d d", {"t": "{{ nane }}{{ name }}{{ xyzzy }}{{ nane }}", "d": '{"name": 1}'}, warning("t", 1, 1, "UnknownName", "the data has no `nane`; did you mean `name`?") + warning("t", 1, 21, "UnknownName", "the data has no `xyzzy`"), 2),
+        warned("warnings stand in the order of their places", "t -d d", {"t": "{{ xyzzy }}{% for c in 'abc' %}{% endfor %}", "d": "{}"}, warning("t", 1, 1, "UnknownName", "the data has no `xyzzy`") + warning("t", 1, 12, "NoList", "this is a text, and a loop goes over a list or a map"), 2),
         warned("names that tags set", "t -d d -p p", {"t": "{% assign a = 1 %}{% capture b %}{% endcapture %}{{ a }}{{ b }}{% for i in l %}{{ i }}{{ forloop.index }}{% endfor %}{% increment n %}{{ n }}{% render 'q', k: 1 %}", "p/q": "{{ k }}", "d": '{"l": []}'}, "", 0, 2),
         warned("a variable that nothing reads", "t", {"t": "{% assign a = 1 %}{% assign b = 1 %}{{ b }}{% capture c %}{% endcapture %}"}, warning("t", 1, 1, "UnusedVariable", "`a` is set here, and nothing reads it") + warning("t", 1, 44, "UnusedVariable", "`c` is set here, and nothing reads it"), 2),
         warned("a partial reads it", "t -p p", {"t": "{% assign a = 1 %}{% include 'q' %}", "p/q": "{{ a }}"}, "", 0, 2),
@@ -114,6 +116,7 @@ def path_cases():
     return [
         warned("a path that the data lacks", "t -d d", {"t": "{{ user.name }}{{ user.nmae }}{{ user.nmae }}{{ user.xyzzy.b }}", "d": USER}, unknown(16, "the data has no `user.nmae`; did you mean `user.name`?") + unknown(46, "the data has no `user.xyzzy`"), 2),
         warned("a step in brackets", "t -d d", {"t": "{{ user['first name'] }}{{ user[\"nam\"] }}", "d": USER}, unknown(1, "the data has no `user.first name`") + unknown(25, "the data has no `user.nam`; did you mean `user.name`?"), 2),
+        warned("a key with a dot", "t -d d", {"t": "{{ x['a.c'] }}{% for y in x.l %}{{ y['m.o'] }}{% endfor %}", "d": '{"x": {"a.b": 1, "l": [{"m.n": 1}]}}'}, unknown(1, "the data has no `x.a.c`; did you mean `x.a.b`?") + unknown(33, "an item of `x.l` has no `m.o`; did you mean `m.n`?"), 2),
         warned("a path goes up to a step that is no literal text", "t -d d", {"t": "{{ user[k].b }}{{ user.tags[0].b }}{{ user.tgs[k] }}{% assign k = 'x' %}", "d": USER}, unknown(36, "the data has no `user.tgs`; did you mean `user.tags`?")),
         warned("a path in a step, an argument, a condition, a case, a limit and a pair", "t -d d -p p", {"t": "{{ user[user.a1] }}{{ 1 | plus: user.a2 }}{% if user.a3 == 1 %}{% endif %}{% case user.a4 %}{% when user.a5 %}{% endcase %}{% for i in user.tags limit: user.a6 %}{% endfor %}{% cycle user.a7, 1 %}{% render 'q', k: user.a8 %}", "p/q": "", "d": USER}, unknown(1, "the data has no `user.a1`") + unknown(20, "the data has no `user.a2`") + unknown(43, "the data has no `user.a3`") + unknown(75, "the data has no `user.a4`") + unknown(75, "the data has no `user.a5`") + unknown(124, "the data has no `user.a6`") + unknown(175, "the data has no `user.a7`") + unknown(197, "the data has no `user.a8`"), 8, 2),
         warned("an item of a list lacks it", "t -d d", {"t": "{% for t in shop.teas %}{{ t.title }}{{ t.maker.nmae }}{% endfor %}", "d": SHOP}, unknown(25, "an item of `shop.teas` has no `title`; did you mean `titel`?") + unknown(38, "an item of `shop.teas` has no `maker.nmae`; did you mean `maker.name`?"), 2),

@@ -186,6 +186,19 @@ static void of_bounds(void) {
     end();
 }
 
+/* Limits beside a table: a page that one of them ended has its text up to there. */
+static void of_limits(void) {
+    begin("{% for i in (1..5) %}{{ 'a' | shout }}{% endfor %}", "{}");
+    is("lacking", render(), BIKLEINU_LACKING);
+    answers_by(0, "{\"answer\":\"A\"}");
+    bikleinu_limits turns = {.turns = 4}, bytes_ = {.bytes = 2};
+    is("turns", bikleinu_render_with(&template_, &data, &partials, 32, &turns, &answers, &page), BIKLEINU_TURNS_REACHED);
+    reads("up to the turns", &page, BIKLEINU_TEXT, "AAA");
+    is("bytes", bikleinu_render_with(&template_, &data, &partials, 32, &bytes_, &answers, &page), BIKLEINU_BYTES_REACHED);
+    reads("up to the bytes", &page, BIKLEINU_TEXT, "AA");
+    end();
+}
+
 /* Jekyll's language, and the names of a template. */
 static void of_languages(void) {
     static const char source[] = "{% include p a=b %}{{ xs | sort: 'k', 'first' | join: ',' }}";
@@ -207,7 +220,7 @@ static void of_languages(void) {
 
 int main(void) {
     size_t before = blocks;
-    of_rounds(), of_faults(), of_refusals(), of_languages(), of_bounds();
+    of_rounds(), of_faults(), of_refusals(), of_languages(), of_bounds(), of_limits();
     if (blocks != before) wrong++, printf("%zu pieces of memory are left\n", blocks - before);
     printf("tables: %zu\n", tests);
     return wrong != 0;

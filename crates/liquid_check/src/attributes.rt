@@ -1,5 +1,5 @@
 //! Outputs in the values of attributes that aren't escaped.
-ghost use Rattle.std.specs.Prelude.{◌≡◌, IfErr};
+ghost use Rattle.std.specs.Prelude.{◌≡◌, ◌≤◌, IfErr, IfOk, length};
 
 use crate::findings::MOST_FINDINGS;
 use crate::html_place::HtmlPlace;
@@ -23,13 +23,14 @@ pub fn unescaped_attributes(
     source: &str,
     language: &Language,
 ) -> Result<Vec<Location>>
+    ensures few { IfOk result (λ places. length places.items ≤ 100) }
     ensures memory { IfErr result (λ e. e.kind ≡ ErrorKind.Memory) }
 {
     let mut places = Vec::new(alloc);
     let mut html = HtmlPlace::Text;
     let mut rest = source;
     // each piece takes a byte at least
-    for _ in 0..source.len() {
+    'pieces: for _ in 0..source.len() {
         let (front, at) = text_before(rest);
         html = html.after(front);
         let Some(inside) = past_byte(at, b'{') else {

@@ -1,5 +1,6 @@
 //! What stands after `else`, and isn't read.
-ghost use Rattle.std.specs.Prelude.{◌≡◌, IfErr};
+ghost use Rattle.std.specs.Prelude.{◌≡◌, ◌≤◌, IfErr, IfOk, length};
+ghost use Rattle.liquid_check.specs.Otherwise.{has_items};
 
 use crate::findings::MOST_FINDINGS;
 use crate::part::past_piece;
@@ -13,12 +14,13 @@ use std::alloc::{AllocError, Global};
 ///
 /// The answer is `Memory` where a growth was refused, and no other kind.
 pub fn else_items(alloc: Global, source: &str, language: &Language) -> Result<Vec<Location>>
+    ensures few { IfOk result (λ places. length places.items ≤ 100) }
     ensures memory { IfErr result (λ e. e.kind ≡ ErrorKind.Memory) }
 {
     let mut places = Vec::new(alloc);
     let mut rest = source;
     // each piece takes a byte at least
-    for _ in 0..source.len() {
+    'pieces: for _ in 0..source.len() {
         let (_, at) = text_before(rest);
         let Some(inside) = past_byte(at, b'{') else {
             break;
@@ -38,7 +40,9 @@ pub fn else_items(alloc: Global, source: &str, language: &Language) -> Result<Ve
 }
 
 /// Whether the piece after a `{` is an `else` with items.
-fn has_items(alloc: Global, inside: &str) -> std::result::Result<bool, AllocError> {
+fn has_items(alloc: Global, inside: &str) -> std::result::Result<bool, AllocError>
+    ensures { IfOk result (λ b. b ≡ has_items inside.now) }
+{
     match read_markup(alloc, inside) {
         Ok((markup, _)) => match &markup.piece {
             Piece::Tag(name, items) => Ok(*name == "else" && !items.is_empty()),

@@ -1,10 +1,19 @@
 -- Paths in the data, as messages show them.
 --     data_path_text path count      a path with so many of its steps, as `shop.products[].title`
-use Rattle.std.specs.Prelude.{ℕ, List, [], ◌∷◌, ◌++◌, codes, take, string_bytes}
+--     list_before steps      how many steps lead to the innermost list whose items they go over
+--     lack_words path list      what lacks a path: the data, or an item of that list
+--     lacking_text path list count      what it lacks, up to so many steps
+--     meant_text path list count key      the same with another key in place of the last
+--     is_needed want      what is wanted has to be there
+use Rattle.std.specs.Prelude.{ℕ, suc, ◌-◌, List, [], ◌∷◌, ◌++◌, codes, drop, take, string_bytes}
+use Rattle.std.specs.Prelude.{Option, Some, None, Bool, true, false}
 use Rattle.liquid_model.specs.Texts.{Text}
 use Rattle.liquid_data_paths.specs.declared.data_path.DataPath.{DataPath}
 use Rattle.liquid_data_paths.specs.declared.data_path.Step.{Step}
 use Rattle.liquid_data_paths.specs.declared.data_path.Step.TheVariants.{Each, Key}
+use Rattle.liquid_data_paths.specs.declared.doubt.Want.{Want}
+use Rattle.liquid_data_paths.specs.declared.doubt.Want.TheVariants.{Present, Perhaps, Date, Items}
+use Rattle.liquid_warnings.specs.Messages.{item_words}
 
 abbrev pub step_text : Step → Text
 step_text (Key key) = codes "." ++ string_bytes key
@@ -16,3 +25,45 @@ steps_text (step ∷ steps) = step_text step ++ steps_text steps
 
 abbrev pub data_path_text : DataPath → ℕ → Text
 data_path_text path count = string_bytes path.name ++ steps_text (take count path.steps.items)
+
+-- after so many steps, of which the last to each item stands at this place
+abbrev pub list_from : ℕ → Option ℕ → List Step → Option ℕ
+list_from n found [] = found
+list_from n found (Key key ∷ steps) = list_from (suc n) found steps
+list_from n found (Each ∷ steps) = list_from (suc n) (Some n) steps
+
+abbrev pub list_before : List Step → Option ℕ
+list_before steps = list_from 0 None steps
+
+-- the keys with a dot between each and the next, and this before the first
+abbrev pub keys_text : Text → List Step → Text
+keys_text before [] = []
+keys_text before (Key key ∷ steps) = before ++ (string_bytes key ++ keys_text (codes ".") steps)
+keys_text before (Each ∷ steps) = keys_text before steps
+
+abbrev pub lack_words : DataPath → Option ℕ → Text
+lack_words path None = codes "the data has no"
+lack_words path (Some place) = item_words (data_path_text path place)
+
+-- the steps after the one to each item of the list, up to so many of the path's
+abbrev pub steps_past : DataPath → ℕ → ℕ → List Step
+steps_past path place count = drop (suc place) (take count path.steps.items)
+
+abbrev pub lacking_text : DataPath → Option ℕ → ℕ → Text
+lacking_text path None count = data_path_text path count
+lacking_text path (Some place) count = keys_text [] (steps_past path place count)
+
+-- a key after the others
+abbrev pub key_after : Text → Text → Text
+key_after [] key = key
+key_after (c ∷ cs) key = (c ∷ cs) ++ (codes "." ++ key)
+
+abbrev pub meant_text : DataPath → Option ℕ → ℕ → Text → Text
+meant_text path list count key = key_after (lacking_text path list (count - 1)) key
+
+-- nil is as good as a value that a condition tests, that a filter gets, or that is to be a date
+abbrev pub is_needed : Want → Bool
+is_needed Present = true
+is_needed Perhaps = false
+is_needed Date = false
+is_needed (Items span) = true

@@ -1,11 +1,14 @@
 //! What the data has other than templates ask for it.
 ghost use Rattle.std.specs.Prelude.{◌≡◌, IfErr, IfOk, string_bytes};
 ghost use Rattle.liquid_warnings.specs.Messages.{in_data, no_date, past_end};
+ghost use Rattle.liquid_warnings.specs.Paths.{is_needed};
 
 use crate::loops::no_list_of;
 use crate::messages::{lack_message, name_of, nearest_key};
 use crate::names::add_name;
-use crate::path_texts::{beside, key_before, lack_words, lacking_text, path_text};
+use crate::path_texts::{
+    first_steps, key_before, lack_words, lacking_text, list_before, meant_text, path_text,
+};
 use crate::remark::Remark;
 use crate::warnings::is_full;
 use liquid_check::{Asked, asked_paths};
@@ -125,17 +128,20 @@ fn unknown_path(
 }
 
 /// Whether what is wanted has to be there.
-fn is_needed(want: Want) -> bool {
+fn is_needed(want: Want) -> bool
+    ensures { result ≡ is_needed want }
+{
     !matches!(want, Want::Perhaps | Want::Date)
 }
 
 /// The message for a path whose last of so many steps leads to nothing, with a key near to it.
 fn path_message(alloc: Global, path: &DataPath, count: usize, near: Option<&str>) -> Said {
-    let words = lack_words(alloc, path, count)?;
-    let lacking = lacking_text(alloc, path, count)?;
+    let list = list_before(first_steps(path, count));
+    let words = lack_words(alloc, path, list)?;
+    let lacking = lacking_text(alloc, path, list, count)?;
     match near {
         Some(near) => {
-            let meant = beside(alloc, lacking.as_str(), near)?;
+            let meant = meant_text(alloc, path, list, count, near)?;
             lack_message(
                 alloc,
                 words.as_str(),

@@ -1,7 +1,9 @@
 //! Paths in the data, as messages show them.
-ghost use Rattle.std.specs.Prelude.{◌≡◌, ◌++◌, IfOk, OnOk, string_bytes, take};
+ghost use Rattle.std.specs.Prelude.{◌≡◌, ◌++◌, [], IfOk, OnOk, string_bytes, take};
 ghost use Rattle.liquid_warnings.specs.Messages.{item_words};
-ghost use Rattle.liquid_warnings.specs.Paths.{data_path_text, step_text, steps_text};
+ghost use Rattle.liquid_warnings.specs.Paths.{key_after, keys_text, lack_words, lacking_text};
+ghost use Rattle.liquid_warnings.specs.Paths.{list_before, meant_text, data_path_text, step_text};
+ghost use Rattle.liquid_warnings.specs.Paths.{steps_past, steps_text};
 
 use liquid_core::Quoted;
 use liquid_data_paths::{DataPath, Step};
@@ -19,7 +21,7 @@ pub(crate) fn path_text(alloc: Global, path: &DataPath, count: usize) -> Said
 }
 
 /// The first of a path's steps, so many.
-fn first_steps(path: &DataPath, count: usize) -> &[Step]
+pub(crate) fn first_steps(path: &DataPath, count: usize) -> &[Step]
     ensures { result.now ≡ take count path.now.steps.items }
 {
     if count < path.steps.len() {
@@ -59,11 +61,13 @@ pub(crate) fn key_before(path: &DataPath, count: usize) -> Option<&str> {
     }
 }
 
-/// How many steps lead to the innermost list whose items the first so many steps go over; none
-/// where they go over no list.
-fn list_before(path: &DataPath, count: usize) -> Option<usize> {
+/// How many steps lead to the innermost list whose items the steps go over; none where they go over
+/// no list.
+pub(crate) fn list_before(steps: &[Step]) -> Option<usize>
+    ensures { result ≡ list_before steps.now }
+{
     let mut found = None;
-    for (place, step) in first_steps(path, count).iter().enumerate() {
+    for (place, step) in steps.iter().enumerate() {
         if matches!(step, Step::Each) {
             found = Some(place);
         }
@@ -71,9 +75,11 @@ fn list_before(path: &DataPath, count: usize) -> Option<usize> {
     found
 }
 
-/// What lacks the path up to so many steps: the data, or an item of the innermost list on the way.
-pub(crate) fn lack_words(alloc: Global, path: &DataPath, count: usize) -> Said {
-    match list_before(path, count) {
+/// What lacks a path: the data, or an item of the innermost list on the way.
+pub(crate) fn lack_words(alloc: Global, path: &DataPath, list: Option<usize>) -> Said
+    ensures { IfOk result (λ text. string_bytes text ≡ lack_words path.now list) }
+{
+    match list {
         Some(place) => item_words(alloc, path_text(alloc, path, place)?.as_str()),
         None => String::from_str(alloc, "the data has no"),
     }
@@ -87,35 +93,69 @@ fn item_words(alloc: Global, list: &str) -> Said
 }
 
 /// What it lacks: the path from there up to so many steps.
-pub(crate) fn lacking_text(alloc: Global, path: &DataPath, count: usize) -> Said {
-    match list_before(path, count) {
-        Some(place) => {
-            let steps = first_steps(path, count);
-            let from = place.saturating_add(1);
-            keys_text(alloc, steps.get(from..).unwrap_or(steps))
-        }
+pub(crate) fn lacking_text(
+    alloc: Global,
+    path: &DataPath,
+    list: Option<usize>,
+    count: usize,
+) -> Said
+    ensures { IfOk result (λ text. string_bytes text ≡ lacking_text path.now list count) }
+{
+    match list {
+        Some(place) => keys_text(alloc, steps_past(path, place, count)),
         None => path_text(alloc, path, count),
     }
 }
 
+/// The steps of a path after the one to each item of a list, up to so many of the path's.
+fn steps_past(path: &DataPath, place: usize, count: usize) -> &[Step]
+    ensures { result.now ≡ steps_past path.now place count }
+{
+    let steps = first_steps(path, count);
+    if place < steps.len() {
+        &steps[place + 1..]
+    } else {
+        &[]
+    }
+}
+
 /// The keys of steps, as in `maker.name`.
-fn keys_text(alloc: Global, steps: &[Step]) -> Said {
+fn keys_text(alloc: Global, steps: &[Step]) -> Said
+    ensures { IfOk result (λ text. string_bytes text ≡ keys_text [] steps.now) }
+{
     let mut text = String::new(alloc);
+    let mut before = "";
     for step in steps {
         if let Step::Key(key) = step {
-            if !text.is_empty() {
-                text.push('.')?;
-            }
+            text.push_str(before)?;
             text.push_str(key.as_str())?;
+            before = ".";
         }
     }
     Ok(text)
 }
 
-/// A path with another key in place of its last.
-pub(crate) fn beside(alloc: Global, path: &str, key: &str) -> Said {
-    match path.rsplit_once('.') {
-        Some((front, _)) => format!(in alloc; "{front}.{key}"),
-        None => String::from_str(alloc, key),
+/// What it lacks, with another key in place of the last.
+pub(crate) fn meant_text(
+    alloc: Global,
+    path: &DataPath,
+    list: Option<usize>,
+    count: usize,
+    key: &str,
+) -> Said
+    ensures { IfOk result (λ text. string_bytes text ≡ meant_text path.now list count key.now) }
+{
+    let front = lacking_text(alloc, path, list, count.saturating_sub(1))?;
+    key_after(front, key)
+}
+
+fn key_after(front: String, key: &str) -> Said
+    ensures { IfOk result (λ text. string_bytes text ≡ key_after (string_bytes front) key.now) }
+{
+    let mut text = front;
+    if !text.is_empty() {
+        text.push('.')?;
     }
+    text.push_str(key)?;
+    Ok(text)
 }

@@ -1,0 +1,6 @@
+use Rattle.std.proofs.Common.{◌<◌, length}
+use Rattle.liquid_check.proofs.otherwise.else_items.Given as goal
+
+-- there is room for one more
+abbrev pub invariant-pieces : goal.invariant-pieces
+invariant-pieces l = length l.places.items < 100
