@@ -1,5 +1,6 @@
 -- The rows of a table, as they come out of a reader.
---     ReadsRows reader      each further read gives one row of it, of any length, as it stands there
+--     ReadsRows reader      each further read gives one row of it, of any length, as it stands
+--                           there
 --     reader_of rows      the reader that gives the rows
 --     IsHead text names      the first row of a text names these columns, where it has one
 use Rattle.std.specs.Prelude.{◌≡◌, true, false, ℕ, List, [], Ok, IfSome, map, string_bytes}

@@ -69,7 +69,8 @@ impl<R: Read + Drop> Rows<R> {
     pub fn advance(&mut self) -> io::Result<bool>
         ensures row { IfOk result (λ found. ReadsRows (reader_of self.old) → ReadRecord R.remaining
             (reader_of self.old) (reader_of self.new) found (fields_of self.new.row)) }
-        ensures plain { OnOk result (ReadsRows (reader_of self.old) → ReadsRows (reader_of self.new)) }
+        ensures plain { OnOk result
+            (ReadsRows (reader_of self.old) → ReadsRows (reader_of self.new)) }
         ensures goes { OnOk result
             (has_failed (reader_of self.new) ≡ has_failed (reader_of self.old)) }
         ensures names { self.new.names ≡ self.old.names }
