@@ -35,7 +35,8 @@ formed_reading (Err kind) = no_data kind
 -- a text is read here only where the form asks for something else than what stands there
 abbrev pub text_reading : DataForm → Text → RecordReading
 text_reading form s =
-    cond (form.decimals_as_texts || form.dates) (formed_reading (data_in_form form s)) (text_alone s)
+    cond (form.decimals_as_texts || form.dates) (formed_reading (data_in_form form s))
+    (text_alone s)
 
 abbrev pub line_reading : DataForm → List ℕ → RecordReading
 line_reading form line = cond (is_utf8 line) (text_reading form line) not_utf8
