@@ -11,7 +11,7 @@ PROGRAM = f"{TOP}/crates/liquid_page/out/liquid_page"
 # the lines after a fault: the one in which it stands, with its mark, or why a file has no text
 SHOWN = re.compile(r" +\|\n\d+ \| [^\n]*\n +\| *\^\n\Z|(?<=\n)  [a-z][^\n]*\n\Z")
 # what a call is refused, and what is answered, as refuse.c reads and writes them
-ASKED, ANSWERED = struct.Struct("4L"), struct.Struct("3l")
+ASKED, ANSWERED = struct.Struct("5L"), struct.Struct("4l")
 NO_END = 2**64 - 1
 
 
@@ -27,19 +27,22 @@ class Ended:
     # -1 where it didn't come to its end
     requests: int
     writes: int
+    # writes to files, and their new names
+    steps: int = 0
 
 
 class Program:
     """The program in the folder of a row, with the words of its calls. What it writes goes to files in memory, which no one has to read
     while it runs."""
 
-    def __init__(self, library, words, folder):
+    def __init__(self, library, words, folder, path=PROGRAM, given=subprocess.DEVNULL):
         self.page, self.told = (open(os.memfd_create(name), "w+b", buffering=0) for name in ("page", "told"))
         self.socket, served = socket.socketpair()
         with served:
             # all names are bound before the first call: each fork would bind them again
             env = {"LD_PRELOAD": library, "LD_BIND_NOW": "1", "REFUSE_SERVE": str(served.fileno())}
-            self.process = subprocess.Popen([PROGRAM, *words], cwd=folder, env=env, stdout=self.page, stderr=self.told, pass_fds=[served.fileno()])
+            streams = {"stdin": given, "stdout": self.page, "stderr": self.told}
+            self.process = subprocess.Popen([path, *words], cwd=folder, env=env, **streams, pass_fds=[served.fileno()])
 
     def __enter__(self):
         return self
@@ -50,25 +53,26 @@ class Program:
         self.page.close()
         self.told.close()
 
-    def call(self, refuse_at=0, refuse_write=0, write_bytes=0, write_room=NO_END):
+    def call(self, refuse_at=0, refuse_write=0, write_bytes=0, write_room=NO_END, refuse_step=0):
         """What a call comes to that is refused what is said."""
-        requests, writes, status = self.answer(ASKED.pack(refuse_at, refuse_write, write_bytes, write_room))
+        requests, writes, steps, status = self.answer(ASKED.pack(refuse_at, refuse_write, write_bytes, write_room, refuse_step))
         page, told = written(self.page), written(self.told).decode(errors="replace")
         behind = SHOWN.search(told)
         at = behind.start() if behind else len(told)
-        return Ended(page, told[:at], told[at:], status, requests, writes)
+        return Ended(page, told[:at], told[at:], status, requests, writes, steps)
 
     def answer(self, asked):
-        """The requests, the writes and the status of a call, or -1, -1 and the status of the program where it ended and serves no more."""
+        """The requests, the writes, the steps in files and the status of a call, or -1 three times and the status of the program where it
+        ended and serves no more."""
         try:
             self.socket.sendall(asked)
             answered = self.socket.recv(ANSWERED.size, socket.MSG_WAITALL)
         except (BrokenPipeError, ConnectionResetError):
             answered = b""
         if not answered:
-            return -1, -1, self.process.wait()
-        requests, writes, status = ANSWERED.unpack(answered)
-        return requests, writes, os.waitstatus_to_exitcode(status)
+            return -1, -1, -1, self.process.wait()
+        *counts, status = ANSWERED.unpack(answered)
+        return *counts, os.waitstatus_to_exitcode(status)
 
 
 def written(file):

@@ -1,0 +1,41 @@
+"""Merges onto a disk that fills up: a page that doesn't fit leaves no part, each record that fails is told, and `--from` goes on."""
+import os
+import resource
+import subprocess
+import tempfile
+
+MERGE = ("merge", "t", "r", "-o", "mails/{{ id }}")
+RECORDS, FIT = 6, 3
+
+
+def filled_up(program):
+    """What went wrong of a merge whose later pages don't fit, and of the merge that goes on once they do, or None."""
+    with tempfile.TemporaryDirectory() as room:
+        wanted = {str(n): f"{n}: {'x' * 10 * n}" for n in range(1, RECORDS + 1)}
+        with open(f"{room}/t", "w", encoding="utf-8") as file:
+            file.write("{{ id }}: {{ text }}")
+        with open(f"{room}/r", "w", encoding="utf-8") as file:
+            file.writelines(f'{{"id": {n}, "text": "{"x" * 10 * n}"}}\n' for n in range(1, RECORDS + 1))
+        most = len(wanted[str(FIT)])
+        told, status = merged(program, room, preexec_fn=lambda: resource.setrlimit(resource.RLIMIT_FSIZE, (most, most)))
+        refused = [f"error: record {n}: the file `mails/{n}` can't be written: file too large" for n in range(FIT + 1, RECORDS + 1)]
+        if (told, status) != ([*refused, f"pages {FIT}, failed {RECORDS - FIT}"], 1):
+            return f"status {status}, and it prints {told}"
+        if (left := pages_in(room)) != {name: text for name, text in wanted.items() if int(name) <= FIT}:
+            return f"it leaves {sorted(left)}, or a part"
+        told, status = merged(program, room, "--from", str(FIT + 1))
+        return None if status == 0 and pages_in(room) == wanted else f"gone on with: status {status}, and it prints {told}"
+
+
+def merged(program, room, *words, **how):
+    """The lines that a merge prints, and its status. A file that may not grow is a write that fails, since Python ignores the signal."""
+    done = subprocess.run([program, *MERGE, *words], cwd=room, stdin=subprocess.DEVNULL, capture_output=True, text=True, restore_signals=False, **how)
+    return done.stderr.splitlines(), done.returncode
+
+
+def pages_in(room):
+    pages = {}
+    for name in os.listdir(f"{room}/mails"):
+        with open(f"{room}/mails/{name}", encoding="utf-8") as file:
+            pages[name] = file.read()
+    return pages

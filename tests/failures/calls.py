@@ -1,0 +1,62 @@
+"""The calls of the programs whose failures are tried, and the files that each finds."""
+import shlex
+from dataclasses import dataclass
+
+LINES = "{% for line in lines %}{{ line }} {{ name }}\n{% endfor %}"
+DATA = '{"name": "Ada", "lines": [1, 2, 3, 4, 5, 6, 7, 8, 9, 10, 11, 12, 13, 14, 15, 16]}'
+MANY = '{"name": "Ada", "lines": [' + ", ".join(map(str, range(3000))) + "]}"
+PAGE = {"t": LINES + "{% include 'foot' %}", "d": DATA, "parts/foot": "yours, {{ name | upcase }}"}
+RECORDS = "".join(f'{{"id": {n}, "name": "Name {n}"}}\n' for n in (1, 2, 3, 3, 4))
+SITE = {"site/data": DATA, "site/partials/foot": "yours, {{ name }}", "out/a": "old", "out/notes": "no page"}
+SITE |= {f"site/pages/{name}": f"{name}: {LINES}{{% include 'foot' %}}" for name in "abc"}
+BROKEN = {"site/a": "{% fro %}{{ b | upcas }}", "site/b": "{{", "site/c": "{% else if %}"}
+
+
+@dataclass
+class Call:
+    """A call of a program, the files that it finds, and its standard input."""
+
+    title: str
+    words: str
+    files: dict
+    given: str = ""
+    # whether all that it does is to print
+    prints: bool = True
+    # whether it goes on without a folder that can't be read, also where memory was refused, and may then find something else
+    passes_over: bool = False
+
+    @property
+    def program(self):
+        return self.words.split()[0]
+
+    @property
+    def arguments(self):
+        return shlex.split(self.words)[1:]
+
+
+CALLS = [
+    Call("a page", "liquid_page t d foot=parts/foot", PAGE),
+    Call("a page on standard output", "bikleinu render t d -p parts --missing nil", PAGE),
+    Call("a page in a file", "bikleinu render t d -p parts -o p", {**PAGE, "p": "old"}, prints=False),
+    Call("a page of Jekyll's", "bikleinu render t d -p parts --filters jekyll --dates --decimals text", {**PAGE, "t": LINES + "{{ name | jsonify }}"}),
+    Call("a page of Shopify's", "bikleinu render t d -p parts --filters shopify --max-bytes 9999", {**PAGE, "t": LINES + "{{ 5 | money }}"}),
+    Call("pages in files", "bikleinu merge t r -d d -p parts -o 'm/{{ id }}'", {**PAGE, "r": RECORDS, "m/2": "old"}, prints=False),
+    Call("pages on standard output", "bikleinu merge t - -d d -p parts --progress", PAGE, RECORDS),
+    Call("pages of a table", "bikleinu merge t r.csv -d d -p parts -o '{{ id }}'", {**PAGE, "r.csv": "id,name\n1,Ada\n2\n3,Cy\n"}, prints=False),
+    Call("names of files", "bikleinu merge t r -d d -p parts -o 'm/{{ id }}' --dry-run", {**PAGE, "r": RECORDS}),
+    Call("faults of a folder", "bikleinu check site -d d", {**BROKEN, "d": DATA}, passes_over=True),
+    Call("faults as JSON", "bikleinu check site -p site --format json", BROKEN, passes_over=True),
+    Call("paths", "bikleinu paths t -p parts", PAGE),
+    Call("a schema", "bikleinu paths t -p parts --format json-schema", PAGE),
+    Call("a site", "liquid_folder site site/data out", SITE, "site/pages/a\nsite/data\n\nnowhere\n", prints=False),
+]
+
+# calls that are killed, most of whose time goes into what they write
+LONG = [
+    Call("a page", "liquid_page t d foot=parts/foot", {**PAGE, "d": MANY}),
+    Call("a page in a file", "bikleinu render t d -p parts -o p", {**PAGE, "d": MANY, "p": "old"}, prints=False),
+    Call("faults of a folder", "bikleinu check site", {f"site/{n}": "{% fro %}{{ b | upcas }}\n" * 9 for n in range(9)}),
+    Call("paths", "bikleinu paths t", {"t": "".join(f"{{{{ a{n}.b{n} }}}}" for n in range(300))}),
+    Call("a site", "liquid_folder site d out",
+         {"d": MANY, **{f"site/pages/{n}": f"{n} {LINES}" for n in range(12)}, **{f"out/{n}": "old" for n in range(6)}}, prints=False),
+]

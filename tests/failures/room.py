@@ -1,0 +1,75 @@
+"""The folder of a call: its files before the call, what the call leaves, and what isn't as it has to be then."""
+import os
+from dataclasses import dataclass
+
+# the file beside a page's in which it is written before it takes its place, which a killed program may leave
+PART = ".bikleinu-part"
+
+
+@dataclass
+class Plain:
+    """What a call comes to where nothing is refused."""
+
+    page: bytes
+    told: list
+    status: int
+    left: dict
+
+
+def put(room, files):
+    for path, text in files.items():
+        os.makedirs(os.path.dirname(f"{room}/{path}"), exist_ok=True)
+        with open(f"{room}/{path}", "w", encoding="utf-8") as file:
+            file.write(text)
+
+
+def files_in(room):
+    found = {}
+    for at, _, names in os.walk(room):
+        for path in (f"{at}/{name}" for name in names):
+            with open(path, encoding="utf-8") as file:
+                found[os.path.relpath(path, room)] = file.read()
+    return found
+
+
+class Room:
+    """The folder of a call, and the file beside it that is its standard input."""
+
+    def __init__(self, call, at):
+        self.call, self.at = call, f"{at}/room"
+        os.mkdir(self.at)
+        with open(f"{at}/given", "w", encoding="utf-8") as file:
+            file.write(call.given)
+        self.given = open(f"{at}/given", "rb")
+        put(self.at, call.files)
+
+    def reset(self):
+        """Everything is as it was before the call."""
+        self.given.seek(0)
+        for path, text in files_in(self.at).items():
+            if self.call.files.get(path) != text:
+                os.remove(f"{self.at}/{path}")
+        put(self.at, {path: text for path, text in self.call.files.items() if not os.path.exists(f"{self.at}/{path}")})
+
+    def strange_files(self, plain, parts=0):
+        """The files that are neither as they were before the call nor as it makes them, but for so many parts."""
+        left, before = files_in(self.at), self.call.files
+        strange = [path for path in {*left, *before} if left.get(path) not in (before.get(path), plain.left.get(path))]
+        of_parts = [path for path in strange if path.endswith(PART)]
+        return strange if len(of_parts) > parts else [path for path in strange if path not in of_parts]
+
+    def unlike_files(self, plain):
+        """The files that aren't as the call makes them."""
+        left = files_in(self.at)
+        return [path for path in {*left, *plain.left} if left.get(path) != plain.left.get(path)]
+
+    def wrong_end(self, plain, page, told, status, wanted):
+        """What is wrong where something was refused, of which a line has to tell in these words, or None."""
+        if status != 1:
+            return f"status {status}: {told[-2:]}"
+        if not plain.page.startswith(page) and not self.call.passes_over:
+            return f"it writes {page[-80:]!r}"
+        if not any(wanted.fullmatch(line) for line in told if line not in plain.told):
+            return f"it prints {told[-3:]}"
+        strange = self.strange_files(plain)
+        return f"it leaves {strange}" if strange else None
