@@ -18,7 +18,7 @@ def filled_up(program):
             file.writelines(f'{{"id": {n}, "text": "{"x" * 10 * n}"}}\n' for n in range(1, RECORDS + 1))
         most = len(wanted[str(FIT)])
         told, status = merged(program, room, preexec_fn=lambda: resource.setrlimit(resource.RLIMIT_FSIZE, (most, most)))
-        refused = [f"error: record {n}: the file `mails/{n}` can't be written: file too large" for n in range(FIT + 1, RECORDS + 1)]
+        refused = [f"error: record {n}: the file `mails/{n}` can't be written: File too large" for n in range(FIT + 1, RECORDS + 1)]
         if (told, status) != ([*refused, f"pages {FIT}, failed {RECORDS - FIT}"], 1):
             return f"status {status}, and it prints {told}"
         if (left := pages_in(room)) != {name: text for name, text in wanted.items() if int(name) <= FIT}:
