@@ -1,9 +1,6 @@
 //! The records of a reader, one after another.
 ghost use Rattle.std.specs.Prelude.{◌≡◌, IfOk};
-ghost use Rattle.liquid_model.specs.Answer.{IsValueOrMemory};
 ghost use Rattle.liquid_row_records.specs.Counted.{record_number_after};
-ghost use Rattle.liquid_row_records.specs.Readings.{line_reading, reading_of, reading_view};
-ghost use Rattle.liquid_row_records.specs.Readings.{text_read};
 
 use crate::lines::Lines;
 use crate::record::RowFault;
@@ -94,10 +91,8 @@ impl<R: Read + Drop> Records<R> {
         self.number
     }
 
-    /// Its text, where it is a line of UTF-8; else the empty text.
-    pub fn text(&self) -> &str
-        ensures { result.now ≡ text_read self.now.source }
-    {
+    /// Its text, where it is a line.
+    pub fn text(&self) -> &str {
         match &self.source {
             Source::Lines(lines) => str::from_utf8(lines.line()).unwrap_or(""),
             Source::Rows(_) => "",
@@ -106,9 +101,7 @@ impl<R: Read + Drop> Records<R> {
 
     /// Its data, or why it has none. The answer is `Memory` where a growth was refused, and no
     /// other kind.
-    pub fn data(&self, alloc: Global, form: DataForm) -> Result<RecordReading<'_>>
-        ensures { IsValueOrMemory reading_view result (reading_of form self.now.source) }
-    {
+    pub fn data(&self, alloc: Global, form: DataForm) -> Result<RecordReading<'_>> {
         match &self.source {
             Source::Lines(lines) => data_of_line(alloc, lines.line(), form),
             Source::Rows(rows) => match rows.data(alloc)? {
@@ -120,9 +113,7 @@ impl<R: Read + Drop> Records<R> {
 }
 
 /// The data of a line. It stays a text where it is read as it stands.
-fn data_of_line<'r>(alloc: Global, line: &'r [u8], form: DataForm) -> Result<RecordReading<'r>>
-    ensures { IsValueOrMemory reading_view result (line_reading form line.now) }
-{
+fn data_of_line<'r>(alloc: Global, line: &'r [u8], form: DataForm) -> Result<RecordReading<'r>> {
     let Ok(text) = str::from_utf8(line) else {
         return Ok(Err(RecordFault::NotUtf8));
     };
