@@ -4,7 +4,7 @@ from dataclasses import dataclass
 
 LINES = "{% for line in lines %}{{ line }} {{ name }}\n{% endfor %}"
 DATA = '{"name": "Ada", "lines": [1, 2, 3, 4, 5, 6, 7, 8, 9, 10, 11, 12, 13, 14, 15, 16]}'
-MANY = '{"name": "Ada", "lines": [' + ", ".join(map(str, range(3000))) + "]}"
+FEW, MANY = ('{"name": "Ada", "lines": [' + ", ".join(map(str, range(count))) + "]}" for count in (300, 3000))
 PAGE = {"t": LINES + "{% include 'foot' %}", "d": DATA, "parts/foot": "yours, {{ name | upcase }}"}
 RECORDS = "".join(f'{{"id": {n}, "name": "Name {n}"}}\n' for n in (1, 2, 3, 3, 4))
 SITE = {"site/data": DATA, "site/partials/foot": "yours, {{ name }}", "out/a": "old", "out/notes": "no page"}
@@ -58,5 +58,5 @@ LONG = [
     Call("faults of a folder", "bikleinu check site", {f"site/{n}": "{% fro %}{{ b | upcas }}\n" * 9 for n in range(9)}),
     Call("paths", "bikleinu paths t", {"t": "".join(f"{{{{ a{n}.b{n} }}}}" for n in range(300))}),
     Call("a site", "liquid_folder site d out",
-         {"d": MANY, **{f"site/pages/{n}": f"{n} {LINES}" for n in range(12)}, **{f"out/{n}": "old" for n in range(6)}}, prints=False),
+         {"d": FEW, **{f"site/pages/{n}": f"{n} {LINES}" for n in range(12)}, **{f"out/{n}": "old" for n in range(6)}}, prints=False),
 ]
