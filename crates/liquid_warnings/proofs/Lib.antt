@@ -1,3 +1,1 @@
-pub mod FileWarnings
-pub mod ReadPlaces
 pub mod SeenLiterals

@@ -5,5 +5,4 @@ pub mod Messages
 pub mod Nodes
 pub mod Paths
 pub mod Remarks
-pub mod Warnings
 pub mod inside

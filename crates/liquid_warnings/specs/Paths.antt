@@ -35,11 +35,19 @@ list_from n found (Each ∷ steps) = list_from (suc n) (Some n) steps
 abbrev pub list_before : List Step → Option ℕ
 list_before steps = list_from 0 None steps
 
--- the keys with a dot between each and the next, and this before the first
-abbrev pub keys_text : Text → List Step → Text
-keys_text before [] = []
-keys_text before (Key key ∷ steps) = before ++ (string_bytes key ++ keys_text (codes ".") steps)
-keys_text before (Each ∷ steps) = keys_text before steps
+-- a key after what stands before it, with a dot between
+abbrev pub key_after : Text → Text → Text
+key_after [] key = key
+key_after (c ∷ cs) key = (c ∷ cs) ++ (codes "." ++ key)
+
+-- the keys of steps, each after those before it
+abbrev pub with_key : Text → Step → Text
+with_key before (Key key) = key_after before (string_bytes key)
+with_key before Each = before
+
+abbrev pub with_keys : Text → List Step → Text
+with_keys before [] = before
+with_keys before (step ∷ steps) = with_keys (with_key before step) steps
 
 abbrev pub lack_words : DataPath → Option ℕ → Text
 lack_words path None = codes "the data has no"
@@ -51,12 +59,7 @@ steps_past path place count = drop (suc place) (take count path.steps.items)
 
 abbrev pub lacking_text : DataPath → Option ℕ → ℕ → Text
 lacking_text path None count = data_path_text path count
-lacking_text path (Some place) count = keys_text [] (steps_past path place count)
-
--- a key after the others
-abbrev pub key_after : Text → Text → Text
-key_after [] key = key
-key_after (c ∷ cs) key = (c ∷ cs) ++ (codes "." ++ key)
+lacking_text path (Some place) count = with_keys [] (steps_past path place count)
 
 abbrev pub meant_text : DataPath → Option ℕ → ℕ → Text → Text
 meant_text path list count key = key_after (lacking_text path list (count - 1)) key

@@ -1,16 +1,8 @@
 //! The names that templates read and set.
-ghost use Rattle.std.specs.Prelude.{◌≡◌, [], ◌∷◌, ◌++◌, IfOk, OnOk, codes, option_map};
-ghost use Rattle.std.specs.Prelude.{string_bytes};
-ghost use Rattle.liquid_core.specs.ExpressionView.{expression_view};
-ghost use Rattle.liquid_evaluation.specs.Names.{bound_names, optional_names, source_names};
-ghost use Rattle.liquid_evaluation.specs.Names.{window_names};
-ghost use Rattle.liquid_evaluation.specs.SourceView.{source_view};
-ghost use Rattle.liquid_syntax.specs.Flats.{arm_values, bindings_view, window_view};
-ghost use Rattle.liquid_syntax.specs.inside.Mentions.{arms_names};
+ghost use Rattle.std.specs.Prelude.{◌≡◌, IfOk, codes, string_bytes};
 ghost use Rattle.liquid_warnings.specs.Messages.{unused_message};
 ghost use Rattle.liquid_warnings.specs.Remarks.{remark_view, warning};
-ghost use Rattle.liquid_warnings.specs.inside.Noted.{Notes, all_noted, notes, places_of};
-ghost use Rattle.liquid_warnings.specs.inside.Noted.{noted_at, read_names, read_places};
+ghost use Rattle.liquid_warnings.specs.inside.Told.{nothing_told};
 
 use crate::messages::{lack_message, name_of, nearest_key, nearest_of_set};
 use crate::remark::Remark;
@@ -19,7 +11,7 @@ use liquid_evaluation::{
     NameVisitor, visit_chain, visit_condition, visit_expression, visit_expressions, visit_optional,
     visit_source,
 };
-use liquid_syntax::{Arm, Binding, Each, Node, Position, TableRow, Template, WindowExpression};
+use liquid_syntax::{Binding, Node, Position, Template, WindowExpression};
 use std::alloc::{AllocError, Global};
 use std::collections::{BTreeMap, BTreeSet};
 
@@ -45,10 +37,13 @@ pub(crate) fn names_of(alloc: Global, template: &Template) -> Result<NamesOf, Al
         names: BTreeMap::new(alloc),
         position: Position { line: 1, column: 1 },
     };
-    read_nodes(template.nodes(), template.positions(), &mut read)?;
     let mut stored = BTreeMap::new(alloc);
     let mut set = BTreeSet::new(alloc);
     for (node, position) in template.nodes().iter().zip(template.positions()) {
+        read.position = *position;
+        if read_node(node, &mut read) {
+            return Err(AllocError);
+        }
         if let Node::Assign(name, _) | Node::Capture(name, _) = node {
             add_place(alloc, &mut stored, name.as_str(), *position)?;
         }
@@ -114,43 +109,13 @@ struct Gather {
 }
 
 impl NameVisitor for Gather {
-    ghost tells = { Notes };
+    ghost tells = { λ before names ended after. Unit {0} };
 
     fn visit(&mut self, name: &str) -> bool {
         add_place(self.alloc, &mut self.names, name, self.position).is_err()
     }
 
-    ghost laws = { notes };
-}
-
-/// Gathers the names that nodes read, which begin at these positions.
-fn read_nodes(nodes: &[Node], positions: &[Position], read: &mut Gather) -> Result<(), AllocError>
-    ensures { OnOk result (places_of read.new.names
-        ≡ read_places 0 nodes.now positions.now (places_of read.old.names)) }
-{
-    for (place, node) in nodes.iter().enumerate() {
-        read_node_at(node, positions.get(place), read)?;
-    }
-    Ok(())
-}
-
-/// Gathers the names that a node reads which begins at a position.
-fn read_node_at(
-    node: &Node,
-    position: Option<&Position>,
-    read: &mut Gather,
-) -> Result<(), AllocError>
-    ensures { OnOk result (places_of read.new.names
-        ≡ noted_at (option_map (λ p. p.now) position.entry) node.now (places_of read.old.names)) }
-{
-    let Some(position) = position else {
-        return Ok(());
-    };
-    read.position = *position;
-    if read_node(node, read) {
-        return Err(AllocError);
-    }
-    Ok(())
+    ghost laws = { nothing_told };
 }
 
 /// Adds a name with its place, unless it is there.
@@ -159,92 +124,53 @@ fn add_place(
     places: &mut Places,
     name: &str,
     position: Position,
-) -> Result<(), AllocError>
-    ensures { OnOk result (places_of places.new
-        ≡ all_noted (name.now ∷ []) position (places_of places.old)) }
-{
-    match places.get(name) {
-        Some(_) => return Ok(()),
-        None => {}
+) -> Result<(), AllocError> {
+    if places.get(name).is_none() {
+        drop(places.insert(String::from_str(alloc, name)?, position)?);
     }
-    drop(places.insert(String::from_str(alloc, name)?, position)?);
     Ok(())
 }
 
 /// Gives a visitor the names that a node reads, and not those of its bodies. The answer is whether
 /// the visitor ended that.
-fn read_node<V: NameVisitor>(node: &Node, visitor: &mut V) -> bool
-    ensures { V.tells visitor.old (read_names node.now) result visitor.new }
-{
+fn read_node<V: NameVisitor>(node: &Node, visitor: &mut V) -> bool {
     match node {
-        Node::Text(_) | Node::Raw(_) | Node::Comment => false,
-        Node::Break | Node::Continue | Node::IfChanged(_) => false,
-        Node::Capture(_, _) | Node::Increment(_) | Node::Decrement(_) => false,
-        Node::Output(chain) => visit_chain(chain, visitor),
-        Node::Assign(_, chain) => visit_chain(chain, visitor),
-        Node::If(condition, _) => visit_condition(condition, visitor),
-        Node::Unless(condition, _) => visit_condition(condition, visitor),
+        Node::Output(chain) | Node::Assign(_, chain) => visit_chain(chain, visitor),
+        Node::If(condition, _) | Node::Unless(condition, _) => visit_condition(condition, visitor),
         Node::Case(target, arms, _) => {
-            visit_expression(target, visitor) || read_arms(arms, visitor)
+            let mut is_ended = visit_expression(target, visitor);
+            for arm in arms {
+                is_ended = is_ended || visit_expressions(&arm.values, visitor);
+            }
+            is_ended
         }
         Node::For(head, _) => {
             visit_source(&head.source, visitor) || read_window(&head.window, visitor)
         }
         Node::TableRow(head, _) => {
-            visit_source(&head.source, visitor) || read_layout(head, visitor)
+            visit_source(&head.source, visitor)
+                || read_window(&head.window, visitor)
+                || visit_optional(&head.cols, visitor)
         }
         Node::Cycle(_, values) => visit_expressions(values, visitor),
         Node::JekyllInclude(_, pairs) => read_values(pairs, visitor),
-        Node::Include(name, pairs) => {
+        Node::Include(name, pairs) | Node::Render(name, pairs) => {
             visit_expression(name, visitor) || read_values(pairs, visitor)
         }
-        Node::Render(name, pairs) => visit_expression(name, visitor) || read_values(pairs, visitor),
         Node::RenderEach(name, each, pairs) => {
-            visit_expression(name, visitor) || read_each(each, pairs, visitor)
+            visit_expression(name, visitor)
+                || visit_source(&each.source, visitor)
+                || read_values(pairs, visitor)
         }
+        _ => false,
     }
 }
 
-/// The names in the values of the `when` parts of a `case`.
-fn read_arms<V: NameVisitor>(arms: &[Arm], visitor: &mut V) -> bool
-    ensures { V.tells visitor.old (arms_names (arm_values arms.now)) result visitor.new }
-{
-    for arm in arms {
-        if visit_expressions(&arm.values, visitor) {
-            return true;
-        }
-    }
-    false
-}
-
-/// The names in what says which items are asked for, and in the number of columns.
-fn read_layout<V: NameVisitor>(head: &TableRow, visitor: &mut V) -> bool
-    ensures { V.tells visitor.old (window_names (window_view head.now.window)
-        ++ optional_names (option_map expression_view head.now.cols)) result visitor.new }
-{
-    read_window(&head.window, visitor) || visit_optional(&head.cols, visitor)
-}
-
-/// The names in what says which items are asked for.
-#[tactic(auto, unfolding(liquid_evaluation::specs::Names::window_names))]
-fn read_window<V: NameVisitor>(window: &WindowExpression, visitor: &mut V) -> bool
-    ensures { V.tells visitor.old (window_names (window_view window.now)) result visitor.new }
-{
+fn read_window<V: NameVisitor>(window: &WindowExpression, visitor: &mut V) -> bool {
     visit_optional(&window.limit, visitor) || visit_optional(&window.offset, visitor)
 }
 
-/// The names in the source of a `render` with `for`, and those in the values of its pairs.
-fn read_each<V: NameVisitor>(each: &Each, pairs: &[Binding], visitor: &mut V) -> bool
-    ensures { V.tells visitor.old (source_names (source_view each.now.source)
-        ++ bound_names (bindings_view pairs.now)) result visitor.new }
-{
-    visit_source(&each.source, visitor) || read_values(pairs, visitor)
-}
-
-/// The names in the values of pairs.
-fn read_values<V: NameVisitor>(pairs: &[Binding], visitor: &mut V) -> bool
-    ensures { V.tells visitor.old (bound_names (bindings_view pairs.now)) result visitor.new }
-{
+fn read_values<V: NameVisitor>(pairs: &[Binding], visitor: &mut V) -> bool {
     for pair in pairs {
         if visit_expression(&pair.value, visitor) {
             return true;

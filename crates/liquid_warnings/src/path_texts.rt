@@ -1,9 +1,9 @@
 //! Paths in the data, as messages show them.
 ghost use Rattle.std.specs.Prelude.{◌≡◌, ◌++◌, [], IfOk, OnOk, string_bytes, take};
 ghost use Rattle.liquid_warnings.specs.Messages.{item_words};
-ghost use Rattle.liquid_warnings.specs.Paths.{key_after, keys_text, lack_words, lacking_text};
+ghost use Rattle.liquid_warnings.specs.Paths.{key_after, lack_words, lacking_text};
 ghost use Rattle.liquid_warnings.specs.Paths.{list_before, meant_text, data_path_text, step_text};
-ghost use Rattle.liquid_warnings.specs.Paths.{steps_past, steps_text};
+ghost use Rattle.liquid_warnings.specs.Paths.{steps_past, steps_text, with_key, with_keys};
 
 use liquid_core::Quoted;
 use liquid_data_paths::{DataPath, Step};
@@ -121,18 +121,32 @@ fn steps_past(path: &DataPath, place: usize, count: usize) -> &[Step]
 
 /// The keys of steps, as in `maker.name`.
 fn keys_text(alloc: Global, steps: &[Step]) -> Said
-    ensures { IfOk result (λ text. string_bytes text ≡ keys_text [] steps.now) }
+    ensures { IfOk result (λ text. string_bytes text ≡ with_keys [] steps.now) }
 {
     let mut text = String::new(alloc);
-    let mut before = "";
     for step in steps {
-        if let Step::Key(key) = step {
-            text.push_str(before)?;
-            text.push_str(key.as_str())?;
-            before = ".";
-        }
+        push_key(&mut text, step)?;
     }
     Ok(text)
+}
+
+fn push_key(text: &mut String, step: &Step) -> Result<(), AllocError>
+    ensures { OnOk result (string_bytes text.new ≡ with_key (string_bytes text.old) step.now) }
+{
+    match step {
+        Step::Key(key) => push_after(text, key.as_str()),
+        Step::Each => Ok(()),
+    }
+}
+
+/// A key after what stands there, with a dot between.
+fn push_after(text: &mut String, key: &str) -> Result<(), AllocError>
+    ensures { OnOk result (string_bytes text.new ≡ key_after (string_bytes text.old) key.now) }
+{
+    if !text.is_empty() {
+        text.push('.')?;
+    }
+    text.push_str(key)
 }
 
 /// What it lacks, with another key in place of the last.
@@ -145,17 +159,7 @@ pub(crate) fn meant_text(
 ) -> Said
     ensures { IfOk result (λ text. string_bytes text ≡ meant_text path.now list count key.now) }
 {
-    let front = lacking_text(alloc, path, list, count.saturating_sub(1))?;
-    key_after(front, key)
-}
-
-fn key_after(front: String, key: &str) -> Said
-    ensures { IfOk result (λ text. string_bytes text ≡ key_after (string_bytes front) key.now) }
-{
-    let mut text = front;
-    if !text.is_empty() {
-        text.push('.')?;
-    }
-    text.push_str(key)?;
+    let mut text = lacking_text(alloc, path, list, count.saturating_sub(1))?;
+    push_after(&mut text, key)?;
     Ok(text)
 }

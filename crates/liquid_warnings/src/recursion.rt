@@ -18,16 +18,13 @@ struct Visit {
     followed: usize,
 }
 
-/// The calls of each file that lead back to a file on the way to them, by their places there. Every
-/// circle of calls has one. Each call is followed once.
+/// The calls that lead back to a file on the way to them: each by its file and its place there.
+/// Every circle of calls has one. Each call is followed once.
 pub(crate) fn calls_back(
     alloc: Global,
     calls: &[Vec<Call<'_>>],
-) -> Result<Vec<Vec<usize>>, AllocError> {
+) -> Result<Vec<(usize, usize)>, AllocError> {
     let mut found = Vec::new(alloc);
-    for _ in 0..calls.len() {
-        found.push(Vec::new(alloc))?;
-    }
     let mut stages = Vec::new(alloc);
     stages.resize(calls.len(), Stage::Unseen)?;
     for first in 0..calls.len() {
@@ -42,7 +39,7 @@ fn follow(
     calls: &[Vec<Call<'_>>],
     first: usize,
     stages: &mut Vec<Stage>,
-    found: &mut Vec<Vec<usize>>,
+    found: &mut Vec<(usize, usize)>,
 ) -> Result<(), AllocError> {
     let mut way = Vec::new(alloc);
     enter(first, stages, &mut way)?;
@@ -61,18 +58,10 @@ fn follow(
         visit.followed = followed.saturating_add(1);
         if let Some(next) = call.file {
             if stages.get(next) == Some(&Stage::OnTheWay) {
-                note(file, followed, found)?;
+                found.push((file, followed))?;
             }
             enter(next, stages, &mut way)?;
         }
-    }
-    Ok(())
-}
-
-/// Notes a call of a file.
-fn note(file: usize, call: usize, found: &mut Vec<Vec<usize>>) -> Result<(), AllocError> {
-    if let Some(calls) = found.get_mut(file) {
-        calls.push(call)?;
     }
     Ok(())
 }

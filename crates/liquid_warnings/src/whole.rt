@@ -7,22 +7,16 @@ use crate::names::{NamesOf, Places, add_name, names_of, unknown_name, unused_var
 use crate::partials::{missing_partial, recursive_partial, unused_partial};
 use crate::recursion::calls_back;
 use crate::remark::Remark;
-use crate::warnings::{CheckedFile, is_full};
+use crate::warnings::{CheckedFile, Warnings, add_node_warnings, is_full};
 use liquid_core::{ErrorKind, Object};
 use liquid_syntax::Template;
 use std::alloc::{AllocError, Global};
-use std::collections::{BTreeMap, BTreeSet};
+use std::collections::BTreeSet;
 
 /// What is known of all templates together.
 pub(crate) struct Whole<'t> {
-    /// The files of the partials by their names.
-    partials: PartialFiles,
-    /// The tags of each file that run partials, and which of them lead back to a partial that is
-    /// being run.
+    /// The tags of each file that run partials.
     calls: Vec<Vec<Call<'t>>>,
-    back: Vec<Vec<usize>>,
-    /// Whether a tag runs the file, of each; none where a tag may run any of them.
-    used: Option<Vec<bool>>,
     /// The names of each file that has a template.
     names: Vec<Option<NamesOf>>,
     /// The names that any of them reads, and those that any of them sets.
@@ -33,10 +27,7 @@ pub(crate) struct Whole<'t> {
 impl Drop for Whole<'_> {
     fn drop(self) {
         let Whole {
-            partials: _,
             calls: _,
-            back: _,
-            used: _,
             names: _,
             read: _,
             set: _,
@@ -45,30 +36,23 @@ impl Drop for Whole<'_> {
 }
 
 impl<'t> Whole<'t> {
-    /// What is known of these files. The partials are names, each with the place of its file, of
-    /// which the later of one name counts.
     pub(crate) fn of(
         alloc: Global,
-        partials: &[(String, usize)],
+        partials: &PartialFiles,
         files: &[CheckedFile<'t>],
     ) -> Result<Whole<'t>, AllocError> {
         let mut whole = Whole {
-            partials: files_by_name(alloc, partials)?,
             calls: Vec::new(alloc),
-            back: Vec::new(alloc),
-            used: None,
             names: Vec::new(alloc),
             read: BTreeSet::new(alloc),
             set: BTreeSet::new(alloc),
         };
         for file in files {
             match file.template {
-                Some(template) => whole.add(alloc, template)?,
+                Some(template) => whole.add(alloc, partials, template)?,
                 None => whole.add_none(alloc)?,
             }
         }
-        whole.back = calls_back(alloc, &whole.calls)?;
-        whole.used = used_files(alloc, &whole.calls)?;
         Ok(whole)
     }
 
@@ -80,9 +64,13 @@ impl<'t> Whole<'t> {
     }
 
     /// Adds the template of a file.
-    fn add(&mut self, alloc: Global, template: &'t Template) -> Result<(), AllocError> {
-        let calls = calls_of(alloc, &self.partials, template)?;
-        self.calls.push(calls)?;
+    fn add(
+        &mut self,
+        alloc: Global,
+        partials: &PartialFiles,
+        template: &'t Template,
+    ) -> Result<(), AllocError> {
+        self.calls.push(calls_of(alloc, partials, template)?)?;
         self.add_names(alloc, names_of(alloc, template)?)
     }
 
@@ -97,34 +85,39 @@ impl<'t> Whole<'t> {
         Ok(())
     }
 
-    /// The tags of a file that run partials.
-    fn calls_at(&self, place: usize) -> &[Call<'t>] {
+    /// A tag of a file that runs a partial.
+    fn call_at(&self, place: usize, number: usize) -> Option<&Call<'t>> {
         match self.calls.get(place) {
-            Some(calls) => calls.as_slice(),
-            None => &[],
+            Some(calls) => calls.get(number),
+            None => None,
         }
     }
 
-    /// The warnings that need all files: those about the names of a file, about what it asks of
-    /// the data, and about partials.
-    pub(crate) fn warnings(
+    /// Whether a file runs a partial that isn't known.
+    fn runs_unknown(&self, place: usize) -> bool {
+        match self.calls.get(place) {
+            Some(calls) => calls.iter().any(|call| call.file.is_none()),
+            None => false,
+        }
+    }
+
+    /// Adds the warnings about what the template of a file says.
+    pub(crate) fn add_template_warnings(
         &self,
         alloc: Global,
         place: usize,
-        file: &CheckedFile<'_>,
+        template: &Template,
         data: Option<&Object>,
-    ) -> liquid_core::Result<Vec<Remark>>
+        remarks: &mut Vec<Remark>,
+    ) -> liquid_core::Result<()>
         ensures memory { IfErr result (λ e. e.kind ≡ ErrorKind.Memory) }
     {
-        let mut remarks = Vec::new(alloc);
-        self.add_name_warnings(alloc, place, data, &mut remarks)?;
-        if let (Some(template), Some(data)) = (file.template, data) {
-            add_doubts(alloc, template, data, &self.set, &mut remarks)?;
+        add_node_warnings(alloc, template, remarks)?;
+        self.add_name_warnings(alloc, place, data, remarks)?;
+        match data {
+            Some(data) => add_doubts(alloc, template, data, &self.set, remarks),
+            None => Ok(()),
         }
-        if !self.partials.is_empty() {
-            self.add_partial_warnings(alloc, place, file, &mut remarks)?;
-        }
-        Ok(remarks)
     }
 
     /// Adds the warnings about the names of a file.
@@ -142,7 +135,7 @@ impl<'t> Whole<'t> {
             self.add_unknown(alloc, &names.read, data, remarks)?;
         }
         // a partial that isn't known may read anything
-        if self.calls_at(place).iter().any(|call| call.file.is_none()) {
+        if self.runs_unknown(place) {
             return Ok(());
         }
         self.add_unread(alloc, &names.stored, remarks)
@@ -183,88 +176,83 @@ impl<'t> Whole<'t> {
         Ok(())
     }
 
-    /// Adds the warnings about the partials that a file runs, and about the file as a partial.
-    fn add_partial_warnings(
+    /// Adds a warning for each tag that runs a partial which isn't there.
+    pub(crate) fn add_missing(
         &self,
         alloc: Global,
-        place: usize,
-        file: &CheckedFile<'_>,
-        remarks: &mut Vec<Remark>,
+        partials: &PartialFiles,
+        warnings: &mut Warnings,
     ) -> Result<(), AllocError> {
-        self.add_missing(alloc, place, remarks)?;
-        if self.is_unused(place, file) {
-            remarks.push(unused_partial(alloc)?)?;
-        }
-        self.add_recursive(alloc, place, remarks)
-    }
-
-    /// Adds a warning for each tag of a file that runs a partial which isn't there.
-    fn add_missing(
-        &self,
-        alloc: Global,
-        place: usize,
-        remarks: &mut Vec<Remark>,
-    ) -> Result<(), AllocError> {
-        for call in self.calls_at(place) {
-            if is_full(remarks) {
-                break;
-            }
-            if let Some(remark) = missing_partial(alloc, &self.partials, call)? {
-                remarks.push(remark)?;
-            }
+        for (calls, remarks) in self.calls.iter().zip(warnings.iter_mut()) {
+            add_missing_of(alloc, partials, calls, remarks)?;
         }
         Ok(())
     }
 
-    /// Whether a file is a partial that no tag runs; none is where a tag may run any of them.
-    fn is_unused(&self, place: usize, file: &CheckedFile<'_>) -> bool {
-        match &self.used {
-            Some(used) => file.text.is_some() && !file.is_page && used.get(place) == Some(&false),
-            None => false,
-        }
-    }
-
-    /// Adds a warning for each tag of a file that leads back to a partial which is being run.
-    fn add_recursive(
+    /// Adds a warning for each partial that no tag runs, unless a tag may run any of them.
+    pub(crate) fn add_unused(
         &self,
         alloc: Global,
-        place: usize,
-        remarks: &mut Vec<Remark>,
+        files: &[CheckedFile<'_>],
+        warnings: &mut Warnings,
     ) -> Result<(), AllocError> {
-        let Some(back) = self.back.get(place) else {
+        let Some(used) = self.used_files(alloc, files.len())? else {
             return Ok(());
         };
-        for number in back {
-            if is_full(remarks) {
-                break;
+        for (place, file) in files.iter().enumerate() {
+            if file.text.is_none() || file.is_page || used.get(place) != Some(&false) {
+                continue;
             }
-            if let Some(call) = self.calls_at(place).get(*number) {
-                remarks.push(recursive_partial(alloc, call)?)?;
+            if let Some(remarks) = warnings.get_mut(place) {
+                remarks.push(unused_partial(alloc)?)?;
+            }
+        }
+        Ok(())
+    }
+
+    /// Whether a tag runs the file, for each of so many; none where a tag may run any of them.
+    fn used_files(&self, alloc: Global, count: usize) -> Result<Option<Vec<bool>>, AllocError> {
+        let mut used = Vec::new(alloc);
+        used.resize(count, false)?;
+        for calls in &self.calls {
+            if !mark_used(calls, &mut used) {
+                return Ok(None);
+            }
+        }
+        Ok(Some(used))
+    }
+
+    /// Adds a warning for each tag that leads back to a partial which is being run.
+    pub(crate) fn add_recursive(
+        &self,
+        alloc: Global,
+        warnings: &mut Warnings,
+    ) -> Result<(), AllocError> {
+        for (place, number) in calls_back(alloc, &self.calls)? {
+            if let Some(call) = self.call_at(place, number) {
+                add_recursive_at(alloc, call, warnings.get_mut(place))?;
             }
         }
         Ok(())
     }
 }
 
-/// The files of the partials by their names. The later of one name counts.
-fn files_by_name(alloc: Global, partials: &[(String, usize)]) -> Result<PartialFiles, AllocError> {
-    let mut names = BTreeMap::new(alloc);
-    for (name, place) in partials {
-        drop(names.insert(String::from_str(alloc, name.as_str())?, *place)?);
-    }
-    Ok(names)
-}
-
-/// Whether a tag runs the file, for each; none where a tag may run any of them.
-fn used_files(alloc: Global, calls: &[Vec<Call<'_>>]) -> Result<Option<Vec<bool>>, AllocError> {
-    let mut used = Vec::new(alloc);
-    used.resize(calls.len(), false)?;
-    for of_file in calls {
-        if !mark_used(of_file, &mut used) {
-            return Ok(None);
+/// Adds a warning for each tag of a file that runs a partial which isn't there.
+fn add_missing_of(
+    alloc: Global,
+    partials: &PartialFiles,
+    calls: &[Call<'_>],
+    remarks: &mut Vec<Remark>,
+) -> Result<(), AllocError> {
+    for call in calls {
+        if is_full(remarks) {
+            break;
+        }
+        if let Some(remark) = missing_partial(alloc, partials, call)? {
+            remarks.push(remark)?;
         }
     }
-    Ok(Some(used))
+    Ok(())
 }
 
 /// Marks the files that tags run. Whether the name of each is known.
@@ -280,4 +268,18 @@ fn mark_used(calls: &[Call<'_>], used: &mut [bool]) -> bool {
         }
     }
     true
+}
+
+/// Adds the warning of a tag to those of its file.
+fn add_recursive_at(
+    alloc: Global,
+    call: &Call<'_>,
+    remarks: Option<&mut Vec<Remark>>,
+) -> Result<(), AllocError> {
+    if let Some(remarks) = remarks {
+        if !is_full(remarks) {
+            remarks.push(recursive_partial(alloc, call)?)?;
+        }
+    }
+    Ok(())
 }

@@ -1,10 +1,8 @@
-use Rattle.std.proofs.Common.{◌≡◌, ◌++◌, [], drop, string_bytes}
-use denote.Text.{Utf8}
-use denote.Shadow.{shadow}
-use Rattle.liquid_warnings.specs.Paths.{keys_text}
+use Rattle.std.proofs.Common.{◌≡◌, [], drop, string_bytes}
+use Rattle.liquid_warnings.specs.Paths.{with_keys}
 use Rattle.liquid_warnings.proofs.path_texts.keys_text.Given as goal
 
--- what is written and the keys that are left are all
+-- the keys that are left come after what is written
 abbrev pub invariant-loop-step : goal.invariant-loop-step
-invariant-loop-step l = shadow (Utf8 l.before) × (keys_text [] l.steps
-    ≡ string_bytes l.text ++ keys_text l.before (drop l.step-index l.steps))
+invariant-loop-step l =
+    with_keys [] l.steps ≡ with_keys (string_bytes l.text) (drop l.step-index l.steps)
