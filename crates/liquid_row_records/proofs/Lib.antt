@@ -1,5 +1,7 @@
 pub mod Columns
 pub mod Fields
+pub mod LineReadings
 pub mod Places
 pub mod RowRecords
+pub mod TableHeads
 pub mod Texts

@@ -2,4 +2,6 @@ pub mod Cells
 pub mod Counted
 pub mod Heads
 pub mod Lines
+pub mod Readings
 pub mod Rows
+pub mod Tables

@@ -1,5 +1,7 @@
 //! Records that are a line of JSON each.
-ghost use Rattle.std.specs.Prelude.{◌≡◌, IfSome, OnOk};
+ghost use Rattle.std.specs.Char.{is_ascii_whitespace};
+ghost use Rattle.std.specs.List.{list_all};
+ghost use Rattle.std.specs.Prelude.{◌≡◌, IfOk, IfSome, OnOk, false, true};
 ghost use Rattle.std.specs.Io.BufRead.{DropsThrough, take_through};
 ghost use Rattle.liquid_row_records.specs.Lines.{lines_left};
 
@@ -27,12 +29,15 @@ impl<R: Read + Drop> Lines<R> {
     }
 
     /// Reads the next line that isn't blank. Whether there is one.
-    pub fn advance(&mut self) -> io::Result<bool> {
+    pub fn advance(&mut self) -> io::Result<bool>
+        ensures found { IfOk result (λ found. found ≡ true →
+            list_all is_ascii_whitespace self.new.line.items ≡ false) }
+    {
         for _ in 0..u64::MAX {
             if self.read_line()? == 0 {
                 return Ok(false);
             }
-            if !self.line.as_slice().trim_ascii().is_empty() {
+            if !is_blank(self.line.as_slice()) {
                 return Ok(true);
             }
         }
@@ -57,4 +62,11 @@ impl<R: Read + Drop> Lines<R> {
     {
         self.line.as_slice()
     }
+}
+
+/// Whether nothing but white space stands in a line.
+fn is_blank(line: &[u8]) -> bool
+    ensures { result ≡ list_all is_ascii_whitespace line.now }
+{
+    line.iter().all(|byte| byte.is_ascii_whitespace())
 }

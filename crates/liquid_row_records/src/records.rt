@@ -1,6 +1,9 @@
 //! The records of a reader, one after another.
 ghost use Rattle.std.specs.Prelude.{◌≡◌, IfOk};
+ghost use Rattle.liquid_model.specs.Answer.{IsValueOrMemory};
 ghost use Rattle.liquid_row_records.specs.Counted.{record_number_after};
+ghost use Rattle.liquid_row_records.specs.Readings.{line_reading, line_text, reading_of};
+ghost use Rattle.liquid_row_records.specs.Readings.{reading_view, text_read};
 
 use crate::lines::Lines;
 use crate::record::RowFault;
@@ -91,17 +94,21 @@ impl<R: Read + Drop> Records<R> {
         self.number
     }
 
-    /// Its text, where it is a line.
-    pub fn text(&self) -> &str {
+    /// Its text, where it is a line of UTF-8; else the empty text.
+    pub fn text(&self) -> &str
+        ensures { result.now ≡ text_read self.now.source }
+    {
         match &self.source {
-            Source::Lines(lines) => str::from_utf8(lines.line()).unwrap_or(""),
+            Source::Lines(lines) => line_text(lines.line()),
             Source::Rows(_) => "",
         }
     }
 
     /// Its data, or why it has none. The answer is `Memory` where a growth was refused, and no
     /// other kind.
-    pub fn data(&self, alloc: Global, form: DataForm) -> Result<RecordReading<'_>> {
+    pub fn data(&self, alloc: Global, form: DataForm) -> Result<RecordReading<'_>>
+        ensures { IsValueOrMemory reading_view result (reading_of form self.now.source) }
+    {
         match &self.source {
             Source::Lines(lines) => data_of_line(alloc, lines.line(), form),
             Source::Rows(rows) => match rows.data(alloc)? {
@@ -112,8 +119,20 @@ impl<R: Read + Drop> Records<R> {
     }
 }
 
+/// The text of a line that is UTF-8; else the empty text.
+fn line_text(line: &[u8]) -> &str
+    ensures { result.now ≡ line_text line.now }
+{
+    match str::from_utf8(line) {
+        Ok(text) => text,
+        Err(_) => "",
+    }
+}
+
 /// The data of a line. It stays a text where it is read as it stands.
-fn data_of_line<'r>(alloc: Global, line: &'r [u8], form: DataForm) -> Result<RecordReading<'r>> {
+fn data_of_line<'r>(alloc: Global, line: &'r [u8], form: DataForm) -> Result<RecordReading<'r>>
+    ensures { IsValueOrMemory reading_view result (line_reading form line.now) }
+{
     let Ok(text) = str::from_utf8(line) else {
         return Ok(Err(RecordFault::NotUtf8));
     };

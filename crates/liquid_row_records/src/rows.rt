@@ -1,8 +1,10 @@
 //! Records in CSV: a head with the names of the columns, and a record in each row after it.
-ghost use Rattle.std.specs.Prelude.{map, string_bytes};
+ghost use Rattle.std.specs.Prelude.{◌≡◌, IfOk, IfSome, OnOk, false, map, string_bytes};
+ghost use Rattle.csv.specs.Reading.{ReadRecord, has_failed};
 ghost use Rattle.csv.specs.Records.{fields_of};
 ghost use Rattle.liquid_model.specs.Answer.{IsValueOrMemory};
 ghost use Rattle.liquid_row_records.specs.Rows.{record_of, row_view};
+ghost use Rattle.liquid_row_records.specs.Tables.{IsHead, ReadsRows, reader_of};
 
 use crate::head::{HeadFault, column_names};
 use crate::record::{RowFault, record_of};
@@ -39,7 +41,12 @@ impl From<AllocError> for HeadStop {
 
 impl<R: Read + Drop> Rows<R> {
     /// The head is read, and all rows are still to come.
-    pub fn new(alloc: Global, reader: R) -> std::result::Result<Rows<R>, HeadStop> {
+    pub fn new(alloc: Global, reader: R) -> std::result::Result<Rows<R>, HeadStop>
+        ensures plain { IfOk result (λ rows. ReadsRows (reader_of rows)) }
+        ensures goes { IfOk result (λ rows. has_failed (reader_of rows) ≡ false) }
+        ensures head { IfOk result (λ rows. IfSome (R.remaining reader) (λ text.
+            IsHead text (map string_bytes rows.names.items))) }
+    {
         let mut rows = Rows {
             reader: ReaderBuilder::new()
                 .has_headers(false)
@@ -58,8 +65,16 @@ impl<R: Read + Drop> Rows<R> {
         Ok(rows)
     }
 
-    /// Reads the next row. Whether there is one.
-    pub fn advance(&mut self) -> io::Result<bool> {
+    /// Reads the next row. Whether there is one: no read that fails is taken for the end.
+    pub fn advance(&mut self) -> io::Result<bool>
+        ensures row { IfOk result (λ found. ReadsRows (reader_of self.old) → ReadRecord R.remaining
+            (reader_of self.old) (reader_of self.new) found (fields_of self.new.row)) }
+        ensures plain { OnOk result
+            (ReadsRows (reader_of self.old) → ReadsRows (reader_of self.new)) }
+        ensures goes { OnOk result
+            (has_failed (reader_of self.new) ≡ has_failed (reader_of self.old)) }
+        ensures names { self.new.names ≡ self.old.names }
+    {
         match self.reader.read_byte_record(&mut self.row) {
             Ok(found) => Ok(found),
             Err(refused) => match refused.into_kind() {

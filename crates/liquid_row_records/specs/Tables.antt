@@ -1,0 +1,25 @@
+-- The rows of a table, as they come out of a reader.
+--     ReadsRows reader      each further read gives one row of it, of any length, as it stands
+--                           there
+--     reader_of rows      the reader that gives the rows
+--     IsHead text names      the first row of a text names these columns, where it has one
+use Rattle.std.specs.Prelude.{◌≡◌, true, ℕ, List, [], Ok, IfSome}
+use Rattle.csv.specs.Machine.{next_record}
+use Rattle.csv.specs.Reading.{Ready, default_config, is_flexible, reader_trim, strip_bom}
+use Rattle.csv.specs.declared.parser.State.TheVariants as state
+use Rattle.csv.specs.declared.reader.Reader.{Reader}
+use Rattle.csv.specs.declared.reader.Trim.TheVariants as trim
+use Rattle.liquid_model.specs.Texts.{Text}
+use Rattle.liquid_row_records.specs.Heads.{column_names}
+use Rattle.liquid_row_records.specs.declared.rows.Rows.{Rows}
+
+abbrev pub ReadsRows : {R : Type 0} → Reader R → Type 0
+ReadsRows reader = Ready reader × (reader_trim reader ≡ trim.None) × (is_flexible reader ≡ true)
+
+abbrev pub reader_of : {R : Type 0} → Rows R → Reader R
+reader_of rows = rows.reader
+
+-- a mark of the byte order before it is no part of it
+abbrev pub IsHead : List ℕ → List Text → Type 0
+IsHead bytes names = IfSome (next_record default_config state.StartRecord [] [] (strip_bom bytes))
+    (λ row. column_names row.0 ≡ Ok names)
