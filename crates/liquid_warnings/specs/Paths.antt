@@ -41,13 +41,13 @@ key_after [] key = key
 key_after (c ∷ cs) key = (c ∷ cs) ++ (codes "." ++ key)
 
 -- the keys of steps, each after those before it
-abbrev pub with_key : Text → Step → Text
-with_key before (Key key) = key_after before (string_bytes key)
-with_key before Each = before
+abbrev pub with_step_key : Text → Step → Text
+with_step_key before (Key key) = key_after before (string_bytes key)
+with_step_key before Each = before
 
-abbrev pub with_keys : Text → List Step → Text
-with_keys before [] = before
-with_keys before (step ∷ steps) = with_keys (with_key before step) steps
+abbrev pub with_step_keys : Text → List Step → Text
+with_step_keys before [] = before
+with_step_keys before (step ∷ steps) = with_step_keys (with_step_key before step) steps
 
 abbrev pub lack_words : DataPath → Option ℕ → Text
 lack_words path None = codes "the data has no"
@@ -59,7 +59,7 @@ steps_past path place count = drop (suc place) (take count path.steps.items)
 
 abbrev pub lacking_text : DataPath → Option ℕ → ℕ → Text
 lacking_text path None count = data_path_text path count
-lacking_text path (Some place) count = with_keys [] (steps_past path place count)
+lacking_text path (Some place) count = with_step_keys [] (steps_past path place count)
 
 abbrev pub meant_text : DataPath → Option ℕ → ℕ → Text → Text
 meant_text path list count key = key_after (lacking_text path list (count - 1)) key

@@ -3,7 +3,8 @@ ghost use Rattle.std.specs.Prelude.{◌≡◌, ◌++◌, [], IfOk, OnOk, string_
 ghost use Rattle.liquid_warnings.specs.Messages.{item_words};
 ghost use Rattle.liquid_warnings.specs.Paths.{key_after, lack_words, lacking_text};
 ghost use Rattle.liquid_warnings.specs.Paths.{list_before, meant_text, data_path_text, step_text};
-ghost use Rattle.liquid_warnings.specs.Paths.{steps_past, steps_text, with_key, with_keys};
+ghost use Rattle.liquid_warnings.specs.Paths.{steps_past, steps_text, with_step_key};
+ghost use Rattle.liquid_warnings.specs.Paths.{with_step_keys};
 
 use liquid_core::Quoted;
 use liquid_data_paths::{DataPath, Step};
@@ -121,7 +122,7 @@ fn steps_past(path: &DataPath, place: usize, count: usize) -> &[Step]
 
 /// The keys of steps, as in `maker.name`.
 fn keys_text(alloc: Global, steps: &[Step]) -> Said
-    ensures { IfOk result (λ text. string_bytes text ≡ with_keys [] steps.now) }
+    ensures { IfOk result (λ text. string_bytes text ≡ with_step_keys [] steps.now) }
 {
     let mut text = String::new(alloc);
     for step in steps {
@@ -131,7 +132,7 @@ fn keys_text(alloc: Global, steps: &[Step]) -> Said
 }
 
 fn push_key(text: &mut String, step: &Step) -> Result<(), AllocError>
-    ensures { OnOk result (string_bytes text.new ≡ with_key (string_bytes text.old) step.now) }
+    ensures { OnOk result (string_bytes text.new ≡ with_step_key (string_bytes text.old) step.now) }
 {
     match step {
         Step::Key(key) => push_after(text, key.as_str()),
