@@ -1,6 +1,6 @@
 """A test of the script, over a small crate that it writes: an edit that changes nothing is reported, tried with others and alone, and
-so are one that doesn't apply and one that stops the compiler. So is one that changes nothing and adds a way out to a function whose
-proof has answers by hand: its goals are open for want of one."""
+so are one that doesn't apply and one that stops the compiler. So are two that change nothing of a function whose proof has answers
+by hand, whose goals are open for want of one: one adds a way out, the other takes away the call that its answer names."""
 import os
 import tempfile
 from dataclasses import dataclass
@@ -44,6 +44,13 @@ pub fn again(given: u8) -> u8
 {
     given
 }
+
+/// The number once more, by a call that its answer by hand names.
+pub fn called(given: u8) -> u8
+    ensures { IsSame result given }
+{
+    itself(given)
+}
 """
 LIB = """pub mod Same
 """
@@ -61,16 +68,24 @@ pub returns : goal.returns
 unfolding IsSame
 returns c = refl
 """
+CALLED = """use Rattle.small.specs.Same.{IsSame}
+use Rattle.small.proofs.numbers.called.Goals as goal
+
+pub returns : goal.returns
+unfolding IsSame
+returns c = c.itself.ensures
+"""
 EDITS = {
     "harmless.edit": ("let same = number;", "let same = number; let _nothing = true;"),
     "spaces.edit": ("let same = number;", "let same = number; "),
     "broken.edit": ("    7", "    let = 7;"),
     "lost.edit": ("    8", "    9"),
     "wrong.edit": ("    1", "    2"),
+    "uncalled.edit": ("    itself(given)", "    let same = given; same"),
     "way_out.edit": ("    given", "    if given == 0 { return given; } given"),
     "wrong_way_out.edit": ("    given", "    if given == 0 { return 1; } given"),
 }
-REPORTED = ["broken.edit", "harmless.edit", "lost.edit", "spaces.edit", "way_out.edit"]
+REPORTED = ["broken.edit", "harmless.edit", "lost.edit", "spaces.edit", "uncalled.edit", "way_out.edit"]
 
 
 @dataclass
@@ -86,7 +101,7 @@ class Small(Crate):
 
 def selftest(run, tell):
     with tempfile.TemporaryDirectory(prefix="wrong-") as folder:
-        for path, text in [("src/lib.rt", ROOT), ("src/numbers.rt", SOURCE), ("specs/Lib.antt", LIB), ("specs/Same.antt", SAME), ("proofs/numbers/again/Answers.antt", ANSWERS)]:
+        for path, text in [("src/lib.rt", ROOT), ("src/numbers.rt", SOURCE), ("specs/Lib.antt", LIB), ("specs/Same.antt", SAME), ("proofs/numbers/again/Answers.antt", ANSWERS), ("proofs/numbers/called/Answers.antt", CALLED)]:
             written(f"{folder}/{path}", text)
         files = [written(f"{folder}/wrong/{name}", f"file: src/numbers.rt\nold: {old}\nnew: {new}\n") for name, (old, new) in EDITS.items()]
         (trial,) = run([(Small("small", [], [], at=folder), files)], 1, tell)

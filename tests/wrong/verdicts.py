@@ -21,7 +21,8 @@ def refused_by(crate, edit, function, said):
     answers, unread = answered_of(crate, function, said)
 
     def counts(goal):
-        return not strict["is_on"] or not (renames(edit, function, unread) and wants_answer(goal, function, answers, unread))
+        is_lost = goal in unread or renames(edit, function, unread) and wants_answer(goal, function, answers, unread)
+        return not (strict["is_on"] and is_lost)
 
     return any(has_open_goal(name, function, verdict, said, edit.goal, counts) for name, verdict in verdicts_of(crate, function, said))
 
