@@ -125,9 +125,6 @@ ShowsUnless is_deep is_limited nodes depth «data» partials answer =
 abbrev pub has_limit : ℕ → ℕ → Bool
 has_limit bytes turns = not (nat_eq bytes 0 && nat_eq turns 0)
 
-abbrev pub limit_of : ℕ → Option ℕ
-limit_of asked = if nat_eq asked 0 then None else Some asked
-
 abbrev pub IsRendering : ℕ → Bool → Option Content → Option Content → Option Content → ℕ
     → Result Content Refusal → Type 0
 IsRendering bound is_limited (Some (content.Template t levels)) «data» partials depth answer =

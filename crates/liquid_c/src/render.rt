@@ -4,7 +4,7 @@ ghost use Rattle.liquid_model.specs.Maps.{empty};
 ghost use Rattle.liquid_core.specs.Held.{held as map_held};
 ghost use Rattle.liquid_syntax.specs.Templates.{partials_of, tree_of};
 ghost use Rattle.liquid_c.specs.Calls.{IsRendering, OfBoth, ShowsNodes, ShowsUnless, ShowsWithin};
-ghost use Rattle.liquid_c.specs.Calls.{bound_of, data_behind, has_limit, levels_behind, limit_of};
+ghost use Rattle.liquid_c.specs.Calls.{bound_of, data_behind, has_limit, levels_behind};
 ghost use Rattle.liquid_c.specs.Calls.{partials_behind, usual_levels};
 ghost use Rattle.liquid_c.specs.Settled.{Settled};
 ghost use Rattle.liquid_c.specs.Shared.{shared_content};
@@ -267,19 +267,14 @@ fn limited(
 }
 
 /// The limits on bytes and turns.
-pub(crate) fn limits_of(allowed: Allowed) -> liquid_lib::Limits
-    ensures bytes { result.bytes ≡ limit_of allowed.bytes }
-    ensures turns { result.turns ≡ limit_of allowed.turns }
-{
+pub(crate) fn limits_of(allowed: Allowed) -> liquid_lib::Limits {
     liquid_lib::Limits {
         bytes: limit_of(allowed.bytes),
         turns: limit_of(allowed.turns),
     }
 }
 
-fn limit_of(asked: u64) -> Option<u64>
-    ensures { result ≡ limit_of asked }
-{
+fn limit_of(asked: u64) -> Option<u64> {
     if asked == 0 { None } else { Some(asked) }
 }
 
