@@ -89,7 +89,8 @@ pub record WorkedLoops : Type 0 where
       (integer 2) ∷ []) ∷ []) (tree (plain (codes "y") ∷ [])) no_nodes ∷ [])) "y"
   -- {% if nil contains 'a' %}y{% endif %} and {% if a == nil %}y{% endif %}
   pub nil_contains : WritesThen
-      (page (if_compared (literal nil) Contains (text_literal "a") (plain (codes "y") ∷ []) ∷ [])) ""
+      (page (if_compared (literal nil) Contains (text_literal "a")
+      (plain (codes "y") ∷ []) ∷ [])) ""
       UnexpectedValue
   pub missing_side : WritesThen
       (page (if_compared (name "a") Equals (literal nil) (plain (codes "y") ∷ []) ∷ [])) ""
@@ -144,8 +145,8 @@ pub record WorkedLoops : Type 0 where
   pub no_value : WritesThen (page (for_in "i" (each_of (name "nope")) [] ∷ [])) "" UnknownVariable
   -- {% for i in ('x'..nope) %}{% endfor %}, {% for i in 'a' limit:nope %}{% endfor %} and {% for i
   -- in (1..2) limit:'a' %}{% endfor %}
-  pub ends_in_turn : WritesThen (page (for_in "i" (counted (text_literal "x") (name "nope")) [] ∷ [])) ""
-      UnexpectedValue
+  pub ends_in_turn : WritesThen
+      (page (for_in "i" (counted (text_literal "x") (name "nope")) [] ∷ [])) "" UnexpectedValue
   pub source_first : WritesThen (page (for_each (codes "i") (each_of (text_literal "a")) (record {
     limit = Some (name "nope");
     offset = None;

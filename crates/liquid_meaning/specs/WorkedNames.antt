@@ -44,7 +44,8 @@ pub record WorkedNames : Type 0 where
   -- {{ a }}{% for i in b %}{{ i }}{{ forloop.index }}{% endfor %}{% assign c = a %}
   pub of_a_loop : NamesAre []
       (show (name "a") ∷ for_in "i" (each_of (name "b")) (show (name "i") ∷
-      show (variable_property "forloop" "index") ∷ []) ∷ assign (codes "c") (without_filters (name "a")) ∷ [])
+      show (variable_property "forloop" "index") ∷ []) ∷
+      assign (codes "c") (without_filters (name "a")) ∷ [])
       (codes "a" ∷ codes "b" ∷ codes "c" ∷ codes "forloop" ∷ codes "i" ∷ [])
   -- {% for x in l %}{{ x }}{% endfor %}{{ a[b.c].d }}
   pub in_steps : NamesAre []
@@ -65,7 +66,8 @@ pub record WorkedNames : Type 0 where
   pub of_partials : NamesAre ((codes "o", tree (increment (codes "s") ∷ [])) ∷ [])
       (render (text_literal "p") (Some (counted (integer 1) (name "n"), codes "i"))
       ((codes "k", name "z") ∷ [])
-      ∷ tablerow (codes "i") (each_of (name "m")) whole_window None no_nodes ∷ include (text_literal "q")
+      ∷ tablerow (codes "i") (each_of (name "m")) whole_window None no_nodes ∷
+      include (text_literal "q")
       ((codes "w", integer 1) ∷ []) ∷ [])
       (codes "forloop" ∷ codes "i" ∷ codes "k" ∷ codes "m" ∷ codes "n" ∷ codes "s" ∷
       codes "tablerow" ∷ codes "w" ∷ codes "z" ∷ [])

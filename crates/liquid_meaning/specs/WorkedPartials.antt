@@ -21,7 +21,8 @@ included s = include (text_literal s) []
 
 -- {% assign x = 2 %}{{ x }}{{ y }}
 abbrev pub assigns_and_shows : List Node
-assigns_and_shows = assign (codes "x") (without_filters (integer 2)) ∷ show (name "x") ∷ show (name "y") ∷ []
+assigns_and_shows =
+    assign (codes "x") (without_filters (integer 2)) ∷ show (name "x") ∷ show (name "y") ∷ []
 
 -- {% assign x = 1 %}, then a node, then {{ x }}
 abbrev pub between : Node → List Node

@@ -130,7 +130,8 @@ pub record WorkedReading : Type 0 where
   pub an_assigned_value : covered
       (("a", with_members (("b", with_members (("c", everything) ∷ [])) ∷ [])) ∷
       ("x", with_members (("c", everything) ∷ [])) ∷ []) []
-      (assign (codes "x") (without_filters (variable_property "a" "b")) ∷ show (variable_property "x" "c") ∷ []) ≡ true
+      (assign (codes "x") (without_filters (variable_property "a" "b")) ∷
+      show (variable_property "x" "c") ∷ []) ≡ true
   pub an_unread_value : covered [] [] (assign (codes "x") (without_filters (name "a")) ∷ []) ≡ false
   -- {% render 'p' v: a.b %} and a partial {{ v.c }}
   pub a_partial : covered (("a", with_members (("b", with_members (("c", everything) ∷ [])) ∷ [])) ∷

@@ -69,7 +69,8 @@ pub record WorkedStores : Type 0 where
   -- name decides
   pub first_layer_decides : WritesThen
       (from (with_data ((codes "a", object (pair (codes "b") (number (pos 2)) no_pairs)) ∷ []))
-      (assign (codes "a") (without_filters (integer 1)) ∷ plain (codes "x") ∷ show (variable_property "a" "b") ∷ []))
+      (assign (codes "a") (without_filters (integer 1)) ∷ plain (codes "x") ∷
+      show (variable_property "a" "b") ∷ []))
       "x" UnknownVariable
   -- {% cycle c: 1, 2 %}\n{% cycle c: 1 %}\n
   pub cycle_bounds :

@@ -54,7 +54,8 @@ link_to_remove_tag_answer collection tags d args =
 
 -- one of the page's tags, marked with a class
 abbrev pub in_class_span : Text → Text → Text
-in_class_span class tag = codes "<span class=\"" ++ (class ++ (codes "\">" ++ (tag ++ codes "</span>")))
+in_class_span class tag =
+    codes "<span class=\"" ++ (class ++ (codes "\">" ++ (tag ++ codes "</span>")))
 
 -- `highlight_active_tag`: the class is `active` where none is given
 -- What is none of the page's tags stays.
