@@ -1,7 +1,11 @@
 //! The sets of filters: the language and the filters of Jekyll's or Shopify's templates.
+ghost use Rattle.std.specs.Prelude.{◌≡◌, IfErr, IfOk, Some, None};
+ghost use Rattle.liquid_filter_sets.specs.Languages.{IsJekyll, IsShopify};
+ghost use Rattle.liquid_lib.specs.Standard.{IsStandard};
+
 use crate::parts::PageParts;
 use liquid_commands::FilterSet;
-use liquid_core::{Filter, HostFilters, Result};
+use liquid_core::{ErrorKind, Filter, HostFilters, Result};
 use liquid_filter_sets::{WhereExp, jekyll_language, shopify_language};
 use liquid_filter_settings::{SiteSettings, shop_of};
 use liquid_jekyll_host_filters::{JEKYLL_FILTERS, SiteFilter};
@@ -13,8 +17,14 @@ use liquid_shopify_host_filters::{SHOPIFY_FILTERS, ShopifyFilter};
 use std::alloc::Global;
 use std::rc::Rc;
 
-/// The language of templates that call filters of a set, or the standard one.
-pub fn language_with(alloc: Global, filters: Option<FilterSet>) -> Result<Language> {
+/// The language of templates that call filters of a set, or the standard one. `Memory` where a
+/// growth was refused, and no other kind.
+pub fn language_with(alloc: Global, filters: Option<FilterSet>) -> Result<Language>
+    ensures jekyll { filters ≡ Some FilterSet.Jekyll → IfOk result IsJekyll }
+    ensures shopify { filters ≡ Some FilterSet.Shopify → IfOk result IsShopify }
+    ensures standard { filters ≡ None → IfOk result IsStandard }
+    ensures memory { IfErr result (λ e. e.kind ≡ ErrorKind.Memory) }
+{
     match filters {
         Some(FilterSet::Jekyll) => jekyll_language(alloc),
         Some(FilterSet::Shopify) => shopify_language(alloc),
